@@ -1,0 +1,14 @@
+-- A unit at the front of bytes.
+use Rattle.std.specs.Prelude.{ℕ, zero, suc, ◌≤◌, List, [], ◌∷◌, length, take, replicate}
+use Rattle.amf_wire.specs.Text.{IsUnit, Range, rest_byte}
+
+-- the first n bytes are a unit
+pub record IsFrontUnit (bytes : List ℕ) (n : ℕ) : Type 0 where
+  pub some : 1 ≤ n
+  pub there : n ≤ length bytes
+  pub unit : IsUnit (take n bytes)
+
+-- so many ranges, all but the first for any byte behind the second
+abbrev pub ranges_of : ℕ → ℕ → ℕ → List Range
+ranges_of zero low high = []
+ranges_of (suc count) low high = (low, high) ∷ replicate count rest_byte

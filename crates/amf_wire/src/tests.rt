@@ -1,0 +1,96 @@
+use crate::*;
+use std::test::Fail;
+
+#[test]
+fn spells_numbers(rt: HostRuntime) -> Result<(), Fail> {
+    let rows: [(u32, &[u8]); 8] = [
+        (0, &[0x00]),
+        (0x7F, &[0x7F]),
+        (0x80, &[0x81, 0x00]),
+        (0x3FFF, &[0xFF, 0x7F]),
+        (0x4000, &[0x81, 0x80, 0x00]),
+        (0x1F_FFFF, &[0xFF, 0xFF, 0x7F]),
+        (0x20_0000, &[0x80, 0xC0, 0x80, 0x00]),
+        (0x1FFF_FFFF, &[0xFF, 0xFF, 0xFF, 0xFF]),
+    ];
+    for (number, bytes) in rows.iter() {
+        let n = U29::new(*number).ok_or("a number of 29 bits")?;
+        let written = write_u29(n);
+        assert_eq!(rt; written.as_slice(), *bytes);
+        let used = written.len;
+        assert_eq!(rt; read_u29(bytes), U29Read::Whole { value: n, used });
+    }
+    assert_eq!(rt; U29::new(1 << 29), None);
+    assert_eq!(rt; read_u29(&[0x80, 0x80, 0x80]), U29Read::Short);
+    Ok(())
+}
+
+#[test]
+fn reads_integers(rt: HostRuntime) -> Result<(), Fail> {
+    let rows: [(u32, i32); 5] = [
+        (0, 0),
+        (0x0FFF_FFFF, 268_435_455),
+        (0x1000_0000, -268_435_456),
+        (0x1FFF_FFFF, -1),
+        (5, 5),
+    ];
+    for (bits, integer) in rows.iter() {
+        let n = U29::new(*bits).ok_or("a number of 29 bits")?;
+        assert_eq!(rt; sign29(n), *integer);
+        assert_eq!(rt; unsign29(*integer), Some(n));
+    }
+    assert_eq!(rt; unsign29(268_435_456), None);
+    assert_eq!(rt; unsign29(-268_435_457), None);
+    Ok(())
+}
+
+#[test]
+fn reads_big_endian(rt: HostRuntime) -> Result<(), Fail> {
+    let bytes = [9, 1, 2, 3, 4, 5, 6, 7, 8];
+    assert_eq!(rt; be32_at(&bytes, 1), 0x0102_0304);
+    assert_eq!(rt; be64_at(&bytes, 1), 0x0102_0304_0506_0708);
+    Ok(())
+}
+
+#[test]
+fn judges_texts(rt: HostRuntime) -> Result<(), Fail> {
+    let rows: [(&[u8], Option<usize>); 12] = [
+        (&[], None),
+        (b"plain", None),
+        (
+            &[0xC3, 0xA9, 0xE2, 0x82, 0xAC, 0xF0, 0x9F, 0x98, 0x80],
+            None,
+        ),
+        (&[0xC0, 0x80], None),
+        (&[0xED, 0xA0, 0x80, 0xED, 0xBF, 0xBF], None),
+        (&[0xFF], Some(0)),
+        (&[0x41, 0xC0, 0x81], Some(1)),
+        (&[0x41, 0xED], Some(1)),
+        (&[0x41, 0x42, 0xE2, 0x82], Some(2)),
+        (&[0xE0, 0x9F, 0x80], Some(0)),
+        (&[0xF4, 0x90, 0x80, 0x80], Some(0)),
+        (&[0x41, 0x80], Some(1)),
+    ];
+    for (bytes, bad) in rows.iter() {
+        assert_eq!(rt; first_bad(bytes), *bad);
+        assert_eq!(rt; is_amf_text(bytes), bad.is_none());
+    }
+    Ok(())
+}
+
+#[test]
+fn keeps_names(rt: HostRuntime) -> Result<(), Fail> {
+    let name = Name::from_bytes(rt.alloc(), b"caf\xC3\xA9")?;
+    assert_eq!(rt; name.as_bytes(), b"caf\xC3\xA9".as_slice());
+    let copied = name.copy(rt.alloc())?;
+    assert_eq!(rt; copied.as_bytes(), name.as_bytes());
+    let any = Name::of_bytes(rt.alloc(), &[0x41, 0xFF])?;
+    assert_eq!(rt; any.as_bytes(), [0x41, 0xFF].as_slice());
+    match Name::from_bytes(rt.alloc(), &[0x41, 0xFF]) {
+        Err(end) => assert_eq!(rt; end, NameEnd::BadText(1)),
+        Ok(_) => assert!(rt; false, "no text"),
+    }
+    worked_facts();
+    one_shortest_u29();
+    Ok(())
+}
