@@ -1,0 +1,13 @@
+pub mod Pieces
+pub mod Bytes
+pub mod Whole
+pub mod Paths
+pub mod Stops
+pub mod Verdicts
+pub mod Readings
+pub mod Ables
+pub mod Unique
+pub mod Combine
+pub mod Inputs
+pub mod NextKind
+pub mod LayoutAnswers

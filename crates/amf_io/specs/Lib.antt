@@ -1,0 +1,11 @@
+pub mod Outside
+pub mod Window
+pub mod Cursor
+pub mod InMemory
+pub mod Field
+pub mod Verdict
+pub mod Layout
+pub mod Reading
+pub mod LayoutAnswer
+pub mod Worked
+pub mod Standard

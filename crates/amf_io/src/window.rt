@@ -1,0 +1,137 @@
+ghost use Rattle.std.specs.Prelude.{◌≡◌, ◌+◌, ◌-◌, ◌<◌, ◌≤◌, length, IfOk};
+ghost use Rattle.amf_io.specs.Outside.{HasCause, ReadsFront};
+
+use crate::{Failed, Source};
+use amf_wire::Memory;
+use std::alloc::{AllocError, Global};
+
+/// The number of bytes that a read asks for at most.
+const BUFFER: usize = 65536;
+
+/// The bytes that a cursor has read and not given, and how many it has given, of a limit. It never
+/// holds more than one byte past the limit.
+#[derive(Drop)]
+pub struct Window {
+    buffer: Vec<u8>,
+    start: usize,
+    end: usize,
+    at: u32,
+    limit: u32,
+    ghost waiting_there: { start ≤ end },
+    ghost waiting_within: { end ≤ length buffer.items },
+    ghost whole_buffer: { length buffer.items ≡ 65536 },
+    ghost place_within: { at ≤ limit },
+    ghost one_past: { at + (end - start) ≤ limit + 1 },
+}
+
+impl Window {
+    ghost use Rattle.std.specs.Prelude.{◌≡◌, ◌+◌, ◌-◌, ◌<◌, ◌≤◌, ◌∷◌, ◌↔◌, [], IsTrue, length, OnErr, IfOk};
+    ghost use Rattle.amf_io.specs.Outside.{HasCause};
+    ghost use Rattle.amf_io.specs.Window.{waiting, size, Fills, Begins, IsEmptied, IsUnmoved};
+
+    /// An empty window.
+    pub(crate) fn new(alloc: Global, limit: u32) -> Result<Window, Memory>
+        ensures { IfOk result (Begins limit) }
+    {
+        let buffer = vec![in alloc; 0u8; BUFFER]?;
+        Ok(Window {
+            buffer,
+            start: 0,
+            end: 0,
+            at: 0,
+            limit,
+        })
+    }
+
+    /// The number of bytes given.
+    #[inline]
+    pub(crate) fn at(&self) -> u32
+        ensures place { result ≡ self.now.at }
+        ensures within { self.now.at ≤ self.now.limit }
+        ensures one_past { self.now.at + size self.now ≤ self.now.limit + 1 }
+    {
+        self.at
+    }
+
+    /// Whether it holds no byte.
+    #[inline]
+    pub(crate) fn is_empty(&self) -> bool
+        ensures { IsTrue result ↔ (size self.now ≡ 0) }
+    {
+        self.start == self.end
+    }
+
+    /// Whether as many bytes were given as the limit allows.
+    #[inline]
+    pub(crate) fn is_spent(&self) -> bool
+        ensures { IsTrue result ↔ (self.now.limit ≤ self.now.at) }
+    {
+        self.at >= self.limit
+    }
+
+    /// Reads into the empty window, and tells whether the source is at its end.
+    #[inline(never)]
+    pub(crate) fn fill<S: Source>(&mut self, source: &mut S) -> Result<bool, Failed>
+        requires { size self.old ≡ 0 }
+        ensures tells { S.tells source.old → S.tells source.new }
+        ensures gives { S.tells source.old → Fills (S.left source.old) (S.left source.new) (waiting self.new) result }
+        ensures unmoved { IsUnmoved self.old self.new }
+        ensures ended { IfOk result (λ ended. IsTrue ended ↔ (size self.new ≡ 0)) }
+        ensures failed { OnErr result (size self.new ≡ 0) }
+        ensures cause { HasCause (S.faults source.old) (S.faults source.new) result }
+    {
+        let past = self.limit as usize - self.at as usize + 1;
+        let most = past.min(BUFFER);
+        let count = read_front(source, &mut self.buffer, most)?;
+        self.start = 0;
+        self.end = count;
+        Ok(count == 0)
+    }
+
+    /// Gives the next byte that it holds.
+    #[inline]
+    pub(crate) fn byte(&mut self) -> u8
+        requires some { 0 < size self.old }
+        requires within { self.old.at < self.old.limit }
+        ensures gives { waiting self.old ≡ result ∷ waiting self.new }
+        ensures place { self.new.at ≡ self.old.at + 1 }
+        ensures bound { self.new.limit ≡ self.old.limit }
+    {
+        let byte = self.buffer[self.start];
+        self.start += 1;
+        self.at += 1;
+        byte
+    }
+
+    /// Appends the next bytes that it holds: at least one, and at most so many.
+    pub(crate) fn take(&mut self, most: u32, out: &mut Vec<u8>) -> Result<u32, AllocError>
+        requires some { 0 < size self.old }
+        requires within { self.old.at < self.old.limit }
+        requires most { 0 < most }
+        ensures gives { IfOk result (IsEmptied (waiting self.old) (waiting self.new) out.old.items out.new.items) }
+        ensures size { IfOk result (λ given. (0 < given) × (given ≤ most)) }
+        ensures place { IfOk result (λ given. self.new.at ≡ self.old.at + given) }
+        ensures bound { self.new.limit ≡ self.old.limit }
+        ensures failed { OnErr result ((waiting self.new ≡ waiting self.old) × (out.new.items ≡ out.old.items)) }
+    {
+        let allowed = most.min(self.limit - self.at);
+        let given = (allowed as usize).min(self.end - self.start);
+        let to = self.start + given;
+        out.extend_from_slice(&self.buffer[self.start..to])?;
+        self.start = to;
+        self.at += given as u32;
+        Ok(given as u32)
+    }
+}
+
+/// Reads at most so many bytes into the front of the buffer.
+fn read_front<S: Source>(source: &mut S, buffer: &mut [u8], most: usize) -> Result<usize, Failed>
+    requires some { 0 < most }
+    requires room { most ≤ length buffer.old }
+    ensures tells { S.tells source.old → S.tells source.new }
+    ensures within { IfOk result (λ count. count ≤ most) }
+    ensures gives { S.tells source.old → ReadsFront (S.left source.old) (S.left source.new) buffer.new result }
+    ensures cause { HasCause (S.faults source.old) (S.faults source.new) result }
+{
+    source.read(&mut buffer[..most])
+}
