@@ -1,0 +1,3 @@
+pub mod Refusals3
+pub mod Spells3
+pub mod Layout3
