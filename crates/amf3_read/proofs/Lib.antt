@@ -1,0 +1,3 @@
+mod FieldLoop
+mod ValueParts
+mod ValueAnswers

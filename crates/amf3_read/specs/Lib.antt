@@ -1,0 +1,4 @@
+pub mod FieldSize
+pub mod Ends
+pub mod Markers
+pub mod Answer
