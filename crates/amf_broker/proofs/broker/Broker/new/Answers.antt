@@ -1,0 +1,7 @@
+-- A new broker is in the first state.
+use Rattle.amf_broker.specs.State.{first}
+use Rattle.amf_broker.proofs.broker.Broker.new.Goals as goal
+
+pub returns : goal.returns
+unfolding first
+returns c = rw c.new-board.ensures

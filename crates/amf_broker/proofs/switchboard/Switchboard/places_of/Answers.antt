@@ -1,0 +1,13 @@
+-- The live subscriptions of the client are counted.
+use Rattle.std.proofs.Common.{◌≡◌, ◌∙◌, sym, length}
+use Rattle.std.specs.Prelude.{◌==◌}
+use Rattle.std.proofs.lemmas.List.Sums.{length-filter}
+use Rattle.amf_broker.specs.State.{Subscription}
+use Rattle.amf_broker.specs.Machine.{subs_of, ended_of}
+use Rattle.amf_broker.proofs.switchboard.Switchboard.places_of.Goals as goal
+
+pub returns : goal.returns
+returns c =
+    let live : c.live_of.result ≡ length (subs_of c.args.client c.self.inside.subs.items) = c.live_of.ensures ∙ rw c.deref.ensures.value (sym (length-filter (λ (u : Subscription). u.client == c.args.client) c.self.inside.subs.items)) in
+    let untold : c.untold_of.result ≡ length (ended_of c.args.client c.self.inside.clients.items) = c.untold_of.ensures ∙ rw c.deref-2.ensures.value in
+    rw (← c.self.view_is, live, untold)

@@ -1,0 +1,26 @@
+//! A message broker of publish and subscribe, as a machine that answers one call after another.
+#![tactic(auto)]
+
+mod broker;
+mod call;
+mod ids;
+mod laws;
+mod limits;
+mod live_sub;
+mod mailbox;
+mod parcel;
+mod parcels;
+mod reply;
+mod switchboard;
+mod topic;
+
+pub use broker::Broker;
+pub use call::Call;
+pub use ids::{ClientId, SubId};
+pub use laws::{delivery_holds, entries_count};
+pub use limits::{MAX_CLIENTS, MAX_MESSAGE, MAX_QUEUED, MAX_SUBS, MAX_SUBTOPIC};
+pub use reply::{Deliveries, Delivery, Reply, SubIds};
+pub use topic::Topic;
+
+#[cfg(test)]
+mod tests;

@@ -1,0 +1,110 @@
+ghost use Rattle.std.specs.Prelude.{◌≡◌};
+
+use crate::{ClientId, SubId};
+use amf_wire::Name;
+use std::marker::Model;
+
+/// A message that waits for a client, or was handed to it.
+#[derive(Debug, Drop)]
+pub struct Delivery {
+    pub sub: SubId,
+    /// The message's number. Numbers count from 1, and none is used again.
+    pub number: u64,
+    pub message: Name,
+}
+
+/// Deliveries, in the order in which they were queued.
+#[derive(Debug, Drop)]
+pub struct Deliveries {
+    items: Vec<Delivery>,
+}
+
+impl Model for Deliveries {
+    ghost use Rattle.std.specs.Prelude.{List};
+    ghost use Rattle.amf_broker.specs.declared.reply.Delivery.{Delivery};
+
+    ghost Value = { List Delivery };
+
+    ghost view = { λ d. d.items.items };
+}
+
+impl Deliveries {
+    /// These deliveries.
+    pub fn of_vec(items: Vec<Delivery>) -> Deliveries
+        ensures { result ≡ items.items }
+    {
+        Deliveries { items }
+    }
+
+    /// The deliveries, in order.
+    pub fn as_slice(&self) -> &[Delivery]
+        ensures { result.now ≡ self.now }
+    {
+        self.items.as_slice()
+    }
+}
+
+/// Subscriptions, in the order in which they ended.
+#[derive(Debug, Drop)]
+pub struct SubIds {
+    items: Vec<SubId>,
+}
+
+impl Model for SubIds {
+    ghost use Rattle.std.specs.Prelude.{ℕ, List};
+
+    ghost Value = { List ℕ };
+
+    ghost view = { λ s. s.items.items };
+}
+
+impl SubIds {
+    /// These subscriptions.
+    pub fn of_vec(items: Vec<SubId>) -> SubIds
+        ensures { result ≡ items.items }
+    {
+        SubIds { items }
+    }
+
+    /// The subscriptions, in order.
+    pub fn as_slice(&self) -> &[SubId]
+        ensures { result.now ≡ self.now }
+    {
+        self.items.as_slice()
+    }
+}
+
+/// What the broker answers. `Full` and what follows are refusals, which change nothing.
+#[derive(Debug, Drop)]
+pub enum Reply {
+    /// The number of the new client.
+    Client(ClientId),
+    /// The number of the new subscription.
+    Subscribed(SubId),
+    /// The subscription that ended.
+    Unsubscribed(SubId),
+    /// The message's number, and the subscriptions that ended since their client's queue was full.
+    Published {
+        number: u64,
+        ended: SubIds,
+    },
+    /// What was queued, and the subscriptions that a full queue ended since the last poll.
+    Batch {
+        deliveries: Deliveries,
+        ended: SubIds,
+    },
+    /// The client is gone.
+    Bye,
+    /// As many clients are connected as may be.
+    Full(u32),
+    /// No such client is connected.
+    NoClient(ClientId),
+    /// No such destination.
+    NoTopic(Name),
+    /// More bytes than may be.
+    TooLong(u32),
+    /// As many subscriptions as a client may have.
+    TooManySubs(u32),
+    /// No such subscription of this client is live.
+    NoSub(SubId),
+}
