@@ -1,0 +1,5 @@
+mod Fronts
+mod Wrote
+mod Inputs
+mod OneWord
+mod Statuses

@@ -1,0 +1,4 @@
+pub mod Lines
+pub mod Written
+pub mod Appended
+pub mod Run

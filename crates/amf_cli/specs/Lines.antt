@@ -1,0 +1,55 @@
+-- The error lines.
+use Rattle.std.specs.Prelude.{ℕ, List, [], ◌∷◌, ◌++◌, codes, decimal}
+use Rattle.amf_io.specs.declared.ends.Refusal.{Refusal}
+use Rattle.amf_io.specs.declared.ends.ReadEnd.{ReadEnd}
+use Rattle.amf_io.specs.declared.ends.ReadEnd.TheVariants as reader
+use Rattle.amf_io.specs.declared.reason.Reason.{Reason}
+use Rattle.amf_io.specs.declared.reason.Reason.TheVariants.{Truncated, BadMarker, BadReference, BadTraits, BadTextIndex, BadText, WrongKind, UnknownExternal, TooDeep, TooLarge, Trailing, BadVersion, BadSignature, BadLength, BadPadding, NotBuilt}
+use Rattle.amf_cli.specs.declared.run_end.RunEnd.{RunEnd}
+use Rattle.amf_cli.specs.declared.run_end.RunEnd.TheVariants.{Refused, Usage, ReadFault, WriteFault, NoMemory}
+
+-- the end of a reader is that of the run
+abbrev pub end_of : ReadEnd → RunEnd
+end_of (reader.Refused f) = Refused f
+end_of reader.ReadFault = ReadFault
+end_of reader.Memory = NoMemory
+
+-- a reason is written by its name
+abbrev pub reason_name : Reason → List ℕ
+reason_name Truncated = codes "Truncated"
+reason_name BadMarker = codes "BadMarker"
+reason_name BadReference = codes "BadReference"
+reason_name BadTraits = codes "BadTraits"
+reason_name BadTextIndex = codes "BadTextIndex"
+reason_name BadText = codes "BadText"
+reason_name WrongKind = codes "WrongKind"
+reason_name UnknownExternal = codes "UnknownExternal"
+reason_name TooDeep = codes "TooDeep"
+reason_name TooLarge = codes "TooLarge"
+reason_name Trailing = codes "Trailing"
+reason_name BadVersion = codes "BadVersion"
+reason_name BadSignature = codes "BadSignature"
+reason_name BadLength = codes "BadLength"
+reason_name BadPadding = codes "BadPadding"
+reason_name NotBuilt = codes "NotBuilt"
+
+abbrev pub line_feed : List ℕ
+line_feed = 10 ∷ []
+
+abbrev pub refusal_line : Refusal → List ℕ
+refusal_line f = codes "amf: refused " ++ reason_name f.reason ++ codes " at " ++ decimal f.at ++ line_feed
+
+-- the line of each end
+unfoldable pub line_of : RunEnd → List ℕ
+line_of (Refused f) = refusal_line f
+line_of Usage = codes "amf: usage\n"
+line_of ReadFault = codes "amf: read fault\n"
+line_of WriteFault = codes "amf: write fault\n"
+line_of NoMemory = codes "amf: no memory\n"
+
+abbrev pub status_of : RunEnd → ℕ
+status_of (Refused f) = 1
+status_of Usage = 2
+status_of ReadFault = 3
+status_of WriteFault = 4
+status_of NoMemory = 5

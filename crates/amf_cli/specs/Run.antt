@@ -1,0 +1,121 @@
+-- What a run answers: its statuses, and what they say of the input and the output.
+use Rattle.std.specs.Prelude.{◌≡◌, ℕ, zero, suc, ◌≤◌, List, [], ◌∷◌, ◌++◌, length, codes, Result, Ok, Err}
+use Rattle.amf_wire.specs.Style.{free}
+use Rattle.amf_io.specs.Outside.{Rose}
+use Rattle.amf_io.specs.Field.{Field, flat}
+use Rattle.amf_io.specs.Verdict.{IsInputRefused, IsUnsettled}
+use Rattle.amf_io.specs.declared.ends.Refusal.{Refusal}
+use Rattle.amf_graph.specs.declared.value.Value.{Value}
+use Rattle.amf_tables.specs.Spells3.{Spells3, IsSpelling3, Canonical3}
+use Rattle.amf_cli.specs.declared.run_end.RunEnd.{RunEnd}
+use Rattle.amf_cli.specs.declared.run_end.RunEnd.TheVariants.{Refused, Usage, ReadFault, WriteFault, NoMemory}
+use Rattle.amf_cli.specs.Lines.{refusal_line}
+use Rattle.amf_cli.specs.Written.{WritesFront}
+
+-- the most bytes of an input
+abbrev pub most : ℕ
+most = 16777216
+
+-- the words have a reading
+abbrev pub IsCanon : List (List ℕ) → Type 0
+IsCanon words = words ≡ codes "canon" ∷ []
+
+-- the whole input is one spelling of the value
+pub record IsInputOf (v : Value) (input : List ℕ) : Type 0 where
+  pub fields : List Field
+  pub spelled : Spells3 free v fields
+  pub parts : input ≡ flat fields
+  pub within : length input ≤ most
+
+-- the bytes are the canonical spelling of a value that the input is a spelling of
+abbrev pub IsConverted : List ℕ → List ℕ → Type 0
+IsConverted input bytes = (v : Value) × IsInputOf v input × Canonical3 v bytes
+
+-- the bytes that came before a read failed fix no verdict
+pub record IsHidden (input rest : List ℕ) : Type 0 where
+  pub given : List ℕ
+  pub parts : input ≡ given ++ rest
+  pub unsettled : IsUnsettled IsSpelling3 most given
+
+-- how a reader of the whole input ends, where P tells what it makes of an accepted one
+abbrev pub ReadsInput : {X : Type 0} → (X → Type 0) → List ℕ → List ℕ → Result X RunEnd → Type 0
+ReadsInput P input rest (Ok x) = P x × (rest ≡ [])
+ReadsInput P input rest (Err (Refused f)) = IsInputRefused IsSpelling3 most input f.reason f.at
+ReadsInput P input rest (Err ReadFault) = IsHidden input rest
+ReadsInput P input rest (Err Usage) = ⊥
+ReadsInput P input rest (Err WriteFault) = ⊥
+ReadsInput P input rest (Err NoMemory) = Unit {0}
+
+-- a read fault is counted; without one, and with memory, the count stays
+abbrev pub CountsReads : {T : Type 0} → ℕ → ℕ → Result T RunEnd → Type 0
+CountsReads before now (Ok x) = now ≡ before
+CountsReads before now (Err (Refused f)) = now ≡ before
+CountsReads before now (Err ReadFault) = (before ≤ now) × Rose before now
+CountsReads before now (Err Usage) = now ≡ before
+CountsReads before now (Err WriteFault) = now ≡ before
+CountsReads before now (Err NoMemory) = Unit {0}
+
+-- a write fault is counted, and without one the count stays
+abbrev pub CountsWrites : {T : Type 0} → ℕ → ℕ → Result T RunEnd → Type 0
+CountsWrites before now (Ok x) = now ≡ before
+CountsWrites before now (Err (Refused f)) = now ≡ before
+CountsWrites before now (Err ReadFault) = now ≡ before
+CountsWrites before now (Err Usage) = now ≡ before
+CountsWrites before now (Err WriteFault) = (before ≤ now) × Rose before now
+CountsWrites before now (Err NoMemory) = now ≡ before
+
+-- an end that the reading of an input has
+abbrev pub IsReadEnd : {T : Type 0} → Result T RunEnd → Type 0
+IsReadEnd (Ok x) = Unit {0}
+IsReadEnd (Err (Refused f)) = Unit {0}
+IsReadEnd (Err ReadFault) = Unit {0}
+IsReadEnd (Err Usage) = ⊥
+IsReadEnd (Err WriteFault) = ⊥
+IsReadEnd (Err NoMemory) = Unit {0}
+
+-- nothing was asked of the output, but where it was written to
+abbrev pub IsUntouched : {S T : Type 0} → S → S → Result T RunEnd → Type 0
+IsUntouched before now (Ok x) = Unit {0}
+IsUntouched before now (Err (Refused f)) = now ≡ before
+IsUntouched before now (Err ReadFault) = now ≡ before
+IsUntouched before now (Err Usage) = now ≡ before
+IsUntouched before now (Err WriteFault) = Unit {0}
+IsUntouched before now (Err NoMemory) = now ≡ before
+
+-- the canonical bytes were written whole
+pub record WritesAll (input rest : List ℕ) (told : Type 0) (held now : List ℕ) : Type 0 where
+  pub bytes : List ℕ
+  pub converted : IsConverted input bytes
+  pub all_read : rest ≡ []
+  pub written : told → now ≡ held ++ bytes
+
+-- some front of them was written
+pub record WritesSome (input rest : List ℕ) (told : Type 0) (held now : List ℕ) : Type 0 where
+  pub bytes : List ℕ
+  pub converted : IsConverted input bytes
+  pub all_read : rest ≡ []
+  pub written : told → WritesFront held now bytes
+
+-- how `canon` ends, by the bytes of the input and those that it left, and by what the output held before and holds now
+abbrev pub RunsTo : {T : Type 0} → List ℕ → List ℕ → Type 0 → List ℕ → List ℕ → Result T RunEnd → Type 0
+RunsTo input rest told held now (Ok x) = WritesAll input rest told held now
+RunsTo input rest told held now (Err (Refused f)) = IsInputRefused IsSpelling3 most input f.reason f.at
+RunsTo input rest told held now (Err ReadFault) = IsHidden input rest
+RunsTo input rest told held now (Err Usage) = Unit {0}
+RunsTo input rest told held now (Err WriteFault) = WritesSome input rest told held now
+RunsTo input rest told held now (Err NoMemory) = Unit {0}
+
+-- the error line names the verdict
+pub record IsRefusedWith (input : List ℕ) (told : Type 0) (held now : List ℕ) : Type 0 where
+  pub refusal : Refusal
+  pub verdict : IsInputRefused IsSpelling3 most input refusal.reason refusal.at
+  pub line : told → now ≡ held ++ refusal_line refusal
+
+-- the error line of each other status; none of 0
+abbrev pub Reports : ℕ → List ℕ → List ℕ → Type 0
+Reports zero held now = now ≡ held
+Reports (suc zero) held now = Unit {0}
+Reports (suc (suc zero)) held now = now ≡ held ++ codes "amf: usage\n"
+Reports (suc (suc (suc zero))) held now = now ≡ held ++ codes "amf: read fault\n"
+Reports (suc (suc (suc (suc zero)))) held now = now ≡ held ++ codes "amf: write fault\n"
+Reports (suc (suc (suc (suc (suc n))))) held now = now ≡ held ++ codes "amf: no memory\n"

@@ -1,0 +1,171 @@
+ghost use Rattle.std.specs.Prelude.{◌≡◌, ℕ, ◌≢◌, ◌+◌, ◌<◌, ◌≤◌, ◌⊎◌, ◌↔◌, IsTrue, OnErr, OnOk, IfOk};
+ghost use Rattle.amf_io.specs.Cursor.{source_of, place, bound, ahead, unread};
+ghost use Rattle.amf_io.specs.Outside.{Rose, Steady};
+ghost use Rattle.amf_io.specs.declared.reason.Reason.{Reason};
+ghost use Rattle.amf_io.specs.Verdict.{IsInputAccepted, IsInputRefused};
+ghost use Rattle.amf_graph.specs.Graph.{IsOwn, no_arena};
+ghost use Rattle.amf_tables.specs.Spells3.{IsSpelling3};
+ghost use Rattle.amf_cli.specs.Lines.{line_of};
+ghost use Rattle.amf_cli.specs.Run.{most, IsCanon, IsInputOf, IsConverted, IsHidden, ReadsInput, CountsReads, CountsWrites, IsUntouched, IsReadEnd, RunsTo, WritesAll, WritesSome, IsRefusedWith, Reports};
+
+use crate::report::report;
+use crate::run_end::RunEnd;
+use crate::value_writer::write_value;
+use crate::writing::write_whole;
+use amf_graph::Value;
+use amf_io::{Cursor, ReadEnd, Reason, Refusal, Sink, Source};
+use amf_wire::Name;
+use amf3_read::read3;
+use std::alloc::Global;
+
+/// The most bytes of an input: 16 MiB.
+pub const LIMIT: u32 = 16_777_216;
+
+/// Does what the words say, and gives the status of the program.
+///
+/// `words` are those after the program's name. The one list of words with a reading is the word
+/// `canon`: the input is one AMF 3 value, and the output its canonical spelling.
+pub fn run<R, I: Source, O: Sink, E: Sink>(
+    _rt: &R,
+    alloc: Global,
+    words: &[Name],
+    input: &mut I,
+    out: &mut O,
+    err: &mut E,
+) -> u8
+    ensures statuses { result ≤ 5 }
+
+    // 2 comes exactly where the words have no reading.
+    ensures usage { (result ≡ 2) ↔ (IsCanon words.now → ⊥) }
+
+    // 0: the output has taken exactly the canonical bytes, and the input was read to its end.
+    ensures done { result ≡ 0 → I.tells input.old → WritesAll (I.left input.old) (I.left input.new)
+        (O.tells out.new) (O.held out.old) (O.held out.new) }
+    ensures no_fault { result ≡ 0 → (I.faults input.new ≡ I.faults input.old) × (O.faults out.new ≡ O.faults out.old) }
+
+    // 1: the verdict, with its reason and place on the error line.
+    ensures refused { result ≡ 1 → I.tells input.old → IsRefusedWith (I.left input.old)
+        (E.tells err.new × Steady (E.faults err.old) (E.faults err.new)) (E.held err.old) (E.held err.new) }
+
+    // 3 and 4 come only where a count rose, and 3 only where what came before fixes no verdict.
+    ensures read_fault { result ≡ 3 → Rose (I.faults input.old) (I.faults input.new) }
+    ensures hidden { result ≡ 3 → I.tells input.old → IsHidden (I.left input.old) (I.left input.new) }
+    ensures write_fault { result ≡ 4 → Rose (O.faults out.old) (O.faults out.new) }
+    ensures front { result ≡ 4 → I.tells input.old → WritesSome (I.left input.old) (I.left input.new)
+        (O.tells out.new) (O.held out.old) (O.held out.new) }
+
+    // What is accepted is not refused, and what is refused is not accepted.
+    ensures accepted { IsCanon words.now → I.tells input.old → IsInputAccepted IsSpelling3 most (I.left input.old)
+        → (result ≡ 0) ⊎ (result ≡ 3) ⊎ (result ≡ 4) ⊎ (result ≡ 5) }
+    ensures not_accepted { IsCanon words.now → I.tells input.old → (reason : Reason) (at : ℕ)
+        → IsInputRefused IsSpelling3 most (I.left input.old) reason at
+        → (result ≡ 1) ⊎ (result ≡ 3) ⊎ (result ≡ 5) }
+
+    // With 1, 2 and 3 nothing is asked of the output, and with 2 nothing of the input.
+    ensures untouched { (result ≡ 1) ⊎ (result ≡ 2) ⊎ (result ≡ 3) → out.new ≡ out.old }
+    ensures unread { result ≡ 2 → input.new ≡ input.old }
+
+    // A fault of the error line changes no status.
+    ensures line { E.tells err.new → Steady (E.faults err.old) (E.faults err.new)
+        → Reports result (E.held err.old) (E.held err.new) }
+{
+    match execute(alloc, words, input, out) {
+        Ok(()) => 0,
+        Err(end) => {
+            // The status is decided: a failure of the error line does not change it.
+            let _ = report(end, err);
+            end.status()
+        }
+    }
+}
+
+/// Does what the words say.
+fn execute<I: Source, O: Sink>(
+    alloc: Global,
+    words: &[Name],
+    input: &mut I,
+    out: &mut O,
+) -> Result<(), RunEnd>
+    ensures usage { (result ≡ Err RunEnd.Usage) ↔ (IsCanon words.now → ⊥) }
+    ensures unread { result ≡ Err RunEnd.Usage → input.new ≡ input.old }
+    ensures tells { O.tells out.new → O.tells out.old }
+    ensures runs { I.tells input.old → RunsTo (I.left input.old) (I.left input.new) (O.tells out.new) (O.held out.old) (O.held out.new) result }
+    ensures untouched { IsUntouched out.old out.new result }
+    ensures reads { CountsReads (I.faults input.old) (I.faults input.new) result }
+    ensures writes { CountsWrites (O.faults out.old) (O.faults out.new) result }
+{
+    if !is_canon(words) {
+        return Err(RunEnd::Usage);
+    }
+    canon(alloc, input, out)
+}
+
+/// Whether the words are the one word `canon`.
+fn is_canon(words: &[Name]) -> bool
+    ensures { IsTrue result ↔ IsCanon words.now }
+{
+    match words {
+        [word] => word.as_bytes() == b"canon".as_slice(),
+        _ => false,
+    }
+}
+
+/// Writes the canonical spelling of the one value that the input is.
+fn canon<I: Source, O: Sink>(alloc: Global, input: &mut I, out: &mut O) -> Result<(), RunEnd>
+    ensures no_usage { result ≢ Err RunEnd.Usage }
+    ensures tells { O.tells out.new → O.tells out.old }
+    ensures runs { I.tells input.old → RunsTo (I.left input.old) (I.left input.new) (O.tells out.new) (O.held out.old) (O.held out.new) result }
+    ensures untouched { IsUntouched out.old out.new result }
+    ensures reads { CountsReads (I.faults input.old) (I.faults input.new) result }
+    ensures writes { CountsWrites (O.faults out.old) (O.faults out.new) result }
+{
+    let bytes = canonical_bytes(alloc, input)?;
+    match write_whole(out, &bytes) {
+        Ok(()) => Ok(()),
+        Err(_) => Err(RunEnd::WriteFault),
+    }
+}
+
+/// The canonical spelling of the one value that the input is.
+fn canonical_bytes<I: Source>(alloc: Global, input: &mut I) -> Result<Vec<u8>, RunEnd>
+    ensures reads { I.tells input.old → ReadsInput (λ bytes. IsConverted (I.left input.old) bytes.items) (I.left input.old) (I.left input.new) result }
+    ensures counts { CountsReads (I.faults input.old) (I.faults input.new) result }
+    ensures ends { IsReadEnd result }
+{
+    let value = read_input(alloc, input)?;
+    let mut bytes = Vec::new(alloc);
+    write_value(value, &mut bytes)?;
+    Ok(bytes)
+}
+
+/// The one value that the input is.
+fn read_input<I: Source>(alloc: Global, input: &mut I) -> Result<Value, RunEnd>
+    ensures reads { I.tells input.old → ReadsInput (λ v. IsInputOf v (I.left input.old)) (I.left input.old) (I.left input.new) result }
+    ensures own { IfOk result (IsOwn no_arena) }
+    ensures counts { CountsReads (I.faults input.old) (I.faults input.new) result }
+    ensures ends { IsReadEnd result }
+{
+    let mut cursor = Cursor::new(alloc, input, LIMIT)?;
+    read_whole(&mut cursor)
+}
+
+/// The one value that all the bytes of a cursor are.
+fn read_whole<S: Source>(cursor: &mut Cursor<'_, S>) -> Result<Value, RunEnd>
+    requires at_start { place cursor.old ≡ 0 }
+    requires limit { bound cursor.old ≡ 16777216 }
+    ensures same_reference { (source_of cursor.new).ghost_name ≡ (source_of cursor.old).ghost_name }
+    ensures reads { S.tells (source_of cursor.old).now → ReadsInput (λ v. IsInputOf v (unread S.left cursor.old)) (unread S.left cursor.old) (S.left (source_of cursor.new).now) result }
+    ensures own { IfOk result (IsOwn no_arena) }
+    ensures counts { CountsReads (S.faults (source_of cursor.old).now) (S.faults (source_of cursor.new).now) result }
+    ensures ends { IsReadEnd result }
+{
+    let value = read3(cursor)?;
+    match cursor.at_end() {
+        Ok(true) => Ok(value),
+        Ok(false) => Err(RunEnd::Refused(Refusal {
+            reason: Reason::Trailing,
+            at: cursor.at(),
+        })),
+        Err(_) => Err(RunEnd::ReadFault),
+    }
+}
