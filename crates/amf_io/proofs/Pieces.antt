@@ -1,5 +1,5 @@
 -- Pieces of a list, as a buffer is filled and emptied.
-use Rattle.std.proofs.Common.{◌≡◌, ℕ, ◌+◌, ◌-◌, ◌<◌, ◌≤◌, List, ◌++◌, length, take, drop, refl, sym, ap, ◌∙◌, arith, length-drop, append_assoc, Result, Ok, Err, IfOk}
+use Rattle.std.proofs.Common.{◌≡◌, ℕ, ◌+◌, ◌-◌, ◌<◌, ◌≤◌, List, ◌++◌, length, take, drop, refl, sym, subst, ap, ◌∙◌, arith, length-drop, append_assoc, Result, Ok, Err, IfOk}
 use Rattle.std.proofs.lemmas.List.{take-append-le, take-append-drop, length-take-le, take-take, drop-take, drop-drop}
 use Rattle.amf_io.specs.declared.source.Failed.{Failed}
 use Rattle.amf_io.specs.Outside.{Gives, ReadsFront}
@@ -57,12 +57,9 @@ so_far u v w before now then at place limit k n first less there within rest sam
 pub ends : (e : CursorEnd) (u v w before now then : List ℕ) (at place limit same k n : ℕ) → Appends u v before now k → k < n → place ≡ at + k → same ≡ limit → place ≤ limit
     → GivesPiece v w now then place same (Err e) → GivesBytes u w before then at limit n (Err e)
 ends Ended u v w before now then at place limit same k n first less there eq within why =
-    let size : length v ≡ length u - k = ap length first.gone ∙ length-drop k u in
-    let none : length v ≡ 0 = ap length why in
-    let most = first.there in
-    (omega arith, omega arith)
+    (so_far u v w before now then at place limit k n first less there within (why.1 ∙ sym why.0) why.2, why.1)
 ends TooLarge u v w before now then at place limit same k n first less there eq within why =
-    let size : length v ≡ length u - k = ap length first.gone ∙ length-drop k u in
-    (omega arith, omega arith)
+    let size : length (take k u) ≡ k = length-take-le k u first.there in
+    (record { front = take k u; fewer = omega arith; within = omega arith; appended = why.3 ∙ first.appended; parted = rw (why.2, first.gone) (sym (take-append-drop k u)) }, (let spent : limit ≤ place = omega (arith, why.0, eq) in omega arith), subst (λ l. 0 < length l) (sym why.2) why.1)
 ends ReadFault u v w before now then at place limit same k n first less there eq within why = so_far u v w before now then at place limit k n first less there within why.0 why.1
 ends Memory u v w before now then at place limit same k n first less there eq within why = so_far u v w before now then at place limit k n first less there within why.0 why.1

@@ -31,8 +31,8 @@ unread left c = waiting c.window ++ left c.source.now
 -- the next byte, or why there is none
 abbrev pub GivesByte : List ℕ → List ℕ → ℕ → ℕ → Result ℕ CursorEnd → Type 0
 GivesByte next rest at limit (Ok byte) = (next ≡ byte ∷ rest) × (at < limit)
-GivesByte next rest at limit (Err Ended) = next ≡ []
-GivesByte next rest at limit (Err TooLarge) = (limit ≤ at) × (0 < length next)
+GivesByte next rest at limit (Err Ended) = (next ≡ []) × (rest ≡ [])
+GivesByte next rest at limit (Err TooLarge) = (limit ≤ at) × (0 < length next) × (rest ≡ next)
 GivesByte next rest at limit (Err ReadFault) = rest ≡ next
 GivesByte next rest at limit (Err Memory) = ⊥
 
@@ -50,11 +50,11 @@ pub record AppendsFewer (next rest before now : List ℕ) (at limit n : ℕ) : T
   pub appended : now ≡ before ++ front
   pub parted : next ≡ front ++ rest
 
--- the next n bytes, or why they are not given
+-- the next n bytes; or the input's end comes first, or its limit where more follows, and those before were appended; a failed read loses none
 abbrev pub GivesBytes : List ℕ → List ℕ → List ℕ → List ℕ → ℕ → ℕ → ℕ → Result (Unit {0}) CursorEnd → Type 0
 GivesBytes next rest before now at limit n (Ok done) = Appends next rest before now n
-GivesBytes next rest before now at limit n (Err Ended) = (length next < n) × (at + length next ≤ limit)
-GivesBytes next rest before now at limit n (Err TooLarge) = (limit < at + n) × (limit - at < length next)
+GivesBytes next rest before now at limit n (Err Ended) = AppendsFewer next rest before now at limit n × (rest ≡ [])
+GivesBytes next rest before now at limit n (Err TooLarge) = (fewer : AppendsFewer next rest before now at limit n) × (at + length fewer.front ≡ limit) × (0 < length rest)
 GivesBytes next rest before now at limit n (Err ReadFault) = AppendsFewer next rest before now at limit n
 GivesBytes next rest before now at limit n (Err Memory) = AppendsFewer next rest before now at limit n
 
@@ -101,15 +101,15 @@ EndsByFault (Err Memory) = ⊥
 -- a byte is there that may be given, or why none is
 abbrev pub Sees : List ℕ → List ℕ → ℕ → ℕ → Result (Unit {0}) CursorEnd → Type 0
 Sees next rest at limit (Ok done) = rest ≡ next
-Sees next rest at limit (Err Ended) = next ≡ []
-Sees next rest at limit (Err TooLarge) = (limit ≤ at) × (0 < length next)
+Sees next rest at limit (Err Ended) = (next ≡ []) × (rest ≡ [])
+Sees next rest at limit (Err TooLarge) = (limit ≤ at) × (0 < length next) × (rest ≡ next)
 Sees next rest at limit (Err ReadFault) = rest ≡ next
 Sees next rest at limit (Err Memory) = ⊥
 
 -- some of the next bytes, or why none is given
 abbrev pub GivesPiece : List ℕ → List ℕ → List ℕ → List ℕ → ℕ → ℕ → Result ℕ CursorEnd → Type 0
 GivesPiece next rest before now at limit (Ok n) = Appends next rest before now n
-GivesPiece next rest before now at limit (Err Ended) = next ≡ []
-GivesPiece next rest before now at limit (Err TooLarge) = (limit ≤ at) × (0 < length next)
+GivesPiece next rest before now at limit (Err Ended) = (next ≡ []) × (rest ≡ []) × (now ≡ before)
+GivesPiece next rest before now at limit (Err TooLarge) = (limit ≤ at) × (0 < length next) × (rest ≡ next) × (now ≡ before)
 GivesPiece next rest before now at limit (Err ReadFault) = (rest ≡ next) × (now ≡ before)
 GivesPiece next rest before now at limit (Err Memory) = (rest ≡ next) × (now ≡ before)

@@ -68,6 +68,7 @@ impl<'a, S: Source> Cursor<'a, S> {
         ensures same_reference { (source_of self.new).ghost_name ≡ (source_of self.old).ghost_name }
         ensures bound { bound self.new ≡ bound self.old }
         ensures gives { S.tells (source_of self.old).now → GivesByte (unread S.left self.old) (unread S.left self.new) (place self.old) (bound self.old) result }
+        ensures total { S.tells (source_of self.old).now → place self.new + length (unread S.left self.new) ≡ place self.old + length (unread S.left self.old) }
         ensures place { OnOk result ((place self.new ≡ place self.old + 1) × (place self.new ≤ bound self.new)) }
         ensures ahead { place self.new + ahead self.new ≤ bound self.new + 1 }
         ensures cause { Counts (S.faults (source_of self.old).now) (S.faults (source_of self.new).now) result }
@@ -85,9 +86,11 @@ impl<'a, S: Source> Cursor<'a, S> {
         ensures same_reference { (source_of self.new).ghost_name ≡ (source_of self.old).ghost_name }
         ensures bound { bound self.new ≡ bound self.old }
         ensures gives { S.tells (source_of self.old).now → GivesBytes (unread S.left self.old) (unread S.left self.new) out.old.items out.new.items (place self.old) (bound self.old) n result }
+        ensures total { S.tells (source_of self.old).now → place self.new + length (unread S.left self.new) ≡ place self.old + length (unread S.left self.old) }
         ensures place { OnOk result ((place self.new ≡ place self.old + n) × (place self.new ≤ bound self.new)) }
         ensures ahead { place self.new + ahead self.new ≤ bound self.new + 1 }
         ensures cause { Counts (S.faults (source_of self.old).now) (S.faults (source_of self.new).now) result }
+        ensures none_ahead { IsFaultedAt (ahead self.new) result }
     {
         let mut missing = n;
         while missing > 0 {
@@ -103,6 +106,7 @@ impl<'a, S: Source> Cursor<'a, S> {
         ensures same_reference { (source_of self.new).ghost_name ≡ (source_of self.old).ghost_name }
         ensures bound { bound self.new ≡ bound self.old }
         ensures gives { S.tells (source_of self.old).now → GivesEnd (unread S.left self.old) (unread S.left self.new) result }
+        ensures total { S.tells (source_of self.old).now → place self.new + length (unread S.left self.new) ≡ place self.old + length (unread S.left self.old) }
         ensures place { place self.new ≡ place self.old }
         ensures ahead { place self.new + ahead self.new ≤ bound self.new + 1 }
         ensures cause { Counts (S.faults (source_of self.old).now) (S.faults (source_of self.new).now) result }
@@ -144,9 +148,11 @@ impl<'a, S: Source> Cursor<'a, S> {
         ensures same_reference { (source_of self.new).ghost_name ≡ (source_of self.old).ghost_name }
         ensures bound { bound self.new ≡ bound self.old }
         ensures gives { S.tells (source_of self.old).now → GivesPiece (unread S.left self.old) (unread S.left self.new) out.old.items out.new.items (place self.old) (bound self.old) result }
+        ensures total { S.tells (source_of self.old).now → place self.new + length (unread S.left self.new) ≡ place self.old + length (unread S.left self.old) }
         ensures size { IfOk result (λ given. (0 < given) × (given ≤ most)) }
         ensures place { IfOk result (λ given. (place self.new ≡ place self.old + given) × (place self.new ≤ bound self.new)) }
         ensures cause { Counts (S.faults (source_of self.old).now) (S.faults (source_of self.new).now) result }
+        ensures none_ahead { IsFaultedAt (ahead self.new) result }
     {
         self.look()?;
         Ok(self.window.take(most, out)?)

@@ -1,4 +1,4 @@
-ghost use Rattle.std.specs.Prelude.{◌≡◌, ◌≤◌, ◌<◌, List, ℕ, length, IfOk};
+ghost use Rattle.std.specs.Prelude.{◌≡◌, ◌≤◌, ◌<◌, List, ℕ, length, IfOk, OnErr};
 ghost use Rattle.amf_io.specs.Outside.{Takes, HasCause};
 
 use crate::Failed;
@@ -21,11 +21,13 @@ pub trait Sink {
         ensures within { IfOk result (λ n. n ≤ length piece.now) }
         ensures progress { IfOk result (λ n. 0 < length piece.now → 0 < n) }
         ensures takes { tells self.new → Takes (held self.old) (held self.new) piece.now result }
+        ensures keeps { OnErr result (tells self.old → tells self.new) }
         ensures cause { HasCause (faults self.old) (faults self.new) result };
 
     /// Hands on what it has taken.
     fn flush(&mut self) -> Result<(), Failed>
         ensures tells { tells self.new → tells self.old }
+        ensures keeps { tells self.old → tells self.new }
         ensures same { tells self.new → held self.new ≡ held self.old }
         ensures cause { HasCause (faults self.old) (faults self.new) result };
 }

@@ -1,4 +1,4 @@
-ghost use Rattle.std.specs.Prelude.{◌≤◌, List, ℕ, length, IfOk};
+ghost use Rattle.std.specs.Prelude.{◌≤◌, List, ℕ, length, IfOk, OnErr};
 ghost use Rattle.amf_io.specs.Outside.{Gives, HasCause};
 
 /// A call of the outside failed.
@@ -22,5 +22,6 @@ pub trait Source {
         ensures tells { tells self.old → tells self.new }
         ensures within { IfOk result (λ n. n ≤ length buf.new) }
         ensures gives { tells self.old → Gives (left self.old) (left self.new) buf.new result }
+        ensures keeps { OnErr result (tells self.new → tells self.old) }
         ensures cause { HasCause (faults self.old) (faults self.new) result };
 }

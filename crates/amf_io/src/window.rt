@@ -112,7 +112,7 @@ impl Window {
         ensures size { IfOk result (λ given. (0 < given) × (given ≤ most)) }
         ensures place { IfOk result (λ given. self.new.at ≡ self.old.at + given) }
         ensures bound { self.new.limit ≡ self.old.limit }
-        ensures failed { OnErr result ((waiting self.new ≡ waiting self.old) × (out.new.items ≡ out.old.items)) }
+        ensures failed { OnErr result ((waiting self.new ≡ waiting self.old) × (out.new.items ≡ out.old.items) × (self.new.at ≡ self.old.at)) }
     {
         let allowed = most.min(self.limit - self.at);
         let given = (allowed as usize).min(self.end - self.start);

@@ -23,6 +23,7 @@ loop-missing-preserved g c =
       so_far = λ t. one_more (unread left c.args.self.now) (unread left c.loop-missing.self) (unread left c.take_piece.new.self)
           c.args.out.now.items c.loop-missing.out.items c.take_piece.new.out.items (c.args.n - c.loop-missing.missing) c.in_ok-given.given _
           (h.so_far t) (e.gives (h.told t)) (omega arith);
+      total = λ t. e.total (h.told t) ∙ h.total t;
       same_name = e.same_reference ∙ h.same_name;
       same_bound = e.bound ∙ h.same_bound;
       counted = omega (arith, e.place.0, h.counted);
@@ -30,3 +31,6 @@ loop-missing-preserved g c =
       within = e.place.1;
       no_fault = e.cause ∙ h.no_fault;
     }
+
+pub returns-in_err-given-clause-total : goal.returns-in_err-given-clause-total
+returns-in_err-given-clause-total g c = λ told. c.in_err-given.ensures.total (c.loop-missing.invariant.told told) ∙ c.loop-missing.invariant.total told

@@ -1,4 +1,4 @@
-use Rattle.std.proofs.Common.{◌≡◌, ◌+◌, ◌-◌, ◌≤◌}
+use Rattle.std.proofs.Common.{◌≡◌, ◌+◌, ◌-◌, ◌≤◌, length}
 use Rattle.amf_io.specs.Cursor.{source_of, place, bound, unread, Appends}
 use Rattle.amf_io.proofs.cursor.Cursor+S.take_into.Given as goal
 
@@ -10,6 +10,7 @@ invariant-loop-missing g l =
     record {
       told : tells (source_of l.fn.self).now → tells (source_of l.self).now;
       so_far : tells (source_of l.fn.self).now → Appends (unread left l.fn.self) (unread left l.self) l.fn.out.items l.out.items (l.n - l.missing);
+      total : tells (source_of l.fn.self).now → place l.self + length (unread left l.self) ≡ place l.fn.self + length (unread left l.fn.self);
       same_name : (source_of l.self).ghost_name ≡ (source_of l.fn.self).ghost_name;
       same_bound : bound l.self ≡ bound l.fn.self;
       counted : place l.self ≡ place l.fn.self + (l.n - l.missing);
