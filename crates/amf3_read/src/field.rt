@@ -52,6 +52,7 @@ pub fn read_field<S: Source>(
     ensures ahead { place cursor.new + ahead cursor.new ≤ bound cursor.new + 1 }
     ensures cause { Counts (S.faults (source_of cursor.old).now) (S.faults (source_of cursor.new).now) result }
     ensures none_ahead { IsFaultedAt (ahead cursor.new) result }
+    ensures total { S.tells (source_of cursor.old).now → place cursor.new + length (unread S.left cursor.new) ≡ place cursor.old + length (unread S.left cursor.old) }
     ensures no_memory { TakesNoMemory result }
 {
     let start = cursor.at();

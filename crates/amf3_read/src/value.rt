@@ -1,4 +1,4 @@
-ghost use Rattle.std.specs.Prelude.{◌≡◌, ◌+◌, ◌≤◌, IfOk};
+ghost use Rattle.std.specs.Prelude.{◌≡◌, ◌+◌, ◌≤◌, length, IfOk};
 ghost use Rattle.amf_io.specs.Cursor.{source_of, place, bound, ahead, unread};
 ghost use Rattle.amf_io.specs.LayoutAnswer.{AnswersBy};
 ghost use Rattle.amf_graph.specs.Graph.{IsOwn, no_arena};
@@ -28,6 +28,7 @@ pub fn read3<S: Source>(cursor: &mut Cursor<'_, S>) -> Result<Value, ReadEnd>
     ensures ahead { place cursor.new + ahead cursor.new ≤ bound cursor.new + 1 }
     ensures cause { Counts (S.faults (source_of cursor.old).now) (S.faults (source_of cursor.new).now) result }
     ensures none_ahead { IsFaultedAt (ahead cursor.new) result }
+    ensures total { S.tells (source_of cursor.old).now → place cursor.new + length (unread S.left cursor.new) ≡ place cursor.old + length (unread S.left cursor.old) }
     ensures no_memory { TakesNoMemory result }
 {
     let marker = read_marker(cursor)?;
@@ -46,6 +47,7 @@ fn read_marker<S: Source>(cursor: &mut Cursor<'_, S>) -> Result<Marker, ReadEnd>
     ensures ahead { place cursor.new + ahead cursor.new ≤ bound cursor.new + 1 }
     ensures cause { Counts (S.faults (source_of cursor.old).now) (S.faults (source_of cursor.new).now) result }
     ensures none_ahead { IsFaultedAt (ahead cursor.new) result }
+    ensures total { S.tells (source_of cursor.old).now → place cursor.new + length (unread S.left cursor.new) ≡ place cursor.old + length (unread S.left cursor.old) }
     ensures no_memory { TakesNoMemory result }
 {
     let start = cursor.at();
@@ -68,6 +70,7 @@ fn read_contents<S: Source>(cursor: &mut Cursor<'_, S>, marker: Marker) -> Resul
     ensures ahead { place cursor.old + ahead cursor.old ≤ bound cursor.old + 1 → place cursor.new + ahead cursor.new ≤ bound cursor.new + 1 }
     ensures cause { Counts (S.faults (source_of cursor.old).now) (S.faults (source_of cursor.new).now) result }
     ensures none_ahead { IsFaultedAt (ahead cursor.new) result }
+    ensures total { S.tells (source_of cursor.old).now → place cursor.new + length (unread S.left cursor.new) ≡ place cursor.old + length (unread S.left cursor.old) }
     ensures no_memory { TakesNoMemory result }
 {
     match marker {
@@ -92,6 +95,7 @@ fn read_number<S: Source>(cursor: &mut Cursor<'_, S>) -> Result<U29, ReadEnd>
     ensures ahead { place cursor.new + ahead cursor.new ≤ bound cursor.new + 1 }
     ensures cause { Counts (S.faults (source_of cursor.old).now) (S.faults (source_of cursor.new).now) result }
     ensures none_ahead { IsFaultedAt (ahead cursor.new) result }
+    ensures total { S.tells (source_of cursor.old).now → place cursor.new + length (unread S.left cursor.new) ≡ place cursor.old + length (unread S.left cursor.old) }
     ensures no_memory { TakesNoMemory result }
 {
     let field = read_field(cursor, FieldSize::U29)?;
@@ -113,6 +117,7 @@ fn read_eight<S: Source>(cursor: &mut Cursor<'_, S>) -> Result<u64, ReadEnd>
     ensures ahead { place cursor.new + ahead cursor.new ≤ bound cursor.new + 1 }
     ensures cause { Counts (S.faults (source_of cursor.old).now) (S.faults (source_of cursor.new).now) result }
     ensures none_ahead { IsFaultedAt (ahead cursor.new) result }
+    ensures total { S.tells (source_of cursor.old).now → place cursor.new + length (unread S.left cursor.new) ≡ place cursor.old + length (unread S.left cursor.old) }
     ensures no_memory { TakesNoMemory result }
 {
     let field = read_field(cursor, FieldSize::Eight)?;
