@@ -57,9 +57,8 @@ pub done_not_refused : (input rest : List ℕ) (told : Type 0) (held now : List 
 done_not_refused input rest told held now w reason at q = once input (converted_accepted input w.bytes w.converted) reason at q
 
 pub line_says : (e : RunEnd) (held now : List ℕ) → now ≡ held ++ line_of e → Reports (status_of e) held now
-unfolding line_of
-line_says (Refused f) held now h = tt
-line_says Usage held now h = h
-line_says ReadFault held now h = h
-line_says WriteFault held now h = h
-line_says NoMemory held now h = h
+line_says (Refused f) held now h = (Refused f, refl, h)
+line_says Usage held now h = (Usage, refl, h)
+line_says ReadFault held now h = (ReadFault, refl, h)
+line_says WriteFault held now h = (WriteFault, refl, h)
+line_says NoMemory held now h = (NoMemory, refl, h)

@@ -1,5 +1,5 @@
 -- What a run answers: its statuses, and what they say of the input and the output.
-use Rattle.std.specs.Prelude.{◌≡◌, ℕ, zero, suc, ◌≤◌, List, [], ◌∷◌, ◌++◌, length, codes, Result, Ok, Err}
+use Rattle.std.specs.Prelude.{◌≡◌, ℕ, zero, suc, ◌+◌, ◌≤◌, List, [], ◌∷◌, ◌++◌, length, codes, Result, Ok, Err}
 use Rattle.amf_wire.specs.Style.{free}
 use Rattle.amf_io.specs.Outside.{Rose}
 use Rattle.amf_io.specs.Field.{Field, flat}
@@ -9,7 +9,7 @@ use Rattle.amf_graph.specs.declared.value.Value.{Value}
 use Rattle.amf_tables.specs.Spells3.{Spells3, IsSpelling3, Canonical3}
 use Rattle.amf_cli.specs.declared.run_end.RunEnd.{RunEnd}
 use Rattle.amf_cli.specs.declared.run_end.RunEnd.TheVariants.{Refused, Usage, ReadFault, WriteFault, NoMemory}
-use Rattle.amf_cli.specs.Lines.{refusal_line}
+use Rattle.amf_cli.specs.Lines.{refusal_line, line_of, status_of}
 use Rattle.amf_cli.specs.Written.{WritesFront}
 
 -- the most bytes of an input
@@ -111,11 +111,16 @@ pub record IsRefusedWith (input : List ℕ) (told : Type 0) (held now : List ℕ
   pub verdict : IsInputRefused IsSpelling3 most input refusal.reason refusal.at
   pub line : told → now ≡ held ++ refusal_line refusal
 
--- the error line of each other status; none of 0
+-- the error line is that of an end with this status; with 0 there is none
 abbrev pub Reports : ℕ → List ℕ → List ℕ → Type 0
 Reports zero held now = now ≡ held
-Reports (suc zero) held now = Unit {0}
-Reports (suc (suc zero)) held now = now ≡ held ++ codes "amf: usage\n"
-Reports (suc (suc (suc zero))) held now = now ≡ held ++ codes "amf: read fault\n"
-Reports (suc (suc (suc (suc zero)))) held now = now ≡ held ++ codes "amf: write fault\n"
-Reports (suc (suc (suc (suc (suc n))))) held now = now ≡ held ++ codes "amf: no memory\n"
+Reports (suc n) held now = (end : RunEnd) × (status_of end ≡ suc n) × (now ≡ held ++ line_of end)
+
+-- of what was left no more was taken than the most, and one byte that shows that there is more; for want of memory nothing is said
+abbrev pub TakesWithin : {T : Type 0} → ℕ → ℕ → Result T RunEnd → Type 0
+TakesWithin before now (Ok x) = before ≤ now + (most + 1)
+TakesWithin before now (Err (Refused f)) = before ≤ now + (most + 1)
+TakesWithin before now (Err ReadFault) = before ≤ now + (most + 1)
+TakesWithin before now (Err Usage) = before ≤ now + (most + 1)
+TakesWithin before now (Err WriteFault) = before ≤ now + (most + 1)
+TakesWithin before now (Err NoMemory) = Unit {0}

@@ -1,4 +1,4 @@
-ghost use Rattle.std.specs.Prelude.{◌≡◌, ℕ, ◌≢◌, ◌+◌, ◌<◌, ◌≤◌, ◌⊎◌, ◌↔◌, IsTrue, OnErr, OnOk, IfOk};
+ghost use Rattle.std.specs.Prelude.{◌≡◌, ℕ, ◌≢◌, ◌+◌, ◌<◌, ◌≤◌, ◌⊎◌, ◌↔◌, IsTrue, length, IfOk};
 ghost use Rattle.amf_io.specs.Cursor.{source_of, place, bound, ahead, unread};
 ghost use Rattle.amf_io.specs.Outside.{Rose, Steady};
 ghost use Rattle.amf_io.specs.declared.reason.Reason.{Reason};
@@ -6,7 +6,7 @@ ghost use Rattle.amf_io.specs.Verdict.{IsInputAccepted, IsInputRefused};
 ghost use Rattle.amf_graph.specs.Graph.{IsOwn, no_arena};
 ghost use Rattle.amf_tables.specs.Spells3.{IsSpelling3};
 ghost use Rattle.amf_cli.specs.Lines.{line_of};
-ghost use Rattle.amf_cli.specs.Run.{most, IsCanon, IsInputOf, IsConverted, IsHidden, ReadsInput, CountsReads, CountsWrites, IsUntouched, IsReadEnd, RunsTo, WritesAll, WritesSome, IsRefusedWith, Reports};
+ghost use Rattle.amf_cli.specs.Run.{most, IsCanon, IsInputOf, IsConverted, IsHidden, ReadsInput, CountsReads, CountsWrites, IsUntouched, IsReadEnd, RunsTo, WritesAll, WritesSome, IsRefusedWith, Reports, TakesWithin};
 
 use crate::report::report;
 use crate::run_end::RunEnd;
@@ -41,6 +41,7 @@ pub fn run<R, I: Source, O: Sink, E: Sink>(
     // 0: the output has taken exactly the canonical bytes, and the input was read to its end.
     ensures done { result ≡ 0 → I.tells input.old → WritesAll (I.left input.old) (I.left input.new)
         (O.tells out.new) (O.held out.old) (O.held out.new) }
+    ensures canon { result ≢ 2 → IsCanon words.now }
     ensures no_fault { result ≡ 0 → (I.faults input.new ≡ I.faults input.old) × (O.faults out.new ≡ O.faults out.old) }
 
     // 1: the verdict, with its reason and place on the error line.
@@ -65,6 +66,10 @@ pub fn run<R, I: Source, O: Sink, E: Sink>(
     ensures untouched { (result ≡ 1) ⊎ (result ≡ 2) ⊎ (result ≡ 3) → out.new ≡ out.old }
     ensures unread { result ≡ 2 → input.new ≡ input.old }
 
+    // No byte of the input past the most is taken but the one that shows that there is more.
+    ensures taken { result ≢ 5 → I.tells input.old
+        → length (I.left input.old) ≤ length (I.left input.new) + (most + 1) }
+
     // A fault of the error line changes no status.
     ensures line { E.tells err.new → Steady (E.faults err.old) (E.faults err.new)
         → Reports result (E.held err.old) (E.held err.new) }
@@ -87,7 +92,9 @@ fn execute<I: Source, O: Sink>(
     out: &mut O,
 ) -> Result<(), RunEnd>
     ensures usage { (result ≡ Err RunEnd.Usage) ↔ (IsCanon words.now → ⊥) }
+    ensures canon { result ≢ Err RunEnd.Usage → IsCanon words.now }
     ensures unread { result ≡ Err RunEnd.Usage → input.new ≡ input.old }
+    ensures taken { I.tells input.old → TakesWithin (length (I.left input.old)) (length (I.left input.new)) result }
     ensures tells { O.tells out.new → O.tells out.old }
     ensures runs { I.tells input.old → RunsTo (I.left input.old) (I.left input.new) (O.tells out.new) (O.held out.old) (O.held out.new) result }
     ensures untouched { IsUntouched out.old out.new result }
@@ -115,6 +122,7 @@ fn canon<I: Source, O: Sink>(alloc: Global, input: &mut I, out: &mut O) -> Resul
     ensures no_usage { result ≢ Err RunEnd.Usage }
     ensures tells { O.tells out.new → O.tells out.old }
     ensures runs { I.tells input.old → RunsTo (I.left input.old) (I.left input.new) (O.tells out.new) (O.held out.old) (O.held out.new) result }
+    ensures taken { I.tells input.old → TakesWithin (length (I.left input.old)) (length (I.left input.new)) result }
     ensures untouched { IsUntouched out.old out.new result }
     ensures reads { CountsReads (I.faults input.old) (I.faults input.new) result }
     ensures writes { CountsWrites (O.faults out.old) (O.faults out.new) result }
@@ -129,6 +137,7 @@ fn canon<I: Source, O: Sink>(alloc: Global, input: &mut I, out: &mut O) -> Resul
 /// The canonical spelling of the one value that the input is.
 fn canonical_bytes<I: Source>(alloc: Global, input: &mut I) -> Result<Vec<u8>, RunEnd>
     ensures reads { I.tells input.old → ReadsInput (λ bytes. IsConverted (I.left input.old) bytes.items) (I.left input.old) (I.left input.new) result }
+    ensures taken { I.tells input.old → TakesWithin (length (I.left input.old)) (length (I.left input.new)) result }
     ensures counts { CountsReads (I.faults input.old) (I.faults input.new) result }
     ensures ends { IsReadEnd result }
 {
@@ -142,6 +151,7 @@ fn canonical_bytes<I: Source>(alloc: Global, input: &mut I) -> Result<Vec<u8>, R
 fn read_input<I: Source>(alloc: Global, input: &mut I) -> Result<Value, RunEnd>
     ensures reads { I.tells input.old → ReadsInput (λ v. IsInputOf v (I.left input.old)) (I.left input.old) (I.left input.new) result }
     ensures own { IfOk result (IsOwn no_arena) }
+    ensures taken { I.tells input.old → TakesWithin (length (I.left input.old)) (length (I.left input.new)) result }
     ensures counts { CountsReads (I.faults input.old) (I.faults input.new) result }
     ensures ends { IsReadEnd result }
 {
@@ -152,10 +162,11 @@ fn read_input<I: Source>(alloc: Global, input: &mut I) -> Result<Value, RunEnd>
 /// The one value that all the bytes of a cursor are.
 fn read_whole<S: Source>(cursor: &mut Cursor<'_, S>) -> Result<Value, RunEnd>
     requires at_start { place cursor.old ≡ 0 }
-    requires limit { bound cursor.old ≡ 16777216 }
+    requires limit { bound cursor.old ≡ most }
     ensures same_reference { (source_of cursor.new).ghost_name ≡ (source_of cursor.old).ghost_name }
     ensures reads { S.tells (source_of cursor.old).now → ReadsInput (λ v. IsInputOf v (unread S.left cursor.old)) (unread S.left cursor.old) (S.left (source_of cursor.new).now) result }
     ensures own { IfOk result (IsOwn no_arena) }
+    ensures taken { S.tells (source_of cursor.old).now → length (unread S.left cursor.old) ≤ length (S.left (source_of cursor.new).now) + (most + 1) }
     ensures counts { CountsReads (S.faults (source_of cursor.old).now) (S.faults (source_of cursor.new).now) result }
     ensures ends { IsReadEnd result }
 {

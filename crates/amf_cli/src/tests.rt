@@ -1,7 +1,7 @@
 use crate::run::run;
 use amf_io::{FaultlessSink, FaultlessSource, MemorySink, MemorySource};
 use amf_wire::Name;
-use std::alloc::Global;
+use std::alloc::{AllocError, Global};
 use std::process::Abort;
 use std::test::Fail;
 
@@ -70,6 +70,16 @@ fn run_over(
     }
 }
 
+/// All at once, a byte at a time, and split at each place, as the most bytes of a piece and the offset
+/// that no piece crosses.
+fn pieces_of(alloc: Global, len: usize) -> Result<Vec<(usize, usize)>, AllocError> {
+    let mut pieces = vec![in alloc; (100, 0), (1, 0)]?;
+    for cut in 1..len {
+        pieces.push((100, cut))?;
+    }
+    Ok(pieces)
+}
+
 /// The worked inputs, all at once, a byte at a time, and split at each place.
 #[test]
 fn canonical_spellings(rt: HostRuntime) {
@@ -102,17 +112,9 @@ fn canonical_spellings(rt: HostRuntime) {
         refused(&[0x04, 0x80, 0x80, 0x80], b"amf: refused Truncated at 1\n"),
     ];
     for case in &cases {
-        for (most, cut) in [(100, 0), (1, 0), (100, 1), (100, 2), (100, 3), (100, 4)] {
-            let ran = run_over(
-                &rt,
-                rt.alloc(),
-                &["canon"],
-                case.input,
-                (most, cut),
-                &[],
-                &[],
-            );
-            let input = case.input;
+        let input = case.input;
+        for (most, cut) in pieces_of(rt.alloc(), input.len()).expect(&rt, "pieces") {
+            let ran = run_over(&rt, rt.alloc(), &["canon"], input, (most, cut), &[], &[]);
             assert_eq!(rt; ran.status, case.status, "at {input:?} by {most}, {cut}");
             assert_eq!(rt;
                 ran.output.as_bytes(),
@@ -126,6 +128,16 @@ fn canonical_spellings(rt: HostRuntime) {
             );
         }
     }
+    for pieces in pieces_of(rt.alloc(), 1).expect(&rt, "pieces") {
+        let reads = run_over(&rt, rt.alloc(), &["canon"], &[0x01], pieces, &[0], &[]);
+        assert_eq!(rt; reads.status, 3);
+        assert_eq!(rt; reads.line.as_bytes(), b"amf: read fault\n".as_slice());
+        assert_eq!(rt; reads.output.as_bytes(), b"".as_slice());
+        let writes = run_over(&rt, rt.alloc(), &["canon"], &[0x01], pieces, &[], &[0]);
+        assert_eq!(rt; writes.status, 4);
+        assert_eq!(rt; writes.line.as_bytes(), b"amf: write fault\n".as_slice());
+        assert_eq!(rt; writes.output.as_bytes(), b"".as_slice());
+    }
 }
 
 /// Words without a reading, and streams that fail.
@@ -137,18 +149,10 @@ fn other_statuses(rt: HostRuntime) {
         assert_eq!(rt; ran.line.as_bytes(), b"amf: usage\n".as_slice());
         assert_eq!(rt; ran.output.as_bytes(), b"".as_slice());
     }
-    let reads = run_over(&rt, rt.alloc(), &["canon"], &[0x01], (100, 0), &[0], &[]);
-    assert_eq!(rt; reads.status, 3);
-    assert_eq!(rt; reads.line.as_bytes(), b"amf: read fault\n".as_slice());
-    assert_eq!(rt; reads.output.as_bytes(), b"".as_slice());
     let behind = run_over(&rt, rt.alloc(), &["canon"], &[0x01], (100, 0), &[1], &[]);
     assert_eq!(rt; behind.status, 3);
     let settled = run_over(&rt, rt.alloc(), &["canon"], &[0x12], (100, 0), &[1], &[]);
     assert_eq!(rt; settled.status, 1);
-    let writes = run_over(&rt, rt.alloc(), &["canon"], &[0x01], (100, 0), &[], &[0]);
-    assert_eq!(rt; writes.status, 4);
-    assert_eq!(rt; writes.line.as_bytes(), b"amf: write fault\n".as_slice());
-    assert_eq!(rt; writes.output.as_bytes(), b"".as_slice());
     let front = run_over(
         &rt,
         rt.alloc(),
