@@ -2,7 +2,7 @@
 use Rattle.std.specs.Prelude.{◌≡◌, ℕ, ◌+◌, ◌-◌, ◌<◌, ◌≤◌, ◌↔◌, Bool, IsTrue, List, [], ◌∷◌, ◌++◌, length, take, drop, Result, Ok, Err}
 use Rattle.std.specs.Borrow.{MutBor}
 use Rattle.amf_io.specs.Outside.{Rose}
-use Rattle.amf_io.specs.Window.{size, waiting}
+use Rattle.amf_io.specs.Window.{size, waiting, given}
 use Rattle.amf_io.specs.declared.window.Window.{Window}
 use Rattle.amf_io.specs.declared.cursor.Cursor.{Cursor}
 use Rattle.amf_io.specs.declared.ends.CursorEnd.{CursorEnd}
@@ -14,7 +14,7 @@ source_of c = c.source
 
 -- how many bytes it has given
 abbrev pub place : {S : Type 0} → Cursor S Window → ℕ
-place c = c.window.at
+place c = given c.window
 
 -- how many bytes it may give
 abbrev pub bound : {S : Type 0} → Cursor S Window → ℕ

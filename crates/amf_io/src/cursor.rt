@@ -75,7 +75,9 @@ impl<'a, S: Source> Cursor<'a, S> {
         ensures none_ahead { IsFaultedAt (ahead self.new) result }
         ensures no_memory { TakesNoMemory result }
     {
-        self.look()?;
+        if !self.window.has_next() {
+            self.look()?;
+        }
         Ok(self.window.byte())
     }
 
@@ -120,7 +122,7 @@ impl<'a, S: Source> Cursor<'a, S> {
     }
 
     /// Sees to it that a byte is read ahead, and that it may be given.
-    #[inline]
+    #[inline(never)]
     fn look(&mut self) -> Result<(), CursorEnd>
         ensures tells { S.tells (source_of self.old).now → S.tells (source_of self.new).now }
         ensures same_reference { (source_of self.new).ghost_name ≡ (source_of self.old).ghost_name }
@@ -135,7 +137,7 @@ impl<'a, S: Source> Cursor<'a, S> {
         if self.window.is_empty() && self.window.fill(self.source)? {
             return Err(CursorEnd::Ended);
         }
-        if self.window.is_spent() {
+        if !self.window.has_next() {
             return Err(CursorEnd::TooLarge);
         }
         Ok(())

@@ -1,4 +1,4 @@
-ghost use Rattle.std.specs.Prelude.{◌≡◌, ◌+◌, ◌-◌, ◌<◌, ◌≤◌, length, IfOk};
+ghost use Rattle.std.specs.Prelude.{◌≡◌, ◌+◌, ◌-◌, ◌<◌, ◌≤◌, min, length, IfOk};
 ghost use Rattle.amf_io.specs.Outside.{HasCause, ReadsFront};
 
 use crate::{Failed, Source};
@@ -9,25 +9,28 @@ use std::alloc::{AllocError, Global};
 const BUFFER: usize = 65536;
 
 /// The bytes that a cursor has read and not given, and how many it has given, of a limit. It never
-/// holds more than one byte past the limit.
+/// holds more than one byte past the limit. The bytes from `start` up to `stop` may be given, and
+/// those up to `end` were read. As many as `before` were given before the buffer was last filled.
 #[derive(Drop)]
 pub struct Window {
     buffer: Vec<u8>,
     start: usize,
+    stop: usize,
     end: usize,
-    at: u32,
+    before: u32,
     limit: u32,
-    ghost waiting_there: { start ≤ end },
+    ghost waiting_there: { start ≤ stop },
     ghost waiting_within: { end ≤ length buffer.items },
     ghost whole_buffer: { length buffer.items ≡ 65536 },
-    ghost place_within: { at ≤ limit },
-    ghost one_past: { at + (end - start) ≤ limit + 1 },
+    ghost before_within: { before ≤ limit },
+    ghost stop_within: { stop ≡ min end (limit - before) },
+    ghost one_past: { before + end ≤ limit + 1 },
 }
 
 impl Window {
     ghost use Rattle.std.specs.Prelude.{◌≡◌, ◌+◌, ◌-◌, ◌<◌, ◌≤◌, ◌∷◌, ◌↔◌, [], IsTrue, length, OnErr, IfOk};
     ghost use Rattle.amf_io.specs.Outside.{HasCause};
-    ghost use Rattle.amf_io.specs.Window.{waiting, size, Fills, Begins, IsEmptied, IsUnmoved};
+    ghost use Rattle.amf_io.specs.Window.{waiting, size, given, Fills, Begins, IsEmptied, IsUnmoved};
 
     /// An empty window.
     pub(crate) fn new(alloc: Global, limit: u32) -> Result<Window, Memory>
@@ -37,8 +40,9 @@ impl Window {
         Ok(Window {
             buffer,
             start: 0,
+            stop: 0,
             end: 0,
-            at: 0,
+            before: 0,
             limit,
         })
     }
@@ -46,11 +50,11 @@ impl Window {
     /// The number of bytes given.
     #[inline]
     pub(crate) fn at(&self) -> u32
-        ensures place { result ≡ self.now.at }
-        ensures within { self.now.at ≤ self.now.limit }
-        ensures one_past { self.now.at + size self.now ≤ self.now.limit + 1 }
+        ensures place { result ≡ given self.now }
+        ensures within { given self.now ≤ self.now.limit }
+        ensures one_past { given self.now + size self.now ≤ self.now.limit + 1 }
     {
-        self.at
+        self.before + self.start as u32
     }
 
     /// Whether it holds no byte.
@@ -61,12 +65,12 @@ impl Window {
         self.start == self.end
     }
 
-    /// Whether as many bytes were given as the limit allows.
+    /// Whether it holds a byte that the limit allows to be given.
     #[inline]
-    pub(crate) fn is_spent(&self) -> bool
-        ensures { IsTrue result ↔ (self.now.limit ≤ self.now.at) }
+    pub(crate) fn has_next(&self) -> bool
+        ensures { IsTrue result ↔ ((0 < size self.now) × (given self.now < self.now.limit)) }
     {
-        self.at >= self.limit
+        self.start < self.stop
     }
 
     /// Reads into the empty window, and tells whether the source is at its end.
@@ -80,10 +84,13 @@ impl Window {
         ensures failed { OnErr result (size self.new ≡ 0) }
         ensures cause { HasCause (S.faults source.old) (S.faults source.new) result }
     {
-        let past = self.limit as usize - self.at as usize + 1;
-        let most = past.min(BUFFER);
+        let at = self.at();
+        let allowed = (self.limit - at) as usize;
+        let most = (allowed + 1).min(BUFFER);
         let count = read_front(source, &mut self.buffer, most)?;
+        self.before = at;
         self.start = 0;
+        self.stop = count.min(allowed);
         self.end = count;
         Ok(count == 0)
     }
@@ -92,35 +99,32 @@ impl Window {
     #[inline]
     pub(crate) fn byte(&mut self) -> u8
         requires some { 0 < size self.old }
-        requires within { self.old.at < self.old.limit }
+        requires within { given self.old < self.old.limit }
         ensures gives { waiting self.old ≡ result ∷ waiting self.new }
-        ensures place { self.new.at ≡ self.old.at + 1 }
+        ensures place { given self.new ≡ given self.old + 1 }
         ensures bound { self.new.limit ≡ self.old.limit }
     {
         let byte = self.buffer[self.start];
         self.start += 1;
-        self.at += 1;
         byte
     }
 
     /// Appends the next bytes that it holds: at least one, and at most so many.
     pub(crate) fn take(&mut self, most: u32, out: &mut Vec<u8>) -> Result<u32, AllocError>
         requires some { 0 < size self.old }
-        requires within { self.old.at < self.old.limit }
+        requires within { given self.old < self.old.limit }
         requires most { 0 < most }
         ensures gives { IfOk result (IsEmptied (waiting self.old) (waiting self.new) out.old.items out.new.items) }
-        ensures size { IfOk result (λ given. (0 < given) × (given ≤ most)) }
-        ensures place { IfOk result (λ given. self.new.at ≡ self.old.at + given) }
+        ensures size { IfOk result (λ count. (0 < count) × (count ≤ most)) }
+        ensures place { IfOk result (λ count. given self.new ≡ given self.old + count) }
         ensures bound { self.new.limit ≡ self.old.limit }
         ensures failed { OnErr result ((waiting self.new ≡ waiting self.old) × (out.new.items ≡ out.old.items) × (self.new.at ≡ self.old.at)) }
     {
-        let allowed = most.min(self.limit - self.at);
-        let given = (allowed as usize).min(self.end - self.start);
-        let to = self.start + given;
+        let count = (most as usize).min(self.stop - self.start);
+        let to = self.start + count;
         out.extend_from_slice(&self.buffer[self.start..to])?;
         self.start = to;
-        self.at += given as u32;
-        Ok(given as u32)
+        Ok(count as u32)
     }
 }
 
