@@ -118,7 +118,7 @@ impl Window {
         ensures size { IfOk result (λ count. (0 < count) × (count ≤ most)) }
         ensures place { IfOk result (λ count. given self.new ≡ given self.old + count) }
         ensures bound { self.new.limit ≡ self.old.limit }
-        ensures failed { OnErr result ((waiting self.new ≡ waiting self.old) × (out.new.items ≡ out.old.items) × (self.new.at ≡ self.old.at)) }
+        ensures failed { OnErr result ((waiting self.new ≡ waiting self.old) × (out.new.items ≡ out.old.items) × (given self.new ≡ given self.old)) }
     {
         let count = (most as usize).min(self.stop - self.start);
         let to = self.start + count;
