@@ -1,4 +1,4 @@
-//! Checks, shows, compares and converts AMF data.
+//! The program `amf`: writes the canonical spelling of AMF 3 values.
 #![tactic(auto)]
 
 mod report;

@@ -1,1 +1,2 @@
 pub mod Values3
+mod Canonical3s
