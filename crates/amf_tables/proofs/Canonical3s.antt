@@ -1,6 +1,6 @@
 -- Canonical spellings of values without text or nodes.
 use Rattle.std.proofs.Common.{◌≡◌, ℕ, ◌+◌, true, false, List, [], length, ◌∷◌, ◌++◌, refl, sym, ap, ◌∙◌}
-use Rattle.amf_wire.specs.Style.{canonical}
+use Rattle.amf_wire.specs.Style.{free, canonical}
 use Rattle.amf_wire.specs.U29.{IsU29}
 use Rattle.std.specs.Int.{to_be_bytes, w64}
 use Rattle.amf_wire.proofs.Digits.{has_shortest}
@@ -14,7 +14,7 @@ use Rattle.amf_graph.specs.declared.value.Value.TheVariants.{Undefined, Null, Bo
 use Rattle.amf_wire.specs.Integer.{integer_bits}
 use Rattle.amf_tables.specs.Spells3.{marker, Spells3, Canonical3}
 use Rattle.amf_tables.specs.Layout3.{value_layout}
-use Rattle.amf_tables.specs.Laws3.{CanonicalExists, CanonicalIsRead, CanonicalIsOne, CanonicalTells}
+use Rattle.amf_tables.specs.Laws3.{CanonicalExists, CanonicalIsRead, CanonicalIsOne, SpellingTells}
 use Rattle.amf_tables.proofs.Values3.{complete3}
 
 pub is_read : CanonicalIsRead
@@ -41,11 +41,12 @@ pub is_one : CanonicalIsOne
 is_one v bytes other (fs, s, e) (gs, t, h) = e ∙ same_fields v fs gs s t ∙ sym h
 
 -- the value that is read from the bytes
-read_from : (v : Value) (bytes : List ℕ) (c : Canonical3 v bytes) → run value_layout 0 (bytes ++ []) ≡ Done v (0 + length (flat c.0)) []
-read_from v bytes (fs, s, e) = ap (λ b. run value_layout 0 (b ++ [])) e ∙ runs_run value_layout fs v 0 [] (complete3 fs v (is_read v fs s))
+read_from : (v : Value) (fs : List Field) → Spells3 free v fs → run value_layout 0 (flat fs ++ []) ≡ Done v (0 + length (flat fs)) []
+read_from v fs s = runs_run value_layout fs v 0 [] (complete3 fs v s)
 
-pub tells : CanonicalTells
-tells v w bytes c d = let same : Done v (0 + length (flat c.0)) [] ≡ Done w (0 + length (flat d.0)) [] = sym (read_from v bytes c) ∙ read_from w bytes d in cc
+pub tells : SpellingTells
+tells v w fs gs s t e =
+    let same : Done v (0 + length (flat fs)) [] ≡ Done w (0 + length (flat gs)) [] = sym (read_from v fs s) ∙ ap (λ b. run value_layout 0 (b ++ [])) e ∙ read_from w gs t in cc
 
 spelled_by : (v : Value) (fs : List Field) → Spells3 canonical v fs → (bytes : List ℕ) × Canonical3 v bytes
 spelled_by v fs s = (flat fs, (fs, s, refl))

@@ -2,7 +2,7 @@
 use Rattle.std.specs.Prelude.{◌≡◌, ℕ, ◌^◌, ◌<◌, List}
 use Rattle.amf_wire.specs.Style.{free, canonical}
 use Rattle.amf_wire.specs.Integer.{IsInteger}
-use Rattle.amf_io.specs.Field.{Field}
+use Rattle.amf_io.specs.Field.{Field, flat}
 use Rattle.amf_graph.specs.declared.value.Value.{Value}
 use Rattle.amf_graph.specs.declared.value.Value.TheVariants.{Integer, Double, Text, Node}
 use Rattle.amf_tables.specs.Spells3.{Spells3, Canonical3}
@@ -27,6 +27,6 @@ CanonicalIsRead = (v : Value) (fs : List Field) → Spells3 canonical v fs → S
 abbrev pub CanonicalIsOne : Type 0
 CanonicalIsOne = (v : Value) (bytes other : List ℕ) → Canonical3 v bytes → Canonical3 v other → bytes ≡ other
 
--- no bytes are the canonical spellings of two values
-abbrev pub CanonicalTells : Type 0
-CanonicalTells = (v w : Value) (bytes : List ℕ) → Canonical3 v bytes → Canonical3 w bytes → v ≡ w
+-- no bytes spell two values, however they spell them
+abbrev pub SpellingTells : Type 0
+SpellingTells = (v w : Value) (fs gs : List Field) → Spells3 free v fs → Spells3 free w gs → flat fs ≡ flat gs → v ≡ w
