@@ -8,9 +8,9 @@ use Rattle.amf_io.proofs.Bytes.{bytes_taken}
 use Rattle.amf_io.proofs.Readings.{read_took, Took}
 use Rattle.amf_io.proofs.LayoutAnswers.{refused_verdict, waits_verdict}
 use Rattle.amf_graph.specs.declared.value.Value.{Value}
-use Rattle.amf_tables.specs.Spells3.{IsSpelling3}
-use Rattle.amf_tables.specs.Layout3.{value_layout}
-use Rattle.amf_tables.proofs.Values3.{values3, is_layout3, sound3}
+use Rattle.amf_tables.specs.Plain3.{IsSpelling3}
+use Rattle.amf_tables.specs.PlainLayout3.{value_layout}
+use Rattle.amf_tables.proofs.PlainValues3.{values3, is_layout3, sound3}
 use Rattle.amf3_read.specs.Answer.{Answers3}
 
 pub answers : (input rest : List ℕ) (at place limit : ℕ) (result : Result Value ReadEnd) → at ≤ limit → AnswersBy (λ v. v) value_layout input rest at place limit result → Answers3 input rest at place limit result

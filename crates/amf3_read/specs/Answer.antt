@@ -6,7 +6,7 @@ use Rattle.amf_io.specs.declared.ends.ReadEnd.TheVariants.{Refused, ReadFault, M
 use Rattle.amf_io.specs.Field.{Field, flat}
 use Rattle.amf_io.specs.Verdict.{IsRefused, IsCutOff}
 use Rattle.amf_graph.specs.declared.value.Value.{Value}
-use Rattle.amf_tables.specs.Spells3.{Spells3, IsSpelling3}
+use Rattle.amf_tables.specs.Plain3.{Spells3, IsSpelling3}
 
 -- the bytes that were taken spell the value
 pub record IsRead (v : Value) (input rest : List ℕ) (at place limit : ℕ) : Type 0 where

@@ -1,5 +1,5 @@
 ghost use Rattle.std.specs.Prelude.{◌≡◌, ◌+◌, ◌≤◌, Some, None, IfOk, IfErr};
-ghost use Rattle.amf_tables.specs.Refusals3.{marker_refusal};
+ghost use Rattle.amf_tables.specs.PlainRefusals3.{marker_refusal};
 ghost use Rattle.amf3_read.specs.Markers.{byte_of};
 
 use amf_io::Reason;

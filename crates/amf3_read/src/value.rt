@@ -1,8 +1,8 @@
 ghost use Rattle.std.specs.Prelude.{◌≡◌, ◌+◌, ◌≤◌, length, IfOk};
 ghost use Rattle.amf_io.specs.Cursor.{source_of, place, bound, ahead, unread};
 ghost use Rattle.amf_io.specs.LayoutAnswer.{AnswersBy};
-ghost use Rattle.amf_graph.specs.Graph.{IsOwn, no_arena};
-ghost use Rattle.amf_tables.specs.Layout3.{marker_layout, number_layout, eight_layout, after_marker};
+ghost use Rattle.amf_graph.specs.Start.{IsOwn, no_arena};
+ghost use Rattle.amf_tables.specs.PlainLayout3.{marker_layout, number_layout, eight_layout, after_marker};
 ghost use Rattle.amf3_read.specs.Markers.{byte_of};
 ghost use Rattle.amf3_read.specs.Ends.{Counts, IsFaultedAt, TakesNoMemory};
 ghost use Rattle.amf3_read.specs.Answer.{Answers3};

@@ -7,8 +7,8 @@ pub struct PlainValues;
 
 impl Format for PlainValues {
     ghost use Rattle.amf_graph.specs.declared.value.Value.{Value};
-    ghost use Rattle.amf_tables.specs.Spells3.{IsSpelling3};
-    ghost use Rattle.amf_tables.proofs.Values3.{values3, is_layout3};
+    ghost use Rattle.amf_tables.specs.Plain3.{IsSpelling3};
+    ghost use Rattle.amf_tables.proofs.PlainValues3.{values3, is_layout3};
 
     ghost value = { Value };
 

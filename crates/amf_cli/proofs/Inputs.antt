@@ -14,7 +14,7 @@ use Rattle.amf_io.specs.Verdict.{IsInputRefused, refused, trailing, IsRefused}
 use Rattle.amf_io.specs.declared.ends.ReadEnd.{ReadEnd}
 use Rattle.amf_io.specs.declared.ends.ReadEnd.TheVariants.{Refused, ReadFault, Memory}
 use Rattle.amf_graph.specs.declared.value.Value.{Value}
-use Rattle.amf_tables.specs.Spells3.{IsSpelling3}
+use Rattle.amf_tables.specs.Plain3.{IsSpelling3}
 use Rattle.amf3_read.specs.Answer.{IsRead, IsInterrupted, Answers3}
 use Rattle.amf_cli.specs.Run.{most, IsInputOf, IsHidden, ReadsInput}
 use Rattle.amf_cli.specs.Lines.{end_of}

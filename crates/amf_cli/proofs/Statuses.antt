@@ -7,8 +7,8 @@ use Rattle.amf_io.specs.declared.reason.Reason.{Reason}
 use Rattle.amf_io.specs.Field.{flat}
 use Rattle.amf_io.specs.Verdict.{IsInputAccepted, IsInputRefused}
 use Rattle.amf_io.proofs.Inputs.{judged_once}
-use Rattle.amf_tables.specs.Spells3.{IsSpelling3}
-use Rattle.amf_tables.proofs.Values3.{values3, is_layout3}
+use Rattle.amf_tables.specs.Plain3.{IsSpelling3}
+use Rattle.amf_tables.proofs.PlainValues3.{values3, is_layout3}
 use Rattle.amf_cli.specs.declared.run_end.RunEnd.{RunEnd}
 use Rattle.amf_cli.specs.declared.run_end.RunEnd.TheVariants.{Refused, Usage, ReadFault, WriteFault, NoMemory}
 use Rattle.amf_cli.specs.Lines.{status_of, line_of}

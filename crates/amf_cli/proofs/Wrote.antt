@@ -8,7 +8,7 @@ use Rattle.amf_wire.specs.Integer.{IsInteger, integer_bits}
 use Rattle.amf_io.specs.Field.{Field, field, flat, raw_kind, u29_kind, no_refusal}
 use Rattle.amf_graph.specs.declared.value.Value.{Value}
 use Rattle.amf_graph.specs.declared.value.Value.TheVariants.{Integer, Double}
-use Rattle.amf_tables.specs.Spells3.{marker, Spells3}
+use Rattle.amf_tables.specs.Plain3.{marker, Spells3}
 use Rattle.amf_cli.specs.Appended.{AppendsCanonical}
 
 -- the fields of a canonical spelling

@@ -6,7 +6,7 @@ use Rattle.amf_io.specs.Field.{Field, flat}
 use Rattle.amf_io.specs.Verdict.{IsInputRefused, IsUnsettled}
 use Rattle.amf_io.specs.declared.ends.Refusal.{Refusal}
 use Rattle.amf_graph.specs.declared.value.Value.{Value}
-use Rattle.amf_tables.specs.Spells3.{Spells3, IsSpelling3, Canonical3}
+use Rattle.amf_tables.specs.Plain3.{Spells3, IsSpelling3, Canonical3}
 use Rattle.amf_cli.specs.declared.run_end.RunEnd.{RunEnd}
 use Rattle.amf_cli.specs.declared.run_end.RunEnd.TheVariants.{Refused, Usage, ReadFault, WriteFault, NoMemory}
 use Rattle.amf_cli.specs.Lines.{refusal_line, line_of, status_of}

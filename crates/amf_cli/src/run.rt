@@ -3,8 +3,8 @@ ghost use Rattle.amf_io.specs.Cursor.{source_of, place, bound, ahead, unread};
 ghost use Rattle.amf_io.specs.Outside.{Rose, Steady};
 ghost use Rattle.amf_io.specs.declared.reason.Reason.{Reason};
 ghost use Rattle.amf_io.specs.Verdict.{IsInputAccepted, IsInputRefused};
-ghost use Rattle.amf_graph.specs.Graph.{IsOwn, no_arena};
-ghost use Rattle.amf_tables.specs.Spells3.{IsSpelling3};
+ghost use Rattle.amf_graph.specs.Start.{IsOwn, no_arena};
+ghost use Rattle.amf_tables.specs.Plain3.{IsSpelling3};
 ghost use Rattle.amf_cli.specs.Lines.{line_of};
 ghost use Rattle.amf_cli.specs.Run.{most, IsCanon, IsInputOf, IsConverted, IsHidden, ReadsInput, CountsReads, CountsWrites, IsUntouched, IsReadEnd, RunsTo, WritesAll, WritesSome, IsRefusedWith, Reports, TakesWithin};
 

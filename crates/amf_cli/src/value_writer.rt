@@ -1,6 +1,6 @@
 ghost use Rattle.std.specs.Prelude.{OnOk};
 ghost use Rattle.amf_wire.specs.Integer.{IsInteger};
-ghost use Rattle.amf_graph.specs.Graph.{IsOwn, no_arena};
+ghost use Rattle.amf_graph.specs.Start.{IsOwn, no_arena};
 ghost use Rattle.amf_cli.specs.Appended.{AppendsCanonical};
 
 use amf_graph::Value;

@@ -1,5 +1,5 @@
 ghost use Rattle.std.specs.Prelude.{◌≡◌, IsOkAnd, IfOk};
-ghost use Rattle.amf_graph.specs.Graph.{no_arena, IsOwn, IsWhole};
+ghost use Rattle.amf_graph.specs.Start.{no_arena, IsOwn, IsWhole};
 
 use crate::{NodeId, Rooted, Value};
 use amf_wire::Memory;
@@ -13,7 +13,7 @@ pub struct Builder {
 }
 
 impl Model for Builder {
-    ghost use Rattle.amf_graph.specs.Graph.{Arena, no_arena};
+    ghost use Rattle.amf_graph.specs.Start.{Arena, no_arena};
 
     ghost Value = { Arena };
 

@@ -10,7 +10,7 @@ pub struct Rooted {
 }
 
 impl Model for Rooted {
-    ghost use Rattle.amf_graph.specs.Graph.{Graph};
+    ghost use Rattle.amf_graph.specs.Start.{Graph};
 
     ghost Value = { Graph };
 

@@ -1,4 +1,4 @@
-use crate::{Builder, Value};
+use crate::{Builder, Value, finished_facts, fit_rows, graph_rows};
 use amf_wire::Pattern;
 use std::test::Fail;
 
@@ -18,4 +18,11 @@ fn keeps_the_root(rt: HostRuntime) -> Result<(), Fail> {
         assert_eq!(rt; graph.root(), root);
     }
     Ok(())
+}
+
+#[test]
+fn facts_stand(_rt: HostRuntime) {
+    graph_rows();
+    fit_rows();
+    finished_facts();
 }

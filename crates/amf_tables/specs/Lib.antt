@@ -1,4 +1,21 @@
+-- The definitions that contracts cite.
+pub mod Tables
+pub mod KeptTables
+pub mod Then
 pub mod Refusals3
+pub mod Words3
+pub mod Parts3
+pub mod Headers3
+pub mod Nodes3
 pub mod Spells3
-pub mod Layout3
-pub mod Laws3
+pub mod Lacks3
+pub mod Reads3
+pub mod WorkedRows3
+pub mod WorkedKinds3
+pub mod WorkedVerdicts3
+pub mod WorkedLacks3
+pub mod Agreement3
+pub mod PlainRefusals3
+pub mod Plain3
+pub mod PlainLayout3
+pub mod PlainLaws3

@@ -1,42 +1,47 @@
--- Which fields spell a value in AMF 3 (3.2 to 3.7), in any way and in the canonical one.
-use Rattle.std.specs.Prelude.{◌≡◌, ℕ, ◌^◌, ◌<◌, true, false, List, [], ◌∷◌}
+-- Which fields spell a value of a graph in AMF 3, in any way and in the canonical one (3.2 to 3.16).
+use Rattle.std.specs.Prelude.{◌≡◌, ℕ, zero, suc, ◌⊎◌, List, [], ◌∷◌}
 use Rattle.std.specs.Int.{to_be_bytes, w64}
-use Rattle.amf_wire.specs.Style.{Style, free, canonical}
-use Rattle.amf_wire.specs.U29.{IsU29}
-use Rattle.amf_wire.specs.Integer.{IsInteger, integer_bits}
 use Rattle.amf_io.specs.Field.{Field, flat, field, raw_kind, u29_kind, no_refusal}
-use Rattle.amf_graph.specs.declared.value.Value.{Value}
-use Rattle.amf_graph.specs.declared.value.Value.TheVariants.{Undefined, Null, Bool, Integer, Double, Text, Node}
-use Rattle.amf_tables.specs.Refusals3.{marker_kind}
+use Rattle.amf_wire.specs.Style.{Style}
+use Rattle.amf_wire.specs.U29.{IsU29}
+use Rattle.amf_wire.specs.Integer.{integer_bits}
+use Rattle.amf_graph.specs.Graph.{Leaf, integer, double, text, IsLeaf, Value, leaf, node, Graph}
+use Rattle.amf_tables.specs.Tables.{Words, Tables, no_tables}
+use Rattle.amf_tables.specs.Then.{Spelling, Then, Nothing}
+use Rattle.amf_tables.specs.Refusals3.{leaf_marker}
+use Rattle.amf_tables.specs.Words3.{Text}
+use Rattle.amf_tables.specs.Parts3.{Lifted}
+use Rattle.amf_tables.specs.Headers3.{marker_field}
+use Rattle.amf_tables.specs.Nodes3.{Named, Begun}
 
-abbrev pub marker : ℕ → Field
-marker m = field marker_kind (m ∷ [])
+-- what stands behind the marker of a value that is no node
+abbrev pub LeafBy : Style → Leaf → Spelling Words
+LeafBy s (integer n) w fs w' = (digits : List ℕ) × IsU29 s (integer_bits n) digits × (fs ≡ field (u29_kind no_refusal) digits ∷ []) × (w' ≡ w)
+LeafBy s (double p) w fs w' = (fs ≡ field (raw_kind 8) (to_be_bytes w64 p) ∷ []) × (w' ≡ w)
+LeafBy s (text x) w fs w' = Text s x w fs w'
+LeafBy s _ w fs w' = Nothing w fs w'
 
--- an integer is the U29 of its 29 bits in two's complement (3.6)
-pub record SpellsInteger (s : Style) (n : ℕ) (fs : List Field) : Type 0 where
-  pub digits : List ℕ
-  pub spelled : IsU29 s n digits
-  pub fields : fs ≡ marker 0x04 ∷ field (u29_kind no_refusal) digits ∷ []
+-- a marker alone
+abbrev pub Marked : ℕ → Graph → ℕ → Spelling Tables
+Marked levels g m t fs t' = (fs ≡ marker_field levels g t m ∷ []) × (t' ≡ t)
 
--- a double is its eight bytes, the highest first (3.7)
-abbrev pub SpellsDouble : ℕ → List Field → Type 0
-SpellsDouble p fs = (p < 2 ^ 64) × (fs ≡ marker 0x05 ∷ field (raw_kind 8) (to_be_bytes w64 p) ∷ [])
+-- a value, where Inline spells a node that has not been spelled
+abbrev pub ValueBy : (ℕ → Spelling Tables) → Style → ℕ → Graph → Value → Spelling Tables
+ValueBy Inline s levels g (leaf x) t fs t' = IsLeaf x × Then (Marked levels g (leaf_marker x)) (Lifted (LeafBy s x)) t fs t'
+ValueBy Inline s levels g (node i) t fs t' = Named s levels g i t fs t' ⊎ Inline i t fs t'
 
--- the fields spell the value; texts and nodes have no spelling yet
-abbrev pub Spells3 : Style → Value → List Field → Type 0
-Spells3 s Undefined fs = fs ≡ marker 0x00 ∷ []
-Spells3 s Null fs = fs ≡ marker 0x01 ∷ []
-Spells3 s (Bool false) fs = fs ≡ marker 0x02 ∷ []
-Spells3 s (Bool true) fs = fs ≡ marker 0x03 ∷ []
-Spells3 s (Integer n) fs = IsInteger n × SpellsInteger s (integer_bits n) fs
-Spells3 s (Double p) fs = SpellsDouble p.0 fs
-Spells3 s (Text t) fs = ⊥
-Spells3 s (Node i) fs = ⊥
+abbrev pub InlineIn : ℕ → Style → Graph → ℕ → Spelling Tables
+InlineIn zero s g i t fs t' = ⊥
+InlineIn (suc levels) s g i t fs t' = Begun (ValueBy (InlineIn levels s g) s levels g) s (suc levels) g i t fs t'
 
--- the fields spell some value: what a reader accepts
-abbrev pub IsSpelling3 : List Field → Type 0
-IsSpelling3 fs = (v : Value) × Spells3 free v fs
+-- with so many levels left
+abbrev pub Spells3 : ℕ → Style → Graph → Value → Spelling Tables
+Spells3 levels s g = ValueBy (InlineIn levels s g) s levels g
 
--- the bytes are the canonical spelling of the value
-abbrev pub Canonical3 : Value → List ℕ → Type 0
-Canonical3 v bytes = (fs : List Field) × Spells3 canonical v fs × (bytes ≡ flat fs)
+-- the fields spell the graph in at most so many levels, from empty tables
+abbrev pub IsSpelling3 : ℕ → Style → Graph → List Field → Type 0
+IsSpelling3 levels s g fs = (t : Tables) × Spells3 levels s g g.root no_tables fs t
+
+-- the bytes spell the graph, with no limit of depth
+abbrev pub Spelled3 : Style → Graph → List ℕ → Type 0
+Spelled3 s g b = (levels : ℕ) × (fs : List Field) × IsSpelling3 levels s g fs × (b ≡ flat fs)

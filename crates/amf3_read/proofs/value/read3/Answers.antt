@@ -3,7 +3,7 @@ use Rattle.std.proofs.lemmas.Result.{err_from_is_err_and}
 use Rattle.amf_io.specs.Cursor.{place, bound, unread}
 use Rattle.amf_io.specs.LayoutAnswer.{AnswersBy}
 use Rattle.amf_io.proofs.LayoutAnswers.{then_answers, end_answers}
-use Rattle.amf_tables.specs.Layout3.{marker_layout, after_marker}
+use Rattle.amf_tables.specs.PlainLayout3.{marker_layout, after_marker}
 use Rattle.amf3_read.specs.Markers.{byte_of}
 use Rattle.amf3_read.proofs.ValueAnswers.{answers}
 use Rattle.amf3_read.proofs.value.read3.Goals as goal

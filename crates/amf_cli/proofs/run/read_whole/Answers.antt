@@ -3,7 +3,7 @@ use Rattle.std.proofs.lemmas.Result.{err_from_is_err_and}
 use Rattle.amf_io.specs.Cursor.{source_of, place, bound, ahead, unread}
 use Rattle.amf_io.specs.declared.reason.Reason.TheVariants.{Trailing}
 use Rattle.amf_io.specs.Verdict.{IsInputRefused}
-use Rattle.amf_tables.specs.Spells3.{IsSpelling3}
+use Rattle.amf_tables.specs.Plain3.{IsSpelling3}
 use Rattle.amf_cli.specs.Run.{most, IsInputOf, IsHidden}
 use Rattle.amf_cli.proofs.Inputs.{none_unread, none_after_fault, end_faulted, not_ended, end_inside, read_from_start, more_follows, hidden_behind}
 use Rattle.amf_cli.proofs.run.read_whole.Goals as goal

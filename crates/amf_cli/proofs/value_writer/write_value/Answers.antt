@@ -1,6 +1,6 @@
 use Rattle.std.proofs.Common.{true, false, [], ◌∷◌, ap, ◌∙◌, refl, arith}
 use Rattle.amf_graph.specs.declared.value.Value.TheVariants.{Undefined, Null, Bool}
-use Rattle.amf_tables.specs.Spells3.{marker}
+use Rattle.amf_tables.specs.Plain3.{marker}
 use Rattle.amf_cli.proofs.Wrote.{wrote, wrote_double}
 use Rattle.amf_cli.proofs.value_writer.write_value.Goals as goal
 

@@ -13,9 +13,9 @@ use Rattle.amf_io.specs.declared.reason.Reason.TheVariants.{BadMarker, NotBuilt}
 use Rattle.amf_io.specs.Layout.{Layout, give, want, stuck, Takes, Path, Runs, Extends, Able, IsLayout}
 use Rattle.amf_graph.specs.declared.value.Value.{Value}
 use Rattle.amf_graph.specs.declared.value.Value.TheVariants.{Undefined, Null, Bool as Flag, Integer, Double, Text, Node}
-use Rattle.amf_tables.specs.Refusals3.{marker_kind, marker_refusal}
-use Rattle.amf_tables.specs.Spells3.{marker, Spells3, IsSpelling3}
-use Rattle.amf_tables.specs.Layout3.{value_layout, after_marker, double_value}
+use Rattle.amf_tables.specs.PlainRefusals3.{marker_kind, marker_refusal}
+use Rattle.amf_tables.specs.Plain3.{marker, Spells3, IsSpelling3}
+use Rattle.amf_tables.specs.PlainLayout3.{value_layout, after_marker, double_value}
 
 -- one whole byte
 one_byte : (bytes : List ℕ) → whole (fixed 1) bytes ≡ Some (length bytes) → (m : ℕ) × (bytes ≡ m ∷ [])

@@ -5,7 +5,7 @@ use Rattle.amf_wire.specs.Integer.{IsInteger}
 use Rattle.amf_io.specs.Field.{Field, flat}
 use Rattle.amf_graph.specs.declared.value.Value.{Value}
 use Rattle.amf_graph.specs.declared.value.Value.TheVariants.{Integer, Double, Text, Node}
-use Rattle.amf_tables.specs.Spells3.{Spells3, Canonical3}
+use Rattle.amf_tables.specs.Plain3.{Spells3, Canonical3}
 
 -- a value by itself, whose numbers are ones that AMF has
 abbrev pub IsPlain : Value → Type 0

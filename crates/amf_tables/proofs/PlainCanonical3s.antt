@@ -12,10 +12,10 @@ use Rattle.amf_io.proofs.Paths.{runs_run}
 use Rattle.amf_graph.specs.declared.value.Value.{Value}
 use Rattle.amf_graph.specs.declared.value.Value.TheVariants.{Undefined, Null, Bool as Flag, Integer, Double, Text, Node}
 use Rattle.amf_wire.specs.Integer.{integer_bits}
-use Rattle.amf_tables.specs.Spells3.{marker, Spells3, Canonical3}
-use Rattle.amf_tables.specs.Layout3.{value_layout}
-use Rattle.amf_tables.specs.Laws3.{CanonicalExists, CanonicalIsRead, CanonicalIsOne, SpellingTells}
-use Rattle.amf_tables.proofs.Values3.{complete3}
+use Rattle.amf_tables.specs.Plain3.{marker, Spells3, Canonical3}
+use Rattle.amf_tables.specs.PlainLayout3.{value_layout}
+use Rattle.amf_tables.specs.PlainLaws3.{CanonicalExists, CanonicalIsRead, CanonicalIsOne, SpellingTells}
+use Rattle.amf_tables.proofs.PlainValues3.{complete3}
 
 pub is_read : CanonicalIsRead
 is_read Undefined fs s = s

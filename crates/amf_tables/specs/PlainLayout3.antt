@@ -1,4 +1,4 @@
--- A value of AMF 3 as it is read, field by field. A device by which verdicts are proved: the spellings do not need it.
+-- A value of AMF 3 without text and nodes as it is read, field by field. A device by which verdicts are proved: the spellings do not need it.
 use Rattle.std.specs.Prelude.{ℕ, zero, suc, true, false, slice_index}
 use Rattle.std.specs.Int.{from_be_bytes, w64}
 use Rattle.amf_wire.specs.Integer.{integer_of}
@@ -7,7 +7,7 @@ use Rattle.amf_io.specs.Field.{raw_kind, u29_kind, no_refusal}
 use Rattle.amf_io.specs.Layout.{Layout, give, want, stuck, bind}
 use Rattle.amf_graph.specs.declared.value.Value.{Value}
 use Rattle.amf_graph.specs.declared.value.Value.TheVariants.{Undefined, Null, Bool, Integer, Double}
-use Rattle.amf_tables.specs.Refusals3.{marker_kind}
+use Rattle.amf_tables.specs.PlainRefusals3.{marker_kind}
 
 abbrev pub integer_value : ℕ → Value
 integer_value n = Integer (integer_of n)

@@ -1,0 +1,7 @@
+-- What is asked of a canonical spelling alone is forgotten.
+use Rattle.amf_wire.specs.Style.{canonical}
+use Rattle.amf_tables.proofs.Forget.{forget3}
+use Rattle.amf_tables.proofs.facts.forgets.Goals as goal
+
+pub returns : goal.returns
+returns c = λ levels g v t fs t'. forget3 levels canonical g v t fs t'

@@ -1,0 +1,61 @@
+-- The reference tables as a reader keeps them: places in an arena (AMF 3, 2.2).
+use Rattle.std.specs.Prelude.{◌≡◌, ℕ, zero, suc, ◌<◌, false, List, [], ◌∷◌, ◌++◌, length, map, slice_get, Some}
+use Rattle.std.specs.List.{AllByRecursion}
+use Rattle.amf_graph.specs.declared.wrapped.Wrapped.{Wrapped}
+use Rattle.amf_graph.specs.Graph.{Traits, class_name}
+use Rattle.amf_graph.specs.Arena.{Arena, text_at, traits_at, IsTextId}
+use Rattle.amf_tables.specs.Tables as tables
+
+-- an entry of the table of traits; that of an externalizable class has traits of its own in the arena
+pub data KeptEntry : Type 0 where
+  plain : (t : ℕ) → KeptEntry
+  external : (t : ℕ) (class : Wrapped) → KeptEntry
+
+pub record KeptTables : Type 0 where
+  pub texts : List ℕ
+  pub traits : List KeptEntry
+  pub nodes : List ℕ
+
+abbrev pub no_kept_tables : KeptTables
+no_kept_tables = record { texts = []; traits = []; nodes = [] }
+
+-- the place of its traits in the arena
+abbrev pub traits_place : KeptEntry → ℕ
+traits_place (plain t) = t
+traits_place (external t c) = t
+
+abbrev pub entry_content : Arena → KeptEntry → tables.Entry
+entry_content a (plain t) = tables.plain (traits_at a t)
+entry_content a (external t c) = tables.external c
+
+-- the numbers below n
+abbrev pub below : ℕ → List ℕ
+below zero = []
+below (suc n) = below n ++ n ∷ []
+
+-- by content; all nodes of the arena have been spelled
+abbrev pub tables_of : Arena → KeptTables → tables.Tables
+tables_of a t = record {
+  words = record { texts = map (text_at a) t.texts; traits = map (entry_content a) t.traits };
+  nodes = t.nodes;
+  done = below (length a.nodes);
+}
+
+-- the traits that an externalizable class has: its name, and no members
+abbrev pub external_traits : Wrapped → Traits
+external_traits c = record { class = class_name c; dynamic = false; sealed = [] }
+
+abbrev pub IsEntryIn : Arena → KeptEntry → Type 0
+IsEntryIn a (plain t) = t < length a.traits
+IsEntryIn a (external t c) = (t < length a.traits) × (traits_at a t ≡ external_traits c)
+
+-- no number stands twice
+abbrev pub IsDistinct : List ℕ → Type 0
+IsDistinct xs = (j k x : ℕ) → slice_get xs j ≡ Some x → slice_get xs k ≡ Some x → j ≡ k
+
+-- every place is one of the arena's, and no node stands twice
+pub record AreTablesIn (a : Arena) (t : KeptTables) : Type 0 where
+  pub texts : AllByRecursion (IsTextId a) t.texts
+  pub traits : AllByRecursion (IsEntryIn a) t.traits
+  pub nodes : AllByRecursion (λ i. i < length a.nodes) t.nodes
+  pub distinct : IsDistinct t.nodes

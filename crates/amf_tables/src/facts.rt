@@ -1,0 +1,45 @@
+ghost use Rattle.amf_tables.specs.Agreement3.{Forgets, FieldsAgree};
+ghost use Rattle.amf_tables.specs.PlainLaws3.{CanonicalExists, CanonicalIsOne, CanonicalIsRead, SpellingTells};
+ghost use Rattle.amf_tables.specs.WorkedKinds3.{Kinds};
+ghost use Rattle.amf_tables.specs.WorkedLacks3.{Lacks};
+ghost use Rattle.amf_tables.specs.WorkedRows3.{Rows3};
+ghost use Rattle.amf_tables.specs.WorkedVerdicts3.{Verdicts};
+
+/// Worked spellings of AMF 3: integers, texts, a ring, members in any order and by name, a collection.
+pub fn rows3()
+    ensures { Rows3 }
+{}
+
+/// Worked spellings of AMF 3 of every other kind of node.
+pub fn kind_rows()
+    ensures { Kinds }
+{}
+
+/// Worked verdicts on inputs of one AMF 3 value.
+pub fn verdict_rows()
+    ensures { Verdicts }
+{}
+
+/// Worked lacks of AMF 3: an empty name, and a node past the limit of depth.
+pub fn lack_rows()
+    ensures { Lacks }
+{}
+
+/// A canonical spelling is a spelling.
+pub fn forgets()
+    ensures { Forgets }
+{}
+
+/// Each field of a spelling is whole, and none is refused.
+pub fn fields_agree()
+    ensures { FieldsAgree }
+{}
+
+/// A value without text or nodes has one canonical spelling, which is one of those that are read,
+/// and no bytes spell two values: canonical bytes decide which value it is.
+pub fn canonical_bytes_decide()
+    ensures exists { CanonicalExists }
+    ensures read { CanonicalIsRead }
+    ensures one { CanonicalIsOne }
+    ensures tells { SpellingTells }
+{}
