@@ -5,6 +5,8 @@ use Rattle.amf_io.specs.declared.ends.ReadEnd.{ReadEnd}
 use Rattle.amf_io.specs.declared.ends.ReadEnd.TheVariants as reader
 use Rattle.amf_io.specs.declared.reason.Reason.{Reason}
 use Rattle.amf_io.specs.declared.reason.Reason.TheVariants.{Truncated, BadMarker, BadReference, BadTraits, BadTextIndex, BadText, WrongKind, UnknownExternal, TooDeep, TooLarge, Trailing, BadVersion, BadSignature, BadLength, BadPadding, NotBuilt}
+use Rattle.amf_wire.specs.declared.name.NameEnd.{NameEnd}
+use Rattle.amf_wire.specs.declared.name.NameEnd.TheVariants as name
 use Rattle.amf_cli.specs.declared.run_end.RunEnd.{RunEnd}
 use Rattle.amf_cli.specs.declared.run_end.RunEnd.TheVariants.{Refused, Usage, ReadFault, WriteFault, NoMemory}
 
@@ -13,6 +15,11 @@ abbrev pub end_of : ReadEnd → RunEnd
 end_of (reader.Refused f) = Refused f
 end_of reader.ReadFault = ReadFault
 end_of reader.Memory = NoMemory
+
+-- a word that is no text has no reading
+abbrev pub end_of_name : NameEnd → RunEnd
+end_of_name (name.BadText at) = Usage
+end_of_name name.Memory = NoMemory
 
 -- a reason is written by its name
 abbrev pub reason_name : Reason → List ℕ

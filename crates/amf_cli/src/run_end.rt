@@ -76,6 +76,10 @@ impl From<ReadEnd> for RunEnd {
 }
 
 impl From<NameEnd> for RunEnd {
+    ghost use Rattle.amf_cli.specs.Lines.{end_of_name};
+
+    ghost from_gives = { λ end e. e ≡ end_of_name end };
+
     fn from(end: NameEnd) -> RunEnd {
         match end {
             NameEnd::BadText(_) => RunEnd::Usage,
