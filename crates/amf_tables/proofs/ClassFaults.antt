@@ -33,12 +33,12 @@ use Rattle.amf_tables.proofs.KindFaults.{in_array}
 abbrev wrapped : Wrapped → Graph
 wrapped c = record { nodes = record { head = wrapper c; names = []; values = node 1 ∷ [] } ∷ items [] ∷ []; root = node 0 }
 
-class_is : (c : Wrapped) → class_name c ≢ []
+pub class_is : (c : Wrapped) → class_name c ≢ []
 class_is ArrayCollection e = cc
 class_is ArrayList e = cc
 class_is ObjectProxy e = cc
 
-class_text : (c : Wrapped) → IsText (class_name c)
+pub class_text : (c : Wrapped) → IsText (class_name c)
 class_text ArrayCollection = (is_text-is (class_name ArrayCollection)).0 refl
 class_text ArrayList = (is_text-is (class_name ArrayList)).0 refl
 class_text ObjectProxy = (is_text-is (class_name ObjectProxy)).0 refl
@@ -62,11 +62,11 @@ wrapped_read c =
     (both _ _ in_array h (value_part R free (node 1) [] h.after x (no_parts R free x.after)))
 
 -- what begins with an object's marker and 07 names a served class
-record IsClassRow (b : ℕ) (more : List ℕ) : Type 0 where
-  class : Wrapped
-  counted : b ≡ 2 * length (class_name class) + 1
-  behind : List ℕ
-  contents : more ≡ class_name class ++ behind
+pub record IsClassRow (b : ℕ) (more : List ℕ) : Type 0 where
+  pub class : Wrapped
+  pub counted : b ≡ 2 * length (class_name class) + 1
+  pub behind : List ℕ
+  pub contents : more ≡ class_name class ++ behind
 
 class_entry : (e : Entry) (n : ℕ) (fs : List Field) (w' : Words) (b : ℕ) (rest more : List ℕ) → b < 128 → TraitsBy free e n no_words fs w' → n ≡ 7 → flat fs ++ rest ≡ b ∷ more → IsClassRow b more
 class_entry (plain t) n fs w' b rest more l (given o number u texts a) e z = absurd (other_bits (length t.sealed) (cond t.dynamic 1 0) (sym number ∙ e))
@@ -101,7 +101,7 @@ class_header (doubles f ns) vs n fs w' b rest more l m z q e = absurd (omega ari
 class_header (values f x) vs n fs w' b rest more l m z q e = absurd (omega arith)
 class_header (dictionary f) vs n fs w' b rest more l m z q e = absurd (omega arith)
 
-class_row : (levels : ℕ) (g : Graph) (v : Value) (fs : List Field) (t' : Tables) (b : ℕ) (more : List ℕ) → b < 128 → Spells3 levels free g v no_tables fs t' → flat fs ≡ 0x0A ∷ 7 ∷ b ∷ more → IsClassRow b more
+pub class_row : (levels : ℕ) (g : Graph) (v : Value) (fs : List Field) (t' : Tables) (b : ℕ) (more : List ℕ) → b < 128 → Spells3 levels free g v no_tables fs t' → flat fs ≡ 0x0A ∷ 7 ∷ b ∷ more → IsClassRow b more
 class_row levels g (leaf x) fs t' b more l (h, z) e =
     let f : fs ≡ marker_field levels g no_tables (leaf_marker x) ∷ z.back = z.joined ∙ ap (λ front. front ++ z.back) z.first.0 in
     let m : leaf_marker x ≡ 0x0A = head_is (flat z.back) (7 ∷ b ∷ more) (leaf_marker x) 0x0A (sym (ap flat f) ∙ e) in
@@ -114,13 +114,13 @@ class_row (suc levels) g (node i) fs t' b more l (inr z) e =
     let n : (z.number ≡ 7) × (flat z.rest ≡ b ∷ more) = one_byte z.number 7 z.header (flat z.rest) (b ∷ more) (omega arith) z.spelled.spelled (tail_is (z.header ++ flat z.rest) (7 ∷ b ∷ more) (marker (node_at g i).head) 0x0A y) in
     class_header (node_at g i).head (node_at g i).values z.number z.behind.front z.behind.first.0 b (flat z.behind.back) more l m z.behind.first.1 n.0 (sym (ap flat z.behind.joined ∙ flat-append z.behind.front z.behind.back) ∙ n.1)
 
-abbrev before_class : List Field
+abbrev pub before_class : List Field
 before_class = marker_field 512 (wrapped ArrayList) no_tables 0x0A ∷ header_field 512 (wrapped ArrayList) no_tables 0x0A (7 ∷ []) ∷ []
 
 at_class : Follows (Reading3 512) before_class (class_header_kind [])
 at_class = record { next = field (class_header_kind []) (55 ∷ []); more = _; is_kind = refl; accepted = (wrapped ArrayList, ((wrapped_read ArrayList).after, (wrapped_read ArrayList).spelled)) }
 
-at_class_name : Follows (Reading3 512) (before_class ++ field (class_header_kind []) (55 ∷ []) ∷ []) (class_kind 27)
+pub at_class_name : Follows (Reading3 512) (before_class ++ field (class_header_kind []) (55 ∷ []) ∷ []) (class_kind 27)
 at_class_name = record { next = field (class_kind 27) (class_name ArrayList); more = _; is_kind = refl; accepted = (wrapped ArrayList, ((wrapped_read ArrayList).after, (wrapped_read ArrayList).spelled)) }
 
 pub short_class : IsInputRefused (Reading3 512) 16777216 (0x0A ∷ 7 ∷ 7 ∷ 0x66 ∷ 0x6F ∷ 0x6F ∷ []) UnknownExternal 2

@@ -10,7 +10,7 @@ use Rattle.amf_tables.specs.Words3.{TextBy, empty, whole, named, Text, Texts, En
 use Rattle.amf_tables.specs.Parts3.{Part, flag, four, eight, raw, chars, word, value, Fixed, Lifted, Parts, layout}
 use Rattle.amf_tables.specs.Headers3.{HeaderBy}
 use Rattle.amf_tables.specs.Nodes3.{Named, Begun}
-use Rattle.amf_tables.specs.Spells3.{LeafBy, ValueBy, InlineIn, Spells3}
+use Rattle.amf_tables.specs.Spells3.{LeafBy, ValueBy, InlineIn, Spells3, Spelled3}
 
 -- A implies B
 abbrev pub Implies : {S : Type 0} → (S → List Field → S → Type 0) → (S → List Field → S → Type 0) → Type 0
@@ -128,3 +128,6 @@ inline_in (suc levels) s g i t fs t' z = begun_by (ValueBy (InlineIn levels s g)
 -- the same fields, in the same number of levels
 pub forget3 : (levels : ℕ) (s : Style) (g : Graph) (v : Value) → Implies (Spells3 levels s g v) (Spells3 levels free g v)
 forget3 levels s g v = value_by (InlineIn levels s g) (InlineIn levels free g) s (inline_in levels s g) levels g v
+
+pub forget_spelled3 : (s : Style) (g : Graph) (b : List ℕ) → Spelled3 s g b → Spelled3 free g b
+forget_spelled3 s g b (levels, fs, (t, z), e) = (levels, fs, (t, forget3 levels s g g.root _ fs t z), e)

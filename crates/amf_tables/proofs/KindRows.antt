@@ -17,7 +17,7 @@ use Rattle.amf_tables.specs.WorkedKinds3.{single, bare_class, one_sealed, two_ob
 use Rattle.amf_tables.proofs.Build.{Built, both, lifted, an_integer, no_text, new_text, a_text, a_node, no_parts, word_part, value_part, absent_nil, absent_cons, unnamed, unnamed_zero}
 use Rattle.amf_tables.proofs.Amf3Rows.{inner, spelled_by}
 
-abbrev flag_part : (R : Value → Spelling Tables) (s : Style) (f : Bool) (m : ℕ) (ps : List Part) (t : Tables) → IsFlag s f m → Built (Parts R s ps) t → Built (Parts R s (flag f ∷ ps)) t
+abbrev pub flag_part : (R : Value → Spelling Tables) (s : Style) (f : Bool) (m : ℕ) (ps : List Part) (t : Tables) → IsFlag s f m → Built (Parts R s ps) t → Built (Parts R s (flag f ∷ ps)) t
 flag_part R s f m ps t h b =
     let x : Built (Plain (Fixed s (flag f))) t = record { fields = field (raw_kind 1) (m ∷ []) ∷ []; after = t; spelled = ((m, h, refl), refl) } in
     let z : Built (Then (Plain (Fixed s (flag f))) (Parts R s ps)) t = both _ _ t x b in record { fields = z.fields; after = z.after; spelled = z.spelled }
@@ -42,20 +42,20 @@ raw_part R s c ps t b =
     let x : Built (Plain (Fixed s (raw c))) t = record { fields = contents raw_kind c; after = t; spelled = (refl, refl) } in
     let z : Built (Then (Plain (Fixed s (raw c))) (Parts R s ps)) t = both _ _ t x b in record { fields = z.fields; after = z.after; spelled = z.spelled }
 
-no_pairs : (s : Style) → Only s (◌≡◌ {A = List (List ℕ × Value)} [] (by_name []))
+pub no_pairs : (s : Style) → Only s (◌≡◌ {A = List (List ℕ × Value)} [] (by_name []))
 no_pairs free = tt
 no_pairs canonical = refl
 
 -- one node alone, by its header's number and its parts
-abbrev single_node : (s : Style) (h : Head) (vs : List Value) (number : ℕ) → Fits h [] vs → number < 128
+abbrev pub single_node : (s : Style) (h : Head) (vs : List Value) (number : ℕ) → Fits h [] vs → number < 128
     → (x : Built (Lifted (HeaderBy s h vs number)) (add_node no_tables 0)) → Built (Parts (inner 0 s (single h vs)) s (layout h [] vs)) x.after
     → Built (Spells3 1 s (single h vs) (node 0)) no_tables
 single_node s h vs number fits few x y = a_node 0 s (single h vs) 0 no_tables [] number (omega arith) (absent_nil 0) fits refl (no_pairs s) tt few (both _ _ (add_node no_tables 0) x y)
 
-abbrev counted : (s : Style) (h : Head) (vs : List Value) (number : ℕ) (t : Tables) → HeaderBy s h vs number t.words [] t.words → Built (Lifted (HeaderBy s h vs number)) t
+abbrev pub counted : (s : Style) (h : Head) (vs : List Value) (number : ℕ) (t : Tables) → HeaderBy s h vs number t.words [] t.words → Built (Lifted (HeaderBy s h vs number)) t
 counted s h vs number t e = lifted (HeaderBy s h vs number) t (record { fields = []; after = t.words; spelled = e })
 
-abbrev start : Tables
+abbrev pub start : Tables
 start = add_node no_tables 0
 
 pub unused_bits : Spelled3 free (single (date 0) []) (0x08 ∷ 0x03 ∷ 0 ∷ 0 ∷ 0 ∷ 0 ∷ 0 ∷ 0 ∷ 0 ∷ 0 ∷ [])
@@ -106,22 +106,22 @@ fixed_ints = spelled_by 1 canonical (single two_ints []) (ints_row canonical 1 (
 abbrev the_a : List ℕ
 the_a = 0x61 ∷ []
 
-abbrev the_c : List ℕ
+abbrev pub the_c : List ℕ
 the_c = 0x43 ∷ []
 
-a_is : the_a ≢ []
+pub a_is : the_a ≢ []
 a_is e = cc
 
-c_is : the_c ≢ []
+pub c_is : the_c ≢ []
 c_is e = cc
 
 c_is_not_a : the_c ≢ the_a
 c_is_not_a e = let h : ◌≡◌ {A = ℕ} 0x43 0x61 = ap (λ xs. get_or xs 0 0) e in absurd (omega arith)
 
-a_text_is : IsText the_a
+pub a_text_is : IsText the_a
 a_text_is = (is_text-is the_a).0 refl
 
-c_text_is : IsText the_c
+pub c_text_is : IsText the_c
 c_text_is = (is_text-is the_c).0 refl
 
 pub one_entry : Spelled3 canonical (single (dictionary false) (leaf (integer (pos 1)) ∷ leaf (text (0x61 ∷ [])) ∷ [])) (0x11 ∷ 0x03 ∷ 0x00 ∷ 0x04 ∷ 0x01 ∷ 0x06 ∷ 0x03 ∷ 0x61 ∷ [])

@@ -2,6 +2,7 @@ ghost use Rattle.amf_tables.specs.Agreement3.{Forgets, FieldsAgree};
 ghost use Rattle.amf_tables.specs.PlainLaws3.{CanonicalExists, CanonicalIsOne, CanonicalIsRead, SpellingTells};
 ghost use Rattle.amf_tables.specs.WorkedKinds3.{Kinds};
 ghost use Rattle.amf_tables.specs.WorkedLacks3.{Lacks};
+ghost use Rattle.amf_tables.specs.WorkedMoreRows3.{MoreRows3};
 ghost use Rattle.amf_tables.specs.WorkedRows3.{Rows3};
 ghost use Rattle.amf_tables.specs.WorkedVerdicts3.{Verdicts};
 
@@ -13,6 +14,11 @@ pub fn rows3()
 /// Worked spellings of AMF 3 of every other kind of node.
 pub fn kind_rows()
     ensures { Kinds }
+{}
+
+/// More worked rows of AMF 3: names that stand twice, an open node, wrappers, a vector with a type name.
+pub fn more_rows3()
+    ensures { MoreRows3 }
 {}
 
 /// Worked verdicts on inputs of one AMF 3 value.

@@ -1,0 +1,25 @@
+-- The laws of the layouts of AMF 3.
+use Rattle.std.specs.Prelude.{ℕ, ◌+◌, ◌^◌, ◌<◌, ◌≤◌, List, length}
+use Rattle.amf_io.specs.Field.{Field, AreBytes, flat}
+use Rattle.amf_io.specs.Layout.{Layout, Path, Runs, Extends, Able}
+use Rattle.amf_graph.specs.Arena.{Arena, IsBuilt}
+use Rattle.amf_tables.specs.KeptTables.{KeptTables, AreTablesIn}
+use Rattle.amf_tables.specs.Reads3.{IsRead3, IsReading3}
+use Rattle.amf_tables.specs.Layout3State.{State3, state_of}
+use Rattle.amf_tables.specs.Layout3.{ValueRead, value_layout}
+
+-- more fuel changes no answer
+abbrev pub Layout3Grows : Type 0
+Layout3Grows = (n m levels : ℕ) (s : State3) → n ≤ m → Extends (value_layout n levels s) (value_layout m levels s)
+
+-- what has been read can be completed, while each node of the table can be named
+abbrev pub Layout3Able : Type 0
+Layout3Able = (n levels : ℕ) (a : Arena) (t : KeptTables) → length t.nodes + n ≤ 2 ^ 28 → (fs : List Field) (u : Layout ValueRead) → Path (value_layout n levels (state_of a t)) fs u → length (flat fs) < n → Able u
+
+-- what is accepted is read, with more fuel than bytes
+abbrev pub Layout3Complete : Type 0
+Layout3Complete = (n levels : ℕ) (a : Arena) (t : KeptTables) (fs : List Field) → AreTablesIn a t → IsReading3 levels a t fs → length (flat fs) < n → (x : ValueRead) × Runs (value_layout n levels (state_of a t)) fs x
+
+-- what is read into a builder's arena and its tables is spelled so in each finished graph that completes it
+abbrev pub Layout3Reads : Type 0
+Layout3Reads = (n levels : ℕ) (a : Arena) (t : KeptTables) (fs : List Field) (x : ValueRead) → IsBuilt a → AreTablesIn a t → AreBytes (flat fs) → Runs (value_layout n levels (state_of a t)) fs x → IsRead3 levels a t fs x.state.arena x.state.tables x.value
