@@ -1,5 +1,11 @@
 -- The lemmas that several proofs share.
 pub mod Finished
+pub mod Alls
+pub mod Growth
+pub mod Built
+pub mod Begun
+pub mod Entries
+pub mod Opens
 pub mod FinishedSmall
 pub mod Rows
 pub mod FitRows

@@ -1,5 +1,6 @@
 -- The definitions that contracts cite.
 pub mod Graph
+pub mod Classes
 pub mod ByName
 pub mod Isomorphic
 pub mod Reached
@@ -8,6 +9,10 @@ pub mod Lacks
 pub mod Arena
 pub mod Bounds
 pub mod Small
+pub mod Building
+pub mod Views
+pub mod Bodies
+pub mod Rooted
 pub mod Start
 pub mod WorkedGraphs
 pub mod WorkedFits

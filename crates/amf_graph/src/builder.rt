@@ -1,8 +1,18 @@
-ghost use Rattle.std.specs.Prelude.{◌≡◌, IsOkAnd, IfOk};
-ghost use Rattle.amf_graph.specs.Start.{no_arena, IsOwn, IsWhole};
+ghost use Rattle.std.specs.Prelude.{◌≡◌, ◌<◌, ◌≤◌, ◌↔◌, ◌⊎◌, [], length, get_or, true, IfOk, IfErr, OnOk, OnErr, IsErrOf};
+ghost use Rattle.amf_wire.specs.Text.{IsText};
+ghost use Rattle.amf_graph.specs.Arena.{IsBuilt, IsFinished, IsTraitsIn, HeadNames, Names, text_at, no_traits};
+ghost use Rattle.amf_graph.specs.Bounds.{IsWithinBounds, items_of};
+ghost use Rattle.amf_graph.specs.Building.{no_arena, kept_text, kept_traits, kept_node, stored_traits, stored_at, leaf_head, shape_head, begun, closed, changed, more_part, shut, PartNames, HasRoom, FitsNow, size_of, IsFirstOpen, kind_of};
+ghost use Rattle.amf_graph.specs.Views.{ShowsTraits};
 
-use crate::{NodeId, Rooted, Value};
-use amf_wire::Memory;
+use crate::class::Class;
+use crate::limits::{MAX_COUNT, MAX_SEALED, MAX_TRAITS};
+use crate::node::Node;
+use crate::store::Store;
+use crate::{
+    BuildEnd, Leaf, NodeId, NodeKind, Part, Rooted, Shape, TextId, TraitsId, TraitsView, Value,
+};
+use amf_wire::{Memory, Name};
 use std::alloc::Global;
 use std::marker::Model;
 
@@ -10,14 +20,18 @@ use std::marker::Model;
 #[derive(Drop)]
 pub struct Builder {
     alloc: Global,
+    store: Store,
 }
 
 impl Model for Builder {
-    ghost use Rattle.amf_graph.specs.Start.{Arena, no_arena};
+    ghost use Rattle.amf_graph.specs.Arena.{Arena, IsBuilt};
+    ghost use Rattle.amf_graph.specs.Bounds.{IsWithinBounds};
 
     ghost Value = { Arena };
 
-    ghost view = { λ b. no_arena };
+    ghost view = { λ b. b.store };
+
+    ghost invariant = { λ b. IsBuilt b.store × IsWithinBounds b.store };
 }
 
 /// A graph that cannot be finished, since a node of it is open.
@@ -34,14 +48,156 @@ impl Builder {
     pub fn new(alloc: Global) -> Result<Builder, Memory>
         ensures { IfOk result (λ builder. builder ≡ no_arena) }
     {
-        Ok(Builder { alloc })
+        Ok(Builder {
+            alloc,
+            store: Store::new(alloc),
+        })
+    }
+
+    /// What is true of every builder. It does nothing.
+    pub fn is_built(&self)
+        ensures built { IsBuilt self.now }
+        ensures bounds { IsWithinBounds self.now }
+    {
+        let _ = &self.store;
+    }
+
+    /// Keeps a text.
+    pub fn text(&mut self, bytes: &[u8]) -> Result<TextId, BuildEnd>
+        requires { IsText bytes.now }
+        ensures id { IfOk result (λ t. t.0 ≡ length self.old.texts) }
+        ensures ok { OnOk result (self.new ≡ kept_text self.old bytes.now) }
+        ensures err { OnErr result (self.new ≡ self.old) }
+        ensures full { IsErrOf result BuildEnd.Full ↔ ((MAX_COUNT ≤ length self.old.texts) ⊎ (MAX_COUNT < length bytes.now)) }
+    {
+        let place = self.store.text_count();
+        if place >= MAX_COUNT as usize || bytes.len() > MAX_COUNT as usize {
+            return Err(BuildEnd::Full);
+        }
+        self.store.keep_text(Name::of_bytes(self.alloc, bytes)?)?;
+        Ok(TextId(place as u32))
+    }
+
+    /// Keeps the traits of a class.
+    pub fn traits(
+        &mut self,
+        class: TextId,
+        dynamic: bool,
+        sealed: &[TextId],
+    ) -> Result<TraitsId, BuildEnd>
+        requires { IsTraitsIn self.old (stored_traits class dynamic sealed.now) }
+        ensures id { IfOk result (λ t. t.0 ≡ length self.old.traits) }
+        ensures ok { OnOk result (self.new ≡ kept_traits self.old (stored_traits class dynamic sealed.now)) }
+        ensures err { OnErr result (self.new ≡ self.old) }
+        ensures full { IsErrOf result BuildEnd.Full ↔ ((MAX_TRAITS ≤ length self.old.traits) ⊎ (MAX_SEALED < length sealed.now)) }
+    {
+        let place = self.store.traits_count();
+        if place >= MAX_TRAITS as usize || sealed.len() > MAX_SEALED as usize {
+            return Err(BuildEnd::Full);
+        }
+        let sealed = sealed.to_vec(self.alloc)?;
+        self.store.keep_traits(Class::new(class, dynamic, sealed))?;
+        Ok(TraitsId(place as u32))
+    }
+
+    /// Keeps a node without parts. It is complete.
+    pub fn leaf(&mut self, leaf: Leaf) -> Result<NodeId, BuildEnd>
+        requires { HeadNames self.old (leaf_head leaf) }
+        ensures id { IfOk result (λ n. n.0 ≡ length self.old.nodes) }
+        ensures ok { OnOk result (self.new ≡ kept_node self.old (closed (leaf_head leaf) [] [])) }
+        ensures err { OnErr result (self.new ≡ self.old) }
+        ensures full { IsErrOf result BuildEnd.Full ↔ ((MAX_COUNT ≤ length self.old.nodes) ⊎ (MAX_COUNT < items_of (leaf_head leaf))) }
+    {
+        let place = self.store.node_count();
+        if place >= MAX_COUNT as usize || leaf.len() > MAX_COUNT as usize {
+            return Err(BuildEnd::Full);
+        }
+        leaf.numbers_fit();
+        self.store.keep_node(Node::of_leaf(leaf))?;
+        Ok(NodeId(place as u32))
+    }
+
+    /// Keeps a node that is open: it has no parts yet.
+    pub fn open_node(&mut self, shape: Shape) -> Result<NodeId, BuildEnd>
+        requires { HeadNames self.old (shape_head shape) }
+        ensures id { IfOk result (λ n. n.0 ≡ length self.old.nodes) }
+        ensures ok { OnOk result (self.new ≡ kept_node self.old (begun (shape_head shape))) }
+        ensures err { OnErr result (self.new ≡ self.old) }
+        ensures full { IsErrOf result BuildEnd.Full ↔ (MAX_COUNT ≤ length self.old.nodes) }
+    {
+        let place = self.store.node_count();
+        if place >= MAX_COUNT as usize {
+            return Err(BuildEnd::Full);
+        }
+        self.store.keep_node(Node::of_shape(self.alloc, shape))?;
+        Ok(NodeId(place as u32))
+    }
+
+    /// Adds a part to a node that is open.
+    pub fn put(&mut self, node: NodeId, part: Part) -> Result<(), BuildEnd>
+        requires there { node.0 < length self.old.nodes }
+        requires opened { (stored_at self.old node.0).is_open ≡ true }
+        requires room { HasRoom self.old (stored_at self.old node.0) part }
+        requires names { PartNames self.old part }
+        ensures ok { OnOk result (self.new ≡ changed (more_part part) node.0 self.old) }
+        ensures err { OnErr result (self.new ≡ self.old) }
+        ensures full { IsErrOf result BuildEnd.Full ↔ (MAX_COUNT ≤ size_of (stored_at self.old node.0)) }
+    {
+        if self.store.size(node) >= MAX_COUNT as usize {
+            return Err(BuildEnd::Full);
+        }
+        self.store.put(node, part)?;
+        Ok(())
+    }
+
+    /// Closes a node that has all of its parts.
+    pub fn close_node(&mut self, node: NodeId)
+        requires there { node.0 < length self.old.nodes }
+        requires opened { (stored_at self.old node.0).is_open ≡ true }
+        requires fits { FitsNow self.old (stored_at self.old node.0) }
+        ensures { self.new ≡ changed shut node.0 self.old }
+    {
+        self.store.close(node);
+    }
+
+    /// The kind of a node.
+    pub fn kind_of(&self, node: NodeId) -> NodeKind
+        requires { node.0 < length self.now.nodes }
+        ensures { result ≡ kind_of (stored_at self.now node.0).head }
+    {
+        self.store.kind(node)
+    }
+
+    /// The bytes of a text.
+    pub fn text_of(&self, text: TextId) -> &[u8]
+        requires { text.0 < length self.now.texts }
+        ensures { result.now ≡ text_at self.now text.0 }
+    {
+        self.store.text(text)
+    }
+
+    /// The traits at a place.
+    pub fn traits_of(&self, traits: TraitsId) -> TraitsView<'_>
+        requires { traits.0 < length self.now.traits }
+        ensures { ShowsTraits (get_or self.now.traits traits.0 no_traits) result }
+    {
+        self.store.traits(traits)
     }
 
     /// The graph with this root. It takes no memory.
     pub fn finish(self, root: Value) -> Result<Rooted, Unfinished>
-        requires { IsOwn self root }
-        ensures { IsOkAnd result (λ graph. (graph.root ≡ root) × IsWhole graph) }
+        requires { Names self root }
+        ensures graph { IfOk result (λ graph. graph ≡ record { arena = self; root = root }) }
+        ensures finished { OnOk result (IsFinished self) }
+        ensures kept { IfErr result (λ u. u.builder ≡ self) }
+        ensures opened { IfErr result (λ u. IsFirstOpen self u.node.0) }
     {
-        Ok(Rooted::new(root))
+        match self.store.first_open() {
+            Some(place) => Err(Unfinished {
+                node: NodeId(place as u32),
+                builder: self,
+            }),
+            None => Ok(Rooted::new(self.store, root)),
+        }
     }
 }

@@ -1,28 +1,49 @@
-ghost use Rattle.std.specs.Prelude.{◌≡◌};
+ghost use Rattle.std.specs.Prelude.{◌≡◌, ◌<◌, length, get_or};
+ghost use Rattle.amf_graph.specs.Arena.{IsFinished, Names, text_at, no_traits};
+ghost use Rattle.amf_graph.specs.Bounds.{IsWithinBounds};
+ghost use Rattle.amf_graph.specs.Building.{stored_at};
+ghost use Rattle.amf_graph.specs.Views.{Shows, ShowsTraits};
 
-use crate::Value;
+use crate::store::Store;
+use crate::{NodeId, NodeView, TextId, TraitsId, TraitsView, Value};
 use std::marker::Model;
 
 /// A graph with its root. Every node of it is complete.
 #[derive(Drop)]
 pub struct Rooted {
+    store: Store,
     root: Value,
 }
 
 impl Model for Rooted {
-    ghost use Rattle.amf_graph.specs.Start.{Graph};
+    ghost use Rattle.amf_graph.specs.Arena.{IsFinished, Names};
+    ghost use Rattle.amf_graph.specs.Bounds.{IsWithinBounds};
+    ghost use Rattle.amf_graph.specs.Rooted.{RootedArena};
 
-    ghost Value = { Graph };
+    ghost Value = { RootedArena };
 
-    ghost view = { λ g. record { root = g.root } };
+    ghost view = { λ g. record { arena = g.store; root = g.root } };
+
+    ghost invariant = { λ g. IsFinished g.store × IsWithinBounds g.store × Names g.store g.root };
 }
 
 impl Rooted {
-    /// The graph of a root that reaches no node.
-    pub(crate) fn new(root: Value) -> Rooted
-        ensures { result.root ≡ root }
+    pub(crate) fn new(store: Store, root: Value) -> Rooted
+        requires finished { IsFinished store }
+        requires bounds { IsWithinBounds store }
+        requires names { Names store root }
+        ensures { result ≡ record { arena = store; root = root } }
     {
-        Rooted { root }
+        Rooted { store, root }
+    }
+
+    /// What is true of every graph. It does nothing.
+    pub fn is_finished(&self)
+        ensures finished { IsFinished self.now.arena }
+        ensures bounds { IsWithinBounds self.now.arena }
+        ensures names { Names self.now.arena self.now.root }
+    {
+        let _ = &self.store;
     }
 
     /// The value from which the graph is reached.
@@ -30,5 +51,36 @@ impl Rooted {
         ensures { result ≡ self.now.root }
     {
         self.root
+    }
+
+    /// How many nodes it has, also such that the root does not reach.
+    pub fn node_count(&self) -> u32
+        ensures { result ≡ length self.now.arena.nodes }
+    {
+        self.store.node_count() as u32
+    }
+
+    /// What a node holds.
+    pub fn node(&self, node: NodeId) -> NodeView<'_>
+        requires { node.0 < length self.now.arena.nodes }
+        ensures { Shows self.now.arena (stored_at self.now.arena node.0) result }
+    {
+        self.store.node(node)
+    }
+
+    /// The bytes of a text.
+    pub fn text(&self, text: TextId) -> &[u8]
+        requires { text.0 < length self.now.arena.texts }
+        ensures { result.now ≡ text_at self.now.arena text.0 }
+    {
+        self.store.text(text)
+    }
+
+    /// The traits at a place.
+    pub fn traits(&self, traits: TraitsId) -> TraitsView<'_>
+        requires { traits.0 < length self.now.arena.traits }
+        ensures { ShowsTraits (get_or self.now.arena.traits traits.0 no_traits) result }
+    {
+        self.store.traits(traits)
     }
 }

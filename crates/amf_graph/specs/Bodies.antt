@@ -1,0 +1,78 @@
+-- What is kept of a node, as its model.
+use Rattle.std.specs.Prelude.{◌≡◌, ℕ, Bool, List, [], ◌∷◌, map, Option, Some, None, ◌<◌, ◌^◌, FitsSigned}
+use Rattle.std.specs.List.{AllByRecursion}
+use Rattle.std.specs.Int.{w32}
+use Rattle.amf_graph.specs.declared.value.Value.{Value as Stored}
+use Rattle.amf_graph.specs.declared.body.Body.{Body}
+use Rattle.amf_graph.specs.declared.body.Body.TheVariants as body
+use Rattle.amf_graph.specs.declared.part.Part.{Part}
+use Rattle.amf_graph.specs.declared.part.Part.TheVariants.{Item, Named, Entry}
+use Rattle.amf_graph.specs.Graph.{IsPattern}
+use Rattle.amf_graph.specs.Arena.{StoredHead, xml_document, date, array, object, wrapper, xml, bytes, ints, uints, doubles, values, dictionary, StoredNode}
+use Rattle.amf_graph.specs.Views.{named, flat}
+
+abbrev pub body_head : Body → StoredHead
+body_head (body.XmlDocument x) = xml_document x.0
+body_head (body.Xml x) = xml x.0
+body_head (body.Date p) = date p.0
+body_head (body.Bytes x) = bytes x.items
+body_head (body.Ints f ns) = ints f ns.items
+body_head (body.Uints f ns) = uints f ns.items
+body_head (body.Doubles f ns) = doubles f (map (λ p. p.0) ns.items)
+body_head (body.Array vs ps) = array
+body_head (body.Object t vs ps) = object t.0
+body_head (body.Wrapper c v) = wrapper c
+body_head (body.Values f x vs) = values f x.0
+body_head (body.Dictionary f es) = dictionary f
+
+abbrev pub body_names : Body → List (ℕ × Stored)
+body_names (body.Array vs ps) = named ps.items
+body_names (body.Object t vs ps) = named ps.items
+body_names _ = []
+
+abbrev pub one_or_none : Option Stored → List Stored
+one_or_none None = []
+one_or_none (Some v) = v ∷ []
+
+abbrev pub body_values : Body → List Stored
+body_values (body.Array vs ps) = vs.items
+body_values (body.Object t vs ps) = vs.items
+body_values (body.Wrapper c v) = one_or_none v
+body_values (body.Values f x vs) = vs.items
+body_values (body.Dictionary f es) = flat es.items
+body_values _ = []
+
+abbrev pub body_node : Bool → Body → StoredNode
+body_node is_open b = record { is_open = is_open; head = body_head b; names = body_names b; values = body_values b }
+
+-- the kinds that take such a part; a wrapper takes one value
+
+abbrev pub TakesItem : StoredHead → List Stored → Type 0
+TakesItem array vs = Unit {0}
+TakesItem (object t) vs = Unit {0}
+TakesItem (wrapper c) vs = vs ≡ []
+TakesItem (values f x) vs = Unit {0}
+TakesItem _ vs = ⊥
+
+abbrev pub TakesName : StoredHead → Type 0
+TakesName array = Unit {0}
+TakesName (object t) = Unit {0}
+TakesName _ = ⊥
+
+abbrev pub TakesEntry : StoredHead → Type 0
+TakesEntry (dictionary f) = Unit {0}
+TakesEntry _ = ⊥
+
+abbrev pub TakesPart : StoredNode → Part → Type 0
+TakesPart n (Item v) = TakesItem n.head n.values
+TakesPart n (Named x v) = TakesName n.head
+TakesPart n (Entry k v) = TakesEntry n.head
+
+-- the numbers in the node are ones that the formats have
+abbrev pub HasRange : StoredHead → Type 0
+HasRange (date p) = IsPattern p
+HasRange (bytes x) = AllByRecursion (λ b. b < 256) x
+HasRange (ints f ns) = AllByRecursion (FitsSigned w32) ns
+HasRange (uints f ns) = AllByRecursion (λ n. n < 2 ^ 32) ns
+HasRange (doubles f ns) = AllByRecursion IsPattern ns
+HasRange _ = Unit {0}

@@ -1,0 +1,177 @@
+ghost use Rattle.std.specs.Prelude.{◌≡◌, ◌+◌, ◌^◌, ◌<◌, [], ◌∷◌, ◌++◌, length, OnOk, OnErr};
+ghost use Rattle.amf_graph.specs.Bounds.{parts_of, items_of};
+ghost use Rattle.amf_graph.specs.Building.{kind_of, leaf_head, shape_head};
+ghost use Rattle.amf_graph.specs.Bodies.{body_head, body_names, body_values, TakesItem, TakesName, TakesEntry};
+
+use crate::{Leaf, NodeKind, Shape, TextId, TraitsId, Value, Wrapped};
+use amf_wire::{Memory, Pattern};
+use std::alloc::Global;
+
+/// What a node is and holds.
+#[derive(Drop)]
+pub(crate) enum Body {
+    XmlDocument(TextId),
+    Xml(TextId),
+    Date(Pattern),
+    Bytes(Vec<u8>),
+    Ints(bool, Vec<i32>),
+    Uints(bool, Vec<u32>),
+    Doubles(bool, Vec<Pattern>),
+    Array {
+        items: Vec<Value>,
+        names: Vec<(TextId, Value)>,
+    },
+    Object {
+        traits: TraitsId,
+        sealed: Vec<Value>,
+        members: Vec<(TextId, Value)>,
+    },
+    Wrapper {
+        class: Wrapped,
+        value: Option<Value>,
+    },
+    Values {
+        fixed: bool,
+        of: TextId,
+        items: Vec<Value>,
+    },
+    Dictionary {
+        weak: bool,
+        entries: Vec<(Value, Value)>,
+    },
+}
+
+impl Body {
+    /// A node of this shape, without parts.
+    pub(crate) fn of_shape(alloc: Global, shape: Shape) -> Body
+        ensures head { body_head result ≡ shape_head shape }
+        ensures names { body_names result ≡ [] }
+        ensures values { body_values result ≡ [] }
+    {
+        match shape {
+            Shape::Array => Body::Array {
+                items: Vec::new(alloc),
+                names: Vec::new(alloc),
+            },
+            Shape::Object(traits) => Body::Object {
+                traits,
+                sealed: Vec::new(alloc),
+                members: Vec::new(alloc),
+            },
+            Shape::Wrapper(class) => Body::Wrapper { class, value: None },
+            Shape::Values(fixed, of) => Body::Values {
+                fixed,
+                of,
+                items: Vec::new(alloc),
+            },
+            Shape::Dictionary(weak) => Body::Dictionary {
+                weak,
+                entries: Vec::new(alloc),
+            },
+        }
+    }
+
+    pub(crate) fn of_leaf(leaf: Leaf) -> Body
+        ensures head { body_head result ≡ leaf_head leaf }
+        ensures names { body_names result ≡ [] }
+        ensures values { body_values result ≡ [] }
+    {
+        match leaf {
+            Leaf::XmlDocument(text) => Body::XmlDocument(text),
+            Leaf::Xml(text) => Body::Xml(text),
+            Leaf::Date(time) => Body::Date(time),
+            Leaf::Bytes(bytes) => Body::Bytes(bytes),
+            Leaf::Ints(fixed, items) => Body::Ints(fixed, items),
+            Leaf::Uints(fixed, items) => Body::Uints(fixed, items),
+            Leaf::Doubles(fixed, items) => Body::Doubles(fixed, items),
+        }
+    }
+
+    pub(crate) fn kind(&self) -> NodeKind
+        ensures { result ≡ kind_of (body_head self.now) }
+    {
+        match self {
+            Body::XmlDocument(_) => NodeKind::XmlDocument,
+            Body::Xml(_) => NodeKind::Xml,
+            Body::Date(_) => NodeKind::Date,
+            Body::Bytes(_) => NodeKind::Bytes,
+            Body::Ints(..) => NodeKind::Ints,
+            Body::Uints(..) => NodeKind::Uints,
+            Body::Doubles(..) => NodeKind::Doubles,
+            Body::Array { .. } => NodeKind::Array,
+            Body::Object { .. } => NodeKind::Object,
+            Body::Wrapper { .. } => NodeKind::Wrapper,
+            Body::Values { .. } => NodeKind::Values,
+            Body::Dictionary { .. } => NodeKind::Dictionary,
+        }
+    }
+
+    /// How many items, names and parts it has together.
+    pub(crate) fn size(&self) -> usize
+        requires { items_of (body_head self.now) + length (body_names self.now) + parts_of (body_head self.now) (length (body_values self.now)) < 2 ^ 28 }
+        ensures { result ≡ items_of (body_head self.now) + length (body_names self.now) + parts_of (body_head self.now) (length (body_values self.now)) }
+    {
+        match self {
+            Body::XmlDocument(_) | Body::Xml(_) | Body::Date(_) => 0,
+            Body::Bytes(bytes) => bytes.len(),
+            Body::Ints(_, items) => items.len(),
+            Body::Uints(_, items) => items.len(),
+            Body::Doubles(_, items) => items.len(),
+            Body::Array { items, names } => names.len() + items.len(),
+            Body::Object {
+                sealed,
+                members,
+                ..
+            } => members.len() + sealed.len(),
+            Body::Wrapper { value, .. } => usize::from(value.is_some()),
+            Body::Values { items, .. } => items.len(),
+            Body::Dictionary { entries, .. } => entries.len(),
+        }
+    }
+
+    pub(crate) fn put_item(&mut self, item: Value) -> Result<(), Memory>
+        requires { TakesItem (body_head self.old) (body_values self.old) }
+        ensures head { body_head self.new ≡ body_head self.old }
+        ensures names { body_names self.new ≡ body_names self.old }
+        ensures ok { OnOk result (body_values self.new ≡ body_values self.old ++ item ∷ []) }
+        ensures err { OnErr result (body_values self.new ≡ body_values self.old) }
+    {
+        match self {
+            Body::Array { items, .. } => items.push(item)?,
+            Body::Object { sealed, .. } => sealed.push(item)?,
+            Body::Wrapper { value, .. } => *value = Some(item),
+            Body::Values { items, .. } => items.push(item)?,
+            _ => unreachable!(),
+        }
+        Ok(())
+    }
+
+    pub(crate) fn put_name(&mut self, name: TextId, value: Value) -> Result<(), Memory>
+        requires { TakesName (body_head self.old) }
+        ensures head { body_head self.new ≡ body_head self.old }
+        ensures values { body_values self.new ≡ body_values self.old }
+        ensures ok { OnOk result (body_names self.new ≡ body_names self.old ++ (name.0, value) ∷ []) }
+        ensures err { OnErr result (body_names self.new ≡ body_names self.old) }
+    {
+        match self {
+            Body::Array { names, .. } => names.push((name, value))?,
+            Body::Object { members, .. } => members.push((name, value))?,
+            _ => unreachable!(),
+        }
+        Ok(())
+    }
+
+    pub(crate) fn put_entry(&mut self, key: Value, value: Value) -> Result<(), Memory>
+        requires { TakesEntry (body_head self.old) }
+        ensures head { body_head self.new ≡ body_head self.old }
+        ensures names { body_names self.new ≡ body_names self.old }
+        ensures ok { OnOk result (body_values self.new ≡ body_values self.old ++ key ∷ value ∷ []) }
+        ensures err { OnErr result (body_values self.new ≡ body_values self.old) }
+    {
+        match self {
+            Body::Dictionary { entries, .. } => entries.push((key, value))?,
+            _ => unreachable!(),
+        }
+        Ok(())
+    }
+}

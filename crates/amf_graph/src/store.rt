@@ -1,0 +1,187 @@
+ghost use Rattle.std.specs.Prelude.{◌≡◌, ◌<◌, ◌≤◌, ◌^◌, length, slice_get, get_or, false, OnOk, OnErr, IsErrOf, MatchOption, Some};
+ghost use Rattle.std.specs.List.{AllByRecursion};
+ghost use Rattle.amf_graph.specs.Arena.{text_at, no_traits, IsNodeIn};
+ghost use Rattle.amf_graph.specs.Building.{no_arena, kept_text, kept_traits, kept_node, stored_traits, stored_at, changed, more_part, shut, kind_of, size_of, IsFirstOpen};
+ghost use Rattle.amf_graph.specs.Bodies.{TakesPart};
+ghost use Rattle.amf_graph.specs.Views.{Shows, ShowsTraits};
+
+use crate::body::Body;
+use crate::class::Class;
+use crate::node::{Node, first_open};
+use crate::{NodeId, NodeKind, NodeView, Part, TextId, TraitsId, TraitsView};
+use amf_wire::{Memory, Name};
+use std::alloc::Global;
+use std::marker::Model;
+
+/// Texts, traits and nodes by their places.
+#[derive(Drop)]
+pub(crate) struct Store {
+    texts: Vec<Name>,
+    traits: Vec<Class>,
+    nodes: Vec<Node>,
+}
+
+impl Model for Store {
+    ghost use Rattle.amf_graph.specs.Arena.{Arena};
+
+    ghost Value = { Arena };
+
+    ghost view = { λ s. record { texts = s.texts.items; traits = s.traits.items; nodes = s.nodes.items } };
+}
+
+impl Store {
+    pub(crate) fn new(alloc: Global) -> Store
+        ensures { result ≡ no_arena }
+    {
+        Store {
+            texts: Vec::new(alloc),
+            traits: Vec::new(alloc),
+            nodes: Vec::new(alloc),
+        }
+    }
+
+    pub(crate) fn text_count(&self) -> usize
+        ensures { result ≡ length self.now.texts }
+    {
+        self.texts.len()
+    }
+
+    pub(crate) fn traits_count(&self) -> usize
+        ensures { result ≡ length self.now.traits }
+    {
+        self.traits.len()
+    }
+
+    pub(crate) fn node_count(&self) -> usize
+        ensures { result ≡ length self.now.nodes }
+    {
+        self.nodes.len()
+    }
+
+    pub(crate) fn keep_text(&mut self, text: Name) -> Result<(), Memory>
+        ensures ok { OnOk result (self.new ≡ kept_text self.old text) }
+        ensures err { OnErr result (self.new ≡ self.old) }
+    {
+        self.texts.push(text)?;
+        Ok(())
+    }
+
+    pub(crate) fn keep_traits(&mut self, class: Class) -> Result<(), Memory>
+        ensures ok { OnOk result (self.new ≡ kept_traits self.old class) }
+        ensures err { OnErr result (self.new ≡ self.old) }
+    {
+        self.traits.push(class)?;
+        Ok(())
+    }
+
+    pub(crate) fn keep_node(&mut self, node: Node) -> Result<(), Memory>
+        ensures ok { OnOk result (self.new ≡ kept_node self.old node) }
+        ensures err { OnErr result (self.new ≡ self.old) }
+    {
+        self.nodes.push(node)?;
+        Ok(())
+    }
+
+    /// How many items, names and parts the node has together.
+    pub(crate) fn size(&self, node: NodeId) -> usize
+        requires there { node.0 < length self.now.nodes }
+        requires within { size_of (stored_at self.now node.0) < 2 ^ 28 }
+        ensures { result ≡ size_of (stored_at self.now node.0) }
+    {
+        self.nodes[node.0 as usize].size()
+    }
+
+    pub(crate) fn put(&mut self, node: NodeId, part: Part) -> Result<(), Memory>
+        requires there { node.0 < length self.old.nodes }
+        requires takes { TakesPart (stored_at self.old node.0) part }
+        ensures ok { OnOk result (self.new ≡ changed (more_part part) node.0 self.old) }
+        ensures err { OnErr result (self.new ≡ self.old) }
+    {
+        self.nodes[node.0 as usize].put(part)
+    }
+
+    pub(crate) fn close(&mut self, node: NodeId)
+        requires { node.0 < length self.old.nodes }
+        ensures { self.new ≡ changed shut node.0 self.old }
+    {
+        self.nodes[node.0 as usize].close();
+    }
+
+    pub(crate) fn kind(&self, node: NodeId) -> NodeKind
+        requires { node.0 < length self.now.nodes }
+        ensures { result ≡ kind_of (stored_at self.now node.0).head }
+    {
+        self.nodes[node.0 as usize].kind()
+    }
+
+    pub(crate) fn text(&self, text: TextId) -> &[u8]
+        requires { text.0 < length self.now.texts }
+        ensures { result.now ≡ text_at self.now text.0 }
+    {
+        self.texts[text.0 as usize].as_bytes()
+    }
+
+    pub(crate) fn traits(&self, traits: TraitsId) -> TraitsView<'_>
+        requires { traits.0 < length self.now.traits }
+        ensures { ShowsTraits (get_or self.now.traits traits.0 no_traits) result }
+    {
+        self.traits[traits.0 as usize].view()
+    }
+
+    /// The least place of a node that is open.
+    pub(crate) fn first_open(&self) -> Option<usize>
+        ensures { MatchOption result (AllByRecursion (λ n. n.is_open ≡ false) self.now.nodes) (λ i. IsFirstOpen self.now i) }
+    {
+        first_open(&self.nodes)
+    }
+
+    /// What a closed node holds.
+    pub(crate) fn node(&self, node: NodeId) -> NodeView<'_>
+        requires there { node.0 < length self.now.nodes }
+        requires closed { (stored_at self.now node.0).is_open ≡ false }
+        requires whole { IsNodeIn self.now (stored_at self.now node.0) }
+        ensures { Shows self.now (stored_at self.now node.0) result }
+    {
+        match self.nodes[node.0 as usize].body() {
+            Body::XmlDocument(text) => NodeView::XmlDocument(self.text(*text)),
+            Body::Xml(text) => NodeView::Xml(self.text(*text)),
+            Body::Date(time) => NodeView::Date(*time),
+            Body::Bytes(bytes) => NodeView::Bytes(bytes),
+            Body::Ints(fixed, items) => NodeView::Ints {
+                fixed: *fixed,
+                items,
+            },
+            Body::Uints(fixed, items) => NodeView::Uints {
+                fixed: *fixed,
+                items,
+            },
+            Body::Doubles(fixed, items) => NodeView::Doubles {
+                fixed: *fixed,
+                items,
+            },
+            Body::Array { items, names } => NodeView::Array { items, names },
+            Body::Object {
+                traits,
+                sealed,
+                members,
+            } => NodeView::Object {
+                traits: *traits,
+                sealed,
+                members,
+            },
+            Body::Wrapper { class, value } => NodeView::Wrapper {
+                class: *class,
+                value: value.unwrap(),
+            },
+            Body::Values { fixed, of, items } => NodeView::Values {
+                fixed: *fixed,
+                of: *of,
+                items,
+            },
+            Body::Dictionary { weak, entries } => NodeView::Dictionary {
+                weak: *weak,
+                entries,
+            },
+        }
+    }
+}
