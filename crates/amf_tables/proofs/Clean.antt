@@ -22,7 +22,7 @@ use Rattle.amf_tables.specs.Parts3.{Part, flag, four, eight, raw, chars, word, v
 use Rattle.amf_tables.specs.Headers3.{HeaderBy, marker_field}
 use Rattle.amf_tables.specs.Nodes3.{Begun}
 use Rattle.amf_tables.specs.Spells3.{LeafBy, ValueBy, InlineIn, Spells3}
-use Rattle.amf_tables.proofs.Amf3Verdicts.{header_odd}
+use Rattle.amf_tables.proofs.OddHeaders.{header_odd}
 
 abbrev pub AllClean : List Field → Type 0
 AllClean = AllByRecursion IsClean

@@ -1,14 +1,7 @@
 -- The lemmas that several proofs share.
 pub mod Build
 pub mod Amf3Rows
-pub mod Amf3Verdicts
-pub mod Fronts3
-pub mod TextFaults
-pub mod ArrayFronts
-pub mod TraitsFaults
-pub mod KindFaults
-pub mod DepthFaults
-pub mod ClassFaults
+pub mod OddHeaders
 pub mod Forget
 pub mod Clean
 pub mod KindRows
@@ -50,3 +43,18 @@ pub mod Layout3SoundNodes
 pub mod Layout3SoundInline
 pub mod Layout3Sound
 pub mod Layout3Reads
+pub mod Layout3Filled
+pub mod Layout3Format
+pub mod OneCut
+pub mod MiddleVerdicts
+pub mod Values3Layout
+pub mod VerdictRows
+pub mod ValuesAreSpellings
+pub mod FirstPlaces
+pub mod ShownTexts
+pub mod Reader3States
+pub mod Reader3Tables
+pub mod Reader3Weight
+pub mod Reader3OpeningCosts
+pub mod Reader3Costs
+pub mod Reader3Calls

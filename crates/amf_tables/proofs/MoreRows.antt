@@ -1,12 +1,11 @@
 -- More rows of AMF 3: names that stand twice, an open node, wrappers and their class names by place, a vector with a type name.
-use Rattle.std.proofs.Common.{◌≡◌, ℕ, false, List, [], ◌∷◌, ◌++◌, refl, arith, ap, get_or, replicate, inl}
-use Rattle.amf_io.specs.declared.reason.Reason.TheVariants.{UnknownExternal}
+use Rattle.std.proofs.Common.{◌≡◌, ◌≢◌, ℕ, false, [], ◌∷◌, ◌++◌, refl, arith, inl}
 use Rattle.amf_io.specs.Field.{field}
-use Rattle.amf_io.specs.Verdict.{Opens, IsInputRefused, refused, faulty}
 use Rattle.amf_wire.specs.Style.{free, canonical}
+use Rattle.amf_wire.specs.Text.{IsText}
 use Rattle.amf_wire.proofs.Shortest.{small}
-use Rattle.amf_graph.specs.declared.wrapped.Wrapped.{Wrapped}
-use Rattle.amf_graph.specs.declared.wrapped.Wrapped.TheVariants.{ArrayCollection, ArrayList, ObjectProxy}
+use Rattle.amf_wire.proofs.TextTest.{is_text-is}
+use Rattle.amf_graph.specs.declared.wrapped.Wrapped.TheVariants.{ArrayCollection}
 use Rattle.amf_graph.specs.Graph.{null, boolean, text, Value, leaf, node, array, wrapper, values, Graph, class_name}
 use Rattle.amf_graph.specs.declared.value.Value.TheVariants.{Node as NodeRef}
 use Rattle.amf_graph.specs.Arena as arena
@@ -21,12 +20,10 @@ use Rattle.amf_tables.specs.Headers3.{HeaderBy}
 use Rattle.amf_tables.specs.Reads3.{IsReading3}
 use Rattle.amf_tables.specs.Spells3.{InlineIn, Spelled3}
 use Rattle.amf_tables.specs.WorkedKinds3.{single}
-use Rattle.amf_tables.specs.WorkedVerdicts3.{Reading3}
 use Rattle.amf_tables.specs.WorkedMoreRows3.{one_name, named_twice, open_array, open_tables, reference_fields, two_collections, name_and_collection}
 use Rattle.amf_tables.proofs.Build.{Built, both, lifted, a_leaf, a_null, no_text, new_text, old_text, a_text, a_reference, a_node, no_parts, word_part, value_part, absent_nil, absent_cons, unnamed, unnamed_zero}
 use Rattle.amf_tables.proofs.Amf3Rows.{inner, spelled_by, an_empty_array}
 use Rattle.amf_tables.proofs.KindRows.{flag_part, single_node, counted, start, a_is, c_is, a_text_is, c_text_is}
-use Rattle.amf_tables.proofs.ClassFaults.{IsClassRow, class_row, class_is, class_text, before_class, at_class_name}
 
 pub order_kept : by_name one_name ≡ one_name
 order_kept = refl
@@ -109,6 +106,12 @@ typed_values =
 
 -- collections
 
+class_is : class_name ArrayCollection ≢ []
+class_is e = cc
+
+class_text : IsText (class_name ArrayCollection)
+class_text = (is_text-is (class_name ArrayCollection)).0 refl
+
 abbrev Class : Spelling Words
 Class w = TextBy canonical (class_header_kind w.texts) class_kind (class_name ArrayCollection) w
 
@@ -128,7 +131,7 @@ wrapper_traits_by_place =
     let name : Built Class t.words = record {
       fields = field (class_header_kind []) (0x43 ∷ []) ∷ field (class_kind 33) (class_name ArrayCollection) ∷ [];
       after = add_text t.words (class_name ArrayCollection);
-      spelled = whole (class_is ArrayCollection) (class_text ArrayCollection) (unnamed _ [] (class_name ArrayCollection) (absent_nil (class_name ArrayCollection))) (0x43 ∷ []) (small canonical 67 (omega arith)) refl refl;
+      spelled = whole class_is class_text (unnamed _ [] (class_name ArrayCollection) (absent_nil (class_name ArrayCollection))) (0x43 ∷ []) (small canonical 67 (omega arith)) refl refl;
     } in
     let h : Built (Lifted (HeaderBy canonical (wrapper ArrayCollection) (node 2 ∷ []) 7)) t = first_collection 2 t name (unnamed _ [] (external ArrayCollection) (absent_nil (external ArrayCollection))) in
     let e : Built (Q (node 2)) h.after = an_empty_array 0 canonical two_collections 2 h.after (omega arith) (absent_cons 0 (1 ∷ []) 2 (λ e. omega arith) (absent_cons 1 [] 2 (λ e. omega arith) (absent_nil 2))) refl in
@@ -154,12 +157,12 @@ class_by_place =
     let R : Value → Spelling Tables = inner 2 canonical name_and_collection in
     let Q : Value → Spelling Tables = inner 1 canonical name_and_collection in
     let v : Value = leaf (text (class_name ArrayCollection)) in
-    let n : Built (R v) start = a_text (InlineIn 2 canonical name_and_collection) canonical 2 name_and_collection (class_name ArrayCollection) start (class_text ArrayCollection) (new_text canonical (class_name ArrayCollection) start.words (class_is ArrayCollection) (class_text ArrayCollection) (unnamed _ [] (class_name ArrayCollection) (absent_nil (class_name ArrayCollection))) (omega arith)) in
+    let n : Built (R v) start = a_text (InlineIn 2 canonical name_and_collection) canonical 2 name_and_collection (class_name ArrayCollection) start class_text (new_text canonical (class_name ArrayCollection) start.words class_is class_text (unnamed _ [] (class_name ArrayCollection) (absent_nil (class_name ArrayCollection))) (omega arith)) in
     let t : Tables = add_node n.after 1 in
     let name : Built Class t.words = record {
       fields = field (class_header_kind t.words.texts) (0x00 ∷ []) ∷ [];
       after = t.words;
-      spelled = named (class_is ArrayCollection) 0 refl (unnamed_zero t.words.texts (class_name ArrayCollection)) (0x00 ∷ []) (small canonical 0 (omega arith)) refl refl;
+      spelled = named class_is 0 refl (unnamed_zero t.words.texts (class_name ArrayCollection)) (0x00 ∷ []) (small canonical 0 (omega arith)) refl refl;
     } in
     let h : Built (Lifted (HeaderBy canonical (wrapper ArrayCollection) (node 2 ∷ []) 7)) t = first_collection 2 t name (unnamed _ [] (external ArrayCollection) (absent_nil (external ArrayCollection))) in
     let e : Built (Q (node 2)) h.after = an_empty_array 0 canonical name_and_collection 2 h.after (omega arith) (absent_cons 0 (1 ∷ []) 2 (λ e. omega arith) (absent_cons 1 [] 2 (λ e. omega arith) (absent_nil 2))) refl in
@@ -170,16 +173,3 @@ class_by_place =
     (word_part R canonical [] (value v ∷ value (node 1) ∷ []) start (no_text canonical start.words)
     (value_part R canonical v (value (node 1) ∷ []) start n
     (value_part R canonical (node 1) [] n.after x (no_parts R canonical x.after))))))
-
-pub no_text_class : IsInputRefused (Reading3 512) 16777216 (0x0A ∷ 7 ∷ 0x37 ∷ replicate 27 0xFF) UnknownExternal 3
-no_text_class = refused (faulty (record { start = before_class ++ field (class_header_kind []) (55 ∷ []) ∷ []; kind = class_kind 27; rest = replicate 27 0xFF; size = 27; follows = at_class_name; place = refl; parts = refl; is_whole = refl; none = none; refused = refl }))
-  where
-    no_such : (c : Wrapped) (more behind : List ℕ) → 0xFF ∷ more ≡ class_name c ++ behind → ⊥
-    no_such ArrayCollection more behind e = let h : ◌≡◌ {A = ℕ} 0xFF 0x66 = ap (λ xs. get_or xs 0 0) e in omega arith
-    no_such ArrayList more behind e = let h : ◌≡◌ {A = ℕ} 0xFF 0x66 = ap (λ xs. get_or xs 0 0) e in omega arith
-    no_such ObjectProxy more behind e = let h : ◌≡◌ {A = ℕ} 0xFF 0x66 = ap (λ xs. get_or xs 0 0) e in omega arith
-
-    none : Opens (Reading3 512) (0x0A ∷ 7 ∷ 0x37 ∷ replicate 27 0xFF) → ⊥
-    none o =
-        let r : IsClassRow 0x37 (replicate 27 0xFF ++ o.rest) = class_row 512 o.accepted.0 o.accepted.0.root o.fields o.accepted.1.0 0x37 (replicate 27 0xFF ++ o.rest) (omega arith) o.accepted.1.1 o.begins in
-        no_such r.class (replicate 26 0xFF ++ o.rest) r.behind r.contents

@@ -1,13 +1,15 @@
 -- A text that is in the table twice.
-use Rattle.std.proofs.Common.{◌≡◌, ◌≢◌, ℕ, ◌*◌, ◌<◌, [], ◌∷◌, ◌++◌, refl, ap, sym, arith}
+use Rattle.std.proofs.Common.{◌≡◌, ◌≢◌, ℕ, ◌*◌, ◌<◌, [], ◌∷◌, ◌++◌, refl, ap, sym, ◌∙◌, arith}
+use Rattle.std.proofs.lemmas.List.{append-nil}
 use Rattle.amf_io.specs.Field.{field, flat}
 use Rattle.amf_wire.specs.Style.{free, canonical}
+use Rattle.amf_wire.specs.U29.{u29_value}
 use Rattle.amf_wire.proofs.Shortest.{small}
+use Rattle.amf_wire.proofs.U29Fields.{one_field}
 use Rattle.amf_tables.specs.Tables.{Words}
 use Rattle.amf_tables.specs.Refusals3.{text_header_kind}
 use Rattle.amf_tables.specs.Words3.{Text, empty, whole, named, IsUnnamed}
 use Rattle.amf_tables.specs.WorkedRows3.{foo, foo_twice}
-use Rattle.amf_tables.proofs.Fronts3.{one_byte}
 
 pub second_place : Text free foo foo_twice (field (text_header_kind 2) (2 ∷ []) ∷ []) foo_twice
 second_place = named tt 1 refl tt (2 ∷ []) (small free 2 (omega arith)) refl refl
@@ -23,5 +25,5 @@ not_canonical w (empty e h u f a) = foo_is e
 not_canonical w (whole e i o h u f a) = named_before 268435456 (omega arith) o
 not_canonical w (named e k i o h u f a) =
     let g : h ++ [] ≡ 2 ∷ [] = sym (ap flat f) in
-    let n : (2 * k ≡ 2) × ([] ≡ []) = one_byte (2 * k) 2 h [] [] (omega arith) u.spelled g in
-    named_before k (omega (arith, n.0)) o
+    let n : 2 * k ≡ 2 = sym (one_field u.spelled).value ∙ ap u29_value (sym (append-nil h) ∙ g) in
+    named_before k (omega (arith, n)) o

@@ -1,5 +1,5 @@
 -- The reference tables as a reader keeps them: places in an arena (AMF 3, 2.2).
-use Rattle.std.specs.Prelude.{◌≡◌, ℕ, zero, suc, ◌<◌, false, List, [], ◌∷◌, ◌++◌, length, map, slice_get, Some}
+use Rattle.std.specs.Prelude.{◌≡◌, ℕ, zero, suc, ◌<◌, false, List, [], ◌∷◌, ◌++◌, length, map, slice_get, Option, Some, None}
 use Rattle.std.specs.List.{AllByRecursion}
 use Rattle.amf_graph.specs.declared.wrapped.Wrapped.{Wrapped}
 use Rattle.amf_graph.specs.Graph.{Traits, class_name}
@@ -19,10 +19,26 @@ pub record KeptTables : Type 0 where
 abbrev pub no_kept_tables : KeptTables
 no_kept_tables = record { texts = []; traits = []; nodes = [] }
 
+-- with one more entry at its end
+
+abbrev pub kept_text_place : KeptTables → ℕ → KeptTables
+kept_text_place t i = record { texts = t.texts ++ i ∷ []; traits = t.traits; nodes = t.nodes }
+
+abbrev pub kept_entry : KeptTables → KeptEntry → KeptTables
+kept_entry t e = record { texts = t.texts; traits = t.traits ++ e ∷ []; nodes = t.nodes }
+
+abbrev pub kept_node_place : KeptTables → ℕ → KeptTables
+kept_node_place t i = record { texts = t.texts; traits = t.traits; nodes = t.nodes ++ i ∷ [] }
+
 -- the place of its traits in the arena
 abbrev pub traits_place : KeptEntry → ℕ
 traits_place (plain t) = t
 traits_place (external t c) = t
+
+-- its class, if it is externalizable
+abbrev pub external_class : KeptEntry → Option Wrapped
+external_class (plain t) = None
+external_class (external t c) = Some c
 
 abbrev pub entry_content : Arena → KeptEntry → tables.Entry
 entry_content a (plain t) = tables.plain (traits_at a t)

@@ -1,10 +1,13 @@
 -- The laws of the layouts of AMF 3.
-use Rattle.std.specs.Prelude.{ℕ, ◌+◌, ◌^◌, ◌<◌, ◌≤◌, List, length}
+use Rattle.std.specs.Prelude.{ℕ, ◌+◌, ◌-◌, ◌^◌, ◌<◌, ◌≤◌, List, length, ◌↔◌}
 use Rattle.amf_io.specs.Field.{Field, AreBytes, flat}
-use Rattle.amf_io.specs.Layout.{Layout, Path, Runs, Extends, Able}
+use Rattle.amf_io.specs.Layout.{Layout, Path, Runs, Extends, Able, IsLayout}
+use Rattle.amf_wire.specs.Style.{free}
+use Rattle.amf_graph.specs.Graph.{Graph}
 use Rattle.amf_graph.specs.Arena.{Arena, IsBuilt}
 use Rattle.amf_tables.specs.KeptTables.{KeptTables, AreTablesIn}
-use Rattle.amf_tables.specs.Reads3.{IsRead3, IsReading3}
+use Rattle.amf_tables.specs.Reads3.{IsRead3, IsReading3, IsValue3}
+use Rattle.amf_tables.specs.Spells3.{IsSpelling3}
 use Rattle.amf_tables.specs.Layout3State.{State3, state_of}
 use Rattle.amf_tables.specs.Layout3.{ValueRead, value_layout}
 
@@ -20,6 +23,22 @@ Layout3Able = (n levels : ℕ) (a : Arena) (t : KeptTables) → length t.nodes +
 abbrev pub Layout3Complete : Type 0
 Layout3Complete = (n levels : ℕ) (a : Arena) (t : KeptTables) (fs : List Field) → AreTablesIn a t → IsReading3 levels a t fs → length (flat fs) < n → (x : ValueRead) × Runs (value_layout n levels (state_of a t)) fs x
 
+-- what is read of bytes is accepted: it spells a value of some finished graph that completes what was there
+abbrev pub Layout3Accepted : Type 0
+Layout3Accepted = (n levels : ℕ) (a : Arena) (t : KeptTables) (fs : List Field) (x : ValueRead) → IsBuilt a → AreTablesIn a t → AreBytes (flat fs) → Runs (value_layout n levels (state_of a t)) fs x → IsReading3 levels a t fs
+
 -- what is read into a builder's arena and its tables is spelled so in each finished graph that completes it
 abbrev pub Layout3Reads : Type 0
 Layout3Reads = (n levels : ℕ) (a : Arena) (t : KeptTables) (fs : List Field) (x : ValueRead) → IsBuilt a → AreTablesIn a t → AreBytes (flat fs) → Runs (value_layout n levels (state_of a t)) fs x → IsRead3 levels a t fs x.state.arena x.state.tables x.value
+
+-- from each builder's arena and its tables the layouts are those of what is accepted there, with fuel up to 2^28 less the nodes in the table
+abbrev pub Layout3OfSpellings : Type 0
+Layout3OfSpellings = (levels : ℕ) (a : Arena) (t : KeptTables) → IsBuilt a → AreTablesIn a t → IsLayout (2 ^ 28 - length t.nodes) (λ n. value_layout n levels (state_of a t)) (IsReading3 levels a t)
+
+-- the fields spell some graph
+abbrev pub SpellsSome : ℕ → List Field → Type 0
+SpellsSome levels fs = (g : Graph) × IsSpelling3 levels free g fs
+
+-- from nothing, the fields of bytes that are accepted are exactly those that spell some graph
+abbrev pub ValuesAreSpellings3 : Type 0
+ValuesAreSpellings3 = (levels : ℕ) (fs : List Field) → AreBytes (flat fs) → IsValue3 levels fs ↔ SpellsSome levels fs

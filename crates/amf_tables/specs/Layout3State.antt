@@ -3,7 +3,8 @@ use Rattle.std.specs.Prelude.{ℕ, Bool, true, false, List, [], ◌∷◌, ◌++
 use Rattle.amf_graph.specs.declared.value.Value.{Value as Stored}
 use Rattle.amf_graph.specs.Arena.{StoredTraits, StoredHead, xml_document, date, array, object, wrapper, xml, bytes, ints, uints, doubles, values, dictionary, StoredNode, Arena}
 use Rattle.amf_tables.specs.Tables as content
-use Rattle.amf_tables.specs.KeptTables.{KeptEntry, KeptTables, tables_of}
+use Rattle.amf_tables.specs.KeptTables.{KeptEntry, KeptTables, no_kept_tables, tables_of}
+use Rattle.amf_tables.specs.Reads3.{no_arena}
 
 abbrev pub stored_marker : StoredHead → ℕ
 stored_marker (xml_document x) = 0x07
@@ -43,6 +44,9 @@ pub record State3 : Type 0 where
 
 abbrev pub state_of : Arena → KeptTables → State3
 state_of a t = record { arena = a; tables = t; words = (tables_of a t).words; marks = map (λ i. stored_marker (stored_at a i).head) t.nodes }
+
+abbrev pub no_state : State3
+no_state = state_of no_arena no_kept_tables
 
 -- Texts: the empty one enters no table.
 

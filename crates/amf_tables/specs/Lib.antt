@@ -1,9 +1,13 @@
 -- The definitions that contracts cite.
 pub mod Tables
 pub mod KeptTables
+pub mod TableParts
 pub mod Then
 pub mod Refusals3
 pub mod Words3
+pub mod FirstPlace
+pub mod WrittenParts
+pub mod ShownTraits
 pub mod Parts3
 pub mod Headers3
 pub mod Nodes3
@@ -30,3 +34,4 @@ pub mod Layout3Words
 pub mod Layout3
 pub mod Layout3Laws
 pub mod LawsByName
+pub mod VerdictLaws3

@@ -1,6 +1,5 @@
 -- More worked rows of AMF 3: names that stand twice, an open node, wrappers and their class names by place, a vector of values with a type name.
-use Rattle.std.specs.Prelude.{◌≡◌, ℕ, true, false, List, [], ◌∷◌, ◌++◌, replicate}
-use Rattle.amf_io.specs.declared.reason.Reason.TheVariants.{UnknownExternal}
+use Rattle.std.specs.Prelude.{◌≡◌, ℕ, true, false, List, [], ◌∷◌, ◌++◌}
 use Rattle.amf_io.specs.Field.{Field, field}
 use Rattle.amf_wire.specs.Style.{free, canonical}
 use Rattle.amf_graph.specs.declared.wrapped.Wrapped.TheVariants.{ArrayCollection}
@@ -13,7 +12,6 @@ use Rattle.amf_tables.specs.Reads3.{IsReading3}
 use Rattle.amf_tables.specs.Spells3.{Spelled3}
 use Rattle.amf_tables.specs.WorkedRows3.{items}
 use Rattle.amf_tables.specs.WorkedKinds3.{single}
-use Rattle.amf_tables.specs.WorkedVerdicts3.{Refused}
 
 -- an array with two pairs of one name
 abbrev pub one_name : List (List ℕ × Value)
@@ -54,5 +52,3 @@ pub record MoreRows3 : Type 0 where
   pub wrapper_traits_by_place : Spelled3 canonical two_collections (0x09 ∷ 0x05 ∷ 0x01 ∷ 0x0A ∷ 0x07 ∷ 0x43 ∷ class_name ArrayCollection ++ 0x09 ∷ 0x01 ∷ 0x01 ∷ 0x0A ∷ 0x01 ∷ 0x09 ∷ 0x04 ∷ [])
   pub typed_values : Spelled3 canonical (single (values false (0x43 ∷ [])) (leaf null ∷ [])) (0x10 ∷ 0x03 ∷ 0x00 ∷ 0x03 ∷ 0x43 ∷ 0x01 ∷ [])
   pub class_by_place : Spelled3 canonical name_and_collection (0x09 ∷ 0x05 ∷ 0x01 ∷ 0x06 ∷ 0x43 ∷ class_name ArrayCollection ++ 0x0A ∷ 0x07 ∷ 0x00 ∷ 0x09 ∷ 0x01 ∷ 0x01 ∷ [])
-  -- a class name is compared, never read as a text
-  pub no_text_class : Refused (0x0A ∷ 0x07 ∷ 0x37 ∷ replicate 27 0xFF) UnknownExternal 3

@@ -1,9 +1,18 @@
-//! The spellings of values in AMF 3: which fields spell a value, what is refused in a field, and the laws of both.
+//! The spellings of values in AMF 3: which fields spell a value, what is refused in a field, the laws of both, and the
+//! tables of readers and writers.
 #![tactic(auto)]
 
 mod facts;
 mod laws;
 mod layout_laws;
+mod tables3;
+#[cfg(test)]
+mod tests;
+mod traits_entry;
+mod verdict_laws;
+mod writer_tables;
+mod written_entry;
+mod written_texts;
 
 pub use facts::{
     canonical_bytes_decide, fields_agree, forgets, kind_rows, lack_rows, more_rows3, rows3,
@@ -15,5 +24,12 @@ pub use laws::{
     spelling_or_lack, table_is_order,
 };
 pub use layout_laws::{
-    layouts_are_sound, layouts_complete_starts, layouts_grow, layouts_read_spellings,
+    layouts_are_of_spellings, layouts_are_sound, layouts_complete_starts, layouts_grow,
+    layouts_read_only_spellings, layouts_read_spellings, values_are_spellings,
 };
+pub use tables3::Tables3;
+pub use verdict_laws::{
+    bytes_fix_fields, bytes_fix_next_kind, faults_are_first, inputs_have_one_verdict,
+    values_have_one_verdict,
+};
+pub use writer_tables::WriterTables;

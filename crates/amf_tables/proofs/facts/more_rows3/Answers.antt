@@ -11,5 +11,4 @@ returns c = record {
   wrapper_traits_by_place = rows.wrapper_traits_by_place;
   typed_values = rows.typed_values;
   class_by_place = rows.class_by_place;
-  no_text_class = rows.no_text_class;
 }

@@ -1,0 +1,21 @@
+-- The layouts of values from nothing.
+use Rattle.std.proofs.Common.{◌≡◌, ℕ, ◌^◌, [], Option, Some, None}
+use Rattle.amf_io.specs.Layout.{IsLayout}
+use Rattle.amf_graph.specs.Arena.{IsBuilt}
+use Rattle.amf_tables.specs.KeptTables.{no_kept_tables, AreTablesIn, IsDistinct}
+use Rattle.amf_tables.specs.Reads3.{no_arena, IsValue3}
+use Rattle.amf_tables.specs.Layout3State.{no_state}
+use Rattle.amf_tables.specs.Layout3.{value_layout}
+use Rattle.amf_tables.proofs.Layout3Format.{is_layout}
+
+pub no_arena_built : IsBuilt no_arena
+no_arena_built = record { texts = tt; traits = tt; nodes = tt }
+
+no_numbers : IsDistinct []
+no_numbers j k x e f = let none : ◌≡◌ {A = Option ℕ} None (Some x) = e in absurd cc
+
+pub no_tables_in : AreTablesIn no_arena no_kept_tables
+no_tables_in = record { texts = tt; traits = tt; nodes = tt; distinct = no_numbers }
+
+pub values3_is_layout : (levels : ℕ) → IsLayout (2 ^ 28) (λ n. value_layout n levels no_state) (IsValue3 levels)
+values3_is_layout levels = is_layout levels no_arena no_kept_tables no_arena_built no_tables_in

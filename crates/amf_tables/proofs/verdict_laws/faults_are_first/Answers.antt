@@ -1,0 +1,7 @@
+-- A fault is the first field that is wrong.
+use Rattle.amf_io.proofs.Inputs.{fault_is_first}
+use Rattle.amf_tables.specs.Reads3.{IsReading3}
+use Rattle.amf_tables.proofs.verdict_laws.faults_are_first.Goals as goal
+
+pub returns : goal.returns
+returns c = λ levels a t built valid base at input reason. fault_is_first (IsReading3 levels a t) base at input reason

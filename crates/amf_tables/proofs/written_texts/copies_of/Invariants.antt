@@ -1,0 +1,7 @@
+-- The copies so far are those of the texts so far.
+use Rattle.std.proofs.Common.{◌≡◌, take}
+use Rattle.amf_tables.specs.ShownTraits.{texts_at}
+use Rattle.amf_tables.proofs.written_texts.copies_of.Given as goal
+
+abbrev pub invariant-loop-id : goal.invariant-loop-id
+invariant-loop-id l = l.texts.items ≡ texts_at l.graph.arena (take l.id-index l.ids)

@@ -1,0 +1,36 @@
+-- What the tables of readers and writers are made of.
+use Rattle.std.specs.Prelude.{ℕ, Option, Some, None, List, map}
+use Rattle.amf_graph.specs.declared.value.TextId.{TextId}
+use Rattle.amf_graph.specs.declared.value.NodeId.{NodeId}
+use Rattle.amf_graph.specs.declared.value.TraitsId.{TraitsId}
+use Rattle.amf_graph.specs.declared.wrapped.Wrapped.{Wrapped}
+use Rattle.amf_tables.specs.Tables.{Entry, Tables}
+use Rattle.amf_tables.specs.KeptTables.{KeptEntry, plain, external, KeptTables}
+
+-- Ids as numbers.
+
+abbrev pub text_number : TextId → ℕ
+text_number t = t.0
+
+abbrev pub node_number : NodeId → ℕ
+node_number n = n.0
+
+abbrev pub traits_number : TraitsId → ℕ
+traits_number t = t.0
+
+-- that of an externalizable class, if there is one
+abbrev pub kept_entry_of : TraitsId → Option Wrapped → KeptEntry
+kept_entry_of t None = plain t.0
+kept_entry_of t (Some c) = external t.0 c
+
+-- a reader's tables
+abbrev pub kept_tables : List TextId → List KeptEntry → List NodeId → KeptTables
+kept_tables texts traits nodes = record { texts = map text_number texts; traits = traits; nodes = map node_number nodes }
+
+-- a writer's tables: AMF 3 can name each node that was spelled
+abbrev pub written_tables : List (List ℕ) → List Entry → List NodeId → Tables
+written_tables texts traits nodes = record {
+  words = record { texts = texts; traits = traits };
+  nodes = map node_number nodes;
+  done = map node_number nodes;
+}

@@ -1,0 +1,43 @@
+ghost use Rattle.std.specs.Prelude.{◌≡◌, ◌↔◌, IfOk, IsTrue};
+ghost use Rattle.amf_tables.specs.ShownTraits.{AreTextIds, texts_at};
+
+use amf_graph::{Rooted, TextId};
+use amf_wire::{Memory, Name};
+use std::alloc::Global;
+
+/// Whether a text is made of these bytes.
+pub(crate) fn is_text(text: &Name, bytes: &[u8]) -> bool
+    ensures { IsTrue result ↔ (text.now ≡ bytes.now) }
+{
+    text.as_bytes() == bytes
+}
+
+/// Copies of texts of a graph.
+#[tactic(auto, using(crate::proofs::ShownTexts::copied))]
+pub(crate) fn copies_of(alloc: Global, ids: &[TextId], graph: &Rooted) -> Result<Vec<Name>, Memory>
+    requires { AreTextIds graph.now.arena ids.now }
+    ensures { IfOk result (λ texts. texts.items ≡ texts_at graph.now.arena ids.now) }
+{
+    let mut texts = Vec::new(alloc);
+    for id in ids {
+        texts.push(Name::of_bytes(alloc, graph.text(*id))?)?;
+    }
+    Ok(texts)
+}
+
+/// Whether these are the texts of a graph, in order.
+#[tactic(auto, using(crate::proofs::ShownTexts::compared))]
+pub(crate) fn are_texts(texts: &[Name], ids: &[TextId], graph: &Rooted) -> bool
+    requires { AreTextIds graph.now.arena ids.now }
+    ensures { IsTrue result ↔ (texts.now ≡ texts_at graph.now.arena ids.now) }
+{
+    if texts.len() != ids.len() {
+        return false;
+    }
+    for (text, id) in texts.iter().zip(ids) {
+        if !is_text(text, graph.text(*id)) {
+            return false;
+        }
+    }
+    true
+}
