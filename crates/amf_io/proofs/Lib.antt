@@ -11,3 +11,4 @@ pub mod Combine
 pub mod Inputs
 pub mod NextKind
 pub mod LayoutAnswers
+pub mod CursorReads

@@ -7,5 +7,7 @@ pub mod Verdict
 pub mod Layout
 pub mod Reading
 pub mod LayoutAnswer
+pub mod ReadEnds
+pub mod CursorReads
 pub mod Worked
 pub mod Standard

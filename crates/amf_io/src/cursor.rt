@@ -90,6 +90,7 @@ impl<'a, S: Source> Cursor<'a, S> {
         ensures gives { S.tells (source_of self.old).now → GivesBytes (unread S.left self.old) (unread S.left self.new) out.old.items out.new.items (place self.old) (bound self.old) n result }
         ensures total { S.tells (source_of self.old).now → place self.new + length (unread S.left self.new) ≡ place self.old + length (unread S.left self.old) }
         ensures place { OnOk result ((place self.new ≡ place self.old + n) × (place self.new ≤ bound self.new)) }
+        ensures grown { OnOk result (length out.new.items ≡ length out.old.items + n) }
         ensures ahead { place self.new + ahead self.new ≤ bound self.new + 1 }
         ensures cause { Counts (S.faults (source_of self.old).now) (S.faults (source_of self.new).now) result }
         ensures none_ahead { IsFaultedAt (ahead self.new) result }
@@ -153,6 +154,7 @@ impl<'a, S: Source> Cursor<'a, S> {
         ensures total { S.tells (source_of self.old).now → place self.new + length (unread S.left self.new) ≡ place self.old + length (unread S.left self.old) }
         ensures size { IfOk result (λ given. (0 < given) × (given ≤ most)) }
         ensures place { IfOk result (λ given. (place self.new ≡ place self.old + given) × (place self.new ≤ bound self.new)) }
+        ensures grown { IfOk result (λ given. length out.new.items ≡ length out.old.items + given) }
         ensures cause { Counts (S.faults (source_of self.old).now) (S.faults (source_of self.new).now) result }
         ensures none_ahead { IsFaultedAt (ahead self.new) result }
     {

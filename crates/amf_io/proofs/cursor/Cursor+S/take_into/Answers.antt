@@ -27,6 +27,7 @@ loop-missing-preserved g c =
       same_name = e.same_reference ∙ h.same_name;
       same_bound = e.bound ∙ h.same_bound;
       counted = omega (arith, e.place.0, h.counted);
+      grown = omega (arith, e.grown, h.grown);
       fewer = omega arith;
       within = e.place.1;
       no_fault = e.cause ∙ h.no_fault;

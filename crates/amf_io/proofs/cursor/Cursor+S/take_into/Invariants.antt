@@ -14,6 +14,7 @@ invariant-loop-missing g l =
       same_name : (source_of l.self).ghost_name ≡ (source_of l.fn.self).ghost_name;
       same_bound : bound l.self ≡ bound l.fn.self;
       counted : place l.self ≡ place l.fn.self + (l.n - l.missing);
+      grown : length l.out.items ≡ length l.fn.out.items + (l.n - l.missing);
       fewer : l.missing ≤ l.n;
       within : place l.self ≤ bound l.self;
       no_fault : faults (source_of l.self).now ≡ faults (source_of l.fn.self).now;
