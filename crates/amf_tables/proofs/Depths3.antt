@@ -23,7 +23,7 @@ use Rattle.amf_tables.proofs.Exists3.{AllSteps, leaf_steps, GoodPart, SmallLeaf}
 abbrev pub IsFine : Graph → ℕ → ℕ × ℕ → Type 0
 IsFine g limit p = AllNamed (node_at g p.0).names × (p.1 ≤ limit)
 
-depth_append : (k : ℕ) (vs ws : List Value) (us : List (Value × ℕ)) → at_depth k (vs ++ ws) ++ us ≡ at_depth k vs ++ (at_depth k ws ++ us)
+pub depth_append : (k : ℕ) (vs ws : List Value) (us : List (Value × ℕ)) → at_depth k (vs ++ ws) ++ us ≡ at_depth k vs ++ (at_depth k ws ++ us)
 depth_append k [] ws us = refl
 depth_append k (v ∷ vs) ws us = ap (λ w. (v, k) ∷ w) (depth_append k vs ws us)
 

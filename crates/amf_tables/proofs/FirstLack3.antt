@@ -28,7 +28,7 @@ IsLacking g limit p EmptyName = AllNamed (node_at g p.0).names → ⊥
 IsLacking g limit p TooDeep = AllNamed (node_at g p.0).names × (limit < p.1)
 IsLacking g limit p _ = ⊥
 
-named_or_not : (ps : List (List ℕ × Value)) → AllNamed ps ⊎ (AllNamed ps → ⊥)
+pub named_or_not : (ps : List (List ℕ × Value)) → AllNamed ps ⊎ (AllNamed ps → ⊥)
 named_or_not [] = inl tt
 named_or_not (p ∷ ps) = go p.0 refl (named_or_not ps)
   where
@@ -60,7 +60,7 @@ first_lacking g limit (m ∷ ms) = go (fine_or_lacking g limit m) (first_lacking
     go (inl f) (inr r) = inr (suc r.0, r.1, r.2, r.3, r.4, earlier r.0 f r.5)
 
 -- a fine node lacks nothing
-fine_lacks : (g : Graph) (limit : ℕ) (p : ℕ × ℕ) (kind : LackKind) → IsFine g limit p → NodeLacks3 g limit p.0 p.1 kind → ⊥
+pub fine_lacks : (g : Graph) (limit : ℕ) (p : ℕ × ℕ) (kind : LackKind) → IsFine g limit p → NodeLacks3 g limit p.0 p.1 kind → ⊥
 fine_lacks g limit p EmptyName f l = l f.0
 fine_lacks g limit p TooDeep f l = let d = f.1 in omega arith
 fine_lacks g limit p NoForm f l = l

@@ -26,6 +26,7 @@ pub mod Exists3
 pub mod Ordered3
 pub mod Depths3
 pub mod FirstLack3
+pub mod Stops3
 pub mod Layout3Grows
 pub mod Layout3Fills
 pub mod Layout3Able
@@ -43,6 +44,8 @@ pub mod Layout3SoundNodes
 pub mod Layout3SoundInline
 pub mod Layout3Sound
 pub mod Layout3Reads
+pub mod FirstPlaces
+pub mod ShownTexts
 pub mod Layout3Filled
 pub mod Layout3Format
 pub mod OneCut
@@ -50,11 +53,10 @@ pub mod MiddleVerdicts
 pub mod Values3Layout
 pub mod VerdictRows
 pub mod ValuesAreSpellings
-pub mod FirstPlaces
-pub mod ShownTexts
 pub mod Reader3States
 pub mod Reader3Tables
 pub mod Reader3Weight
 pub mod Reader3OpeningCosts
 pub mod Reader3Costs
 pub mod Reader3Calls
+pub mod FewDistinct

@@ -254,12 +254,12 @@ entry_found (plain t) h = (16 * length t.sealed + (8 * cond t.dynamic 1 0 + 3), 
     low false = omega arith
 entry_found (external c) h = (7, (0, omega arith, refl), omega arith)
 
-class_text : (c : Wrapped) → IsText (class_name c)
+pub class_text : (c : Wrapped) → IsText (class_name c)
 class_text ArrayCollection = (is_text-is (class_name ArrayCollection)).0 refl
 class_text ArrayList = (is_text-is (class_name ArrayList)).0 refl
 class_text ObjectProxy = (is_text-is (class_name ObjectProxy)).0 refl
 
-class_short : (c : Wrapped) → IsShort (class_name c)
+pub class_short : (c : Wrapped) → IsShort (class_name c)
 class_short ArrayCollection = omega arith
 class_short ArrayList = omega arith
 class_short ObjectProxy = omega arith

@@ -12,7 +12,9 @@ pub mod Parts3
 pub mod Headers3
 pub mod Nodes3
 pub mod Spells3
+pub mod ByteSpelling
 pub mod Lacks3
+pub mod Lacking3
 pub mod Reads3
 pub mod WorkedRows3
 pub mod WorkedKinds3

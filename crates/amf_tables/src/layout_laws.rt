@@ -6,7 +6,7 @@ pub fn layouts_grow()
 {}
 
 /// What has been read of a value of AMF 3 can be completed after every start, while the table of
-/// nodes and the bytes to come are at most 2^28 together.
+/// nodes and the bytes to come are fewer than 2^28 together.
 pub fn layouts_complete_starts()
     ensures { Layout3Able }
 {}

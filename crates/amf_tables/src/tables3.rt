@@ -1,4 +1,4 @@
-ghost use Rattle.std.specs.Prelude.{◌≡◌, IfOk, OnOk, OnErr, slice_get};
+ghost use Rattle.std.specs.Prelude.{◌≡◌, IfOk, OnOk, OnErr, map, slice_get};
 ghost use Rattle.std.specs.Option.{option_map, option_and_then};
 ghost use Rattle.amf_tables.specs.TableParts.{text_number, node_number, traits_number};
 ghost use Rattle.amf_tables.specs.KeptTables.{no_kept_tables, kept_text_place, kept_entry, kept_node_place};
@@ -89,6 +89,13 @@ impl Tables3 {
         ensures { option_map node_number result ≡ slice_get self.now.nodes index }
     {
         self.nodes.get(index as usize).copied()
+    }
+
+    /// The nodes, in the order in which they were entered.
+    pub fn nodes(&self) -> &[NodeId]
+        ensures { map node_number result.now ≡ self.now.nodes }
+    {
+        &self.nodes
     }
 
     /// The traits that an index names: `None` exactly past the last ones. It takes no memory.

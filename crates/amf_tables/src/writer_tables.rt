@@ -1,4 +1,4 @@
-ghost use Rattle.std.specs.Prelude.{◌≡◌, ◌<◌, ◌↔◌, length, IsOk, IfOk, IfNone, IfSome, OnOk, OnErr};
+ghost use Rattle.std.specs.Prelude.{◌≡◌, ◌<◌, ◌≤◌, ◌↔◌, length, IsOk, IfOk, IfNone, IfSome, OnOk, OnErr};
 ghost use Rattle.amf_graph.specs.Order.{Absent};
 ghost use Rattle.amf_tables.specs.FirstPlace.{IsFirstPlace};
 ghost use Rattle.amf_tables.specs.ShownTraits.{AreTraitsOf, shown_entry};
@@ -15,11 +15,14 @@ use std::marker::Model;
 /// A table has at most this many entries, so that each has a place that is a `u32`.
 const MAX_ENTRIES: usize = 4_294_967_296;
 
+/// The table of nodes has at most this many, so that a header can name each of them (1.3.1).
+const MAX_NODES: usize = 268_435_456;
+
 /// The reference tables of a writer of AMF 3 (2.2): what has been written inline, so that an index
 /// can name it.
 ///
-/// A table has at most 2^32 entries. One more is refused as `Memory`, as is what there is no memory
-/// for.
+/// A table has at most 2^32 entries, and that of the nodes 2^28. One more is refused as `Memory`,
+/// as is what there is no memory for.
 #[derive(Drop)]
 pub struct WriterTables {
     alloc: Global,
@@ -31,7 +34,7 @@ pub struct WriterTables {
 impl Model for WriterTables {
     ghost use Rattle.std.specs.Prelude.{◌≤◌, vec_len};
     ghost use Rattle.amf_tables.specs.Tables.{Tables};
-    ghost use Rattle.amf_tables.specs.declared.writer_tables.TheConstants.{MAX_ENTRIES};
+    ghost use Rattle.amf_tables.specs.declared.writer_tables.TheConstants.{MAX_ENTRIES, MAX_NODES};
 
     ghost Value = { Tables };
 
@@ -40,7 +43,7 @@ impl Model for WriterTables {
     ghost view = { λ t. written_tables t.texts.items t.traits.items t.nodes.items };
 
     ghost invariant = { λ t. (vec_len t.texts ≤ MAX_ENTRIES) × (vec_len t.traits ≤ MAX_ENTRIES)
-        × (vec_len t.nodes ≤ MAX_ENTRIES) };
+        × (vec_len t.nodes ≤ MAX_NODES) };
 }
 
 /// Refuses one more entry in a table that is full.
@@ -83,6 +86,14 @@ impl WriterTables {
         let _ = &self.nodes;
     }
 
+    /// How many nodes have been entered.
+    pub fn node_count(&self) -> u32
+        ensures count { result ≡ length self.now.nodes }
+        ensures within { result ≤ MAX_NODES }
+    {
+        self.nodes.len() as u32
+    }
+
     /// The first place of a text: `None` exactly where it has none. It takes no memory.
     pub fn place_of_text(&self, bytes: &[u8]) -> Option<u32>
         ensures first { IfSome result (IsFirstPlace self.now.words.texts bytes.now) }
@@ -95,6 +106,7 @@ impl WriterTables {
     /// The first place of a node: `None` exactly where it has none. It takes no memory.
     pub fn place_of_node(&self, node: NodeId) -> Option<u32>
         ensures first { IfSome result (IsFirstPlace self.now.nodes node.0) }
+        ensures within { IfSome result (λ place. place < MAX_NODES) }
         ensures none { IfNone result (Absent self.now.nodes node.0) }
     {
         let place = first_of_id(&self.nodes, node)?;
@@ -145,7 +157,9 @@ impl WriterTables {
         ensures ok { OnOk result (self.new ≡ add_node self.old node.0) }
         ensures err { OnErr result (self.new ≡ self.old) }
     {
-        check_room(self.nodes.len())?;
+        if self.nodes.len() >= MAX_NODES {
+            return Err(Memory);
+        }
         self.nodes.push(node)?;
         Ok(())
     }
