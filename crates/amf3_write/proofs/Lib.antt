@@ -1,0 +1,9 @@
+-- The lemmas that several proofs share.
+pub mod Wrote
+pub mod WroteParts
+pub mod NamedPairs
+pub mod PairParts
+pub mod Stopped
+pub mod Loops
+pub mod WroteNodes
+pub mod Whole

@@ -1,0 +1,7 @@
+use Rattle.std.proofs.Common.{◌+◌, ◌*◌, length}
+use Rattle.amf_tables.specs.ByteSpelling.{number, flag, raw, four_bytes}
+use Rattle.amf3_write.proofs.WroteParts.{wrote_third}
+use Rattle.amf3_write.proofs.output.Output.uints.Goals as goal
+
+pub returns-clause-ok : goal.returns-clause-ok
+returns-clause-ok c = wrote_third (number (2 * length c.args.items.now + 1)) (flag c.args.fixed) (raw (four_bytes c.args.items.now)) c.args.self.now c.vector.new.self c.uint_items.new.self c.in_ok-vector.ensures.ok c.in_ok-uint_items.ensures.ok

@@ -1,0 +1,3 @@
+pub mod Written
+pub mod Writes
+pub mod Contents

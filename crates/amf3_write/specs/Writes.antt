@@ -1,0 +1,45 @@
+-- What each part of a writer appends, by its bytes, and where it stops.
+use Rattle.std.specs.Prelude.{◌≡◌, ℕ, ◌-◌, ◌≤◌, List, ◌++◌}
+use Rattle.amf_wire.specs.Style.{canonical}
+use Rattle.amf_graph.specs.declared.lack.Lack.{Lack}
+use Rattle.amf_graph.specs.Graph.{Value, Graph}
+use Rattle.amf_tables.specs.Tables.{Tables}
+use Rattle.amf_tables.specs.Lacking3.{Lacking3}
+use Rattle.amf_tables.specs.ByteSpelling.{Texts, Step, StepOf, Part, Lifted, Parts, Spells}
+use Rattle.amf3_write.specs.declared.output.Output.{Output}
+
+-- the bytes that were appended are a spelling from the tables before to those behind
+pub record Writes (A : Tables → List ℕ → Tables → Type 0) (old new : Output) : Type 0 where
+  pub bytes : List ℕ
+  pub spelled : A old.tables bytes new.tables
+  pub appended : new.bytes.items ≡ old.bytes.items ++ bytes
+
+-- a step that names no node; such steps alone; parts, with so many levels left; a value
+abbrev pub WritesStep : Step → Output → Output → Type 0
+WritesStep x = Writes (Lifted (StepOf canonical x))
+
+abbrev pub WritesSteps : List Part → Output → Output → Type 0
+WritesSteps ps = Writes (Parts (λ v t b t'. ⊥) canonical ps)
+
+abbrev pub WritesParts : Graph → ℕ → List Part → Output → Output → Type 0
+WritesParts g levels ps = Writes (Parts (Spells levels canonical g) canonical ps)
+
+abbrev pub WritesValue : Graph → ℕ → Value → Output → Output → Type 0
+WritesValue g levels v = Writes (Spells levels canonical g v)
+
+-- texts one after another
+abbrev pub WritesTexts : List (List ℕ) → Output → Output → Type 0
+WritesTexts xs = Writes (Lifted (Texts canonical xs))
+
+-- the bytes begin with these
+pub record BeginsWith (front bytes : List ℕ) : Type 0 where
+  pub rest : List ℕ
+  pub is : bytes ≡ front ++ rest
+
+-- what the bytes began with, they still begin with
+abbrev pub Keeps : Output → Output → Type 0
+Keeps old new = (front : List ℕ) → BeginsWith front old.bytes.items → BeginsWith front new.bytes.items
+
+-- a writer of these values, with so many levels of 512 left, stops at the first node that lacks a spelling
+pub record Stops (g : Graph) (levels : ℕ) (vs : List Value) (old : Output) (lack : Lack) : Type 0 where
+  pub at : old.tables.nodes ≡ old.tables.done → levels ≤ 512 → Lacking3 g 512 (513 - levels) vs old.tables.done lack.node lack.kind

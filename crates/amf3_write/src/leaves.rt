@@ -1,0 +1,108 @@
+ghost use Rattle.std.specs.Prelude.{◌≡◌, ◌+◌, ◌*◌, ◌<◌, ◌^◌, [], ◌∷◌, length, map, OnOk, FitsSigned};
+ghost use Rattle.std.specs.Int.{to_be_bytes, w32, w64};
+ghost use Rattle.std.specs.List.{AllByRecursion};
+ghost use Rattle.amf_tables.specs.ByteSpelling as spell;
+ghost use Rattle.amf3_write.specs.Writes.{WritesStep, WritesSteps, Keeps};
+
+use crate::output::Output;
+use amf_wire::{Memory, Pattern};
+
+/// Nodes without parts, behind their markers.
+impl Output {
+    /// A length, and so many bytes (3.9, 3.13, 3.14).
+    pub(crate) fn counted(&mut self, bytes: &[u8]) -> Result<(), Memory>
+        requires { length bytes.now < 2 ^ 28 }
+        ensures ok { OnOk result (WritesSteps (spell.step (spell.number (2 * length bytes.now + 1)) ∷ spell.step (spell.raw bytes.now) ∷ []) self.old self.new) }
+        ensures kept { Keeps self.old self.new }
+    {
+        self.number(2 * bytes.len() as u32 + 1)?;
+        self.raw(bytes)?;
+        Ok(())
+    }
+
+    /// A date (3.10).
+    pub(crate) fn date(&mut self, milliseconds: Pattern) -> Result<(), Memory>
+        ensures ok { OnOk result (WritesSteps (spell.step spell.unused ∷ spell.step (spell.raw (to_be_bytes w64 milliseconds.0)) ∷ []) self.old self.new) }
+        ensures kept { Keeps self.old self.new }
+    {
+        self.number(1)?;
+        self.raw(&milliseconds.0.to_be_bytes())?;
+        Ok(())
+    }
+
+    /// A count, and whether it is fixed (3.15).
+    pub(crate) fn vector(&mut self, count: usize, fixed: bool) -> Result<(), Memory>
+        requires { count < 2 ^ 28 }
+        ensures ok { OnOk result (WritesSteps (spell.step (spell.number (2 * count + 1)) ∷ spell.step (spell.flag fixed) ∷ []) self.old self.new) }
+        ensures kept { Keeps self.old self.new }
+    {
+        self.number(2 * count as u32 + 1)?;
+        self.flag(fixed)?;
+        Ok(())
+    }
+
+    /// A vector of ints (3.15).
+    pub(crate) fn ints(&mut self, fixed: bool, items: &[i32]) -> Result<(), Memory>
+        requires few { length items.now < 2 ^ 28 }
+        requires in_range { AllByRecursion (FitsSigned w32) items.now }
+        ensures ok { OnOk result (WritesSteps (spell.step (spell.number (2 * length items.now + 1)) ∷ spell.step (spell.flag fixed) ∷ spell.step (spell.raw (spell.signed_bytes items.now)) ∷ []) self.old self.new) }
+        ensures kept { Keeps self.old self.new }
+    {
+        self.vector(items.len(), fixed)?;
+        self.int_items(items)?;
+        Ok(())
+    }
+
+    fn int_items(&mut self, items: &[i32]) -> Result<(), Memory>
+        requires { AllByRecursion (FitsSigned w32) items.now }
+        ensures ok { OnOk result (WritesStep (spell.raw (spell.signed_bytes items.now)) self.old self.new) }
+        ensures kept { Keeps self.old self.new }
+    {
+        for int in items {
+            self.raw(&int.to_be_bytes())?;
+        }
+        Ok(())
+    }
+
+    /// A vector of uints (3.15).
+    pub(crate) fn uints(&mut self, fixed: bool, items: &[u32]) -> Result<(), Memory>
+        requires { length items.now < 2 ^ 28 }
+        ensures ok { OnOk result (WritesSteps (spell.step (spell.number (2 * length items.now + 1)) ∷ spell.step (spell.flag fixed) ∷ spell.step (spell.raw (spell.four_bytes items.now)) ∷ []) self.old self.new) }
+        ensures kept { Keeps self.old self.new }
+    {
+        self.vector(items.len(), fixed)?;
+        self.uint_items(items)?;
+        Ok(())
+    }
+
+    fn uint_items(&mut self, items: &[u32]) -> Result<(), Memory>
+        ensures ok { OnOk result (WritesStep (spell.raw (spell.four_bytes items.now)) self.old self.new) }
+        ensures kept { Keeps self.old self.new }
+    {
+        for uint in items {
+            self.raw(&uint.to_be_bytes())?;
+        }
+        Ok(())
+    }
+
+    /// A vector of doubles (3.15).
+    pub(crate) fn doubles(&mut self, fixed: bool, items: &[Pattern]) -> Result<(), Memory>
+        requires { length items.now < 2 ^ 28 }
+        ensures ok { OnOk result (WritesSteps (spell.step (spell.number (2 * length (map (λ p. p.0) items.now) + 1)) ∷ spell.step (spell.flag fixed) ∷ spell.step (spell.raw (spell.eight_bytes (map (λ p. p.0) items.now))) ∷ []) self.old self.new) }
+        ensures kept { Keeps self.old self.new }
+    {
+        self.vector(items.len(), fixed)?;
+        self.double_items(items)?;
+        Ok(())
+    }
+
+    fn double_items(&mut self, items: &[Pattern]) -> Result<(), Memory>
+        ensures ok { OnOk result (WritesStep (spell.raw (spell.eight_bytes (map (λ p. p.0) items.now))) self.old self.new) }
+        ensures kept { Keeps self.old self.new }
+    {
+        for double in items {
+            self.raw(&double.0.to_be_bytes())?;
+        }
+        Ok(())
+    }
+}

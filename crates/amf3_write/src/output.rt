@@ -1,0 +1,114 @@
+ghost use Rattle.std.specs.Prelude.{◌≡◌, ◌≢◌, ◌<◌, ◌^◌, [], length, OnOk, IfSome, IfNone};
+ghost use Rattle.amf_wire.specs.Text.{IsText};
+ghost use Rattle.amf_tables.specs.FirstPlace.{IsFirstPlace};
+ghost use Rattle.amf_tables.specs.Words3.{IsUnnamed};
+ghost use Rattle.amf_tables.specs.ByteSpelling as spell;
+ghost use Rattle.amf3_write.specs.Writes.{WritesStep, Keeps};
+
+use amf_tables::WriterTables;
+use amf_wire::{Memory, U29, write_u29};
+use std::alloc::Global;
+
+/// How many places of the table of texts a header can name (1.3.2).
+const NAMEABLE_TEXTS: u32 = 268_435_456;
+
+/// What has been written: the tables that it leads to, and the bytes.
+#[derive(Drop)]
+pub(crate) struct Output {
+    pub(crate) alloc: Global,
+    pub(crate) tables: WriterTables,
+    pub(crate) bytes: Vec<u8>,
+}
+
+impl Output {
+    pub(crate) fn byte(&mut self, byte: u8) -> Result<(), Memory>
+        ensures ok { OnOk result (WritesStep (spell.byte byte) self.old self.new) }
+        ensures kept { Keeps self.old self.new }
+    {
+        self.bytes.push(byte)?;
+        Ok(())
+    }
+
+    /// A number of 29 bits, in the fewest bytes (1.3.1).
+    pub(crate) fn number(&mut self, number: u32) -> Result<(), Memory>
+        requires { number < 2 ^ 29 }
+        ensures ok { OnOk result (WritesStep (spell.number number) self.old self.new) }
+        ensures kept { Keeps self.old self.new }
+    {
+        match U29::new(number) {
+            Some(number) => self.raw_number(number),
+            None => unreachable!(),
+        }
+    }
+
+    /// Bytes as they are.
+    pub(crate) fn raw(&mut self, bytes: &[u8]) -> Result<(), Memory>
+        ensures ok { OnOk result (WritesStep (spell.raw bytes.now) self.old self.new) }
+        ensures kept { Keeps self.old self.new }
+    {
+        self.bytes.extend_from_slice(bytes)?;
+        Ok(())
+    }
+
+    fn raw_number(&mut self, number: U29) -> Result<(), Memory>
+        ensures ok { OnOk result (WritesStep (spell.number number) self.old self.new) }
+        ensures kept { Keeps self.old self.new }
+    {
+        let spelled = write_u29(number);
+        self.bytes.extend_from_slice(spelled.as_slice())?;
+        Ok(())
+    }
+
+    /// A flag of a header: 1 for true (3.15).
+    pub(crate) fn flag(&mut self, flag: bool) -> Result<(), Memory>
+        ensures ok { OnOk result (WritesStep (spell.flag flag) self.old self.new) }
+        ensures kept { Keeps self.old self.new }
+    {
+        self.bytes.push(u8::from(flag))?;
+        Ok(())
+    }
+
+    /// The first place of a text, if a header can name it.
+    fn place_of_text(&self, text: &[u8]) -> Option<u32>
+        ensures first { IfSome result (λ place. IsFirstPlace self.now.tables.words.texts text.now place) }
+        ensures within { IfSome result (λ place. place < NAMEABLE_TEXTS) }
+        ensures none { IfNone result (IsUnnamed NAMEABLE_TEXTS self.now.tables.words.texts text.now) }
+    {
+        let place = self.tables.place_of_text(text)?;
+        if place < NAMEABLE_TEXTS {
+            Some(place)
+        } else {
+            None
+        }
+    }
+
+    /// A text: by its place, or inline where no header can name it. The empty text has no place (1.3.2).
+    pub(crate) fn text(&mut self, text: &[u8]) -> Result<(), Memory>
+        requires is_text { IsText text.now }
+        requires short { length text.now < 2 ^ 28 }
+        ensures ok { OnOk result (WritesStep (spell.word text.now) self.old self.new) }
+        ensures kept { Keeps self.old self.new }
+    {
+        if text.is_empty() {
+            return self.number(1);
+        }
+        match self.place_of_text(text) {
+            Some(place) => self.number(2 * place),
+            None => self.text_inline(text),
+        }
+    }
+
+    fn text_inline(&mut self, text: &[u8]) -> Result<(), Memory>
+        requires is_text { IsText text.now }
+        requires short { length text.now < 2 ^ 28 }
+        requires not_empty { text.now ≢ [] }
+        requires unnamed { IsUnnamed NAMEABLE_TEXTS self.old.tables.words.texts text.now }
+        ensures ok { OnOk result (WritesStep (spell.word text.now) self.old self.new) }
+        ensures kept { Keeps self.old self.new }
+    {
+        self.number(2 * text.len() as u32 + 1)?;
+        self.raw(text)?;
+        self.tables.add_text(text)?;
+        Ok(())
+    }
+}

@@ -1,0 +1,39 @@
+ghost use Rattle.std.specs.Prelude.{◌≡◌, OnOk, OnErr};
+ghost use Rattle.std.specs.Result.{IsErrOf};
+ghost use Rattle.amf_graph.specs.declared.lack.Lack.{Lack};
+ghost use Rattle.amf_graph.specs.Rooted.{content};
+ghost use Rattle.amf_tables.specs.Lacks3.{IsLack3};
+ghost use Rattle.amf3_write.specs.Written.{AppendsCanonical};
+
+use crate::output::Output;
+use amf_graph::{Rooted, WriteEnd};
+use amf_tables::WriterTables;
+use std::alloc::Global;
+use std::mem;
+
+/// How many nodes may stand within one another.
+const LEVELS: u32 = 512;
+
+/// Appends the canonical spelling of a graph (AMF 3, 3.2 to 3.16).
+///
+/// After an end `out` is as before. `NoSpelling` comes only where the graph has no canonical spelling with at most 512 nodes
+/// within one another, and tells the first lack of the graph; `Memory` where there is no room for the tables or the bytes.
+pub fn write3(alloc: Global, graph: &Rooted, out: &mut Vec<u8>) -> Result<(), WriteEnd>
+    ensures written { OnOk result (AppendsCanonical (content graph.now) out.old.items out.new.items) }
+    ensures lack { (l : Lack) → IsErrOf result (WriteEnd.NoSpelling l) → IsLack3 (content graph.now) 512 l.node l.kind }
+    ensures kept { OnErr result (out.new.items ≡ out.old.items) }
+{
+    graph.is_finished();
+    let start = out.len();
+    let mut output = Output {
+        alloc,
+        tables: WriterTables::new(alloc)?,
+        bytes: mem::replace(out, Vec::new(alloc)),
+    };
+    let result = output.value(graph.root(), LEVELS, graph);
+    if result.is_err() {
+        output.bytes.truncate(start);
+    }
+    *out = output.bytes;
+    result
+}
