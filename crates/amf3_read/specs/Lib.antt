@@ -1,4 +1,13 @@
-pub mod FieldSize
-pub mod Ends
-pub mod Markers
 pub mod Answer
+pub mod Begins
+pub mod FieldSize
+pub mod Filling
+pub mod Forms
+pub mod Headers
+pub mod Opened
+pub mod OpeningItems
+pub mod OpeningNames
+pub mod OpeningShapes
+pub mod Ready
+pub mod Steps
+pub mod Vectors

@@ -1,11 +1,13 @@
-use crate::{PlainValues, read3};
-use amf_graph::Value;
+use crate::{Values3, read3};
+use amf_graph::{Builder, NodeId, NodeView, Rooted, TextId, Value};
 use amf_io::{
     Cursor, MemorySource, ReadEnd, Reason, Refusal, faults_are_first, next_kind_is_fixed,
     one_verdict, reading_decides, reading_waits,
 };
+use amf_tables::Tables3;
 use amf_wire::Pattern;
 use std::alloc::Global;
+use std::test::Fail;
 
 /// How a source gives its bytes: the most in a piece, and the offset past which no piece goes on.
 #[derive(Clone, Copy, Debug)]
@@ -18,18 +20,27 @@ struct Pieces {
 fn read_of(
     alloc: Global,
     bytes: &[u8],
-    limit: u32,
+    limit: u16,
     pieces: Pieces,
     failing: &[u64],
-) -> Result<Value, ReadEnd> {
-    let made = MemorySource::new(alloc, bytes, pieces.most, pieces.cut, failing);
-    let Ok(mut source) = made else {
-        return Err(ReadEnd::Memory);
-    };
-    let Ok(mut cursor) = Cursor::new(alloc, &mut source, limit) else {
-        return Err(ReadEnd::Memory);
-    };
-    read3(&mut cursor)
+) -> Result<Result<Value, ReadEnd>, Fail> {
+    let mut source = MemorySource::new(alloc, bytes, pieces.most, pieces.cut, failing)?;
+    let mut cursor = Cursor::new(alloc, &mut source, limit as u32)?;
+    let mut builder = Builder::new(alloc)?;
+    let mut tables = Tables3::new(alloc)?;
+    Ok(read3(alloc, &mut cursor, &mut builder, &mut tables, 2))
+}
+
+/// The graph that these bytes are.
+fn graph_of(alloc: Global, bytes: &[u8]) -> Result<Rooted, Fail> {
+    let mut source = MemorySource::new(alloc, bytes, 1, 0, &[])?;
+    let mut cursor = Cursor::new(alloc, &mut source, 1000)?;
+    let mut builder = Builder::new(alloc)?;
+    let mut tables = Tables3::new(alloc)?;
+    let read = read3(alloc, &mut cursor, &mut builder, &mut tables, 512);
+    let root = read.ok().ok_or("a value")?;
+    let graph = builder.finish(root).ok().ok_or("no open node")?;
+    Ok(graph)
 }
 
 /// The refusal for a reason at a place.
@@ -38,63 +49,110 @@ fn refused(reason: Reason, at: u32) -> Result<Value, ReadEnd> {
 }
 
 #[test]
-fn reads_the_same_in_any_pieces(rt: HostRuntime) {
-    let rows: [(&[u8], Result<Value, ReadEnd>); 16] = [
+fn reads_the_same_in_any_pieces(rt: HostRuntime) -> Result<(), Fail> {
+    let node = Ok(Value::Node(NodeId(0)));
+    let rows: [(&[u8], Result<Value, ReadEnd>); 22] = [
         (&[0x00], Ok(Value::Undefined)),
-        (&[0x01], Ok(Value::Null)),
-        (&[0x02], Ok(Value::Bool(false))),
         (&[0x03], Ok(Value::Bool(true))),
-        (&[0x04, 0x80, 0x05], Ok(Value::Integer(5))),
         (
             &[0x04, 0xC0, 0x80, 0x80, 0x00],
             Ok(Value::Integer(-268_435_456)),
         ),
         (
-            &[0x04, 0xBF, 0xFF, 0xFF, 0xFF],
-            Ok(Value::Integer(268_435_455)),
-        ),
-        (&[0x04, 0xFF, 0xFF, 0xFF, 0xFF], Ok(Value::Integer(-1))),
-        (
             &[0x05, 0x40, 0x14, 0, 0, 0, 0, 0, 0],
             Ok(Value::Double(Pattern(0x4014_0000_0000_0000))),
         ),
-        (&[0x01, 0x01], Ok(Value::Null)),
-        (&[0x12], refused(Reason::BadMarker, 0)),
-        (&[0x09, 0x01, 0x01], refused(Reason::NotBuilt, 0)),
-        (&[0x11, 0x03, 0x00], refused(Reason::NotBuilt, 0)),
+        (&[0x06, 0x80, 0x01], Ok(Value::Text(TextId(0)))),
+        (&[0x09, 0x03, 0x01, 0x09, 0x00], node),
+        (&[0x11, 0x03, 0x00, 0x04, 0x01, 0x06, 0x03, 0x61], node),
+        (&[0x0D, 0x03, 0x01, 0xFF, 0xFF, 0xFF, 0xFE], node),
         (&[], refused(Reason::Truncated, 0)),
+        (&[0x12], refused(Reason::BadMarker, 0)),
+        (&[0x09, 0x00], refused(Reason::BadReference, 1)),
+        (
+            &[0x09, 0x03, 0x01, 0x09, 0x02],
+            refused(Reason::BadReference, 4),
+        ),
+        (
+            &[0x09, 0x03, 0x01, 0x0A, 0x00],
+            refused(Reason::WrongKind, 4),
+        ),
+        (&[0x0A, 0x01], refused(Reason::BadTraits, 1)),
+        (&[0x06, 0x02], refused(Reason::BadTextIndex, 1)),
+        (&[0x06, 0x03, 0xFF], refused(Reason::BadText, 2)),
+        (&[0x06, 0x07, 0x66], refused(Reason::Truncated, 2)),
+        (
+            &[0x0A, 0x07, 0x07, 0x66],
+            refused(Reason::UnknownExternal, 2),
+        ),
+        (
+            &[0x09, 0x03, 0x01, 0x09, 0x03, 0x01, 0x09, 0x01, 0x01],
+            refused(Reason::TooDeep, 7),
+        ),
+        (
+            &[0x09, 0x03, 0x01, 0x09, 0x03, 0x01, 0x0C, 0x01],
+            refused(Reason::TooDeep, 6),
+        ),
         (&[0x04, 0x80], refused(Reason::Truncated, 1)),
-        (&[0x05, 0x01], refused(Reason::Truncated, 1)),
+        (&[0x0D, 0x03, 0x01, 0xFF], refused(Reason::Truncated, 3)),
     ];
     for (bytes, want) in rows.iter() {
-        let alone = read_of(rt.alloc(), bytes, 10, Pieces { most: 1, cut: 0 }, &[]);
+        let alone = read_of(rt.alloc(), bytes, 20, Pieces { most: 1, cut: 0 }, &[])?;
         assert_eq!(rt; alone, *want, "a byte at a time: {bytes:?}");
         for cut in 0..bytes.len() + 1 {
             let pieces = Pieces { most: 65536, cut };
-            let got = read_of(rt.alloc(), bytes, 10, pieces, &[]);
+            let got = read_of(rt.alloc(), bytes, 20, pieces, &[])?;
             assert_eq!(rt; got, *want, "cut at {cut}: {bytes:?}");
         }
     }
+    Ok(())
 }
 
 #[test]
-fn ends_by_fault_and_limit(rt: HostRuntime) {
+fn ends_by_fault_and_limit(rt: HostRuntime) -> Result<(), Fail> {
     let alone = Pieces { most: 1, cut: 0 };
+    let bytes: &[u8] = &[0x06, 0x05, 0x61, 0x61];
     let fault = Err(ReadEnd::ReadFault);
-    assert_eq!(rt; read_of(rt.alloc(), &[0x04, 0x05], 10, alone, &[1]), fault);
+    assert_eq!(rt; read_of(rt.alloc(), bytes, 20, alone, &[3])?, fault);
     assert_eq!(rt;
-        read_of(rt.alloc(), &[0x04, 0x05], 10, alone, &[2]),
-        Ok(Value::Integer(5))
+        read_of(rt.alloc(), bytes, 3, alone, &[])?,
+        refused(Reason::TooLarge, 2)
     );
-    let large = refused(Reason::TooLarge, 1);
-    assert_eq!(rt; read_of(rt.alloc(), &[0x04, 0x05], 1, alone, &[]), large);
+    Ok(())
+}
+
+#[test]
+fn builds_what_it_reads(rt: HostRuntime) -> Result<(), Fail> {
+    // An object of class C, with the sealed name a and the member b, which is the object itself.
+    let bytes: &[u8] = &[
+        0x0A, 0x1B, 0x03, 0x43, 0x03, 0x61, 0x04, 0x05, 0x03, 0x62, 0x0A, 0x00, 0x01,
+    ];
+    let graph = graph_of(rt.alloc(), bytes)?;
+    assert_eq!(rt; graph.root(), Value::Node(NodeId(0)));
+    let NodeView::Object {
+        traits,
+        sealed,
+        members,
+    } = graph.node(NodeId(0))
+    else {
+        return Err(Fail::from("an object"));
+    };
+    assert_eq!(rt; sealed, [Value::Integer(5)].as_slice());
+    assert_eq!(rt; members.len(), 1);
+    assert_eq!(rt; graph.text(members[0].0), b"b".as_slice());
+    assert_eq!(rt; members[0].1, Value::Node(NodeId(0)));
+    let view = graph.traits(traits);
+    assert_eq!(rt; graph.text(view.class), b"C".as_slice());
+    assert!(rt; view.dynamic);
+    assert_eq!(rt; view.sealed.len(), 1);
+    Ok(())
 }
 
 #[test]
 fn laws_hold_of_the_values(_rt: HostRuntime) {
-    one_verdict::<PlainValues>();
-    faults_are_first::<PlainValues>();
-    next_kind_is_fixed::<PlainValues>();
-    reading_decides::<PlainValues>();
-    reading_waits::<PlainValues>();
+    one_verdict::<Values3>();
+    faults_are_first::<Values3>();
+    next_kind_is_fixed::<Values3>();
+    reading_decides::<Values3>();
+    reading_waits::<Values3>();
 }

@@ -1,125 +1,141 @@
-ghost use Rattle.std.specs.Prelude.{◌≡◌, ◌+◌, ◌≤◌, length, IfOk};
-ghost use Rattle.amf_io.specs.Cursor.{source_of, place, bound, ahead, unread};
-ghost use Rattle.amf_io.specs.LayoutAnswer.{AnswersBy};
-ghost use Rattle.amf_graph.specs.Start.{IsOwn, no_arena};
-ghost use Rattle.amf_tables.specs.PlainLayout3.{marker_layout, number_layout, eight_layout, after_marker};
-ghost use Rattle.amf3_read.specs.Markers.{byte_of};
-ghost use Rattle.amf3_read.specs.Ends.{Counts, IsFaultedAt, TakesNoMemory};
-ghost use Rattle.amf3_read.specs.Answer.{Answers3};
+ghost use Rattle.std.specs.Prelude.{◌≡◌, ℕ, ◌-◌, ◌<◌, ◌==◌, OnOk, IfOk};
+ghost use Rattle.std.specs.List.{list_any};
+ghost use Rattle.amf_wire.specs.Integer.{IsInteger, integer_of};
+ghost use Rattle.amf_wire.specs.U29.{u29_value};
+ghost use Rattle.amf_io.specs.Field.{u29_kind, no_refusal};
+ghost use Rattle.amf_io.specs.Layout.{give, want};
+ghost use Rattle.amf_io.specs.Cursor.{place};
+ghost use Rattle.amf_io.specs.CursorReads.{IsPlaced, Goes, Answers};
+ghost use Rattle.amf_tables.specs.Layout3State.{state_of};
+ghost use Rattle.amf_tables.specs.KeptTables.{AreTablesIn};
+ghost use Rattle.amf_tables.specs.Layout3.{read, value_layout, eight_layout, node_marker};
+ghost use Rattle.amf3_read.specs.Forms.{form, node_form};
+ghost use Rattle.amf3_read.specs.Ready.{Ready, Continues, left_of};
+ghost use Rattle.amf3_read.specs.Steps.{marker_layout};
+ghost use Rattle.amf3_read.specs.Answer.{HasRoomFor, Answers3, Raises};
 
+use crate::ends::refused;
 use crate::field::{FieldSize, read_field};
-use crate::marker::Marker;
-use amf_graph::Value;
-use amf_io::{Cursor, ReadEnd, Refusal, Source};
-use amf_wire::{Pattern, U29, U29Read, be64_at, read_u29, sign29};
+use crate::marker::{Marker, NodeMarker};
+use crate::node::read_node;
+use crate::text::read_text;
+use amf_graph::{Builder, Value};
+use amf_io::{Cursor, ReadEnd, Reason, Source};
+use amf_tables::Tables3;
+use amf_wire::{Pattern, sign29};
+use std::alloc::Global;
 
-/// Reads one value that is neither a text nor a node (AMF 3 specification, 3.2 to 3.7). Other
-/// values are refused as not built. It takes no memory.
+/// Reads one value into a builder and its tables (AMF 3 specification, 3.2 to 3.16), with so many
+/// levels left for nodes within nodes.
 ///
-/// After an end the cursor is only to be dropped.
-pub fn read3<S: Source>(cursor: &mut Cursor<'_, S>) -> Result<Value, ReadEnd>
-    ensures tells { S.tells (source_of cursor.old).now → S.tells (source_of cursor.new).now }
-    ensures same_reference { (source_of cursor.new).ghost_name ≡ (source_of cursor.old).ghost_name }
-    ensures bound { bound cursor.new ≡ bound cursor.old }
-    ensures answers { S.tells (source_of cursor.old).now → Answers3
-        (unread S.left cursor.old) (unread S.left cursor.new)
-        (place cursor.old) (place cursor.new) (bound cursor.old) result }
-    ensures own { IfOk result (IsOwn no_arena) }
-    ensures ahead { place cursor.new + ahead cursor.new ≤ bound cursor.new + 1 }
-    ensures cause { Counts (S.faults (source_of cursor.old).now) (S.faults (source_of cursor.new).now) result }
-    ensures none_ahead { IsFaultedAt (ahead cursor.new) result }
-    ensures total { S.tells (source_of cursor.old).now → place cursor.new + length (unread S.left cursor.new) ≡ place cursor.old + length (unread S.left cursor.old) }
-    ensures no_memory { TakesNoMemory result }
+/// Where the input is refused, the refusal is the verdict on it: the first field that no value of AMF 3
+/// has there, or where the input or its limit ends. After an end the builder, the tables and the cursor
+/// are only to be dropped.
+pub fn read3<S: Source>(
+    alloc: Global,
+    cursor: &mut Cursor<'_, S>,
+    builder: &mut Builder,
+    tables: &mut Tables3,
+    depth: u32,
+) -> Result<Value, ReadEnd>
+    requires tables { AreTablesIn builder.old tables.old }
+    requires room { HasRoomFor builder.old (left_of cursor.old) }
+    ensures goes { Goes S.tells S.left S.faults cursor.old cursor.new result }
+    ensures answers { Answers3 S.tells S.left depth builder.old builder.new tables.old tables.new cursor.old cursor.new result }
+    ensures tables { OnOk result (AreTablesIn builder.new tables.new) }
+    ensures raises { OnOk result (Raises builder.old builder.new (place cursor.new - place cursor.old)) }
 {
-    let marker = read_marker(cursor)?;
-    read_contents(cursor, marker)
+    // What is true of every builder and every cursor.
+    builder.is_built();
+    let _start = cursor.at();
+    read_value(alloc, cursor, builder, tables, depth)
 }
 
-/// Reads a marker.
-fn read_marker<S: Source>(cursor: &mut Cursor<'_, S>) -> Result<Marker, ReadEnd>
-    ensures tells { S.tells (source_of cursor.old).now → S.tells (source_of cursor.new).now }
-    ensures same_reference { (source_of cursor.new).ghost_name ≡ (source_of cursor.old).ghost_name }
-    ensures bound { bound cursor.new ≡ bound cursor.old }
-    ensures answers { S.tells (source_of cursor.old).now → AnswersBy byte_of marker_layout
-        (unread S.left cursor.old) (unread S.left cursor.new)
-        (place cursor.old) (place cursor.new) (bound cursor.old) result }
-    ensures was_within { place cursor.old ≤ bound cursor.old }
-    ensures ahead { place cursor.new + ahead cursor.new ≤ bound cursor.new + 1 }
-    ensures cause { Counts (S.faults (source_of cursor.old).now) (S.faults (source_of cursor.new).now) result }
-    ensures none_ahead { IsFaultedAt (ahead cursor.new) result }
-    ensures total { S.tells (source_of cursor.old).now → place cursor.new + length (unread S.left cursor.new) ≡ place cursor.old + length (unread S.left cursor.old) }
-    ensures no_memory { TakesNoMemory result }
+/// Reads one value.
+#[cycle(values)]
+pub fn read_value<S: Source>(
+    alloc: Global,
+    cursor: &mut Cursor<'_, S>,
+    builder: &mut Builder,
+    tables: &mut Tables3,
+    depth: u32,
+) -> Result<Value, ReadEnd>
+    requires { Ready 0 builder.old tables.old cursor.old }
+    ensures goes { Goes S.tells S.left S.faults cursor.old cursor.new result }
+    ensures answers { (n : ℕ) → left_of cursor.old < n → Answers S.tells S.left (λ v. read v (state_of builder.new tables.new)) (value_layout n depth (state_of builder.old tables.old)) cursor.old cursor.new result }
+    ensures continues { OnOk result (Continues 0 builder.old builder.new tables.new cursor.old cursor.new) }
+    ensures moves { OnOk result (place cursor.old < place cursor.new) }
 {
-    let start = cursor.at();
-    let field = read_field(cursor, FieldSize::Byte)?;
-    match Marker::from_byte(field.as_slice()[0]) {
-        Ok(marker) => Ok(marker),
-        Err(reason) => Err(ReadEnd::Refused(Refusal { reason, at: start })),
-    }
-}
-
-/// Reads what stands behind a marker.
-fn read_contents<S: Source>(cursor: &mut Cursor<'_, S>, marker: Marker) -> Result<Value, ReadEnd>
-    ensures tells { S.tells (source_of cursor.old).now → S.tells (source_of cursor.new).now }
-    ensures same_reference { (source_of cursor.new).ghost_name ≡ (source_of cursor.old).ghost_name }
-    ensures bound { bound cursor.new ≡ bound cursor.old }
-    ensures answers { S.tells (source_of cursor.old).now → AnswersBy (λ v. v) (after_marker (byte_of marker))
-        (unread S.left cursor.old) (unread S.left cursor.new)
-        (place cursor.old) (place cursor.new) (bound cursor.old) result }
-    ensures own { IfOk result (IsOwn no_arena) }
-    ensures ahead { place cursor.old + ahead cursor.old ≤ bound cursor.old + 1 → place cursor.new + ahead cursor.new ≤ bound cursor.new + 1 }
-    ensures cause { Counts (S.faults (source_of cursor.old).now) (S.faults (source_of cursor.new).now) result }
-    ensures none_ahead { IsFaultedAt (ahead cursor.new) result }
-    ensures total { S.tells (source_of cursor.old).now → place cursor.new + length (unread S.left cursor.new) ≡ place cursor.old + length (unread S.left cursor.old) }
-    ensures no_memory { TakesNoMemory result }
-{
+    let marker = read_marker(cursor, builder, tables, depth)?;
     match marker {
         Marker::Undefined => Ok(Value::Undefined),
         Marker::Null => Ok(Value::Null),
         Marker::False => Ok(Value::Bool(false)),
         Marker::True => Ok(Value::Bool(true)),
-        Marker::Integer => Ok(Value::Integer(sign29(read_number(cursor)?))),
-        Marker::Double => Ok(Value::Double(Pattern(read_eight(cursor)?))),
+        Marker::Integer => Ok(Value::Integer(read_integer(cursor)?)),
+        Marker::Double => Ok(Value::Double(read_double(cursor)?)),
+        Marker::Text => Ok(Value::Text(read_text(alloc, cursor, builder, tables)?)),
+        Marker::Node(node) => read_node(alloc, cursor, builder, tables, depth, node),
     }
 }
 
-/// Reads a U29.
-fn read_number<S: Source>(cursor: &mut Cursor<'_, S>) -> Result<U29, ReadEnd>
-    ensures tells { S.tells (source_of cursor.old).now → S.tells (source_of cursor.new).now }
-    ensures same_reference { (source_of cursor.new).ghost_name ≡ (source_of cursor.old).ghost_name }
-    ensures bound { bound cursor.new ≡ bound cursor.old }
-    ensures answers { S.tells (source_of cursor.old).now → AnswersBy (λ n. n) number_layout
-        (unread S.left cursor.old) (unread S.left cursor.new)
-        (place cursor.old) (place cursor.new) (bound cursor.old) result }
-    ensures was_within { place cursor.old ≤ bound cursor.old }
-    ensures ahead { place cursor.new + ahead cursor.new ≤ bound cursor.new + 1 }
-    ensures cause { Counts (S.faults (source_of cursor.old).now) (S.faults (source_of cursor.new).now) result }
-    ensures none_ahead { IsFaultedAt (ahead cursor.new) result }
-    ensures total { S.tells (source_of cursor.old).now → place cursor.new + length (unread S.left cursor.new) ≡ place cursor.old + length (unread S.left cursor.old) }
-    ensures no_memory { TakesNoMemory result }
+/// Reads a marker, with so many levels left.
+fn read_marker<S: Source>(
+    cursor: &mut Cursor<'_, S>,
+    builder: &Builder,
+    tables: &Tables3,
+    depth: u32,
+) -> Result<Marker, ReadEnd>
+    requires { Ready 0 builder.now tables.now cursor.old }
+    ensures goes { Goes S.tells S.left S.faults cursor.old cursor.new result }
+    ensures answers { Answers S.tells S.left form (marker_layout depth (state_of builder.now tables.now)) cursor.old cursor.new result }
+    ensures ready { OnOk result (Ready 1 builder.now tables.now cursor.new) }
+    ensures moves { OnOk result (place cursor.old < place cursor.new) }
+{
+    let start = cursor.at();
+    let byte = read_field(cursor, FieldSize::Byte)?.byte();
+    let Some(marker) = Marker::from_byte(byte) else {
+        return Err(refused(Reason::BadMarker, start));
+    };
+    let Marker::Node(node) = marker else {
+        return Ok(marker);
+    };
+    if depth == 0 && !has_node(builder, tables, node) {
+        return Err(refused(Reason::TooDeep, start));
+    }
+    Ok(marker)
+}
+
+/// Whether a node of the table has this marker.
+fn has_node(builder: &Builder, tables: &Tables3, marker: NodeMarker) -> bool
+    requires { AreTablesIn builder.now tables.now }
+    ensures { result ≡ list_any (λ m. m == node_marker (node_form marker)) (state_of builder.now tables.now).marks }
+{
+    for node in tables.nodes() {
+        if marker.is_of(builder.kind_of(*node)) {
+            return true;
+        }
+    }
+    false
+}
+
+/// Reads an integer (AMF 3 specification, 3.6).
+fn read_integer<S: Source>(cursor: &mut Cursor<'_, S>) -> Result<i32, ReadEnd>
+    ensures goes { Goes S.tells S.left S.faults cursor.old cursor.new result }
+    ensures answers { Answers S.tells S.left (λ n. n) (want (u29_kind no_refusal) (λ b. give (integer_of (u29_value b)))) cursor.old cursor.new result }
+    ensures own { IfOk result IsInteger }
+    ensures placed { OnOk result (IsPlaced cursor.new) }
 {
     let field = read_field(cursor, FieldSize::U29)?;
-    match read_u29(field.as_slice()) {
-        U29Read::Whole { value, .. } => Ok(value),
-        U29Read::Short => unreachable!(),
-    }
+    Ok(sign29(field.number()))
 }
 
-/// Reads the number of eight bytes.
-fn read_eight<S: Source>(cursor: &mut Cursor<'_, S>) -> Result<u64, ReadEnd>
-    ensures tells { S.tells (source_of cursor.old).now → S.tells (source_of cursor.new).now }
-    ensures same_reference { (source_of cursor.new).ghost_name ≡ (source_of cursor.old).ghost_name }
-    ensures bound { bound cursor.new ≡ bound cursor.old }
-    ensures answers { S.tells (source_of cursor.old).now → AnswersBy (λ n. n) eight_layout
-        (unread S.left cursor.old) (unread S.left cursor.new)
-        (place cursor.old) (place cursor.new) (bound cursor.old) result }
-    ensures was_within { place cursor.old ≤ bound cursor.old }
-    ensures ahead { place cursor.new + ahead cursor.new ≤ bound cursor.new + 1 }
-    ensures cause { Counts (S.faults (source_of cursor.old).now) (S.faults (source_of cursor.new).now) result }
-    ensures none_ahead { IsFaultedAt (ahead cursor.new) result }
-    ensures total { S.tells (source_of cursor.old).now → place cursor.new + length (unread S.left cursor.new) ≡ place cursor.old + length (unread S.left cursor.old) }
-    ensures no_memory { TakesNoMemory result }
+/// Reads a double, by its bits (AMF 3 specification, 3.7).
+fn read_double<S: Source>(cursor: &mut Cursor<'_, S>) -> Result<Pattern, ReadEnd>
+    ensures goes { Goes S.tells S.left S.faults cursor.old cursor.new result }
+    ensures answers { Answers S.tells S.left (λ p. p.0) eight_layout cursor.old cursor.new result }
+    ensures placed { OnOk result (IsPlaced cursor.new) }
 {
     let field = read_field(cursor, FieldSize::Eight)?;
-    Ok(be64_at(field.as_slice(), 0))
+    Ok(Pattern(field.eight()))
 }

@@ -1,7 +1,8 @@
 -- Fronts of what is written, as they grow.
-use Rattle.std.proofs.Common.{◌≡◌, ℕ, List, [], ◌++◌, take, drop, refl, sym, ap, ◌∙◌, append_assoc}
+use Rattle.std.proofs.Common.{OnOk, ◌≡◌, ℕ, List, [], ◌++◌, take, drop, Result, Ok, Err, refl, sym, ap, ◌∙◌, append_assoc}
 use Rattle.std.proofs.lemmas.List.{take-append-drop, append-nil}
-use Rattle.amf_cli.specs.Written.{WritesFront}
+use Rattle.amf_io.specs.declared.source.Failed.{Failed}
+use Rattle.amf_cli.specs.Written.{WritesFront, Writes}
 
 -- a front was written, and this is the rest
 pub record FrontWritten (before now bytes rest : List ℕ) : Type 0 where
@@ -24,3 +25,15 @@ all_written before now bytes f = f.added ∙ ap (λ b. before ++ b) (sym (f.part
 
 pub front_written : (before mid now bytes rest : List ℕ) → FrontWritten before mid bytes rest → now ≡ mid → WritesFront before now bytes
 front_written before mid now bytes rest f e = record { front = f.front; rest = rest; parts = f.parts; added = e ∙ f.added }
+
+joined : (held now front rest : List ℕ) → now ≡ held ++ front → now ++ rest ≡ held ++ (front ++ rest)
+joined held now front rest e = ap (λ l. l ++ rest) e ∙ append_assoc held front rest
+
+-- five pieces, one after another
+pub five_written : (r : Result (Unit {0}) Failed) (held one two three four now a b c d e : List ℕ) → one ≡ held ++ a → two ≡ one ++ b → three ≡ two ++ c → four ≡ three ++ d → Writes four now e r → OnOk r (now ≡ held ++ (a ++ b ++ c ++ d ++ e))
+five_written (Ok done) held one two three four now a b c d e h i j k w =
+    let first = i ∙ joined held one a b h in
+    let second = j ∙ joined held two (a ++ b) c first in
+    let third = k ∙ joined held three (a ++ b ++ c) d second in
+    w ∙ joined held four (a ++ b ++ c ++ d) e third
+five_written (Err f) held one two three four now a b c d e h i j k w = tt

@@ -1,5 +1,5 @@
 mod Fronts
-mod Wrote
 mod Inputs
 mod OneWord
+mod Spelled
 mod Statuses

@@ -5,16 +5,26 @@ use Rattle.amf_io.specs.declared.ends.ReadEnd.{ReadEnd}
 use Rattle.amf_io.specs.declared.ends.ReadEnd.TheVariants as reader
 use Rattle.amf_io.specs.declared.reason.Reason.{Reason}
 use Rattle.amf_io.specs.declared.reason.Reason.TheVariants.{Truncated, BadMarker, BadReference, BadTraits, BadTextIndex, BadText, WrongKind, UnknownExternal, TooDeep, TooLarge, Trailing, BadVersion, BadSignature, BadLength, BadPadding, NotBuilt}
+use Rattle.amf_graph.specs.declared.lack.Lack.{Lack}
+use Rattle.amf_graph.specs.declared.lack.LackKind.{LackKind}
+use Rattle.amf_graph.specs.declared.lack.LackKind.TheVariants as lacking
+use Rattle.amf_graph.specs.declared.write_end.WriteEnd.{WriteEnd}
+use Rattle.amf_graph.specs.declared.write_end.WriteEnd.TheVariants as writer
 use Rattle.amf_wire.specs.declared.name.NameEnd.{NameEnd}
 use Rattle.amf_wire.specs.declared.name.NameEnd.TheVariants as name
 use Rattle.amf_cli.specs.declared.run_end.RunEnd.{RunEnd}
-use Rattle.amf_cli.specs.declared.run_end.RunEnd.TheVariants.{Refused, Usage, ReadFault, WriteFault, NoMemory}
+use Rattle.amf_cli.specs.declared.run_end.RunEnd.TheVariants.{Refused, Usage, ReadFault, WriteFault, NoMemory, NoForm}
 
 -- the end of a reader is that of the run
 abbrev pub end_of : ReadEnd → RunEnd
 end_of (reader.Refused f) = Refused f
 end_of reader.ReadFault = ReadFault
 end_of reader.Memory = NoMemory
+
+-- and so is that of a writer
+abbrev pub end_of_writer : WriteEnd → RunEnd
+end_of_writer (writer.NoSpelling l) = NoForm l
+end_of_writer writer.Memory = NoMemory
 
 -- a word that is no text has no reading
 abbrev pub end_of_name : NameEnd → RunEnd
@@ -40,11 +50,25 @@ reason_name BadLength = codes "BadLength"
 reason_name BadPadding = codes "BadPadding"
 reason_name NotBuilt = codes "NotBuilt"
 
+-- and so is a kind of lack
+abbrev pub kind_name : LackKind → List ℕ
+kind_name lacking.EmptyName = codes "EmptyName"
+kind_name lacking.TooDeep = codes "TooDeep"
+kind_name lacking.NoForm = codes "NoForm"
+kind_name lacking.LongName = codes "LongName"
+kind_name lacking.Shared = codes "Shared"
+kind_name lacking.FarReference = codes "FarReference"
+kind_name lacking.LongFile = codes "LongFile"
+
 abbrev pub line_feed : List ℕ
 line_feed = 10 ∷ []
 
 abbrev pub refusal_line : Refusal → List ℕ
 refusal_line f = codes "amf: refused " ++ reason_name f.reason ++ codes " at " ++ decimal f.at ++ line_feed
+
+-- the one value of an input has the number 0
+abbrev pub no_form_line : Lack → List ℕ
+no_form_line l = codes "amf: no form " ++ kind_name l.kind ++ codes " node " ++ decimal l.node ++ codes " value 0\n"
 
 -- the line of each end
 unfoldable pub line_of : RunEnd → List ℕ
@@ -53,6 +77,7 @@ line_of Usage = codes "amf: usage\n"
 line_of ReadFault = codes "amf: read fault\n"
 line_of WriteFault = codes "amf: write fault\n"
 line_of NoMemory = codes "amf: no memory\n"
+line_of (NoForm l) = no_form_line l
 
 abbrev pub status_of : RunEnd → ℕ
 status_of (Refused f) = 1
@@ -60,3 +85,4 @@ status_of Usage = 2
 status_of ReadFault = 3
 status_of WriteFault = 4
 status_of NoMemory = 5
+status_of (NoForm l) = 7

@@ -1,12 +1,13 @@
-//! The program `amf`: writes the canonical spelling of AMF 3 values.
+//! The program `amf`: reads any AMF 3 value, and writes its canonical spelling.
 #![tactic(auto)]
 
+#[cfg(test)]
+mod large_tests;
 mod report;
 mod run;
 mod run_end;
 #[cfg(test)]
 mod tests;
-mod value_writer;
 mod words;
 mod writing;
 

@@ -1,9 +1,10 @@
 ghost use Rattle.std.specs.Prelude.{◌≡◌, ◌++◌, OnOk};
 ghost use Rattle.amf_io.specs.Outside.{HasCause};
-ghost use Rattle.amf_cli.specs.Lines.{line_of, refusal_line, reason_name};
+ghost use Rattle.amf_cli.specs.Lines.{line_of, refusal_line, reason_name, no_form_line, kind_name};
 
 use crate::run_end::RunEnd;
 use crate::writing::write_all;
+use amf_graph::{Lack, LackKind};
 use amf_io::{Failed, Reason, Refusal, Sink};
 use itoa::Buffer;
 
@@ -20,6 +21,7 @@ pub fn report<E: Sink>(end: RunEnd, err: &mut E) -> Result<(), Failed>
         RunEnd::ReadFault => write_all(err, b"amf: read fault\n"),
         RunEnd::WriteFault => write_all(err, b"amf: write fault\n"),
         RunEnd::NoMemory => write_all(err, b"amf: no memory\n"),
+        RunEnd::NoForm(lack) => report_lack(lack, err),
     }
 }
 
@@ -35,6 +37,35 @@ fn report_refusal<E: Sink>(refusal: Refusal, err: &mut E) -> Result<(), Failed>
     write_all(err, b" at ")?;
     write_all(err, digits.format(refusal.at).as_bytes())?;
     write_all(err, b"\n")
+}
+
+/// Writes the error line of a graph that has no canonical spelling. The one value of an input has the number 0.
+fn report_lack<E: Sink>(lack: Lack, err: &mut E) -> Result<(), Failed>
+    ensures tells { E.tells err.new → E.tells err.old }
+    ensures line { E.tells err.new → OnOk result (E.held err.new ≡ E.held err.old ++ no_form_line lack) }
+    ensures cause { HasCause (E.faults err.old) (E.faults err.new) result }
+{
+    let mut digits = Buffer::new();
+    write_all(err, b"amf: no form ")?;
+    write_all(err, kind_of(lack.kind))?;
+    write_all(err, b" node ")?;
+    write_all(err, digits.format(lack.node).as_bytes())?;
+    write_all(err, b" value 0\n")
+}
+
+/// The name of a kind of lack, as the error line has it.
+fn kind_of(kind: LackKind) -> &'static [u8]
+    ensures { result.now ≡ kind_name kind }
+{
+    match kind {
+        LackKind::EmptyName => b"EmptyName",
+        LackKind::TooDeep => b"TooDeep",
+        LackKind::NoForm => b"NoForm",
+        LackKind::LongName => b"LongName",
+        LackKind::Shared => b"Shared",
+        LackKind::FarReference => b"FarReference",
+        LackKind::LongFile => b"LongFile",
+    }
 }
 
 /// The name of a reason, as the error line has it.

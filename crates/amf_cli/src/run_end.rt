@@ -1,6 +1,7 @@
 ghost use Rattle.std.specs.Prelude.{◌≡◌};
 ghost use Rattle.amf_cli.specs.declared.run_end.RunEnd.TheVariants.{NoMemory};
 
+use amf_graph::{Lack, WriteEnd};
 use amf_io::{ReadEnd, Refusal};
 use amf_wire::{Memory, NameEnd};
 use std::alloc::{AllocError, AllocFailed};
@@ -18,6 +19,8 @@ pub enum RunEnd {
     WriteFault,
     /// There was no memory left: status 5.
     NoMemory,
+    /// The graph that the input spells has no canonical spelling within the levels: status 7.
+    NoForm(Lack),
 }
 
 impl RunEnd {
@@ -33,6 +36,7 @@ impl RunEnd {
             RunEnd::ReadFault => 3,
             RunEnd::WriteFault => 4,
             RunEnd::NoMemory => 5,
+            RunEnd::NoForm(_) => 7,
         }
     }
 }
@@ -71,6 +75,19 @@ impl From<ReadEnd> for RunEnd {
             ReadEnd::Refused(refusal) => RunEnd::Refused(refusal),
             ReadEnd::ReadFault => RunEnd::ReadFault,
             ReadEnd::Memory => RunEnd::NoMemory,
+        }
+    }
+}
+
+impl From<WriteEnd> for RunEnd {
+    ghost use Rattle.amf_cli.specs.Lines.{end_of_writer};
+
+    ghost from_gives = { λ end e. e ≡ end_of_writer end };
+
+    fn from(end: WriteEnd) -> RunEnd {
+        match end {
+            WriteEnd::NoSpelling(lack) => RunEnd::NoForm(lack),
+            WriteEnd::Memory => RunEnd::NoMemory,
         }
     }
 }

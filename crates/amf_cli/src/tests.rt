@@ -7,14 +7,14 @@ use std::test::Fail;
 
 /// An input of `canon`, with the status, the output and the error line.
 #[derive(Drop)]
-struct Case {
-    input: &'static [u8],
-    status: u8,
-    output: &'static [u8],
-    line: &'static [u8],
+pub(crate) struct Case {
+    pub input: &'static [u8],
+    pub status: u8,
+    pub output: &'static [u8],
+    pub line: &'static [u8],
 }
 
-/// An input that is its own canonical spelling, or another spelling of what `output` spells.
+/// An input of which `output` is the canonical spelling.
 fn accepted(input: &'static [u8], output: &'static [u8]) -> Case {
     Case {
         input,
@@ -24,7 +24,12 @@ fn accepted(input: &'static [u8], output: &'static [u8]) -> Case {
     }
 }
 
-fn refused(input: &'static [u8], line: &'static [u8]) -> Case {
+/// An input that is its own canonical spelling.
+fn itself(input: &'static [u8]) -> Case {
+    accepted(input, input)
+}
+
+pub(crate) fn refused(input: &'static [u8], line: &'static [u8]) -> Case {
     Case {
         input,
         status: 1,
@@ -35,15 +40,15 @@ fn refused(input: &'static [u8], line: &'static [u8]) -> Case {
 
 /// What a run over streams in memory gave.
 #[derive(Drop)]
-struct Ran {
-    status: u8,
-    output: MemorySink,
-    line: MemorySink,
+pub(crate) struct Ran {
+    pub status: u8,
+    pub output: MemorySink,
+    pub line: MemorySink,
 }
 
 /// Runs over bytes that come in pieces of at most `most`, none across `cut`, where these reads and
 /// writes fail.
-fn run_over(
+pub(crate) fn run_over(
     rt: &impl Abort,
     alloc: Global,
     words: &[&str],
@@ -80,64 +85,125 @@ fn pieces_of(alloc: Global, len: usize) -> Result<Vec<(usize, usize)>, AllocErro
     Ok(pieces)
 }
 
-/// The worked inputs, all at once, a byte at a time, and split at each place.
-#[test]
-fn canonical_spellings(rt: HostRuntime) {
-    let cases = [
-        accepted(&[0x00], &[0x00]),
-        accepted(&[0x01], &[0x01]),
-        accepted(&[0x02], &[0x02]),
-        accepted(&[0x03], &[0x03]),
-        accepted(&[0x04, 0x80, 0x05], &[0x04, 0x05]),
-        accepted(
-            &[0x04, 0xC0, 0x80, 0x80, 0x00],
-            &[0x04, 0xC0, 0x80, 0x80, 0x00],
-        ),
-        accepted(
-            &[0x04, 0xBF, 0xFF, 0xFF, 0xFF],
-            &[0x04, 0xBF, 0xFF, 0xFF, 0xFF],
-        ),
-        accepted(
-            &[0x04, 0xFF, 0xFF, 0xFF, 0xFF],
-            &[0x04, 0xFF, 0xFF, 0xFF, 0xFF],
-        ),
-        accepted(
-            &[0x05, 0x40, 0x14, 0, 0, 0, 0, 0, 0],
-            &[0x05, 0x40, 0x14, 0, 0, 0, 0, 0, 0],
-        ),
-        refused(&[], b"amf: refused Truncated at 0\n"),
-        refused(&[0x12], b"amf: refused BadMarker at 0\n"),
-        refused(&[0x01, 0x01], b"amf: refused Trailing at 1\n"),
-        refused(&[0x09, 0x01, 0x01], b"amf: refused NotBuilt at 0\n"),
-        refused(&[0x04, 0x80, 0x80, 0x80], b"amf: refused Truncated at 1\n"),
-    ];
-    for case in &cases {
-        let input = case.input;
-        for (most, cut) in pieces_of(rt.alloc(), input.len()).expect(&rt, "pieces") {
-            let ran = run_over(&rt, rt.alloc(), &["canon"], input, (most, cut), &[], &[]);
-            assert_eq!(rt; ran.status, case.status, "at {input:?} by {most}, {cut}");
-            assert_eq!(rt;
-                ran.output.as_bytes(),
-                case.output,
-                "at {input:?} by {most}, {cut}"
-            );
-            assert_eq!(rt;
-                ran.line.as_bytes(),
-                case.line,
-                "at {input:?} by {most}, {cut}"
-            );
+/// Runs over bytes in these pieces, and looks at the status, the output and the error line.
+pub(crate) fn check(
+    rt: &impl Abort,
+    alloc: Global,
+    bytes: &[u8],
+    pieces: (usize, usize),
+    want: &Case,
+) {
+    let ran = run_over(rt, alloc, &["canon"], bytes, pieces, &[], &[]);
+    let input = want.input;
+    assert_eq!(rt; ran.status, want.status, "at {input:?} by {pieces:?}");
+    assert_eq!(rt;
+        ran.output.as_bytes(),
+        want.output,
+        "at {input:?} by {pieces:?}"
+    );
+    assert_eq!(rt;
+        ran.line.as_bytes(),
+        want.line,
+        "at {input:?} by {pieces:?}"
+    );
+}
+
+/// Runs over each row all at once, a byte at a time, and split at each place.
+fn check_rows(rt: &impl Abort, alloc: Global, cases: &[Case]) {
+    for case in cases {
+        for pieces in pieces_of(alloc, case.input.len()).expect(rt, "pieces") {
+            check(rt, alloc, case.input, pieces, case);
         }
     }
-    for pieces in pieces_of(rt.alloc(), 1).expect(&rt, "pieces") {
-        let reads = run_over(&rt, rt.alloc(), &["canon"], &[0x01], pieces, &[0], &[]);
-        assert_eq!(rt; reads.status, 3);
-        assert_eq!(rt; reads.line.as_bytes(), b"amf: read fault\n".as_slice());
-        assert_eq!(rt; reads.output.as_bytes(), b"".as_slice());
-        let writes = run_over(&rt, rt.alloc(), &["canon"], &[0x01], pieces, &[], &[0]);
-        assert_eq!(rt; writes.status, 4);
-        assert_eq!(rt; writes.line.as_bytes(), b"amf: write fault\n".as_slice());
-        assert_eq!(rt; writes.output.as_bytes(), b"".as_slice());
-    }
+}
+
+#[test]
+fn values_without_nodes(rt: HostRuntime) {
+    let cases = [
+        itself(b"\x00"),
+        itself(b"\x01"),
+        itself(b"\x02"),
+        itself(b"\x03"),
+        accepted(b"\x04\x80\x05", b"\x04\x05"),
+        itself(b"\x04\xC0\x80\x80\x00"),
+        itself(b"\x04\xBF\xFF\xFF\xFF"),
+        itself(b"\x04\xFF\xFF\xFF\xFF"),
+        itself(b"\x05\x40\x14\x00\x00\x00\x00\x00\x00"),
+        itself(b"\x06\x01"),
+        accepted(b"\x06\x80\x01", b"\x06\x01"),
+        itself(b"\x06\x05\xC0\x80"),
+        refused(b"", b"amf: refused Truncated at 0\n"),
+        refused(b"\x12", b"amf: refused BadMarker at 0\n"),
+        refused(b"\x01\x01", b"amf: refused Trailing at 1\n"),
+        refused(b"\x04\x80\x80\x80", b"amf: refused Truncated at 1\n"),
+        refused(b"\x06\x02", b"amf: refused BadTextIndex at 1\n"),
+        refused(b"\x06\x07\x66", b"amf: refused Truncated at 2\n"),
+        refused(b"\x06\x03\xFF", b"amf: refused BadText at 2\n"),
+    ];
+    check_rows(&rt, rt.alloc(), &cases);
+}
+
+#[test]
+fn arrays_and_other_nodes(rt: HostRuntime) {
+    let cases = [
+        itself(b"\x09\x01\x01"),
+        itself(b"\x09\x03\x01\x09\x00"),
+        itself(b"\x09\x05\x01\x09\x01\x01\x09\x02"),
+        accepted(
+            b"\x09\x05\x01\x06\x07foo\x06\x07foo",
+            b"\x09\x05\x01\x06\x07foo\x06\x00",
+        ),
+        accepted(
+            b"\x09\x01\x03b\x04\x01\x03a\x04\x02\x01",
+            b"\x09\x01\x03a\x04\x02\x03b\x04\x01\x01",
+        ),
+        accepted(
+            b"\x09\x01\x03a\x01\x03a\x02\x01",
+            b"\x09\x01\x03a\x01\x00\x02\x01",
+        ),
+        accepted(
+            b"\x08\x03\x00\x00\x00\x00\x00\x00\x00\x00",
+            b"\x08\x01\x00\x00\x00\x00\x00\x00\x00\x00",
+        ),
+        accepted(
+            b"\x0D\x05\x02\x00\x00\x00\x01\xFF\xFF\xFF\xFF",
+            b"\x0D\x05\x01\x00\x00\x00\x01\xFF\xFF\xFF\xFF",
+        ),
+        itself(b"\x10\x01\x00\x01"),
+        itself(b"\x11\x03\x00\x04\x01\x06\x03a"),
+        refused(b"\x09\x00", b"amf: refused BadReference at 1\n"),
+        refused(b"\x09\x03\x01\x09\x02", b"amf: refused BadReference at 4\n"),
+        refused(b"\x09\x03\x01\x0A\x00", b"amf: refused WrongKind at 4\n"),
+    ];
+    check_rows(&rt, rt.alloc(), &cases);
+}
+
+#[test]
+fn objects(rt: HostRuntime) {
+    let cases = [
+        accepted(
+            b"\x0A\x0B\x01\x03b\x04\x01\x03a\x04\x02\x01",
+            b"\x0A\x0B\x01\x03a\x04\x02\x03b\x04\x01\x01",
+        ),
+        accepted(
+            b"\x0A\x0B\x01\x03b\x09\x01\x01\x03a\x09\x02\x01",
+            b"\x0A\x0B\x01\x03a\x09\x01\x01\x03b\x09\x02\x01",
+        ),
+        itself(b"\x0A\x03\x03C"),
+        itself(b"\x09\x05\x01\x0A\x13\x03C\x03a\x04\x01\x0A\x01\x04\x02"),
+        itself(b"\x0A\x07\x43flex.messaging.io.ArrayCollection\x09\x01\x01"),
+        accepted(
+            b"\x0A\x0F\x43flex.messaging.io.ArrayCollection\x09\x01\x01",
+            b"\x0A\x07\x43flex.messaging.io.ArrayCollection\x09\x01\x01",
+        ),
+        refused(b"\x0A\x01", b"amf: refused BadTraits at 1\n"),
+        refused(b"\x0A\x07\x07foo", b"amf: refused UnknownExternal at 2\n"),
+        refused(
+            b"\x0A\x07\x37aaaaaaaaaaaaaaaaaaaaaaaaaaa",
+            b"amf: refused UnknownExternal at 3\n",
+        ),
+    ];
+    check_rows(&rt, rt.alloc(), &cases);
 }
 
 /// Words without a reading, and streams that fail.
@@ -149,8 +215,20 @@ fn other_statuses(rt: HostRuntime) {
         assert_eq!(rt; ran.line.as_bytes(), b"amf: usage\n".as_slice());
         assert_eq!(rt; ran.output.as_bytes(), b"".as_slice());
     }
+    for pieces in pieces_of(rt.alloc(), 1).expect(&rt, "pieces") {
+        let reads = run_over(&rt, rt.alloc(), &["canon"], &[0x01], pieces, &[0], &[]);
+        assert_eq!(rt; reads.status, 3);
+        assert_eq!(rt; reads.line.as_bytes(), b"amf: read fault\n".as_slice());
+        assert_eq!(rt; reads.output.as_bytes(), b"".as_slice());
+        let writes = run_over(&rt, rt.alloc(), &["canon"], &[0x01], pieces, &[], &[0]);
+        assert_eq!(rt; writes.status, 4);
+        assert_eq!(rt; writes.line.as_bytes(), b"amf: write fault\n".as_slice());
+        assert_eq!(rt; writes.output.as_bytes(), b"".as_slice());
+    }
     let behind = run_over(&rt, rt.alloc(), &["canon"], &[0x01], (100, 0), &[1], &[]);
     assert_eq!(rt; behind.status, 3);
+    let inside = run_over(&rt, rt.alloc(), &["canon"], &[0x09], (100, 0), &[1], &[]);
+    assert_eq!(rt; inside.status, 3);
     let settled = run_over(&rt, rt.alloc(), &["canon"], &[0x12], (100, 0), &[1], &[]);
     assert_eq!(rt; settled.status, 1);
     let front = run_over(

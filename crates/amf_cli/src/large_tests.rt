@@ -1,0 +1,117 @@
+use crate::run::LIMIT;
+use crate::tests::{Case, check, refused, run_over};
+use amf_graph::{BuildEnd, Builder};
+use amf_wire::is_amf_text;
+use std::alloc::{AllocError, Global};
+use std::test::Fail;
+
+/// So many arrays within one another, and what the innermost holds.
+fn nested(alloc: Global, levels: usize, inside: &[u8]) -> Result<Vec<u8>, AllocError> {
+    let mut bytes = Vec::new(alloc);
+    for _ in 0..levels {
+        bytes.extend_from_slice(b"\x09\x03\x01")?;
+    }
+    bytes.extend_from_slice(inside)?;
+    Ok(bytes)
+}
+
+#[test]
+fn nodes_within_nodes(rt: HostRuntime) -> Result<(), Fail> {
+    let alloc = rt.alloc();
+    for pieces in [(10_000, 0), (1, 0), (10_000, 1536)] {
+        for inside in [b"\x01".as_slice(), b"\x09\x00"] {
+            let input = nested(alloc, 512, inside)?;
+            let ran = run_over(&rt, alloc, &["canon"], &input, pieces, &[], &[]);
+            assert_eq!(rt; ran.status, 0);
+            assert_eq!(rt; ran.output.as_bytes(), input.as_slice());
+        }
+        let deep = refused(b"", b"amf: refused TooDeep at 1537\n");
+        check(&rt, alloc, &nested(alloc, 513, b"\x01")?, pieces, &deep);
+        let other = refused(b"", b"amf: refused TooDeep at 1536\n");
+        check(
+            &rt,
+            alloc,
+            &nested(alloc, 512, b"\x0C\x03\xFF")?,
+            pieces,
+            &other,
+        );
+    }
+    Ok(())
+}
+
+/// A dynamic object of 600 members that are arrays, of which each but the first holds the one before
+/// it: in the order of their names each stands within the one before it.
+fn chain(alloc: Global) -> Result<Vec<u8>, AllocError> {
+    let mut bytes = Vec::new(alloc);
+    bytes.extend_from_slice(b"\x0A\x0B\x01")?;
+    for member in 1..601_u32 {
+        let name = 600 - member;
+        let digits = [name / 100, name / 10 % 10, name % 10];
+        bytes.push(0x07)?;
+        for digit in digits {
+            bytes.push(b'0' + (digit % 10) as u8)?;
+        }
+        if member == 1 {
+            bytes.extend_from_slice(b"\x09\x01\x01")?;
+        } else {
+            let header = 2 * (member - 1);
+            bytes.extend_from_slice(b"\x09\x03\x01\x09")?;
+            bytes.push(0x80 + (header / 128 % 128) as u8)?;
+            bytes.push((header % 128) as u8)?;
+        }
+    }
+    bytes.push(0x01)?;
+    Ok(bytes)
+}
+
+#[test]
+fn graphs_without_a_form(rt: HostRuntime) -> Result<(), Fail> {
+    let input = chain(rt.alloc())?;
+    let want = Case {
+        input: b"",
+        status: 7,
+        output: b"",
+        line: b"amf: no form TooDeep node 512 value 0\n",
+    };
+    for pieces in [(10_000, 0), (1, 0)] {
+        check(&rt, rt.alloc(), &input, pieces, &want);
+    }
+    Ok(())
+}
+
+/// Five bytes, and as many as an input may have.
+fn too_long(alloc: Global, front: [u8; 5], byte: u8) -> Result<Vec<u8>, AllocError> {
+    let mut bytes = Vec::new(alloc);
+    bytes.extend_from_slice(&front)?;
+    for _ in 0..LIMIT {
+        bytes.push(byte)?;
+    }
+    Ok(bytes)
+}
+
+#[test]
+fn inputs_past_the_limit(rt: HostRuntime) -> Result<(), Fail> {
+    let want = refused(b"", b"amf: refused TooLarge at 5\n");
+    for (front, byte) in [
+        ([0x0C, 0x88, 0x80, 0x80, 0x01], 0x00),
+        ([0x06, 0x88, 0x80, 0x80, 0x01], b'a'),
+    ] {
+        let input = too_long(rt.alloc(), front, byte)?;
+        check(&rt, rt.alloc(), &input, (1 << 25, 0), &want);
+    }
+    Ok(())
+}
+
+/// A text of one byte more than a builder keeps.
+#[test]
+fn a_text_past_the_most(rt: HostRuntime) -> Result<(), Fail> {
+    let alloc = rt.alloc();
+    let mut bytes = Vec::new(alloc);
+    for _ in 0..268_435_456_u32 {
+        bytes.push(b'a')?;
+    }
+    let mut builder = Builder::new(alloc)?;
+    assert!(rt; is_amf_text(&bytes));
+    assert_eq!(rt; builder.text(&bytes), Err(BuildEnd::Full));
+    Ok(())
+}
