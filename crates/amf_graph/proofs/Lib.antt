@@ -18,3 +18,6 @@ pub mod Counting
 pub mod Walks
 pub mod Places
 pub mod Descents
+pub mod Copies
+pub mod PlaceOf
+pub mod Renumbering

@@ -73,7 +73,7 @@ module _ (g h : Graph) (P : ℕ → ℕ → Type 0)
       (zip_met P (is_array (node_at g i).head) (by_name (node_at g i).names) (by_name (node_at h j).names) (node_at g i).values (node_at h j).values n.names n.values)
 
   -- the one walk goes along the other
-  walk_along : {xs zs : List ℕ} {vs : List Value} → Walks g xs vs zs → (ys : List ℕ) (ws : List Value) → Along P xs ys → AllZip (ValuesMatch P) vs ws → (us : List ℕ) × Walks h ys ws us × Along P zs us
+  pub walk_along : {xs zs : List ℕ} {vs : List Value} → Walks g xs vs zs → (ys : List ℕ) (ws : List Value) → Along P xs ys → AllZip (ValuesMatch P) vs ws → (us : List ℕ) × Walks h ys ws us × Along P zs us
   walk_along over ys [] k m = (ys, over, k)
   walk_along over ys (w ∷ ws) k m = elim m [ ]
   walk_along (past x a) ys [] k m = elim m [ ]

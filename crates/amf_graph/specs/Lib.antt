@@ -13,7 +13,7 @@ pub mod Building
 pub mod Views
 pub mod Bodies
 pub mod Rooted
-pub mod Start
+pub mod Renumbered
 pub mod WorkedGraphs
 pub mod WorkedFits
 pub mod FinishedFacts

@@ -1,8 +1,11 @@
-ghost use Rattle.std.specs.Prelude.{◌≡◌, ◌+◌, ◌^◌, ◌<◌, [], ◌∷◌, ◌++◌, length, OnOk, OnErr};
+ghost use Rattle.std.specs.Prelude.{◌≡◌, ◌+◌, ◌^◌, ◌<◌, [], ◌∷◌, ◌++◌, length, IfOk, OnOk, OnErr};
+ghost use Rattle.std.specs.List.{AllByRecursion};
 ghost use Rattle.amf_graph.specs.Bounds.{parts_of, items_of};
 ghost use Rattle.amf_graph.specs.Building.{kind_of, leaf_head, shape_head};
 ghost use Rattle.amf_graph.specs.Bodies.{body_head, body_names, body_values, TakesItem, TakesName, TakesEntry};
+ghost use Rattle.amf_graph.specs.Renumbered.{renumbered_names, renumbered_values, number_in, HasNumber};
 
+use crate::renumber::{renumbered_entries, renumbered_option, renumbered_pairs, renumbered_values};
 use crate::{Leaf, NodeKind, Shape, TextId, TraitsId, Value, Wrapped};
 use amf_wire::{Memory, Pattern};
 use std::alloc::Global;
@@ -173,5 +176,50 @@ impl Body {
             _ => unreachable!(),
         }
         Ok(())
+    }
+
+    /// A copy, each node in it under its number.
+    pub(crate) fn renumbered(&self, alloc: Global, numbers: &[u32]) -> Result<Body, Memory>
+        requires names { AllByRecursion (λ p. HasNumber numbers.now p.1) (body_names self.now) }
+        requires values { AllByRecursion (HasNumber numbers.now) (body_values self.now) }
+        ensures head { IfOk result (λ body. body_head body ≡ body_head self.now) }
+        ensures names { IfOk result (λ body. body_names body ≡ renumbered_names (number_in numbers.now) (body_names self.now)) }
+        ensures values { IfOk result (λ body. body_values body ≡ renumbered_values (number_in numbers.now) (body_values self.now)) }
+    {
+        Ok(match self {
+            Body::XmlDocument(text) => Body::XmlDocument(*text),
+            Body::Xml(text) => Body::Xml(*text),
+            Body::Date(time) => Body::Date(*time),
+            Body::Bytes(bytes) => Body::Bytes(bytes.to_vec(alloc)?),
+            Body::Ints(fixed, items) => Body::Ints(*fixed, items.to_vec(alloc)?),
+            Body::Uints(fixed, items) => Body::Uints(*fixed, items.to_vec(alloc)?),
+            Body::Doubles(fixed, items) => Body::Doubles(*fixed, items.to_vec(alloc)?),
+            Body::Array { items, names } => Body::Array {
+                items: renumbered_values(alloc, items, numbers)?,
+                names: renumbered_pairs(alloc, names, numbers)?,
+            },
+            Body::Object {
+                traits,
+                sealed,
+                members,
+            } => Body::Object {
+                traits: *traits,
+                sealed: renumbered_values(alloc, sealed, numbers)?,
+                members: renumbered_pairs(alloc, members, numbers)?,
+            },
+            Body::Wrapper { class, value } => Body::Wrapper {
+                class: *class,
+                value: renumbered_option(*value, numbers),
+            },
+            Body::Values { fixed, of, items } => Body::Values {
+                fixed: *fixed,
+                of: *of,
+                items: renumbered_values(alloc, items, numbers)?,
+            },
+            Body::Dictionary { weak, entries } => Body::Dictionary {
+                weak: *weak,
+                entries: renumbered_entries(alloc, entries, numbers)?,
+            },
+        })
     }
 }

@@ -1,8 +1,10 @@
-ghost use Rattle.std.specs.Prelude.{◌≡◌};
+ghost use Rattle.std.specs.Prelude.{◌≡◌, IfOk};
 ghost use Rattle.amf_graph.specs.Building.{stored_traits};
 ghost use Rattle.amf_graph.specs.Views.{ShowsTraits};
 
 use crate::{TextId, TraitsView};
+use amf_wire::Memory;
+use std::alloc::Global;
 use std::marker::Model;
 
 /// Traits, as they are kept.
@@ -41,5 +43,13 @@ impl Class {
             dynamic: self.dynamic,
             sealed: self.sealed.as_slice(),
         }
+    }
+
+    /// The same traits once more.
+    pub(crate) fn copy(&self, alloc: Global) -> Result<Class, Memory>
+        ensures { IfOk result (λ class. class ≡ self.now) }
+    {
+        let sealed = self.sealed.to_vec(alloc)?;
+        Ok(Class::new(self.name, self.dynamic, sealed))
     }
 }

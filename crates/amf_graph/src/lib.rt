@@ -13,11 +13,10 @@ mod limits;
 mod node;
 mod part;
 mod ranges;
+mod renumber;
 mod rooted;
 mod shape;
 mod store;
-#[cfg(test)]
-mod tests;
 mod value;
 mod views;
 mod wrapped;

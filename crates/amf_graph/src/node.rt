@@ -1,6 +1,7 @@
-ghost use Rattle.std.specs.Prelude.{◌≡◌, ◌^◌, ◌<◌, [], position, OnOk, OnErr};
+ghost use Rattle.std.specs.Prelude.{◌≡◌, ◌^◌, ◌<◌, [], position, IfOk, OnOk, OnErr};
 ghost use Rattle.amf_graph.specs.Building.{kind_of, leaf_head, shape_head, begun, closed, more_part, shut, size_of};
 ghost use Rattle.amf_graph.specs.Bodies.{TakesPart, body_node};
+ghost use Rattle.amf_graph.specs.Renumbered.{renumbered_node, number_in, HaveNumbers};
 
 use crate::body::Body;
 use crate::{Leaf, NodeKind, Part, Shape};
@@ -85,6 +86,17 @@ impl Node {
         ensures { self.new ≡ shut self.old }
     {
         self.open = false;
+    }
+
+    /// A copy, each node in it under its number.
+    pub(crate) fn renumbered(&self, alloc: Global, numbers: &[u32]) -> Result<Node, Memory>
+        requires { HaveNumbers numbers.now self.now }
+        ensures { IfOk result (λ node. node ≡ renumbered_node (number_in numbers.now) self.now) }
+    {
+        Ok(Node {
+            open: self.open,
+            body: self.body.renumbered(alloc, numbers)?,
+        })
     }
 }
 

@@ -1,11 +1,15 @@
-ghost use Rattle.std.specs.Prelude.{◌≡◌, ◌<◌, length, get_or};
+ghost use Rattle.std.specs.Prelude.{◌≡◌, ◌<◌, length, get_or, IfOk};
 ghost use Rattle.amf_graph.specs.Arena.{IsFinished, Names, text_at, no_traits};
 ghost use Rattle.amf_graph.specs.Bounds.{IsWithinBounds};
 ghost use Rattle.amf_graph.specs.Building.{stored_at};
+ghost use Rattle.amf_graph.specs.Renumbered.{numbers_of, renumbered, IsPart};
 ghost use Rattle.amf_graph.specs.Views.{Shows, ShowsTraits};
 
+use crate::renumber::{places_by_node, renumbered};
 use crate::store::Store;
 use crate::{NodeId, NodeView, TextId, TraitsId, TraitsView, Value};
+use amf_wire::Memory;
+use std::alloc::Global;
 use std::marker::Model;
 
 /// A graph with its root. Every node of it is complete.
@@ -82,5 +86,17 @@ impl Rooted {
         ensures { ShowsTraits (get_or self.now.arena.traits traits.0 no_traits) result }
     {
         self.store.traits(traits)
+    }
+
+    /// The graph of these nodes alone, each under the number of its place in the list; texts and traits keep their places.
+    /// It gives up where there is no memory.
+    pub fn renumbered(&self, alloc: Global, order: &[NodeId]) -> Result<Rooted, Memory>
+        requires { IsPart self.now (numbers_of order.now) }
+        ensures { IfOk result (λ graph. graph ≡ renumbered (numbers_of order.now) self.now) }
+    {
+        let numbers = places_by_node(alloc, order, self.store.node_count())?;
+        let store = self.store.renumbered(alloc, order, &numbers)?;
+        let root = renumbered(self.root, &numbers);
+        Ok(Rooted::new(store, root))
     }
 }

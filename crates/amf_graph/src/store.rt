@@ -1,8 +1,9 @@
-ghost use Rattle.std.specs.Prelude.{◌≡◌, ◌<◌, ◌≤◌, ◌^◌, length, slice_get, get_or, false, OnOk, OnErr, IsErrOf, MatchOption, Some};
+ghost use Rattle.std.specs.Prelude.{◌≡◌, ◌<◌, ◌≤◌, ◌^◌, length, map, slice_get, get_or, false, IfOk, OnOk, OnErr, IsErrOf, MatchOption, Some};
 ghost use Rattle.std.specs.List.{AllByRecursion};
-ghost use Rattle.amf_graph.specs.Arena.{text_at, no_traits, IsNodeIn};
-ghost use Rattle.amf_graph.specs.Building.{no_arena, kept_text, kept_traits, kept_node, stored_traits, stored_at, changed, more_part, shut, kind_of, size_of, IsFirstOpen};
+ghost use Rattle.amf_graph.specs.Arena.{text_at, no_traits, IsNodeIn, IsBuilt};
+ghost use Rattle.amf_graph.specs.Building.{no_arena, no_stored, kept_text, kept_traits, kept_node, stored_traits, stored_at, changed, more_part, shut, kind_of, size_of, IsFirstOpen};
 ghost use Rattle.amf_graph.specs.Bodies.{TakesPart};
+ghost use Rattle.amf_graph.specs.Renumbered.{numbers_of, renumbered_node, renumbered_arena, number_in, HaveNumbers};
 ghost use Rattle.amf_graph.specs.Views.{Shows, ShowsTraits};
 
 use crate::body::Body;
@@ -184,4 +185,61 @@ impl Store {
             },
         }
     }
+
+    /// These nodes alone, in this order, each node in them under its number.
+    pub(crate) fn renumbered(
+        &self,
+        alloc: Global,
+        order: &[NodeId],
+        numbers: &[u32],
+    ) -> Result<Store, Memory>
+        requires built { IsBuilt self.now }
+        requires there { AllByRecursion (λ i. i < length self.now.nodes) (numbers_of order.now) }
+        requires numbers { length numbers.now ≡ length self.now.nodes }
+        ensures { IfOk result (λ store. store ≡ renumbered_arena (number_in numbers.now) (numbers_of order.now) self.now) }
+    {
+        Ok(Store {
+            texts: copied_texts(alloc, &self.texts)?,
+            traits: copied_traits(alloc, &self.traits)?,
+            nodes: renumbered_nodes(alloc, &self.nodes, order, numbers)?,
+        })
+    }
+}
+
+fn copied_texts(alloc: Global, texts: &[Name]) -> Result<Vec<Name>, Memory>
+    ensures { IfOk result (λ copies. copies.items ≡ texts.now) }
+{
+    let mut copies = Vec::new(alloc);
+    for text in texts {
+        copies.push(text.copy(alloc)?)?;
+    }
+    Ok(copies)
+}
+
+fn copied_traits(alloc: Global, traits: &[Class]) -> Result<Vec<Class>, Memory>
+    ensures { IfOk result (λ copies. copies.items ≡ traits.now) }
+{
+    let mut copies = Vec::new(alloc);
+    for class in traits {
+        copies.push(class.copy(alloc)?)?;
+    }
+    Ok(copies)
+}
+
+fn renumbered_nodes(
+    alloc: Global,
+    nodes: &[Node],
+    order: &[NodeId],
+    numbers: &[u32],
+) -> Result<Vec<Node>, Memory>
+    requires there { AllByRecursion (λ i. i < length nodes.now) (numbers_of order.now) }
+    requires numbers { AllByRecursion (HaveNumbers numbers.now) nodes.now }
+    ensures { IfOk result (λ copies. copies.items ≡ map (λ i. renumbered_node (number_in numbers.now) (get_or nodes.now i no_stored)) (numbers_of order.now)) }
+{
+    let mut copies = Vec::new(alloc);
+    for node in order {
+        let node = &nodes[node.0 as usize];
+        copies.push(node.renumbered(alloc, numbers)?)?;
+    }
+    Ok(copies)
 }

@@ -31,6 +31,4 @@ pub enum Reason {
     BadLength,
     /// A padding byte of a file is not 0.
     BadPadding,
-    /// The marker is of a kind that is not built yet.
-    NotBuilt,
 }

@@ -8,8 +8,6 @@ pub mod KindRows
 pub mod LackRows
 pub mod PlaceRows
 pub mod MoreRows
-pub mod PlainValues3
-mod PlainCanonical3s
 pub mod ByteSpelling
 pub mod Numbers3
 pub mod BytesOf

@@ -22,10 +22,6 @@ pub mod WorkedVerdicts3
 pub mod WorkedLacks3
 pub mod WorkedMoreRows3
 pub mod Agreement3
-pub mod PlainRefusals3
-pub mod Plain3
-pub mod PlainLayout3
-pub mod PlainLaws3
 pub mod LawsIsomorphic
 pub mod LawsOrder
 pub mod LawsCanonical3

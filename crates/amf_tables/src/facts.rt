@@ -1,5 +1,4 @@
 ghost use Rattle.amf_tables.specs.Agreement3.{Forgets, FieldsAgree};
-ghost use Rattle.amf_tables.specs.PlainLaws3.{CanonicalExists, CanonicalIsOne, CanonicalIsRead, SpellingTells};
 ghost use Rattle.amf_tables.specs.WorkedKinds3.{Kinds};
 ghost use Rattle.amf_tables.specs.WorkedLacks3.{Lacks};
 ghost use Rattle.amf_tables.specs.WorkedMoreRows3.{MoreRows3};
@@ -39,13 +38,4 @@ pub fn forgets()
 /// Each field of a spelling is whole, and none is refused.
 pub fn fields_agree()
     ensures { FieldsAgree }
-{}
-
-/// A value without text or nodes has one canonical spelling, which is one of those that are read,
-/// and no bytes spell two values: canonical bytes decide which value it is.
-pub fn canonical_bytes_decide()
-    ensures exists { CanonicalExists }
-    ensures read { CanonicalIsRead }
-    ensures one { CanonicalIsOne }
-    ensures tells { SpellingTells }
 {}

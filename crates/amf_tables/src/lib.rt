@@ -6,18 +6,13 @@ mod facts;
 mod laws;
 mod layout_laws;
 mod tables3;
-#[cfg(test)]
-mod tests;
 mod traits_entry;
 mod verdict_laws;
 mod writer_tables;
 mod written_entry;
 mod written_texts;
 
-pub use facts::{
-    canonical_bytes_decide, fields_agree, forgets, kind_rows, lack_rows, more_rows3, rows3,
-    verdict_rows,
-};
+pub use facts::{fields_agree, forgets, kind_rows, lack_rows, more_rows3, rows3, verdict_rows};
 pub use laws::{
     canonical_decides, canonical_exists, canonical_is_alone, isomorphic_have_same_canonical,
     isomorphic_is_equivalence, order_decides, same_bytes_are_isomorphic, sort_is_by_name,

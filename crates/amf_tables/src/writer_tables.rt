@@ -1,4 +1,4 @@
-ghost use Rattle.std.specs.Prelude.{◌≡◌, ◌<◌, ◌≤◌, ◌↔◌, length, IsOk, IfOk, IfNone, IfSome, OnOk, OnErr};
+ghost use Rattle.std.specs.Prelude.{◌≡◌, ◌<◌, ◌≤◌, ◌↔◌, length, map, IsOk, IfOk, IfNone, IfSome, OnOk, OnErr};
 ghost use Rattle.amf_graph.specs.Order.{Absent};
 ghost use Rattle.amf_tables.specs.FirstPlace.{IsFirstPlace};
 ghost use Rattle.amf_tables.specs.ShownTraits.{AreTraitsOf, shown_entry};
@@ -92,6 +92,13 @@ impl WriterTables {
         ensures within { result ≤ MAX_NODES }
     {
         self.nodes.len() as u32
+    }
+
+    /// The nodes that have been entered, in the order of their places.
+    pub fn nodes(&self) -> &[NodeId]
+        ensures { map (λ node. node.0) result.now ≡ self.now.nodes }
+    {
+        &self.nodes
     }
 
     /// The first place of a text: `None` exactly where it has none. It takes no memory.
