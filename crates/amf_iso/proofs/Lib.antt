@@ -1,0 +1,12 @@
+-- Lemmas.
+mod NamedPairs
+mod Entries
+mod MetValues
+mod Numbers
+mod Steps
+pub mod Remaining
+pub mod HeadFacts
+mod Orders
+mod OrderParts
+mod Reaching
+mod Relabelled

@@ -1,0 +1,64 @@
+-- Pairs with their names, and in the order of these.
+use Rattle.std.proofs.Common.{◌≡◌, ℕ, zero, suc, ◌+◌, ◌<◌, Bool, true, false, cond, List, [], ◌∷◌, ◌++◌, length, map, take, get_or, sym, refl, ap, ◌∙◌, subst, arith, add-one}
+use Rattle.std.specs.List.{AllByRecursion}
+use Rattle.std.specs.List.Sorted.{IsSortedBy, IsStableBy}
+use Rattle.std.specs.Cmp.{IsStrictWeakOrder}
+use Rattle.std.proofs.Math.Seq.{take-suc}
+use Rattle.std.proofs.lemmas.List.{map-append}
+use Rattle.std.proofs.lemmas.Cmp.{nat_list_cmp_total}
+use Rattle.std.proofs.lemmas.List.Sorted.{ranks_by}
+use Rattle.amf_graph.specs.declared.value.Value.{Value as Stored}
+use Rattle.amf_graph.specs.declared.value.TextId.{TextId}
+use Rattle.amf_wire.specs.Text.{IsText}
+use Rattle.amf_graph.specs.Arena.{Arena, Names, IsTextId, IsFinished, text_at, value_content}
+use Rattle.amf_graph.specs.Bounds.{IsWithinBounds}
+use Rattle.amf_graph.specs.ByName.{insert_stable, stable_sort, before, by_name}
+use Rattle.amf_graph.proofs.StableSort.{stable_sort_is, sort_all}
+use Rattle.amf_iso.proofs.MetValues.{each_there}
+use Rattle.amf_iso.specs.Contents.{pairs_of, ArePairs, pair_content, named_pairs, AreNamedPairs}
+use denote.Ref.{Bor}
+
+pub all_push : {X : Type 0} (P : X → Type 0) (xs : List X) (x : X) → AllByRecursion P xs → P x → AllByRecursion P (xs ++ x ∷ [])
+all_push P [] x h p = (p, tt)
+all_push P (y ∷ xs) x h p = (h.0, all_push P xs x h.1 p)
+
+pub pair_there : (a : Arena) (ps : List (TextId × Stored)) (i : ℕ) (d : TextId × Stored) → ArePairs a ps → i < length ps → IsTextId a (get_or ps i d).0.0 × Names a (get_or ps i d).1
+pair_there a [] i d h l = absurd (omega arith)
+pair_there a (p ∷ ps) zero d h l = h.0
+pair_there a (p ∷ ps) (suc i) d h l = pair_there a ps i d h.1 (omega arith)
+
+pub text_there : (a : Arena) (i : ℕ) → IsFinished a → i < length a.texts → IsText (text_at a i)
+text_there a i f l = each_there IsText a.texts i [] f.built.texts l
+
+pub text_short : (a : Arena) (i : ℕ) → IsWithinBounds a → i < length a.texts → length (text_at a i) < 268435456
+text_short a i f l = each_there (λ x. length x < 268435456) a.texts i [] f.texts l
+
+pub pairs_more : (a : Arena) (ps : List (TextId × Stored)) (i : ℕ) (d : TextId × Stored) → i < length ps → pairs_of a (take (i + 1) ps) ≡ pairs_of a (take i ps) ++ (text_at a (get_or ps i d).0.0, value_content a (get_or ps i d).1) ∷ []
+pairs_more a ps i d l = rw (add-one, take-suc ps i d l, map-append, map-append) refl
+
+-- sorting before or after a map by whose values is compared
+module _ {X Y : Type 0} (f : X → Y) (less : Y → Y → Bool) where
+  insert_map : (p : X) (qs : List X) → map f (insert_stable (λ x y. less (f x) (f y)) p qs) ≡ insert_stable less (f p) (map f qs)
+  insert_map p [] = refl
+  insert_map p (q ∷ qs) = go (less (f q) (f p)) (insert_map p qs)
+    where
+      go : (t : Bool) → map f (insert_stable (λ x y. less (f x) (f y)) p qs) ≡ insert_stable less (f p) (map f qs) → map f (cond t (q ∷ insert_stable (λ x y. less (f x) (f y)) p qs) (p ∷ q ∷ qs)) ≡ cond t (f q ∷ insert_stable less (f p) (map f qs)) (f p ∷ f q ∷ map f qs)
+      go true e = ap (λ w. f q ∷ w) e
+      go false e = refl
+
+  sort_map : (xs : List X) → map f (stable_sort (λ x y. less (f x) (f y)) xs) ≡ stable_sort less (map f xs)
+  sort_map [] = refl
+  sort_map (x ∷ xs) = insert_map x (stable_sort (λ x y. less (f x) (f y)) xs) ∙ ap (λ w. insert_stable less (f x) w) (sort_map xs)
+
+module _ (a : Arena) where
+  abbrev pub precedes : Bor (List ℕ) × Stored → Bor (List ℕ) × Stored → Bool
+  precedes p q = before (pair_content a p) (pair_content a q)
+
+  pub ranks : IsStrictWeakOrder precedes
+  ranks = ranks_by nat_list_cmp_total (λ (p : Bor (List ℕ) × Stored). p.0.now)
+
+  pub sorted_content : (xs ys : List (Bor (List ℕ) × Stored)) → IsSortedBy precedes ys → IsStableBy precedes xs ys → named_pairs a ys ≡ by_name (named_pairs a xs)
+  sorted_content xs ys s t = ap (named_pairs a) (stable_sort_is precedes ranks xs ys s t) ∙ sort_map (pair_content a) before xs
+
+  pub sorted_named : (xs ys : List (Bor (List ℕ) × Stored)) → IsSortedBy precedes ys → IsStableBy precedes xs ys → AreNamedPairs a xs → AreNamedPairs a ys
+  sorted_named xs ys s t h = subst (λ w. AreNamedPairs a w) (sym (stable_sort_is precedes ranks xs ys s t)) (sort_all precedes _ xs h)

@@ -1,0 +1,105 @@
+ghost use Rattle.std.specs.Prelude.{◌≡◌, ◌<◌, ◌↔◌, length, IsTrue};
+ghost use Rattle.amf_graph.specs.Arena.{traits_at};
+ghost use Rattle.amf_graph.specs.Graph.{node_at};
+ghost use Rattle.amf_graph.specs.Rooted.{content};
+ghost use Rattle.amf_iso.specs.Matches.{AreTexts, texts_of};
+
+use amf_graph::{NodeId, NodeView, Rooted, TextId, TraitsId};
+
+/// Whether texts are the same, place by place.
+#[tactic(auto, using(crate::proofs::Remaining::compared))]
+fn texts_match(xs: &[TextId], ys: &[TextId], left: &Rooted, right: &Rooted) -> bool
+    requires left { AreTexts left.now.arena xs.now }
+    requires right { AreTexts right.now.arena ys.now }
+    ensures { IsTrue result ↔ texts_of left.now.arena xs.now ≡ texts_of right.now.arena ys.now }
+{
+    if xs.len() != ys.len() {
+        return false;
+    }
+    for (x, y) in xs.iter().zip(ys) {
+        if left.text(*x) != right.text(*y) {
+            return false;
+        }
+    }
+    true
+}
+
+/// Whether traits are the same by content: class, flag and sealed names.
+fn traits_match(t: TraitsId, u: TraitsId, left: &Rooted, right: &Rooted) -> bool
+    requires left { t.0 < length left.now.arena.traits }
+    requires right { u.0 < length right.now.arena.traits }
+    ensures { IsTrue result ↔ traits_at left.now.arena t.0 ≡ traits_at right.now.arena u.0 }
+{
+    left.is_finished();
+    right.is_finished();
+    let t = left.traits(t);
+    let u = right.traits(u);
+    left.text(t.class) == right.text(u.class)
+        && t.dynamic == u.dynamic
+        && texts_match(t.sealed, u.sealed, left, right)
+}
+
+/// Whether what two nodes have beside their values is the same by content: kind, flags, traits, class, type name and contents.
+pub(crate) fn heads_match(i: NodeId, j: NodeId, left: &Rooted, right: &Rooted) -> bool
+    requires left { i.0 < length left.now.arena.nodes }
+    requires right { j.0 < length right.now.arena.nodes }
+    ensures { IsTrue result ↔ (node_at (content left.now) i.0).head ≡ (node_at (content right.now) j.0).head }
+{
+    left.is_finished();
+    right.is_finished();
+    match (left.node(i), right.node(j)) {
+        (NodeView::XmlDocument(x), NodeView::XmlDocument(y)) => x == y,
+        (NodeView::Xml(x), NodeView::Xml(y)) => x == y,
+        (NodeView::Date(p), NodeView::Date(q)) => p == q,
+        (NodeView::Bytes(x), NodeView::Bytes(y)) => x == y,
+        (
+            NodeView::Ints {
+                fixed: x,
+                items: ns,
+            },
+            NodeView::Ints {
+                fixed: y,
+                items: ms,
+            },
+        ) => x == y && ns == ms,
+        (
+            NodeView::Uints {
+                fixed: x,
+                items: ns,
+            },
+            NodeView::Uints {
+                fixed: y,
+                items: ms,
+            },
+        ) => x == y && ns == ms,
+        (
+            NodeView::Doubles {
+                fixed: x,
+                items: ns,
+            },
+            NodeView::Doubles {
+                fixed: y,
+                items: ms,
+            },
+        ) => x == y && ns == ms,
+        (NodeView::Array { .. }, NodeView::Array { .. }) => true,
+        (NodeView::Object { traits: t, .. }, NodeView::Object { traits: u, .. }) => {
+            traits_match(t, u, left, right)
+        }
+        (NodeView::Wrapper { class: c, .. }, NodeView::Wrapper { class: d, .. }) => c == d,
+        (
+            NodeView::Values {
+                fixed: x,
+                of: t,
+                ..
+            },
+            NodeView::Values {
+                fixed: y,
+                of: u,
+                ..
+            },
+        ) => x == y && left.text(t) == right.text(u),
+        (NodeView::Dictionary { weak: x, .. }, NodeView::Dictionary { weak: y, .. }) => x == y,
+        _ => false,
+    }
+}

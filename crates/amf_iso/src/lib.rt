@@ -1,0 +1,26 @@
+//! Numbers the nodes of graphs in canonical order, places them in it, and tells which graphs are the same but for the
+//! numbers of their nodes, texts and traits, the order of pairs of different names, and nodes that the root does not
+//! lead to.
+#![tactic(auto)]
+
+mod compare;
+#[cfg(test)]
+mod graph_tests;
+mod heads;
+mod matches;
+mod met;
+mod numbered;
+mod numbering;
+mod pairs;
+mod parts;
+mod relabelling;
+#[cfg(test)]
+mod tables_tests;
+#[cfg(test)]
+mod tests;
+
+pub use compare::isomorphic;
+pub use met::values_met;
+pub use numbering::Numbering;
+pub use pairs::by_name;
+pub use relabelling::relabel;

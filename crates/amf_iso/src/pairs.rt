@@ -1,0 +1,40 @@
+ghost use Rattle.std.specs.Prelude.{◌≡◌, IfOk};
+ghost use Rattle.amf_graph.specs.ByName.{by_name};
+ghost use Rattle.amf_iso.specs.Contents.{pairs_of, ArePairs, named_pairs, AreNamedPairs};
+
+use amf_graph::{Rooted, TextId, Value};
+use amf_wire::Memory;
+use std::alloc::Global;
+
+/// Pairs with their names.
+fn with_names<'g>(
+    alloc: Global,
+    pairs: &[(TextId, Value)],
+    graph: &'g Rooted,
+) -> Result<Vec<(&'g [u8], Value)>, Memory>
+    requires { ArePairs graph.now.arena pairs.now }
+    ensures content { IfOk result (λ named. named_pairs graph.now.arena named.items ≡ pairs_of graph.now.arena pairs.now) }
+    ensures names { IfOk result (λ named. AreNamedPairs graph.now.arena named.items) }
+{
+    graph.is_finished();
+    let mut named = Vec::new(alloc);
+    for (name, value) in pairs {
+        named.push((graph.text(*name), *value))?;
+    }
+    Ok(named)
+}
+
+/// Pairs in the order of their names' bytes; pairs of one name keep their order. It gives up where there is no memory.
+pub fn by_name<'g>(
+    alloc: Global,
+    pairs: &[(TextId, Value)],
+    graph: &'g Rooted,
+) -> Result<Vec<(&'g [u8], Value)>, Memory>
+    requires { ArePairs graph.now.arena pairs.now }
+    ensures content { IfOk result (λ named. named_pairs graph.now.arena named.items ≡ by_name (pairs_of graph.now.arena pairs.now)) }
+    ensures names { IfOk result (λ named. AreNamedPairs graph.now.arena named.items) }
+{
+    let mut named = with_names(alloc, pairs, graph)?;
+    named.sort_by(|p, q| p.0.cmp(q.0))?;
+    Ok(named)
+}
