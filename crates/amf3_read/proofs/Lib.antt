@@ -22,7 +22,12 @@ mod NodeBegins
 mod OpeningNodes
 mod VectorsRead
 mod OpeningReads
+mod LayoutVerdicts
+mod TextLayout
+mod TextAnswers
 mod ReadAnswers
 mod ValueReads
 mod NodeReads
 mod InlineReads
+pub mod Pairs
+pub mod PairLayouts

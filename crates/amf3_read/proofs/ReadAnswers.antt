@@ -1,19 +1,15 @@
 -- What the reader of a value answers, from what its layout gives.
 use Rattle.std.proofs.Common.{ℕ, suc, ◌+◌, ◌-◌, ◌^◌, ◌≤◌, ◌<◌, List, length, Result, Ok, Err, OnOk, arith}
-use Rattle.std.proofs.lemmas.List.{length-take}
 use Rattle.amf_io.specs.declared.ends.ReadEnd.{ReadEnd}
-use Rattle.amf_io.specs.declared.ends.ReadEnd.TheVariants.{Refused, ReadFault, Memory}
 use Rattle.amf_io.specs.Layout.{IsLayout}
 use Rattle.amf_io.specs.LayoutAnswer.{AnswersBy}
-use Rattle.amf_io.proofs.LayoutAnswers.{refused_verdict, waits_verdict}
 use Rattle.amf_graph.specs.declared.value.Value.{Value}
 use Rattle.amf_graph.specs.Arena.{Arena, IsBuilt}
 use Rattle.amf_tables.specs.KeptTables.{KeptTables, AreTablesIn}
-use Rattle.amf_tables.specs.Reads3.{IsReading3}
+use Rattle.amf_tables.specs.Reads3.{IsRead3, IsReading3}
 use Rattle.amf_tables.specs.Layout3State.{state_of}
 use Rattle.amf_tables.specs.Layout3.{read, value_layout}
 use Rattle.amf_tables.proofs.Layout3Reads.{reads}
-use Rattle.amf_tables.proofs.Layout3Filled.{reading}
 use Rattle.amf_tables.proofs.Layout3Format.{is_layout}
 use Rattle.amf_tables.proofs.Reader3Costs.{value_costs}
 use Rattle.amf_tables.proofs.FewDistinct.{few_distinct}
@@ -23,6 +19,7 @@ use Rattle.amf_io.specs.Cursor.{place, bound}
 use Rattle.amf_io.specs.CursorReads.{Goes, Answers}
 use Rattle.amf3_read.specs.Ready.{Continues, left_of}
 use Rattle.amf3_read.specs.Answer.{AnswersAs, Raises}
+use Rattle.amf3_read.proofs.LayoutVerdicts.{answers_taken, answers_ended}
 
 module _ (levels : ℕ) (told : Type 0) (a b : Arena) (t u : KeptTables) (built : IsBuilt a) (v : AreTablesIn a t) where
   layouts : IsLayout (2 ^ 28 - length t.nodes) (λ n. value_layout n levels (state_of a t)) (IsReading3 levels a t)
@@ -36,24 +33,12 @@ module _ (levels : ℕ) (told : Type 0) (a b : Arena) (t u : KeptTables) (built 
   answers input rest at place limit (Ok x) le room h =
       let n = suc (limit - at) in
       let d = h n (omega arith) in
-      record {
-        fields = d.fields;
-        read = reads n levels a t d.fields (read x (state_of b u)) built v d.bytes d.runs;
-        accepted = reading n levels a t d.fields (read x (state_of b u)) built v d.bytes d.runs;
-        parts = d.parts;
-        taken = d.taken;
-        within = d.within;
-      }
-  answers input rest at place limit (Err (Refused f)) le room h = λ s.
+      answers_taken {X = Value} (2 ^ 28 - length t.nodes) (λ n. value_layout n levels (state_of a t)) (IsReading3 levels a t) layouts (λ x fs. IsRead3 levels a t fs b u x) told input rest at place limit n x (read x (state_of b u)) d
+      (reads n levels a t d.fields (read x (state_of b u)) built v d.bytes d.runs)
+  answers input rest at place limit (Err e) le room h =
       let n = suc (limit - at) in
       let few = few_nodes in
-      refused_verdict (2 ^ 28 - length t.nodes) (λ n. value_layout n levels (state_of a t)) (IsReading3 levels a t) layouts at limit le n input f (omega arith) (omega (arith, length-take (limit - at) input)) (h n (omega arith) s)
-  answers input rest at place limit (Err ReadFault) le room h = λ s.
-      let n = suc (limit - at) in
-      let few = few_nodes in
-      let w = h n (omega arith) s in
-      record { given = w.given; parts = w.parts; within = w.within; stop = w.stop; cut_off = waits_verdict (2 ^ 28 - length t.nodes) (λ n. value_layout n levels (state_of a t)) (IsReading3 levels a t) layouts at limit le n input rest w (omega arith) (let i = w.within in omega arith) }
-  answers input rest at place limit (Err Memory) le room h = tt
+      answers_ended {X = Value} (2 ^ 28 - length t.nodes) (λ n. value_layout n levels (state_of a t)) (IsReading3 levels a t) layouts (λ x fs. IsRead3 levels a t fs b u x) told input rest at place limit n le (omega arith) (omega arith) e (h n (omega arith))
 
 -- what it weighs, and how many there are
 pub raises : {S : Type 0} (levels : ℕ) (tells : S → Type 0) (left : S → List ℕ) (faults : S → ℕ) (a b : Arena) (t u : KeptTables) (c d : Cursor S Window) (result : Result Value ReadEnd) → place c ≤ bound c → Goes tells left faults c d result

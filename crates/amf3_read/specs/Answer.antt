@@ -1,4 +1,4 @@
--- What the reader of a value answers, told by the bytes that were before it and those that it left.
+-- What a reader of AMF 3 answers, told by the bytes that were before it and those that it left.
 use Rattle.std.specs.Prelude.{◌≡◌, ℕ, ◌+◌, ◌^◌, ◌<◌, ◌≤◌, List, ◌++◌, length, Result, Ok, Err}
 use Rattle.amf_io.specs.declared.window.Window.{Window}
 use Rattle.amf_io.specs.declared.cursor.Cursor.{Cursor}
@@ -19,11 +19,11 @@ pub record HasRoomFor (a : Arena) (bytes : ℕ) : Type 0 where
   pub traits : length a.traits + bytes < 2 ^ 27
   pub nodes : length a.nodes + bytes < 2 ^ 27
 
--- the fields that were taken spell the value in every finished graph that completes the arena; they are accepted, and are the front of what was left where the source tells
-pub record IsRead (levels : ℕ) (told : Type 0) (a b : Arena) (t u : KeptTables) (v : Value) (input rest : List ℕ) (at place limit : ℕ) : Type 0 where
+-- the fields that were taken are what R says of them; they are accepted, and are the front of what was left where the source tells
+pub record IsTaken (told : Type 0) (R P : List Field → Type 0) (input rest : List ℕ) (at place limit : ℕ) : Type 0 where
   pub fields : List Field
-  pub read : IsRead3 levels a t fields b u v
-  pub accepted : IsReading3 levels a t fields
+  pub read : R fields
+  pub accepted : P fields
   pub parts : told → input ≡ flat fields ++ rest
   pub taken : place ≡ at + length (flat fields)
   pub within : place ≤ limit
@@ -36,12 +36,19 @@ pub record IsInterrupted (P : List Field → Type 0) (input rest : List ℕ) (at
   pub stop : ℕ
   pub cut_off : IsCutOff P at given stop
 
--- a value; or where the source tells, a refusal which is the verdict, or a read fault
+-- what was read; or where the source tells, a refusal which is the verdict, or a read fault
+abbrev pub AnswersOf : {X : Type 0} → (X → List Field → Type 0) → (List Field → Type 0) → Type 0 → List ℕ → List ℕ → ℕ → ℕ → ℕ → Result X ReadEnd → Type 0
+AnswersOf R P told input rest at place limit (Ok x) = IsTaken told (R x) P input rest at place limit
+AnswersOf R P told input rest at place limit (Err (Refused f)) = told → IsRefused P at limit input f.reason f.at
+AnswersOf R P told input rest at place limit (Err ReadFault) = told → IsInterrupted P input rest at limit
+AnswersOf R P told input rest at place limit (Err Memory) = Unit {0}
+
+-- a value: the fields spell it in every finished graph that completes the arena
+abbrev pub IsRead : ℕ → Type 0 → Arena → Arena → KeptTables → KeptTables → Value → List ℕ → List ℕ → ℕ → ℕ → ℕ → Type 0
+IsRead levels told a b t u v input rest at place limit = IsTaken told (λ fs. IsRead3 levels a t fs b u v) (IsReading3 levels a t) input rest at place limit
+
 abbrev pub AnswersAs : ℕ → Type 0 → Arena → Arena → KeptTables → KeptTables → List ℕ → List ℕ → ℕ → ℕ → ℕ → Result Value ReadEnd → Type 0
-AnswersAs levels told a b t u input rest at place limit (Ok v) = IsRead levels told a b t u v input rest at place limit
-AnswersAs levels told a b t u input rest at place limit (Err (Refused f)) = told → IsRefused (IsReading3 levels a t) at limit input f.reason f.at
-AnswersAs levels told a b t u input rest at place limit (Err ReadFault) = told → IsInterrupted (IsReading3 levels a t) input rest at limit
-AnswersAs levels told a b t u input rest at place limit (Err Memory) = Unit {0}
+AnswersAs levels told a b t u input rest at place limit result = AnswersOf (λ v fs. IsRead3 levels a t fs b u v) (IsReading3 levels a t) told input rest at place limit result
 
 -- by the cursors before and behind it
 abbrev pub Answers3 : {S : Type 0} → (S → Type 0) → (S → List ℕ) → ℕ → Arena → Arena → KeptTables → KeptTables → Cursor S Window → Cursor S Window → Result Value ReadEnd → Type 0

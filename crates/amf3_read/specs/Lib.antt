@@ -10,4 +10,7 @@ pub mod OpeningNames
 pub mod OpeningShapes
 pub mod Ready
 pub mod Steps
+pub mod TextAnswer
 pub mod Vectors
+pub mod Pairs
+pub mod VerdictLaws

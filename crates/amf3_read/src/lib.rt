@@ -7,12 +7,14 @@ mod ends;
 mod field;
 mod field_bytes;
 mod header;
+mod laws;
 mod leaf;
 mod marker;
 mod node;
 mod number;
 mod opening;
 mod parts;
+mod seen;
 #[cfg(test)]
 mod tests;
 mod text;
@@ -20,5 +22,7 @@ mod traits;
 mod value;
 mod values;
 
+pub use laws::{pairs_have_one_verdict, texts_have_one_verdict};
+pub use text::read3_text;
 pub use value::read3;
 pub use values::Values3;

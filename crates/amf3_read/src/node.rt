@@ -20,6 +20,7 @@ use crate::header::{Header, judge_header};
 use crate::marker::NodeMarker;
 use crate::opening::{Opening, Parts, read_opening};
 use crate::parts::{read_entries, read_items, read_pairs};
+use crate::seen::Seen;
 use amf_graph::{Builder, NodeId, Value};
 use amf_io::{Cursor, ReadEnd, Source};
 use amf_tables::Tables3;
@@ -39,6 +40,7 @@ pub fn read_node<S: Source>(
     cursor: &mut Cursor<'_, S>,
     builder: &mut Builder,
     tables: &mut Tables3,
+    seen: &mut Seen,
     depth: u32,
     marker: NodeMarker,
 ) -> Result<Value, ReadEnd>
@@ -54,7 +56,16 @@ pub fn read_node<S: Source>(
         Err(reason) => Err(refused(reason, start)),
         Ok(Header::Known(node)) => Ok(Value::Node(node)),
         Ok(Header::Inline) => {
-            read_inline(alloc, cursor, builder, tables, depth - 1, marker, header)
+            read_inline(
+                alloc,
+                cursor,
+                builder,
+                tables,
+                seen,
+                depth - 1,
+                marker,
+                header,
+            )
         }
     }
 }
@@ -66,6 +77,7 @@ fn read_inline<S: Source>(
     cursor: &mut Cursor<'_, S>,
     builder: &mut Builder,
     tables: &mut Tables3,
+    seen: &mut Seen,
     depth: u32,
     marker: NodeMarker,
     header: u32,
@@ -81,19 +93,19 @@ fn read_inline<S: Source>(
     match parts {
         None => Ok(Value::Node(node)),
         Some(Parts::Array(items)) => {
-            fill_array(alloc, cursor, builder, tables, depth, node, items)
+            fill_array(alloc, cursor, builder, tables, seen, depth, node, items)
         }
         Some(Parts::Object { sealed, dynamic }) if dynamic => {
-            fill_dynamic(alloc, cursor, builder, tables, depth, node, sealed)
+            fill_dynamic(alloc, cursor, builder, tables, seen, depth, node, sealed)
         }
         Some(Parts::Object { sealed, .. }) => {
-            fill_values(alloc, cursor, builder, tables, depth, node, sealed)
+            fill_values(alloc, cursor, builder, tables, seen, depth, node, sealed)
         }
         Some(Parts::Items(items)) => {
-            fill_values(alloc, cursor, builder, tables, depth, node, items)
+            fill_values(alloc, cursor, builder, tables, seen, depth, node, items)
         }
         Some(Parts::Entries(entries)) => {
-            fill_dictionary(alloc, cursor, builder, tables, depth, node, entries)
+            fill_dictionary(alloc, cursor, builder, tables, seen, depth, node, entries)
         }
     }
 }
@@ -140,6 +152,7 @@ fn fill_array<S: Source>(
     cursor: &mut Cursor<'_, S>,
     builder: &mut Builder,
     tables: &mut Tables3,
+    seen: &mut Seen,
     depth: u32,
     node: NodeId,
     count: u32,
@@ -155,8 +168,8 @@ fn fill_array<S: Source>(
     ensures closed { OnOk result (Closed node.0 builder.old builder.new tables.new cursor.old cursor.new) }
     ensures stays { OnOk result (place cursor.old ≤ place cursor.new) }
 {
-    read_pairs(alloc, cursor, builder, tables, depth, node)?;
-    read_items(alloc, cursor, builder, tables, depth, node, count)?;
+    read_pairs(alloc, cursor, builder, tables, seen, depth, node)?;
+    read_items(alloc, cursor, builder, tables, seen, depth, node, count)?;
     builder.close_node(node);
     Ok(Value::Node(node))
 }
@@ -168,6 +181,7 @@ fn fill_dynamic<S: Source>(
     cursor: &mut Cursor<'_, S>,
     builder: &mut Builder,
     tables: &mut Tables3,
+    seen: &mut Seen,
     depth: u32,
     node: NodeId,
     count: u32,
@@ -183,8 +197,8 @@ fn fill_dynamic<S: Source>(
     ensures closed { OnOk result (Closed node.0 builder.old builder.new tables.new cursor.old cursor.new) }
     ensures stays { OnOk result (place cursor.old ≤ place cursor.new) }
 {
-    read_items(alloc, cursor, builder, tables, depth, node, count)?;
-    read_pairs(alloc, cursor, builder, tables, depth, node)?;
+    read_items(alloc, cursor, builder, tables, seen, depth, node, count)?;
+    read_pairs(alloc, cursor, builder, tables, seen, depth, node)?;
     builder.close_node(node);
     Ok(Value::Node(node))
 }
@@ -196,6 +210,7 @@ fn fill_values<S: Source>(
     cursor: &mut Cursor<'_, S>,
     builder: &mut Builder,
     tables: &mut Tables3,
+    seen: &mut Seen,
     depth: u32,
     node: NodeId,
     count: u32,
@@ -211,7 +226,7 @@ fn fill_values<S: Source>(
     ensures closed { OnOk result (Closed node.0 builder.old builder.new tables.new cursor.old cursor.new) }
     ensures stays { OnOk result (place cursor.old ≤ place cursor.new) }
 {
-    read_items(alloc, cursor, builder, tables, depth, node, count)?;
+    read_items(alloc, cursor, builder, tables, seen, depth, node, count)?;
     builder.close_node(node);
     Ok(Value::Node(node))
 }
@@ -223,6 +238,7 @@ fn fill_dictionary<S: Source>(
     cursor: &mut Cursor<'_, S>,
     builder: &mut Builder,
     tables: &mut Tables3,
+    seen: &mut Seen,
     depth: u32,
     node: NodeId,
     count: u32,
@@ -238,7 +254,7 @@ fn fill_dictionary<S: Source>(
     ensures closed { OnOk result (Closed node.0 builder.old builder.new tables.new cursor.old cursor.new) }
     ensures stays { OnOk result (place cursor.old ≤ place cursor.new) }
 {
-    read_entries(alloc, cursor, builder, tables, depth, node, count)?;
+    read_entries(alloc, cursor, builder, tables, seen, depth, node, count)?;
     builder.close_node(node);
     Ok(Value::Node(node))
 }

@@ -6,6 +6,7 @@ ghost use Rattle.amf3_read.specs.Ready.{Ready, left_of};
 ghost use Rattle.amf3_read.specs.Filling.{IsOpened, ItemsFit, PairsFit, EntriesFit, FilledItems, FilledPairs};
 
 use crate::ends::kept;
+use crate::seen::Seen;
 use crate::text::read_text;
 use crate::value::read_value;
 use amf_graph::{Builder, NodeId, Part};
@@ -20,6 +21,7 @@ pub fn read_items<S: Source>(
     cursor: &mut Cursor<'_, S>,
     builder: &mut Builder,
     tables: &mut Tables3,
+    seen: &mut Seen,
     depth: u32,
     node: NodeId,
     count: u32,
@@ -32,7 +34,7 @@ pub fn read_items<S: Source>(
     ensures filled { OnOk result (FilledItems count node.0 builder.old builder.new tables.new cursor.old cursor.new) }
 {
     for _index in 0..count {
-        let value = read_value(alloc, cursor, builder, tables, depth)?;
+        let value = read_value(alloc, cursor, builder, tables, seen, depth)?;
         kept(builder.put(node, Part::Item(value)))?;
     }
     Ok(())
@@ -45,6 +47,7 @@ pub fn read_entries<S: Source>(
     cursor: &mut Cursor<'_, S>,
     builder: &mut Builder,
     tables: &mut Tables3,
+    seen: &mut Seen,
     depth: u32,
     node: NodeId,
     count: u32,
@@ -57,8 +60,8 @@ pub fn read_entries<S: Source>(
     ensures filled { OnOk result (FilledItems (2 * count) node.0 builder.old builder.new tables.new cursor.old cursor.new) }
 {
     for _index in 0..count {
-        let key = read_value(alloc, cursor, builder, tables, depth)?;
-        let value = read_value(alloc, cursor, builder, tables, depth)?;
+        let key = read_value(alloc, cursor, builder, tables, seen, depth)?;
+        let value = read_value(alloc, cursor, builder, tables, seen, depth)?;
         kept(builder.put(node, Part::Entry(key, value)))?;
     }
     Ok(())
@@ -71,6 +74,7 @@ pub fn read_pairs<S: Source>(
     cursor: &mut Cursor<'_, S>,
     builder: &mut Builder,
     tables: &mut Tables3,
+    seen: &mut Seen,
     depth: u32,
     node: NodeId,
 ) -> Result<(), ReadEnd>
@@ -86,7 +90,7 @@ pub fn read_pairs<S: Source>(
         if builder.text_of(name).is_empty() {
             return Ok(());
         }
-        let value = read_value(alloc, cursor, builder, tables, depth)?;
+        let value = read_value(alloc, cursor, builder, tables, seen, depth)?;
         kept(builder.put(node, Part::Named(name, value)))?;
     }
 }

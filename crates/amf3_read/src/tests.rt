@@ -1,4 +1,4 @@
-use crate::{Values3, read3};
+use crate::{Values3, pairs_have_one_verdict, read3, read3_text, texts_have_one_verdict};
 use amf_graph::{Builder, NodeId, NodeView, Rooted, TextId, Value};
 use amf_io::{
     Cursor, MemorySource, ReadEnd, Reason, Refusal, faults_are_first, next_kind_is_fixed,
@@ -43,15 +43,32 @@ fn graph_of(alloc: Global, bytes: &[u8]) -> Result<Rooted, Fail> {
     Ok(graph)
 }
 
+/// What two texts are read as, one after the other.
+fn texts_of(alloc: Global, bytes: &[u8]) -> Result<(TextId, Result<TextId, ReadEnd>), Fail> {
+    let mut source = MemorySource::new(alloc, bytes, 1, 0, &[])?;
+    let mut cursor = Cursor::new(alloc, &mut source, 1000)?;
+    let mut builder = Builder::new(alloc)?;
+    let mut tables = Tables3::new(alloc)?;
+    let read = read3_text(alloc, &mut cursor, &mut builder, &mut tables);
+    let first = read.ok().ok_or("a text")?;
+    let second = read3_text(alloc, &mut cursor, &mut builder, &mut tables);
+    Ok((first, second))
+}
+
 /// The refusal for a reason at a place.
 fn refused(reason: Reason, at: u32) -> Result<Value, ReadEnd> {
+    Err(ReadEnd::Refused(Refusal { reason, at }))
+}
+
+/// The refusal of a text, for a reason at a place.
+fn text_refused(reason: Reason, at: u32) -> Result<TextId, ReadEnd> {
     Err(ReadEnd::Refused(Refusal { reason, at }))
 }
 
 #[test]
 fn reads_the_same_in_any_pieces(rt: HostRuntime) -> Result<(), Fail> {
     let node = Ok(Value::Node(NodeId(0)));
-    let rows: [(&[u8], Result<Value, ReadEnd>); 22] = [
+    let rows: [(&[u8], Result<Value, ReadEnd>); 23] = [
         (&[0x00], Ok(Value::Undefined)),
         (&[0x03], Ok(Value::Bool(true))),
         (
@@ -66,6 +83,13 @@ fn reads_the_same_in_any_pieces(rt: HostRuntime) -> Result<(), Fail> {
         (&[0x09, 0x03, 0x01, 0x09, 0x00], node),
         (&[0x11, 0x03, 0x00, 0x04, 0x01, 0x06, 0x03, 0x61], node),
         (&[0x0D, 0x03, 0x01, 0xFF, 0xFF, 0xFF, 0xFE], node),
+        // Where no level is left, nodes of the table can still be named, more than once.
+        (
+            &[
+                0x09, 0x05, 0x01, 0x0C, 0x01, 0x09, 0x07, 0x01, 0x0C, 0x02, 0x0C, 0x02, 0x09, 0x00,
+            ],
+            node,
+        ),
         (&[], refused(Reason::Truncated, 0)),
         (&[0x12], refused(Reason::BadMarker, 0)),
         (&[0x09, 0x00], refused(Reason::BadReference, 1)),
@@ -122,6 +146,42 @@ fn ends_by_fault_and_limit(rt: HostRuntime) -> Result<(), Fail> {
 }
 
 #[test]
+fn a_fault_is_no_end_of_the_input(rt: HostRuntime) -> Result<(), Fail> {
+    let alloc = rt.alloc();
+    let mut source = MemorySource::new(alloc, &[0x09], 1, 0, &[1])?;
+    let mut cursor = Cursor::new(alloc, &mut source, 1000)?;
+    let mut builder = Builder::new(alloc)?;
+    let mut tables = Tables3::new(alloc)?;
+    let read = read3(alloc, &mut cursor, &mut builder, &mut tables, 512);
+    assert_eq!(rt; read, Err(ReadEnd::ReadFault));
+    Ok(())
+}
+
+#[test]
+fn reads_texts_alone(rt: HostRuntime) -> Result<(), Fail> {
+    let rows: [(&[u8], Result<TextId, ReadEnd>); 7] = [
+        // By its index, and inline again.
+        (&[0x05, 0x61, 0x62, 0x00], Ok(TextId(0))),
+        (&[0x05, 0x61, 0x62, 0x05, 0x61, 0x62], Ok(TextId(1))),
+        (&[0x03, 0x61, 0x02], text_refused(Reason::BadTextIndex, 2)),
+        // The empty text enters no table.
+        (&[0x01, 0x03, 0x61], Ok(TextId(1))),
+        (&[0x01, 0x00], text_refused(Reason::BadTextIndex, 1)),
+        (&[0x03, 0x61, 0x03, 0xFF], text_refused(Reason::BadText, 3)),
+        (
+            &[0x03, 0x61, 0x05, 0x61],
+            text_refused(Reason::Truncated, 3),
+        ),
+    ];
+    for (bytes, want) in rows.iter() {
+        let (first, second) = texts_of(rt.alloc(), bytes)?;
+        assert_eq!(rt; first, TextId(0), "{bytes:?}");
+        assert_eq!(rt; second, *want, "{bytes:?}");
+    }
+    Ok(())
+}
+
+#[test]
 fn builds_what_it_reads(rt: HostRuntime) -> Result<(), Fail> {
     // An object of class C, with the sealed name a and the member b, which is the object itself.
     let bytes: &[u8] = &[
@@ -155,4 +215,6 @@ fn laws_hold_of_the_values(_rt: HostRuntime) {
     next_kind_is_fixed::<Values3>();
     reading_decides::<Values3>();
     reading_waits::<Values3>();
+    pairs_have_one_verdict();
+    texts_have_one_verdict();
 }

@@ -1,13 +1,16 @@
-ghost use Rattle.std.specs.Prelude.{◌<◌, ◌≤◌, ◌≡◌, ◌^◌, OnOk, IfOk, length};
+ghost use Rattle.std.specs.Prelude.{◌-◌, ◌<◌, ◌≤◌, ◌≡◌, ◌^◌, OnOk, IfOk, length};
 ghost use Rattle.std.specs.List.{AllByRecursion};
 ghost use Rattle.amf_io.specs.Field.{text_kind};
 ghost use Rattle.amf_io.specs.Layout.{give};
 ghost use Rattle.amf_io.specs.Cursor.{place};
 ghost use Rattle.amf_io.specs.CursorReads.{Goes, Answers};
 ghost use Rattle.amf_graph.specs.Arena.{IsTextId};
+ghost use Rattle.amf_tables.specs.KeptTables.{AreTablesIn};
 ghost use Rattle.amf_tables.specs.Layout3State.{state_of};
 ghost use Rattle.amf_tables.specs.Layout3Words.{text_layout, texts_layout, new_text, chunk};
-ghost use Rattle.amf3_read.specs.Ready.{Ready, Continues, text_read, texts_read};
+ghost use Rattle.amf3_read.specs.Ready.{Ready, Continues, left_of, text_read, texts_read};
+ghost use Rattle.amf3_read.specs.Answer.{HasRoomFor, Raises};
+ghost use Rattle.amf3_read.specs.TextAnswer.{AnswersText3};
 
 use crate::contents::{Contents, read_contents};
 use crate::ends::{kept, refused};
@@ -16,6 +19,31 @@ use amf_graph::{Builder, TextId};
 use amf_io::{Cursor, ReadEnd, Reason, Source};
 use amf_tables::Tables3;
 use std::alloc::Global;
+
+/// Reads one text into a builder and its tables (AMF 3 specification, 1.3.2): inline, or by its index
+/// in the table of texts. The empty text enters no table.
+///
+/// Where the input is refused, the refusal is the verdict on it: the first field that no text has there,
+/// or where the input or its limit ends. After an end the builder, the tables and the cursor are only to
+/// be dropped.
+pub fn read3_text<S: Source>(
+    alloc: Global,
+    cursor: &mut Cursor<'_, S>,
+    builder: &mut Builder,
+    tables: &mut Tables3,
+) -> Result<TextId, ReadEnd>
+    requires tables { AreTablesIn builder.old tables.old }
+    requires room { HasRoomFor builder.old (left_of cursor.old) }
+    ensures goes { Goes S.tells S.left S.faults cursor.old cursor.new result }
+    ensures answers { AnswersText3 S.tells S.left builder.old builder.new tables.old tables.new cursor.old cursor.new result }
+    ensures tables { OnOk result (AreTablesIn builder.new tables.new) }
+    ensures raises { OnOk result (Raises builder.old builder.new (place cursor.new - place cursor.old)) }
+{
+    // What is true of every builder and every cursor.
+    builder.is_built();
+    let _start = cursor.at();
+    read_text(alloc, cursor, builder, tables)
+}
 
 /// Reads a text (AMF 3 specification, 1.3.2). The empty text enters no table.
 pub fn read_text<S: Source>(

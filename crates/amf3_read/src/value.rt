@@ -1,5 +1,4 @@
-ghost use Rattle.std.specs.Prelude.{◌≡◌, ℕ, ◌-◌, ◌<◌, ◌==◌, OnOk, IfOk};
-ghost use Rattle.std.specs.List.{list_any};
+ghost use Rattle.std.specs.Prelude.{ℕ, ◌-◌, ◌<◌, OnOk, IfOk};
 ghost use Rattle.amf_wire.specs.Integer.{IsInteger, integer_of};
 ghost use Rattle.amf_wire.specs.U29.{u29_value};
 ghost use Rattle.amf_io.specs.Field.{u29_kind, no_refusal};
@@ -8,16 +7,17 @@ ghost use Rattle.amf_io.specs.Cursor.{place};
 ghost use Rattle.amf_io.specs.CursorReads.{IsPlaced, Goes, Answers};
 ghost use Rattle.amf_tables.specs.Layout3State.{state_of};
 ghost use Rattle.amf_tables.specs.KeptTables.{AreTablesIn};
-ghost use Rattle.amf_tables.specs.Layout3.{read, value_layout, eight_layout, node_marker};
-ghost use Rattle.amf3_read.specs.Forms.{form, node_form};
+ghost use Rattle.amf_tables.specs.Layout3.{read, value_layout, eight_layout};
+ghost use Rattle.amf3_read.specs.Forms.{form};
 ghost use Rattle.amf3_read.specs.Ready.{Ready, Continues, left_of};
 ghost use Rattle.amf3_read.specs.Steps.{marker_layout};
 ghost use Rattle.amf3_read.specs.Answer.{HasRoomFor, Answers3, Raises};
 
 use crate::ends::refused;
 use crate::field::{FieldSize, read_field};
-use crate::marker::{Marker, NodeMarker};
+use crate::marker::Marker;
 use crate::node::read_node;
+use crate::seen::Seen;
 use crate::text::read_text;
 use amf_graph::{Builder, Value};
 use amf_io::{Cursor, ReadEnd, Reason, Source};
@@ -48,7 +48,8 @@ pub fn read3<S: Source>(
     // What is true of every builder and every cursor.
     builder.is_built();
     let _start = cursor.at();
-    read_value(alloc, cursor, builder, tables, depth)
+    let mut seen = Seen::new();
+    read_value(alloc, cursor, builder, tables, &mut seen, depth)
 }
 
 /// Reads one value.
@@ -58,6 +59,7 @@ pub fn read_value<S: Source>(
     cursor: &mut Cursor<'_, S>,
     builder: &mut Builder,
     tables: &mut Tables3,
+    seen: &mut Seen,
     depth: u32,
 ) -> Result<Value, ReadEnd>
     requires { Ready 0 builder.old tables.old cursor.old }
@@ -66,7 +68,7 @@ pub fn read_value<S: Source>(
     ensures continues { OnOk result (Continues 0 builder.old builder.new tables.new cursor.old cursor.new) }
     ensures moves { OnOk result (place cursor.old < place cursor.new) }
 {
-    let marker = read_marker(cursor, builder, tables, depth)?;
+    let marker = read_marker(cursor, builder, tables, seen, depth)?;
     match marker {
         Marker::Undefined => Ok(Value::Undefined),
         Marker::Null => Ok(Value::Null),
@@ -75,7 +77,7 @@ pub fn read_value<S: Source>(
         Marker::Integer => Ok(Value::Integer(read_integer(cursor)?)),
         Marker::Double => Ok(Value::Double(read_double(cursor)?)),
         Marker::Text => Ok(Value::Text(read_text(alloc, cursor, builder, tables)?)),
-        Marker::Node(node) => read_node(alloc, cursor, builder, tables, depth, node),
+        Marker::Node(node) => read_node(alloc, cursor, builder, tables, seen, depth, node),
     }
 }
 
@@ -84,6 +86,7 @@ fn read_marker<S: Source>(
     cursor: &mut Cursor<'_, S>,
     builder: &Builder,
     tables: &Tables3,
+    seen: &mut Seen,
     depth: u32,
 ) -> Result<Marker, ReadEnd>
     requires { Ready 0 builder.now tables.now cursor.old }
@@ -100,23 +103,10 @@ fn read_marker<S: Source>(
     let Marker::Node(node) = marker else {
         return Ok(marker);
     };
-    if depth == 0 && !has_node(builder, tables, node) {
+    if depth == 0 && !seen.has_node(builder, tables, node) {
         return Err(refused(Reason::TooDeep, start));
     }
     Ok(marker)
-}
-
-/// Whether a node of the table has this marker.
-fn has_node(builder: &Builder, tables: &Tables3, marker: NodeMarker) -> bool
-    requires { AreTablesIn builder.now tables.now }
-    ensures { result ≡ list_any (λ m. m == node_marker (node_form marker)) (state_of builder.now tables.now).marks }
-{
-    for node in tables.nodes() {
-        if marker.is_of(builder.kind_of(*node)) {
-            return true;
-        }
-    }
-    false
 }
 
 /// Reads an integer (AMF 3 specification, 3.6).
