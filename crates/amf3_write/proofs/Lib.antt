@@ -7,3 +7,8 @@ pub mod Stopped
 pub mod Loops
 pub mod WroteNodes
 pub mod Whole
+pub mod PartWritten
+pub mod Least
+pub mod FoundSteps
+pub mod PartReached
+pub mod PartNodes

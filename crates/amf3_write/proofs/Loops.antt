@@ -12,7 +12,7 @@ use Rattle.amf_tables.specs.Tables.{Tables}
 use Rattle.amf_tables.specs.ByteSpelling.{Part, step, value, word, values_then, pairs_then, Spells}
 use Rattle.amf_tables.proofs.Ordered3.{part_values}
 use Rattle.amf3_write.specs.declared.output.Output.{Output}
-use Rattle.amf3_write.specs.Contents.{values_of, pair_content, named_pairs}
+use Rattle.amf_iso.specs.Contents.{values_of, pair_content, named_pairs}
 use Rattle.amf3_write.specs.Writes.{WritesStep, WritesParts, WritesValue, Stops}
 use Rattle.amf3_write.proofs.WroteParts.{wrote_none, wrote_step, wrote_one, wrote_value, wrote_both}
 use Rattle.amf3_write.proofs.Stopped.{stopped_behind, stopped_step, stopped_before, stopped_same}

@@ -9,7 +9,7 @@ use Rattle.amf_graph.specs.Arena.{Arena, value_content}
 use Rattle.amf_graph.specs.Views.{flat}
 use Rattle.amf_tables.specs.ByteSpelling.{Part, step, value, word, values_then, pairs_then}
 use Rattle.amf_tables.proofs.Ordered3.{part_values}
-use Rattle.amf3_write.specs.Contents.{values_of, pair_content, named_pairs}
+use Rattle.amf_iso.specs.Contents.{values_of, pair_content, named_pairs}
 use denote.Ref.{Bor}
 
 -- pairs that are not ended

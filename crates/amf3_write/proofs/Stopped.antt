@@ -19,9 +19,9 @@ module _ (g : Graph) (levels : ℕ) where
   -- behind parts that were written whole
   pub stopped_behind : (ps : List Part) (vs : List Value) (o m : Output) (l : Lack) → WritesParts g levels ps o m → Stops g levels vs m l → Stops g levels (part_values ps ++ vs) o l
   stopped_behind ps vs o m l h s = record {
-    at = λ even low.
+    at = λ limit low even.
         let kept = keeps_parts g canonical (Spells levels canonical g) (keeps_spells g canonical levels) ps o.tables h.bytes m.tables h.spelled in
-        stops_behind g 512 levels (513 - levels) (omega arith) ps o.tables h.bytes m.tables even h.spelled vs l.node l.kind (s.at (kept.level even) low);
+        stops_behind g limit levels (suc limit - levels) (omega arith) ps o.tables h.bytes m.tables even h.spelled vs l.node l.kind (s.at limit low (kept.level even));
   }
 
   pub stopped_step : (x : Step) (vs : List Value) (o m : Output) (l : Lack) → WritesStep x o m → Stops g levels vs m l → Stops g levels vs o l
@@ -29,36 +29,36 @@ module _ (g : Graph) (levels : ℕ) where
 
   -- before other values
   pub stopped_before : (vs us : List Value) (o : Output) (l : Lack) → Stops g levels vs o l → Stops g levels (vs ++ us) o l
-  stopped_before vs us o l s = record { at = λ even low. stops_before g 512 (513 - levels) vs us o.tables.done l.node l.kind (s.at even low) }
+  stopped_before vs us o l s = record { at = λ limit low even. stops_before g limit (suc limit - levels) vs us o.tables.done l.node l.kind (s.at limit low even) }
 
   pub stopped_same : (vs us : List Value) (o : Output) (l : Lack) → vs ≡ us → Stops g levels vs o l → Stops g levels us o l
   stopped_same vs us o l e s = subst (λ w. Stops g levels w o l) e s
 
   pub stopped_unnamed : (i : ℕ) (o : Output) (l : Lack) → Absent o.tables.nodes i → (AllNamed (node_at g i).names → ⊥) → l ≡ record { kind = EmptyName; node = length o.tables.nodes } → Stops g levels (node i ∷ []) o l
   stopped_unnamed i o l new h e = record {
-    at = λ even low.
-        let there : Lacking3 g 512 (513 - levels) (node i ∷ []) o.tables.done (length o.tables.done) EmptyName = stops_unnamed g 512 (513 - levels) i o.tables.done (subst (λ w. Absent w i) even new) h in
-        subst (λ (w : Lack). Lacking3 g 512 (513 - levels) (node i ∷ []) o.tables.done w.node w.kind) (sym e)
-        (subst (λ n. Lacking3 g 512 (513 - levels) (node i ∷ []) o.tables.done n EmptyName) (ap length (sym even)) there);
+    at = λ limit low even.
+        let there : Lacking3 g limit (suc limit - levels) (node i ∷ []) o.tables.done (length o.tables.done) EmptyName = stops_unnamed g limit (suc limit - levels) i o.tables.done (subst (λ w. Absent w i) even new) h in
+        subst (λ (w : Lack). Lacking3 g limit (suc limit - levels) (node i ∷ []) o.tables.done w.node w.kind) (sym e)
+        (subst (λ n. Lacking3 g limit (suc limit - levels) (node i ∷ []) o.tables.done n EmptyName) (ap length (sym even)) there);
   }
 
   pub stopped_deep : (i : ℕ) (o : Output) (l : Lack) → levels ≡ 0 → Absent o.tables.nodes i → AllNamed (node_at g i).names → l ≡ record { kind = TooDeep; node = length o.tables.nodes } → Stops g levels (node i ∷ []) o l
   stopped_deep i o l none new h e = record {
-    at = λ even low.
-        let there : Lacking3 g 512 (513 - levels) (node i ∷ []) o.tables.done (length o.tables.done) TooDeep = stops_deep g 512 (513 - levels) i o.tables.done (subst (λ w. Absent w i) even new) h (omega arith) in
-        subst (λ (w : Lack). Lacking3 g 512 (513 - levels) (node i ∷ []) o.tables.done w.node w.kind) (sym e)
-        (subst (λ n. Lacking3 g 512 (513 - levels) (node i ∷ []) o.tables.done n TooDeep) (ap length (sym even)) there);
+    at = λ limit low even.
+        let there : Lacking3 g limit (suc limit - levels) (node i ∷ []) o.tables.done (length o.tables.done) TooDeep = stops_deep g limit (suc limit - levels) i o.tables.done (subst (λ w. Absent w i) even new) h (omega arith) in
+        subst (λ (w : Lack). Lacking3 g limit (suc limit - levels) (node i ∷ []) o.tables.done w.node w.kind) (sym e)
+        (subst (λ n. Lacking3 g limit (suc limit - levels) (node i ∷ []) o.tables.done n TooDeep) (ap length (sym even)) there);
   }
 
 -- one level in
 pub stopped_inside : (g : Graph) (levels inner i : ℕ) (o m : Output) (l : Lack) → levels ≡ suc inner → Absent o.tables.nodes i → AllNamed (node_at g i).names → m.tables ≡ add_node o.tables i
     → Stops g inner (values_met (node_at g i)) m l → Stops g levels (node i ∷ []) o l
 stopped_inside g levels inner i o m l e new named t s = record {
-  at = λ even low.
+  at = λ limit low even.
       let met : m.tables.done ≡ o.tables.done ++ i ∷ [] = ap (λ (w : Tables). w.done) t in
       let level : m.tables.nodes ≡ m.tables.done = ap (λ (w : Tables). w.nodes) t ∙ ap (λ w. w ++ i ∷ []) even ∙ sym met in
-      let depth : 513 - inner ≡ suc (513 - levels) = omega arith in
-      stops_inside g 512 (513 - levels) i o.tables.done l.node l.kind (subst (λ w. Absent w i) even new) named (omega arith)
-      (subst (λ w. Lacking3 g 512 w (values_met (node_at g i)) (o.tables.done ++ i ∷ []) l.node l.kind) depth
-      (subst (λ w. Lacking3 g 512 (513 - inner) (values_met (node_at g i)) w l.node l.kind) met (s.at level (omega arith))));
+      let depth : suc limit - inner ≡ suc (suc limit - levels) = omega arith in
+      stops_inside g limit (suc limit - levels) i o.tables.done l.node l.kind (subst (λ w. Absent w i) even new) named (omega arith)
+      (subst (λ w. Lacking3 g limit w (values_met (node_at g i)) (o.tables.done ++ i ∷ []) l.node l.kind) depth
+      (subst (λ w. Lacking3 g limit (suc limit - inner) (values_met (node_at g i)) w l.node l.kind) met (s.at limit (omega arith) level)));
 }

@@ -1,3 +1,5 @@
 pub mod Written
 pub mod Writes
 pub mod Contents
+pub mod PartLacks
+pub mod Found

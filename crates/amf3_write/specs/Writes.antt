@@ -1,5 +1,5 @@
 -- What each part of a writer appends, by its bytes, and where it stops.
-use Rattle.std.specs.Prelude.{◌≡◌, ℕ, ◌-◌, ◌≤◌, List, ◌++◌}
+use Rattle.std.specs.Prelude.{◌≡◌, ℕ, suc, ◌-◌, ◌≤◌, List, ◌++◌}
 use Rattle.amf_wire.specs.Style.{canonical}
 use Rattle.amf_graph.specs.declared.lack.Lack.{Lack}
 use Rattle.amf_graph.specs.Graph.{Value, Graph}
@@ -36,10 +36,23 @@ pub record BeginsWith (front bytes : List ℕ) : Type 0 where
   pub rest : List ℕ
   pub is : bytes ≡ front ++ rest
 
--- what the bytes began with, they still begin with
-abbrev pub Keeps : Output → Output → Type 0
-Keeps old new = (front : List ℕ) → BeginsWith front old.bytes.items → BeginsWith front new.bytes.items
+-- what stands at the front of an output: bytes, and nodes of the table
+pub record Front : Type 0 where
+  pub bytes : List ℕ
+  pub nodes : List ℕ
 
--- a writer of these values, with so many levels of 512 left, stops at the first node that lacks a spelling
+pub record HasFront (front : Front) (o : Output) : Type 0 where
+  pub bytes : BeginsWith front.bytes o.bytes.items
+  pub nodes : BeginsWith front.nodes o.tables.nodes
+
+-- what the output began with, it still begins with
+abbrev pub Keeps : Output → Output → Type 0
+Keeps old new = (front : Front) → HasFront front old → HasFront front new
+
+-- a writer of these values, with so many levels left, stops at the first node that lacks a spelling, whatever the limit
 pub record Stops (g : Graph) (levels : ℕ) (vs : List Value) (old : Output) (lack : Lack) : Type 0 where
-  pub at : old.tables.nodes ≡ old.tables.done → levels ≤ 512 → Lacking3 g 512 (513 - levels) vs old.tables.done lack.node lack.kind
+  pub at : (limit : ℕ) → levels ≤ limit → old.tables.nodes ≡ old.tables.done → Lacking3 g limit (suc limit - levels) vs old.tables.done lack.node lack.kind
+
+-- such a writer, where the tables name each node that was spelled and the limit is the levels that are left
+abbrev pub StopsAt : Graph → ℕ → List Value → Tables → Lack → Type 0
+StopsAt g levels vs t lack = t.nodes ≡ t.done → Lacking3 g levels 1 vs t.done lack.node lack.kind

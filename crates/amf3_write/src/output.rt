@@ -1,4 +1,4 @@
-ghost use Rattle.std.specs.Prelude.{◌≡◌, ◌≢◌, ◌<◌, ◌^◌, [], length, OnOk, IfSome, IfNone};
+ghost use Rattle.std.specs.Prelude.{◌≡◌, ◌≢◌, ◌<◌, ◌^◌, [], length, take, true, false, OnOk, OnErr, IfOk, IfSome, IfNone};
 ghost use Rattle.amf_wire.specs.Text.{IsText};
 ghost use Rattle.amf_tables.specs.FirstPlace.{IsFirstPlace};
 ghost use Rattle.amf_tables.specs.Words3.{IsUnnamed};
@@ -8,6 +8,7 @@ ghost use Rattle.amf3_write.specs.Writes.{WritesStep, Keeps};
 use amf_tables::WriterTables;
 use amf_wire::{Memory, U29, write_u29};
 use std::alloc::Global;
+use std::mem;
 
 /// How many places of the table of texts a header can name (1.3.2).
 const NAMEABLE_TEXTS: u32 = 268_435_456;
@@ -21,6 +22,43 @@ pub(crate) struct Output {
 }
 
 impl Output {
+    /// The tables and the bytes, taken from where they stood.
+    pub(crate) fn taking(
+        alloc: Global,
+        tables: &mut WriterTables,
+        bytes: &mut Vec<u8>,
+    ) -> Result<Output, Memory>
+        ensures tables { IfOk result (λ output. output.tables ≡ tables.old) }
+        ensures bytes { IfOk result (λ output. output.bytes ≡ bytes.old) }
+        ensures kept { OnErr result ((tables.new ≡ tables.old) × (bytes.new ≡ bytes.old)) }
+    {
+        let empty = WriterTables::new(alloc)?;
+        Ok(Output {
+            alloc,
+            tables: mem::replace(tables, empty),
+            bytes: mem::replace(bytes, Vec::new(alloc)),
+        })
+    }
+
+    /// The tables and the bytes, back to where they stood: after an end the first bytes alone, so many as there were.
+    pub(crate) fn put_back(
+        mut self,
+        has_ended: bool,
+        start: usize,
+        tables: &mut WriterTables,
+        bytes: &mut Vec<u8>,
+    )
+        ensures tables { tables.new ≡ self.tables }
+        ensures whole { has_ended ≡ false → bytes.new ≡ self.bytes }
+        ensures cut { has_ended ≡ true → bytes.new.items ≡ take start self.bytes.items }
+    {
+        if has_ended {
+            self.bytes.truncate(start);
+        }
+        *tables = self.tables;
+        *bytes = self.bytes;
+    }
+
     pub(crate) fn byte(&mut self, byte: u8) -> Result<(), Memory>
         ensures ok { OnOk result (WritesStep (spell.byte byte) self.old self.new) }
         ensures kept { Keeps self.old self.new }

@@ -1,7 +1,13 @@
-ghost use Rattle.amf_graph.specs.Arena.{Names};
+ghost use Rattle.std.specs.Prelude.{◌≡◌, IfOk, IfSome};
+ghost use Rattle.amf_graph.specs.Arena.{Names, value_content};
+ghost use Rattle.amf_graph.specs.Reached.{IsReachedValue};
+ghost use Rattle.amf_graph.specs.Rooted.{content};
 
-use crate::write3;
-use amf_graph::{Builder, Lack, LackKind, Leaf, Part, Rooted, Shape, Value, Wrapped, WriteEnd};
+use crate::{write3, write3_part, write3_text};
+use amf_graph::{
+    Builder, Lack, LackKind, Leaf, NodeView, Part, Rooted, Shape, Value, Wrapped, WriteEnd,
+};
+use amf_tables::WriterTables;
 use amf_wire::{Pattern, is_amf_text};
 use std::alloc::Global;
 use std::test::Fail;
@@ -19,6 +25,7 @@ fn written(alloc: Global, graph: &Rooted) -> Result<Vec<u8>, WriteEnd> {
 /// The graph with this root, of nodes that are all complete.
 fn finished(builder: Builder, root: Value) -> Result<Rooted, Fail>
     requires { Names builder root }
+    ensures { IfOk result (λ graph. graph ≡ record { arena = builder; root = root }) }
 {
     let graph = builder.finish(root).ok().ok_or("an open node")?;
     Ok(graph)
@@ -216,5 +223,123 @@ fn too_many_levels(rt: HostRuntime) -> Result<(), Fail> {
         written(rt.alloc(), &graph),
         Err(WriteEnd::NoSpelling(lack))
     );
+    Ok(())
+}
+
+#[test]
+fn a_text_twice(rt: HostRuntime) -> Result<(), Fail> {
+    let alloc = rt.alloc();
+    let mut builder = Builder::new(alloc)?;
+    assert!(rt; is_amf_text(b"a"));
+    let text = builder.text(b"a")?;
+    let graph = finished(builder, Value::Null)?;
+    let mut tables = WriterTables::new(alloc)?;
+    let mut out = vec![in alloc; 0xAA]?;
+    write3_text(alloc, &graph, text, &mut tables, &mut out)?;
+    write3_text(alloc, &graph, text, &mut tables, &mut out)?;
+    assert_eq!(rt; out.as_slice(), b"\xAA\x03a\x00".as_slice());
+    Ok(())
+}
+
+/// An item of the array that is the root.
+fn item(graph: &Rooted, place: usize) -> Option<Value>
+    ensures names { IfSome result (Names graph.now.arena) }
+    ensures reached { IfSome result (λ v. IsReachedValue (content graph.now) (value_content graph.now.arena v)) }
+{
+    graph.is_finished();
+    let Value::Node(node) = graph.root() else {
+        return None;
+    };
+    match graph.node(node) {
+        NodeView::Array { items, .. } if place < items.len() => Some(items[place]),
+        _ => None,
+    }
+}
+
+#[test]
+fn a_part_behind_another(rt: HostRuntime) -> Result<(), Fail> {
+    let alloc = rt.alloc();
+    let mut builder = Builder::new(alloc)?;
+    let root = builder.open_node(Shape::Array)?;
+    let first = builder.open_node(Shape::Array)?;
+    let second = builder.open_node(Shape::Array)?;
+    builder.put(root, Part::Item(Value::Node(first)))?;
+    builder.put(root, Part::Item(Value::Node(second)))?;
+    builder.put(second, Part::Item(Value::Node(first)))?;
+    builder.close_node(first);
+    builder.close_node(second);
+    builder.close_node(root);
+    let graph = finished(builder, Value::Node(root))?;
+    let (first, second) = (
+        item(&graph, 0).ok_or("no item")?,
+        item(&graph, 1).ok_or("no item")?,
+    );
+    let mut tables = WriterTables::new(alloc)?;
+    let mut out = vec![in alloc; 0xAA]?;
+    write3_part(alloc, &graph, first, &mut tables, 1, &mut out)?;
+    write3_part(alloc, &graph, second, &mut tables, 1, &mut out)?;
+    let bytes = b"\xAA\x09\x01\x01\x09\x03\x01\x09\x00".as_slice();
+    assert_eq!(rt; out.as_slice(), bytes);
+    Ok(())
+}
+
+#[test]
+fn the_least_lack_of_a_part(rt: HostRuntime) -> Result<(), Fail> {
+    let alloc = rt.alloc();
+    let mut builder = Builder::new(alloc)?;
+    assert!(rt; is_amf_text(b""));
+    let empty = builder.text(b"")?;
+    let root = builder.open_node(Shape::Array)?;
+    let unnamed = builder.open_node(Shape::Array)?;
+    let outer = builder.open_node(Shape::Array)?;
+    let deep = builder.open_node(Shape::Array)?;
+    builder.put(root, Part::Item(Value::Node(unnamed)))?;
+    builder.put(root, Part::Item(Value::Node(outer)))?;
+    builder.put(outer, Part::Item(Value::Node(deep)))?;
+    builder.put(outer, Part::Item(Value::Node(unnamed)))?;
+    builder.put(unnamed, Part::Named(empty, Value::Null))?;
+    builder.close_node(unnamed);
+    builder.close_node(deep);
+    builder.close_node(outer);
+    builder.close_node(root);
+    let graph = finished(builder, Value::Node(root))?;
+    let part = item(&graph, 1).ok_or("no item")?;
+    let mut tables = WriterTables::new(alloc)?;
+    let mut out = vec![in alloc; 0xAA]?;
+    let end = write3_part(alloc, &graph, part, &mut tables, 1, &mut out);
+    let lack = Lack {
+        kind: LackKind::EmptyName,
+        node: 1,
+    };
+    assert_eq!(rt; end, Err(WriteEnd::NoSpelling(lack)));
+    assert_eq!(rt; out.as_slice(), [0xAA].as_slice());
+    Ok(())
+}
+
+#[test]
+fn a_lack_behind_the_part(rt: HostRuntime) -> Result<(), Fail> {
+    let alloc = rt.alloc();
+    let mut builder = Builder::new(alloc)?;
+    let root = builder.open_node(Shape::Array)?;
+    let first = builder.open_node(Shape::Array)?;
+    let second = builder.open_node(Shape::Array)?;
+    let inner = builder.open_node(Shape::Array)?;
+    builder.put(root, Part::Item(Value::Node(first)))?;
+    builder.put(root, Part::Item(Value::Node(second)))?;
+    builder.put(second, Part::Item(Value::Node(inner)))?;
+    builder.close_node(first);
+    builder.close_node(inner);
+    builder.close_node(second);
+    builder.close_node(root);
+    let graph = finished(builder, Value::Node(root))?;
+    let part = item(&graph, 1).ok_or("no item")?;
+    let mut tables = WriterTables::new(alloc)?;
+    let mut out = Vec::new(alloc);
+    let end = write3_part(alloc, &graph, part, &mut tables, 1, &mut out);
+    let lack = Lack {
+        kind: LackKind::TooDeep,
+        node: 3,
+    };
+    assert_eq!(rt; end, Err(WriteEnd::NoSpelling(lack)));
     Ok(())
 }

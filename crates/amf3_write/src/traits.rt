@@ -1,7 +1,6 @@
 ghost use Rattle.std.specs.Prelude.{◌≡◌, ◌<◌, ◌^◌, length, OnOk, IfSome, IfNone};
 ghost use Rattle.amf_wire.specs.Text.{IsText};
 ghost use Rattle.amf_graph.specs.Arena.{IsTextId, text_at};
-ghost use Rattle.amf_graph.specs.Graph.{class_name};
 ghost use Rattle.amf_tables.specs.FirstPlace.{IsFirstPlace};
 ghost use Rattle.amf_tables.specs.ShownTraits.{AreTextIds, AreTraitsOf, shown_entry, texts_at};
 ghost use Rattle.amf_tables.specs.Tables.{external};
@@ -15,17 +14,6 @@ use amf_wire::Memory;
 
 /// How many places of the table of traits a header can name (3.12).
 const NAMEABLE_TRAITS: u32 = 134_217_728;
-
-/// The name of an externalizable class.
-fn class_name(class: Wrapped) -> &'static [u8]
-    ensures { result.now ≡ class_name class }
-{
-    match class {
-        Wrapped::ArrayCollection => b"flex.messaging.io.ArrayCollection",
-        Wrapped::ArrayList => b"flex.messaging.io.ArrayList",
-        Wrapped::ObjectProxy => b"flex.messaging.io.ObjectProxy",
-    }
-}
 
 impl Output {
     /// A text of a graph.
@@ -125,7 +113,7 @@ impl Output {
         ensures kept { Keeps self.old self.new }
     {
         self.number(0b0111)?;
-        self.text(class_name(class))?;
+        self.text(class.class_name())?;
         self.tables.add_wrapped(class)?;
         Ok(())
     }

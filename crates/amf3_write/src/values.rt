@@ -11,13 +11,14 @@ ghost use Rattle.amf_graph.specs.Views.{flat};
 ghost use Rattle.amf_wire.specs.Style.{canonical};
 ghost use Rattle.amf_wire.specs.Integer.{IsInteger};
 ghost use Rattle.amf_tables.specs.ByteSpelling as spell;
-ghost use Rattle.amf3_write.specs.Contents.{values_of, pairs_of, AreValues, ArePairs, named_pairs, AreNamedPairs, node_parts};
+ghost use Rattle.amf_iso.specs.Contents.{values_of, pairs_of, AreValues, ArePairs, named_pairs, AreNamedPairs};
+ghost use Rattle.amf3_write.specs.Contents.{node_parts};
 ghost use Rattle.amf3_write.specs.Writes.{Writes, WritesParts, WritesSteps, WritesValue, Keeps, Stops};
 
 use crate::nodes::{is_unnamed, marker};
 use crate::output::Output;
-use crate::pairs::by_name;
 use amf_graph::{Lack, LackKind, NodeId, NodeView, Rooted, TextId, TraitsId, Value, WriteEnd};
+use amf_iso::by_name;
 use amf_wire::{Memory, Pattern, unsign29};
 
 /// The end at a node that has no spelling.

@@ -5,11 +5,10 @@ ghost use Rattle.amf_graph.specs.Rooted.{content};
 ghost use Rattle.amf_tables.specs.Lacks3.{IsLack3};
 ghost use Rattle.amf3_write.specs.Written.{AppendsCanonical};
 
-use crate::output::Output;
+use crate::write3_part;
 use amf_graph::{Rooted, WriteEnd};
 use amf_tables::WriterTables;
 use std::alloc::Global;
-use std::mem;
 
 /// How many nodes may stand within one another.
 const LEVELS: u32 = 512;
@@ -24,16 +23,6 @@ pub fn write3(alloc: Global, graph: &Rooted, out: &mut Vec<u8>) -> Result<(), Wr
     ensures kept { OnErr result (out.new.items ≡ out.old.items) }
 {
     graph.is_finished();
-    let start = out.len();
-    let mut output = Output {
-        alloc,
-        tables: WriterTables::new(alloc)?,
-        bytes: mem::replace(out, Vec::new(alloc)),
-    };
-    let result = output.value(graph.root(), LEVELS, graph);
-    if result.is_err() {
-        output.bytes.truncate(start);
-    }
-    *out = output.bytes;
-    result
+    let mut tables = WriterTables::new(alloc)?;
+    write3_part(alloc, graph, graph.root(), &mut tables, LEVELS, out)
 }

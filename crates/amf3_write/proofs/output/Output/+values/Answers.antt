@@ -16,7 +16,8 @@ use Rattle.amf_tables.specs.Tables.{external}
 use Rattle.amf_tables.specs.Refusals3.{marker}
 use Rattle.amf_tables.specs.ByteSpelling.{step, value, number, flag, word, byte, traits, values_then, pairs_then, layout, Spells}
 use Rattle.amf3_write.specs.declared.output.Output.{Output}
-use Rattle.amf3_write.specs.Contents.{values_of, pairs_of, named_pairs, node_parts}
+use Rattle.amf_iso.specs.Contents.{values_of, pairs_of, named_pairs}
+use Rattle.amf3_write.specs.Contents.{node_parts}
 use Rattle.amf3_write.specs.Writes.{WritesSteps, WritesParts, WritesValue, Stops}
 use Rattle.amf3_write.proofs.Wrote.{on_ok}
 use Rattle.amf3_write.proofs.WroteParts.{wrote_step, wrote_two, wrote_both, wrote_steps}

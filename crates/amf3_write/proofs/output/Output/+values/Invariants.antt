@@ -3,7 +3,7 @@ use Rattle.std.proofs.Common.{◌+◌, ◌*◌, [], take}
 use Rattle.amf_graph.specs.Rooted.{content}
 use Rattle.amf_graph.specs.Views.{flat}
 use Rattle.amf_tables.specs.ByteSpelling.{values_then}
-use Rattle.amf3_write.specs.Contents.{values_of, named_pairs}
+use Rattle.amf_iso.specs.Contents.{values_of, named_pairs}
 use Rattle.amf3_write.specs.Writes.{WritesParts, Keeps}
 use Rattle.amf3_write.proofs.PairParts.{pair_parts}
 use Rattle.amf3_write.proofs.output.Output.+values.Given as goal

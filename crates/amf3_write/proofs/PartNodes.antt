@@ -1,0 +1,61 @@
+-- The nodes of the tables behind a part are the graph's, where those before were; and the nodes before, among those after an end.
+use Rattle.std.proofs.Common.{◌≡◌, ℕ, zero, suc, ◌<◌, List, [], ◌∷◌, length, map, take, sym, refl, ap, ◌∙◌, subst, inl, inr}
+use Rattle.std.specs.List.{AllByRecursion}
+use Rattle.std.proofs.lemmas.List.{take_at}
+use Rattle.amf_io.specs.Field.{flat}
+use Rattle.amf_wire.specs.Style.{canonical}
+use Rattle.amf_graph.specs.declared.value.NodeId.{NodeId}
+use Rattle.amf_graph.specs.Graph.{Value, leaf, node, Graph, node_at}
+use Rattle.amf_tables.specs.Tables.{Tables, add_node}
+use Rattle.amf_tables.specs.Refusals3.{leaf_marker}
+use Rattle.amf_tables.specs.ByteSpelling.{Spelling, Part, step, value, byte, layout, leaf_layout, Parts, ValueBy, NodeIn, Spells}
+use Rattle.amf_tables.proofs.BytesOf.{to_spells}
+use Rattle.amf3_write.specs.Written.{AppendsPart}
+use Rattle.amf3_write.specs.Writes.{BeginsWith}
+use Rattle.amf3_write.proofs.NamedPairs.{all_push}
+
+module _ (g : Graph) where
+  abbrev Inside : Tables → Type 0
+  Inside t = AllByRecursion (λ i. i < length g.nodes) t.nodes
+
+  abbrev Stays : Spelling Tables → Type 0
+  Stays A = (t : Tables) (b : List ℕ) (t' : Tables) → A t b t' → Inside t → Inside t'
+
+  stays_same : (t t' : Tables) → t'.nodes ≡ t.nodes → Inside t → Inside t'
+  stays_same t t' e h = subst (λ w. AllByRecursion (λ i. i < length g.nodes) w) (sym e) h
+
+  stays_parts : (R : Value → Spelling Tables) → ((v : Value) → Stays (R v)) → (ps : List Part) → Stays (Parts R canonical ps)
+  stays_parts R f [] t b t' p h = stays_same t t' (ap (λ (w : Tables). w.nodes) p.1) h
+  stays_parts R f (step x ∷ ps) t b t' p h = stays_parts R f ps p.mid p.back t' p.second (stays_same t p.mid (ap (λ (w : Tables). w.nodes) p.first.2) h)
+  stays_parts R f (value v ∷ ps) t b t' p h = stays_parts R f ps p.mid p.back t' p.second (f v t p.front p.mid p.first h)
+
+  stays_value : (N : ℕ → Spelling Tables) → ((i : ℕ) → Stays (N i)) → (v : Value) → Stays (ValueBy N canonical g v)
+  stays_value N f (leaf x) t b t' p h = stays_parts (λ v t b t'. ⊥) (λ v t b t' q. absurd q) (step (byte (leaf_marker x)) ∷ leaf_layout x) t b t' p.1 h
+  stays_value N f (node i) t b t' p h = f i t p.0 t' p.2 h
+
+  stays_node : (d i : ℕ) → Stays (NodeIn d canonical g i)
+  stays_node zero i t b t' p h = stays_same t t' (ap (λ (w : Tables). w.nodes) p.same) h
+  stays_node (suc d) i t b t' (inl p) h = stays_same t t' (ap (λ (w : Tables). w.nodes) p.same) h
+  stays_node (suc d) i t b t' (inr p) h =
+      stays_parts (Spells d canonical g) (stays_value (NodeIn d canonical g) (stays_node d)) (layout (node_at g i).head p.wire (node_at g i).values) (add_node t i) b t' p.body (all_push (λ j. j < length g.nodes) t.nodes i h p.exists)
+
+  pub part_inside : (levels : ℕ) (v : Value) (t t' : Tables) (old new : List ℕ) (n : ℕ) → length g.nodes ≡ n → AppendsPart g levels v t t' old new → AllByRecursion (λ i. i < n) t.nodes → AllByRecursion (λ i. i < n) t'.nodes
+  part_inside levels v t t' old new n e p h =
+      subst (λ k. AllByRecursion (λ i. i < k) t'.nodes) e
+      (stays_value (NodeIn levels canonical g) (stays_node levels) v t (flat p.0) t' (to_spells levels canonical g v t p.0 t' p.1) (subst (λ k. AllByRecursion (λ i. i < k) t.nodes) (sym e) h))
+
+map_take : (ns : List NodeId) (n : ℕ) → map {A = NodeId} {B = ℕ} (λ i. i.0) (take n ns) ≡ take n (map (λ i. i.0) ns)
+map_take ns zero = refl
+map_take [] (suc n) = refl
+map_take (i ∷ ns) (suc n) = ap (λ w. i.0 ∷ w) (map_take ns n)
+
+-- so many of the nodes as there were are those that there were
+pub nodes_before : (ns : List NodeId) (old new : List ℕ) (count : ℕ) → count ≡ length old → map (λ i. i.0) ns ≡ new → BeginsWith old new → map (λ i. i.0) (take count ns) ≡ old
+nodes_before ns old new count c e b = map_take ns count ∙ ap (take count) (e ∙ b.is) ∙ take_at old b.rest count (sym c)
+
+pub ids_inside : (ns : List NodeId) (n : ℕ) (old : List ℕ) → map (λ i. i.0) ns ≡ old → AllByRecursion (λ i. i < n) old → AllByRecursion (λ (i : NodeId). i.0 < n) ns
+ids_inside ns n old e h = go ns (subst (λ w. AllByRecursion (λ i. i < n) w) (sym e) h)
+  where
+    go : (ns : List NodeId) → AllByRecursion (λ i. i < n) (map (λ i. i.0) ns) → AllByRecursion (λ (i : NodeId). i.0 < n) ns
+    go [] h = tt
+    go (i ∷ ns) h = (h.0, go ns h.1)
