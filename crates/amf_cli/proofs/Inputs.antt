@@ -1,28 +1,36 @@
 -- How the reading of a whole input ends.
-use Rattle.std.proofs.Common.{◌≡◌, ℕ, ◌≤◌, ◌<◌, List, [], ◌∷◌, ◌++◌, ◌+◌, length, length-append, take, drop, Result, Err, Bool, true, false, IsTrue, ◌↔◌, refl, sym, ap, ◌∙◌, subst, arith, inl, inr}
+use Rattle.std.proofs.Common.{◌≡◌, ℕ, ◌≤◌, List, [], ◌∷◌, ◌++◌, ◌+◌, ◌^◌, length, length-append, append_assoc, take, drop, Result, Err, false, refl, sym, ap, ◌∙◌, subst, arith, inl, inr}
 use Rattle.std.specs.List.{AllByRecursion}
 use Rattle.std.proofs.lemmas.List.{append-nil, length-take}
-use Rattle.amf_io.specs.declared.reason.Reason.TheVariants.{Trailing}
 use Rattle.amf_io.specs.declared.window.Window.{Window}
 use Rattle.amf_io.specs.declared.cursor.Cursor.{Cursor}
-use Rattle.amf_io.specs.declared.ends.CursorEnd.{CursorEnd}
-use Rattle.amf_io.specs.declared.ends.CursorEnd.TheVariants as ends
 use Rattle.amf_io.specs.Cursor.{source_of, ahead, unread, EndsByFault, GivesEnd}
 use Rattle.amf_io.specs.Cursor as cursors
+use Rattle.amf_io.specs.CursorReads.{Goes}
 use Rattle.amf_io.specs.ReadEnds.{IsFaultedEnd}
-use Rattle.amf_io.specs.Field.{flat}
-use Rattle.amf_io.specs.Verdict.{IsInputRefused, refused, trailing}
+use Rattle.amf_io.specs.Field.{Field, flat}
+use Rattle.amf_io.specs.Verdict.{IsRefused, IsCutOff, refused, trailing}
+use Rattle.amf_io.proofs.Paths.{flat-append}
 use Rattle.amf_io.specs.declared.ends.ReadEnd.{ReadEnd}
 use Rattle.amf_io.specs.declared.ends.ReadEnd.TheVariants.{Refused, ReadFault, Memory}
 use Rattle.amf_graph.specs.declared.value.Value.{Value}
+use Rattle.amf_graph.specs.Graph.{Graph}
 use Rattle.amf_graph.specs.Arena.{Arena, graph_of, IsFinished}
 use Rattle.amf_graph.proofs.FinishedSmall.{completes_itself}
 use Rattle.amf_tables.specs.KeptTables.{KeptTables, no_kept_tables, tables_of}
 use Rattle.amf_tables.specs.Reads3.{Grows, no_arena}
-use Rattle.amf_tables.proofs.Values3Layout.{no_arena_built}
-use Rattle.amf3_read.specs.Answer.{IsRead, IsInterrupted, AnswersAs}
-use Rattle.amf_cli.specs.Run.{most, levels, IsValue, IsInputOf, IsHidden, ReadsInput}
+use Rattle.amf_tables.proofs.Values3Layout.{no_arena_built, values3_is_layout}
+use Rattle.amf_tables.specs.Layout3State.{no_state}
+use Rattle.amf_tables.specs.Layout3.{value_layout}
+use Rattle.amf3_read.specs.Answer.{IsRead, AnswersAs}
+use Rattle.amf_cli.specs.declared.command.Command.{Command}
+use Rattle.amf_cli.specs.declared.command.Command.TheVariants.{Canon, Same}
+use Rattle.amf3_read.specs.Pairs.{Pair}
+use Rattle.amf_cli.specs.Run.{most, levels, IsValue, IsInputOf, ArePairIn, IsHidden, ReadsInput}
+use Rattle.amf_cli.specs.Reading.{IsReadOne, AnswersOne, AnswersEnd, AnswersInput}
 use Rattle.amf_cli.specs.Lines.{end_of}
+use Rattle.amf3_read.proofs.Pairs.{first_refused, first_cut, second_refused, second_cut}
+use Rattle.amf_cli.proofs.Spelled.{layouts}
 
 -- where nothing is read ahead, what is unread is what the source has left
 pub none_unread : {S : Type 0} (left : S → List ℕ) (c : Cursor S Window) → ahead c ≡ 0 → unread left c ≡ left (source_of c).now
@@ -44,77 +52,187 @@ none_left [] rest e = e
 none_left (x ∷ front) rest e = cc
 
 -- no more than one byte past the most was taken
-pub taken_whole : (at mid end next between behind ahead rest limit bound : ℕ) → at ≡ 0 → limit ≡ most → bound ≡ limit → mid + between ≡ at + next → end + behind ≡ mid + between → end + ahead ≤ bound + 1 → behind ≤ ahead + rest → next ≤ rest + (most + 1)
-taken_whole at mid end next between behind ahead rest limit bound z l b first second past within = omega arith
+pub taken_whole : (at end next behind ahead rest limit bound : ℕ) → at ≡ 0 → limit ≡ most → bound ≡ limit → end + behind ≡ at + next → end + ahead ≤ bound + 1 → behind ≤ ahead + rest → next ≤ rest + (most + 1)
+taken_whole at end next behind ahead rest limit bound z l b total past within = omega arith
 
--- what the test for the end says where it fails, and where bytes are left
-pub end_faulted : (next rest : List ℕ) (n : ℕ) (e : CursorEnd) → EndsByFault {T = Bool} (Err e) → GivesEnd next rest (Err e) → cursors.IsFaultedAt {T = Bool} n (Err e) → (rest ≡ next) × (n ≡ 0)
-end_faulted next rest n ends.Ended h g f = absurd h
-end_faulted next rest n ends.TooLarge h g f = absurd h
-end_faulted next rest n ends.ReadFault h g f = (g, f)
-end_faulted next rest n ends.Memory h g f = absurd h
-
-pub not_ended : (next : List ℕ) (b : Bool) → (IsTrue b ↔ (next ≡ [])) → b ≡ false → 0 < length next
-not_ended [] b h e = let t : b ≡ true = h.1 refl in absurd cc
-not_ended (x ∷ next) b h e = omega arith
-
--- what is answered, from nothing and from the start up to the most
-pub answers_from_start : (told : Type 0) (a b : Arena) (t u : KeptTables) (input rest : List ℕ) (at place limit : ℕ) (r : Result Value ReadEnd) → a ≡ no_arena → t ≡ no_kept_tables → at ≡ 0 → limit ≡ most
-    → AnswersAs levels told a b t u input rest at place limit r → AnswersAs levels told no_arena b no_kept_tables u input rest 0 place most r
-answers_from_start told a b t u input rest at place limit r e h z m w =
-    subst (λ x. AnswersAs levels told x b no_kept_tables u input rest 0 place most r) e
-    (subst (λ x. AnswersAs levels told a b x u input rest 0 place most r) h
-    (subst (λ x. AnswersAs levels told a b t u input rest x place most r) z
-    (subst (λ x. AnswersAs levels told a b t u input rest at place x r) m w)))
+-- what is answered, from nothing up to the most
+pub from_nothing : (told : Type 0) (a b : Arena) (t u : KeptTables) (input rest : List ℕ) (at place limit : ℕ) (r : Result Value ReadEnd) → a ≡ no_arena → t ≡ no_kept_tables → limit ≡ most
+    → AnswersAs levels told a b t u input rest at place limit r → AnswersAs levels told no_arena b no_kept_tables u input rest at place most r
+from_nothing told a b t u input rest at place limit r e h m w =
+    subst (λ x. AnswersAs levels told x b no_kept_tables u input rest at place most r) e
+    (subst (λ x. AnswersAs levels told a b x u input rest at place most r) h
+    (subst (λ x. AnswersAs levels told a b t u input rest at place x r) m w))
 
 -- what was read from nothing: all nodes of it are new, and closed
-abbrev pub IsReadWhole : Type 0 → Arena → KeptTables → Value → List ℕ → List ℕ → ℕ → Type 0
-IsReadWhole told b u v input rest place = IsRead levels told no_arena b no_kept_tables u v input rest 0 place most
 
 pub all_closed : (b : Arena) → Grows no_arena b → AllByRecursion (λ n. n.is_open ≡ false) b.nodes
 all_closed b g = subst (λ ns. AllByRecursion (λ n. n.is_open ≡ false) ns) (sym g.nodes) g.closed
 
-finished : (told : Type 0) (b : Arena) (u : KeptTables) (v : Value) (input rest : List ℕ) (place : ℕ) → IsReadWhole told b u v input rest place → IsFinished b
-finished told b u v input rest place r = record { built = r.read.built no_arena_built; closed = all_closed b r.read.grows }
+pub one_read : (told : Type 0) (b : Arena) (u : KeptTables) (v : Value) (input rest : List ℕ) (at place : ℕ) → IsRead levels told no_arena b no_kept_tables u v input rest at place most → IsReadOne told (graph_of b v) input rest at place
+one_read told b u v input rest at place r =
+    let finished : IsFinished b = record { built = r.read.built no_arena_built; closed = all_closed b r.read.grows } in
+    record { fields = r.fields; read = (tables_of b u, r.read.spelled b (completes_itself b finished)); accepted = r.accepted; parts = r.parts; taken = r.taken; within = r.within }
 
--- nothing follows the value
-whole_input : (told : Type 0) (b : Arena) (u : KeptTables) (v : Value) (input : List ℕ) (place : ℕ) → told → IsReadWhole told b u v input [] place → IsInputOf (graph_of b v) input
-whole_input told b u v input place y r =
-    let all : input ≡ flat r.fields = r.parts y ∙ append-nil (flat r.fields) in
-    record {
-      fields = r.fields;
-      spelled = (tables_of b u, r.read.spelled b (completes_itself b (finished told b u v input [] place r)));
-      parts = all;
-      within = let t = r.taken in let w = r.within in let n : length input ≡ length (flat r.fields) = ap length all in omega arith;
-    }
+pub one_ends : (told : Type 0) (b : Arena) (u : KeptTables) (input rest : List ℕ) (at place : ℕ) (e : ReadEnd) → AnswersAs levels told no_arena b no_kept_tables u input rest at place most (Err e) → AnswersOne told input rest at place (Err e)
+one_ends told b u input rest at place (Refused f) h = h
+one_ends told b u input rest at place ReadFault h = h
+one_ends told b u input rest at place Memory h = tt
 
-pub whole_read : (told : Type 0) (b : Arena) (u : KeptTables) (v : Value) (input mid : List ℕ) (place : ℕ) → told → mid ≡ [] → IsReadWhole told b u v input mid place → IsInputOf (graph_of b v) input
-whole_read told b u v input mid place y e r = whole_input told b u v input place y (subst (λ m. IsReadWhole told b u v input m place) e r)
+-- where a source tells at the start, what a later reader says where it tells then holds
+pub read_told : {more : Type 0} (told : Type 0) (g : Graph) (input rest : List ℕ) (at place : ℕ) → (told → more) → IsReadOne more g input rest at place → IsReadOne told g input rest at place
+read_told told g input rest at place go r = record { fields = r.fields; read = r.read; accepted = r.accepted; parts = λ t. r.parts (go t); taken = r.taken; within = r.within }
 
--- bytes follow it
-pub more_follows : (told : Type 0) (b : Arena) (u : KeptTables) (v : Value) (input mid : List ℕ) (place : ℕ) → told → IsReadWhole told b u v input mid place → 0 < length mid → IsInputRefused IsValue most input Trailing place
-more_follows told b u v input mid place y r lt = trailing refl mid lt (record { fields = r.fields; accepted = r.accepted; parts = r.parts y; place = r.taken; within = r.within })
+pub ends_told : {more : Type 0} (told : Type 0) (input rest : List ℕ) (at place : ℕ) (e : ReadEnd) → (told → more) → AnswersOne more input rest at place (Err e) → AnswersOne told input rest at place (Err e)
+ends_told told input rest at place (Refused f) go h = λ t. h (go t)
+ends_told told input rest at place ReadFault go h = λ t. h (go t)
+ends_told told input rest at place Memory go h = tt
 
--- a read failed inside the value
-pub hidden_inside : (input rest : List ℕ) → IsInterrupted IsValue input rest 0 most → IsHidden input rest
-hidden_inside input rest i = record { given = i.given; parts = i.parts; unsettled = record { within = let w = i.within in omega arith; waits = inl (i.stop, i.cut_off) } }
+-- The one value of an input.
 
--- a read failed behind the value
-pub hidden_behind : (told : Type 0) (b : Arena) (u : KeptTables) (v : Value) (input mid : List ℕ) (place : ℕ) → told → IsReadWhole told b u v input mid place → IsHidden input mid
-hidden_behind told b u v input mid place y r =
+pub whole_ends : {X : Type 0} (Q : X → Type 0) (told : Type 0) (input rest : List ℕ) (place : ℕ) (e : ReadEnd) → told → AnswersOne told input rest 0 place (Err e) → AnswersInput Canon Q input rest (Err e)
+whole_ends Q told input rest place (Refused f) y h = refused (h y)
+whole_ends Q told input rest place ReadFault y h =
+    let i = h y in
+    let w = i.within in
+    record { given = i.given; parts = i.parts; unsettled = record { within = omega arith; waits = inl (i.stop, i.cut_off) } }
+whole_ends Q told input rest place Memory y h = tt
+
+-- nothing follows it
+pub whole_read : (told : Type 0) (g : Graph) (input mid : List ℕ) (place : ℕ) → told → mid ≡ [] → IsReadOne told g input mid 0 place → IsInputOf g input
+whole_read told g input mid place y e r =
+    let all : input ≡ flat r.fields = r.parts y ∙ ap (λ m. flat r.fields ++ m) e ∙ append-nil (flat r.fields) in
+    record { fields = r.fields; spelled = r.read; parts = all; within = let t = r.taken in let w = r.within in let n : length input ≡ length (flat r.fields) = ap length all in omega arith }
+
+-- it ends, or bytes follow it, or a read fails behind it
+pub whole_end_ends : {X : Type 0} (Q : X → Type 0) (told : Type 0) (g : Graph) (input mid rest : List ℕ) (place : ℕ) (e : ReadEnd) → told → IsReadOne told g input mid 0 place → AnswersEnd {T = Unit {0}} mid rest place (Err e) → AnswersInput Canon Q input rest (Err e)
+whole_end_ends Q told g input mid rest place (Refused f) y r (why, at, more) =
+    trailing why mid more (record { fields = r.fields; accepted = r.accepted; parts = r.parts y; place = at ∙ r.taken; within = let w = r.within in omega arith })
+whole_end_ends Q told g input mid rest place ReadFault y r same =
     let fits : length (flat r.fields) ≤ most = let t = r.taken in let w = r.within in omega arith in
     record {
       given = flat r.fields;
-      parts = r.parts y;
+      parts = r.parts y ∙ ap (λ l. flat r.fields ++ l) (sym same);
       unsettled = record {
         within = fits;
         waits = inr (record { fields = r.fields; accepted = r.accepted; parts = sym (append-nil (flat r.fields)); place = omega arith; within = fits });
       };
     }
+whole_end_ends Q told g input mid rest place Memory y r h = absurd h
 
--- an end of the reader of the value is that of the input's
-pub end_inside : {X : Type 0} (P : X → Type 0) (told : Type 0) (b : Arena) (u : KeptTables) (input rest left : List ℕ) (place : ℕ) (e : ReadEnd) → told
-    → AnswersAs levels told no_arena b no_kept_tables u input rest 0 place most (Err e) → (e ≡ ReadFault → rest ≡ left) → ReadsInput P input left (Err (end_of e))
-end_inside P told b u input rest left place (Refused f) y r k = refused (r y)
-end_inside P told b u input rest left place ReadFault y i k = hidden_inside input left (subst (λ s. IsInterrupted IsValue input s 0 most) (k refl) (i y))
-end_inside P told b u input rest left place Memory y h k = tt
+-- The two values of an input.
+
+-- some fields are accepted
+null_fields : (fs : List Field) × IsValue fs
+null_fields =
+    let r = values3_is_layout levels in
+    let a = r.able 1 (omega arith) [] (value_layout 1 levels no_state) refl (omega arith) in
+    (a.more, r.sound 1 a.more a.value a.bytes a.runs)
+
+pub pair_first_ends : {X : Type 0} (Q : X → Type 0) (told : Type 0) (input rest : List ℕ) (place : ℕ) (e : ReadEnd) → told → AnswersOne told input rest 0 place (Err e) → AnswersInput Same Q input rest (Err e)
+pair_first_ends Q told input rest place (Refused f) y h = refused (first_refused (2 ^ 28) layouts IsValue (values3_is_layout levels) most f.at f.reason input null_fields.0 null_fields.1 (h y))
+pair_first_ends Q told input rest place ReadFault y h =
+    let i = h y in
+    let w = i.within in
+    record { given = i.given; parts = i.parts; unsettled = record { within = omega arith; waits = inl (i.stop, first_cut (2 ^ 28) layouts IsValue (values3_is_layout levels) i.stop i.given null_fields.0 null_fields.1 i.cut_off) } }
+pair_first_ends Q told input rest place Memory y h = tt
+
+pub pair_second_ends : {X : Type 0} (Q : X → Type 0) (told : Type 0) (g : Graph) (input mid rest : List ℕ) (between place : ℕ) (e : ReadEnd) → told → IsReadOne told g input mid 0 between → AnswersOne told mid rest between place (Err e) → AnswersInput Same Q input rest (Err e)
+pair_second_ends Q told g input mid rest between place (Refused f) y r h =
+    let fs = r.fields in
+    let w = r.within in
+    let t : between ≡ length (flat fs) = let k = r.taken in omega arith in
+    refused (subst (λ l. IsRefused (Pair IsValue) 0 most l f.reason f.at) (sym (r.parts y))
+    (second_refused (2 ^ 28) layouts IsValue (values3_is_layout levels) fs most f.at f.reason mid r.accepted (omega arith) (subst (λ k. IsRefused IsValue k most mid f.reason f.at) t (h y))))
+pair_second_ends Q told g input mid rest between place ReadFault y r h =
+    let fs = r.fields in
+    let i = h y in
+    let w = i.within in
+    let t : between ≡ length (flat fs) = let k = r.taken in omega arith in
+    record {
+      given = flat fs ++ i.given;
+      parts = r.parts y ∙ ap (λ l. flat fs ++ l) i.parts ∙ sym (append_assoc (flat fs) i.given rest);
+      unsettled = record {
+        within = omega (arith, length-append (flat fs) i.given);
+        waits = inl (i.stop, second_cut (2 ^ 28) layouts IsValue (values3_is_layout levels) fs i.stop i.given r.accepted (subst (λ k. IsCutOff IsValue k i.given i.stop) t i.cut_off));
+      };
+    }
+pair_second_ends Q told g input mid rest between place Memory y r h = tt
+
+-- both were read
+both_parts : (fs gs : List Field) (input mid last : List ℕ) → input ≡ flat fs ++ mid → mid ≡ flat gs ++ last → input ≡ flat (fs ++ gs) ++ last
+both_parts fs gs input mid last e d = e ∙ ap (λ l. flat fs ++ l) d ∙ sym (append_assoc (flat fs) (flat gs) last) ∙ ap (λ l. l ++ last) (sym (flat-append fs gs))
+
+both_length : (fs gs : List Field) → length (flat (fs ++ gs)) ≡ length (flat fs) + length (flat gs)
+both_length fs gs = ap length (flat-append fs gs) ∙ length-append (flat fs) (flat gs)
+
+pub pair_read : (told : Type 0) (g h : Graph) (input mid rest : List ℕ) (between place : ℕ) → told → rest ≡ [] → IsReadOne told g input mid 0 between → IsReadOne told h mid rest between place → ArePairIn g h input
+pair_read told g h input mid rest between place y e r s =
+    let all : input ≡ flat r.fields ++ flat s.fields = r.parts y ∙ ap (λ l. flat r.fields ++ l) (s.parts y ∙ ap (λ m. flat s.fields ++ m) e ∙ append-nil (flat s.fields)) in
+    record {
+      front = r.fields;
+      back = s.fields;
+      first = r.read;
+      second = s.read;
+      parts = all;
+      within = let t = r.taken in let u = s.taken in let w = s.within in omega (arith, ap length all, length-append (flat r.fields) (flat s.fields));
+    }
+
+pub pair_end_ends : {X : Type 0} (Q : X → Type 0) (told : Type 0) (g h : Graph) (input mid last rest : List ℕ) (between place : ℕ) (e : ReadEnd) → told → IsReadOne told g input mid 0 between → IsReadOne told h mid last between place
+    → AnswersEnd {T = Unit {0}} last rest place (Err e) → AnswersInput Same Q input rest (Err e)
+pair_end_ends Q told g h input mid last rest between place (Refused f) y r s (why, at, more) =
+    trailing why last more (record {
+      fields = r.fields ++ s.fields;
+      accepted = record { front = r.fields; back = s.fields; parts = refl; first = r.accepted; second = s.accepted };
+      parts = both_parts r.fields s.fields input mid last (r.parts y) (s.parts y);
+      place = let t = r.taken in let u = s.taken in omega (arith, at, both_length r.fields s.fields);
+      within = let w = s.within in omega (arith, at);
+    })
+pair_end_ends Q told g h input mid last rest between place ReadFault y r s same =
+    let fs = r.fields ++ s.fields in
+    let fits : length (flat fs) ≤ most = let t = r.taken in let u = s.taken in let w = s.within in omega (arith, both_length r.fields s.fields) in
+    record {
+      given = flat fs;
+      parts = both_parts r.fields s.fields input mid last (r.parts y) (s.parts y) ∙ ap (λ l. flat fs ++ l) (sym same);
+      unsettled = record {
+        within = fits;
+        waits = inr (record {
+          fields = fs;
+          accepted = record { front = r.fields; back = s.fields; parts = refl; first = r.accepted; second = s.accepted };
+          parts = sym (append-nil (flat fs));
+          place = omega arith;
+          within = fits;
+        });
+      };
+    }
+pair_end_ends Q told g h input mid last rest between place Memory y r s none = absurd none
+
+-- what was taken by a reader that went on from the start
+pub taken_by : {S X : Type 0} (tells : S → Type 0) (left : S → List ℕ) (faults : S → ℕ) (old new : Cursor S Window) (r : Result X ReadEnd) → cursors.place old ≡ 0 → cursors.bound old ≡ most → Goes tells left faults old new r → tells (source_of old).now
+    → length (unread left old) ≤ length (left (source_of new).now) + (most + 1)
+taken_by tells left faults old new r z l g told =
+    taken_whole (cursors.place old) (cursors.place new) (length (unread left old)) (length (unread left new)) (ahead new) (length (left (source_of new).now)) (cursors.bound old) (cursors.bound new) z l g.same_bound (g.total told) g.one_past (unread_within left new)
+
+-- and by one that went on behind it
+pub taken_behind : {S X Y : Type 0} (tells : S → Type 0) (left : S → List ℕ) (faults : S → ℕ) (old mid new : Cursor S Window) (r : Result X ReadEnd) (s : Result Y ReadEnd) → cursors.place old ≡ 0 → cursors.bound old ≡ most → Goes tells left faults old mid r → Goes tells left faults mid new s → tells (source_of old).now
+    → length (unread left old) ≤ length (left (source_of new).now) + (most + 1)
+taken_behind tells left faults old mid new r s z l g h told =
+    taken_whole (cursors.place old) (cursors.place new) (length (unread left old)) (length (unread left new)) (ahead new) (length (left (source_of new).now)) (cursors.bound old) (cursors.bound new) z l (h.same_bound ∙ g.same_bound) (h.total (g.told told) ∙ g.total told) h.one_past (unread_within left new)
+
+pub taken_last : {S X Y Z : Type 0} (tells : S → Type 0) (left : S → List ℕ) (faults : S → ℕ) (old mid next new : Cursor S Window) (r : Result X ReadEnd) (s : Result Y ReadEnd) (t : Result Z ReadEnd) → cursors.place old ≡ 0 → cursors.bound old ≡ most
+    → Goes tells left faults old mid r → Goes tells left faults mid next s → Goes tells left faults next new t → tells (source_of old).now → length (unread left old) ≤ length (left (source_of new).now) + (most + 1)
+taken_last tells left faults old mid next new r s t z l g h k told =
+    taken_whole (cursors.place old) (cursors.place new) (length (unread left old)) (length (unread left new)) (ahead new) (length (left (source_of new).now)) (cursors.bound old) (cursors.bound new) z l (k.same_bound ∙ h.same_bound ∙ g.same_bound) (k.total (h.told (g.told told)) ∙ h.total (g.told told) ∙ g.total told) k.one_past (unread_within left new)
+
+-- where a read failed, what is unread is what the source has left
+pub left_behind : {S X : Type 0} (tells : S → Type 0) (left : S → List ℕ) (faults : S → ℕ) (old new : Cursor S Window) (e : ReadEnd) → Goes {X = X} tells left faults old new (Err e) → e ≡ ReadFault → unread left new ≡ left (source_of new).now
+left_behind tells left faults old new e g h = none_unread left new (none_after_fault (ahead new) e g.none_ahead h)
+
+-- where nothing is unread, the source has nothing left
+pub nothing_left : {S : Type 0} (left : S → List ℕ) (c : Cursor S Window) → unread left c ≡ [] → left (source_of c).now ≡ []
+nothing_left left c e = none_left (take (ahead c) (drop c.window.start c.window.buffer.items)) (left (source_of c).now) e
+
+-- an end of the reader is that of the run
+pub end_of_input : {X Y : Type 0} (c : Command) (P : X → Type 0) (Q : Y → Type 0) (input rest left : List ℕ) (e : ReadEnd) → AnswersInput c P input rest (Err e) → (e ≡ ReadFault → rest ≡ left) → ReadsInput c Q input left (Err (end_of e))
+end_of_input c P Q input rest left (Refused f) h k = h
+end_of_input c P Q input rest left ReadFault h k = subst (λ s. IsHidden c input s) (k refl) h
+end_of_input c P Q input rest left Memory h k = tt

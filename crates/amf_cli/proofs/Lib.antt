@@ -1,5 +1,5 @@
 mod Fronts
+mod Spelled
 mod Inputs
 mod OneWord
-mod Spelled
 mod Statuses

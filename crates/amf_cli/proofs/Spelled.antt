@@ -1,23 +1,25 @@
--- An input that spells a graph: it is not refused, and all graphs that it spells have the same canonical spelling or lack one.
-use Rattle.std.proofs.Common.{◌≡◌, ℕ, ◌+◌, ◌-◌, ◌^◌, ◌<◌, List, [], ◌++◌, length, refl, sym, ap, ◌∙◌, subst, arith}
-use Rattle.std.proofs.lemmas.List.{append-nil, take_all}
+-- An input that a command accepts: it is not refused, and what is written of it holds of all graphs that it spells.
+use Rattle.std.proofs.Common.{◌≡◌, inl, inr, ℕ, ◌+◌, ◌-◌, ◌^◌, ◌<◌, ◌≤◌, List, [], ◌++◌, length, length-append, take, refl, sym, ap, ◌∙◌, subst, arith}
+use Rattle.std.proofs.lemmas.List.{append-nil, take_all, take_at}
 use Rattle.amf_io.specs.declared.reason.Reason.{Reason}
-use Rattle.amf_io.specs.Field.{flat}
-use Rattle.amf_io.specs.Layout.{Layout}
+use Rattle.amf_io.specs.Field.{Field, flat}
+use Rattle.amf_io.specs.Layout.{Layout, Runs, give, IsLayout}
 use Rattle.amf_io.specs.Reading.{Done, Bad, Short, run}
 use Rattle.amf_io.specs.Verdict.{IsFault, IsCutOff, IsAccepted, IsInputAccepted, faulty, truncated, too_large, IsInputRefused, refused, trailing}
 use Rattle.amf_io.proofs.Inputs.{judged_once}
-use Rattle.amf_io.proofs.Paths.{runs_run}
+use Rattle.amf_io.proofs.Paths.{runs_run, runs_bind, flat-append}
 use Rattle.amf_io.proofs.Unique.{fault_run}
 use Rattle.amf_io.proofs.Verdicts.{accepts, short_run}
 use Rattle.amf_wire.specs.Style.{free, canonical}
+use Rattle.amf_graph.specs.declared.lack.Lack.{Lack}
 use Rattle.amf_graph.specs.declared.lack.LackKind.{LackKind}
 use Rattle.amf_graph.specs.Graph.{Graph}
 use Rattle.amf_graph.specs.Isomorphic.{StandIn, Isomorphic}
+use Rattle.amf_graph.proofs.Isomorphisms.{isomorphic_sym, isomorphic_trans}
 use Rattle.amf_graph.proofs.NameOrder.{by_name_again}
 use Rattle.amf_tables.specs.Tables.{no_tables}
 use Rattle.amf_tables.specs.Lacks3.{IsLack3}
-use Rattle.amf_tables.specs.Spells3.{Spelled3}
+use Rattle.amf_tables.specs.Spells3.{Spelled3, IsSpelling3}
 use Rattle.amf_tables.specs.Layout3State.{no_state}
 use Rattle.amf_tables.specs.Layout3.{ValueRead, value_layout}
 use Rattle.amf_tables.proofs.BytesOf.{to_spells}
@@ -28,54 +30,97 @@ use Rattle.amf_tables.proofs.FirstLack3.{spelling_or_lack}
 use Rattle.amf_tables.proofs.Layout3Parts.{Found}
 use Rattle.amf_tables.proofs.Layout3Complete.{spelled_read}
 use Rattle.amf_tables.proofs.Values3Layout.{values3_is_layout}
-use Rattle.amf_cli.specs.Run.{most, levels, IsValue, IsInputOf, IsCanonicalOf, IsConverted, Decides}
+use Rattle.amf_cli.specs.declared.command.Command.{Command}
+use Rattle.amf_cli.specs.declared.command.Command.TheVariants.{Canon, Same}
+use Rattle.amf3_read.specs.Pairs.{Pair}
+use Rattle.amf3_read.proofs.PairLayouts.{pair_layout, pairs_are_layouts}
+use Rattle.amf_cli.specs.Run.{most, levels, IsValue, Accepts, IsInputOf, ArePairIn, IsCanonicalOf, IsConverted, Says, Makes, Decides, Lacks}
 
-abbrev layouts : ℕ → Layout ValueRead
+abbrev pub layouts : ℕ → Layout ValueRead
 layouts n = value_layout n levels no_state
 
+abbrev pairs : ℕ → Layout ValueRead
+pairs = pair_layout levels
+
+pairs_are_layout : IsLayout (2 ^ 28) pairs (Pair IsValue)
+pairs_are_layout = pairs_are_layouts levels
+
 -- an input has one verdict
-pub once : (input : List ℕ) → IsInputAccepted IsValue most input → (reason : Reason) (at : ℕ) → IsInputRefused IsValue most input reason at → ⊥
-once input = (judged_once (2 ^ 28) layouts IsValue (values3_is_layout levels) most input).not_both
+pub once : (c : Command) (input : List ℕ) → IsInputAccepted (Accepts c) most input → (reason : Reason) (at : ℕ) → IsInputRefused (Accepts c) most input reason at → ⊥
+once Canon input = (judged_once (2 ^ 28) layouts IsValue (values3_is_layout levels) most input).not_both
+once Same input = (judged_once (2 ^ 28) pairs (Pair IsValue) pairs_are_layout most input).not_both
+
+-- an input within the most that is read to its end is not refused
+module _ (t : ℕ → Layout ValueRead) (P : List Field → Type 0) (g : IsLayout (2 ^ 28) t P) (input : List ℕ) (within : length input ≤ most) (done : (m : ℕ) → length input < m → (x : ValueRead) × (run (t m) 0 input ≡ Done x (length input) [])) where
+  not_faulty : (reason : Reason) (at : ℕ) → IsFault P 0 input reason at → ⊥
+  not_faulty reason at f =
+      let s = fault_run (2 ^ 28) t P g 0 at reason input f in
+      let d = done (s.0 + length input + 1) (omega arith) in
+      let clash : Done d.0 (length input) [] ≡ Bad reason at = sym d.1 ∙ s.1 (s.0 + length input + 1) (omega arith) in
+      absurd cc
+
+  not_cut_off : (at : ℕ) → IsCutOff P 0 input at → ⊥
+  not_cut_off at f =
+      let s = short_run (2 ^ 28) t P g 0 at input f in
+      let d = done (s.0 + length input + 1) (omega arith) in
+      let clash : Done d.0 (length input) [] ≡ Short at = sym d.1 ∙ s.1 (s.0 + length input + 1) (omega arith) in
+      absurd cc
+
+  none_behind : (rest : List ℕ) (at : ℕ) → IsAccepted P 0 most input at rest → rest ≡ []
+  none_behind rest at a =
+      let m = length (flat a.fields) + length input + 1 in
+      let c = accepts (2 ^ 28) t P g 0 a.fields m rest a.accepted (omega arith) in
+      let d = done m (omega arith) in
+      let same : Done d.0 (length input) [] ≡ Done c.0 (0 + length (flat a.fields)) rest = sym d.1 ∙ ap (run (t m) 0) a.parts ∙ c.1 in
+      cc
+
+  whole_not_refused : (reason : Reason) (at : ℕ) → IsInputRefused P most input reason at → ⊥
+  whole_not_refused reason at (refused (faulty f)) = not_faulty reason at (subst (λ w. IsFault P 0 w reason at) (take_all (most - 0) input (omega arith)) f)
+  whole_not_refused reason at (refused (truncated why c)) = not_cut_off at c.cut_off
+  whole_not_refused reason at (refused (too_large why c)) = let longer = c.longer in absurd (omega arith)
+  whole_not_refused reason at (trailing why rest some a) = let none : length rest ≡ 0 = ap length (none_behind rest at a) in absurd (omega arith)
+
+-- the fields of a graph are read
+found : (g : Graph) (fs : List Field) (m : ℕ) (s : IsSpelling3 levels free g fs) → length (flat fs) < m → Found g (value_layout m levels) no_state fs s.0
+found g fs m s lt = spelled_read g m levels g.root no_tables fs s.0 no_state (record { words = refl; marks = refl }) lt s.1
 
 -- what spells a graph is read to its end
-spelled_done : (g : Graph) (input : List ℕ) (m : ℕ) → IsInputOf g input → length input < m → (x : ValueRead) × (run (layouts m) 0 input ≡ Done x (length input) [])
-spelled_done g input m i lt =
+spelled_done : (g : Graph) (input : List ℕ) → IsInputOf g input → (m : ℕ) → length input < m → (x : ValueRead) × (run (layouts m) 0 input ≡ Done x (length input) [])
+spelled_done g input i m lt =
     let n : length input ≡ length (flat i.fields) = ap length i.parts in
-    let f : Found g (value_layout m levels) no_state i.fields i.spelled.0 = spelled_read g m levels g.root no_tables i.fields i.spelled.0 no_state (record { words = refl; marks = refl }) (omega arith) i.spelled.1 in
+    let f = found g i.fields m i.spelled (omega arith) in
     let e : input ≡ flat i.fields ++ [] = i.parts ∙ sym (append-nil (flat i.fields)) in
     let place : 0 + length (flat i.fields) ≡ length input = omega (arith, n) in
     (f.result, ap (run (layouts m) 0) e ∙ runs_run (layouts m) i.fields f.result 0 [] f.runs ∙ ap (λ k. Done f.result k []) place)
 
-not_faulty : (g : Graph) (input : List ℕ) (reason : Reason) (at : ℕ) → IsInputOf g input → IsFault IsValue 0 input reason at → ⊥
-not_faulty g input reason at i f =
-    let s = fault_run (2 ^ 28) layouts IsValue (values3_is_layout levels) 0 at reason input f in
-    let d = spelled_done g input (s.0 + length input + 1) i (omega arith) in
-    let clash : Done d.0 (length input) [] ≡ Bad reason at = sym d.1 ∙ s.1 (s.0 + length input + 1) (omega arith) in
-    absurd cc
-
-not_cut_off : (g : Graph) (input : List ℕ) (at : ℕ) → IsInputOf g input → IsCutOff IsValue 0 input at → ⊥
-not_cut_off g input at i f =
-    let s = short_run (2 ^ 28) layouts IsValue (values3_is_layout levels) 0 at input f in
-    let d = spelled_done g input (s.0 + length input + 1) i (omega arith) in
-    let clash : Done d.0 (length input) [] ≡ Short at = sym d.1 ∙ s.1 (s.0 + length input + 1) (omega arith) in
-    absurd cc
-
-none_behind : (g : Graph) (input rest : List ℕ) (at : ℕ) → IsInputOf g input → IsAccepted IsValue 0 most input at rest → rest ≡ []
-none_behind g input rest at i a =
-    let m = length (flat a.fields) + length input + 1 in
-    let c = accepts (2 ^ 28) layouts IsValue (values3_is_layout levels) 0 a.fields m rest a.accepted (omega arith) in
-    let d = spelled_done g input m i (omega arith) in
-    let same : Done d.0 (length input) [] ≡ Done c.0 (0 + length (flat a.fields)) rest = sym d.1 ∙ ap (run (layouts m) 0) a.parts ∙ c.1 in
-    cc
+-- and so is what spells two
+pair_done : (g h : Graph) (input : List ℕ) → ArePairIn g h input → (m : ℕ) → length input < m → (x : ValueRead) × (run (pairs m) 0 input ≡ Done x (length input) [])
+pair_done g h input p m lt =
+    let n : length input ≡ length (flat p.front) + length (flat p.back) = ap length p.parts ∙ length-append (flat p.front) (flat p.back) in
+    let a = found g p.front m p.first (omega arith) in
+    let b = found h p.back m p.second (omega arith) in
+    let fs = p.front ++ p.back in
+    let all : input ≡ flat fs = p.parts ∙ sym (flat-append p.front p.back) in
+    let e : input ≡ flat fs ++ [] = all ∙ sym (append-nil (flat fs)) in
+    let place : 0 + length (flat fs) ≡ length input = omega (arith, ap length all) in
+    let r : Runs (pairs m) fs b.result = runs_bind (layouts m) (λ x. layouts m) p.front p.back a.result (give b.result) a.runs b.runs in
+    (b.result, ap (run (pairs m) 0) e ∙ runs_run (pairs m) fs b.result 0 [] r ∙ ap (λ k. Done b.result k []) place)
 
 -- what spells a graph is not refused
 pub never_refused : (g : Graph) (input : List ℕ) (reason : Reason) (at : ℕ) → IsInputOf g input → IsInputRefused IsValue most input reason at → ⊥
-never_refused g input reason at i (refused (faulty f)) =
-    let within = i.within in
-    not_faulty g input reason at i (subst (λ w. IsFault IsValue 0 w reason at) (take_all (most - 0) input (omega arith)) f)
-never_refused g input reason at i (refused (truncated why c)) = not_cut_off g input at i c.cut_off
-never_refused g input reason at i (refused (too_large why c)) = let within = i.within in let longer = c.longer in absurd (omega arith)
-never_refused g input reason at i (trailing why rest some a) = let none : length rest ≡ 0 = ap length (none_behind g input rest at i a) in absurd (omega arith)
+never_refused g input reason at i q = whole_not_refused layouts IsValue (values3_is_layout levels) input i.within (spelled_done g input i) reason at q
+
+pair_never_refused : (g h : Graph) (input : List ℕ) (reason : Reason) (at : ℕ) → ArePairIn g h input → IsInputRefused (Pair IsValue) most input reason at → ⊥
+pair_never_refused g h input reason at p q = whole_not_refused pairs (Pair IsValue) pairs_are_layout input p.within (pair_done g h input p) reason at q
+
+-- what an output is made of is not refused
+pub made_not_refused : (c : Command) (input bytes : List ℕ) (reason : Reason) (at : ℕ) → Makes c input bytes → IsInputRefused (Accepts c) most input reason at → ⊥
+made_not_refused Canon input bytes reason at (g, i, s) q = never_refused g input reason at i q
+made_not_refused Same input bytes reason at (g, h, p, s) q = pair_never_refused g h input reason at p q
+
+pub lacks_not_refused : (c : Command) (input : List ℕ) (l : Lack) (reason : Reason) (at : ℕ) → Lacks c input l → IsInputRefused (Accepts c) most input reason at → ⊥
+lacks_not_refused Canon input l reason at (g, i, k) q = never_refused g input reason at i q
+lacks_not_refused Same input l reason at k q = absurd k
 
 -- isomorphic graphs have the same canonical spelling in the same levels
 carried : (g h : Graph) (bytes : List ℕ) → Isomorphic g h → IsCanonicalOf g bytes → IsCanonicalOf h bytes
@@ -93,5 +138,41 @@ never_both g input bytes number kind (h, j, c) i l =
     let k : IsCanonicalOf g bytes = carried h g bytes (same_bytes_isomorphic h g input (spells_free h input j) (spells_free g input i)) c in
     spelling_or_lack.not_both g levels k.0 number kind k.1 l
 
-pub decides : (input bytes : List ℕ) → IsConverted input bytes → Decides input bytes
-decides input bytes (r, j, (fs, p, e)) g h i = canonical_decides.headline input bytes r (spells_free r input j) (levels, fs, p, e) g (spells_free g input i) h
+pub makes_or_lacks : (c : Command) (input bytes : List ℕ) (l : Lack) → Makes c input bytes → Lacks c input l → ⊥
+makes_or_lacks Canon input bytes l m (g, i, k) = never_both g input bytes l.node l.kind m i k
+makes_or_lacks Same input bytes l m k = absurd k
+
+-- Two graphs that an input spells have the same fronts and backs as two others.
+
+record AreCutAlike (g h f e : Graph) : Type 0 where
+  left : Isomorphic g f
+  right : Isomorphic h e
+
+cut_alike : (g h f e : Graph) (input : List ℕ) → ArePairIn g h input → ArePairIn f e input → AreCutAlike g h f e
+cut_alike g h f e input p q =
+    let m = length (flat p.front) + length (flat q.front) + 1 in
+    let a = found g p.front m p.first (omega arith) in
+    let b = found f q.front m q.first (omega arith) in
+    let x = ap (run (layouts m) 0) p.parts ∙ runs_run (layouts m) p.front a.result 0 (flat p.back) a.runs in
+    let y = ap (run (layouts m) 0) q.parts ∙ runs_run (layouts m) q.front b.result 0 (flat q.back) b.runs in
+    let same : Done a.result (0 + length (flat p.front)) (flat p.back) ≡ Done b.result (0 + length (flat q.front)) (flat q.back) = sym x ∙ y in
+    let back : flat p.back ≡ flat q.back = cc in
+    let long : 0 + length (flat p.front) ≡ 0 + length (flat q.front) = cc in
+    let n : length (flat q.front) ≡ length (flat p.front) = omega arith in
+    let front : flat p.front ≡ flat q.front = sym (take_at (flat p.front) (flat p.back) (length (flat p.front)) refl) ∙ ap (take (length (flat p.front))) (sym p.parts ∙ q.parts) ∙ take_at (flat q.front) (flat q.back) (length (flat p.front)) n in
+    record {
+      left = same_bytes_isomorphic g f (flat p.front) (levels, p.front, p.first, refl) (levels, q.front, q.first, front);
+      right = same_bytes_isomorphic h e (flat p.back) (levels, p.back, p.second, refl) (levels, q.back, q.second, back);
+    }
+
+said : (P Q : Type 0) (line : List ℕ) → (P → Q) → (Q → P) → Says P line → Says Q line
+said P Q line go back (inl (p, e)) = inl (go p, e)
+said P Q line go back (inr (n, e)) = inr (λ q. n (back q), e)
+
+pub decides : (c : Command) (input bytes : List ℕ) → Makes c input bytes → Decides c input bytes
+decides Canon input bytes (r, j, (fs, p, e)) = λ g h i. canonical_decides.headline input bytes r (spells_free r input j) (levels, fs, p, e) g (spells_free g input i) h
+decides Same input bytes (g, h, p, s) = λ f e q.
+    let a = cut_alike g h f e input p q in
+    said (Isomorphic g h) (Isomorphic f e) bytes
+    (λ i. isomorphic_trans f g e (isomorphic_sym g f a.left) (isomorphic_trans g h e i a.right))
+    (λ i. isomorphic_trans g f h a.left (isomorphic_trans f e h i (isomorphic_sym h e a.right))) s

@@ -1,3 +1,4 @@
 pub mod Lines
 pub mod Written
 pub mod Run
+pub mod Reading

@@ -4,7 +4,7 @@ use Rattle.amf_io.specs.declared.ends.Refusal.{Refusal}
 use Rattle.amf_io.specs.declared.ends.ReadEnd.{ReadEnd}
 use Rattle.amf_io.specs.declared.ends.ReadEnd.TheVariants as reader
 use Rattle.amf_io.specs.declared.reason.Reason.{Reason}
-use Rattle.amf_io.specs.declared.reason.Reason.TheVariants.{Truncated, BadMarker, BadReference, BadTraits, BadTextIndex, BadText, WrongKind, UnknownExternal, TooDeep, TooLarge, Trailing, BadVersion, BadSignature, BadLength, BadPadding, NotBuilt}
+use Rattle.amf_io.specs.declared.reason.Reason.TheVariants.{Truncated, BadMarker, BadReference, BadTraits, BadTextIndex, BadText, WrongKind, UnknownExternal, TooDeep, TooLarge, Trailing, BadVersion, BadSignature, BadLength, BadPadding}
 use Rattle.amf_graph.specs.declared.lack.Lack.{Lack}
 use Rattle.amf_graph.specs.declared.lack.LackKind.{LackKind}
 use Rattle.amf_graph.specs.declared.lack.LackKind.TheVariants as lacking
@@ -48,7 +48,6 @@ reason_name BadVersion = codes "BadVersion"
 reason_name BadSignature = codes "BadSignature"
 reason_name BadLength = codes "BadLength"
 reason_name BadPadding = codes "BadPadding"
-reason_name NotBuilt = codes "NotBuilt"
 
 -- and so is a kind of lack
 abbrev pub kind_name : LackKind → List ℕ

@@ -1,5 +1,5 @@
 -- What a run answers: its statuses, and what they say of the input and the output.
-use Rattle.std.specs.Prelude.{◌≡◌, ℕ, zero, suc, ◌+◌, ◌≤◌, ◌↔◌, List, [], ◌∷◌, ◌++◌, length, codes, Result, Ok, Err}
+use Rattle.std.specs.Prelude.{◌≡◌, ℕ, zero, suc, ◌+◌, ◌≤◌, ◌⊎◌, ◌↔◌, List, [], ◌∷◌, ◌++◌, length, codes, Result, Ok, Err}
 use Rattle.amf_wire.specs.Style.{free, canonical}
 use Rattle.amf_io.specs.Outside.{Rose}
 use Rattle.amf_io.specs.Field.{Field, flat}
@@ -11,6 +11,9 @@ use Rattle.amf_graph.specs.Isomorphic.{Isomorphic}
 use Rattle.amf_tables.specs.Lacks3.{IsLack3}
 use Rattle.amf_tables.specs.Reads3.{IsValue3}
 use Rattle.amf_tables.specs.Spells3.{IsSpelling3, Spelled3}
+use Rattle.amf3_read.specs.Pairs.{Pair}
+use Rattle.amf_cli.specs.declared.command.Command.{Command}
+use Rattle.amf_cli.specs.declared.command.Command.TheVariants.{Canon, Same}
 use Rattle.amf_cli.specs.declared.run_end.RunEnd.{RunEnd}
 use Rattle.amf_cli.specs.declared.run_end.RunEnd.TheVariants.{Refused, Usage, ReadFault, WriteFault, NoMemory, NoForm}
 use Rattle.amf_cli.specs.Lines.{refusal_line, no_form_line, line_of, status_of}
@@ -20,9 +23,13 @@ use Rattle.amf_cli.specs.Written.{WritesFront}
 abbrev pub most : ℕ
 most = 16777216
 
--- the words have a reading
-abbrev pub IsCanon : List (List ℕ) → Type 0
-IsCanon words = words ≡ codes "canon" ∷ []
+-- what the words ask for
+abbrev pub Reads : List (List ℕ) → Command → Type 0
+Reads words Canon = words ≡ codes "canon" ∷ []
+Reads words Same = words ≡ codes "same" ∷ []
+
+abbrev pub HasReading : List (List ℕ) → Type 0
+HasReading words = (c : Command) × Reads words c
 
 -- the most nodes within one another
 abbrev pub levels : ℕ
@@ -32,11 +39,25 @@ levels = 512
 abbrev pub IsValue : List Field → Type 0
 IsValue = IsValue3 levels
 
+-- the lists of fields that a command accepts: `same` takes two values
+abbrev pub Accepts : Command → List Field → Type 0
+Accepts Canon = IsValue
+Accepts Same = Pair IsValue
+
 -- the whole input is one spelling of the graph
 pub record IsInputOf (g : Graph) (input : List ℕ) : Type 0 where
   pub fields : List Field
   pub spelled : IsSpelling3 levels free g fields
   pub parts : input ≡ flat fields
+  pub within : length input ≤ most
+
+-- the whole input is a spelling of one graph, and then one of another, each from empty tables
+pub record ArePairIn (g h : Graph) (input : List ℕ) : Type 0 where
+  pub front : List Field
+  pub back : List Field
+  pub first : IsSpelling3 levels free g front
+  pub second : IsSpelling3 levels free h back
+  pub parts : input ≡ flat front ++ flat back
   pub within : length input ≤ most
 
 -- the bytes are the canonical spelling of the graph, in as many levels
@@ -47,29 +68,48 @@ IsCanonicalOf g bytes = (fields : List Field) × IsSpelling3 levels canonical g 
 abbrev pub IsConverted : List ℕ → List ℕ → Type 0
 IsConverted input bytes = (g : Graph) × IsInputOf g input × IsCanonicalOf g bytes
 
--- the bytes are canonical for exactly the graphs that are isomorphic to what the input spells
-abbrev pub Decides : List ℕ → List ℕ → Type 0
-Decides input bytes = (g h : Graph) → IsInputOf g input → Isomorphic h g ↔ Spelled3 canonical h bytes
+-- the line says whether P is so
+abbrev pub Says : Type 0 → List ℕ → Type 0
+Says P line = (P × (line ≡ codes "same\n")) ⊎ ((P → ⊥) × (line ≡ codes "different\n"))
+
+-- the line says whether two graphs that the input spells are isomorphic
+abbrev pub IsCompared : List ℕ → List ℕ → Type 0
+IsCompared input line = (g : Graph) × (h : Graph) × ArePairIn g h input × Says (Isomorphic g h) line
+
+-- the output of a command
+abbrev pub Makes : Command → List ℕ → List ℕ → Type 0
+Makes Canon input bytes = IsConverted input bytes
+Makes Same input bytes = IsCompared input bytes
+
+-- it holds of whatever the input spells: canonical bytes are so for exactly the graphs that are isomorphic to it, and the line is the answer for each two graphs
+abbrev pub Decides : Command → List ℕ → List ℕ → Type 0
+Decides Canon input bytes = (g h : Graph) → IsInputOf g input → Isomorphic h g ↔ Spelled3 canonical h bytes
+Decides Same input bytes = (g h : Graph) → ArePairIn g h input → Says (Isomorphic g h) bytes
 
 -- the input is a spelling of a graph whose first lack this is
 abbrev pub IsLacking : List ℕ → Lack → Type 0
 IsLacking input l = (g : Graph) × IsInputOf g input × IsLack3 g levels l.node l.kind
 
+-- why the input has no output: `same` writes for each that it accepts
+abbrev pub Lacks : Command → List ℕ → Lack → Type 0
+Lacks Canon input l = IsLacking input l
+Lacks Same input l = ⊥
+
 -- the bytes that came before a read failed fix no verdict
-pub record IsHidden (input rest : List ℕ) : Type 0 where
+pub record IsHidden (c : Command) (input rest : List ℕ) : Type 0 where
   pub given : List ℕ
   pub parts : input ≡ given ++ rest
-  pub unsettled : IsUnsettled IsValue most given
+  pub unsettled : IsUnsettled (Accepts c) most given
 
 -- how a reader of the whole input ends, where P tells what it makes of an accepted one
-abbrev pub ReadsInput : {X : Type 0} → (X → Type 0) → List ℕ → List ℕ → Result X RunEnd → Type 0
-ReadsInput P input rest (Ok x) = P x × (rest ≡ [])
-ReadsInput P input rest (Err (Refused f)) = IsInputRefused IsValue most input f.reason f.at
-ReadsInput P input rest (Err ReadFault) = IsHidden input rest
-ReadsInput P input rest (Err Usage) = ⊥
-ReadsInput P input rest (Err WriteFault) = ⊥
-ReadsInput P input rest (Err NoMemory) = Unit {0}
-ReadsInput P input rest (Err (NoForm l)) = IsLacking input l × (rest ≡ [])
+abbrev pub ReadsInput : {X : Type 0} → Command → (X → Type 0) → List ℕ → List ℕ → Result X RunEnd → Type 0
+ReadsInput c P input rest (Ok x) = P x × (rest ≡ [])
+ReadsInput c P input rest (Err (Refused f)) = IsInputRefused (Accepts c) most input f.reason f.at
+ReadsInput c P input rest (Err ReadFault) = IsHidden c input rest
+ReadsInput c P input rest (Err Usage) = ⊥
+ReadsInput c P input rest (Err WriteFault) = ⊥
+ReadsInput c P input rest (Err NoMemory) = Unit {0}
+ReadsInput c P input rest (Err (NoForm l)) = Lacks c input l × (rest ≡ [])
 
 -- a read fault is counted; without one, and with memory, the count stays
 abbrev pub CountsReads : {T : Type 0} → ℕ → ℕ → Result T RunEnd → Type 0
@@ -99,7 +139,17 @@ IsReadEnd (Err ReadFault) = Unit {0}
 IsReadEnd (Err Usage) = ⊥
 IsReadEnd (Err WriteFault) = ⊥
 IsReadEnd (Err NoMemory) = Unit {0}
-IsReadEnd (Err (NoForm l)) = Unit {0}
+IsReadEnd (Err (NoForm l)) = ⊥
+
+-- an end that the making of an output has: one without form is of `canon` alone
+abbrev pub IsOutputEnd : {T : Type 0} → Command → Result T RunEnd → Type 0
+IsOutputEnd c (Ok x) = Unit {0}
+IsOutputEnd c (Err (Refused f)) = Unit {0}
+IsOutputEnd c (Err ReadFault) = Unit {0}
+IsOutputEnd c (Err Usage) = ⊥
+IsOutputEnd c (Err WriteFault) = ⊥
+IsOutputEnd c (Err NoMemory) = Unit {0}
+IsOutputEnd c (Err (NoForm l)) = c ≡ Canon
 
 -- nothing was asked of the output, but where it was written to
 abbrev pub IsUntouched : {S T : Type 0} → S → S → Result T RunEnd → Type 0
@@ -111,42 +161,42 @@ IsUntouched before now (Err WriteFault) = Unit {0}
 IsUntouched before now (Err NoMemory) = now ≡ before
 IsUntouched before now (Err (NoForm l)) = now ≡ before
 
--- the canonical bytes were written whole
-pub record WritesAll (input rest : List ℕ) (told : Type 0) (held now : List ℕ) : Type 0 where
+-- the output was written whole
+pub record WritesAll (c : Command) (input rest : List ℕ) (told : Type 0) (held now : List ℕ) : Type 0 where
   pub bytes : List ℕ
-  pub converted : IsConverted input bytes
-  pub decides : Decides input bytes
+  pub made : Makes c input bytes
+  pub decides : Decides c input bytes
   pub all_read : rest ≡ []
   pub written : told → now ≡ held ++ bytes
 
--- some front of them was written
-pub record WritesSome (input rest : List ℕ) (told : Type 0) (held now : List ℕ) : Type 0 where
+-- some front of it was written
+pub record WritesSome (c : Command) (input rest : List ℕ) (told : Type 0) (held now : List ℕ) : Type 0 where
   pub bytes : List ℕ
-  pub converted : IsConverted input bytes
-  pub decides : Decides input bytes
+  pub made : Makes c input bytes
+  pub decides : Decides c input bytes
   pub all_read : rest ≡ []
   pub written : told → WritesFront held now bytes
 
--- how `canon` ends, by the bytes of the input and those that it left, and by what the output held before and holds now
-abbrev pub RunsTo : {T : Type 0} → List ℕ → List ℕ → Type 0 → List ℕ → List ℕ → Result T RunEnd → Type 0
-RunsTo input rest told held now (Ok x) = WritesAll input rest told held now
-RunsTo input rest told held now (Err (Refused f)) = IsInputRefused IsValue most input f.reason f.at
-RunsTo input rest told held now (Err ReadFault) = IsHidden input rest
-RunsTo input rest told held now (Err Usage) = Unit {0}
-RunsTo input rest told held now (Err WriteFault) = WritesSome input rest told held now
-RunsTo input rest told held now (Err NoMemory) = Unit {0}
-RunsTo input rest told held now (Err (NoForm l)) = IsLacking input l × (rest ≡ [])
+-- how a command ends, by the bytes of the input and those that it left, and by what the output held before and holds now
+abbrev pub RunsTo : {T : Type 0} → Command → List ℕ → List ℕ → Type 0 → List ℕ → List ℕ → Result T RunEnd → Type 0
+RunsTo c input rest told held now (Ok x) = WritesAll c input rest told held now
+RunsTo c input rest told held now (Err (Refused f)) = IsInputRefused (Accepts c) most input f.reason f.at
+RunsTo c input rest told held now (Err ReadFault) = IsHidden c input rest
+RunsTo c input rest told held now (Err Usage) = Unit {0}
+RunsTo c input rest told held now (Err WriteFault) = WritesSome c input rest told held now
+RunsTo c input rest told held now (Err NoMemory) = Unit {0}
+RunsTo c input rest told held now (Err (NoForm l)) = Lacks c input l × (rest ≡ [])
 
 -- the error line names the verdict
-pub record IsRefusedWith (input : List ℕ) (told : Type 0) (held now : List ℕ) : Type 0 where
+pub record IsRefusedWith (c : Command) (input : List ℕ) (told : Type 0) (held now : List ℕ) : Type 0 where
   pub refusal : Refusal
-  pub verdict : IsInputRefused IsValue most input refusal.reason refusal.at
+  pub verdict : IsInputRefused (Accepts c) most input refusal.reason refusal.at
   pub line : told → now ≡ held ++ refusal_line refusal
 
 -- the input was read to its end, and the error line names the first lack of what it spells
-pub record HasNoForm (input rest : List ℕ) (told : Type 0) (held now : List ℕ) : Type 0 where
+pub record HasNoForm (c : Command) (input rest : List ℕ) (told : Type 0) (held now : List ℕ) : Type 0 where
   pub lack : Lack
-  pub lacking : IsLacking input lack
+  pub lacking : Lacks c input lack
   pub all_read : rest ≡ []
   pub line : told → now ≡ held ++ no_form_line lack
 

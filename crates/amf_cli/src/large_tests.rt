@@ -1,7 +1,7 @@
 use crate::run::LIMIT;
 use crate::tests::{Case, check, refused, run_over};
 use amf_graph::{BuildEnd, Builder};
-use amf_wire::is_amf_text;
+use amf_wire::{U29, is_amf_text, write_u29};
 use std::alloc::{AllocError, Global};
 use std::test::Fail;
 
@@ -39,11 +39,11 @@ fn nodes_within_nodes(rt: HostRuntime) -> Result<(), Fail> {
     Ok(())
 }
 
-/// A dynamic object of 600 members that are arrays, of which each but the first holds the one before
-/// it: in the order of their names each stands within the one before it.
-fn chain(alloc: Global) -> Result<Vec<u8>, AllocError> {
+/// The header of a dynamic object or of an array, and 600 named pairs of arrays, of which each but the
+/// first holds the one before it: in the order of their names each stands within the one before it.
+fn chain(alloc: Global, header: &[u8]) -> Result<Vec<u8>, AllocError> {
     let mut bytes = Vec::new(alloc);
-    bytes.extend_from_slice(b"\x0A\x0B\x01")?;
+    bytes.extend_from_slice(header)?;
     for member in 1..601_u32 {
         let name = 600 - member;
         let digits = [name / 100, name / 10 % 10, name % 10];
@@ -54,10 +54,10 @@ fn chain(alloc: Global) -> Result<Vec<u8>, AllocError> {
         if member == 1 {
             bytes.extend_from_slice(b"\x09\x01\x01")?;
         } else {
-            let header = 2 * (member - 1);
+            let place = 2 * (member - 1);
             bytes.extend_from_slice(b"\x09\x03\x01\x09")?;
-            bytes.push(0x80 + (header / 128 % 128) as u8)?;
-            bytes.push((header % 128) as u8)?;
+            bytes.push(0x80 + (place / 128 % 128) as u8)?;
+            bytes.push((place % 128) as u8)?;
         }
     }
     bytes.push(0x01)?;
@@ -66,15 +66,34 @@ fn chain(alloc: Global) -> Result<Vec<u8>, AllocError> {
 
 #[test]
 fn graphs_without_a_form(rt: HostRuntime) -> Result<(), Fail> {
-    let input = chain(rt.alloc())?;
     let want = Case {
+        command: "canon",
         input: b"",
         status: 7,
         output: b"",
         line: b"amf: no form TooDeep node 512 value 0\n",
     };
-    for pieces in [(10_000, 0), (1, 0)] {
-        check(&rt, rt.alloc(), &input, pieces, &want);
+    for header in [b"\x0A\x0B\x01".as_slice(), b"\x09\x01"] {
+        let input = chain(rt.alloc(), header)?;
+        for pieces in [(10_000, 0), (1, 0)] {
+            check(&rt, rt.alloc(), &input, pieces, &want);
+        }
+    }
+    Ok(())
+}
+
+/// Graphs without a canonical spelling are compared like others.
+#[test]
+fn comparisons_of_deep_graphs(rt: HostRuntime) -> Result<(), Fail> {
+    for (last, output) in [
+        (b"\x0A\x0B\x01".as_slice(), b"same\n".as_slice()),
+        (b"\x09\x01", b"different\n"),
+    ] {
+        let mut input = chain(rt.alloc(), b"\x0A\x0B\x01")?;
+        input.extend_from_slice(&chain(rt.alloc(), last)?)?;
+        let ran = run_over(&rt, rt.alloc(), &["same"], &input, (10_000, 0), &[], &[]);
+        assert_eq!(rt; ran.status, 0);
+        assert_eq!(rt; ran.output.as_bytes(), output);
     }
     Ok(())
 }
@@ -99,6 +118,23 @@ fn inputs_past_the_limit(rt: HostRuntime) -> Result<(), Fail> {
         let input = too_long(rt.alloc(), front, byte)?;
         check(&rt, rt.alloc(), &input, (1 << 25, 0), &want);
     }
+    Ok(())
+}
+
+/// Two values, each within the limit, and not together: the second ends one byte behind it.
+#[test]
+fn comparisons_past_the_limit(rt: HostRuntime) -> Result<(), Fail> {
+    let half = LIMIT / 2;
+    let mut input = vec![in rt.alloc(); 0; 0]?;
+    for size in [half - 5, half - 4] {
+        input.extend_from_slice(b"\x0C")?;
+        input.extend_from_slice(write_u29(U29::new(2 * size + 1).ok_or("too large")?).as_slice())?;
+        input.extend_from_slice(&vec![in rt.alloc(); 0; size as usize]?)?;
+    }
+    let ran = run_over(&rt, rt.alloc(), &["same"], &input, (1 << 25, 0), &[], &[]);
+    assert_eq!(rt; ran.status, 1);
+    let line = format!(in rt.alloc(); "amf: refused TooLarge at {}\n", half + 5)?;
+    assert_eq!(rt; ran.line.as_bytes(), line.as_bytes());
     Ok(())
 }
 

@@ -1,8 +1,10 @@
-//! The program `amf`: reads any AMF 3 value, and writes its canonical spelling.
+//! The program `amf`: writes the canonical spelling of any AMF 3 value, and tells whether two are the same graph.
 #![tactic(auto)]
 
+mod command;
 #[cfg(test)]
 mod large_tests;
+mod reading;
 mod report;
 mod run;
 mod run_end;

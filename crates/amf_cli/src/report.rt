@@ -88,6 +88,5 @@ fn name_of(reason: Reason) -> &'static [u8]
         Reason::BadSignature => b"BadSignature",
         Reason::BadLength => b"BadLength",
         Reason::BadPadding => b"BadPadding",
-        Reason::NotBuilt => b"NotBuilt",
     }
 }

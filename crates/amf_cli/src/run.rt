@@ -1,27 +1,24 @@
-ghost use Rattle.std.specs.Prelude.{◌≡◌, ℕ, ◌≢◌, ◌+◌, ◌<◌, ◌≤◌, ◌⊎◌, ◌↔◌, List, IsTrue, false, length};
-ghost use Rattle.amf_io.specs.Cursor.{source_of, place, bound, ahead, unread};
+ghost use Rattle.std.specs.Prelude.{◌≡◌, ℕ, ◌≢◌, ◌+◌, ◌<◌, ◌≤◌, ◌⊎◌, ◌↔◌, List, length};
 ghost use Rattle.amf_io.specs.Outside.{Rose, Steady};
 ghost use Rattle.amf_io.specs.declared.reason.Reason.{Reason};
 ghost use Rattle.amf_io.specs.Verdict.{IsInputAccepted, IsInputRefused};
-ghost use Rattle.std.specs.List.{AllByRecursion};
+ghost use Rattle.amf_graph.specs.declared.lack.Lack.{Lack};
 ghost use Rattle.amf_graph.specs.declared.lack.LackKind.{LackKind};
 ghost use Rattle.amf_graph.specs.Graph.{Graph};
-ghost use Rattle.amf_graph.specs.Arena.{Names};
-ghost use Rattle.amf_graph.specs.Rooted.{content};
-ghost use Rattle.amf_tables.specs.KeptTables.{no_kept_tables};
 ghost use Rattle.amf_tables.specs.Lacks3.{IsLack3};
-ghost use Rattle.amf_tables.specs.Reads3.{no_arena};
+ghost use Rattle.amf_cli.specs.declared.command.Command.{Command};
+ghost use Rattle.amf_cli.specs.declared.command.Command.TheVariants.{Canon, Same};
 ghost use Rattle.amf_cli.specs.Lines.{line_of};
-ghost use Rattle.amf_cli.specs.Run.{most, levels, IsValue, IsCanon, IsInputOf, IsConverted, IsHidden, ReadsInput, CountsReads, CountsWrites, IsUntouched, IsReadEnd, RunsTo, WritesAll, WritesSome, IsRefusedWith, HasNoForm, Reports, TakesWithin};
+ghost use Rattle.amf_cli.specs.Run.{most, levels, Reads, HasReading, Accepts, Makes, IsConverted, IsCompared, IsInputOf, ReadsInput, CountsReads, CountsWrites, IsUntouched, IsReadEnd, IsOutputEnd, RunsTo, WritesAll, WritesSome, IsRefusedWith, IsHidden, HasNoForm, Reports, TakesWithin};
 
+use crate::command::Command;
+use crate::reading::{read_graph, read_graphs};
 use crate::report::report;
 use crate::run_end::RunEnd;
 use crate::writing::write_whole;
-use amf_graph::{Builder, Rooted, Value};
-use amf_io::{Cursor, Reason, Refusal, Sink, Source};
-use amf_tables::Tables3;
+use amf_io::{Sink, Source};
+use amf_iso::isomorphic;
 use amf_wire::Name;
-use amf3_read::read3;
 use amf3_write::write3;
 use std::alloc::Global;
 
@@ -33,8 +30,9 @@ pub const LEVELS: u32 = 512;
 
 /// Does what the words say, and gives the status of the program.
 ///
-/// `words` are those after the program's name. The one list of words with a reading is the word
-/// `canon`: the input is one AMF 3 value, and the output its canonical spelling.
+/// `words` are those after the program's name, and two lists of words have a reading. With the one word `canon`
+/// the input is one AMF 3 value, and the output its canonical spelling. With the one word `same` the input is two
+/// AMF 3 values, one after the other, and the output is the line `same` or `different`.
 pub fn run<R, I: Source, O: Sink, E: Sink>(
     _rt: &R,
     alloc: Global,
@@ -46,39 +44,40 @@ pub fn run<R, I: Source, O: Sink, E: Sink>(
     ensures statuses { (result ≤ 5) ⊎ (result ≡ 7) }
 
     // 2 comes exactly where the words have no reading.
-    ensures usage { (result ≡ 2) ↔ (IsCanon words.now → ⊥) }
+    ensures usage { (result ≡ 2) ↔ (HasReading words.now → ⊥) }
 
-    // 0: the output has taken exactly the canonical bytes, which are canonical for exactly the graphs that are isomorphic to
-    // what the input spells; and the input was read to its end.
-    ensures done { result ≡ 0 → I.tells input.old → WritesAll (I.left input.old) (I.left input.new)
+    // 0: the output was written whole, and the input read to its end. What `canon` writes is canonical for exactly the graphs
+    // that are isomorphic to what the input spells, and `same` says whether the two graphs are.
+    ensures done { (c : Command) → Reads words.now c → result ≡ 0 → I.tells input.old → WritesAll c (I.left input.old) (I.left input.new)
         (O.tells out.new) (O.held out.old) (O.held out.new) }
-    ensures canon { result ≢ 2 → IsCanon words.now }
+    ensures read { result ≢ 2 → HasReading words.now }
     ensures no_fault { result ≡ 0 → (I.faults input.new ≡ I.faults input.old) × (O.faults out.new ≡ O.faults out.old) }
 
     // 1: the verdict, with its reason and place on the error line.
-    ensures refused { result ≡ 1 → I.tells input.old → IsRefusedWith (I.left input.old)
+    ensures refused { (c : Command) → Reads words.now c → result ≡ 1 → I.tells input.old → IsRefusedWith c (I.left input.old)
         (E.tells err.new × Steady (E.faults err.old) (E.faults err.new)) (E.held err.old) (E.held err.new) }
 
     // 3 and 4 come only where a count rose, and 3 only where what came before fixes no verdict.
     ensures read_fault { result ≡ 3 → Rose (I.faults input.old) (I.faults input.new) }
-    ensures hidden { result ≡ 3 → I.tells input.old → IsHidden (I.left input.old) (I.left input.new) }
+    ensures hidden { (c : Command) → Reads words.now c → result ≡ 3 → I.tells input.old → IsHidden c (I.left input.old) (I.left input.new) }
     ensures write_fault { result ≡ 4 → Rose (O.faults out.old) (O.faults out.new) }
-    ensures front { result ≡ 4 → I.tells input.old → WritesSome (I.left input.old) (I.left input.new)
+    ensures front { (c : Command) → Reads words.now c → result ≡ 4 → I.tells input.old → WritesSome c (I.left input.old) (I.left input.new)
         (O.tells out.new) (O.held out.old) (O.held out.new) }
 
     // What is accepted is not refused, and what is refused is not accepted.
-    ensures accepted { IsCanon words.now → I.tells input.old → IsInputAccepted IsValue most (I.left input.old)
+    ensures accepted { (c : Command) → Reads words.now c → I.tells input.old → IsInputAccepted (Accepts c) most (I.left input.old)
         → (result ≡ 0) ⊎ (result ≡ 3) ⊎ (result ≡ 4) ⊎ (result ≡ 5) ⊎ (result ≡ 7) }
-    ensures not_accepted { IsCanon words.now → I.tells input.old → (reason : Reason) (at : ℕ)
-        → IsInputRefused IsValue most (I.left input.old) reason at
+    ensures not_accepted { (c : Command) → Reads words.now c → I.tells input.old → (reason : Reason) (at : ℕ)
+        → IsInputRefused (Accepts c) most (I.left input.old) reason at
         → (result ≡ 1) ⊎ (result ≡ 3) ⊎ (result ≡ 5) }
 
-    // 7 comes exactly where the input is accepted and what it spells has no canonical spelling within the levels.
-    ensures no_form { result ≡ 7 → I.tells input.old → HasNoForm (I.left input.old) (I.left input.new)
+    // 7 comes exactly where `canon` accepts the input and what it spells has no canonical spelling within the levels.
+    ensures no_form { (c : Command) → Reads words.now c → result ≡ 7 → I.tells input.old → HasNoForm c (I.left input.old) (I.left input.new)
         (E.tells err.new × Steady (E.faults err.old) (E.faults err.new)) (E.held err.old) (E.held err.new) }
-    ensures formed { IsCanon words.now → I.tells input.old → (bytes : List ℕ) → IsConverted (I.left input.old) bytes
+    ensures alone { result ≡ 7 → Reads words.now Canon }
+    ensures formed { (c : Command) → Reads words.now c → I.tells input.old → (bytes : List ℕ) → Makes c (I.left input.old) bytes
         → (result ≡ 0) ⊎ (result ≡ 3) ⊎ (result ≡ 4) ⊎ (result ≡ 5) }
-    ensures lacking { IsCanon words.now → I.tells input.old → (g : Graph) → IsInputOf g (I.left input.old)
+    ensures lacking { Reads words.now Canon → I.tells input.old → (g : Graph) → IsInputOf g (I.left input.old)
         → (number : ℕ) (kind : LackKind) → IsLack3 g levels number kind
         → (result ≡ 3) ⊎ (result ≡ 5) ⊎ (result ≡ 7) }
 
@@ -111,55 +110,65 @@ fn execute<I: Source, O: Sink>(
     input: &mut I,
     out: &mut O,
 ) -> Result<(), RunEnd>
-    ensures usage { (result ≡ Err RunEnd.Usage) ↔ (IsCanon words.now → ⊥) }
-    ensures canon { result ≢ Err RunEnd.Usage → IsCanon words.now }
+    ensures usage { (result ≡ Err RunEnd.Usage) ↔ (HasReading words.now → ⊥) }
+    ensures read { result ≢ Err RunEnd.Usage → HasReading words.now }
+    ensures alone { (l : Lack) → result ≡ Err (RunEnd.NoForm l) → Reads words.now Canon }
     ensures unread { result ≡ Err RunEnd.Usage → input.new ≡ input.old }
     ensures taken { I.tells input.old → TakesWithin (length (I.left input.old)) (length (I.left input.new)) result }
     ensures tells { O.tells out.new → O.tells out.old }
-    ensures runs { I.tells input.old → RunsTo (I.left input.old) (I.left input.new) (O.tells out.new) (O.held out.old) (O.held out.new) result }
+    ensures runs { (c : Command) → Reads words.now c → I.tells input.old → RunsTo c (I.left input.old) (I.left input.new) (O.tells out.new) (O.held out.old) (O.held out.new) result }
     ensures untouched { IsUntouched out.old out.new result }
     ensures reads { CountsReads (I.faults input.old) (I.faults input.new) result }
     ensures writes { CountsWrites (O.faults out.old) (O.faults out.new) result }
 {
-    if !is_canon(words) {
-        return Err(RunEnd::Usage);
-    }
-    canon(alloc, input, out)
-}
-
-/// Whether the words are the one word `canon`.
-fn is_canon(words: &[Name]) -> bool
-    ensures { IsTrue result ↔ IsCanon words.now }
-{
-    match words {
-        [word] => word.as_bytes() == b"canon".as_slice(),
-        _ => false,
+    match Command::of(words) {
+        Some(command) => perform(alloc, command, input, out),
+        None => Err(RunEnd::Usage),
     }
 }
 
-/// Writes the canonical spelling of the one value that the input is.
-fn canon<I: Source, O: Sink>(alloc: Global, input: &mut I, out: &mut O) -> Result<(), RunEnd>
+/// Reads the input of a command, and writes its output.
+fn perform<I: Source, O: Sink>(
+    alloc: Global,
+    command: Command,
+    input: &mut I,
+    out: &mut O,
+) -> Result<(), RunEnd>
     ensures no_usage { result ≢ Err RunEnd.Usage }
+    ensures alone { (l : Lack) → result ≡ Err (RunEnd.NoForm l) → command ≡ Canon }
     ensures tells { O.tells out.new → O.tells out.old }
-    ensures runs { I.tells input.old → RunsTo (I.left input.old) (I.left input.new) (O.tells out.new) (O.held out.old) (O.held out.new) result }
+    ensures runs { I.tells input.old → RunsTo command (I.left input.old) (I.left input.new) (O.tells out.new) (O.held out.old) (O.held out.new) result }
     ensures taken { I.tells input.old → TakesWithin (length (I.left input.old)) (length (I.left input.new)) result }
     ensures untouched { IsUntouched out.old out.new result }
     ensures reads { CountsReads (I.faults input.old) (I.faults input.new) result }
     ensures writes { CountsWrites (O.faults out.old) (O.faults out.new) result }
 {
-    let bytes = canonical_bytes(alloc, input)?;
+    let bytes = output_of(alloc, command, input)?;
     match write_whole(out, &bytes) {
         Ok(()) => Ok(()),
         Err(_) => Err(RunEnd::WriteFault),
     }
 }
 
-/// The canonical spelling of the one value that the input is.
-fn canonical_bytes<I: Source>(alloc: Global, input: &mut I) -> Result<Vec<u8>, RunEnd>
-    ensures reads { I.tells input.old → ReadsInput (λ bytes. IsConverted (I.left input.old) bytes.items) (I.left input.old) (I.left input.new) result }
+/// The output of a command.
+fn output_of<I: Source>(alloc: Global, command: Command, input: &mut I) -> Result<Vec<u8>, RunEnd>
+    ensures reads { I.tells input.old → ReadsInput command (λ bytes. Makes command (I.left input.old) bytes.items) (I.left input.old) (I.left input.new) result }
     ensures taken { I.tells input.old → TakesWithin (length (I.left input.old)) (length (I.left input.new)) result }
     ensures counts { CountsReads (I.faults input.old) (I.faults input.new) result }
-    ensures ends { IsReadEnd result }
+    ensures ends { IsOutputEnd command result }
+{
+    match command {
+        Command::Canon => canonical_bytes(alloc, input),
+        Command::Same => comparison(alloc, input),
+    }
+}
+
+/// The canonical spelling of the one value that the input is.
+fn canonical_bytes<I: Source>(alloc: Global, input: &mut I) -> Result<Vec<u8>, RunEnd>
+    ensures reads { I.tells input.old → ReadsInput Canon (λ bytes. IsConverted (I.left input.old) bytes.items) (I.left input.old) (I.left input.new) result }
+    ensures taken { I.tells input.old → TakesWithin (length (I.left input.old)) (length (I.left input.new)) result }
+    ensures counts { CountsReads (I.faults input.old) (I.faults input.new) result }
+    ensures ends { IsOutputEnd Canon result }
 {
     let graph = read_graph(alloc, input)?;
     let mut bytes = Vec::new(alloc);
@@ -167,55 +176,18 @@ fn canonical_bytes<I: Source>(alloc: Global, input: &mut I) -> Result<Vec<u8>, R
     Ok(bytes)
 }
 
-/// The graph that the input spells.
-fn read_graph<I: Source>(alloc: Global, input: &mut I) -> Result<Rooted, RunEnd>
-    ensures reads { I.tells input.old → ReadsInput (λ g. IsInputOf (content g) (I.left input.old)) (I.left input.old) (I.left input.new) result }
+/// The line that says whether the two values that the input is are the same graph.
+fn comparison<I: Source>(alloc: Global, input: &mut I) -> Result<Vec<u8>, RunEnd>
+    ensures reads { I.tells input.old → ReadsInput Same (λ line. IsCompared (I.left input.old) line.items) (I.left input.old) (I.left input.new) result }
     ensures taken { I.tells input.old → TakesWithin (length (I.left input.old)) (length (I.left input.new)) result }
     ensures counts { CountsReads (I.faults input.old) (I.faults input.new) result }
     ensures ends { IsReadEnd result }
 {
-    let mut cursor = Cursor::new(alloc, input, LIMIT)?;
-    let builder = Builder::new(alloc)?;
-    let tables = Tables3::new(alloc)?;
-    read_whole(alloc, &mut cursor, builder, tables)
-}
-
-/// The graph that all the bytes of a cursor spell, from nothing.
-fn read_whole<S: Source>(
-    alloc: Global,
-    cursor: &mut Cursor<'_, S>,
-    mut builder: Builder,
-    mut tables: Tables3,
-) -> Result<Rooted, RunEnd>
-    requires at_start { place cursor.old ≡ 0 }
-    requires limit { bound cursor.old ≡ most }
-    requires no_nodes { builder ≡ no_arena }
-    requires no_entries { tables ≡ no_kept_tables }
-    ensures same_reference { (source_of cursor.new).ghost_name ≡ (source_of cursor.old).ghost_name }
-    ensures reads { S.tells (source_of cursor.old).now → ReadsInput (λ g. IsInputOf (content g) (unread S.left cursor.old)) (unread S.left cursor.old) (S.left (source_of cursor.new).now) result }
-    ensures taken { S.tells (source_of cursor.old).now → length (unread S.left cursor.old) ≤ length (S.left (source_of cursor.new).now) + (most + 1) }
-    ensures counts { CountsReads (S.faults (source_of cursor.old).now) (S.faults (source_of cursor.new).now) result }
-    ensures ends { IsReadEnd result }
-{
-    let root = read3(alloc, cursor, &mut builder, &mut tables, LEVELS)?;
-    match cursor.at_end() {
-        Ok(true) => Ok(whole(builder, root)),
-        Ok(false) => Err(RunEnd::Refused(Refusal {
-            reason: Reason::Trailing,
-            at: cursor.at(),
-        })),
-        Err(_) => Err(RunEnd::ReadFault),
-    }
-}
-
-/// The graph with this root, of which all nodes are closed.
-fn whole(builder: Builder, root: Value) -> Rooted
-    requires names { Names builder root }
-    requires closed { AllByRecursion (λ n. n.is_open ≡ false) builder.nodes }
-    ensures { result ≡ record { arena = builder; root = root } }
-{
-    match builder.finish(root) {
-        Ok(graph) => graph,
-        Err(_) => unreachable!(),
-    }
+    let (left, right) = read_graphs(alloc, input)?;
+    let line = if isomorphic(alloc, &left, &right)? {
+        b"same\n".as_slice()
+    } else {
+        b"different\n"
+    };
+    Ok(line.to_vec(alloc)?)
 }

@@ -5,9 +5,10 @@ use std::alloc::{AllocError, Global};
 use std::process::Abort;
 use std::test::Fail;
 
-/// An input of `canon`, with the status, the output and the error line.
+/// An input of a command, with the status, the output and the error line.
 #[derive(Drop)]
 pub(crate) struct Case {
+    pub command: &'static str,
     pub input: &'static [u8],
     pub status: u8,
     pub output: &'static [u8],
@@ -17,6 +18,7 @@ pub(crate) struct Case {
 /// An input of which `output` is the canonical spelling.
 fn accepted(input: &'static [u8], output: &'static [u8]) -> Case {
     Case {
+        command: "canon",
         input,
         status: 0,
         output,
@@ -31,6 +33,29 @@ fn itself(input: &'static [u8]) -> Case {
 
 pub(crate) fn refused(input: &'static [u8], line: &'static [u8]) -> Case {
     Case {
+        command: "canon",
+        input,
+        status: 1,
+        output: b"",
+        line,
+    }
+}
+
+/// Two values, one after the other, of which `same` says this.
+fn compared(input: &'static [u8], output: &'static [u8]) -> Case {
+    Case {
+        command: "same",
+        input,
+        status: 0,
+        output,
+        line: b"",
+    }
+}
+
+/// An input that `same` refuses.
+fn not_compared(input: &'static [u8], line: &'static [u8]) -> Case {
+    Case {
+        command: "same",
         input,
         status: 1,
         output: b"",
@@ -93,7 +118,7 @@ pub(crate) fn check(
     pieces: (usize, usize),
     want: &Case,
 ) {
-    let ran = run_over(rt, alloc, &["canon"], bytes, pieces, &[], &[]);
+    let ran = run_over(rt, alloc, &[want.command], bytes, pieces, &[], &[]);
     let input = want.input;
     assert_eq!(rt; ran.status, want.status, "at {input:?} by {pieces:?}");
     assert_eq!(rt;
@@ -206,10 +231,44 @@ fn objects(rt: HostRuntime) {
     check_rows(&rt, rt.alloc(), &cases);
 }
 
+/// Two values, one after the other.
+#[test]
+fn comparisons(rt: HostRuntime) {
+    let cases = [
+        compared(
+            b"\x09\x05\x01\x09\x01\x01\x09\x02\x09\x05\x01\x09\x01\x01\x09\x01\x01",
+            b"different\n",
+        ),
+        compared(
+            b"\x09\x01\x03b\x04\x01\x03a\x04\x02\x01\x09\x01\x03a\x04\x02\x03b\x04\x01\x01",
+            b"same\n",
+        ),
+        compared(
+            b"\x09\x07\x01\x09\x01\x01\x09\x01\x01\x09\x02\x09\x07\x01\x09\x01\x01\x09\x01\x01\x09\x04",
+            b"different\n",
+        ),
+        compared(b"\x04\x05\x04\x80\x05", b"same\n"),
+        compared(b"\x06\x03a\x06\x03a", b"same\n"),
+        not_compared(b"", b"amf: refused Truncated at 0\n"),
+        not_compared(b"\x01", b"amf: refused Truncated at 1\n"),
+        not_compared(b"\x12\x01", b"amf: refused BadMarker at 0\n"),
+        not_compared(b"\x01\x12", b"amf: refused BadMarker at 1\n"),
+        not_compared(b"\x06\x03a\x06\x00", b"amf: refused BadTextIndex at 4\n"),
+        not_compared(b"\x09\x01\x01\x09\x00", b"amf: refused BadReference at 4\n"),
+        not_compared(b"\x01\x02\x03", b"amf: refused Trailing at 2\n"),
+    ];
+    check_rows(&rt, rt.alloc(), &cases);
+}
+
 /// Words without a reading, and streams that fail.
 #[test]
 fn other_statuses(rt: HostRuntime) {
-    for words in [[].as_slice(), &["cannon"], &["canon", "canon"]] {
+    for words in [
+        [].as_slice(),
+        &["cannon"],
+        &["canon", "canon"],
+        &["same", "canon"],
+    ] {
         let ran = run_over(&rt, rt.alloc(), words, &[0x01], (100, 0), &[], &[]);
         assert_eq!(rt; ran.status, 2);
         assert_eq!(rt; ran.line.as_bytes(), b"amf: usage\n".as_slice());
@@ -224,6 +283,26 @@ fn other_statuses(rt: HostRuntime) {
         assert_eq!(rt; writes.status, 4);
         assert_eq!(rt; writes.line.as_bytes(), b"amf: write fault\n".as_slice());
         assert_eq!(rt; writes.output.as_bytes(), b"".as_slice());
+    }
+    let line = run_over(
+        &rt,
+        rt.alloc(),
+        &["same"],
+        &[0x01, 0x01],
+        (100, 0),
+        &[],
+        &[1],
+    );
+    assert_eq!(rt; line.status, 4);
+    assert_eq!(rt; line.output.as_bytes(), b"sa".as_slice());
+    for (bytes, status) in [
+        (b"\x01".as_slice(), 3),
+        (b"\x01\x01", 3),
+        (b"\x01\x12", 1),
+        (b"\x12", 1),
+    ] {
+        let comparison = run_over(&rt, rt.alloc(), &["same"], bytes, (100, 0), &[1], &[]);
+        assert_eq!(rt; comparison.status, status, "{bytes:?}");
     }
     let behind = run_over(&rt, rt.alloc(), &["canon"], &[0x01], (100, 0), &[1], &[]);
     assert_eq!(rt; behind.status, 3);

@@ -1,15 +1,15 @@
 use Rattle.std.proofs.Common.{◌≡◌, ◌++◌, subst}
 use Rattle.amf_cli.specs.Written.{WritesFront}
 use Rattle.amf_cli.proofs.Spelled.{decides}
-use Rattle.amf_cli.proofs.run.canon.Goals as goal
+use Rattle.amf_cli.proofs.run.perform.Goals as goal
 
 pub returns-in-Ok-clause-runs : goal.returns-in-Ok-clause-runs
 returns-in-Ok-clause-runs g c = λ told.
     let r = c.in_ok-bytes.ensures.reads told in
     record {
       bytes = c.in_ok-bytes.bytes.items;
-      converted = r.0;
-      decides = decides (g.I.Source.left c.args.input.now) c.in_ok-bytes.bytes.items r.0;
+      made = r.0;
+      decides = decides c.args.command (g.I.Source.left c.args.input.now) c.in_ok-bytes.bytes.items r.0;
       all_read = r.1;
       written = λ t. subst (λ l. g.O.Sink.held c.write_whole.new.sink ≡ g.O.Sink.held c.args.out.now ++ l) c.deref.ensures.value (c.in-Ok.ensures.writes t);
     }
@@ -19,8 +19,8 @@ returns-clause-runs g c = λ told.
     let r = c.in_ok-bytes.ensures.reads told in
     record {
       bytes = c.in_ok-bytes.bytes.items;
-      converted = r.0;
-      decides = decides (g.I.Source.left c.args.input.now) c.in_ok-bytes.bytes.items r.0;
+      made = r.0;
+      decides = decides c.args.command (g.I.Source.left c.args.input.now) c.in_ok-bytes.bytes.items r.0;
       all_read = r.1;
       written = λ t. subst (λ l. WritesFront (g.O.Sink.held c.args.out.now) (g.O.Sink.held c.write_whole.new.sink) l) c.deref.ensures.value (c.in-Err.ensures.writes t);
     }
