@@ -37,9 +37,11 @@ impl From<Failed> for CursorEnd {
 
 impl<'a, S: Source> Cursor<'a, S> {
     ghost use Rattle.std.specs.Prelude.{◌≡◌, ◌+◌, ◌<◌, ◌≤◌, ◌↔◌, IsTrue, length, OnOk, IfOk};
+    ghost use Rattle.amf_io.specs.Window.{Begins};
     ghost use Rattle.amf_io.specs.Cursor.{source_of, place, bound, ahead, unread, GivesByte, GivesBytes, GivesEnd, Counts, IsFaultedAt, TakesNoMemory, EndsByFault, Sees, GivesPiece};
 
-    /// A cursor at the front of what the source has left, that gives at most `limit` bytes.
+    /// A cursor at the front of what the source has left, that gives at most `limit` bytes. It gives up where there is no
+    /// memory.
     pub fn new(alloc: Global, source: &'a mut S, limit: u32) -> Result<Cursor<'a, S>, Memory>
         ensures unread { IfOk result (λ c. unread S.left c ≡ S.left source.old) }
         ensures source { IfOk result (λ c. (source_of c).now ≡ source.old) }
@@ -49,7 +51,20 @@ impl<'a, S: Source> Cursor<'a, S> {
         ensures ahead { IfOk result (λ c. ahead c ≡ 0) }
     {
         let window = Window::new(alloc, limit)?;
-        Ok(Cursor { source, window })
+        Ok(Cursor::over(source, window))
+    }
+
+    /// A cursor at the front of what the source has left, over a window from which nothing was given. It takes no memory.
+    pub fn over(source: &'a mut S, window: Window) -> Cursor<'a, S>
+        requires { Begins window.limit window }
+        ensures unread { unread S.left result ≡ S.left source.old }
+        ensures source { (source_of result).now ≡ source.old }
+        ensures same_reference { (source_of result).ghost_name ≡ source.entry.ghost_name }
+        ensures place { place result ≡ 0 }
+        ensures bound { bound result ≡ window.limit }
+        ensures ahead { ahead result ≡ 0 }
+    {
+        Cursor { source, window }
     }
 
     /// The number of bytes given.
@@ -61,7 +76,8 @@ impl<'a, S: Source> Cursor<'a, S> {
         self.window.at()
     }
 
-    /// Gives the next byte. It takes no memory.
+    /// Gives the next byte. `Ended` comes only where the input ends here, `TooLarge` only where the limit was reached and
+    /// more follows, and `ReadFault` only where a read failed. It takes no memory.
     #[inline]
     pub fn byte(&mut self) -> Result<u8, CursorEnd>
         ensures tells { S.tells (source_of self.old).now → S.tells (source_of self.new).now }
@@ -81,8 +97,8 @@ impl<'a, S: Source> Cursor<'a, S> {
         Ok(self.window.byte())
     }
 
-    /// Appends the next `n` bytes. It grows `out` only as bytes come, so after an end `out` holds
-    /// those that came before.
+    /// Appends the next `n` bytes. It ends as `byte` does, and with `Memory` where there is no room for them. It grows `out`
+    /// only as bytes come, so after an end `out` holds those that came before.
     pub fn take_into(&mut self, n: u32, out: &mut Vec<u8>) -> Result<(), CursorEnd>
         ensures tells { S.tells (source_of self.old).now → S.tells (source_of self.new).now }
         ensures same_reference { (source_of self.new).ghost_name ≡ (source_of self.old).ghost_name }
@@ -103,7 +119,7 @@ impl<'a, S: Source> Cursor<'a, S> {
         Ok(())
     }
 
-    /// Whether no byte follows. It gives none, and takes no memory.
+    /// Whether no byte follows. `ReadFault` comes only where a read failed. It gives no byte, and takes no memory.
     pub fn at_end(&mut self) -> Result<bool, CursorEnd>
         ensures tells { S.tells (source_of self.old).now → S.tells (source_of self.new).now }
         ensures same_reference { (source_of self.new).ghost_name ≡ (source_of self.old).ghost_name }

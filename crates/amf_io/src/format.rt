@@ -41,13 +41,14 @@ pub fn faults_are_first<F: Format>()
     ensures first { (base at : ℕ) (input : List ℕ) (reason : Reason) → IsFault F.accepts base input reason at → IsFirstFault F.accepts base input at }
 {}
 
-/// The outcome of reading an input of bytes up to a limit is the verdict on it.
+/// The outcome of reading an input of bytes up to a limit is the verdict on it, where the fuel is more than those bytes and
+/// no more than the most.
 pub fn reading_decides<F: Format>()
     ensures decides { (n limit : ℕ) (input : List ℕ) → n ≤ F.most → length (take limit input) < n → AreBytes input → Decides F.accepts limit input (read limit (F.layout n) 0 input) }
 {}
 
-/// Where the bytes given so far end a field too early, or are an accepted list to the last byte,
-/// they fix no verdict yet.
+/// Where the bytes given so far, within the limit, end a field too early, or are an accepted list to the last byte, they fix
+/// no verdict yet. The fuel is more than those bytes and no more than the most.
 pub fn reading_waits<F: Format>()
     ensures waits { (n limit : ℕ) (given : List ℕ) → n ≤ F.most → length given < n → AreBytes given → length given ≤ limit → Waits F.accepts limit given (run (F.layout n) 0 given) }
 {}

@@ -32,8 +32,8 @@ impl Window {
     ghost use Rattle.amf_io.specs.Outside.{HasCause};
     ghost use Rattle.amf_io.specs.Window.{waiting, size, given, Fills, Begins, IsEmptied, IsUnmoved};
 
-    /// An empty window.
-    pub(crate) fn new(alloc: Global, limit: u32) -> Result<Window, Memory>
+    /// An empty window, of which at most `limit` bytes are given. It gives up where there is no memory.
+    pub fn new(alloc: Global, limit: u32) -> Result<Window, Memory>
         ensures { IfOk result (Begins limit) }
     {
         let buffer = vec![in alloc; 0u8; BUFFER]?;

@@ -12,7 +12,7 @@ use std::error::Error;
 use std::fmt;
 use std::marker::Model;
 
-/// A name: a text, seen as its list of bytes.
+/// A name, seen as its list of bytes: a text where `from_bytes` made it.
 #[derive(Debug, Drop)]
 pub struct Name {
     bytes: Vec<u8>,
@@ -90,7 +90,8 @@ impl Name {
         Ok(Name { bytes })
     }
 
-    /// The name of any bytes, which need not be a text: what stands above may keep a message so.
+    /// The name of any bytes, which need not be a text: what stands above may keep a message so. It gives up where there
+    /// is no memory.
     pub fn of_bytes(alloc: Global, bytes: &[u8]) -> Result<Name, Memory>
         ensures { IfOk result (λ name. name ≡ bytes.now) }
     {
@@ -106,7 +107,7 @@ impl Name {
         self.bytes.as_slice()
     }
 
-    /// A name of the same bytes.
+    /// A name of the same bytes. It gives up where there is no memory.
     pub fn copy(&self, alloc: Global) -> Result<Name, Memory>
         ensures { IfOk result (λ name. name ≡ self.now) }
     {
