@@ -7,11 +7,10 @@ use Rattle.std.proofs.lemmas.List.Sums.{position_or_len_is}
 use Rattle.std.proofs.lemmas.Map.Keys.{IsDistinct-cons}
 use Rattle.std.proofs.lemmas.Map.Steps.{length-le_from_distinct_below}
 use Rattle.std.proofs.lemmas.Option.{same_Some, slice_get_within, slice_get-get_or, get_or_from_slice_get}
-use Rattle.amf_graph.specs.Order.{Absent}
+use Rattle.amf_graph.specs.Order.{Absent, IsDistinct as Distinct}
 use Rattle.amf_graph.specs.declared.value.NodeId.{NodeId}
 use Rattle.amf_graph.specs.Renumbered.{numbers_of, place_of, number_in}
 use Rattle.amf_graph.proofs.Lists.{search_for}
-use Rattle.amf_graph.proofs.Walks.{Distinct}
 
 -- Numbers below n of which none stands twice are at most n.
 

@@ -5,7 +5,8 @@ use Rattle.std.proofs.lemmas.Option.{same_Some, slice_get_within}
 use Rattle.amf_graph.specs.Graph.{Value, leaf, node, Graph, node_at}
 use Rattle.amf_graph.specs.ByName.{by_name}
 use Rattle.amf_graph.specs.Isomorphic.{ValuesMatch, PairsMatch, NodesMatch, StandIn, Isomorphic}
-use Rattle.amf_graph.specs.Order.{Absent, is_array, seconds, values_met, Walks, over, past, again, first, IsOrder}
+use Rattle.amf_graph.specs.Order as order
+use Rattle.amf_graph.specs.Order.{Absent, is_array, seconds, values_met, at_depth, Descends, Walks, over, past, again, first, IsOrder}
 use Rattle.amf_graph.proofs.Lists.{entry, at_push, length_pushed, no_entry}
 use Rattle.amf_graph.proofs.Matching.{Implies, values_more, nodes_more}
 use Rattle.amf_graph.proofs.Walks.{In, each_left, each_right, walks_fixed, walk_distinct, walk_within, walk_closed}
@@ -62,6 +63,20 @@ zip_met : (P : ℕ → ℕ → Type 0) (f : Bool) (v w : List (List ℕ × Value
 zip_met P true v w vs ws m n = zip_append (ValuesMatch P) (seconds v) (seconds w) vs ws (zip_seconds P v w m) n
 zip_met P false v w vs ws m n = zip_append (ValuesMatch P) vs ws (seconds v) (seconds w) n (zip_seconds P v w m)
 
+-- values that match, and are met at the same depth
+abbrev pub DeepMatch : (ℕ → ℕ → Type 0) → Value × ℕ → Value × ℕ → Type 0
+DeepMatch P p q = ValuesMatch P p.0 q.0 × (p.1 ≡ q.1)
+
+-- nodes of a pair, at the same depth
+abbrev pub FoundMatch : (ℕ → ℕ → Type 0) → ℕ × ℕ → ℕ × ℕ → Type 0
+FoundMatch P p q = P p.0 q.0 × (p.1 ≡ q.1)
+
+zip_deep : (P : ℕ → ℕ → Type 0) (d e : ℕ) → d ≡ e → (vs ws : List Value) (us zs : List (Value × ℕ)) → AllZip (ValuesMatch P) vs ws → AllZip (DeepMatch P) us zs → AllZip (DeepMatch P) (at_depth d vs ++ us) (at_depth e ws ++ zs)
+zip_deep P d e same [] [] us zs m n = n
+zip_deep P d e same [] (w ∷ ws) us zs m n = elim m [ ]
+zip_deep P d e same (v ∷ vs) [] us zs m n = elim m [ ]
+zip_deep P d e same (v ∷ vs) (w ∷ ws) us zs m n = ((m.0, same), zip_deep P d e same vs ws us zs m.1 n)
+
 module _ (g h : Graph) (P : ℕ → ℕ → Type 0)
     (left : (i j k : ℕ) → P i j → P i k → j ≡ k) (right : (i j k : ℕ) → P i k → P j k → i ≡ j)
     (within : (i j : ℕ) → P i j → j < length h.nodes)
@@ -71,6 +86,12 @@ module _ (g h : Graph) (P : ℕ → ℕ → Type 0)
       let n = nodes i j m in
       subst (λ w. AllZip (ValuesMatch P) (values_met (node_at g i)) (cond (is_array w) (seconds (by_name (node_at h j).names) ++ (node_at h j).values) ((node_at h j).values ++ seconds (by_name (node_at h j).names)))) n.head
       (zip_met P (is_array (node_at g i).head) (by_name (node_at g i).names) (by_name (node_at h j).names) (node_at g i).values (node_at h j).values n.names n.values)
+
+  absent_along : (xs ys : List ℕ) (i j : ℕ) → Absent xs i → Along P xs ys → P i j → Absent ys j
+  absent_along xs ys i j n k m q e =
+      let one = entry xs q (subst (λ w. q < w) (sym k.size) (slice_get_within ys q j e)) in
+      let same : one.0 ≡ i = right one.0 i j (k.pairs q one.0 j one.1 e) m in
+      n q (one.1 ∙ ap (λ w. Some w) same)
 
   -- the one walk goes along the other
   pub walk_along : {xs zs : List ℕ} {vs : List Value} → Walks g xs vs zs → (ys : List ℕ) (ws : List Value) → Along P xs ys → AllZip (ValuesMatch P) vs ws → (us : List ℕ) × Walks h ys ws us × Along P zs us
@@ -90,13 +111,28 @@ module _ (g h : Graph) (P : ℕ → ℕ → Type 0)
   walk_along (first i l n a) ys (leaf y ∷ ws) k m = elim m.0 [ ]
   walk_along (first {met = xs} {vs = vs} i l n a) ys (node j ∷ ws) k m =
       let o = walk_along a (ys ++ j ∷ []) (values_met (node_at h j) ++ ws) (along_push P xs ys i j m.0 k) (zip_append (ValuesMatch P) (values_met (node_at g i)) (values_met (node_at h j)) vs ws (met_match i j m.0) m.1) in
-      (o.0, first j (within i j m.0) (absent xs ys i j n k m.0) o.1, o.2)
-    where
-      absent : (xs ys : List ℕ) (i j : ℕ) → Absent xs i → Along P xs ys → P i j → Absent ys j
-      absent xs ys i j n k m q e =
-          let one = entry xs q (subst (λ w. q < w) (sym k.size) (slice_get_within ys q j e)) in
-          let same : one.0 ≡ i = right one.0 i j (k.pairs q one.0 j one.1 e) m in
-          n q (one.1 ∙ ap (λ w. Some w) same)
+      (o.0, first j (within i j m.0) (absent_along xs ys i j n k m.0) o.1, o.2)
+
+  -- and so does the one descent
+  pub descent_along : {xs : List ℕ} {vs : List (Value × ℕ)} {ms : List (ℕ × ℕ)} → Descends g xs vs ms → (ys : List ℕ) (ws : List (Value × ℕ)) → Along P xs ys → AllZip (DeepMatch P) vs ws → (ns : List (ℕ × ℕ)) × Descends h ys ws ns × AllZip (FoundMatch P) ms ns
+  descent_along order.over ys [] k m = ([], order.over, tt)
+  descent_along order.over ys (w ∷ ws) k m = elim m [ ]
+  descent_along (order.past x d a) ys [] k m = elim m [ ]
+  descent_along (order.past x d a) ys ((leaf y, e) ∷ ws) k m = let o = descent_along a ys ws k m.1 in (o.0, order.past y e o.1, o.2)
+  descent_along (order.past x d a) ys ((node j, e) ∷ ws) k m = elim m.0.0 [ ]
+  descent_along (order.again i d l f a) ys [] k m = elim m [ ]
+  descent_along (order.again i d l f a) ys ((leaf y, e) ∷ ws) k m = elim m.0.0 [ ]
+  descent_along (order.again {met = xs} i d l f a) ys ((node j, e) ∷ ws) k m =
+      let o = descent_along a ys ws k m.1 in
+      let other = entry ys l (subst (λ w. l < w) k.size (slice_get_within xs l i f)) in
+      let same : other.0 ≡ j = left i other.0 j (k.pairs l i other.0 f other.1) m.0.0 in
+      (o.0, order.again j e l (other.1 ∙ ap (λ w. Some w) same) o.1, o.2)
+  descent_along (order.first i d l n a) ys [] k m = elim m [ ]
+  descent_along (order.first i d l n a) ys ((leaf y, e) ∷ ws) k m = elim m.0.0 [ ]
+  descent_along (order.first {met = xs} {vs = vs} i d l n a) ys ((node j, e) ∷ ws) k m =
+      let deep = zip_deep P (suc d) (suc e) (ap suc m.0.1) (values_met (node_at g i)) (values_met (node_at h j)) vs ws (met_match i j m.0.0) m.1 in
+      let o = descent_along a (ys ++ j ∷ []) (at_depth (suc e) (values_met (node_at h j)) ++ ws) (along_push P xs ys i j m.0.0 k) deep in
+      ((j, e) ∷ o.0, order.first j e (within i j m.0.0) (absent_along xs ys i j n k m.0.0) o.1, (m.0, o.2))
 
   -- a matching of values that stand in the lists is one by their numbers
   same_value : (xs ys : List ℕ) → Along P xs ys → (v w : Value) → In xs v → ValuesMatch P v w → ValuesMatch (SamePlace xs ys) v w
@@ -129,6 +165,13 @@ pub record PlacesMatch (g h : Graph) (xs ys : List ℕ) : Type 0 where
   pub size : length xs ≡ length ys
   pub root : ValuesMatch (SamePlace xs ys) g.root h.root
   pub nodes : (k i j : ℕ) → slice_get xs k ≡ Some i → slice_get ys k ≡ Some j → NodesMatch (SamePlace xs ys) (node_at g i) (node_at h j)
+
+-- the nodes that are found in two isomorphic graphs match, and stand at the same depths
+pub depths_along : (g h : Graph) (i : Isomorphic g h) (depth : ℕ) (found : List (ℕ × ℕ)) → order.HasDepths depth g found → (others : List (ℕ × ℕ)) × order.HasDepths depth h others × AllZip (FoundMatch (StandIn i.pairs)) found others
+depths_along g h i depth found d =
+    let within : (k l : ℕ) → StandIn i.pairs k l → l < length h.nodes = λ k l m. (i.within k l m).1 in
+    let none : Along (StandIn i.pairs) [] [] = record { size = refl; pairs = λ k l m e f. absurd (no_entry k l e) } in
+    descent_along g h (StandIn i.pairs) i.left i.right within i.nodes d [] ((h.root, depth) ∷ []) none ((i.root, refl), tt)
 
 pub to_places : (g h : Graph) (xs ys : List ℕ) → IsOrder g xs → IsOrder h ys → Isomorphic g h → PlacesMatch g h xs ys
 to_places g h xs ys a b i =

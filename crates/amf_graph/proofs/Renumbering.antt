@@ -10,7 +10,8 @@ use Rattle.amf_graph.specs.Arena.{Arena, StoredHead, xml_document, date, array, 
 use Rattle.amf_graph.specs.Bounds.{IsWithinBounds, NodeWithin}
 use Rattle.amf_graph.specs.Building.{stored_at, no_stored}
 use Rattle.amf_graph.specs.Rooted.{RootedArena}
-use Rattle.amf_graph.specs.Renumbered.{place_of, renumbered_value, renumbered_values, renumbered_names, renumbered_node, renumbered_arena, renumbered, number_in, StandsIn, IsDistinct, IsPart}
+use Rattle.amf_graph.specs.Order.{IsDistinct}
+use Rattle.amf_graph.specs.Renumbered.{place_of, renumbered_value, renumbered_values, renumbered_names, renumbered_node, renumbered_arena, renumbered, number_in, StandsIn, IsPart}
 use Rattle.amf_graph.proofs.Alls.{all_weaker, all_at}
 use Rattle.amf_graph.proofs.Built.{stands, stands_within}
 use Rattle.amf_graph.proofs.Growth.{names_content, values_content}

@@ -4,17 +4,13 @@ use Rattle.std.specs.List.{AllByRecursion}
 use Rattle.std.proofs.lemmas.Bool.{cases_lt}
 use Rattle.std.proofs.lemmas.Option.{same_Some, slice_get_within}
 use Rattle.amf_graph.specs.Graph.{Value, leaf, node, Graph, node_at}
-use Rattle.amf_graph.specs.Order.{Absent, values_met, Walks, over, past, again, first}
+use Rattle.amf_graph.specs.Order.{Absent, IsDistinct, values_met, Walks, over, past, again, first}
 use Rattle.amf_graph.proofs.Lists.{at_left, at_end, at_push, length_pushed}
-
--- no number stands twice
-abbrev pub Distinct : List ℕ → Type 0
-Distinct xs = (j k i : ℕ) → slice_get xs j ≡ Some i → slice_get xs k ≡ Some i → j ≡ k
 
 abbrev pub Within : Graph → List ℕ → Type 0
 Within g xs = (k i : ℕ) → slice_get xs k ≡ Some i → i < length g.nodes
 
-pub distinct_push : (xs : List ℕ) (n : ℕ) → Absent xs n → Distinct xs → Distinct (xs ++ n ∷ [])
+pub distinct_push : (xs : List ℕ) (n : ℕ) → Absent xs n → IsDistinct xs → IsDistinct (xs ++ n ∷ [])
 distinct_push xs n new d j k i a b =
     elim (at_push xs n j i a) [
       | inl p ↦ elim (at_push xs n k i b) [ inl q ↦ d j k i p q | inr q ↦ absurd (new j (p ∙ ap (λ w. Some w) (sym q.1))) ]
@@ -35,7 +31,7 @@ walk_stays (past x a) k i e = walk_stays a k i e
 walk_stays (again j l f a) k i e = walk_stays a k i e
 walk_stays {xs = xs} (first j l n a) k i e = walk_stays a k i (at_left xs (j ∷ []) k i e)
 
-pub walk_distinct : {g : Graph} {xs ys : List ℕ} {vs : List Value} → Walks g xs vs ys → Distinct xs → Distinct ys
+pub walk_distinct : {g : Graph} {xs ys : List ℕ} {vs : List Value} → Walks g xs vs ys → IsDistinct xs → IsDistinct ys
 walk_distinct over d = d
 walk_distinct (past x a) d = walk_distinct a d
 walk_distinct (again j l f a) d = walk_distinct a d

@@ -1,5 +1,5 @@
 -- What is kept of a node, as its model.
-use Rattle.std.specs.Prelude.{◌≡◌, ℕ, Bool, List, [], ◌∷◌, map, Option, Some, None, ◌<◌, ◌^◌, FitsSigned}
+use Rattle.std.specs.Prelude.{◌≡◌, ℕ, Bool, List, [], ◌∷◌, Option, Some, None, ◌<◌, ◌^◌, FitsSigned}
 use Rattle.std.specs.List.{AllByRecursion}
 use Rattle.std.specs.Int.{w32}
 use Rattle.amf_graph.specs.declared.value.Value.{Value as Stored}
@@ -8,17 +8,12 @@ use Rattle.amf_graph.specs.declared.body.Body.TheVariants as body
 use Rattle.amf_graph.specs.declared.part.Part.{Part}
 use Rattle.amf_graph.specs.declared.part.Part.TheVariants.{Item, Named, Entry}
 use Rattle.amf_graph.specs.Graph.{IsPattern}
-use Rattle.amf_graph.specs.Arena.{StoredHead, xml_document, date, array, object, wrapper, xml, bytes, ints, uints, doubles, values, dictionary, StoredNode}
+use Rattle.amf_graph.specs.Arena.{StoredHead, date, array, object, wrapper, bytes, ints, uints, doubles, values, dictionary, StoredNode}
+use Rattle.amf_graph.specs.Building.{leaf_head}
 use Rattle.amf_graph.specs.Views.{named, flat}
 
 abbrev pub body_head : Body → StoredHead
-body_head (body.XmlDocument x) = xml_document x.0
-body_head (body.Xml x) = xml x.0
-body_head (body.Date p) = date p.0
-body_head (body.Bytes x) = bytes x.items
-body_head (body.Ints f ns) = ints f ns.items
-body_head (body.Uints f ns) = uints f ns.items
-body_head (body.Doubles f ns) = doubles f (map (λ p. p.0) ns.items)
+body_head (body.Leaf l) = leaf_head l
 body_head (body.Array vs ps) = array
 body_head (body.Object t vs ps) = object t.0
 body_head (body.Wrapper c v) = wrapper c

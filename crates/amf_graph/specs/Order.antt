@@ -1,12 +1,15 @@
 -- The canonical order of the reached nodes, and their canonical depths: the order in which AMF 3 lays out their values (3.11, 3.12, 3.15, 3.16).
 use Rattle.std.specs.Prelude.{◌≡◌, ◌≢◌, ℕ, suc, ◌<◌, Bool, true, false, cond, List, [], ◌∷◌, ◌++◌, map, length, slice_get, Some}
-use Rattle.std.specs.List.{flat_map}
 use Rattle.amf_graph.specs.Graph.{Leaf, Value, leaf, node, Head, array, Node, Graph, node_at}
 use Rattle.amf_graph.specs.ByName.{by_name}
 
 -- x is not in the list
 abbrev pub Absent : {X : Type 0} → List X → X → Type 0
 Absent xs x = (k : ℕ) → slice_get xs k ≢ Some x
+
+-- no number stands twice
+abbrev pub IsDistinct : List ℕ → Type 0
+IsDistinct xs = (j k i : ℕ) → slice_get xs j ≡ Some i → slice_get xs k ≡ Some i → j ≡ k
 
 abbrev pub is_array : Head → Bool
 is_array array = true
@@ -45,11 +48,3 @@ pub data Descends (g : Graph) : List ℕ → List (Value × ℕ) → List (ℕ �
 -- the nodes in canonical order, each with its canonical depth, the root's node at this depth
 abbrev pub HasDepths : ℕ → Graph → List (ℕ × ℕ) → Type 0
 HasDepths depth g found = Descends g [] ((g.root, depth) ∷ []) found
-
--- all values that are met, the root and those of the nodes in this order
-abbrev pub all_met : Graph → List ℕ → List Value
-all_met g order = g.root ∷ flat_map (λ i. values_met (node_at g i)) order
-
--- the value stands at two places
-abbrev pub IsTwice : {X : Type 0} → List X → X → Type 0
-IsTwice xs x = (j : ℕ) × (k : ℕ) × (j < k) × (slice_get xs j ≡ Some x) × (slice_get xs k ≡ Some x)

@@ -4,6 +4,7 @@ use Rattle.std.specs.List.{AllByRecursion, position_or_len}
 use Rattle.amf_graph.specs.declared.value.NodeId.{NodeId}
 use Rattle.amf_graph.specs.declared.value.Value.{Value as Stored}
 use Rattle.amf_graph.specs.declared.value.Value.TheVariants.{Node as NodeRef}
+use Rattle.amf_graph.specs.Order.{IsDistinct}
 use Rattle.amf_graph.specs.Arena.{Arena, StoredNode}
 use Rattle.amf_graph.specs.Building.{stored_at}
 use Rattle.amf_graph.specs.Rooted.{RootedArena}
@@ -44,10 +45,6 @@ renumbered order g = record { arena = renumbered_arena (place_of order) order g.
 abbrev pub StandsIn : List ℕ → Stored → Type 0
 StandsIn order (NodeRef n) = (k : ℕ) × (slice_get order k ≡ Some n.0)
 StandsIn order _ = Unit {0}
-
--- no number stands twice
-abbrev pub IsDistinct : List ℕ → Type 0
-IsDistinct order = (j k i : ℕ) → slice_get order j ≡ Some i → slice_get order k ≡ Some i → j ≡ k
 
 -- no node stands twice, and the list has with the root's node and with each of its nodes all those that they name
 pub record IsPart (g : RootedArena) (order : List ℕ) : Type 0 where

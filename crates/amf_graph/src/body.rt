@@ -1,25 +1,19 @@
 ghost use Rattle.std.specs.Prelude.{◌≡◌, ◌+◌, ◌^◌, ◌<◌, [], ◌∷◌, ◌++◌, length, IfOk, OnOk, OnErr};
 ghost use Rattle.std.specs.List.{AllByRecursion};
 ghost use Rattle.amf_graph.specs.Bounds.{parts_of, items_of};
-ghost use Rattle.amf_graph.specs.Building.{kind_of, leaf_head, shape_head};
+ghost use Rattle.amf_graph.specs.Building.{kind_of, shape_head};
 ghost use Rattle.amf_graph.specs.Bodies.{body_head, body_names, body_values, TakesItem, TakesName, TakesEntry};
 ghost use Rattle.amf_graph.specs.Renumbered.{renumbered_names, renumbered_values, number_in, HasNumber};
 
 use crate::renumber::{renumbered_entries, renumbered_option, renumbered_pairs, renumbered_values};
 use crate::{Leaf, NodeKind, Shape, TextId, TraitsId, Value, Wrapped};
-use amf_wire::{Memory, Pattern};
+use amf_wire::Memory;
 use std::alloc::Global;
 
 /// What a node is and holds.
 #[derive(Drop)]
 pub(crate) enum Body {
-    XmlDocument(TextId),
-    Xml(TextId),
-    Date(Pattern),
-    Bytes(Vec<u8>),
-    Ints(bool, Vec<i32>),
-    Uints(bool, Vec<u32>),
-    Doubles(bool, Vec<Pattern>),
+    Leaf(Leaf),
     Array {
         items: Vec<Value>,
         names: Vec<(TextId, Value)>,
@@ -74,33 +68,11 @@ impl Body {
         }
     }
 
-    pub(crate) fn of_leaf(leaf: Leaf) -> Body
-        ensures head { body_head result ≡ leaf_head leaf }
-        ensures names { body_names result ≡ [] }
-        ensures values { body_values result ≡ [] }
-    {
-        match leaf {
-            Leaf::XmlDocument(text) => Body::XmlDocument(text),
-            Leaf::Xml(text) => Body::Xml(text),
-            Leaf::Date(time) => Body::Date(time),
-            Leaf::Bytes(bytes) => Body::Bytes(bytes),
-            Leaf::Ints(fixed, items) => Body::Ints(fixed, items),
-            Leaf::Uints(fixed, items) => Body::Uints(fixed, items),
-            Leaf::Doubles(fixed, items) => Body::Doubles(fixed, items),
-        }
-    }
-
     pub(crate) fn kind(&self) -> NodeKind
         ensures { result ≡ kind_of (body_head self.now) }
     {
         match self {
-            Body::XmlDocument(_) => NodeKind::XmlDocument,
-            Body::Xml(_) => NodeKind::Xml,
-            Body::Date(_) => NodeKind::Date,
-            Body::Bytes(_) => NodeKind::Bytes,
-            Body::Ints(..) => NodeKind::Ints,
-            Body::Uints(..) => NodeKind::Uints,
-            Body::Doubles(..) => NodeKind::Doubles,
+            Body::Leaf(leaf) => leaf.kind(),
             Body::Array { .. } => NodeKind::Array,
             Body::Object { .. } => NodeKind::Object,
             Body::Wrapper { .. } => NodeKind::Wrapper,
@@ -115,11 +87,7 @@ impl Body {
         ensures { result ≡ items_of (body_head self.now) + length (body_names self.now) + parts_of (body_head self.now) (length (body_values self.now)) }
     {
         match self {
-            Body::XmlDocument(_) | Body::Xml(_) | Body::Date(_) => 0,
-            Body::Bytes(bytes) => bytes.len(),
-            Body::Ints(_, items) => items.len(),
-            Body::Uints(_, items) => items.len(),
-            Body::Doubles(_, items) => items.len(),
+            Body::Leaf(leaf) => leaf.len(),
             Body::Array { items, names } => names.len() + items.len(),
             Body::Object {
                 sealed,
@@ -187,13 +155,7 @@ impl Body {
         ensures values { IfOk result (λ body. body_values body ≡ renumbered_values (number_in numbers.now) (body_values self.now)) }
     {
         Ok(match self {
-            Body::XmlDocument(text) => Body::XmlDocument(*text),
-            Body::Xml(text) => Body::Xml(*text),
-            Body::Date(time) => Body::Date(*time),
-            Body::Bytes(bytes) => Body::Bytes(bytes.to_vec(alloc)?),
-            Body::Ints(fixed, items) => Body::Ints(*fixed, items.to_vec(alloc)?),
-            Body::Uints(fixed, items) => Body::Uints(*fixed, items.to_vec(alloc)?),
-            Body::Doubles(fixed, items) => Body::Doubles(*fixed, items.to_vec(alloc)?),
+            Body::Leaf(leaf) => Body::Leaf(leaf.copy(alloc)?),
             Body::Array { items, names } => Body::Array {
                 items: renumbered_values(alloc, items, numbers)?,
                 names: renumbered_pairs(alloc, names, numbers)?,

@@ -44,7 +44,7 @@ pub struct Unfinished {
 }
 
 impl Builder {
-    /// A builder that holds nothing yet.
+    /// A builder that holds nothing yet. It gives up where there is no memory.
     pub fn new(alloc: Global) -> Result<Builder, Memory>
         ensures { IfOk result (λ builder. builder ≡ no_arena) }
     {
@@ -62,7 +62,10 @@ impl Builder {
         let _ = &self.store;
     }
 
-    /// Keeps a text.
+    /// Keeps a text (AMF 3, 1.3.2).
+    ///
+    /// `Full` comes exactly where there are [`MAX_COUNT`] texts already or it has more bytes than that, and `Memory` where
+    /// there is no room. After an end the builder is as before.
     pub fn text(&mut self, bytes: &[u8]) -> Result<TextId, BuildEnd>
         requires { IsText bytes.now }
         ensures id { IfOk result (λ t. t.0 ≡ length self.old.texts) }
@@ -78,7 +81,10 @@ impl Builder {
         Ok(TextId(place as u32))
     }
 
-    /// Keeps the traits of a class.
+    /// Keeps the traits of a class (AMF 3, 3.12).
+    ///
+    /// `Full` comes exactly where there are [`MAX_TRAITS`] traits already or more than [`MAX_SEALED`] sealed names, and
+    /// `Memory` where there is no room. After an end the builder is as before.
     pub fn traits(
         &mut self,
         class: TextId,
@@ -101,6 +107,9 @@ impl Builder {
     }
 
     /// Keeps a node without parts. It is complete.
+    ///
+    /// `Full` comes exactly where there are [`MAX_COUNT`] nodes already or it holds more bytes or items than that, and
+    /// `Memory` where there is no room. After an end the builder is as before.
     pub fn leaf(&mut self, leaf: Leaf) -> Result<NodeId, BuildEnd>
         requires { HeadNames self.old (leaf_head leaf) }
         ensures id { IfOk result (λ n. n.0 ≡ length self.old.nodes) }
@@ -118,6 +127,9 @@ impl Builder {
     }
 
     /// Keeps a node that is open: it has no parts yet.
+    ///
+    /// `Full` comes exactly where there are [`MAX_COUNT`] nodes already, and `Memory` where there is no room. After an end
+    /// the builder is as before.
     pub fn open_node(&mut self, shape: Shape) -> Result<NodeId, BuildEnd>
         requires { HeadNames self.old (shape_head shape) }
         ensures id { IfOk result (λ n. n.0 ≡ length self.old.nodes) }
@@ -134,6 +146,9 @@ impl Builder {
     }
 
     /// Adds a part to a node that is open.
+    ///
+    /// `Full` comes exactly where the node has [`MAX_COUNT`] items, names and parts together, and `Memory` where there is no
+    /// room. After an end the builder is as before.
     pub fn put(&mut self, node: NodeId, part: Part) -> Result<(), BuildEnd>
         requires there { node.0 < length self.old.nodes }
         requires opened { (stored_at self.old node.0).is_open ≡ true }
@@ -150,7 +165,7 @@ impl Builder {
         Ok(())
     }
 
-    /// Closes a node that has all of its parts.
+    /// Closes a node that has all of its parts. It takes no memory.
     pub fn close_node(&mut self, node: NodeId)
         requires there { node.0 < length self.old.nodes }
         requires opened { (stored_at self.old node.0).is_open ≡ true }
@@ -184,7 +199,8 @@ impl Builder {
         self.store.traits(traits)
     }
 
-    /// The graph with this root. It takes no memory.
+    /// The graph with this root. `Unfinished` comes exactly where a node is open: it names the least, and gives the builder
+    /// back. It takes no memory.
     pub fn finish(self, root: Value) -> Result<Rooted, Unfinished>
         requires { Names self root }
         ensures graph { IfOk result (λ graph. graph ≡ record { arena = self; root = root }) }

@@ -1,4 +1,4 @@
-/// The kinds of nodes (AMF 3, 3.2 to 3.16).
+/// The kinds of nodes (AMF 3, 3.9 to 3.16).
 #[derive(Clone, Copy, Debug, PartialEq, Eq)]
 pub enum NodeKind {
     XmlDocument,

@@ -40,7 +40,7 @@ impl Node {
     {
         Node {
             open: false,
-            body: Body::of_leaf(leaf),
+            body: Body::Leaf(leaf),
         }
     }
 

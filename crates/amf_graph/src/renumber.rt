@@ -1,8 +1,9 @@
 ghost use Rattle.std.specs.Prelude.{◌≡◌, ℕ, ◌<◌, ◌^◌, length, IfOk};
 ghost use Rattle.std.specs.List.{AllByRecursion};
 ghost use Rattle.amf_graph.specs.Bodies.{one_or_none};
+ghost use Rattle.amf_graph.specs.Order.{IsDistinct};
 ghost use Rattle.amf_graph.specs.Views.{named, flat};
-ghost use Rattle.amf_graph.specs.Renumbered.{numbers_of, place_of, renumbered_value, renumbered_values, renumbered_names, number_in, HasNumber, IsDistinct};
+ghost use Rattle.amf_graph.specs.Renumbered.{numbers_of, place_of, renumbered_value, renumbered_values, renumbered_names, number_in, HasNumber};
 
 use crate::{NodeId, TextId, Value};
 use amf_wire::Memory;

@@ -1,7 +1,7 @@
-ghost use Rattle.std.specs.Prelude.{◌≡◌, ◌<◌, ◌≤◌, ◌^◌, length, map, slice_get, get_or, false, IfOk, OnOk, OnErr, IsErrOf, MatchOption, Some};
+ghost use Rattle.std.specs.Prelude.{[], ◌≡◌, ◌<◌, ◌≤◌, ◌^◌, length, map, slice_get, get_or, false, IfOk, OnOk, OnErr, IsErrOf, MatchOption, Some};
 ghost use Rattle.std.specs.List.{AllByRecursion};
-ghost use Rattle.amf_graph.specs.Arena.{text_at, no_traits, IsNodeIn, IsBuilt};
-ghost use Rattle.amf_graph.specs.Building.{no_arena, no_stored, kept_text, kept_traits, kept_node, stored_traits, stored_at, changed, more_part, shut, kind_of, size_of, IsFirstOpen};
+ghost use Rattle.amf_graph.specs.Arena.{text_at, no_traits, HeadNames, IsNodeIn, IsBuilt};
+ghost use Rattle.amf_graph.specs.Building.{no_arena, no_stored, kept_text, kept_traits, kept_node, stored_traits, stored_at, changed, more_part, shut, closed, leaf_head, kind_of, size_of, IsFirstOpen};
 ghost use Rattle.amf_graph.specs.Bodies.{TakesPart};
 ghost use Rattle.amf_graph.specs.Renumbered.{numbers_of, renumbered_node, renumbered_arena, number_in, HaveNumbers};
 ghost use Rattle.amf_graph.specs.Views.{Shows, ShowsTraits};
@@ -9,7 +9,7 @@ ghost use Rattle.amf_graph.specs.Views.{Shows, ShowsTraits};
 use crate::body::Body;
 use crate::class::Class;
 use crate::node::{Node, first_open};
-use crate::{NodeId, NodeKind, NodeView, Part, TextId, TraitsId, TraitsView};
+use crate::{Leaf, NodeId, NodeKind, NodeView, Part, TextId, TraitsId, TraitsView};
 use amf_wire::{Memory, Name};
 use std::alloc::Global;
 use std::marker::Model;
@@ -136,6 +136,31 @@ impl Store {
         first_open(&self.nodes)
     }
 
+    /// What a node without parts holds.
+    fn leaf<'a>(&'a self, leaf: &'a Leaf) -> NodeView<'a>
+        requires { HeadNames self.now (leaf_head leaf.now) }
+        ensures { Shows self.now (closed (leaf_head leaf.now) [] []) result }
+    {
+        match leaf {
+            Leaf::XmlDocument(text) => NodeView::XmlDocument(self.text(*text)),
+            Leaf::Xml(text) => NodeView::Xml(self.text(*text)),
+            Leaf::Date(time) => NodeView::Date(*time),
+            Leaf::Bytes(bytes) => NodeView::Bytes(bytes),
+            Leaf::Ints(fixed, items) => NodeView::Ints {
+                fixed: *fixed,
+                items,
+            },
+            Leaf::Uints(fixed, items) => NodeView::Uints {
+                fixed: *fixed,
+                items,
+            },
+            Leaf::Doubles(fixed, items) => NodeView::Doubles {
+                fixed: *fixed,
+                items,
+            },
+        }
+    }
+
     /// What a closed node holds.
     pub(crate) fn node(&self, node: NodeId) -> NodeView<'_>
         requires there { node.0 < length self.now.nodes }
@@ -144,22 +169,7 @@ impl Store {
         ensures { Shows self.now (stored_at self.now node.0) result }
     {
         match self.nodes[node.0 as usize].body() {
-            Body::XmlDocument(text) => NodeView::XmlDocument(self.text(*text)),
-            Body::Xml(text) => NodeView::Xml(self.text(*text)),
-            Body::Date(time) => NodeView::Date(*time),
-            Body::Bytes(bytes) => NodeView::Bytes(bytes),
-            Body::Ints(fixed, items) => NodeView::Ints {
-                fixed: *fixed,
-                items,
-            },
-            Body::Uints(fixed, items) => NodeView::Uints {
-                fixed: *fixed,
-                items,
-            },
-            Body::Doubles(fixed, items) => NodeView::Doubles {
-                fixed: *fixed,
-                items,
-            },
+            Body::Leaf(leaf) => self.leaf(leaf),
             Body::Array { items, names } => NodeView::Array { items, names },
             Body::Object {
                 traits,

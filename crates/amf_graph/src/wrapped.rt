@@ -2,7 +2,7 @@ ghost use Rattle.std.specs.Prelude.{◌≡◌};
 ghost use Rattle.amf_graph.specs.Graph.{class_name};
 ghost use Rattle.amf_graph.specs.Classes.{class_named};
 
-/// The externalizable classes that are served, whose instances hold one value.
+/// The externalizable classes that are served, whose instances hold one value (AMF 3, 3.12).
 #[derive(Clone, Copy, Debug, PartialEq, Eq)]
 pub enum Wrapped {
     /// `flex.messaging.io.ArrayCollection`.
