@@ -21,6 +21,7 @@ use Rattle.amf_tables.proofs.BytesOf.{to_spells}
 use Rattle.amf_tables.proofs.FieldsOf.{from_spells}
 use Rattle.amf_tables.proofs.Exists3.{each_at, layout_reached, value_good}
 use Rattle.amf_tables.proofs.Depths3.{IsFine, fine_from_spelling, spelling_from_fine}
+use Rattle.amf_tables.proofs.LacksAlike.{lacks_alike}
 
 -- the first reason at a node of that depth
 abbrev IsLacking : Graph → ℕ → ℕ × ℕ → LackKind → Type 0
@@ -152,4 +153,4 @@ one_lack : (g : Graph) (limit n m : ℕ) (kind other : LackKind) → IsLack3 g l
 one_lack g limit n m kind other x y = one_first g limit x.0 n m kind other x.2 (subst (λ w. IsFirstLack (Lacks3 g limit w) m other) (depths_fixed y.1 x.1) y.2)
 
 pub spelling_or_lack : SpellingOrLack
-spelling_or_lack = record { either = spelled_or_lacking; not_both = never_both; one_lack = one_lack }
+spelling_or_lack = record { either = spelled_or_lacking; not_both = never_both; one_lack = one_lack; alike = lacks_alike }

@@ -2,9 +2,9 @@
 use Rattle.std.proofs.Common.{◌≡◌, ℕ, zero, suc, ◌<◌, ◌≤◌, List, [], ◌∷◌, ◌++◌, length, slice_get, Some, sym, ap, ◌∙◌, subst, inl, inr, arith}
 use Rattle.amf_wire.specs.Style.{Style}
 use Rattle.amf_graph.specs.Graph.{Leaf, Value, leaf, node, Graph, node_at}
-use Rattle.amf_graph.specs.Order.{Absent}
+use Rattle.amf_graph.specs.Order.{Absent, IsDistinct}
 use Rattle.amf_graph.proofs.Lists.{at_left, at_end, at_push, length_pushed}
-use Rattle.amf_graph.proofs.Walks.{Distinct, Within, distinct_push}
+use Rattle.amf_graph.proofs.Walks.{Within, distinct_push}
 use Rattle.amf_tables.specs.Tables.{Tables, add_node}
 use Rattle.amf_tables.specs.Refusals3.{leaf_marker}
 use Rattle.amf_tables.proofs.ByteSpelling.{Spelling, Step, StepOf, Part, step, value, Lifted, Parts, Placed, ValueBy, NodeIn, Spells, leaf_layout, byte, layout}
@@ -14,8 +14,8 @@ Listed xs ys = (k i : ℕ) → slice_get xs k ≡ Some i → (l : ℕ) × (slice
 
 -- tables of a graph
 pub record Proper (g : Graph) (t : Tables) : Type 0 where
-  pub once : Distinct t.done
-  pub places : Distinct t.nodes
+  pub once : IsDistinct t.done
+  pub places : IsDistinct t.nodes
   pub listed : Listed t.nodes t.done
   pub within : Within g t.done
 
@@ -31,8 +31,8 @@ kept_same g t t' e f = record {
   longer = omega (arith, ap length f);
   stays = λ k i h. ap (λ w. slice_get w k) f ∙ h;
   proper = λ p. record {
-    once = subst (λ w. Distinct w) (sym f) p.once;
-    places = subst (λ w. Distinct w) (sym e) p.places;
+    once = subst (λ w. IsDistinct w) (sym f) p.once;
+    places = subst (λ w. IsDistinct w) (sym e) p.places;
     listed = subst (λ w. Listed w t'.done) (sym e) (subst (λ w. Listed t.nodes w) (sym f) p.listed);
     within = subst (λ w. Within g w) (sym f) p.within;
   };

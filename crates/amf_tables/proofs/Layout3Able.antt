@@ -14,10 +14,11 @@ use Rattle.amf_io.proofs.Whole.{whole_some}
 use Rattle.amf_io.proofs.Ables.{in_want}
 use Rattle.amf_graph.specs.declared.value.Value.TheVariants.{Undefined, Null, Bool as Flag, Integer, Double, Text, Node}
 use Rattle.amf_graph.specs.Arena as arena
+use Rattle.amf_graph.specs.Building.{more_value, more_name, shut, more_entry}
 use Rattle.amf_tables.specs.Refusals3.{marker_refusal, header_refusal, kind_refusal, text_header_refusal, class_header_refusal, indexed_class_refusal, is_served_length, text_header_kind, class_kind, marker_kind}
-use Rattle.amf_tables.specs.Layout3State.{State3, with_text, with_contents, with_node, changed, more_value, more_name, shut}
+use Rattle.amf_tables.specs.Layout3State.{State3, with_text, with_contents, with_node, changed}
 use Rattle.amf_tables.specs.Layout3Words.{chunk, TextRead, known_text, new_text, text_behind, text_layout, class_layout, TextsRead, more_text, texts_layout, Opening, known_traits, plain_traits, external_traits, inline_traits, external_layout, traits_layout}
-use Rattle.amf_tables.specs.Layout3.{NodeForm, xml_document, date, array, object, xml, bytes, ints, uints, doubles, values, dictionary, Form, undefined, null, untrue, true_, integer, double, text, node, form_of, node_marker, flag_layout, four_layout, eight_layout, many, whole_node, opening, ValueRead, read, items, entries, more_entry, items_of, is_empty, pairs, pairs_if, parts, inline_node, known_node, node_layout, behind_marker, value_layout}
+use Rattle.amf_tables.specs.Layout3.{NodeForm, xml_document, date, array, object, xml, bytes, ints, uints, doubles, values, dictionary, Form, undefined, null, untrue, true_, integer, double, text, node, form_of, node_marker, flag_layout, four_layout, eight_layout, many, whole_node, opening, ValueRead, read, items, entries, items_of, is_empty, pairs, pairs_if, parts, inline_node, known_node, node_layout, behind_marker, value_layout}
 use Rattle.amf_tables.proofs.Layout3Fills.{Filled, text_filled, raw_filled, number_filled, class_filled, most, Ready, ready_give, ready_cond, ready_none, ready_less, ready_want, ready_plus, ready_bind, ready_bind_less, ready_chunk}
 
 -- how long the table of nodes is

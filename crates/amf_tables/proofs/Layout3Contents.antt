@@ -9,9 +9,11 @@ use Rattle.amf_graph.specs.declared.value.Value.TheVariants.{Undefined, Null, Bo
 use Rattle.amf_graph.specs.Graph.{Fits, Traits}
 use Rattle.amf_graph.specs.Graph as graph
 use Rattle.amf_graph.specs.Arena.{StoredTraits, StoredHead, xml_document, date, array, object, wrapper, xml, bytes, ints, uints, doubles, values, dictionary, StoredNode, Arena, text_at, traits_content, no_traits, traits_at, value_content, head_content, node_content, IsTextId, Names, HeadNames, IsTraitsIn}
+use Rattle.amf_graph.specs.Building.{no_stored, stored_at, kept_text, kept_traits}
 use Rattle.amf_tables.specs.Tables as content
-use Rattle.amf_tables.specs.KeptTables.{KeptEntry, plain, external, KeptTables, entry_content, IsEntryIn, IsDistinct, AreTablesIn, tables_of}
-use Rattle.amf_tables.specs.Layout3State.{stored_marker, no_stored, stored_at, State3, with_text, with_contents, kept_text, with_entry, kept_traits, with_node, begun, changed}
+use Rattle.amf_graph.specs.Order.{IsDistinct}
+use Rattle.amf_tables.specs.KeptTables.{KeptEntry, plain, external, KeptTables, entry_content, IsEntryIn, AreTablesIn, tables_of}
+use Rattle.amf_tables.specs.Layout3State.{stored_marker, State3, with_text, with_contents, with_entry, with_node, begun, changed}
 
 pub all_append : {X : Type 0} (P : X → Type 0) (xs ys : List X) → AllByRecursion P xs → AllByRecursion P ys → AllByRecursion P (xs ++ ys)
 all_append P [] ys a b = b

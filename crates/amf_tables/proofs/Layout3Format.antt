@@ -4,9 +4,10 @@ use Rattle.std.proofs.lemmas.List.{length-map}
 use Rattle.amf_io.specs.Field.{Field, flat}
 use Rattle.amf_io.specs.Layout.{Layout, Path, Runs, Able, IsLayout}
 use Rattle.amf_graph.specs.Arena.{Arena, IsBuilt, graph_of, value_content}
+use Rattle.amf_graph.specs.Building.{stored_at}
 use Rattle.amf_tables.specs.KeptTables.{KeptTables, AreTablesIn, tables_of}
 use Rattle.amf_tables.specs.Reads3.{IsReading3}
-use Rattle.amf_tables.specs.Layout3State.{state_of, stored_at, stored_marker}
+use Rattle.amf_tables.specs.Layout3State.{state_of, stored_marker}
 use Rattle.amf_tables.specs.Layout3.{ValueRead, value_layout}
 use Rattle.amf_tables.proofs.Layout3Grows.{value_grows}
 use Rattle.amf_tables.proofs.Layout3Able.{value_able}

@@ -5,9 +5,10 @@ use Rattle.amf_io.specs.Layout.{Layout, give, bind, Extends}
 use Rattle.amf_io.proofs.Paths.{extends_bind, extends_same}
 use Rattle.amf_io.proofs.Ables.{extends_cond}
 use Rattle.amf_graph.specs.declared.value.Value.TheVariants.{Node}
-use Rattle.amf_tables.specs.Layout3State.{State3, with_node, changed, more_value, more_name, shut}
+use Rattle.amf_graph.specs.Building.{more_value, more_name, shut, more_entry}
+use Rattle.amf_tables.specs.Layout3State.{State3, with_node, changed}
 use Rattle.amf_tables.specs.Layout3Words.{TextRead, text_layout, Opening}
-use Rattle.amf_tables.specs.Layout3.{Form, undefined, null, untrue, true_, integer, double, text, node, NodeForm, ValueRead, read, items, entries, more_entry, items_of, is_empty, pairs, pairs_if, parts, opening, inline_node, known_node, node_layout, behind_marker, value_layout, form_of}
+use Rattle.amf_tables.specs.Layout3.{Form, undefined, null, untrue, true_, integer, double, text, node, NodeForm, ValueRead, read, items, entries, items_of, is_empty, pairs, pairs_if, parts, opening, inline_node, known_node, node_layout, behind_marker, value_layout, form_of}
 
 abbrev Reader : Type 0
 Reader = State3 → Layout ValueRead

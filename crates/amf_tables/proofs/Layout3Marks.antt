@@ -4,8 +4,9 @@ use Rattle.std.specs.List.{AllByRecursion}
 use Rattle.amf_graph.specs.declared.value.Value.{Value as Stored}
 use Rattle.amf_graph.specs.Graph.{node_at, no_node}
 use Rattle.amf_graph.specs.Arena.{Arena, StoredHead, xml_document, date, array, object, wrapper, xml, bytes, ints, uints, doubles, values, dictionary, StoredNode, head_content, node_content, graph_of, Extends, NodesComplete}
+use Rattle.amf_graph.specs.Building.{no_stored, stored_at}
 use Rattle.amf_tables.specs.Refusals3.{marker, markers}
-use Rattle.amf_tables.specs.Layout3State.{stored_marker, no_stored, stored_at}
+use Rattle.amf_tables.specs.Layout3State.{stored_marker}
 
 pub marker_content : (a : Arena) (h : StoredHead) → marker (head_content a h) ≡ stored_marker h
 marker_content a (xml_document x) = refl

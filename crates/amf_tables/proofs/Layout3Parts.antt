@@ -8,14 +8,15 @@ use Rattle.amf_io.specs.Layout.{Layout, give, bind, Runs}
 use Rattle.amf_io.proofs.Paths.{runs_bind, flat-append}
 use Rattle.amf_graph.specs.Graph.{Value, Graph, AllNamed}
 use Rattle.amf_graph.specs.declared.value.Value.TheVariants.{Node}
+use Rattle.amf_graph.specs.Building.{more_value, more_name, shut, more_entry}
 use Rattle.amf_tables.specs.Tables.{Words, Tables, with_words}
 use Rattle.amf_tables.specs.Then.{Spelling}
 use Rattle.amf_tables.specs.Refusals3.{markers, text_header_refusal}
 use Rattle.amf_tables.specs.Words3.{Text}
 use Rattle.amf_tables.specs.Parts3.{Part, flag, Parts, values_then, pairs_then, fours, eights}
-use Rattle.amf_tables.specs.Layout3State.{State3, with_node, changed, more_value, more_name, shut}
+use Rattle.amf_tables.specs.Layout3State.{State3, with_node, changed}
 use Rattle.amf_tables.specs.Layout3Words.{chunk, TextRead, text_layout, Opening}
-use Rattle.amf_tables.specs.Layout3.{four_layout, eight_layout, many, ValueRead, read, items, entries, more_entry, items_of, is_empty, pairs, pairs_if, parts}
+use Rattle.amf_tables.specs.Layout3.{four_layout, eight_layout, many, ValueRead, read, items, entries, items_of, is_empty, pairs, pairs_if, parts}
 use Rattle.amf_tables.proofs.Clean.{AllClean}
 use Rattle.amf_tables.proofs.Layout3Texts.{clean_parts, takes, path_if, text_complete, text_some}
 

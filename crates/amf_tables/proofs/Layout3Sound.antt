@@ -20,11 +20,12 @@ use Rattle.amf_graph.specs.Graph as graph
 use Rattle.amf_graph.specs.declared.value.Value.{Value as Stored}
 use Rattle.amf_graph.specs.declared.value.Value.TheVariants.{Undefined, Null, Bool as Flag, Integer, Double, Text as TextRef}
 use Rattle.amf_graph.specs.Arena.{Arena, value_content, graph_of, Names, NodesComplete, Completes}
+use Rattle.amf_graph.specs.Building.{stored_at}
 use Rattle.amf_tables.specs.Refusals3.{leaf_marker, marker, markers, marker_kind, header_kind, header_refusal, kind_refusal, text_header_refusal}
 use Rattle.amf_tables.specs.Headers3.{marker_field, header_field}
 use Rattle.amf_tables.specs.Nodes3.{Begun}
 use Rattle.amf_tables.specs.Spells3.{LeafBy}
-use Rattle.amf_tables.specs.Layout3State.{State3, stored_marker, stored_at}
+use Rattle.amf_tables.specs.Layout3State.{State3, stored_marker}
 use Rattle.amf_tables.specs.Layout3Words.{TextRead, text_layout}
 use Rattle.amf_tables.specs.Layout3.{NodeForm, Form, undefined, null, untrue, true_, integer, double, text, node, form_of, node_marker, ValueRead, read, inline_node, known_node, node_layout, behind_marker, value_layout}
 use Rattle.amf_tables.proofs.Layout3Able.{code, code_of, marker_below}

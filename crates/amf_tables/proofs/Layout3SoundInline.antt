@@ -13,6 +13,7 @@ use Rattle.amf_graph.specs.Order.{Absent}
 use Rattle.amf_graph.specs.declared.value.Value.{Value as Stored}
 use Rattle.amf_graph.specs.declared.value.Value.TheVariants.{Node as NodeRef}
 use Rattle.amf_graph.specs.Arena.{Arena, StoredNode, value_content, head_content, node_content, graph_of, Extends, NodeCompletes, NodesComplete, Completes}
+use Rattle.amf_graph.specs.Building.{no_stored, stored_at, shut}
 use Rattle.amf_tables.specs.Tables.{Tables, with_words, add_node}
 use Rattle.amf_tables.specs.KeptTables.{below}
 use Rattle.amf_tables.specs.Then.{Spelling, Then}
@@ -21,7 +22,7 @@ use Rattle.amf_tables.specs.Parts3.{Parts, Lifted, layout}
 use Rattle.amf_tables.specs.Headers3.{HeaderBy, marker_field, header_field}
 use Rattle.amf_tables.specs.Nodes3.{Begun}
 use Rattle.amf_tables.specs.Spells3.{Spells3}
-use Rattle.amf_tables.specs.Layout3State.{State3, no_stored, stored_at, with_node, begun, takes_parts, changed, shut}
+use Rattle.amf_tables.specs.Layout3State.{State3, with_node, begun, takes_parts, changed}
 use Rattle.amf_tables.specs.Layout3.{NodeForm, object, node_marker, opening, ValueRead, parts, inline_node}
 use Rattle.amf_tables.proofs.Layout3Parts.{behind}
 use Rattle.amf_tables.proofs.Layout3Marks.{marker_content}

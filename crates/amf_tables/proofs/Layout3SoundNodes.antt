@@ -10,9 +10,10 @@ use Rattle.amf_graph.specs.Graph.{Value, AllNamed}
 use Rattle.amf_graph.specs.declared.value.Value.{Value as Stored}
 use Rattle.amf_graph.specs.declared.value.Value.TheVariants.{Node}
 use Rattle.amf_graph.specs.Arena.{Arena, StoredNode, value_content, Completes}
+use Rattle.amf_graph.specs.Building.{shut}
 use Rattle.amf_tables.specs.Tables.{Tables}
 use Rattle.amf_tables.specs.Parts3.{Part, Parts, values_then, pairs_then}
-use Rattle.amf_tables.specs.Layout3State.{State3, with_node, begun, takes_parts, changed, shut}
+use Rattle.amf_tables.specs.Layout3State.{State3, with_node, begun, takes_parts, changed}
 use Rattle.amf_tables.specs.Layout3Words.{Opening}
 use Rattle.amf_tables.specs.Layout3.{ValueRead, read, items_of, pairs_if, parts, whole_node}
 use Rattle.amf_tables.proofs.Layout3Parts.{behind}

@@ -11,15 +11,16 @@ use Rattle.amf_io.proofs.Ables.{bytes_parts}
 use Rattle.amf_graph.specs.Graph.{Value, AllNamed}
 use Rattle.amf_graph.specs.declared.value.Value.{Value as Stored}
 use Rattle.amf_graph.specs.Arena.{Arena, StoredNode, text_at, value_content, IsTextId, Names, Extends, NodeCompletes, NodesComplete, Completes}
+use Rattle.amf_graph.specs.Building.{no_stored, stored_at, more_value, more_name, more_entry}
 use Rattle.amf_tables.specs.Tables.{Tables, with_words}
 use Rattle.amf_tables.specs.Then.{Spelling}
 use Rattle.amf_tables.specs.KeptTables.{below}
 use Rattle.amf_tables.specs.Refusals3.{text_header_refusal}
 use Rattle.amf_tables.specs.Words3.{Text}
 use Rattle.amf_tables.specs.Parts3.{Part, value, Parts, values_then, pairs_then}
-use Rattle.amf_tables.specs.Layout3State.{State3, no_stored, stored_at, changed, more_value, more_name}
+use Rattle.amf_tables.specs.Layout3State.{State3, changed}
 use Rattle.amf_tables.specs.Layout3Words.{TextRead, text_layout}
-use Rattle.amf_tables.specs.Layout3.{ValueRead, items, entries, more_entry, is_empty, pairs}
+use Rattle.amf_tables.specs.Layout3.{ValueRead, items, entries, is_empty, pairs}
 use Rattle.amf_tables.proofs.Layout3Contents.{Larger, larger_itself, larger_twice, text_id, text_kept, names_more, all_append, all_at, KeptNode, Good, good_changed}
 use Rattle.amf_tables.proofs.Layout3SoundTexts.{give_is, TextSound, text_sound}
 

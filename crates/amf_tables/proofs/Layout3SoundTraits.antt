@@ -18,11 +18,12 @@ use Rattle.amf_graph.specs.declared.wrapped.Wrapped.{Wrapped}
 use Rattle.amf_graph.specs.declared.wrapped.Wrapped.TheVariants.{ArrayCollection, ArrayList, ObjectProxy}
 use Rattle.amf_graph.specs.Graph.{Traits, class_name}
 use Rattle.amf_graph.specs.Arena.{Arena, StoredTraits, StoredHead, object, wrapper, text_at, no_traits, traits_content, traits_at, IsTraitsIn}
+use Rattle.amf_graph.specs.Building.{kept_traits}
 use Rattle.amf_tables.specs.Tables.{Entry, plain, external, Words}
 use Rattle.amf_tables.specs.KeptTables as kept
 use Rattle.amf_tables.specs.Refusals3.{text_header_refusal, class_header_refusal, indexed_class_refusal, class_refusal, class_kind, is_served, is_served_length}
 use Rattle.amf_tables.specs.Words3.{TextBy, TraitsBy, given, named}
-use Rattle.amf_tables.specs.Layout3State.{State3, kept_traits}
+use Rattle.amf_tables.specs.Layout3State.{State3}
 use Rattle.amf_tables.specs.Layout3Words.{chunk, known_text, new_text, TextRead, text_layout, class_layout, TextsRead, texts_layout, Opening, class_of, head_of, sealed_of, dynamic_of, known_traits, plain_traits, external_traits, inline_traits, external_layout, traits_layout}
 use Rattle.amf_tables.proofs.Layout3Contents.{Larger, larger_itself, larger_twice, text_id, text_kept, all_at, Good, good_entry}
 use Rattle.amf_tables.proofs.Layout3SoundTexts.{give_is, TextSound, AreTexts, text_by_sound, text_sound, TextsSound, texts_sound}

@@ -23,6 +23,7 @@ pub mod Decides3
 pub mod Exists3
 pub mod Ordered3
 pub mod Depths3
+pub mod LacksAlike
 pub mod FirstLack3
 pub mod Stops3
 pub mod Layout3Grows
@@ -57,4 +58,3 @@ pub mod Reader3Weight
 pub mod Reader3OpeningCosts
 pub mod Reader3Costs
 pub mod Reader3Calls
-pub mod FewDistinct

@@ -3,8 +3,8 @@ use Rattle.std.proofs.Common.{◌≡◌, ℕ, false, List, [], ◌∷◌, ◌++�
 use Rattle.amf_graph.specs.declared.wrapped.Wrapped.{Wrapped}
 use Rattle.amf_graph.specs.Graph.{class_name}
 use Rattle.amf_graph.specs.Arena.{StoredTraits, StoredNode, Arena, text_at, IsBuilt}
+use Rattle.amf_graph.specs.Building.{stored_at, kept_text, kept_traits, shut}
 use Rattle.amf_tables.specs.KeptTables.{plain, external, KeptTables, AreTablesIn}
-use Rattle.amf_tables.specs.Layout3State.{stored_at, kept_text, kept_traits, shut}
 use Rattle.amf_tables.specs.Reads3.{Grows}
 use Rattle.amf_tables.proofs.Reader3Tables.{tables_with_text, tables_with_plain, tables_with_external, tables_with_node, grows_itself, grows_changed, grows_shut}
 

@@ -10,10 +10,11 @@ use Rattle.amf_graph.specs.declared.value.Value.{Value as Stored}
 use Rattle.amf_graph.specs.declared.value.Value.TheVariants.{Undefined, Null, Bool as Flag, Integer, Double, Text, Node}
 use Rattle.amf_graph.specs.Arena.{Arena, StoredNode}
 use Rattle.amf_graph.specs.Bounds.{weight}
+use Rattle.amf_graph.specs.Building.{stored_at, more_value, more_name, shut, more_entry}
 use Rattle.amf_tables.specs.Refusals3.{marker_kind, header_kind}
-use Rattle.amf_tables.specs.Layout3State.{State3, stored_at, with_node, changed, more_value, more_name, shut}
+use Rattle.amf_tables.specs.Layout3State.{State3, with_node, changed}
 use Rattle.amf_tables.specs.Layout3Words.{text_layout, Opening}
-use Rattle.amf_tables.specs.Layout3.{NodeForm, Form, undefined, null, untrue, true_, integer, double, text, node, form_of, node_marker, eight_layout, opening, ValueRead, read, items, entries, more_entry, items_of, is_empty, pairs, pairs_if, parts, inline_node, known_node, node_layout, behind_marker, value_layout}
+use Rattle.amf_tables.specs.Layout3.{NodeForm, Form, undefined, null, untrue, true_, integer, double, text, node, form_of, node_marker, eight_layout, opening, ValueRead, read, items, entries, items_of, is_empty, pairs, pairs_if, parts, inline_node, known_node, node_layout, behind_marker, value_layout}
 use Rattle.amf_tables.proofs.Reader3Weight.{weight_begun, weight_more_value, weight_more_name, weight_more_entry, weight_shut}
 use Rattle.amf_tables.proofs.Reader3OpeningCosts.{Costs, costs_give, costs_stuck, costs_want, costs_bind, costs_cond, costs_more, costs_within, costs_nothing, state_size, text_size, opening_size, value_size, costs_text, costs_opening}
 

@@ -6,10 +6,10 @@ use Rattle.std.specs.List.{AllByRecursion}
 use Rattle.amf_graph.specs.declared.value.Value.{Value as Stored}
 use Rattle.amf_graph.specs.declared.wrapped.Wrapped.{Wrapped}
 use Rattle.amf_graph.specs.Arena.{StoredTraits, StoredHead, StoredNode, Arena, text_at, traits_content, no_traits, IsBuilt}
+use Rattle.amf_graph.specs.Building.{no_stored, stored_at, kept_text, kept_traits, more_value, more_name, shut, more_entry}
 use Rattle.amf_tables.specs.Tables as content
 use Rattle.amf_tables.specs.KeptTables.{KeptEntry, plain, external, KeptTables, entry_content, IsEntryIn, tables_of, AreTablesIn}
-use Rattle.amf_tables.specs.Layout3State.{stored_marker, takes_parts, no_stored, stored_at, State3, state_of, kept_text, with_text, with_contents, kept_traits, with_entry, begun, with_node, changed, more_value, more_name, shut}
-use Rattle.amf_tables.specs.Layout3.{more_entry}
+use Rattle.amf_tables.specs.Layout3State.{stored_marker, takes_parts, State3, state_of, with_text, with_contents, with_entry, begun, with_node, changed}
 use Rattle.amf_tables.proofs.Layout3Contents.{marks_of, words_kept}
 use Rattle.amf_tables.proofs.Reader3Tables.{larger_text}
 

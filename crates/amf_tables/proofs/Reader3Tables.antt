@@ -6,9 +6,10 @@ use Rattle.amf_graph.specs.declared.value.Value.{Value as Stored}
 use Rattle.amf_graph.specs.declared.wrapped.Wrapped.{Wrapped}
 use Rattle.amf_graph.specs.Graph.{class_name}
 use Rattle.amf_graph.specs.Arena.{StoredTraits, StoredHead, array, StoredNode, Arena, text_at, traits_content, no_traits, IsTextId, Names, HeadNames, IsTraitsIn, IsBuilt}
+use Rattle.amf_graph.specs.Building.{no_stored, stored_at, kept_text, kept_traits, shut}
 use Rattle.amf_tables.specs.KeptTables.{KeptEntry, plain, external, KeptTables, IsEntryIn, AreTablesIn}
 use Rattle.amf_tables.specs.Reads3.{Grows}
-use Rattle.amf_tables.specs.Layout3State.{no_stored, stored_at, state_of, kept_text, kept_traits, shut}
+use Rattle.amf_tables.specs.Layout3State.{state_of}
 use Rattle.amf_tables.proofs.Layout3Contents.{all_append, Larger, larger_itself, text_id, head_more, names_more, traits_in, tables_more, good_node}
 use Rattle.amf_tables.proofs.Layout3Reads.{good_start}
 

@@ -5,8 +5,8 @@ use Rattle.std.proofs.lemmas.List.Sums.{sum_by_push, sum_by-set}
 use Rattle.amf_graph.specs.declared.value.Value.{Value as Stored}
 use Rattle.amf_graph.specs.Arena.{StoredTraits, StoredHead, StoredNode, Arena}
 use Rattle.amf_graph.specs.Bounds.{bytes_of, weight}
-use Rattle.amf_tables.specs.Layout3State.{no_stored, stored_at, kept_text, kept_traits, begun, more_value, more_name, shut}
-use Rattle.amf_tables.specs.Layout3.{more_entry}
+use Rattle.amf_graph.specs.Building.{no_stored, stored_at, kept_text, kept_traits, more_value, more_name, shut, more_entry}
+use Rattle.amf_tables.specs.Layout3State.{begun}
 
 -- Lengths.
 

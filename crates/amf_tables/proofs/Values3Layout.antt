@@ -2,8 +2,10 @@
 use Rattle.std.proofs.Common.{◌≡◌, ℕ, ◌^◌, [], Option, Some, None}
 use Rattle.amf_io.specs.Layout.{IsLayout}
 use Rattle.amf_graph.specs.Arena.{IsBuilt}
-use Rattle.amf_tables.specs.KeptTables.{no_kept_tables, AreTablesIn, IsDistinct}
-use Rattle.amf_tables.specs.Reads3.{no_arena, IsValue3}
+use Rattle.amf_graph.specs.Building.{no_arena}
+use Rattle.amf_graph.specs.Order.{IsDistinct}
+use Rattle.amf_tables.specs.KeptTables.{no_kept_tables, AreTablesIn}
+use Rattle.amf_tables.specs.Reads3.{IsValue3}
 use Rattle.amf_tables.specs.Layout3State.{no_state}
 use Rattle.amf_tables.specs.Layout3.{value_layout}
 use Rattle.amf_tables.proofs.Layout3Format.{is_layout}

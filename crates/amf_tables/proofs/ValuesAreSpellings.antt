@@ -2,9 +2,10 @@
 use Rattle.std.proofs.Common.{ℕ, ◌+◌, List, length, refl, arith}
 use Rattle.amf_io.specs.Field.{Field, AreBytes, flat}
 use Rattle.amf_graph.specs.Arena.{graph_of}
+use Rattle.amf_graph.specs.Building.{no_arena}
 use Rattle.amf_tables.specs.Tables.{no_tables}
 use Rattle.amf_tables.specs.KeptTables.{no_kept_tables}
-use Rattle.amf_tables.specs.Reads3.{no_arena, IsValue3}
+use Rattle.amf_tables.specs.Reads3.{IsValue3}
 use Rattle.amf_tables.specs.Layout3State.{no_state}
 use Rattle.amf_tables.specs.Layout3.{value_layout}
 use Rattle.amf_tables.specs.Layout3Laws.{SpellsSome}

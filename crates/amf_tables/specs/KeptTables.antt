@@ -1,8 +1,9 @@
 -- The reference tables as a reader keeps them: places in an arena (AMF 3, 2.2).
-use Rattle.std.specs.Prelude.{◌≡◌, ℕ, zero, suc, ◌<◌, false, List, [], ◌∷◌, ◌++◌, length, map, slice_get, Option, Some, None}
+use Rattle.std.specs.Prelude.{◌≡◌, ℕ, zero, suc, ◌<◌, false, List, [], ◌∷◌, ◌++◌, length, map, Option, Some, None}
 use Rattle.std.specs.List.{AllByRecursion}
 use Rattle.amf_graph.specs.declared.wrapped.Wrapped.{Wrapped}
 use Rattle.amf_graph.specs.Graph.{Traits, class_name}
+use Rattle.amf_graph.specs.Order.{IsDistinct}
 use Rattle.amf_graph.specs.Arena.{Arena, text_at, traits_at, IsTextId}
 use Rattle.amf_tables.specs.Tables as tables
 
@@ -64,10 +65,6 @@ external_traits c = record { class = class_name c; dynamic = false; sealed = [] 
 abbrev pub IsEntryIn : Arena → KeptEntry → Type 0
 IsEntryIn a (plain t) = t < length a.traits
 IsEntryIn a (external t c) = (t < length a.traits) × (traits_at a t ≡ external_traits c)
-
--- no number stands twice
-abbrev pub IsDistinct : List ℕ → Type 0
-IsDistinct xs = (j k x : ℕ) → slice_get xs j ≡ Some x → slice_get xs k ≡ Some x → j ≡ k
 
 -- every place is one of the arena's, and no node stands twice
 pub record AreTablesIn (a : Arena) (t : KeptTables) : Type 0 where

@@ -4,6 +4,7 @@ use Rattle.amf_io.specs.Field.{Field}
 use Rattle.amf_wire.specs.Style.{canonical}
 use Rattle.amf_graph.specs.declared.lack.LackKind.{LackKind}
 use Rattle.amf_graph.specs.Graph.{Graph}
+use Rattle.amf_graph.specs.Isomorphic.{Isomorphic}
 use Rattle.amf_graph.specs.Reached.{IsWhole}
 use Rattle.amf_graph.specs.Small.{IsSmall}
 use Rattle.amf_tables.specs.Spells3.{IsSpelling3}
@@ -16,3 +17,5 @@ pub record SpellingOrLack : Type 0 where
   pub not_both : (g : Graph) (limit : ℕ) (fs : List Field) (number : ℕ) (kind : LackKind) → IsSpelling3 limit canonical g fs → IsLack3 g limit number kind → ⊥
   -- one number and one kind are its first lack
   pub one_lack : (g : Graph) (limit number other_number : ℕ) (kind other_kind : LackKind) → IsLack3 g limit number kind → IsLack3 g limit other_number other_kind → (number ≡ other_number) × (kind ≡ other_kind)
+  -- and isomorphic graphs have the same
+  pub alike : (g h : Graph) → Isomorphic g h → (limit number : ℕ) (kind : LackKind) → IsLack3 g limit number kind → IsLack3 h limit number kind

@@ -1,5 +1,5 @@
 -- A value of AMF 3 as it is read, field by field (3.2 to 3.16). A device by which verdicts are proved: no spelling needs it.
-use Rattle.std.specs.Prelude.{ℕ, zero, suc, ◌-◌, ◌/◌, ◌%◌, Bool, true, false, not, List, [], ◌∷◌, ◌++◌, length, map, get_or, ◌==◌, if◌then◌else◌, slice_index}
+use Rattle.std.specs.Prelude.{ℕ, zero, suc, ◌-◌, ◌/◌, ◌%◌, Bool, true, false, not, List, [], ◌∷◌, length, map, get_or, ◌==◌, if◌then◌else◌, slice_index}
 use Rattle.std.specs.Int.{from_be_bytes, w32, w64, cast_signed}
 use Rattle.amf_wire.specs.U29.{u29_value}
 use Rattle.amf_wire.specs.Integer.{integer_of}
@@ -9,8 +9,9 @@ use Rattle.amf_graph.specs.declared.value.Value.{Value as Stored}
 use Rattle.amf_graph.specs.declared.value.Value.TheVariants.{Undefined, Null, Bool as Flag, Integer, Double, Text, Node}
 use Rattle.amf_graph.specs.Arena.{StoredNode}
 use Rattle.amf_graph.specs.Arena as arena
+use Rattle.amf_graph.specs.Building.{more_value, more_name, more_entry, shut}
 use Rattle.amf_tables.specs.Refusals3.{marker_kind, header_kind}
-use Rattle.amf_tables.specs.Layout3State.{State3, with_contents, with_node, changed, more_value, more_name, shut}
+use Rattle.amf_tables.specs.Layout3State.{State3, with_contents, with_node, changed}
 use Rattle.amf_tables.specs.Layout3Words.{chunk, text_layout, Opening, traits_layout}
 
 -- the kinds of nodes and of values, in the order of their markers
@@ -86,9 +87,6 @@ read v s = record { value = v; state = s }
 abbrev pub items : (State3 → Layout ValueRead) → ℕ → ℕ → State3 → Layout State3
 items value id zero s = give s
 items value id (suc n) s = bind (value s) (λ x. items value id n (changed (more_value x.value) id x.state))
-
-abbrev pub more_entry : Stored → Stored → StoredNode → StoredNode
-more_entry k v n = record { is_open = n.is_open; head = n.head; names = n.names; values = n.values ++ k ∷ v ∷ [] }
 
 -- so many keys, each with its value, for an open node
 abbrev pub entries : (State3 → Layout ValueRead) → ℕ → ℕ → State3 → Layout State3

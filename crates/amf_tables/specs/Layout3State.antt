@@ -1,10 +1,9 @@
 -- What reading AMF 3 changes: an arena with open nodes, and the tables, by place and by content. A device by which verdicts are proved: no spelling needs it.
-use Rattle.std.specs.Prelude.{ℕ, Bool, true, false, List, [], ◌∷◌, ◌++◌, length, get_or, map, set}
-use Rattle.amf_graph.specs.declared.value.Value.{Value as Stored}
+use Rattle.std.specs.Prelude.{ℕ, Bool, true, false, List, [], ◌∷◌, ◌++◌, length, map, set}
 use Rattle.amf_graph.specs.Arena.{StoredTraits, StoredHead, xml_document, date, array, object, wrapper, xml, bytes, ints, uints, doubles, values, dictionary, StoredNode, Arena}
+use Rattle.amf_graph.specs.Building.{no_arena, kept_text, kept_traits, stored_at}
 use Rattle.amf_tables.specs.Tables as content
 use Rattle.amf_tables.specs.KeptTables.{KeptEntry, KeptTables, no_kept_tables, tables_of}
-use Rattle.amf_tables.specs.Reads3.{no_arena}
 
 abbrev pub stored_marker : StoredHead → ℕ
 stored_marker (xml_document x) = 0x07
@@ -29,12 +28,6 @@ takes_parts (values f x) = true
 takes_parts (dictionary f) = true
 takes_parts _ = false
 
-abbrev pub no_stored : StoredNode
-no_stored = record { is_open = false; head = array; names = []; values = [] }
-
-abbrev pub stored_at : Arena → ℕ → StoredNode
-stored_at a i = get_or a.nodes i no_stored
-
 -- the arena; the tables by place; their texts and traits by content; and the markers of their nodes
 pub record State3 : Type 0 where
   pub arena : Arena
@@ -49,9 +42,6 @@ abbrev pub no_state : State3
 no_state = state_of no_arena no_kept_tables
 
 -- Texts: the empty one enters no table.
-
-abbrev pub kept_text : Arena → List ℕ → Arena
-kept_text a x = record { texts = a.texts ++ x ∷ []; traits = a.traits; nodes = a.nodes }
 
 abbrev pub text_word : content.Words → List ℕ → content.Words
 text_word w [] = w
@@ -74,9 +64,6 @@ abbrev pub with_contents : State3 → List ℕ → State3
 with_contents s x = record { arena = kept_text s.arena x; tables = s.tables; words = s.words; marks = s.marks }
 
 -- Traits.
-
-abbrev pub kept_traits : Arena → StoredTraits → Arena
-kept_traits a t = record { texts = a.texts; traits = a.traits ++ t ∷ []; nodes = a.nodes }
 
 abbrev pub with_entry : State3 → StoredTraits → KeptEntry → content.Entry → State3
 with_entry s t kept entry = record {
@@ -104,12 +91,3 @@ with_node s head = record {
 
 abbrev pub changed : (StoredNode → StoredNode) → ℕ → State3 → State3
 changed f i s = with_nodes s (set s.arena.nodes i (f (stored_at s.arena i)))
-
-abbrev pub more_value : Stored → StoredNode → StoredNode
-more_value v n = record { is_open = n.is_open; head = n.head; names = n.names; values = n.values ++ v ∷ [] }
-
-abbrev pub more_name : ℕ → Stored → StoredNode → StoredNode
-more_name x v n = record { is_open = n.is_open; head = n.head; names = n.names ++ (x, v) ∷ []; values = n.values }
-
-abbrev pub shut : StoredNode → StoredNode
-shut n = record { is_open = false; head = n.head; names = n.names; values = n.values }

@@ -1,10 +1,11 @@
 -- What it is to read one value of AMF 3 into an arena and its tables (3.2 to 3.16).
-use Rattle.std.specs.Prelude.{◌≡◌, ℕ, false, List, [], ◌++◌}
+use Rattle.std.specs.Prelude.{◌≡◌, ℕ, false, List, ◌++◌}
 use Rattle.std.specs.List.{AllByRecursion}
 use Rattle.amf_io.specs.Field.{Field}
 use Rattle.amf_wire.specs.Style.{free}
 use Rattle.amf_graph.specs.declared.value.Value.{Value as Stored}
 use Rattle.amf_graph.specs.Arena.{Arena, StoredTraits, StoredNode, value_content, graph_of, Names, IsBuilt, Completes}
+use Rattle.amf_graph.specs.Building.{no_arena}
 use Rattle.amf_tables.specs.Tables.{Tables}
 use Rattle.amf_tables.specs.KeptTables.{KeptTables, no_kept_tables, tables_of, AreTablesIn}
 use Rattle.amf_tables.specs.Spells3.{Spells3}
@@ -35,9 +36,6 @@ pub record IsReading3 (levels : ℕ) (a : Arena) (t : KeptTables) (fs : List Fie
   pub names : Names graph value
   pub after : Tables
   pub spelled : Spells3 levels free (graph_of graph value) (value_content graph value) (tables_of a t) fs after
-
-abbrev pub no_arena : Arena
-no_arena = record { texts = []; traits = []; nodes = [] }
 
 -- the accepted lists of one value with so many levels, from nothing
 abbrev pub IsValue3 : ℕ → List Field → Type 0

@@ -5,12 +5,14 @@ ghost use Rattle.amf_tables.specs.LawsLack3.{SpellingOrLack};
 ghost use Rattle.amf_tables.specs.LawsOrder.{OrderDecides};
 ghost use Rattle.amf_tables.specs.LawsTable3.{TableIsOrder};
 
-/// Isomorphic is reflexive over graphs of which all that is reached is there, symmetric and transitive.
+/// Isomorphic is reflexive over whole graphs, in which what is reached is there and as its kind wants it, and it is symmetric
+/// and transitive.
 pub fn isomorphic_is_equivalence()
     ensures { IsomorphicIsEquivalence }
 {}
 
-/// A graph has one canonical order. Two graphs are isomorphic exactly if they read alike, number by number.
+/// A whole graph has a canonical order, and no graph has two. Two graphs are isomorphic exactly if they read alike, number by
+/// number.
 pub fn order_decides()
     ensures { OrderDecides }
 {}
@@ -36,7 +38,8 @@ pub fn canonical_decides()
     ensures { CanonicalDecides }
 {}
 
-/// A graph within bounds in which no dynamic or associative name is empty has a canonical spelling.
+/// A whole graph within bounds in which no dynamic or associative name is empty has a canonical spelling, in some number of
+/// levels.
 pub fn canonical_exists()
     ensures { CanonicalExists }
 {}
@@ -46,7 +49,8 @@ pub fn table_is_order()
     ensures { TableIsOrder }
 {}
 
-/// For each limit of depth, a graph within bounds has a canonical spelling or a first lack with its kind, and not both.
+/// For each number of levels, a whole graph within bounds has a canonical spelling in so many or a first lack with its kind,
+/// and not both; isomorphic graphs have the same first lack.
 pub fn spelling_or_lack()
     ensures { SpellingOrLack }
 {}

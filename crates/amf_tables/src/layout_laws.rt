@@ -5,8 +5,8 @@ pub fn layouts_grow()
     ensures { Layout3Grows }
 {}
 
-/// What has been read of a value of AMF 3 can be completed after every start, while the table of
-/// nodes and the bytes to come are fewer than 2^28 together.
+/// What has been read of a value of AMF 3 can be completed after every start, while the nodes that were in
+/// the table before and the bytes read so far are fewer than 2^28 together.
 pub fn layouts_complete_starts()
     ensures { Layout3Able }
 {}

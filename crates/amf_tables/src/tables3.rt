@@ -30,7 +30,7 @@ impl Model for Tables3 {
 }
 
 impl Tables3 {
-    /// Tables without entries.
+    /// Tables without entries. It gives up where there is no memory.
     pub fn new(alloc: Global) -> Result<Tables3, Memory>
         ensures { IfOk result (λ tables. tables ≡ no_kept_tables) }
     {
@@ -59,7 +59,7 @@ impl Tables3 {
         Ok(())
     }
 
-    /// Enters traits with members. After an error nothing has changed.
+    /// Enters traits of a class that is not externalizable (AMF 3, 3.12). After an error nothing has changed.
     pub fn push_traits(&mut self, traits: TraitsId) -> Result<(), Memory>
         ensures ok { OnOk result (self.new ≡ kept_entry self.old (plain traits.0)) }
         ensures err { OnErr result (self.new ≡ self.old) }
@@ -106,7 +106,7 @@ impl Tables3 {
         Some(entry.traits())
     }
 
-    /// The externalizable class that an index names: `None` exactly at traits with members, and
+    /// The externalizable class that an index names: `None` exactly at traits of another class, and
     /// past the last ones. It takes no memory.
     pub fn wrapped_at(&self, index: u32) -> Option<Wrapped>
         ensures { result ≡ option_and_then external_class (slice_get self.now.traits index) }

@@ -67,7 +67,7 @@ fn first_of_id(nodes: &[NodeId], node: NodeId) -> Option<usize>
 }
 
 impl WriterTables {
-    /// Tables without entries.
+    /// Tables without entries. It gives up where there is no memory.
     pub fn new(alloc: Global) -> Result<WriterTables, Memory>
         ensures { IfOk result (λ tables. tables ≡ no_tables) }
     {
@@ -120,8 +120,8 @@ impl WriterTables {
         Some(place as u32)
     }
 
-    /// The first place of traits with members, which a graph shows: `None` exactly where they have
-    /// none. It takes no memory.
+    /// The first place of traits of a class that is not externalizable, as a graph shows them: `None`
+    /// exactly where they have none. It takes no memory.
     pub fn place_of_traits(&self, traits: &TraitsView<'_>, graph: &Rooted) -> Option<u32>
         requires { AreTraitsOf graph.now.arena traits.now }
         ensures first { IfSome result
@@ -171,7 +171,8 @@ impl WriterTables {
         Ok(())
     }
 
-    /// Enters traits with members, which a graph shows. After an error nothing has changed.
+    /// Enters traits of a class that is not externalizable, as a graph shows them. After an error
+    /// nothing has changed.
     pub fn add_traits(&mut self, traits: &TraitsView<'_>, graph: &Rooted) -> Result<(), Memory>
         requires { AreTraitsOf graph.now.arena traits.now }
         ensures ok { OnOk result
