@@ -12,11 +12,11 @@ use Rattle.amf_graph.specs.declared.value.Value.{Value as Stored}
 use Rattle.amf_graph.specs.declared.part.Part.TheVariants.{Entry}
 use Rattle.amf_graph.specs.Graph as graph
 use Rattle.amf_graph.specs.Arena.{Arena, Names, head_content}
-use Rattle.amf_graph.specs.Building.{kept_node, stored_at, changed as changed_arena, more_part, Takes, HasRoom, size_of}
+use Rattle.amf_graph.specs.Building.{kept_node, stored_at, changed as changed_arena, more_part, Takes, HasRoom, size_of, more_entry}
 use Rattle.amf_tables.specs.KeptTables.{KeptTables}
 use Rattle.amf_tables.specs.Reads3.{Grows}
 use Rattle.amf_tables.specs.Layout3State.{state_of, changed}
-use Rattle.amf_tables.specs.Layout3.{read, value_layout, more_entry, entries}
+use Rattle.amf_tables.specs.Layout3.{read, value_layout, entries}
 use Rattle.amf_tables.proofs.Reader3Tables.{grows_twice, names_after_growth}
 use Rattle.amf_tables.proofs.Reader3States.{more_entry_state}
 use Rattle.amf3_read.specs.Ready.{Ready, Continues, left_of}

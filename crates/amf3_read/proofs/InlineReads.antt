@@ -10,10 +10,10 @@ use Rattle.amf_io.specs.CursorReads.{IsPlaced, Goes, Answers, Ends}
 use Rattle.amf_io.proofs.CursorReads.{gives, then_reads, end_reads}
 use Rattle.amf_graph.specs.declared.value.Value.TheVariants as value
 use Rattle.amf_graph.specs.Arena.{Arena, StoredNode, StoredHead}
-use Rattle.amf_graph.specs.Building.{kept_node}
+use Rattle.amf_graph.specs.Building.{kept_node, no_stored, stored_at, shut}
 use Rattle.amf_tables.specs.KeptTables.{KeptTables}
 use Rattle.amf_tables.specs.Reads3.{Grows}
-use Rattle.amf_tables.specs.Layout3State.{State3, state_of, with_node, no_stored, stored_at, begun, takes_parts, changed, shut}
+use Rattle.amf_tables.specs.Layout3State.{State3, state_of, with_node, begun, takes_parts, changed}
 use Rattle.amf_tables.specs.Layout3Words as layout
 use Rattle.amf_tables.specs.Layout3.{NodeForm, ValueRead, read, opening, whole_node, items_of, pairs_if, parts, inline_node}
 use Rattle.amf_tables.proofs.Reader3Tables.{grows_itself, grows_twice, grows_node}

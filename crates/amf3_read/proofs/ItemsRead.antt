@@ -11,10 +11,10 @@ use Rattle.amf_graph.specs.declared.value.Value.{Value as Stored}
 use Rattle.amf_graph.specs.declared.part.Part.TheVariants.{Item}
 use Rattle.amf_graph.specs.Graph as graph
 use Rattle.amf_graph.specs.Arena.{Arena, IsBuilt, Names, head_content}
-use Rattle.amf_graph.specs.Building.{kept_node, stored_at, changed as changed_arena, more_part, Takes, HasRoom, size_of}
+use Rattle.amf_graph.specs.Building.{kept_node, stored_at, changed as changed_arena, more_part, Takes, HasRoom, size_of, more_value}
 use Rattle.amf_tables.specs.KeptTables.{KeptTables, AreTablesIn}
 use Rattle.amf_tables.specs.Reads3.{Grows}
-use Rattle.amf_tables.specs.Layout3State.{state_of, changed, more_value}
+use Rattle.amf_tables.specs.Layout3State.{state_of, changed}
 use Rattle.amf_tables.specs.Layout3.{read, value_layout, items}
 use Rattle.amf_tables.proofs.Layout3SoundInline.{spell3}
 use Rattle.amf_tables.proofs.Layout3SoundParts.{ValueSound}

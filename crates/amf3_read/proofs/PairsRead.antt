@@ -12,10 +12,10 @@ use Rattle.amf_graph.specs.declared.value.Value.{Value as Stored}
 use Rattle.amf_graph.specs.declared.part.Part.TheVariants.{Named}
 use Rattle.amf_graph.specs.Graph as graph
 use Rattle.amf_graph.specs.Arena.{Arena, IsTextId, Names, head_content, text_at}
-use Rattle.amf_graph.specs.Building.{kept_node, stored_at, changed as changed_arena, more_part, Takes, HasRoom, size_of}
+use Rattle.amf_graph.specs.Building.{kept_node, stored_at, changed as changed_arena, more_part, Takes, HasRoom, size_of, more_name}
 use Rattle.amf_tables.specs.KeptTables.{KeptTables}
 use Rattle.amf_tables.specs.Reads3.{Grows}
-use Rattle.amf_tables.specs.Layout3State.{State3, state_of, changed, more_name}
+use Rattle.amf_tables.specs.Layout3State.{State3, state_of, changed}
 use Rattle.amf_tables.specs.Layout3.{read, value_layout, is_empty, pairs}
 use Rattle.amf_tables.proofs.Reader3Tables.{grows_twice, text_id_after_growth}
 use Rattle.amf_tables.specs.Layout3Words.{TextRead, text_layout}

@@ -12,7 +12,7 @@ use Rattle.amf_tables.specs.Layout3.{read, value_layout}
 use Rattle.amf_tables.proofs.Layout3Reads.{reads}
 use Rattle.amf_tables.proofs.Layout3Format.{is_layout}
 use Rattle.amf_tables.proofs.Reader3Costs.{value_costs}
-use Rattle.amf_tables.proofs.FewDistinct.{few_distinct}
+use Rattle.amf_graph.proofs.PlaceOf.{few_distinct}
 use Rattle.amf_io.specs.declared.window.Window.{Window}
 use Rattle.amf_io.specs.declared.cursor.Cursor.{Cursor}
 use Rattle.amf_io.specs.Cursor.{place, bound}

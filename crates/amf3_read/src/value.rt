@@ -28,9 +28,12 @@ use std::alloc::Global;
 /// Reads one value into a builder and its tables (AMF 3 specification, 3.2 to 3.16), with so many
 /// levels left for nodes within nodes.
 ///
+/// The tables are the builder's, and the bytes that the cursor's limit still allows are below 2^27 together with each of
+/// the builder's numbers of nodes, texts and traits.
+///
 /// Where the input is refused, the refusal is the verdict on it: the first field that no value of AMF 3
-/// has there, or where the input or its limit ends. After an end the builder, the tables and the cursor
-/// are only to be dropped.
+/// has there, or where the input or its limit ends. `Memory` comes where there is no room for what is read. After an end
+/// the builder, the tables and the cursor are only to be dropped.
 pub fn read3<S: Source>(
     alloc: Global,
     cursor: &mut Cursor<'_, S>,

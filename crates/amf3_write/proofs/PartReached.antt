@@ -3,21 +3,15 @@ use Rattle.std.proofs.Common.{◌≡◌, ℕ, zero, suc, List, [], ◌∷◌, �
 use Rattle.std.specs.List.{AllByRecursion}
 use Rattle.amf_graph.specs.declared.lack.LackKind.{LackKind}
 use Rattle.amf_graph.specs.Graph.{Value, node, Graph, node_at}
-use Rattle.amf_graph.specs.ByName.{by_name}
-use Rattle.amf_graph.specs.Order.{is_array, seconds, values_met, at_depth, Descends, over, past, again, first, Walks, IsOrder}
+use Rattle.amf_graph.specs.Order.{is_array, seconds, values_met, at_depth, Descends, over, past, again, first, Walks, IsOrder, IsDistinct}
 use Rattle.amf_graph.specs.Order as order_of
-use Rattle.amf_graph.specs.Reached.{Holds, Reached, at_root, inside, IsReachedValue}
-use Rattle.amf_graph.proofs.NameOrder.{by_name_all_back}
-use Rattle.amf_graph.proofs.Places.{each_met}
-use Rattle.amf_graph.proofs.Walks.{In, Distinct, walks_fixed, walk_distinct, walk_closed}
+use Rattle.amf_graph.specs.Reached.{IsReachedValue}
+use Rattle.amf_graph.proofs.Walks.{In, walks_fixed, walk_distinct, walk_closed}
 use Rattle.amf_tables.specs.Lacks3.{Lacks3, IsLack3}
 use Rattle.amf_tables.specs.Lacking3.{Lacking3}
 use Rattle.amf_tables.proofs.Exists3.{each_at}
+use Rattle.amf_iso.proofs.Reaching.{held_stands, reached_stands}
 use Rattle.amf3_write.specs.PartLacks.{PartLacks3, IsPartLack3}
-
-seconds_back : (P : Value → Type 0) (ps : List (List ℕ × Value)) → AllByRecursion P (seconds ps) → AllByRecursion (λ p. P p.1) ps
-seconds_back P [] h = tt
-seconds_back P (p ∷ ps) h = (h.0, seconds_back P ps h.1)
 
 -- the pairs of values and depths at one depth, and those behind
 at_depth_all : (P : Value → Type 0) (depth : ℕ) (vs : List Value) (ws : List (Value × ℕ)) → AllByRecursion P vs → AllByRecursion (λ p. P p.0) ws → AllByRecursion (λ p. P p.0) (at_depth depth vs ++ ws)
@@ -28,22 +22,9 @@ module _ (g : Graph) (order : List ℕ) (walk : IsOrder g order) where
   met_in : (j k : ℕ) → slice_get order k ≡ Some j → AllByRecursion (In order) (values_met (node_at g j))
   met_in j k e = (walk_closed walk).1 k j (omega arith) e
 
-  held_in : (j k : ℕ) → slice_get order k ≡ Some j → (v : Value) → Holds (node_at g j) v → In order v
-  held_in j k e v h =
-      let a = node_at g j in
-      let both = each_met (In order) (is_array a.head) (by_name a.names) a.values (met_in j k e) in
-      elim h [
-        | inl o ↦ each_at (In order) a.values o.0 v both.1 o.1
-        | inr o ↦ each_at (λ p. In order p.1) a.names o.0 (o.1, v) (by_name_all_back (λ p. In order p.1) a.names (seconds_back (In order) (by_name a.names) both.0)) o.2
-      ]
-
-  reached_in : (i : ℕ) → Reached g i → (k : ℕ) × (slice_get order k ≡ Some i)
-  reached_in i (at_root e) = subst (λ v. In order v) e (walk_closed walk).0.0
-  reached_in i (inside j r h) = let o = reached_in j r in held_in j o.0 o.1 (node i) h
-
   pub value_in : (v : Value) → IsReachedValue g v → In order v
   value_in v (inl e) = subst (λ w. In order w) e (walk_closed walk).0.0
-  value_in v (inr (j, r, h)) = let o = reached_in j r in held_in j o.0 o.1 v h
+  value_in v (inr (j, r, h)) = let o = reached_stands g order walk j r in held_stands g order walk j o.0 o.1 v h
 
   found_in : {met : List ℕ} {vs : List (Value × ℕ)} {found : List (ℕ × ℕ)} → Descends g met vs found → AllByRecursion (λ p. In order p.0) vs → AllByRecursion (λ p. In order (node p.0)) found
   found_in over h = tt
@@ -101,7 +82,7 @@ whole_lack g limit number kind (order, found, walk, descent, f) = (
     same : order ≡ firsts_of found
     same = walks_fixed walk (descent_walks descent)
 
-    alone : Distinct order
+    alone : IsDistinct order
     alone = walk_distinct walk (λ j k i e. cc)
 
     back : (n : ℕ) (k : LackKind) → Lacks3 g limit found n k → PartLacks3 g limit order found n k

@@ -18,7 +18,8 @@ use std::alloc::Global;
 
 /// Appends the canonical case of a text (AMF 3, 1.3.2): by its place in the tables, or inline.
 ///
-/// After an end `out` is as before, and the tables are only to be dropped.
+/// The text is the graph's. After an end `out` is as before, and the tables are only to be dropped. It gives up where there
+/// is no memory.
 pub fn write3_text(
     alloc: Global,
     graph: &Rooted,
@@ -60,11 +61,12 @@ fn write_value(
 }
 
 /// Appends the canonical case of a value of a graph, from the tables of what is written before it, with at most `depth`
-/// nodes within one another (AMF 3, 3.2 to 3.16).
+/// nodes within one another (AMF 3, 3.2 to 3.16). The value is one of the graph that is reached from its root, and the nodes
+/// of the tables are the graph's.
 ///
-/// After an end `out` is as before, and the tables are only to be dropped. `NoSpelling` comes only where the value has no
-/// canonical case with so many levels, and tells the first lack of the nodes to which it leads beside those of the tables, by
-/// the canonical numbers of the whole graph; `Memory` where there is no room for the tables or the bytes.
+/// After an end `out` is as before, and the tables are only to be dropped. `NoSpelling` tells the first lack of the nodes to
+/// which the value leads beside those of the tables, by the canonical numbers of the whole graph; `Memory` comes where there
+/// is no room for the tables or the bytes.
 pub fn write3_part(
     alloc: Global,
     graph: &Rooted,

@@ -16,23 +16,31 @@ use Rattle.amf_graph.specs.Arena.{Arena, StoredNode, graph_of, head_content, IsT
 use Rattle.amf_graph.specs.Building.{stored_at}
 use Rattle.amf_graph.specs.Graph.{Traits, Head, Node, node_at}
 use Rattle.amf_graph.specs.Views.{ShowsTraits}
-use Rattle.amf_iso.specs.Matches.{AreTexts, texts_of}
+use Rattle.amf_tables.specs.ShownTraits.{AreTextIds, texts_at}
 use Rattle.amf_iso.proofs.MetValues.{each_there, shown}
+use Rattle.amf_iso.proofs.Remaining.{Remains, remains_same}
 
-ids_are : (a : Arena) (xs : List TextId) → AllByRecursion (IsTextId a) (map (λ x. x.0) xs) → AreTexts a xs
+ids_are : (a : Arena) (xs : List TextId) → AreTextIds a xs → AllByRecursion (λ x. IsTextId a x.0) xs
 ids_are a [] h = tt
 ids_are a (x ∷ xs) h = (h.0, ids_are a xs h.1)
 
-pub sealed_in : (a : Arena) (t : ℕ) (v : TraitsView) → IsFinished a → t < length a.traits → ShowsTraits (get_or a.traits t no_traits) v → AreTexts a v.sealed.now
-sealed_in a t v f l s = ids_are a v.sealed.now (subst (λ w. IsTraitsIn a w) s (each_there (IsTraitsIn a) a.traits t no_traits f.built.traits l)).sealed
-
-texts_are : (a : Arena) (xs : List TextId) → map (text_at a) (map (λ x. x.0) xs) ≡ texts_of a xs
+texts_are : (a : Arena) (xs : List TextId) → texts_at a xs ≡ map (λ x. text_at a x.0) xs
 texts_are a [] = refl
 texts_are a (x ∷ xs) = ap (λ w. text_at a x.0 ∷ w) (texts_are a xs)
 
+-- texts of two graphs, gone through together
+pub texts_remain : (a b : Arena) (xs ys : List TextId) → length xs ≡ length ys → AreTextIds a xs → AreTextIds b ys → Remains (λ x. IsTextId a x.0) (λ y. IsTextId b y.0) (λ x y. text_at a x.0 ≡ text_at b y.0) (texts_at a xs ≡ texts_at b ys) xs ys
+texts_remain a b xs ys l p q =
+    let r = remains_same (λ x. IsTextId a x.0) (λ y. IsTextId b y.0) (λ x. text_at a x.0) (λ y. text_at b y.0) xs ys l (ids_are a xs p) (ids_are b ys q) in
+    record { long = r.long; left = r.left; right = r.right; onward = λ e. r.onward (sym (texts_are a xs) ∙ e ∙ texts_are b ys); back = λ z. texts_are a xs ∙ r.back z ∙ sym (texts_are b ys) }
+
+-- the sealed names of traits are texts of the graph
+pub sealed_in : (a : Arena) (t : ℕ) (v : TraitsView) → IsFinished a → t < length a.traits → ShowsTraits (get_or a.traits t no_traits) v → AreTextIds a v.sealed.now
+sealed_in a t v f l s = (subst (λ w. IsTraitsIn a w) s (each_there (IsTraitsIn a) a.traits t no_traits f.built.traits l)).sealed
+
 -- the traits that a view shows, by content
-pub traits_shown : (a : Arena) (t : ℕ) (v : TraitsView) → ShowsTraits (get_or a.traits t no_traits) v → traits_at a t ≡ record { class = text_at a v.class.0; dynamic = v.dynamic; sealed = texts_of a v.sealed.now }
-traits_shown a t v s = ap (traits_content a) s ∙ ap (λ w. record { class = text_at a v.class.0; dynamic = v.dynamic; sealed = w }) (texts_are a v.sealed.now)
+pub traits_shown : (a : Arena) (t : ℕ) (v : TraitsView) → ShowsTraits (get_or a.traits t no_traits) v → traits_at a t ≡ record { class = text_at a v.class.0; dynamic = v.dynamic; sealed = texts_at a v.sealed.now }
+traits_shown a t v s = ap (traits_content a) s
 
 pub traits_same : (t u : Traits) (c d : List ℕ) (x y : Bool) (xs ys : List (List ℕ)) → t ≡ record { class = c; dynamic = x; sealed = xs } → u ≡ record { class = d; dynamic = y; sealed = ys } → c ≡ d → x ≡ y → (r : Bool) → IsTrue r ↔ (xs ≡ ys) → IsTrue r ↔ (t ≡ u)
 traits_same t u c d x y xs ys e f p q r h =

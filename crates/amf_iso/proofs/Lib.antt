@@ -8,5 +8,5 @@ pub mod Remaining
 pub mod HeadFacts
 mod Orders
 mod OrderParts
-mod Reaching
+pub mod Reaching
 mod Relabelled

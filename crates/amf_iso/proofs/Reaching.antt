@@ -3,9 +3,8 @@ use Rattle.std.proofs.Common.{◌≡◌, ℕ, List, [], ◌∷◌, ◌++◌, sli
 use Rattle.std.specs.List.{AllByRecursion}
 use Rattle.amf_graph.specs.Graph.{Value, node, Graph, node_at}
 use Rattle.amf_graph.specs.ByName.{by_name}
-use Rattle.amf_graph.specs.Order.{is_array, seconds, values_met, Walks, over, past, again, first, IsOrder}
+use Rattle.amf_graph.specs.Order.{is_array, seconds, values_met, Walks, over, past, again, first, IsOrder, IsDistinct}
 use Rattle.amf_graph.specs.Reached.{Holds, Reached, at_root, inside, IsReachedValue}
-use Rattle.amf_graph.specs.Renumbered.{IsDistinct}
 use Rattle.amf_graph.proofs.Alls.{all_append}
 use Rattle.amf_graph.proofs.Descents.{each_met as met_each}
 use Rattle.amf_graph.proofs.Lists.{at_push, no_entry}
@@ -21,7 +20,7 @@ order_once g order w = walk_distinct w (λ j k i e f. absurd (no_entry j i e))
 
 -- what is reached stands in an order
 module _ (g : Graph) (order : List ℕ) (w : IsOrder g order) where
-  held_stands : (j k : ℕ) → slice_get order k ≡ Some j → (v : Value) → Holds (node_at g j) v → In order v
+  pub held_stands : (j k : ℕ) → slice_get order k ≡ Some j → (v : Value) → Holds (node_at g j) v → In order v
   held_stands j k e v h =
       let a = node_at g j in
       let both = each_met (In order) (is_array a.head) (by_name a.names) a.values ((walk_closed w).1 k j (omega arith) e) in
@@ -30,7 +29,7 @@ module _ (g : Graph) (order : List ℕ) (w : IsOrder g order) where
         | inr o ↦ each_at (λ p. In order p.1) a.names o.0 (o.1, v) (by_name_all_back (λ p. In order p.1) a.names (seconds_all (In order) (by_name a.names) both.0)) o.2
       ]
 
-  reached_stands : (i : ℕ) → Reached g i → (k : ℕ) × (slice_get order k ≡ Some i)
+  pub reached_stands : (i : ℕ) → Reached g i → (k : ℕ) × (slice_get order k ≡ Some i)
   reached_stands i (at_root e) = subst (λ v. In order v) e (walk_closed w).0.0
   reached_stands i (inside j r h) = let o = reached_stands j r in held_stands j o.0 o.1 (node i) h
 

@@ -8,11 +8,11 @@ use Rattle.amf_graph.specs.declared.value.Value.{Value as Stored}
 use Rattle.amf_graph.specs.declared.value.Value.TheVariants.{Undefined, Null, Bool as Flag, Integer, Double, Text, Node as NodeRef}
 use Rattle.amf_graph.specs.Graph.{node_at}
 use Rattle.amf_graph.specs.Isomorphic.{ValuesMatch, PairsMatch, NodesMatch, Isomorphic}
-use Rattle.amf_graph.specs.Order.{IsOrder}
+use Rattle.amf_graph.specs.Order.{IsOrder, IsDistinct}
 use Rattle.amf_graph.specs.Arena.{Arena, StoredHead, xml_document, date, array, object, wrapper, xml, bytes, ints, uints, doubles, values, dictionary, StoredNode, head_content, node_content, value_content}
 use Rattle.amf_graph.specs.Building.{stored_at, no_stored}
 use Rattle.amf_graph.specs.Rooted.{RootedArena, content}
-use Rattle.amf_graph.specs.Renumbered.{place_of, renumbered_value, renumbered_values, renumbered_names, renumbered_node, renumbered_arena, renumbered, StandsIn, IsDistinct, IsPart}
+use Rattle.amf_graph.specs.Renumbered.{place_of, renumbered_value, renumbered_values, renumbered_names, renumbered_node, renumbered_arena, renumbered, StandsIn, IsPart}
 use Rattle.amf_graph.proofs.Alls.{all_at}
 use Rattle.amf_graph.proofs.Growth.{names_content, values_content}
 use Rattle.amf_graph.proofs.Lists.{at_left, at_end, entry, length_pushed, no_entry}

@@ -1,10 +1,9 @@
 -- What of two numbered graphs is alike.
-use Rattle.std.specs.Prelude.{ℕ, List, map}
-use Rattle.std.specs.List.{AllByRecursion, AllZip}
+use Rattle.std.specs.Prelude.{ℕ, List}
+use Rattle.std.specs.List.{AllZip}
 use Rattle.amf_graph.specs.declared.value.Value.{Value as Stored}
-use Rattle.amf_graph.specs.declared.value.TextId.{TextId}
 use Rattle.amf_graph.specs.Isomorphic.{ValuesMatch, PairsMatch}
-use Rattle.amf_graph.specs.Arena.{Arena, IsTextId, text_at, value_content}
+use Rattle.amf_graph.specs.Arena.{value_content}
 use Rattle.amf_tables.specs.LawsOrder.{SamePlace}
 use Rattle.amf_iso.specs.declared.numbered.Numbered.{Numbered}
 use Rattle.amf_iso.specs.Contents.{values_of, named_pairs}
@@ -22,10 +21,3 @@ AllMatch l r vs ws = AllZip (ValuesMatch (SameNumber l r)) (values_of l.graph.no
 
 abbrev pub AllPairsMatch : Numbered → Numbered → List (Bor (List ℕ) × Stored) → List (Bor (List ℕ) × Stored) → Type 0
 AllPairsMatch l r ps qs = AllZip (PairsMatch (SameNumber l r)) (named_pairs l.graph.now.arena ps) (named_pairs r.graph.now.arena qs)
-
--- each of them is a text's
-abbrev pub AreTexts : Arena → List TextId → Type 0
-AreTexts a xs = AllByRecursion (λ x. IsTextId a x.0) xs
-
-abbrev pub texts_of : Arena → List TextId → List (List ℕ)
-texts_of a xs = map (λ x. text_at a x.0) xs

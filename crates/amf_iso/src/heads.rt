@@ -2,16 +2,16 @@ ghost use Rattle.std.specs.Prelude.{◌≡◌, ◌<◌, ◌↔◌, length, IsTru
 ghost use Rattle.amf_graph.specs.Arena.{traits_at};
 ghost use Rattle.amf_graph.specs.Graph.{node_at};
 ghost use Rattle.amf_graph.specs.Rooted.{content};
-ghost use Rattle.amf_iso.specs.Matches.{AreTexts, texts_of};
+ghost use Rattle.amf_tables.specs.ShownTraits.{AreTextIds, texts_at};
 
 use amf_graph::{NodeId, NodeView, Rooted, TextId, TraitsId};
 
 /// Whether texts are the same, place by place.
 #[tactic(auto, using(crate::proofs::Remaining::compared))]
 fn texts_match(xs: &[TextId], ys: &[TextId], left: &Rooted, right: &Rooted) -> bool
-    requires left { AreTexts left.now.arena xs.now }
-    requires right { AreTexts right.now.arena ys.now }
-    ensures { IsTrue result ↔ texts_of left.now.arena xs.now ≡ texts_of right.now.arena ys.now }
+    requires left { AreTextIds left.now.arena xs.now }
+    requires right { AreTextIds right.now.arena ys.now }
+    ensures { IsTrue result ↔ texts_at left.now.arena xs.now ≡ texts_at right.now.arena ys.now }
 {
     if xs.len() != ys.len() {
         return false;

@@ -1,8 +1,8 @@
 ghost use Rattle.std.specs.Prelude.{◌≡◌, ◌<◌, ℕ, length, slice_get, Some, IfOk, MatchOption};
-ghost use Rattle.amf_graph.specs.Order.{Absent, IsOrder};
-ghost use Rattle.amf_graph.specs.Renumbered.{IsDistinct};
+ghost use Rattle.amf_graph.specs.Order.{Absent, IsOrder, IsDistinct};
+ghost use Rattle.amf_graph.specs.Renumbered.{numbers_of};
 ghost use Rattle.amf_graph.specs.Rooted.{content};
-ghost use Rattle.amf_iso.specs.Numbers.{places, HasReached};
+ghost use Rattle.amf_iso.specs.Numbers.{HasReached};
 
 use crate::met::values_met;
 use amf_graph::{NodeId, Rooted, Value};
@@ -20,13 +20,14 @@ pub struct Numbering {
 
 impl Model for Numbering {
     ghost use Rattle.std.specs.Prelude.{ℕ, List};
-    ghost use Rattle.amf_iso.specs.Numbers.{places, AreNumbers};
+    ghost use Rattle.amf_graph.specs.Renumbered.{numbers_of};
+    ghost use Rattle.amf_iso.specs.Numbers.{AreNumbers};
 
     ghost Value = { List ℕ };
 
-    ghost view = { λ n. places n.nodes.items };
+    ghost view = { λ n. numbers_of n.nodes.items };
 
-    ghost invariant = { λ n. AreNumbers (places n.nodes.items) n.numbers.items };
+    ghost invariant = { λ n. AreNumbers (numbers_of n.nodes.items) n.numbers.items };
 }
 
 impl Numbering {
@@ -71,7 +72,7 @@ impl Numbering {
 
     /// The nodes in the order of their numbers.
     pub(crate) fn nodes(&self) -> &[NodeId]
-        ensures { places result.now ≡ self.now }
+        ensures { numbers_of result.now ≡ self.now }
     {
         self.nodes.as_slice()
     }

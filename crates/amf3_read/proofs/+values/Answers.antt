@@ -1,9 +1,9 @@
 use Rattle.std.proofs.Common.{sym, ap, ◌∙◌, subst, arith, refl, Ok, Err, ◌≡◌, ◌-◌, ◌<◌, true, false, ◌+◌, ◌*◌, length, ◌/◌, w32, Some, ℤ}
 use Rattle.amf_io.specs.Layout.{give, bind, want}
 use Rattle.amf_graph.specs.Arena.{head_content}
-use Rattle.amf_graph.specs.Building.{stored_at}
+use Rattle.amf_graph.specs.Building.{stored_at, shut}
 use Rattle.amf_graph.specs.declared.value.Value.TheVariants as value
-use Rattle.amf_tables.specs.Layout3State.{state_of, changed, shut, State3}
+use Rattle.amf_tables.specs.Layout3State.{state_of, changed, State3}
 use Rattle.amf_tables.specs.Layout3.{read, value_layout, node_layout, inline_node, opening, items, entries, pairs, ValueRead, eight_layout}
 use Rattle.amf3_read.specs.Forms.{node_form, form}
 use Rattle.amf3_read.specs.Ready.{left_of, text_read}

@@ -4,11 +4,12 @@ use Rattle.std.proofs.lemmas.Option.{slice_get_read}
 use Rattle.amf_graph.specs.declared.value.Value.TheVariants.{Node as NodeRef}
 use Rattle.amf_graph.specs.Order.{Absent, Walks, over, IsOrder}
 use Rattle.amf_graph.specs.Rooted.{content}
+use Rattle.amf_graph.specs.Renumbered.{numbers_of}
 use Rattle.amf_graph.specs.Arena.{Names, node_content, value_content}
 use Rattle.amf_graph.proofs.Counting.{missing, missing_none, missing_push}
 use Rattle.amf_graph.proofs.Lists.{length_pushed}
 use Rattle.amf_iso.specs.Contents.{values_of}
-use Rattle.amf_iso.specs.Numbers.{places, AreNumbers}
+use Rattle.amf_iso.specs.Numbers.{AreNumbers}
 use Rattle.amf_iso.proofs.MetValues.{all_append, all_reverse, met_few}
 use Rattle.amf_iso.proofs.Numbers.{some_is, none_is, is_absent, numbered_push, no_numbers, only_none}
 use Rattle.amf_iso.proofs.Reaching.{order_once, order_reached}
@@ -39,7 +40,7 @@ loop-value-init c =
       tally = rw (c.new-nodes.ensures.items) (omega (arith, missing_none (length a.nodes)));
       waits = rw (c.in_ok-waiting.ensures.items, c.root.ensures) (c.is_finished.ensures.names, tt);
       walk = λ all w. subst (λ v. Walks (content c.args.graph.now) [] (value_content a v ∷ []) all) c.root.ensures
-          (subst (λ ws. Walks (content c.args.graph.now) [] (values_of a (reverse ws)) all) c.in_ok-waiting.ensures.items (subst (λ ns. Walks (content c.args.graph.now) (places ns) (values_of a (reverse c.in_ok-waiting.waiting.items)) all) c.new-nodes.ensures.items w));
+          (subst (λ ws. Walks (content c.args.graph.now) [] (values_of a (reverse ws)) all) c.in_ok-waiting.ensures.items (subst (λ ns. Walks (content c.args.graph.now) (numbers_of ns) (values_of a (reverse c.in_ok-waiting.waiting.items)) all) c.new-nodes.ensures.items w));
     }
 
 pub loop-value-preserved-else-is_none : goal.loop-value-preserved-else-is_none
@@ -55,7 +56,7 @@ loop-value-preserved-else-is_none c =
       room = inv.room;
       tally = inv.tally;
       waits = rest_in a c.loop-value.waiting.items c.pop.new.self.items (NodeRef c.in-Node.node) top inv.waits;
-      walk = met_again (content c.args.graph.now) a (places c.loop-value.nodes.items) c.loop-value.waiting.items c.pop.new.self.items c.in-Node.node some.0 top (inv.numbered.placed some.0 c.in-Node.node.0 read) inv.walk;
+      walk = met_again (content c.args.graph.now) a (numbers_of c.loop-value.nodes.items) c.loop-value.waiting.items c.pop.new.self.items c.in-Node.node some.0 top (inv.numbered.placed some.0 c.in-Node.node.0 read) inv.walk;
     }
 
 pub loop-value-preserved : goal.loop-value-preserved
@@ -67,7 +68,7 @@ loop-value-preserved c =
       room = inv.room;
       tally = inv.tally;
       waits = rest_in a c.loop-value.waiting.items c.pop.new.self.items c.in-Some.value c.in-Some.ensures.items inv.waits;
-      walk = past_leaf (content c.args.graph.now) a (places c.loop-value.nodes.items) c.loop-value.waiting.items c.pop.new.self.items c.in-Some.value c.in-Some.ensures.items c.in_default-value.not-Node inv.walk;
+      walk = past_leaf (content c.args.graph.now) a (numbers_of c.loop-value.nodes.items) c.loop-value.waiting.items c.pop.new.self.items c.in-Some.value c.in-Some.ensures.items c.in_default-value.not-Node inv.walk;
     }
 
 pub loop-value-preserved-then-is_none : goal.loop-value-preserved-then-is_none
@@ -76,13 +77,13 @@ loop-value-preserved-then-is_none c =
     let a = c.args.graph.now.arena in
     let inv = c.loop-value.invariant in
     let i = c.in-Node.node in
-    let met = places c.loop-value.nodes.items in
+    let met = numbers_of c.loop-value.nodes.items in
     let rest = c.pop.new.self.items in
     let top : c.loop-value.waiting.items ≡ rest ++ NodeRef i ∷ [] = c.in-Some.ensures.items ∙ ap (λ w. rest ++ w ∷ []) c.in-Node.is in
     let there : i.0 < length a.nodes = top_in a c.loop-value.waiting.items rest (NodeRef i) top inv.waits in
     let read : slice_get c.loop-value.numbers.items i.0 ≡ Some None = slice_get_read c.loop-value.numbers.items (length a.nodes) i.0 c.index.result.now (sym inv.room) there c.index.ensures ∙ ap (λ w. Some w) (none_is c.index.result.now c.if-is_none.ensures) in
     let new : Absent met i.0 = is_absent met c.loop-value.numbers.items i.0 inv.numbered read in
-    let pushed : places c.push.new.self.items ≡ met ++ i.0 ∷ [] = ap places c.in_ok-push.ensures.items ∙ map-append (λ n. n.0) c.loop-value.nodes.items (i ∷ []) in
+    let pushed : numbers_of c.push.new.self.items ≡ met ++ i.0 ∷ [] = ap numbers_of c.in_ok-push.ensures.items ∙ map-append (λ n. n.0) c.loop-value.nodes.items (i ∷ []) in
     let count : length met ≡ c.len.result = length-map c.loop-value.nodes.items (λ n. n.0) ∙ sym (c.len.ensures ∙ c.loop-value.nodes.ok.0) in
     let less = missing_push (length a.nodes) i.0 met there new in
     let stack : c.append.new.self.items ≡ rest ++ reverse c.in_ok-met.met.items = c.in_ok-append.ensures.items ∙ ap (λ w. rest ++ w) c.reverse.ensures.items in
@@ -102,31 +103,31 @@ loop-value-smaller-then-is_none c =
     let a = c.args.graph.now.arena in
     let inv = c.loop-value.invariant in
     let i = c.in-Node.node in
-    let met = places c.loop-value.nodes.items in
+    let met = numbers_of c.loop-value.nodes.items in
     let rest = c.pop.new.self.items in
     let top : c.loop-value.waiting.items ≡ rest ++ NodeRef i ∷ [] = c.in-Some.ensures.items ∙ ap (λ w. rest ++ w ∷ []) c.in-Node.is in
     let there : i.0 < length a.nodes = top_in a c.loop-value.waiting.items rest (NodeRef i) top inv.waits in
     let read : slice_get c.loop-value.numbers.items i.0 ≡ Some None = slice_get_read c.loop-value.numbers.items (length a.nodes) i.0 c.index.result.now (sym inv.room) there c.index.ensures ∙ ap (λ w. Some w) (none_is c.index.result.now c.if-is_none.ensures) in
     let new : Absent met i.0 = is_absent met c.loop-value.numbers.items i.0 inv.numbered read in
-    let pushed : places c.push.new.self.items ≡ met ++ i.0 ∷ [] = ap places c.in_ok-push.ensures.items ∙ map-append (λ n. n.0) c.loop-value.nodes.items (i ∷ []) in
-    let less : missing (length a.nodes) (places c.push.new.self.items) < missing (length a.nodes) met = subst (λ w. missing (length a.nodes) w < missing (length a.nodes) met) (sym pushed) (missing_push (length a.nodes) i.0 met there new) in
+    let pushed : numbers_of c.push.new.self.items ≡ met ++ i.0 ∷ [] = ap numbers_of c.in_ok-push.ensures.items ∙ map-append (λ n. n.0) c.loop-value.nodes.items (i ∷ []) in
+    let less : missing (length a.nodes) (numbers_of c.push.new.self.items) < missing (length a.nodes) met = subst (λ w. missing (length a.nodes) w < missing (length a.nodes) met) (sym pushed) (missing_push (length a.nodes) i.0 met there new) in
     let stack : c.append.new.self.items ≡ rest ++ reverse c.in_ok-met.met.items = c.in_ok-append.ensures.items ∙ ap (λ w. rest ++ w) c.reverse.ensures.items in
     let few : length c.in_ok-met.met.items < 536870912 = subst (λ k. k < 536870912) (ap length (sym c.in_ok-met.ensures.values) ∙ length-map c.in_ok-met.met.items (value_content a)) (met_few a c.args.graph.now.root i.0 c.is_finished.ensures.bounds there) in
     let grown : length c.append.new.self.items ≡ length rest + length c.in_ok-met.met.items = ap length stack ∙ length-append rest (reverse c.in_ok-met.met.items) ∙ ap (λ k. length rest + k) (length-reverse c.in_ok-met.met.items) in
     let one : length c.loop-value.waiting.items ≡ length rest + 1 = ap length top ∙ length-append rest (NodeRef i ∷ []) in
     omega (arith, less, few, grown, one)
 
-all_numbered : (c : goal.After-drop-waiting-2) → IsOrder (content c.args.graph.now) (places c.loop-value.nodes.items)
+all_numbered : (c : goal.After-drop-waiting-2) → IsOrder (content c.args.graph.now) (numbers_of c.loop-value.nodes.items)
 all_numbered c =
     let none : c.pop.new.self.items ≡ [] = nil_from_length c.pop.new.self.items (sym c.pop.new.self.ok.0 ∙ c.in_default.ensures.cases.1) in
     let empty : c.loop-value.waiting.items ≡ [] = c.in_default.ensures.items ∙ append-nil c.pop.new.self.items ∙ none in
-    c.loop-value.invariant.walk (places c.loop-value.nodes.items) (rw (empty) over)
+    c.loop-value.invariant.walk (numbers_of c.loop-value.nodes.items) (rw (empty) over)
 
 pub returns-clause-order : goal.returns-clause-order
 returns-clause-order = all_numbered
 
 pub returns-clause-once : goal.returns-clause-once
-returns-clause-once c = order_once (content c.args.graph.now) (places c.loop-value.nodes.items) (all_numbered c)
+returns-clause-once c = order_once (content c.args.graph.now) (numbers_of c.loop-value.nodes.items) (all_numbered c)
 
 pub returns-clause-reached : goal.returns-clause-reached
-returns-clause-reached c = order_reached (content c.args.graph.now) (places c.loop-value.nodes.items) (all_numbered c)
+returns-clause-reached c = order_reached (content c.args.graph.now) (numbers_of c.loop-value.nodes.items) (all_numbered c)
