@@ -29,7 +29,7 @@ impl Model for Broker {
 }
 
 impl Broker {
-    /// A broker of these destinations, to which nobody is connected.
+    /// A broker of these destinations, to which nobody is connected. It gives up where there is no memory.
     pub fn new(alloc: Global, destinations: Vec<Name>) -> Result<Broker, Memory>
         ensures { IfOk result (λ broker. broker ≡ first destinations.items) }
     {
@@ -51,7 +51,7 @@ impl Broker {
         self.board.queued()
     }
 
-    /// Answers a call. After `Memory` the broker is as before, and no call is counted.
+    /// Answers a call, of which a broker takes 2^62. After `Memory` the broker is as before, and no call is counted.
     pub fn step(&mut self, alloc: Global, call: Call) -> Result<Reply, Memory>
         requires { self.old.calls < 2 ^ 62 }
 

@@ -74,7 +74,7 @@ impl SubIds {
     }
 }
 
-/// What the broker answers. `Full` and what follows are refusals, which change nothing.
+/// What the broker answers. `Full` and what follows are refusals, which change nothing but the count of calls.
 #[derive(Debug, Drop)]
 pub enum Reply {
     /// The number of the new client.
