@@ -1,5 +1,5 @@
 -- How the reading of a whole input ends.
-use Rattle.std.proofs.Common.{◌≡◌, ℕ, ◌≤◌, List, [], ◌∷◌, ◌++◌, ◌+◌, ◌^◌, length, length-append, append_assoc, take, drop, Result, Err, false, refl, sym, ap, ◌∙◌, subst, arith, inl, inr}
+use Rattle.std.proofs.Common.{◌≡◌, ℕ, ◌≤◌, List, [], ◌∷◌, ◌++◌, ◌+◌, ◌^◌, length, length-append, append_assoc, take, drop, Result, Ok, Err, false, refl, sym, ap, ◌∙◌, subst, arith, inl, inr}
 use Rattle.std.specs.List.{AllByRecursion}
 use Rattle.std.proofs.lemmas.List.{append-nil, length-take}
 use Rattle.amf_io.specs.declared.window.Window.{Window}
@@ -9,7 +9,7 @@ use Rattle.amf_io.specs.Cursor as cursors
 use Rattle.amf_io.specs.CursorReads.{Goes}
 use Rattle.amf_io.specs.ReadEnds.{IsFaultedEnd}
 use Rattle.amf_io.specs.Field.{Field, flat}
-use Rattle.amf_io.specs.Verdict.{IsRefused, IsCutOff, refused, trailing}
+use Rattle.amf_io.specs.Verdict.{IsRefused, IsCutOff, IsInputRefused, refused, trailing}
 use Rattle.amf_io.proofs.Paths.{flat-append}
 use Rattle.amf_io.specs.declared.ends.ReadEnd.{ReadEnd}
 use Rattle.amf_io.specs.declared.ends.ReadEnd.TheVariants.{Refused, ReadFault, Memory}
@@ -17,20 +17,28 @@ use Rattle.amf_graph.specs.declared.value.Value.{Value}
 use Rattle.amf_graph.specs.Graph.{Graph}
 use Rattle.amf_graph.specs.Arena.{Arena, graph_of, IsFinished}
 use Rattle.amf_graph.proofs.FinishedSmall.{completes_itself}
+use Rattle.amf_graph.specs.Building.{no_arena}
 use Rattle.amf_tables.specs.KeptTables.{KeptTables, no_kept_tables, tables_of}
-use Rattle.amf_tables.specs.Reads3.{Grows, no_arena}
+use Rattle.amf_tables.specs.Reads3.{Grows, IsRead3, IsReading3}
 use Rattle.amf_tables.proofs.Values3Layout.{no_arena_built, values3_is_layout}
 use Rattle.amf_tables.specs.Layout3State.{no_state}
 use Rattle.amf_tables.specs.Layout3.{value_layout}
-use Rattle.amf3_read.specs.Answer.{IsRead, AnswersAs}
+use Rattle.amf3_read.specs.Answer.{IsTaken, AnswersAs}
 use Rattle.amf_cli.specs.declared.command.Command.{Command}
 use Rattle.amf_cli.specs.declared.command.Command.TheVariants.{Canon, Same}
 use Rattle.amf3_read.specs.Pairs.{Pair}
-use Rattle.amf_cli.specs.Run.{most, levels, IsValue, IsInputOf, ArePairIn, IsHidden, ReadsInput}
-use Rattle.amf_cli.specs.Reading.{IsReadOne, AnswersOne, AnswersEnd, AnswersInput}
+use Rattle.amf_cli.specs.Run.{most, levels, IsValue, Accepts, IsInputOf, ArePairIn, IsHidden, ReadsInput}
+use Rattle.amf_cli.specs.Reading.{IsReadOne, AnswersOne, AnswersEnd}
 use Rattle.amf_cli.specs.Lines.{end_of}
 use Rattle.amf3_read.proofs.Pairs.{first_refused, first_cut, second_refused, second_cut}
 use Rattle.amf_cli.proofs.Spelled.{layouts}
+
+-- how the reader of a whole input ends, where P tells what it makes of an accepted one
+abbrev pub AnswersInput : {X : Type 0} → Command → (X → Type 0) → List ℕ → List ℕ → Result X ReadEnd → Type 0
+AnswersInput c P input rest (Ok x) = P x × (rest ≡ [])
+AnswersInput c P input rest (Err (Refused f)) = IsInputRefused (Accepts c) most input f.reason f.at
+AnswersInput c P input rest (Err ReadFault) = IsHidden c input rest
+AnswersInput c P input rest (Err Memory) = Unit {0}
 
 -- where nothing is read ahead, what is unread is what the source has left
 pub none_unread : {S : Type 0} (left : S → List ℕ) (c : Cursor S Window) → ahead c ≡ 0 → unread left c ≡ left (source_of c).now
@@ -68,7 +76,7 @@ from_nothing told a b t u input rest at place limit r e h m w =
 pub all_closed : (b : Arena) → Grows no_arena b → AllByRecursion (λ n. n.is_open ≡ false) b.nodes
 all_closed b g = subst (λ ns. AllByRecursion (λ n. n.is_open ≡ false) ns) (sym g.nodes) g.closed
 
-pub one_read : (told : Type 0) (b : Arena) (u : KeptTables) (v : Value) (input rest : List ℕ) (at place : ℕ) → IsRead levels told no_arena b no_kept_tables u v input rest at place most → IsReadOne told (graph_of b v) input rest at place
+pub one_read : (told : Type 0) (b : Arena) (u : KeptTables) (v : Value) (input rest : List ℕ) (at place : ℕ) → IsTaken told (λ fs. IsRead3 levels no_arena no_kept_tables fs b u v) (IsReading3 levels no_arena no_kept_tables) input rest at place most → IsReadOne told (graph_of b v) input rest at place
 one_read told b u v input rest at place r =
     let finished : IsFinished b = record { built = r.read.built no_arena_built; closed = all_closed b r.read.grows } in
     record { fields = r.fields; read = (tables_of b u, r.read.spelled b (completes_itself b finished)); accepted = r.accepted; parts = r.parts; taken = r.taken; within = r.within }

@@ -138,6 +138,11 @@ never_both g input bytes number kind (h, j, c) i l =
     let k : IsCanonicalOf g bytes = carried h g bytes (same_bytes_isomorphic h g input (spells_free h input j) (spells_free g input i)) c in
     spelling_or_lack.not_both g levels k.0 number kind k.1 l
 
+-- what one graph lacks that an input spells, each lacks
+pub lacks_every : (c : Command) (input : List ℕ) (l : Lack) → Lacks c input l → (g : Graph) → IsInputOf g input → IsLack3 g levels l.node l.kind
+lacks_every Canon input l (h, j, k) g i = spelling_or_lack.alike h g (same_bytes_isomorphic h g input (spells_free h input j) (spells_free g input i)) levels l.node l.kind k
+lacks_every Same input l k g i = absurd k
+
 pub makes_or_lacks : (c : Command) (input bytes : List ℕ) (l : Lack) → Makes c input bytes → Lacks c input l → ⊥
 makes_or_lacks Canon input bytes l m (g, i, k) = never_both g input bytes l.node l.kind m i k
 makes_or_lacks Same input bytes l m k = absurd k

@@ -1,5 +1,5 @@
 -- What each status says of an end.
-use Rattle.std.proofs.Common.{OnOk, ◌≡◌, ◌⊎◌, inl, inr, ℕ, List, ◌++◌, Result, Ok, Err, refl, arith}
+use Rattle.std.proofs.Common.{OnOk, ◌≡◌, ◌≢◌, ◌⊎◌, inl, inr, ℕ, List, ◌++◌, Result, Ok, Err, refl, arith}
 use Rattle.amf_io.specs.Outside.{HasCause, Steady}
 use Rattle.amf_io.specs.declared.source.Failed.{Failed}
 use Rattle.amf_io.specs.declared.reason.Reason.{Reason}
@@ -13,8 +13,8 @@ use Rattle.amf_cli.specs.declared.command.Command.TheVariants.{Canon}
 use Rattle.amf_cli.specs.declared.run_end.RunEnd.{RunEnd}
 use Rattle.amf_cli.specs.declared.run_end.RunEnd.TheVariants.{Refused, Usage, ReadFault, WriteFault, NoMemory, NoForm}
 use Rattle.amf_cli.specs.Lines.{status_of, line_of}
-use Rattle.amf_cli.specs.Run.{most, levels, Accepts, IsInputOf, Makes, RunsTo, WritesAll, IsRefusedWith, HasNoForm, Reports}
-use Rattle.amf_cli.proofs.Spelled.{once, never_refused, never_both, made_not_refused, lacks_not_refused, makes_or_lacks}
+use Rattle.amf_cli.specs.Run.{most, levels, CountsReads, CountsWrites, Accepts, IsInputOf, Makes, RunsTo, WritesAll, IsRefusedWith, HasNoForm, Reports}
+use Rattle.amf_cli.proofs.Spelled.{lacks_every, once, never_refused, never_both, made_not_refused, lacks_not_refused, makes_or_lacks}
 
 abbrev Done : RunEnd → Result (Unit {0}) RunEnd
 Done e = Err e
@@ -82,7 +82,7 @@ no_form_says c Usage input rest told seen held now before after h r l = absurd (
 no_form_says c ReadFault input rest told seen held now before after h r l = absurd (omega arith)
 no_form_says c WriteFault input rest told seen held now before after h r l = absurd (omega arith)
 no_form_says c NoMemory input rest told seen held now before after h r l = absurd (omega arith)
-no_form_says c (NoForm k) input rest told seen held now before after h r l = record { lack = k; lacking = r.0; all_read = r.1; line = l }
+no_form_says c (NoForm k) input rest told seen held now before after h r l = record { lack = k; lacking = r.0; every = lacks_every c input k r.0; all_read = r.1; line = l }
 
 pub line_says : (e : RunEnd) (held now : List ℕ) → now ≡ held ++ line_of e → Reports (status_of e) held now
 line_says (Refused f) held now h = (Refused f, refl, h)
@@ -107,3 +107,21 @@ form_status ReadFault h = absurd (omega arith)
 form_status WriteFault h = absurd (omega arith)
 form_status NoMemory h = absurd (omega arith)
 form_status (NoForm l) h = (l, refl)
+
+-- without a fault the counts stay
+
+pub reads_steady : (e : RunEnd) (before now : ℕ) → CountsReads before now (Done e) → status_of e ≢ 3 → now ≡ before
+reads_steady (Refused f) before now c read = c
+reads_steady Usage before now c read = c
+reads_steady ReadFault before now c read = absurd (read refl)
+reads_steady WriteFault before now c read = c
+reads_steady NoMemory before now c read = c
+reads_steady (NoForm l) before now c read = c
+
+pub writes_steady : (e : RunEnd) (before now : ℕ) → CountsWrites before now (Done e) → status_of e ≢ 4 → now ≡ before
+writes_steady (Refused f) before now c write = c
+writes_steady Usage before now c write = c
+writes_steady ReadFault before now c write = c
+writes_steady WriteFault before now c write = absurd (write refl)
+writes_steady NoMemory before now c write = c
+writes_steady (NoForm l) before now c write = c

@@ -4,13 +4,11 @@ use Rattle.amf_wire.specs.Style.{free}
 use Rattle.amf_io.specs.declared.reason.Reason.TheVariants.{Trailing}
 use Rattle.amf_io.specs.declared.ends.ReadEnd.{ReadEnd}
 use Rattle.amf_io.specs.declared.ends.ReadEnd.TheVariants.{Refused, ReadFault, Memory}
-use Rattle.amf_io.specs.Verdict.{IsInputRefused}
 use Rattle.amf_graph.specs.Graph.{Graph}
 use Rattle.amf_graph.specs.Rooted.{RootedArena, content}
 use Rattle.amf_tables.specs.Spells3.{IsSpelling3}
 use Rattle.amf3_read.specs.Answer.{IsTaken, AnswersOf}
-use Rattle.amf_cli.specs.declared.command.Command.{Command}
-use Rattle.amf_cli.specs.Run.{most, levels, IsValue, Accepts, IsHidden}
+use Rattle.amf_cli.specs.Run.{most, levels, IsValue}
 
 -- a graph was read from nothing, by fields which are the front of what was left where the source tells
 abbrev pub IsReadOne : Type 0 → Graph → List ℕ → List ℕ → ℕ → ℕ → Type 0
@@ -26,10 +24,3 @@ AnswersEnd input rest at (Ok x) = (input ≡ []) × (rest ≡ [])
 AnswersEnd input rest at (Err (Refused f)) = (f.reason ≡ Trailing) × (f.at ≡ at) × (0 < length input)
 AnswersEnd input rest at (Err ReadFault) = rest ≡ input
 AnswersEnd input rest at (Err Memory) = ⊥
-
--- how the reader of a whole input ends, where P tells what it makes of an accepted one
-abbrev pub AnswersInput : {X : Type 0} → Command → (X → Type 0) → List ℕ → List ℕ → Result X ReadEnd → Type 0
-AnswersInput c P input rest (Ok x) = P x × (rest ≡ [])
-AnswersInput c P input rest (Err (Refused f)) = IsInputRefused (Accepts c) most input f.reason f.at
-AnswersInput c P input rest (Err ReadFault) = IsHidden c input rest
-AnswersInput c P input rest (Err Memory) = Unit {0}

@@ -1,5 +1,5 @@
 -- What a run answers: its statuses, and what they say of the input and the output.
-use Rattle.std.specs.Prelude.{◌≡◌, ℕ, zero, suc, ◌+◌, ◌≤◌, ◌⊎◌, ◌↔◌, List, [], ◌∷◌, ◌++◌, length, codes, Result, Ok, Err}
+use Rattle.std.specs.Prelude.{◌≡◌, ℕ, zero, suc, ◌≤◌, ◌⊎◌, ◌↔◌, List, [], ◌∷◌, ◌++◌, length, codes, Result, Ok, Err}
 use Rattle.amf_wire.specs.Style.{free, canonical}
 use Rattle.amf_io.specs.Outside.{Rose}
 use Rattle.amf_io.specs.Field.{Field, flat}
@@ -111,14 +111,14 @@ ReadsInput c P input rest (Err WriteFault) = ⊥
 ReadsInput c P input rest (Err NoMemory) = Unit {0}
 ReadsInput c P input rest (Err (NoForm l)) = Lacks c input l × (rest ≡ [])
 
--- a read fault is counted; without one, and with memory, the count stays
+-- a read fault is counted, and without one the count stays
 abbrev pub CountsReads : {T : Type 0} → ℕ → ℕ → Result T RunEnd → Type 0
 CountsReads before now (Ok x) = now ≡ before
 CountsReads before now (Err (Refused f)) = now ≡ before
 CountsReads before now (Err ReadFault) = (before ≤ now) × Rose before now
 CountsReads before now (Err Usage) = now ≡ before
 CountsReads before now (Err WriteFault) = now ≡ before
-CountsReads before now (Err NoMemory) = Unit {0}
+CountsReads before now (Err NoMemory) = now ≡ before
 CountsReads before now (Err (NoForm l)) = now ≡ before
 
 -- a write fault is counted, and without one the count stays
@@ -197,6 +197,8 @@ pub record IsRefusedWith (c : Command) (input : List ℕ) (told : Type 0) (held 
 pub record HasNoForm (c : Command) (input rest : List ℕ) (told : Type 0) (held now : List ℕ) : Type 0 where
   pub lack : Lack
   pub lacking : Lacks c input lack
+  -- whichever graph it is of those that the input spells
+  pub every : (g : Graph) → IsInputOf g input → IsLack3 g levels lack.node lack.kind
   pub all_read : rest ≡ []
   pub line : told → now ≡ held ++ no_form_line lack
 
@@ -204,13 +206,3 @@ pub record HasNoForm (c : Command) (input rest : List ℕ) (told : Type 0) (held
 abbrev pub Reports : ℕ → List ℕ → List ℕ → Type 0
 Reports zero held now = now ≡ held
 Reports (suc n) held now = (end : RunEnd) × (status_of end ≡ suc n) × (now ≡ held ++ line_of end)
-
--- of what was left no more was taken than the most, and one byte that shows that there is more; for want of memory nothing is said
-abbrev pub TakesWithin : {T : Type 0} → ℕ → ℕ → Result T RunEnd → Type 0
-TakesWithin before now (Ok x) = before ≤ now + (most + 1)
-TakesWithin before now (Err (Refused f)) = before ≤ now + (most + 1)
-TakesWithin before now (Err ReadFault) = before ≤ now + (most + 1)
-TakesWithin before now (Err Usage) = before ≤ now + (most + 1)
-TakesWithin before now (Err WriteFault) = before ≤ now + (most + 1)
-TakesWithin before now (Err NoMemory) = Unit {0}
-TakesWithin before now (Err (NoForm l)) = before ≤ now + (most + 1)

@@ -6,12 +6,12 @@ ghost use Rattle.amf_graph.specs.Arena.{Names};
 ghost use Rattle.amf_graph.specs.Rooted.{content};
 ghost use Rattle.amf_cli.specs.declared.command.Command.TheVariants.{Canon, Same};
 ghost use Rattle.amf_cli.specs.Reading.{AnswersOne, AnswersEnd};
-ghost use Rattle.amf_cli.specs.Run.{most, IsInputOf, ArePairIn, CountsReads, IsReadEnd, ReadsInput, TakesWithin};
+ghost use Rattle.amf_cli.specs.Run.{most, IsInputOf, ArePairIn, CountsReads, IsReadEnd, ReadsInput};
 
 use crate::run::{LEVELS, LIMIT};
 use crate::run_end::RunEnd;
 use amf_graph::{Builder, Rooted, Value};
-use amf_io::{Cursor, ReadEnd, Reason, Refusal, Source};
+use amf_io::{Cursor, ReadEnd, Reason, Refusal, Source, Window};
 use amf_tables::Tables3;
 use amf3_read::read3;
 use std::alloc::Global;
@@ -19,22 +19,24 @@ use std::alloc::Global;
 /// The graph that the input spells.
 pub fn read_graph<I: Source>(alloc: Global, input: &mut I) -> Result<Rooted, RunEnd>
     ensures reads { I.tells input.old → ReadsInput Canon (λ g. IsInputOf (content g) (I.left input.old)) (I.left input.old) (I.left input.new) result }
-    ensures taken { I.tells input.old → TakesWithin (length (I.left input.old)) (length (I.left input.new)) result }
+    ensures taken { I.tells input.old → length (I.left input.old) ≤ length (I.left input.new) + (most + 1) }
     ensures counts { CountsReads (I.faults input.old) (I.faults input.new) result }
     ensures ends { IsReadEnd result }
 {
-    let mut cursor = Cursor::new(alloc, input, LIMIT)?;
+    let window = Window::new(alloc, LIMIT)?;
+    let mut cursor = Cursor::over(input, window);
     read_whole(alloc, &mut cursor)
 }
 
 /// The two graphs that the input spells, one after the other.
 pub fn read_graphs<I: Source>(alloc: Global, input: &mut I) -> Result<(Rooted, Rooted), RunEnd>
     ensures reads { I.tells input.old → ReadsInput Same (λ p. ArePairIn (content p.0) (content p.1) (I.left input.old)) (I.left input.old) (I.left input.new) result }
-    ensures taken { I.tells input.old → TakesWithin (length (I.left input.old)) (length (I.left input.new)) result }
+    ensures taken { I.tells input.old → length (I.left input.old) ≤ length (I.left input.new) + (most + 1) }
     ensures counts { CountsReads (I.faults input.old) (I.faults input.new) result }
     ensures ends { IsReadEnd result }
 {
-    let mut cursor = Cursor::new(alloc, input, LIMIT)?;
+    let window = Window::new(alloc, LIMIT)?;
+    let mut cursor = Cursor::over(input, window);
     read_pair(alloc, &mut cursor)
 }
 

@@ -9,7 +9,7 @@ ghost use Rattle.amf_tables.specs.Lacks3.{IsLack3};
 ghost use Rattle.amf_cli.specs.declared.command.Command.{Command};
 ghost use Rattle.amf_cli.specs.declared.command.Command.TheVariants.{Canon, Same};
 ghost use Rattle.amf_cli.specs.Lines.{line_of};
-ghost use Rattle.amf_cli.specs.Run.{most, levels, Reads, HasReading, Accepts, Makes, IsConverted, IsCompared, IsInputOf, ReadsInput, CountsReads, CountsWrites, IsUntouched, IsReadEnd, IsOutputEnd, RunsTo, WritesAll, WritesSome, IsRefusedWith, IsHidden, HasNoForm, Reports, TakesWithin};
+ghost use Rattle.amf_cli.specs.Run.{most, levels, Reads, HasReading, Accepts, Makes, IsConverted, IsCompared, IsInputOf, ReadsInput, CountsReads, CountsWrites, IsUntouched, IsReadEnd, IsOutputEnd, RunsTo, WritesAll, WritesSome, IsRefusedWith, IsHidden, HasNoForm, Reports};
 
 use crate::command::Command;
 use crate::reading::{read_graph, read_graphs};
@@ -51,7 +51,10 @@ pub fn run<R, I: Source, O: Sink, E: Sink>(
     ensures done { (c : Command) → Reads words.now c → result ≡ 0 → I.tells input.old → WritesAll c (I.left input.old) (I.left input.new)
         (O.tells out.new) (O.held out.old) (O.held out.new) }
     ensures read { result ≢ 2 → HasReading words.now }
-    ensures no_fault { result ≡ 0 → (I.faults input.new ≡ I.faults input.old) × (O.faults out.new ≡ O.faults out.old) }
+
+    // But for 3 the count of the input stays, and but for 4 that of the output.
+    ensures no_read_fault { result ≢ 3 → I.faults input.new ≡ I.faults input.old }
+    ensures no_write_fault { result ≢ 4 → O.faults out.new ≡ O.faults out.old }
 
     // 1: the verdict, with its reason and place on the error line.
     ensures refused { (c : Command) → Reads words.now c → result ≡ 1 → I.tells input.old → IsRefusedWith c (I.left input.old)
@@ -71,7 +74,7 @@ pub fn run<R, I: Source, O: Sink, E: Sink>(
         → IsInputRefused (Accepts c) most (I.left input.old) reason at
         → (result ≡ 1) ⊎ (result ≡ 3) ⊎ (result ≡ 5) }
 
-    // 7 comes exactly where `canon` accepts the input and what it spells has no canonical spelling within the levels.
+    // 7 comes only where `canon` accepts the input, and each graph that it spells has this first lack.
     ensures no_form { (c : Command) → Reads words.now c → result ≡ 7 → I.tells input.old → HasNoForm c (I.left input.old) (I.left input.new)
         (E.tells err.new × Steady (E.faults err.old) (E.faults err.new)) (E.held err.old) (E.held err.new) }
     ensures alone { result ≡ 7 → Reads words.now Canon }
@@ -81,13 +84,12 @@ pub fn run<R, I: Source, O: Sink, E: Sink>(
         → (number : ℕ) (kind : LackKind) → IsLack3 g levels number kind
         → (result ≡ 3) ⊎ (result ≡ 5) ⊎ (result ≡ 7) }
 
-    // With 1, 2, 3 and 7 nothing is asked of the output, and with 2 nothing of the input.
-    ensures untouched { (result ≡ 1) ⊎ (result ≡ 2) ⊎ (result ≡ 3) ⊎ (result ≡ 7) → out.new ≡ out.old }
+    // With any other status than 0 and 4 nothing is asked of the output, and with 2 nothing of the input.
+    ensures untouched { (result ≡ 1) ⊎ (result ≡ 2) ⊎ (result ≡ 3) ⊎ (result ≡ 5) ⊎ (result ≡ 7) → out.new ≡ out.old }
     ensures unread { result ≡ 2 → input.new ≡ input.old }
 
     // No byte of the input past the most is taken but the one that shows that there is more.
-    ensures taken { result ≢ 5 → I.tells input.old
-        → length (I.left input.old) ≤ length (I.left input.new) + (most + 1) }
+    ensures taken { I.tells input.old → length (I.left input.old) ≤ length (I.left input.new) + (most + 1) }
 
     // A fault of the error line changes no status.
     ensures line { E.tells err.new → Steady (E.faults err.old) (E.faults err.new)
@@ -114,7 +116,7 @@ fn execute<I: Source, O: Sink>(
     ensures read { result ≢ Err RunEnd.Usage → HasReading words.now }
     ensures alone { (l : Lack) → result ≡ Err (RunEnd.NoForm l) → Reads words.now Canon }
     ensures unread { result ≡ Err RunEnd.Usage → input.new ≡ input.old }
-    ensures taken { I.tells input.old → TakesWithin (length (I.left input.old)) (length (I.left input.new)) result }
+    ensures taken { I.tells input.old → length (I.left input.old) ≤ length (I.left input.new) + (most + 1) }
     ensures tells { O.tells out.new → O.tells out.old }
     ensures runs { (c : Command) → Reads words.now c → I.tells input.old → RunsTo c (I.left input.old) (I.left input.new) (O.tells out.new) (O.held out.old) (O.held out.new) result }
     ensures untouched { IsUntouched out.old out.new result }
@@ -138,7 +140,7 @@ fn perform<I: Source, O: Sink>(
     ensures alone { (l : Lack) → result ≡ Err (RunEnd.NoForm l) → command ≡ Canon }
     ensures tells { O.tells out.new → O.tells out.old }
     ensures runs { I.tells input.old → RunsTo command (I.left input.old) (I.left input.new) (O.tells out.new) (O.held out.old) (O.held out.new) result }
-    ensures taken { I.tells input.old → TakesWithin (length (I.left input.old)) (length (I.left input.new)) result }
+    ensures taken { I.tells input.old → length (I.left input.old) ≤ length (I.left input.new) + (most + 1) }
     ensures untouched { IsUntouched out.old out.new result }
     ensures reads { CountsReads (I.faults input.old) (I.faults input.new) result }
     ensures writes { CountsWrites (O.faults out.old) (O.faults out.new) result }
@@ -153,7 +155,7 @@ fn perform<I: Source, O: Sink>(
 /// The output of a command.
 fn output_of<I: Source>(alloc: Global, command: Command, input: &mut I) -> Result<Vec<u8>, RunEnd>
     ensures reads { I.tells input.old → ReadsInput command (λ bytes. Makes command (I.left input.old) bytes.items) (I.left input.old) (I.left input.new) result }
-    ensures taken { I.tells input.old → TakesWithin (length (I.left input.old)) (length (I.left input.new)) result }
+    ensures taken { I.tells input.old → length (I.left input.old) ≤ length (I.left input.new) + (most + 1) }
     ensures counts { CountsReads (I.faults input.old) (I.faults input.new) result }
     ensures ends { IsOutputEnd command result }
 {
@@ -166,7 +168,7 @@ fn output_of<I: Source>(alloc: Global, command: Command, input: &mut I) -> Resul
 /// The canonical spelling of the one value that the input is.
 fn canonical_bytes<I: Source>(alloc: Global, input: &mut I) -> Result<Vec<u8>, RunEnd>
     ensures reads { I.tells input.old → ReadsInput Canon (λ bytes. IsConverted (I.left input.old) bytes.items) (I.left input.old) (I.left input.new) result }
-    ensures taken { I.tells input.old → TakesWithin (length (I.left input.old)) (length (I.left input.new)) result }
+    ensures taken { I.tells input.old → length (I.left input.old) ≤ length (I.left input.new) + (most + 1) }
     ensures counts { CountsReads (I.faults input.old) (I.faults input.new) result }
     ensures ends { IsOutputEnd Canon result }
 {
@@ -179,7 +181,7 @@ fn canonical_bytes<I: Source>(alloc: Global, input: &mut I) -> Result<Vec<u8>, R
 /// The line that says whether the two values that the input is are the same graph.
 fn comparison<I: Source>(alloc: Global, input: &mut I) -> Result<Vec<u8>, RunEnd>
     ensures reads { I.tells input.old → ReadsInput Same (λ line. IsCompared (I.left input.old) line.items) (I.left input.old) (I.left input.new) result }
-    ensures taken { I.tells input.old → TakesWithin (length (I.left input.old)) (length (I.left input.new)) result }
+    ensures taken { I.tells input.old → length (I.left input.old) ≤ length (I.left input.new) + (most + 1) }
     ensures counts { CountsReads (I.faults input.old) (I.faults input.new) result }
     ensures ends { IsReadEnd result }
 {

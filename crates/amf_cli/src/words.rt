@@ -3,7 +3,7 @@ use amf_wire::Name;
 use std::rt::Env;
 use std::{env, io};
 
-/// The words after the program's name. A list with a word that is not UTF-8 has no reading.
+/// The words after the program's name. Where a word is not UTF-8 the end is that of words without a reading.
 pub fn words_of<R: Env + AllocGlobal>(rt: &R) -> Result<Vec<Name>, RunEnd> {
     let arguments = match env::args(rt) {
         Ok(arguments) => arguments,

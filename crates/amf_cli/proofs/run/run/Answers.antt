@@ -2,7 +2,7 @@ use Rattle.std.proofs.Common.{◌≡◌, ◌⊎◌, sym, subst, ◌∙◌}
 use Rattle.amf_io.specs.Outside.{Steady}
 use Rattle.amf_cli.specs.declared.command.Command.TheVariants.{Canon}
 use Rattle.amf_cli.specs.Run.{Reports}
-use Rattle.amf_cli.proofs.Statuses.{refused_says, no_form_says, accepted_says, not_accepted_says, formed_says, lacking_says, done_not_refused, done_not_lacking, line_says, line_written, usage_status, form_status}
+use Rattle.amf_cli.proofs.Statuses.{refused_says, no_form_says, accepted_says, not_accepted_says, formed_says, lacking_says, done_not_refused, done_not_lacking, line_says, line_written, usage_status, form_status, reads_steady, writes_steady}
 use Rattle.amf_cli.proofs.run.run.Goals as goal
 
 pub returns-in-Ok-clause-not_accepted : goal.returns-in-Ok-clause-not_accepted
@@ -13,6 +13,12 @@ returns-in-Ok-clause-lacking g c = λ w told h i number kind l. absurd (done_not
 
 pub returns-in-Err-clause-read : goal.returns-in-Err-clause-read
 returns-in-Err-clause-read g c = λ two. c.in-Err.ensures.read (λ e. two (c.status.ensures ∙ usage_status c.in-Err.end e))
+
+pub returns-in-Err-clause-no_read_fault : goal.returns-in-Err-clause-no_read_fault
+returns-in-Err-clause-no_read_fault g c = λ read. reads_steady c.in-Err.end _ _ c.in-Err.ensures.reads (λ e. read (c.status.ensures ∙ e))
+
+pub returns-in-Err-clause-no_write_fault : goal.returns-in-Err-clause-no_write_fault
+returns-in-Err-clause-no_write_fault g c = λ write. writes_steady c.in-Err.end _ _ c.in-Err.ensures.writes (λ e. write (c.status.ensures ∙ e))
 
 pub returns-in-Err-clause-refused : goal.returns-in-Err-clause-refused
 returns-in-Err-clause-refused g c = λ d w one told.
