@@ -1,5 +1,5 @@
 -- A node that is given inline, by how it begins and by its values.
-use Rattle.std.proofs.Common.{◌≡◌, ℕ, Bool, false, List, [], length, set, Option, Some, None, refl, sym, ap, ◌∙◌, subst, arith, Result, Ok}
+use Rattle.std.proofs.Common.{◌≡◌, ℕ, false, List, [], length, set, None, refl, sym, ap, ◌∙◌, subst, Result, Ok}
 use Rattle.std.proofs.lemmas.List.{set-get_or}
 use Rattle.std.proofs.Math.Seq.{get_or-append_seam}
 use Rattle.amf_io.specs.declared.window.Window.{Window}
@@ -10,29 +10,21 @@ use Rattle.amf_io.specs.CursorReads.{IsPlaced, Goes, Answers, Ends}
 use Rattle.amf_io.proofs.CursorReads.{gives, then_reads, end_reads}
 use Rattle.amf_graph.specs.declared.value.Value.TheVariants as value
 use Rattle.amf_graph.specs.Arena.{Arena, StoredNode, StoredHead}
-use Rattle.amf_graph.specs.Building.{kept_node, no_stored, stored_at, shut}
+use Rattle.amf_graph.specs.Building.{no_stored, stored_at, shut}
 use Rattle.amf_tables.specs.KeptTables.{KeptTables}
-use Rattle.amf_tables.specs.Reads3.{Grows}
 use Rattle.amf_tables.specs.Layout3State.{State3, state_of, with_node, begun, takes_parts, changed}
 use Rattle.amf_tables.specs.Layout3Words as layout
 use Rattle.amf_tables.specs.Layout3.{NodeForm, ValueRead, read, opening, whole_node, items_of, pairs_if, parts, inline_node}
-use Rattle.amf_tables.proofs.Reader3Tables.{grows_itself, grows_twice, grows_node}
+use Rattle.amf_tables.proofs.Reader3Tables.{grows_twice, grows_node}
 use Rattle.amf_tables.proofs.Reader3Calls.{grows_are}
-use Rattle.amf3_read.specs.declared.opening.Parts.{Parts}
-use Rattle.amf3_read.specs.declared.opening.Parts.TheVariants.{Object}
 use Rattle.amf3_read.specs.declared.node.Begun.{Begun}
 use Rattle.amf3_read.specs.Ready.{Ready, Continues}
-use Rattle.amf3_read.specs.Filling.{Closed}
 use Rattle.amf3_read.specs.Begins.{Begins, has_parts}
 
 -- the parts of a node at a place
 abbrev pub parts_at : (State3 → Layout ValueRead) → ℕ → ℕ → layout.Opening → State3 → Layout ValueRead
 parts_at v n i o s =
     bind (pairs_if o.first v n i s) (λ u. bind (items_of o.twins v i o.count u) (λ w. bind (pairs_if o.last v n i w) (λ x. give (read (value.Node (record { 0 = i })) (changed shut i x)))))
-
--- an object that was matched twice, whose class is not dynamic
-pub not_dynamic : (p : Option Parts) (m n : ℕ) (d e : Bool) → p ≡ Some (Object m d) → p ≡ Some (Object n e) → d ≡ false → p ≡ Some (Object n false)
-not_dynamic p m n d e h k f = cc
 
 -- a closed node is as it was
 shut_same : (n : StoredNode) → n.is_open ≡ false → shut n ≡ n
@@ -70,23 +62,8 @@ module _ {S : Type 0} (tells : S → Type 0) (left : S → List ℕ) (faults : S
           nodes = is.nodes;
         }
 
-    -- one whose values were read
-    pub closed_continues : (e : Cursor S Window) (z : Arena) (w : KeptTables) → Closed x.node.0 b z w d e → Continues 1 a z w c e
-    closed_continues e z w k =
-        let o = is.opened in
-        let within : Grows (kept_node o.state.arena (begun o.head)) b = subst (λ (s : State3). Grows (kept_node o.state.arena (begun o.head)) s.arena) (sym is.state) (grows_itself (kept_node o.state.arena (begun o.head))) in
-        record {
-          built = k.built;
-          tables = k.tables;
-          placed = k.placed;
-          grows = grows_twice a o.state.arena z is.grows (k.grows o.state.arena (begun o.head) is.place within);
-          texts = let p = is.texts in let q = k.texts in omega arith;
-          traits = let p = is.traits in let q = k.traits in omega arith;
-          nodes = let p = is.nodes in let q = k.nodes in omega arith;
-        }
-
     module _ (v : State3 → Layout ValueRead) (n : ℕ) (g : Goes tells left faults c d (Ok x)) where
-      parts_are : parts_at v n x.node.0 is.opened (state_of b u) ≡ parts v n is.opened
+      pub parts_are : parts_at v n x.node.0 is.opened (state_of b u) ≡ parts v n is.opened
       parts_are = ap (λ i. parts_at v n i is.opened (state_of b u)) is.place ∙ ap (parts_at v n (length is.opened.state.arena.nodes) is.opened) is.state
 
       -- what is read of the values, by the opening

@@ -1,5 +1,5 @@
 -- A part is put into the open node, behind values that were read.
-use Rattle.std.proofs.Common.{◌≡◌, ℕ, ◌+◌, ◌≤◌, ◌<◌, true, List, [], ◌∷◌, ◌++◌, length, refl, sym, ap, ◌∙◌, arith, subst, length-append, append_assoc}
+use Rattle.std.proofs.Common.{◌≡◌, ℕ, ◌+◌, ◌≤◌, ◌<◌, true, List, [], ◌∷◌, ◌++◌, length, refl, sym, ap, ◌∙◌, arith, subst, length-append}
 use Rattle.std.proofs.lemmas.List.{append-nil, get_or-set_same, length-set}
 use Rattle.amf_graph.specs.declared.value.Value.{Value as Stored}
 use Rattle.amf_graph.specs.declared.part.Part.{Part}
@@ -34,12 +34,6 @@ pub part_more : (p : Part) (n : StoredNode) → more_part p n ≡ with_more n (p
 part_more (Item v) n = node_is n n.names (n.names ++ []) (n.values ++ v ∷ []) (n.values ++ v ∷ []) (sym (append-nil n.names)) refl
 part_more (Named x v) n = node_is n (n.names ++ (x.0, v) ∷ []) (n.names ++ (x.0, v) ∷ []) n.values (n.values ++ []) refl (sym (append-nil n.values))
 part_more (Entry k v) n = node_is n n.names (n.names ++ []) (n.values ++ k ∷ v ∷ []) (n.values ++ k ∷ v ∷ []) (sym (append-nil n.names)) refl
-
-pub nothing_more : (n : StoredNode) → n ≡ with_more n [] []
-nothing_more n = node_is n n.names (n.names ++ []) n.values (n.values ++ []) (sym (append-nil n.names)) (sym (append-nil n.values))
-
-pub more_twice : (n : StoredNode) (ns ms : List (ℕ × Stored)) (vs ws : List Stored) → with_more (with_more n ns vs) ms ws ≡ with_more n (ns ++ ms) (vs ++ ws)
-more_twice n ns ms vs ws = node_is n ((n.names ++ ns) ++ ms) (n.names ++ (ns ++ ms)) ((n.values ++ vs) ++ ws) (n.values ++ (vs ++ ws)) (append_assoc n.names ns ms) (append_assoc n.values vs ws)
 
 parts_few : (h : StoredHead) (n k : ℕ) → parts_of h (n + k) ≤ parts_of h n + k
 parts_few (xml_document x) n k = omega arith
@@ -99,7 +93,7 @@ module _ (i left : ℕ) (b b1 : Arena) (o : IsOpened b i left) (g : Grows b b1) 
     pub put_grows : (before : Arena) (n : StoredNode) → i ≡ length before.nodes → Grows (kept_node before n) b → Grows (kept_node before (with_more n (part_names p) (part_values p))) b2
     put_grows before n e w = subst (λ m. Grows (kept_node before m) b2) (part_more p n) (part_put before b1 b2 n i (more_part p) (grows_twice (kept_node before n) b b1 w g) e is)
 
-    pub put_opened : (rest : ℕ) → size_of (stored_at b2 i) + rest ≤ size_of (stored_at b i) + left → IsOpened b2 i rest
+    abbrev pub put_opened : (rest : ℕ) → size_of (stored_at b2 i) + rest ≤ size_of (stored_at b i) + left → IsOpened b2 i rest
     put_opened rest le = record {
       before = o.before;
       within = subst (λ m. Grows (kept_node o.before m) b2) (sym put_node) (put_grows o.before (stored_at b i) o.place o.within);
@@ -115,6 +109,3 @@ module _ (i left : ℕ) (b b1 : Arena) (o : IsOpened b i left) (g : Grows b b1) 
 
     pub put_nodes : length b2.nodes ≡ length b1.nodes
     put_nodes = ap (λ a. length a.nodes) is ∙ length-set b1.nodes i (more_part p (stored_at b1 i))
-
-    pub put_values : length (stored_at b2 i).values ≡ length (stored_at b i).values + length (part_values p)
-    put_values = ap (λ n. length n.values) put_node ∙ length-append (stored_at b i).values (part_values p)

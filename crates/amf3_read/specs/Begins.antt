@@ -4,7 +4,7 @@ use Rattle.amf_io.specs.declared.window.Window.{Window}
 use Rattle.amf_io.specs.declared.cursor.Cursor.{Cursor}
 use Rattle.amf_io.specs.Cursor.{source_of, place, bound, unread}
 use Rattle.amf_io.specs.LayoutAnswer.{DoneBy}
-use Rattle.amf_graph.specs.Arena.{Arena, head_content}
+use Rattle.amf_graph.specs.Arena.{Arena, IsBuilt, head_content}
 use Rattle.amf_graph.specs.Graph as graph
 use Rattle.amf_graph.specs.Building.{stored_at}
 use Rattle.amf_tables.specs.KeptTables.{KeptTables}
@@ -35,13 +35,6 @@ IsShaped (graph.values f x) (Items n) = Unit {0}
 IsShaped (graph.dictionary f) (Entries n) = Unit {0}
 IsShaped _ _ = ⊥
 
--- and so many values alone
-abbrev pub HasValues : graph.Head → ℕ → Type 0
-HasValues (graph.object t) n = (length t.sealed ≡ n) × (t.dynamic ≡ false)
-HasValues (graph.wrapper c) n = n ≡ 1
-HasValues (graph.values f x) n = Unit {0}
-HasValues _ n = ⊥
-
 -- where values are to come, the node is open, empty and of the kind that has them
 abbrev pub IsBegun : Arena → ℕ → ℕ → Option Parts → Type 0
 IsBegun a i left None = Unit {0}
@@ -55,6 +48,7 @@ pub record Begins {S : Type 0} (tells : S → Type 0) (left : S → List ℕ) (f
   pub parts : has_parts opened begun.parts
   pub is_begun : IsBegun b begun.node.0 (left_of d) begun.parts
   pub grows : Grows a opened.state.arena
+  pub built : IsBuilt opened.state.arena
   pub texts : length b.texts + left_of d ≤ length a.texts + left_of c + 1
   pub traits : length b.traits + left_of d ≤ length a.traits + left_of c + 1
   pub nodes : length b.nodes + left_of d ≤ length a.nodes + left_of c + 1

@@ -2,12 +2,15 @@ pub mod Answer
 pub mod Begins
 pub mod FieldSize
 pub mod Filling
+pub mod Slots
+pub mod Frames
 pub mod Forms
 pub mod Headers
 pub mod Opened
 pub mod OpeningItems
 pub mod OpeningNames
 pub mod OpeningShapes
+pub mod Levels
 pub mod Ready
 pub mod Steps
 pub mod TextAnswer

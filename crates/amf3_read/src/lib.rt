@@ -6,6 +6,8 @@ mod contents;
 mod ends;
 mod field;
 mod field_bytes;
+mod fill;
+mod frame;
 mod header;
 mod laws;
 mod leaf;
@@ -13,8 +15,6 @@ mod marker;
 mod node;
 mod number;
 mod opening;
-mod parts;
-mod seen;
 #[cfg(test)]
 mod tests;
 mod text;

@@ -28,7 +28,7 @@ fn read_of(
     let mut cursor = Cursor::new(alloc, &mut source, limit as u32)?;
     let mut builder = Builder::new(alloc)?;
     let mut tables = Tables3::new(alloc)?;
-    Ok(read3(alloc, &mut cursor, &mut builder, &mut tables, 2))
+    Ok(read3(alloc, &mut cursor, &mut builder, &mut tables))
 }
 
 /// The graph that these bytes are.
@@ -37,8 +37,9 @@ fn graph_of(alloc: Global, bytes: &[u8]) -> Result<Rooted, Fail> {
     let mut cursor = Cursor::new(alloc, &mut source, 1000)?;
     let mut builder = Builder::new(alloc)?;
     let mut tables = Tables3::new(alloc)?;
-    let read = read3(alloc, &mut cursor, &mut builder, &mut tables, 512);
-    let root = read.ok().ok_or("a value")?;
+    let Ok(root) = read3(alloc, &mut cursor, &mut builder, &mut tables) else {
+        return Err(Fail::from("a value"));
+    };
     let graph = builder.finish(root).ok().ok_or("no open node")?;
     Ok(graph)
 }
@@ -83,13 +84,18 @@ fn reads_the_same_in_any_pieces(rt: HostRuntime) -> Result<(), Fail> {
         (&[0x09, 0x03, 0x01, 0x09, 0x00], node),
         (&[0x11, 0x03, 0x00, 0x04, 0x01, 0x06, 0x03, 0x61], node),
         (&[0x0D, 0x03, 0x01, 0xFF, 0xFF, 0xFF, 0xFE], node),
-        // Where no level is left, nodes of the table can still be named, more than once.
+        // Nodes of the table can be named more than once.
         (
             &[
                 0x09, 0x05, 0x01, 0x0C, 0x01, 0x09, 0x07, 0x01, 0x0C, 0x02, 0x0C, 0x02, 0x09, 0x00,
             ],
             node,
         ),
+        (
+            &[0x09, 0x03, 0x01, 0x09, 0x03, 0x01, 0x09, 0x01, 0x01],
+            node,
+        ),
+        (&[0x09, 0x03, 0x01, 0x09, 0x03, 0x01, 0x0C, 0x01], node),
         (&[], refused(Reason::Truncated, 0)),
         (&[0x12], refused(Reason::BadMarker, 0)),
         (&[0x09, 0x00], refused(Reason::BadReference, 1)),
@@ -109,14 +115,6 @@ fn reads_the_same_in_any_pieces(rt: HostRuntime) -> Result<(), Fail> {
             &[0x0A, 0x07, 0x07, 0x66],
             refused(Reason::UnknownExternal, 2),
         ),
-        (
-            &[0x09, 0x03, 0x01, 0x09, 0x03, 0x01, 0x09, 0x01, 0x01],
-            refused(Reason::TooDeep, 7),
-        ),
-        (
-            &[0x09, 0x03, 0x01, 0x09, 0x03, 0x01, 0x0C, 0x01],
-            refused(Reason::TooDeep, 6),
-        ),
         (&[0x04, 0x80], refused(Reason::Truncated, 1)),
         (&[0x0D, 0x03, 0x01, 0xFF], refused(Reason::Truncated, 3)),
     ];
@@ -128,6 +126,31 @@ fn reads_the_same_in_any_pieces(rt: HostRuntime) -> Result<(), Fail> {
             let got = read_of(rt.alloc(), bytes, 20, pieces, &[])?;
             assert_eq!(rt; got, *want, "cut at {cut}: {bytes:?}");
         }
+    }
+    Ok(())
+}
+
+/// More nodes within one another than a stack of calls has room for.
+#[test]
+fn reads_very_many_nodes_within_nodes(rt: HostRuntime) -> Result<(), Fail> {
+    let alloc = rt.alloc();
+    let mut bytes = Vec::new(alloc);
+    for _ in 0..500_000_u32 {
+        bytes.extend_from_slice(&[0x09, 0x03, 0x01])?;
+    }
+    for (inside, want) in [
+        ([0x01].as_slice(), Ok(Value::Node(NodeId(0)))),
+        (&[], refused(Reason::Truncated, 1_500_000)),
+        (&[0x12], refused(Reason::BadMarker, 1_500_000)),
+    ] {
+        let mut input = bytes.clone()?;
+        input.extend_from_slice(inside)?;
+        let mut source = MemorySource::new(alloc, &input, 65536, 0, &[])?;
+        let mut cursor = Cursor::new(alloc, &mut source, 2_000_000)?;
+        let mut builder = Builder::new(alloc)?;
+        let mut tables = Tables3::new(alloc)?;
+        let read = read3(alloc, &mut cursor, &mut builder, &mut tables);
+        assert_eq!(rt; read, want);
     }
     Ok(())
 }
@@ -152,7 +175,7 @@ fn a_fault_is_no_end_of_the_input(rt: HostRuntime) -> Result<(), Fail> {
     let mut cursor = Cursor::new(alloc, &mut source, 1000)?;
     let mut builder = Builder::new(alloc)?;
     let mut tables = Tables3::new(alloc)?;
-    let read = read3(alloc, &mut cursor, &mut builder, &mut tables, 512);
+    let read = read3(alloc, &mut cursor, &mut builder, &mut tables);
     assert_eq!(rt; read, Err(ReadEnd::ReadFault));
     Ok(())
 }

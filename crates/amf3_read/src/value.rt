@@ -1,4 +1,4 @@
-ghost use Rattle.std.specs.Prelude.{ℕ, ◌-◌, ◌<◌, OnOk, IfOk};
+ghost use Rattle.std.specs.Prelude.{ℕ, ◌<◌, ◌≤◌, ◌^◌, ◌-◌, OnOk, IfOk};
 ghost use Rattle.amf_wire.specs.Integer.{IsInteger, integer_of};
 ghost use Rattle.amf_wire.specs.U29.{u29_value};
 ghost use Rattle.amf_io.specs.Field.{u29_kind, no_refusal};
@@ -6,18 +6,20 @@ ghost use Rattle.amf_io.specs.Layout.{give, want};
 ghost use Rattle.amf_io.specs.Cursor.{place};
 ghost use Rattle.amf_io.specs.CursorReads.{IsPlaced, Goes, Answers};
 ghost use Rattle.amf_tables.specs.Layout3State.{state_of};
-ghost use Rattle.amf_tables.specs.KeptTables.{AreTablesIn};
-ghost use Rattle.amf_tables.specs.Layout3.{read, value_layout, eight_layout};
+ghost use Rattle.amf_tables.specs.Layout3.{read, eight_layout};
 ghost use Rattle.amf3_read.specs.Forms.{form};
 ghost use Rattle.amf3_read.specs.Ready.{Ready, Continues, left_of};
-ghost use Rattle.amf3_read.specs.Steps.{marker_layout};
+ghost use Rattle.amf_tables.specs.KeptTables.{AreTablesIn};
 ghost use Rattle.amf3_read.specs.Answer.{HasRoomFor, Answers3, Raises};
+ghost use Rattle.amf3_read.specs.Steps.{marker_layout};
+ghost use Rattle.amf3_read.specs.Frames.{free_layout, Starts, StartHolds, Kept};
 
-use crate::ends::refused;
+use crate::ends::{kept, refused};
 use crate::field::{FieldSize, read_field};
+use crate::fill::{Step, go_on};
+use crate::frame::{Frame, Now, Slot, part_of};
 use crate::marker::Marker;
-use crate::node::read_node;
-use crate::seen::Seen;
+use crate::node::{Start, start_node};
 use crate::text::read_text;
 use amf_graph::{Builder, Value};
 use amf_io::{Cursor, ReadEnd, Reason, Source};
@@ -25,8 +27,7 @@ use amf_tables::Tables3;
 use amf_wire::{Pattern, sign29};
 use std::alloc::Global;
 
-/// Reads one value into a builder and its tables (AMF 3 specification, 3.2 to 3.16), with so many
-/// levels left for nodes within nodes.
+/// Reads one value into a builder and its tables (AMF 3 specification, 3.2 to 3.16), however many nodes are within one another.
 ///
 /// The tables are the builder's, and the bytes that the cursor's limit still allows are below 2^27 together with each of
 /// the builder's numbers of nodes, texts and traits.
@@ -39,77 +40,120 @@ pub fn read3<S: Source>(
     cursor: &mut Cursor<'_, S>,
     builder: &mut Builder,
     tables: &mut Tables3,
-    depth: u32,
 ) -> Result<Value, ReadEnd>
     requires tables { AreTablesIn builder.old tables.old }
     requires room { HasRoomFor builder.old (left_of cursor.old) }
     ensures goes { Goes S.tells S.left S.faults cursor.old cursor.new result }
-    ensures answers { Answers3 S.tells S.left depth builder.old builder.new tables.old tables.new cursor.old cursor.new result }
+    ensures answers { (levels : ℕ) → left_of cursor.old < levels → Answers3 S.tells S.left levels builder.old builder.new tables.old tables.new cursor.old cursor.new result }
     ensures tables { OnOk result (AreTablesIn builder.new tables.new) }
     ensures raises { OnOk result (Raises builder.old builder.new (place cursor.new - place cursor.old)) }
 {
     // What is true of every builder and every cursor.
     builder.is_built();
     let _start = cursor.at();
-    let mut seen = Seen::new();
-    read_value(alloc, cursor, builder, tables, &mut seen, depth)
+    read_value(alloc, cursor, builder, tables)
 }
 
-/// Reads one value.
-#[cycle(values)]
+/// Reads one value, with the nodes that are open on a stack of its own.
 pub fn read_value<S: Source>(
     alloc: Global,
     cursor: &mut Cursor<'_, S>,
     builder: &mut Builder,
     tables: &mut Tables3,
-    seen: &mut Seen,
-    depth: u32,
 ) -> Result<Value, ReadEnd>
     requires { Ready 0 builder.old tables.old cursor.old }
     ensures goes { Goes S.tells S.left S.faults cursor.old cursor.new result }
-    ensures answers { (n : ℕ) → left_of cursor.old < n → Answers S.tells S.left (λ v. read v (state_of builder.new tables.new)) (value_layout n depth (state_of builder.old tables.old)) cursor.old cursor.new result }
+    ensures answers { (n : ℕ) → left_of cursor.old < n → Answers S.tells S.left (λ v. read v (state_of builder.new tables.new)) (free_layout n (state_of builder.old tables.old)) cursor.old cursor.new result }
     ensures continues { OnOk result (Continues 0 builder.old builder.new tables.new cursor.old cursor.new) }
     ensures moves { OnOk result (place cursor.old < place cursor.new) }
 {
-    let marker = read_marker(cursor, builder, tables, seen, depth)?;
-    match marker {
-        Marker::Undefined => Ok(Value::Undefined),
-        Marker::Null => Ok(Value::Null),
-        Marker::False => Ok(Value::Bool(false)),
-        Marker::True => Ok(Value::Bool(true)),
-        Marker::Integer => Ok(Value::Integer(read_integer(cursor)?)),
-        Marker::Double => Ok(Value::Double(read_double(cursor)?)),
-        Marker::Text => Ok(Value::Text(read_text(alloc, cursor, builder, tables)?)),
-        Marker::Node(node) => read_node(alloc, cursor, builder, tables, seen, depth, node),
+    let mut frames: Vec<Frame> = Vec::new(alloc);
+    let mut now = Now::Wanted;
+    loop {
+        match now {
+            Now::Wanted => {
+                now = match start_value(alloc, cursor, builder, tables)? {
+                    Start::Value(value) => Now::Given(value),
+                    Start::Open(node, todo) => Now::Open(node, todo),
+                };
+            }
+            Now::Given(value) => {
+                let Some(frame) = frames.pop() else {
+                    return Ok(value);
+                };
+                match part_of(frame.slot, value) {
+                    None => {
+                        frames.push(Frame {
+                            node: frame.node,
+                            slot: Slot::Entry(value),
+                            todo: frame.todo,
+                        })?;
+                        now = Now::Wanted;
+                    }
+                    Some(part) => {
+                        kept(builder.put(frame.node, part))?;
+                        now = Now::Open(frame.node, frame.todo);
+                    }
+                }
+            }
+            Now::Open(node, todo) => match go_on(alloc, cursor, builder, tables, node, todo)? {
+                Step::Wait(slot, rest) => {
+                    frames.push(Frame {
+                        node,
+                        slot,
+                        todo: rest,
+                    })?;
+                    now = Now::Wanted;
+                }
+                Step::Open(rest) => now = Now::Open(node, rest),
+                Step::Closed => now = Now::Given(Value::Node(node)),
+            },
+        }
     }
 }
 
-/// Reads a marker, with so many levels left.
-fn read_marker<S: Source>(
+/// Reads the start of a value: all of it, or a node up to its first value.
+fn start_value<S: Source>(
+    alloc: Global,
     cursor: &mut Cursor<'_, S>,
-    builder: &Builder,
-    tables: &Tables3,
-    seen: &mut Seen,
-    depth: u32,
-) -> Result<Marker, ReadEnd>
-    requires { Ready 0 builder.now tables.now cursor.old }
+    builder: &mut Builder,
+    tables: &mut Tables3,
+) -> Result<Start, ReadEnd>
+    requires { Ready 0 builder.old tables.old cursor.old }
     ensures goes { Goes S.tells S.left S.faults cursor.old cursor.new result }
-    ensures answers { Answers S.tells S.left form (marker_layout depth (state_of builder.now tables.now)) cursor.old cursor.new result }
-    ensures ready { OnOk result (Ready 1 builder.now tables.now cursor.new) }
+    ensures starts { (n : ℕ) → left_of cursor.old < n → Starts S.tells S.left n (state_of builder.old tables.old) (state_of builder.new tables.new) cursor.old cursor.new result }
+    ensures kept { OnOk result (Kept 0 builder.old builder.new tables.new cursor.old cursor.new) }
+    ensures holds { IfOk result (StartHolds builder.old builder.new (left_of cursor.new)) }
     ensures moves { OnOk result (place cursor.old < place cursor.new) }
+{
+    match read_marker(cursor)? {
+        Marker::Undefined => Ok(Start::Value(Value::Undefined)),
+        Marker::Null => Ok(Start::Value(Value::Null)),
+        Marker::False => Ok(Start::Value(Value::Bool(false))),
+        Marker::True => Ok(Start::Value(Value::Bool(true))),
+        Marker::Integer => Ok(Start::Value(Value::Integer(read_integer(cursor)?))),
+        Marker::Double => Ok(Start::Value(Value::Double(read_double(cursor)?))),
+        Marker::Text => {
+            let text = read_text(alloc, cursor, builder, tables)?;
+            Ok(Start::Value(Value::Text(text)))
+        }
+        Marker::Node(node) => start_node(alloc, cursor, builder, tables, node),
+    }
+}
+
+/// Reads a marker.
+fn read_marker<S: Source>(cursor: &mut Cursor<'_, S>) -> Result<Marker, ReadEnd>
+    ensures goes { Goes S.tells S.left S.faults cursor.old cursor.new result }
+    ensures answers { Answers S.tells S.left form marker_layout cursor.old cursor.new result }
+    ensures moves { OnOk result (place cursor.old < place cursor.new) }
+    ensures placed { OnOk result (IsPlaced cursor.new) }
 {
     let start = cursor.at();
     let byte = read_field(cursor, FieldSize::Byte)?.byte();
-    let Some(marker) = Marker::from_byte(byte) else {
-        return Err(refused(Reason::BadMarker, start));
-    };
-    let Marker::Node(node) = marker else {
-        return Ok(marker);
-    };
-    if depth == 0 && !seen.has_node(builder, tables, node) {
-        return Err(refused(Reason::TooDeep, start));
+    match Marker::from_byte(byte) {
+        Some(marker) => Ok(marker),
+        None => Err(refused(Reason::BadMarker, start)),
     }
-    Ok(marker)
 }
 
 /// Reads an integer (AMF 3 specification, 3.6).
@@ -127,6 +171,7 @@ fn read_integer<S: Source>(cursor: &mut Cursor<'_, S>) -> Result<i32, ReadEnd>
 fn read_double<S: Source>(cursor: &mut Cursor<'_, S>) -> Result<Pattern, ReadEnd>
     ensures goes { Goes S.tells S.left S.faults cursor.old cursor.new result }
     ensures answers { Answers S.tells S.left (λ p. p.0) eight_layout cursor.old cursor.new result }
+    ensures own { IfOk result (λ p. p.0 < 2 ^ 64) }
     ensures placed { OnOk result (IsPlaced cursor.new) }
 {
     let field = read_field(cursor, FieldSize::Eight)?;
