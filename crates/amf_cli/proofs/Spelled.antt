@@ -32,22 +32,23 @@ use Rattle.amf_tables.proofs.Layout3Complete.{spelled_read}
 use Rattle.amf_tables.proofs.Values3Layout.{values3_is_layout}
 use Rattle.amf_cli.specs.declared.command.Command.{Command}
 use Rattle.amf_cli.specs.declared.command.Command.TheVariants.{Canon, Same}
+use Rattle.amf3_read.specs.Levels.{enough_levels}
 use Rattle.amf3_read.specs.Pairs.{Pair}
 use Rattle.amf3_read.proofs.PairLayouts.{pair_layout, pairs_are_layouts}
 use Rattle.amf_cli.specs.Run.{most, levels, IsValue, Accepts, IsInputOf, ArePairIn, IsCanonicalOf, IsConverted, Says, Makes, Decides, Lacks}
 
 abbrev pub layouts : ℕ → Layout ValueRead
-layouts n = value_layout n levels no_state
+layouts n = value_layout n enough_levels no_state
 
 abbrev pairs : ℕ → Layout ValueRead
-pairs = pair_layout levels
+pairs = pair_layout enough_levels
 
 pairs_are_layout : IsLayout (2 ^ 28) pairs (Pair IsValue)
-pairs_are_layout = pairs_are_layouts levels
+pairs_are_layout = pairs_are_layouts enough_levels
 
 -- an input has one verdict
 pub once : (c : Command) (input : List ℕ) → IsInputAccepted (Accepts c) most input → (reason : Reason) (at : ℕ) → IsInputRefused (Accepts c) most input reason at → ⊥
-once Canon input = (judged_once (2 ^ 28) layouts IsValue (values3_is_layout levels) most input).not_both
+once Canon input = (judged_once (2 ^ 28) layouts IsValue (values3_is_layout enough_levels) most input).not_both
 once Same input = (judged_once (2 ^ 28) pairs (Pair IsValue) pairs_are_layout most input).not_both
 
 -- an input within the most that is read to its end is not refused
@@ -81,8 +82,8 @@ module _ (t : ℕ → Layout ValueRead) (P : List Field → Type 0) (g : IsLayou
   whole_not_refused reason at (trailing why rest some a) = let none : length rest ≡ 0 = ap length (none_behind rest at a) in absurd (omega arith)
 
 -- the fields of a graph are read
-found : (g : Graph) (fs : List Field) (m : ℕ) (s : IsSpelling3 levels free g fs) → length (flat fs) < m → Found g (value_layout m levels) no_state fs s.0
-found g fs m s lt = spelled_read g m levels g.root no_tables fs s.0 no_state (record { words = refl; marks = refl }) lt s.1
+found : (g : Graph) (fs : List Field) (m : ℕ) (s : IsSpelling3 enough_levels free g fs) → length (flat fs) < m → Found g (value_layout m enough_levels) no_state fs s.0
+found g fs m s lt = spelled_read g m enough_levels g.root no_tables fs s.0 no_state (record { words = refl; marks = refl }) lt s.1
 
 -- what spells a graph is read to its end
 spelled_done : (g : Graph) (input : List ℕ) → IsInputOf g input → (m : ℕ) → length input < m → (x : ValueRead) × (run (layouts m) 0 input ≡ Done x (length input) [])
@@ -108,7 +109,7 @@ pair_done g h input p m lt =
 
 -- what spells a graph is not refused
 pub never_refused : (g : Graph) (input : List ℕ) (reason : Reason) (at : ℕ) → IsInputOf g input → IsInputRefused IsValue most input reason at → ⊥
-never_refused g input reason at i q = whole_not_refused layouts IsValue (values3_is_layout levels) input i.within (spelled_done g input i) reason at q
+never_refused g input reason at i q = whole_not_refused layouts IsValue (values3_is_layout enough_levels) input i.within (spelled_done g input i) reason at q
 
 pair_never_refused : (g h : Graph) (input : List ℕ) (reason : Reason) (at : ℕ) → ArePairIn g h input → IsInputRefused (Pair IsValue) most input reason at → ⊥
 pair_never_refused g h input reason at p q = whole_not_refused pairs (Pair IsValue) pairs_are_layout input p.within (pair_done g h input p) reason at q
@@ -130,7 +131,7 @@ carried g h bytes i (fs, p, e) =
     (k.0, (o.0, k.1), e ∙ k.2)
 
 spells_free : (g : Graph) (input : List ℕ) → IsInputOf g input → Spelled3 free g input
-spells_free g input i = (levels, i.fields, i.spelled, i.parts)
+spells_free g input i = (enough_levels, i.fields, i.spelled, i.parts)
 
 -- where an input is converted, no graph that it spells lacks a spelling
 pub never_both : (g : Graph) (input bytes : List ℕ) (number : ℕ) (kind : LackKind) → IsConverted input bytes → IsInputOf g input → IsLack3 g levels number kind → ⊥
@@ -166,8 +167,8 @@ cut_alike g h f e input p q =
     let n : length (flat q.front) ≡ length (flat p.front) = omega arith in
     let front : flat p.front ≡ flat q.front = sym (take_at (flat p.front) (flat p.back) (length (flat p.front)) refl) ∙ ap (take (length (flat p.front))) (sym p.parts ∙ q.parts) ∙ take_at (flat q.front) (flat q.back) (length (flat p.front)) n in
     record {
-      left = same_bytes_isomorphic g f (flat p.front) (levels, p.front, p.first, refl) (levels, q.front, q.first, front);
-      right = same_bytes_isomorphic h e (flat p.back) (levels, p.back, p.second, refl) (levels, q.back, q.second, back);
+      left = same_bytes_isomorphic g f (flat p.front) (enough_levels, p.front, p.first, refl) (enough_levels, q.front, q.first, front);
+      right = same_bytes_isomorphic h e (flat p.back) (enough_levels, p.back, p.second, refl) (enough_levels, q.back, q.second, back);
     }
 
 said : (P Q : Type 0) (line : List ℕ) → (P → Q) → (Q → P) → Says P line → Says Q line

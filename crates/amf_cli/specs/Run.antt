@@ -11,6 +11,7 @@ use Rattle.amf_graph.specs.Isomorphic.{Isomorphic}
 use Rattle.amf_tables.specs.Lacks3.{IsLack3}
 use Rattle.amf_tables.specs.Reads3.{IsValue3}
 use Rattle.amf_tables.specs.Spells3.{IsSpelling3, Spelled3}
+use Rattle.amf3_read.specs.Levels.{enough_levels}
 use Rattle.amf3_read.specs.Pairs.{Pair}
 use Rattle.amf_cli.specs.declared.command.Command.{Command}
 use Rattle.amf_cli.specs.declared.command.Command.TheVariants.{Canon, Same}
@@ -31,13 +32,13 @@ Reads words Same = words ≡ codes "same" ∷ []
 abbrev pub HasReading : List (List ℕ) → Type 0
 HasReading words = (c : Command) × Reads words c
 
--- the most nodes within one another
+-- the most nodes within one another in an output
 abbrev pub levels : ℕ
 levels = 512
 
--- the lists of fields that are accepted: those of one value
+-- the lists of fields that are accepted: those of one value, however many of its nodes are within one another
 abbrev pub IsValue : List Field → Type 0
-IsValue = IsValue3 levels
+IsValue = IsValue3 enough_levels
 
 -- the lists of fields that a command accepts: `same` takes two values
 abbrev pub Accepts : Command → List Field → Type 0
@@ -47,7 +48,7 @@ Accepts Same = Pair IsValue
 -- the whole input is one spelling of the graph
 pub record IsInputOf (g : Graph) (input : List ℕ) : Type 0 where
   pub fields : List Field
-  pub spelled : IsSpelling3 levels free g fields
+  pub spelled : IsSpelling3 enough_levels free g fields
   pub parts : input ≡ flat fields
   pub within : length input ≤ most
 
@@ -55,12 +56,12 @@ pub record IsInputOf (g : Graph) (input : List ℕ) : Type 0 where
 pub record ArePairIn (g h : Graph) (input : List ℕ) : Type 0 where
   pub front : List Field
   pub back : List Field
-  pub first : IsSpelling3 levels free g front
-  pub second : IsSpelling3 levels free h back
+  pub first : IsSpelling3 enough_levels free g front
+  pub second : IsSpelling3 enough_levels free h back
   pub parts : input ≡ flat front ++ flat back
   pub within : length input ≤ most
 
--- the bytes are the canonical spelling of the graph, in as many levels
+-- the bytes are the canonical spelling of the graph, in those levels
 abbrev pub IsCanonicalOf : Graph → List ℕ → Type 0
 IsCanonicalOf g bytes = (fields : List Field) × IsSpelling3 levels canonical g fields × (bytes ≡ flat fields)
 

@@ -5,6 +5,15 @@ use amf_wire::{U29, is_amf_text, write_u29};
 use std::alloc::{AllocError, Global};
 use std::test::Fail;
 
+/// An input that is accepted, and whose canonical spelling has more than 512 nodes within one another.
+const DEEP: Case = Case {
+    command: "canon",
+    input: b"",
+    status: 7,
+    output: b"",
+    line: b"amf: no form TooDeep node 512 value 0\n",
+};
+
 /// So many arrays within one another, and what the innermost holds.
 fn nested(alloc: Global, levels: usize, inside: &[u8]) -> Result<Vec<u8>, AllocError> {
     let mut bytes = Vec::new(alloc);
@@ -25,16 +34,44 @@ fn nodes_within_nodes(rt: HostRuntime) -> Result<(), Fail> {
             assert_eq!(rt; ran.status, 0);
             assert_eq!(rt; ran.output.as_bytes(), input.as_slice());
         }
-        let deep = refused(b"", b"amf: refused TooDeep at 1537\n");
-        check(&rt, alloc, &nested(alloc, 513, b"\x01")?, pieces, &deep);
-        let other = refused(b"", b"amf: refused TooDeep at 1536\n");
+        check(&rt, alloc, &nested(alloc, 513, b"\x01")?, pieces, &DEEP);
         check(
             &rt,
             alloc,
             &nested(alloc, 512, b"\x0C\x03\xFF")?,
             pieces,
-            &other,
+            &DEEP,
         );
+    }
+    Ok(())
+}
+
+/// More nodes within one another than a stack of calls has room for.
+#[test]
+fn very_many_nodes_within_nodes(rt: HostRuntime) -> Result<(), Fail> {
+    let alloc = rt.alloc();
+    let pieces = (1 << 16, 0);
+    let levels = 500_000;
+    check(&rt, alloc, &nested(alloc, levels, b"\x01")?, pieces, &DEEP);
+    let cut = refused(b"", b"amf: refused Truncated at 1500000\n");
+    check(&rt, alloc, &nested(alloc, levels, b"")?, pieces, &cut);
+    let past = refused(b"", b"amf: refused BadReference at 1500001\n");
+    check(
+        &rt,
+        alloc,
+        &nested(alloc, levels, b"\x09\x88\x00")?,
+        pieces,
+        &past,
+    );
+    for (last, output) in [
+        (b"\x01".as_slice(), b"same\n".as_slice()),
+        (b"\x02", b"different\n"),
+    ] {
+        let mut input = nested(alloc, levels, b"\x01")?;
+        input.extend_from_slice(&nested(alloc, levels, last)?)?;
+        let ran = run_over(&rt, alloc, &["same"], &input, pieces, &[], &[]);
+        assert_eq!(rt; ran.status, 0);
+        assert_eq!(rt; ran.output.as_bytes(), output);
     }
     Ok(())
 }
@@ -66,17 +103,10 @@ fn chain(alloc: Global, header: &[u8]) -> Result<Vec<u8>, AllocError> {
 
 #[test]
 fn graphs_without_a_form(rt: HostRuntime) -> Result<(), Fail> {
-    let want = Case {
-        command: "canon",
-        input: b"",
-        status: 7,
-        output: b"",
-        line: b"amf: no form TooDeep node 512 value 0\n",
-    };
     for header in [b"\x0A\x0B\x01".as_slice(), b"\x09\x01"] {
         let input = chain(rt.alloc(), header)?;
         for pieces in [(10_000, 0), (1, 0)] {
-            check(&rt, rt.alloc(), &input, pieces, &want);
+            check(&rt, rt.alloc(), &input, pieces, &DEEP);
         }
     }
     Ok(())

@@ -8,7 +8,7 @@ ghost use Rattle.amf_cli.specs.declared.command.Command.TheVariants.{Canon, Same
 ghost use Rattle.amf_cli.specs.Reading.{AnswersOne, AnswersEnd};
 ghost use Rattle.amf_cli.specs.Run.{most, IsInputOf, ArePairIn, CountsReads, IsReadEnd, ReadsInput};
 
-use crate::run::{LEVELS, LIMIT};
+use crate::run::LIMIT;
 use crate::run_end::RunEnd;
 use amf_graph::{Builder, Rooted, Value};
 use amf_io::{Cursor, ReadEnd, Reason, Refusal, Source, Window};
@@ -82,7 +82,7 @@ fn read_one<S: Source>(alloc: Global, cursor: &mut Cursor<'_, S>) -> Result<Root
 {
     let mut builder = Builder::new(alloc)?;
     let mut tables = Tables3::new(alloc)?;
-    let root = read3(alloc, cursor, &mut builder, &mut tables, LEVELS)?;
+    let root = read3(alloc, cursor, &mut builder, &mut tables)?;
     Ok(whole(builder, root))
 }
 

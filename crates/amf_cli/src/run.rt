@@ -25,9 +25,6 @@ use std::alloc::Global;
 /// The most bytes of an input: 16 MiB.
 pub const LIMIT: u32 = 16_777_216;
 
-/// The most nodes that may stand within one another, in an input and in an output.
-pub const LEVELS: u32 = 512;
-
 /// Does what the words say, and gives the status of the program.
 ///
 /// `words` are those after the program's name, and two lists of words have a reading. With the one word `canon`
