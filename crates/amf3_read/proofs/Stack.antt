@@ -36,7 +36,7 @@ use Rattle.amf3_read.specs.declared.fill.Step.TheVariants as step
 use Rattle.amf3_read.specs.Slots.{IsPart}
 use Rattle.amf3_read.specs.Filling.{with_more, IsOpened}
 use Rattle.amf3_read.specs.Ready.{Ready, Continues, left_of}
-use Rattle.amf3_read.specs.Frames.{free_layout, todo, resume, Fuel, rest, Enough, Fueled, LacksItems, Suits, WaitsFor, SlotNames, spare, Nested, IsAt, Kept, Starts, StartHolds, GoesOn, StepHolds, StackSo}
+use Rattle.amf3_read.specs.Frames.{free_layout, todo, resume, Fuel, rest, Enough, HaveFuel, LacksItems, Suits, WaitsFor, SlotNames, spare, Nested, IsAt, Kept, Starts, StartHolds, GoesOn, StepHolds, StackSo}
 use Rattle.amf3_read.proofs.LayoutBinds.{bind_give, bind_bind}
 use Rattle.amf3_read.proofs.PartPut.{part_names, part_values, more_size, there, stays, still_open, same_head, put_node, put_built, put_tables, put_opened, put_head, put_nodes}
 
@@ -85,7 +85,7 @@ nested_grows a left (f ∷ fs) b b1 k g h =
       suits = subst (λ x. WaitsFor x (stored_at b1 i) f.slot f.todo) (sym (same_head i l b b1 o g k)) (subst (λ m. WaitsFor (head_content b (stored_at b i).head) m f.slot f.todo) (sym (stays i l b b1 o g)) h.suits);
     }
 
-fueled_less : (left more : ℕ) (us : List Fuel) (fs : List Frame) → left ≤ more → Fueled more us fs → Fueled left us fs
+fueled_less : (left more : ℕ) (us : List Fuel) (fs : List Frame) → left ≤ more → HaveFuel more us fs → HaveFuel left us fs
 fueled_less left more us [] le h = tt
 fueled_less left more [] (f ∷ fs) le h = h
 fueled_less left more (u ∷ us) (f ∷ fs) le h = ((let x = h.0.0 in omega arith, let y = h.0.1 in omega arith), fueled_less left more us fs le h.1)
@@ -442,7 +442,7 @@ module _ {S : Type 0} (tells : S → Type 0) (left : S → List ℕ) (faults : S
         waits (Object n x) h = absurd h
         waits (Items n) h = absurd h
 
-        by : (n : ℕ) (us : List Fuel) → Fueled (left_of d) us (record { node = i; slot = slot.Key; todo = q } ∷ fs) → Leads tells left (free_layout n (state_of a t)) (rest us (record { node = i; slot = slot.Key; todo = q } ∷ fs) (read v (state_of b u))) c d
+        by : (n : ℕ) (us : List Fuel) → HaveFuel (left_of d) us (record { node = i; slot = slot.Key; todo = q } ∷ fs) → Leads tells left (free_layout n (state_of a t)) (rest us (record { node = i; slot = slot.Key; todo = q } ∷ fs) (read v (state_of b u))) c d
             → IsAt tells left n (state_of a t) now.Wanted (record { node = i; slot = slot.Entry v; todo = q } ∷ fs) (state_of b u) c d
         by n [] h l = absurd h
         by n (f ∷ us) h l = record {
@@ -503,7 +503,7 @@ module _ {S : Type 0} (tells : S → Type 0) (left : S → List ℕ) (faults : S
           state_is : (x : Slot) → IsPart x v (Some p) → (w : State3 → Layout ValueRead) (m : ℕ) → resume w m f.node.0 x f.todo (read v (state_of b u)) ≡ todo w m f.node.0 f.todo (state_of b2 u)
           state_is x h w m = resumed b u v p b2 f.node.0 f.todo e x h w m
 
-          by : (n : ℕ) (us : List Fuel) → Fueled (left_of d) us (f ∷ fs) → Leads tells left (free_layout n (state_of a t)) (rest us (f ∷ fs) (read v (state_of b u))) c d → IsAt tells left n (state_of a t) (now.Open f.node f.todo) fs (state_of b2 u) c d
+          by : (n : ℕ) (us : List Fuel) → HaveFuel (left_of d) us (f ∷ fs) → Leads tells left (free_layout n (state_of a t)) (rest us (f ∷ fs) (read v (state_of b u))) c d → IsAt tells left n (state_of a t) (now.Open f.node f.todo) fs (state_of b2 u) c d
           by n [] h l = absurd h
           by n (z ∷ us) h l = record {
             fuel = z;

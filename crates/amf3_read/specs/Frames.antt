@@ -34,7 +34,7 @@ use Rattle.amf3_read.specs.Ready.{Ready, left_of}
 
 -- Layouts.
 
--- one value, with fuel; in no number of levels
+-- one value, with fuel, where no level is lacking
 abbrev pub free_layout : ℕ → State3 → Layout ValueRead
 free_layout zero s = stuck
 free_layout (suc n) s = want (marker_kind 1 s.marks) (λ b. behind_marker (free_layout n) n 1 s (form_of (slice_index b 0)))
@@ -77,10 +77,10 @@ current u (now.Open node p) s = todo (free_layout u.values) u.pairs node.0 p s
 abbrev pub Enough : ℕ → Fuel → Type 0
 Enough left u = (left < u.values) × (left < u.pairs)
 
-abbrev pub Fueled : ℕ → List Fuel → List Frame → Type 0
-Fueled left us [] = Unit {0}
-Fueled left [] (f ∷ fs) = ⊥
-Fueled left (u ∷ us) (f ∷ fs) = Enough left u × Fueled left us fs
+abbrev pub HaveFuel : ℕ → List Fuel → List Frame → Type 0
+HaveFuel left us [] = Unit {0}
+HaveFuel left [] (f ∷ fs) = ⊥
+HaveFuel left (u ∷ us) (f ∷ fs) = Enough left u × HaveFuel left us fs
 
 -- What holds of the arena.
 
@@ -153,7 +153,7 @@ pub record IsAt {S : Type 0} (tells : S → Type 0) (left : S → List ℕ) (n :
   pub fuel : Fuel
   pub fuels : List Fuel
   pub enough : Enough (left_of d) fuel
-  pub fueled : Fueled (left_of d) fuels fs
+  pub fueled : HaveFuel (left_of d) fuels fs
   pub leads : Leads tells left (free_layout n s) (bind (current fuel now z) (rest fuels fs)) c d
 
 -- How a value begins.
@@ -192,14 +192,14 @@ StartHolds a b left (start.Open node p) = OpenedFrom a b left node.0 p
 
 -- How an open node goes on.
 
-pub record Fuelled {S : Type 0} (tells : S → Type 0) (left : S → List ℕ) (t : Layout ValueRead) (u : ℕ → Layout ValueRead) (c d : Cursor S Window) : Type 0 where
+pub record LeadsWithFuel {S : Type 0} (tells : S → Type 0) (left : S → List ℕ) (t : Layout ValueRead) (u : ℕ → Layout ValueRead) (c d : Cursor S Window) : Type 0 where
   pub fuel : ℕ
   pub enough : left_of d < fuel
   pub leads : Leads tells left t (u fuel) c d
 
 abbrev pub GoesOn : {S : Type 0} → (S → Type 0) → (S → List ℕ) → (State3 → Layout ValueRead) → ℕ → ℕ → Parts → State3 → State3 → Cursor S Window → Cursor S Window → Result Step ReadEnd → Type 0
-GoesOn tells left v m i p s z c d (Ok (step.Wait x q)) = Fuelled tells left (todo v m i p s) (λ k. bind (v z) (resume v k i x q)) c d
-GoesOn tells left v m i p s z c d (Ok (step.Open q)) = Fuelled tells left (todo v m i p s) (λ k. todo v k i q z) c d
+GoesOn tells left v m i p s z c d (Ok (step.Wait x q)) = LeadsWithFuel tells left (todo v m i p s) (λ k. bind (v z) (resume v k i x q)) c d
+GoesOn tells left v m i p s z c d (Ok (step.Open q)) = LeadsWithFuel tells left (todo v m i p s) (λ k. todo v k i q z) c d
 GoesOn tells left v m i p s z c d (Ok step.Closed) = Leads tells left (todo v m i p s) (give (read (value.Node (record { 0 = i })) z)) c d
 GoesOn tells left v m i p s z c d (Err e) = Ends tells left (todo v m i p s) c d e
 

@@ -59,7 +59,7 @@ fn very_many_nodes_within_nodes(rt: HostRuntime) -> Result<(), Fail> {
     check(
         &rt,
         alloc,
-        &nested(alloc, levels, b"\x09\x88\x00")?,
+        &nested(alloc, levels, b"\x09\xBD\x84\x40")?,
         pieces,
         &past,
     );
