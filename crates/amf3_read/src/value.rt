@@ -55,7 +55,7 @@ pub fn read3<S: Source>(
 }
 
 /// Reads one value, with the nodes that are open on a stack of its own.
-pub fn read_value<S: Source>(
+fn read_value<S: Source>(
     alloc: Global,
     cursor: &mut Cursor<'_, S>,
     builder: &mut Builder,
