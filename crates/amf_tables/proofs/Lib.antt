@@ -43,7 +43,8 @@ pub mod Layout3SoundNodes
 pub mod Layout3SoundInline
 pub mod Layout3Sound
 pub mod Layout3Reads
-pub mod FirstPlaces
+pub mod HashedPlaces
+pub mod NodePlaces
 pub mod ShownTexts
 pub mod Layout3Filled
 pub mod Layout3Format

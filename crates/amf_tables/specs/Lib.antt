@@ -6,6 +6,9 @@ pub mod Then
 pub mod Refusals3
 pub mod Words3
 pub mod FirstPlace
+pub mod ContentHash
+pub mod HashedPlaces
+pub mod NodePlaces
 pub mod WrittenParts
 pub mod ShownTraits
 pub mod Parts3

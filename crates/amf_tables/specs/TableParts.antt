@@ -28,9 +28,9 @@ abbrev pub kept_tables : List TextId → List KeptEntry → List NodeId → Kept
 kept_tables texts traits nodes = record { texts = map text_number texts; traits = traits; nodes = map node_number nodes }
 
 -- a writer's tables: AMF 3 can name each node that was spelled
-abbrev pub written_tables : List (List ℕ) → List Entry → List NodeId → Tables
+abbrev pub written_tables : List (List ℕ) → List Entry → List ℕ → Tables
 written_tables texts traits nodes = record {
   words = record { texts = texts; traits = traits };
-  nodes = map node_number nodes;
-  done = map node_number nodes;
+  nodes = nodes;
+  done = nodes;
 }

@@ -2,11 +2,16 @@
 //! tables of readers and writers.
 #![tactic(auto)]
 
+mod content_hash;
 mod facts;
+mod first_places;
 mod laws;
 mod layout_laws;
+mod node_table;
 mod tables3;
+mod text_table;
 mod traits_entry;
+mod traits_table;
 mod verdict_laws;
 mod writer_tables;
 mod written_entry;

@@ -1,22 +1,18 @@
-ghost use Rattle.std.specs.Prelude.{◌≡◌, ◌<◌, ◌≤◌, ◌↔◌, length, map, IsOk, IfOk, IfNone, IfSome, OnOk, OnErr};
+ghost use Rattle.std.specs.Prelude.{◌≡◌, ◌<◌, ◌≤◌, length, map, IfOk, IfNone, IfSome, OnOk, OnErr};
 ghost use Rattle.amf_graph.specs.Order.{Absent};
 ghost use Rattle.amf_tables.specs.FirstPlace.{IsFirstPlace};
 ghost use Rattle.amf_tables.specs.ShownTraits.{AreTraitsOf, shown_entry};
 ghost use Rattle.amf_tables.specs.Tables.{no_tables, with_words, external};
 ghost use Rattle.amf_tables.specs.Tables.{add_text, add_entry, add_node};
 
-use crate::written_entry::WrittenEntry;
-use crate::written_texts::is_text;
+use crate::node_table::{MAX_NODES, NodeTable};
+use crate::text_table::TextTable;
+use crate::traits_table::TraitsTable;
 use amf_graph::{NodeId, Rooted, TraitsView, Wrapped};
-use amf_wire::{Memory, Name};
+use amf_wire::Memory;
 use std::alloc::Global;
+use std::hash::{BuildHasher, DefaultHasher, RandomState};
 use std::marker::Model;
-
-/// A table has at most this many entries, so that each has a place that is a `u32`.
-const MAX_ENTRIES: usize = 4_294_967_296;
-
-/// The table of nodes has at most this many, so that a header can name each of them (1.3.1).
-const MAX_NODES: usize = 268_435_456;
 
 /// The reference tables of a writer of AMF 3 (2.2): what has been written inline, so that an index
 /// can name it.
@@ -25,45 +21,19 @@ const MAX_NODES: usize = 268_435_456;
 /// as is what there is no memory for.
 #[derive(Drop)]
 pub struct WriterTables {
-    alloc: Global,
-    texts: Vec<Name>,
-    traits: Vec<WrittenEntry>,
-    nodes: Vec<NodeId>,
+    texts: TextTable,
+    traits: TraitsTable,
+    nodes: NodeTable,
 }
 
 impl Model for WriterTables {
-    ghost use Rattle.std.specs.Prelude.{◌≤◌, vec_len};
     ghost use Rattle.amf_tables.specs.Tables.{Tables};
-    ghost use Rattle.amf_tables.specs.declared.writer_tables.TheConstants.{MAX_ENTRIES, MAX_NODES};
 
     ghost Value = { Tables };
 
     ghost use Rattle.amf_tables.specs.TableParts.{written_tables};
 
-    ghost view = { λ t. written_tables t.texts.items t.traits.items t.nodes.items };
-
-    ghost invariant = { λ t. (vec_len t.texts ≤ MAX_ENTRIES) × (vec_len t.traits ≤ MAX_ENTRIES)
-        × (vec_len t.nodes ≤ MAX_NODES) };
-}
-
-/// Refuses one more entry in a table that is full.
-fn check_room(entries: usize) -> Result<(), Memory>
-    ensures { IsOk result ↔ (entries < MAX_ENTRIES) }
-{
-    if entries < MAX_ENTRIES {
-        Ok(())
-    } else {
-        Err(Memory)
-    }
-}
-
-/// The first place of a node among these.
-fn first_of_id(nodes: &[NodeId], node: NodeId) -> Option<usize>
-    ensures first { IfSome result (IsFirstPlace nodes.now node) }
-    ensures within { IfSome result (λ place. place < length nodes.now) }
-    ensures none { IfNone result (Absent nodes.now node) }
-{
-    nodes.iter().position(|id| *id == node)
+    ghost view = { λ t. written_tables t.texts t.traits t.nodes };
 }
 
 impl WriterTables {
@@ -71,12 +41,24 @@ impl WriterTables {
     pub fn new(alloc: Global) -> Result<WriterTables, Memory>
         ensures { IfOk result (λ tables. tables ≡ no_tables) }
     {
-        Ok(WriterTables {
-            alloc,
-            texts: Vec::new(alloc),
-            traits: Vec::new(alloc),
-            nodes: Vec::new(alloc),
-        })
+        Ok(WriterTables::hashed(alloc, DefaultHasher::new()))
+    }
+
+    /// Tables without entries, whose hashes go by keys that the maker of an input does not know.
+    pub fn keyed(alloc: Global, keys: RandomState) -> WriterTables
+        ensures { result ≡ no_tables }
+    {
+        WriterTables::hashed(alloc, keys.build_hasher())
+    }
+
+    fn hashed(alloc: Global, start: DefaultHasher) -> WriterTables
+        ensures { result ≡ no_tables }
+    {
+        WriterTables {
+            texts: TextTable::new(alloc, start),
+            traits: TraitsTable::new(alloc, start),
+            nodes: NodeTable::new(alloc),
+        }
     }
 
     /// What is true of all such tables: each node that was entered can be named. It does nothing.
@@ -91,14 +73,14 @@ impl WriterTables {
         ensures count { result ≡ length self.now.nodes }
         ensures within { result ≤ MAX_NODES }
     {
-        self.nodes.len() as u32
+        self.nodes.count()
     }
 
     /// The nodes that have been entered, in the order of their places.
     pub fn nodes(&self) -> &[NodeId]
         ensures { map (λ node. node.0) result.now ≡ self.now.nodes }
     {
-        &self.nodes
+        self.nodes.as_slice()
     }
 
     /// The first place of a text: `None` exactly where it has none. It takes no memory.
@@ -106,8 +88,7 @@ impl WriterTables {
         ensures first { IfSome result (IsFirstPlace self.now.words.texts bytes.now) }
         ensures none { IfNone result (Absent self.now.words.texts bytes.now) }
     {
-        let place = self.texts.iter().position(|text| is_text(text, bytes))?;
-        Some(place as u32)
+        self.texts.place_of(bytes)
     }
 
     /// The first place of a node: `None` exactly where it has none. It takes no memory.
@@ -116,8 +97,7 @@ impl WriterTables {
         ensures within { IfSome result (λ place. place < MAX_NODES) }
         ensures none { IfNone result (Absent self.now.nodes node.0) }
     {
-        let place = first_of_id(&self.nodes, node)?;
-        Some(place as u32)
+        self.nodes.place_of(node)
     }
 
     /// The first place of traits of a class that is not externalizable, as a graph shows them: `None`
@@ -128,11 +108,7 @@ impl WriterTables {
             (IsFirstPlace self.now.words.traits (shown_entry graph.now.arena traits.now)) }
         ensures none { IfNone result (Absent self.now.words.traits (shown_entry graph.now.arena traits.now)) }
     {
-        let place = self
-            .traits
-            .iter()
-            .position(|entry| entry.is_plain(traits, graph))?;
-        Some(place as u32)
+        self.traits.place_of(traits, graph)
     }
 
     /// The first place of an externalizable class: `None` exactly where it has none. It takes no
@@ -141,11 +117,7 @@ impl WriterTables {
         ensures first { IfSome result (IsFirstPlace self.now.words.traits (external class)) }
         ensures none { IfNone result (Absent self.now.words.traits (external class)) }
     {
-        let place = self
-            .traits
-            .iter()
-            .position(|entry| entry.is_external(class))?;
-        Some(place as u32)
+        self.traits.place_of_wrapped(class)
     }
 
     /// Enters a text. After an error nothing has changed.
@@ -153,10 +125,7 @@ impl WriterTables {
         ensures ok { OnOk result (self.new ≡ with_words self.old (add_text self.old.words bytes.now)) }
         ensures err { OnErr result (self.new ≡ self.old) }
     {
-        check_room(self.texts.len())?;
-        let text = Name::of_bytes(self.alloc, bytes)?;
-        self.texts.push(text)?;
-        Ok(())
+        self.texts.push(bytes)
     }
 
     /// Enters a node. After an error nothing has changed.
@@ -164,11 +133,7 @@ impl WriterTables {
         ensures ok { OnOk result (self.new ≡ add_node self.old node.0) }
         ensures err { OnErr result (self.new ≡ self.old) }
     {
-        if self.nodes.len() >= MAX_NODES {
-            return Err(Memory);
-        }
-        self.nodes.push(node)?;
-        Ok(())
+        self.nodes.push(node)
     }
 
     /// Enters traits of a class that is not externalizable, as a graph shows them. After an error
@@ -180,10 +145,7 @@ impl WriterTables {
             (add_entry self.old.words (shown_entry graph.now.arena traits.now))) }
         ensures err { OnErr result (self.new ≡ self.old) }
     {
-        check_room(self.traits.len())?;
-        self.traits
-            .push(WrittenEntry::plain(self.alloc, traits, graph)?)?;
-        Ok(())
+        self.traits.push(traits, graph)
     }
 
     /// Enters the traits of an externalizable class. After an error nothing has changed.
@@ -192,8 +154,6 @@ impl WriterTables {
             (self.new ≡ with_words self.old (add_entry self.old.words (external class))) }
         ensures err { OnErr result (self.new ≡ self.old) }
     {
-        check_room(self.traits.len())?;
-        self.traits.push(WrittenEntry::external(class))?;
-        Ok(())
+        self.traits.push_wrapped(class)
     }
 }

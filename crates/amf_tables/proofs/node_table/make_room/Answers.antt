@@ -1,0 +1,7 @@
+use Rattle.std.proofs.Common.{subst, sym}
+use Rattle.amf_tables.specs.NodePlaces.{ArePlacesOf}
+use Rattle.amf_tables.proofs.NodePlaces.{room_more}
+use Rattle.amf_tables.proofs.node_table.make_room.Goals as goal
+
+pub loop-places-preserved : goal.loop-places-preserved
+loop-places-preserved c = λ nodes h. subst (ArePlacesOf nodes) (sym c.in_ok-push.ensures.items) (room_more nodes c.loop-places.places.items (c.loop-places.invariant nodes h))
