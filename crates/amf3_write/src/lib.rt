@@ -14,4 +14,4 @@ mod values;
 mod write;
 
 pub use part::{write3_part, write3_text};
-pub use write::write3;
+pub use write::{write3, write3_keyed};

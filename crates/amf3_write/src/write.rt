@@ -1,14 +1,17 @@
-ghost use Rattle.std.specs.Prelude.{◌≡◌, OnOk, OnErr};
+ghost use Rattle.std.specs.Prelude.{◌≡◌, OnOk, OnErr, IfOk};
 ghost use Rattle.std.specs.Result.{IsErrOf};
 ghost use Rattle.amf_graph.specs.declared.lack.Lack.{Lack};
 ghost use Rattle.amf_graph.specs.Rooted.{content};
 ghost use Rattle.amf_tables.specs.Lacks3.{IsLack3};
+ghost use Rattle.amf_tables.specs.Tables.{no_tables};
 ghost use Rattle.amf3_write.specs.Written.{AppendsCanonical};
 
 use crate::write3_part;
 use amf_graph::{Rooted, WriteEnd};
 use amf_tables::WriterTables;
+use amf_wire::Memory;
 use std::alloc::Global;
+use std::hash::RandomState;
 
 /// How many nodes may stand within one another.
 const LEVELS: u32 = 512;
@@ -17,12 +20,40 @@ const LEVELS: u32 = 512;
 ///
 /// After an end `out` is as before. `NoSpelling` comes only where the graph has no canonical spelling with at most 512 nodes
 /// within one another, and tells the first lack of the graph; `Memory` where there is no room for the tables or the bytes.
+///
+/// The tables are looked up by fixed keys, so whoever knows them can make a graph that takes long: `write3_keyed` is passed
+/// others.
 pub fn write3(alloc: Global, graph: &Rooted, out: &mut Vec<u8>) -> Result<(), WriteEnd>
     ensures written { OnOk result (AppendsCanonical (content graph.now) out.old.items out.new.items) }
     ensures lack { (l : Lack) → IsErrOf result (WriteEnd.NoSpelling l) → IsLack3 (content graph.now) 512 l.node l.kind }
     ensures kept { OnErr result (out.new.items ≡ out.old.items) }
 {
+    write3_keyed(alloc, None, graph, out)
+}
+
+/// Does what `write3` does, with tables that are looked up by these keys, or by fixed ones where there are none. What is
+/// written is the same for all keys.
+pub fn write3_keyed(
+    alloc: Global,
+    keys: Option<RandomState>,
+    graph: &Rooted,
+    out: &mut Vec<u8>,
+) -> Result<(), WriteEnd>
+    ensures written { OnOk result (AppendsCanonical (content graph.now) out.old.items out.new.items) }
+    ensures lack { (l : Lack) → IsErrOf result (WriteEnd.NoSpelling l) → IsLack3 (content graph.now) 512 l.node l.kind }
+    ensures kept { OnErr result (out.new.items ≡ out.old.items) }
+{
     graph.is_finished();
-    let mut tables = WriterTables::new(alloc)?;
+    let mut tables = tables_with(alloc, keys)?;
     write3_part(alloc, graph, graph.root(), &mut tables, LEVELS, out)
+}
+
+/// Tables without entries, that are looked up by these keys.
+fn tables_with(alloc: Global, keys: Option<RandomState>) -> Result<WriterTables, Memory>
+    ensures { IfOk result (λ tables. tables ≡ no_tables) }
+{
+    match keys {
+        Some(keys) => Ok(WriterTables::keyed(alloc, keys)),
+        None => WriterTables::new(alloc),
+    }
 }

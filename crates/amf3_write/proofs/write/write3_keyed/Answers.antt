@@ -6,7 +6,7 @@ use Rattle.amf3_write.specs.PartLacks.{IsPartLack3}
 use Rattle.amf3_write.proofs.Wrote.{on_ok}
 use Rattle.amf3_write.proofs.Whole.{written_whole}
 use Rattle.amf3_write.proofs.PartReached.{whole_lack}
-use Rattle.amf3_write.proofs.write.write3.Goals as goal
+use Rattle.amf3_write.proofs.write.write3_keyed.Goals as goal
 
 pub returns-clause-written : goal.returns-clause-written
 returns-clause-written c =
