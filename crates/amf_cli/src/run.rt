@@ -19,8 +19,10 @@ use crate::writing::write_whole;
 use amf_io::{Sink, Source};
 use amf_iso::isomorphic;
 use amf_wire::Name;
-use amf3_write::write3;
+use amf3_write::write3_keyed;
 use std::alloc::Global;
+use std::hash::RandomState;
+use std::random::RandomSource;
 
 /// The most bytes of an input: 16 MiB.
 pub const LIMIT: u32 = 16_777_216;
@@ -30,8 +32,11 @@ pub const LIMIT: u32 = 16_777_216;
 /// `words` are those after the program's name, and two lists of words have a reading. With the one word `canon`
 /// the input is one AMF 3 value, and the output its canonical spelling. With the one word `same` the input is two
 /// AMF 3 values, one after the other, and the output is the line `same` or `different`.
-pub fn run<R, I: Source, O: Sink, E: Sink>(
-    _rt: &R,
+///
+/// The runtime gives the keys by which the writer looks texts up, so that no input can be made that takes long; where it
+/// gives none, they are fixed.
+pub fn run<R: RandomSource, I: Source, O: Sink, E: Sink>(
+    rt: &R,
     alloc: Global,
     words: &[Name],
     input: &mut I,
@@ -92,7 +97,8 @@ pub fn run<R, I: Source, O: Sink, E: Sink>(
     ensures line { E.tells err.new → Steady (E.faults err.old) (E.faults err.new)
         → Reports result (E.held err.old) (E.held err.new) }
 {
-    match execute(alloc, words, input, out) {
+    let keys = RandomState::new(rt).ok();
+    match execute(alloc, keys, words, input, out) {
         Ok(()) => 0,
         Err(end) => {
             // The status is decided: a failure of the error line does not change it.
@@ -105,6 +111,7 @@ pub fn run<R, I: Source, O: Sink, E: Sink>(
 /// Does what the words say.
 fn execute<I: Source, O: Sink>(
     alloc: Global,
+    keys: Option<RandomState>,
     words: &[Name],
     input: &mut I,
     out: &mut O,
@@ -121,7 +128,7 @@ fn execute<I: Source, O: Sink>(
     ensures writes { CountsWrites (O.faults out.old) (O.faults out.new) result }
 {
     match Command::of(words) {
-        Some(command) => perform(alloc, command, input, out),
+        Some(command) => perform(alloc, keys, command, input, out),
         None => Err(RunEnd::Usage),
     }
 }
@@ -129,6 +136,7 @@ fn execute<I: Source, O: Sink>(
 /// Reads the input of a command, and writes its output.
 fn perform<I: Source, O: Sink>(
     alloc: Global,
+    keys: Option<RandomState>,
     command: Command,
     input: &mut I,
     out: &mut O,
@@ -142,7 +150,7 @@ fn perform<I: Source, O: Sink>(
     ensures reads { CountsReads (I.faults input.old) (I.faults input.new) result }
     ensures writes { CountsWrites (O.faults out.old) (O.faults out.new) result }
 {
-    let bytes = output_of(alloc, command, input)?;
+    let bytes = output_of(alloc, keys, command, input)?;
     match write_whole(out, &bytes) {
         Ok(()) => Ok(()),
         Err(_) => Err(RunEnd::WriteFault),
@@ -150,20 +158,29 @@ fn perform<I: Source, O: Sink>(
 }
 
 /// The output of a command.
-fn output_of<I: Source>(alloc: Global, command: Command, input: &mut I) -> Result<Vec<u8>, RunEnd>
+fn output_of<I: Source>(
+    alloc: Global,
+    keys: Option<RandomState>,
+    command: Command,
+    input: &mut I,
+) -> Result<Vec<u8>, RunEnd>
     ensures reads { I.tells input.old → ReadsInput command (λ bytes. Makes command (I.left input.old) bytes.items) (I.left input.old) (I.left input.new) result }
     ensures taken { I.tells input.old → length (I.left input.old) ≤ length (I.left input.new) + (most + 1) }
     ensures counts { CountsReads (I.faults input.old) (I.faults input.new) result }
     ensures ends { IsOutputEnd command result }
 {
     match command {
-        Command::Canon => canonical_bytes(alloc, input),
+        Command::Canon => canonical_bytes(alloc, keys, input),
         Command::Same => comparison(alloc, input),
     }
 }
 
 /// The canonical spelling of the one value that the input is.
-fn canonical_bytes<I: Source>(alloc: Global, input: &mut I) -> Result<Vec<u8>, RunEnd>
+fn canonical_bytes<I: Source>(
+    alloc: Global,
+    keys: Option<RandomState>,
+    input: &mut I,
+) -> Result<Vec<u8>, RunEnd>
     ensures reads { I.tells input.old → ReadsInput Canon (λ bytes. IsConverted (I.left input.old) bytes.items) (I.left input.old) (I.left input.new) result }
     ensures taken { I.tells input.old → length (I.left input.old) ≤ length (I.left input.new) + (most + 1) }
     ensures counts { CountsReads (I.faults input.old) (I.faults input.new) result }
@@ -171,7 +188,7 @@ fn canonical_bytes<I: Source>(alloc: Global, input: &mut I) -> Result<Vec<u8>, R
 {
     let graph = read_graph(alloc, input)?;
     let mut bytes = Vec::new(alloc);
-    write3(alloc, &graph, &mut bytes)?;
+    write3_keyed(alloc, keys, &graph, &mut bytes)?;
     Ok(bytes)
 }
 

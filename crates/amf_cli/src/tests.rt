@@ -2,7 +2,9 @@ use crate::run::run;
 use amf_io::{FaultlessSink, FaultlessSource, MemorySink, MemorySource};
 use amf_wire::Name;
 use std::alloc::{AllocError, Global};
+use std::io;
 use std::process::Abort;
+use std::random::RandomSource;
 use std::test::Fail;
 
 /// An input of a command, with the status, the output and the error line.
@@ -71,6 +73,15 @@ pub(crate) struct Ran {
     pub line: MemorySink,
 }
 
+/// A runtime that has no random bytes to give.
+struct NoRandomness;
+
+impl RandomSource for NoRandomness {
+    fn fill_bytes(&self, _buf: &mut [u8]) -> io::Result<()> {
+        Err(io::Error::from(io::ErrorKind::Unsupported))
+    }
+}
+
 /// Runs over bytes that come in pieces of at most `most`, none across `cut`, where these reads and
 /// writes fail.
 pub(crate) fn run_over(
@@ -92,7 +103,14 @@ pub(crate) fn run_over(
     );
     let mut output = MemorySink::new(alloc, 2, failing_writes).expect(rt, "a sink");
     let mut line = MemorySink::new(alloc, 100, &[]).expect(rt, "a sink");
-    let status = run(&(), alloc, &names, &mut input, &mut output, &mut line);
+    let status = run(
+        &NoRandomness,
+        alloc,
+        &names,
+        &mut input,
+        &mut output,
+        &mut line,
+    );
     Ran {
         status,
         output,
