@@ -3,10 +3,10 @@
 
     bench/bench.py [MB [NAME..]]
 
-Makes inputs of MB million bytes (16 where none is said), the same in each run, or those of the names alone. `canon` reads one
-value, and `same` two of half the size. Each is run five times, in turn with md5sum, and the best run is printed: the status,
-the processor time, the speed, the most memory held, and the ratio of the time to that of md5sum. A run that takes longer
-than a minute is ended.
+Makes inputs of MB million bytes (16 where none is said), the same in each run, or those of the names alone. `canon` reads
+one value, and `same` two of half the size. Each is run five times, in turn with md5sum, and the best run is printed: the status,
+the processor time, the speed, the most memory held (never less than this script's own 15 MB), and the ratio of the time to
+that of md5sum. A run that takes longer than a minute is ended, which is then its status, and not repeated.
 """
 import os
 import random
@@ -15,6 +15,7 @@ import struct
 import subprocess
 import sys
 import tempfile
+import time
 from pathlib import Path
 
 ROOT = Path(__file__).resolve().parent.parent
@@ -171,19 +172,27 @@ def best(words, path):
     """The best of the runs of the program, and of those of md5sum between them."""
     runs, sums, spent = [], [], 0
     while len(runs) < RUNS and spent < PATIENCE / 2:
+        began = time.monotonic()
         runs.append(run(words, path))
+        spent += time.monotonic() - began
         sums.append(run(["md5sum"], path)[1])
-        spent += runs[-1][1]
     return min(runs, key=lambda each: each[1]), min(sums)
 
 
-def show(command, title, value, folder):
-    path = folder / "input"
-    path.write_bytes(value)
+def write_input(make, size, copies, path):
+    """Writes an input, in a process of its own: what this one holds would be counted as the program's memory."""
+    child = os.fork()
+    if child == 0:
+        path.write_bytes(make(size, random.Random(1)) * copies)
+        os._exit(0)
+    os.waitpid(child, 0)
+
+
+def show(command, make, path):
     (status, seconds, memory), sums = best([PROGRAM, command], path)
-    mega = len(value) / 1e6
+    mega = path.stat().st_size / 1e6
     ending = status if status >= 0 else "ended"
-    print(f"{command:6}{title:25}{mega:6.2f}{ending:>8}{seconds:11.3f}{mega / seconds:8.1f}", end="")
+    print(f"{command:6}{make.__name__:25}{mega:6.2f}{ending:>8}{seconds:11.3f}{mega / seconds:8.1f}", end="")
     print(f"{memory / 1e6:11.0f}{seconds / sums:10.2f}", flush=True)
 
 
@@ -196,12 +205,13 @@ def main():
     signal.signal(signal.SIGALRM, give_up)
     print(f"{'':31}{'MB':>6}{'status':>8}{'seconds':>11}{'MB/s':>8}{'memory MB':>11}{'x md5sum':>10}")
     with tempfile.TemporaryDirectory() as folder:
+        path = Path(folder) / "input"
         for make in INPUTS:
-            if make.__name__ not in chosen:
-                continue
-            title = make.__name__.replace("_", " ")
-            show("canon", title, make(size, random.Random(1)), Path(folder))
-            show("same", title, make(size // 2, random.Random(1)) * 2, Path(folder))
+            if make.__name__ in chosen:
+                write_input(make, size, 1, path)
+                show("canon", make, path)
+                write_input(make, size // 2, 2, path)
+                show("same", make, path)
 
 
 main()
