@@ -1,5 +1,7 @@
 pub mod Pieces
 pub mod Bytes
+pub mod FirstNumbers
+pub mod Opening
 pub mod Whole
 pub mod Paths
 pub mod Stops

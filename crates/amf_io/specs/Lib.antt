@@ -11,3 +11,7 @@ pub mod ReadEnds
 pub mod CursorReads
 pub mod Worked
 pub mod Standard
+pub mod Rests
+pub mod Halls
+pub mod Front
+pub mod Fronts

@@ -1,0 +1,29 @@
+-- What the halls and fronts in memory hold.
+use Rattle.std.specs.Prelude.{◌≡◌, ℕ, zero, suc, ◌-◌, ◌^◌, ◌<◌, false, List, [], ◌∷◌, ◌++◌, slice_index_or}
+use Rattle.amf_io.specs.declared.numbers.Numbers.{Numbers}
+use Rattle.amf_io.specs.declared.memory_hall.Links.{Links}
+
+-- the first so many numbers of a list that goes on with 0
+unfoldable pub first_of : ℕ → List ℕ → List ℕ
+first_of zero list = []
+first_of (suc n) list = first_of n list ++ slice_index_or list n 0 ∷ []
+
+-- the numbers given so far
+abbrev pub given : Numbers → List ℕ
+given n = first_of n.count n.list.items
+
+-- their count is not at the end of its range
+abbrev pub TellsNumbers : Numbers → Type 0
+TellsNumbers n = n.count < 2 ^ 64 - 1
+
+-- the links to come
+abbrev pub coming_of : {L : Type 0} → Links L → List L
+coming_of l = l.coming.items
+
+-- the links taken back, but for those that were dropped
+abbrev pub served_of : {L : Type 0} → Links L → List L
+served_of l = l.served.items
+
+-- no link that came back was dropped
+abbrev pub HasAll : {L : Type 0} → Links L → Type 0
+HasAll l = l.dropped ≡ false

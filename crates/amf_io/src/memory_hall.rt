@@ -1,0 +1,304 @@
+use crate::numbers::Numbers;
+use crate::{Clock, Dice, Failed, Hall, Link};
+use amf_wire::Memory;
+use std::alloc::Global;
+use std::collections::VecDeque;
+
+/// Links that are given one after another, and those that came back.
+#[derive(Drop)]
+pub struct Links<L: Drop> {
+    coming: VecDeque<L>,
+    served: Vec<L>,
+    dropped: bool,
+}
+
+impl<L: Drop> Links<L> {
+    ghost use Rattle.std.specs.Prelude.{◌≡◌, ◌++◌, ◌∷◌, ◌<◌, [], Ok, IfOk};
+    ghost use Rattle.amf_io.specs.Outside.{NextOf};
+    ghost use Rattle.amf_io.specs.Halls.{coming_of, served_of, HasAll};
+
+    /// These links, with room for all of them to come back.
+    fn new(alloc: Global, links: Vec<L>) -> Result<Links<L>, Memory>
+        ensures coming { IfOk result (λ l. coming_of l ≡ links.items) }
+        ensures served { IfOk result (λ l. served_of l ≡ []) }
+        ensures all { IfOk result HasAll }
+    {
+        Ok(Links {
+            served: Vec::with_capacity(alloc, links.len())?,
+            coming: VecDeque::from_vec(links),
+            dropped: false,
+        })
+    }
+
+    /// Gives the next link.
+    fn next(&mut self) -> Option<L>
+        ensures gives { NextOf (coming_of self.old) (coming_of self.new) (Ok result) }
+        ensures served { served_of self.new ≡ served_of self.old }
+        ensures all { self.new.dropped ≡ self.old.dropped }
+    {
+        self.coming.pop_front()
+    }
+
+    /// Takes a link back. One for which there is no room is dropped.
+    fn back(&mut self, link: L)
+        ensures coming { coming_of self.new ≡ coming_of self.old }
+        ensures served { HasAll self.new → served_of self.new ≡ served_of self.old ++ link ∷ [] }
+        ensures all { HasAll self.new → HasAll self.old }
+    {
+        if self.served.len() == self.served.capacity() {
+            self.dropped = true;
+            return;
+        }
+        if self.served.push(link).is_err() {
+            self.dropped = true;
+        }
+    }
+}
+
+/// Links in memory, with a list of the calls of `next` that fail, which it counts from 0, and with
+/// the moments and words that it gives. It tells its links until one comes back for which it has
+/// no room: it has room for as many as it was made with.
+#[derive(Drop)]
+pub struct MemoryHall<L: Drop> {
+    links: Links<L>,
+    moments: Numbers,
+    words: Numbers,
+    failing: Vec<u64>,
+    calls: u64,
+    failed: u64,
+}
+
+impl<L: Drop> MemoryHall<L> {
+    ghost use Rattle.std.specs.Prelude.{◌≡◌, [], IfOk};
+    ghost use Rattle.amf_io.specs.Halls.{coming_of, served_of, HasAll, given, TellsNumbers};
+
+    /// A hall of these links. Moments and words are 0 once their lists are used up. The calls of
+    /// `next` whose numbers stand in `failing` fail.
+    pub fn new(
+        alloc: Global,
+        links: Vec<L>,
+        moments: &[u64],
+        words: &[u64],
+        failing: &[u64],
+    ) -> Result<MemoryHall<L>, Memory>
+        ensures coming { IfOk result (λ h. coming_of h.links ≡ links.items) }
+        ensures served { IfOk result (λ h. served_of h.links ≡ []) }
+        ensures all { IfOk result (λ h. HasAll h.links) }
+        ensures moments { IfOk result (λ h. given h.moments ≡ []) }
+        ensures tells_moments { IfOk result (λ h. TellsNumbers h.moments) }
+        ensures words { IfOk result (λ h. given h.words ≡ []) }
+        ensures tells_words { IfOk result (λ h. TellsNumbers h.words) }
+        ensures faults { IfOk result (λ h. h.failed ≡ 0) }
+    {
+        let mut numbers = Vec::new(alloc);
+        numbers.extend_from_slice(failing)?;
+        Ok(MemoryHall {
+            links: Links::new(alloc, links)?,
+            moments: Numbers::new(alloc, moments)?,
+            words: Numbers::new(alloc, words)?,
+            failing: numbers,
+            calls: 0,
+            failed: 0,
+        })
+    }
+
+    /// The links that came back, but for those for which there was no room.
+    pub fn served(&self) -> &[L]
+        ensures { result.now ≡ served_of self.now.links }
+    {
+        self.links.served.as_slice()
+    }
+
+    /// How many of its calls of `next` failed.
+    pub fn faults(&self) -> u64
+        ensures { result ≡ self.now.failed }
+    {
+        self.failed
+    }
+}
+
+impl<L: Drop> Clock for MemoryHall<L> {
+    ghost use Rattle.std.specs.Prelude.{ℕ};
+    ghost use Rattle.amf_io.specs.Halls.{given, TellsNumbers};
+    ghost use Rattle.amf_io.specs.declared.memory_hall.Links.{Links};
+    ghost use Rattle.amf_io.specs.declared.numbers.Numbers.{Numbers};
+
+    ghost tells_moments = { λ h. TellsNumbers h.moments };
+
+    ghost moments = { λ h. given h.moments };
+
+    ghost ClockRest = { Links L × Numbers × ℕ };
+
+    ghost clock_rest = { λ h. (h.links, h.words, h.failed) };
+
+    fn now(&mut self) -> u64 {
+        self.moments.next()
+    }
+}
+
+impl<L: Drop> Dice for MemoryHall<L> {
+    ghost use Rattle.std.specs.Prelude.{ℕ};
+    ghost use Rattle.amf_io.specs.Halls.{given, TellsNumbers};
+    ghost use Rattle.amf_io.specs.declared.memory_hall.Links.{Links};
+    ghost use Rattle.amf_io.specs.declared.numbers.Numbers.{Numbers};
+
+    ghost tells_words = { λ h. TellsNumbers h.words };
+
+    ghost words = { λ h. given h.words };
+
+    ghost DiceRest = { Links L × Numbers × ℕ };
+
+    ghost dice_rest = { λ h. (h.links, h.moments, h.failed) };
+
+    fn word(&mut self) -> u64 {
+        self.words.next()
+    }
+}
+
+impl<L: Link + Send + Drop> Hall for MemoryHall<L> {
+    ghost use Rattle.amf_io.specs.Halls.{coming_of, served_of, HasAll, given, TellsNumbers};
+    ghost use Rattle.amf_io.specs.Rests.{same_links, keeps};
+
+    type Link = L;
+
+    ghost tells_links = { λ h. HasAll h.links };
+
+    ghost coming = { λ h. coming_of h.links };
+
+    ghost served = { λ h. served_of h.links };
+
+    ghost faults = { λ h. h.failed };
+
+    fn next(&mut self) -> Result<Option<L>, Failed> {
+        let number = self.calls;
+        self.calls = number.saturating_add(1);
+        if self.failing.contains(&number) {
+            self.failed = self.failed.saturating_add(1);
+            return Err(Failed);
+        }
+        Ok(self.links.next())
+    }
+
+    fn back(&mut self, link: L) {
+        self.links.back(link);
+    }
+
+    ghost clock_keeps_links = { λ a b e. same_links (λ r. HasAll r.0) (λ r. coming_of r.0) (λ r. served_of r.0) (λ r. r.2) e };
+
+    ghost clock_keeps_words = { λ a b e. keeps (λ r. TellsNumbers r.1) (λ r. given r.1) e };
+
+    ghost dice_keeps_links = { λ a b e. same_links (λ r. HasAll r.0) (λ r. coming_of r.0) (λ r. served_of r.0) (λ r. r.2) e };
+
+    ghost dice_keeps_moments = { λ a b e. keeps (λ r. TellsNumbers r.1) (λ r. given r.1) e };
+}
+
+/// Links in memory of which no call fails, with the moments and words that it gives. It tells its
+/// links until one comes back for which it has no room: it has room for as many as it was made
+/// with.
+#[derive(Drop)]
+pub struct FaultlessHall<L: Drop> {
+    links: Links<L>,
+    moments: Numbers,
+    words: Numbers,
+}
+
+impl<L: Drop> FaultlessHall<L> {
+    ghost use Rattle.std.specs.Prelude.{◌≡◌, [], IfOk};
+    ghost use Rattle.amf_io.specs.Halls.{coming_of, served_of, HasAll, given, TellsNumbers};
+
+    /// A hall of these links. Moments and words are 0 once their lists are used up.
+    pub fn new(
+        alloc: Global,
+        links: Vec<L>,
+        moments: &[u64],
+        words: &[u64],
+    ) -> Result<FaultlessHall<L>, Memory>
+        ensures coming { IfOk result (λ h. coming_of h.links ≡ links.items) }
+        ensures served { IfOk result (λ h. served_of h.links ≡ []) }
+        ensures all { IfOk result (λ h. HasAll h.links) }
+        ensures moments { IfOk result (λ h. given h.moments ≡ []) }
+        ensures tells_moments { IfOk result (λ h. TellsNumbers h.moments) }
+        ensures words { IfOk result (λ h. given h.words ≡ []) }
+        ensures tells_words { IfOk result (λ h. TellsNumbers h.words) }
+    {
+        Ok(FaultlessHall {
+            links: Links::new(alloc, links)?,
+            moments: Numbers::new(alloc, moments)?,
+            words: Numbers::new(alloc, words)?,
+        })
+    }
+
+    /// The links that came back, but for those for which there was no room.
+    pub fn served(&self) -> &[L]
+        ensures { result.now ≡ served_of self.now.links }
+    {
+        self.links.served.as_slice()
+    }
+}
+
+impl<L: Drop> Clock for FaultlessHall<L> {
+    ghost use Rattle.amf_io.specs.Halls.{given, TellsNumbers};
+    ghost use Rattle.amf_io.specs.declared.memory_hall.Links.{Links};
+    ghost use Rattle.amf_io.specs.declared.numbers.Numbers.{Numbers};
+
+    ghost tells_moments = { λ h. TellsNumbers h.moments };
+
+    ghost moments = { λ h. given h.moments };
+
+    ghost ClockRest = { Links L × Numbers };
+
+    ghost clock_rest = { λ h. (h.links, h.words) };
+
+    fn now(&mut self) -> u64 {
+        self.moments.next()
+    }
+}
+
+impl<L: Drop> Dice for FaultlessHall<L> {
+    ghost use Rattle.amf_io.specs.Halls.{given, TellsNumbers};
+    ghost use Rattle.amf_io.specs.declared.memory_hall.Links.{Links};
+    ghost use Rattle.amf_io.specs.declared.numbers.Numbers.{Numbers};
+
+    ghost tells_words = { λ h. TellsNumbers h.words };
+
+    ghost words = { λ h. given h.words };
+
+    ghost DiceRest = { Links L × Numbers };
+
+    ghost dice_rest = { λ h. (h.links, h.moments) };
+
+    fn word(&mut self) -> u64 {
+        self.words.next()
+    }
+}
+
+impl<L: Link + Send + Drop> Hall for FaultlessHall<L> {
+    ghost use Rattle.amf_io.specs.Halls.{coming_of, served_of, HasAll, given, TellsNumbers};
+    ghost use Rattle.amf_io.specs.Rests.{same_links, keeps};
+
+    type Link = L;
+
+    ghost tells_links = { λ h. HasAll h.links };
+
+    ghost coming = { λ h. coming_of h.links };
+
+    ghost served = { λ h. served_of h.links };
+
+    ghost faults = { λ h. 0 };
+
+    fn next(&mut self) -> Result<Option<L>, Failed> {
+        Ok(self.links.next())
+    }
+
+    fn back(&mut self, link: L) {
+        self.links.back(link);
+    }
+
+    ghost clock_keeps_links = { λ a b e. same_links (λ r. HasAll r.0) (λ r. coming_of r.0) (λ r. served_of r.0) (λ r. 0) e };
+
+    ghost clock_keeps_words = { λ a b e. keeps (λ r. TellsNumbers r.1) (λ r. given r.1) e };
+
+    ghost dice_keeps_links = { λ a b e. same_links (λ r. HasAll r.0) (λ r. coming_of r.0) (λ r. served_of r.0) (λ r. 0) e };
+
+    ghost dice_keeps_moments = { λ a b e. keeps (λ r. TellsNumbers r.1) (λ r. given r.1) e };
+}
