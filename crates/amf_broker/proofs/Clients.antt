@@ -1,10 +1,10 @@
 -- What a change of one client's connection does to what waits for each client.
-use Rattle.std.proofs.Common.{◌≡◌, ℕ, true, not, List, [], ◌∷◌, ◌++◌, refl, arith}
+use Rattle.std.proofs.Common.{◌≡◌, ℕ, true, not, List, [], ◌∷◌, ◌++◌, length, refl, sym, ap, ◌∙◌, arith}
 use Rattle.std.specs.Prelude.{◌==◌, filter, ◌≢◌}
 use Rattle.std.proofs.lemmas.Bool.Decides.{nat_tests}
 use Rattle.amf_broker.specs.declared.reply.Delivery.{Delivery}
 use Rattle.amf_broker.specs.State.{Connection}
-use Rattle.amf_broker.specs.Machine.{client_at, is_connected, at_client, queue_of, with_delivery, emptied}
+use Rattle.amf_broker.specs.Machine.{client_at, is_connected, at_client, queue_of, ended_of, with_delivery, emptied, kept_as, seen_at, new_client}
 use Rattle.amf_broker.specs.Delivery.{Message, messages_for}
 
 -- the messages for a subscription that wait for a client
@@ -36,9 +36,9 @@ queue_of-emptied k [] = refl
 queue_of-emptied k (c ∷ cs) = let ih = queue_of-emptied k cs in grind (arith, nat_tests, ih)
 
 -- a new client's queue is empty
-pub queue_of-new : (j k : ℕ) (cs : List Connection) → queue_of j (cs ++ (record { id = k; queue = []; ended = [] } ∷ [])) ≡ queue_of j cs
-queue_of-new j k [] = grind (arith, nat_tests)
-queue_of-new j k (c ∷ cs) = let ih = queue_of-new j k cs in grind (arith, nat_tests, ih)
+pub queue_of-new : (j k m : ℕ) (cs : List Connection) → queue_of j (cs ++ (new_client k m ∷ [])) ≡ queue_of j cs
+queue_of-new j k m [] = grind (arith, nat_tests)
+queue_of-new j k m (c ∷ cs) = let ih = queue_of-new j k m cs in grind (arith, nat_tests, ih)
 
 pub connected-new : (j : ℕ) (n : Connection) (cs : List Connection) → is_connected j cs ≡ true → is_connected j (cs ++ (n ∷ [])) ≡ true
 connected-new j n [] connected = cc
@@ -66,3 +66,46 @@ messages_for-other n d (x ∷ q) other = let ih = messages_for-other n d q other
 pub waiting-other : (n j k : ℕ) (d : Delivery) (cs : List Connection) → d.sub ≢ n → waiting n j (at_client k (with_delivery d) cs) ≡ waiting n j cs
 waiting-other n j k d [] other = refl
 waiting-other n j k d (c ∷ cs) other = let ih = waiting-other n j k d cs other in let e = messages_for-other n d c.queue other in grind (arith, nat_tests, ih, e)
+
+pub length-at : (k : ℕ) (f : Connection → Connection) (cs : List Connection) → length (at_client k f cs) ≡ length cs
+length-at k f [] = refl
+length-at k f (c ∷ cs) = let ih = length-at k f cs in grind (arith, nat_tests, ih)
+
+-- Two lists of clients that differ in no number, no queue and no list of ended subscriptions.
+pub record Same (cs ds : List Connection) : Type 0 where
+  pub many : length ds ≡ length cs
+  pub here : (j : ℕ) → is_connected j ds ≡ is_connected j cs
+  pub queues : (j : ℕ) → queue_of j ds ≡ queue_of j cs
+  pub ends : (j : ℕ) → ended_of j ds ≡ ended_of j cs
+
+ended_of-seen : (j k m : ℕ) (cs : List Connection) → ended_of j (at_client k (seen_at m) cs) ≡ ended_of j cs
+ended_of-seen j k m [] = refl
+ended_of-seen j k m (c ∷ cs) = let ih = ended_of-seen j k m cs in grind (arith, nat_tests, ih)
+
+pub same-seen : (k m : ℕ) (cs : List Connection) → Same cs (at_client k (seen_at m) cs)
+same-seen k m cs = record {
+  many = length-at k (seen_at m) cs;
+  here = λ j. connected-at j k (seen_at m) cs (λ c. refl);
+  queues = λ j. queue_of-at j k (seen_at m) cs (λ c. (refl, refl));
+  ends = λ j. ended_of-seen j k m cs;
+}
+
+queue_of-kept : (j k n : ℕ) (cs : List Connection) → queue_of j (at_client k (kept_as n) cs) ≡ queue_of j (at_client k emptied cs)
+queue_of-kept j k n [] = refl
+queue_of-kept j k n (c ∷ cs) = let ih = queue_of-kept j k n cs in grind (arith, nat_tests, ih)
+
+ended_of-kept : (j k n : ℕ) (cs : List Connection) → ended_of j (at_client k (kept_as n) cs) ≡ ended_of j (at_client k emptied cs)
+ended_of-kept j k n [] = refl
+ended_of-kept j k n (c ∷ cs) = let ih = ended_of-kept j k n cs in grind (arith, nat_tests, ih)
+
+-- keeping a batch does to what waits what a poll does
+pub same-kept : (k n : ℕ) (cs : List Connection) → Same (at_client k emptied cs) (at_client k (kept_as n) cs)
+same-kept k n cs = record {
+  many = length-at k (kept_as n) cs ∙ sym (length-at k emptied cs);
+  here = λ j. connected-at j k (kept_as n) cs (λ c. refl) ∙ sym (connected-at j k emptied cs (λ c. refl));
+  queues = λ j. queue_of-kept j k n cs;
+  ends = λ j. ended_of-kept j k n cs;
+}
+
+pub waiting-same : (n j : ℕ) (cs ds : List Connection) → Same cs ds → waiting n j ds ≡ waiting n j cs
+waiting-same n j cs ds s = ap (messages_for n) (s.queues j)

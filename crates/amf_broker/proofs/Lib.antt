@@ -2,8 +2,10 @@ mod Clients
 mod Spreads
 mod Refusals
 mod Steps
+mod Leavers
 pub mod Law
 mod Places
 mod Sounds
 mod Rounds
+mod Advances
 mod Answered

@@ -1,23 +1,23 @@
 -- A refusal publishes nothing, hands out nothing and ends nothing.
 use Rattle.std.proofs.Common.{◌≡◌, ℕ, Bool, true, false, [], refl}
-use Rattle.std.specs.Prelude.{Option, Some, None, if◌then◌else◌, not, nat_lt, nat_le, bytes_eq, length}
+use Rattle.std.specs.Prelude.{◌+◌, ◌==◌, ◌||◌, ◌&&◌, Option, Some, None, if◌then◌else◌, not, nat_lt, nat_le, bytes_eq, length}
 use Rattle.std.specs.List.{list_any}
 use Rattle.amf_broker.specs.declared.topic.Topic.{Topic}
 use Rattle.amf_broker.specs.declared.call.Call.{Call}
-use Rattle.amf_broker.specs.declared.call.Call.TheVariants.{Connect, Subscribe, Unsubscribe, Publish, Poll, Disconnect}
+use Rattle.amf_broker.specs.declared.call.Call.TheVariants.{Connect, Subscribe, Unsubscribe, Publish, Poll, PollNumbered, Disconnect}
 use Rattle.amf_broker.specs.declared.reply.Reply.{Reply}
-use Rattle.amf_broker.specs.declared.reply.Reply.TheVariants.{Subscribed, Full, NoClient, NoTopic, TooLong, TooManySubs, NoSub}
+use Rattle.amf_broker.specs.declared.reply.Reply.TheVariants.{Subscribed, Full, NoClient, NoTopic, TooLong, TooManySubs, NoSub, BadNumber}
 use Rattle.amf_broker.specs.declared.limits.TheConstants.{MAX_CLIENTS, MAX_SUBS, MAX_SUBTOPIC, MAX_MESSAGE}
 use Rattle.amf_broker.specs.State.{Board}
-use Rattle.amf_broker.specs.Machine.{refusal, or_then, topic_refusal, client_refusal, is_connected, places_of}
-use Rattle.amf_broker.specs.Delivery.{handed_to, published_to, ended_by, left_by}
+use Rattle.amf_broker.specs.Machine.{refusal, or_then, topic_refusal, client_refusal, is_connected, places_of, last_of, number_refusal}
+use Rattle.amf_broker.specs.Delivery.{handed_to, published_to, ends, says_bye}
 
 -- the reply tells of no event
 pub record Quiet (r : Reply) : Type 0 where
   pub hands : (n : ℕ) → handed_to n r ≡ []
   pub publishes : (t : Topic) (c : Call) → published_to t c r ≡ None
-  pub ends : (n k : ℕ) (c : Call) → ended_by n k c r ≡ false
-  pub leaves : (k : ℕ) (c : Call) → left_by k c r ≡ false
+  pub ends : (n k : ℕ) (c : Call) → ends n k c r ≡ false
+  pub leaves : (k : ℕ) (c : Call) → says_bye k c r ≡ false
   pub begins : (n : ℕ) → r ≡ Subscribed n → ⊥
 
 abbrev pub AllQuiet : Option Reply → Type 0
@@ -55,6 +55,9 @@ quiet-refusal s (Publish k t message) = quiet-or_then (client_refusal s k) _ (qu
     (quiet-if (nat_lt MAX_MESSAGE (length message)) (Some (TooLong MAX_MESSAGE)) None
     (record { hands = λ n. refl; publishes = λ t c. refl; ends = λ n k c. refl; leaves = λ k c. refl; begins = λ n e. cc }) tt))
 quiet-refusal s (Poll k) = quiet-client s k
+quiet-refusal s (PollNumbered k number) = quiet-or_then (client_refusal s k) _ (quiet-client s k)
+    (quiet-if (number == last_of k s.clients + 1 || (number == last_of k s.clients && nat_le 1 (last_of k s.clients))) None (Some (BadNumber (last_of k s.clients))) tt
+    (record { hands = λ n. refl; publishes = λ t c. refl; ends = λ n k c. refl; leaves = λ k c. refl; begins = λ n e. cc }))
 quiet-refusal s (Disconnect k) = quiet-client s k
 
 -- the client of a call that is served is connected

@@ -1,26 +1,27 @@
 -- Every board stays sound: what is served leaves no client with more than it may have, and no number that was not given.
 use Rattle.std.proofs.Common.{◌≡◌, ℕ, ◌+◌, ◌<◌, ◌≤◌, Bool, true, false, not, List, [], ◌∷◌, ◌++◌, length, refl, ◌∙◌, ap, subst, arith, inl, inr, length-append}
-use Rattle.std.specs.Prelude.{◌==◌, filter, ◌≢◌, if◌then◌else◌}
+use Rattle.std.specs.Prelude.{◌==◌, filter, ◌≢◌, if◌then◌else◌, Option, Some, None}
 use Rattle.std.specs.List.{list_any}
 use Rattle.std.proofs.lemmas.Bool.Decides.{nat_tests, eqb_tells}
 use Rattle.std.proofs.Math.Bool.{or-true}
 use Rattle.amf_broker.specs.declared.limits.TheConstants.{MAX_CLIENTS, MAX_SUBS}
 use Rattle.amf_broker.specs.declared.topic.Topic.{Topic}
 use Rattle.amf_broker.specs.declared.call.Call.{Call}
-use Rattle.amf_broker.specs.declared.call.Call.TheVariants.{Connect, Subscribe, Unsubscribe, Publish, Poll, Disconnect}
+use Rattle.amf_broker.specs.declared.call.Call.TheVariants.{Connect, Subscribe, Unsubscribe, Publish, Poll, PollNumbered, Disconnect}
 use Rattle.amf_broker.specs.declared.reply.Delivery.{Delivery}
 use Rattle.amf_broker.specs.State.{Board, Connection, Subscription, first_board}
-use Rattle.amf_broker.specs.Machine.{is_connected, at_client, queue_of, queue_in, ended_of, ended_in, subs_of, places_of, with_delivery, with_ended, emptied, spread, ended_first, is_full, subscribers, is_same_topic, served, connected, subscribed, unsubscribed, published, polled, disconnected}
+use Rattle.amf_broker.specs.Machine.{is_connected, at_client, queue_of, queue_in, ended_of, ended_in, subs_of, places_of, with_delivery, with_ended, emptied, spread, ended_first, is_full, subscribers, is_same_topic, served, connected, subscribed, unsubscribed, published, polled, next_batch, disconnected, new_client, advanced, without_all, without, sighted}
 use Rattle.amf_broker.specs.Sound.{IsSound, IsNowhere}
-use Rattle.amf_broker.proofs.Clients.{connected-at, client_at-stays, queue_of-at, queue_of-new, queue_of-emptied, queue_of-gone, queue_of-other}
+use Rattle.amf_broker.specs.Delivery.{messages_for}
+use Rattle.amf_broker.proofs.Clients.{Same, same-seen, same-kept, length-at, connected-at, client_at-stays, queue_of-at, queue_of-new, queue_of-emptied, queue_of-gone, queue_of-other}
 use Rattle.amf_broker.proofs.Spreads.{is_among, filter-swap, connected-spread}
 use Rattle.amf_broker.proofs.Steps.{Idle, idle-served, next-served}
 
 -- What a change does to the list of a client's ended subscriptions.
 
-ended-new : (j k : ℕ) (cs : List Connection) → ended_of j (cs ++ (record { id = k; queue = []; ended = [] } ∷ [])) ≡ ended_of j cs
-ended-new j k [] = grind (arith, nat_tests)
-ended-new j k (c ∷ cs) = let ih = ended-new j k cs in grind (arith, nat_tests, ih)
+ended-new : (j k m : ℕ) (cs : List Connection) → ended_of j (cs ++ (new_client k m ∷ [])) ≡ ended_of j cs
+ended-new j k m [] = grind (arith, nat_tests)
+ended-new j k m (c ∷ cs) = let ih = ended-new j k m cs in grind (arith, nat_tests, ih)
 
 pub ended-delivery : (j k : ℕ) (d : Delivery) (cs : List Connection) → ended_of j (at_client k (with_delivery d) cs) ≡ ended_of j cs
 ended-delivery j k d [] = refl
@@ -83,10 +84,6 @@ absent-gone : (j k : ℕ) (cs : List Connection) → is_connected j cs ≡ false
 absent-gone j k [] absent = refl
 absent-gone j k (c ∷ cs) absent = let ih = absent-gone j k cs in grind (arith, nat_tests, ih)
 
-length-at : (k : ℕ) (f : Connection → Connection) (cs : List Connection) → length (at_client k f cs) ≡ length cs
-length-at k f [] = refl
-length-at k f (c ∷ cs) = let ih = length-at k f cs in grind (arith, nat_tests, ih)
-
 length-gone : (k : ℕ) (cs : List Connection) → length (filter (λ c. not (c.id == k)) cs) ≤ length cs
 length-gone k [] = omega arith
 length-gone k (c ∷ cs) = let ih = length-gone k cs in grind (arith, nat_tests, ih)
@@ -138,11 +135,11 @@ sound-first names = record {
 
 pub sound-connected : (b : Board) → IsSound b → length b.clients < MAX_CLIENTS → IsSound (connected b).1
 sound-connected b s few = record {
-  few = let e = length-append b.clients ((record { id = b.next_client; queue = []; ended = [] }) ∷ []) in omega arith;
-  places = λ j. let same = ap length (ended-new j b.next_client b.clients) in let old = s.places j in omega arith;
+  few = let e = length-append b.clients (new_client b.next_client b.moment ∷ []) in omega arith;
+  places = λ j. let same = ap length (ended-new j b.next_client b.moment b.clients) in let old = s.places j in omega arith;
   new_clients = λ j new. let other : b.next_client ≢ j = omega arith in absent-new j _ b.clients other ∙ s.new_clients j (omega arith);
   new_subs = new-subs-served b Connect s;
-  new_messages = λ n new j. ap (filter (λ (d : Delivery). d.number == n)) (queue_of-new j b.next_client b.clients) ∙ s.new_messages n new j;
+  new_messages = λ n new j. ap (filter (λ (d : Delivery). d.number == n)) (queue_of-new j b.next_client b.moment b.clients) ∙ s.new_messages n new j;
 }
 
 pub sound-subscribed : (b : Board) (client : ℕ) (topic : Topic) → IsSound b → places_of client b < MAX_SUBS → IsSound (subscribed b client topic).1
@@ -192,6 +189,36 @@ sound-disconnected b client s = record {
   new_subs = new-subs-served b (Disconnect client) s;
   new_messages = λ n new j. numbered-gone n j client b.clients (s.new_messages n new j);
 }
+
+-- what is sound speaks of the clients' numbers, queues and ended subscriptions alone
+pub sound-same : (b : Board) (ds : List Connection) → IsSound b → Same b.clients ds → IsSound (record b { clients = ds })
+sound-same b ds s same = record {
+  few = let e = same.many in let old = s.few in omega arith;
+  places = λ j. let e = ap length (same.ends j) in let old = s.places j in omega arith;
+  new_clients = λ j new. same.here j ∙ s.new_clients j new;
+  new_subs = λ n new. let old = s.new_subs n new in record { not_live = old.not_live; not_queued = λ j. ap (messages_for n) (same.queues j) ∙ old.not_queued j };
+  new_messages = λ n new j. ap (filter (λ (d : Delivery). d.number == n)) (same.queues j) ∙ s.new_messages n new j;
+}
+
+pub sound-kept : (b : Board) (client number : ℕ) → IsSound b → IsSound (next_batch b client number).1
+sound-kept b client number s = sound-same (polled b client).1 _ (sound-polled b client s) (same-kept client number b.clients)
+
+pub sound-sighted : (b : Board) (client : Option ℕ) → IsSound b → IsSound (sighted client b)
+sound-sighted b None s = s
+sound-sighted b (Some client) s = sound-same b _ s (same-seen client b.moment b.clients)
+
+pub sound-without_all : (ks : List ℕ) (b : Board) → IsSound b → IsSound (without_all ks b)
+sound-without_all [] b s = s
+sound-without_all (k ∷ ks) b s = sound-without_all ks (without k b) (sound-disconnected b k s)
+
+pub sound-advanced : (present : ℕ) (ks : List ℕ) (b : Board) → IsSound b → IsSound (advanced present ks b)
+sound-advanced present ks b s = sound-without_all ks (record b { moment = present }) (record {
+  few = s.few;
+  places = s.places;
+  new_clients = s.new_clients;
+  new_subs = λ n new. let old = s.new_subs n new in record { not_live = old.not_live; not_queued = old.not_queued };
+  new_messages = s.new_messages;
+})
 
 -- A publish.
 

@@ -7,12 +7,12 @@ use Rattle.std.proofs.lemmas.Bool.{eq-eqb}
 use Rattle.std.proofs.lemmas.Bool.Decides.{nat_tests, eqb_tells}
 use Rattle.amf_broker.specs.declared.topic.Topic.{Topic}
 use Rattle.amf_broker.specs.declared.call.Call.{Call}
-use Rattle.amf_broker.specs.declared.call.Call.TheVariants.{Connect, Subscribe, Unsubscribe, Publish, Poll, Disconnect}
+use Rattle.amf_broker.specs.declared.call.Call.TheVariants.{Connect, Subscribe, Unsubscribe, Publish, Poll, PollNumbered, Disconnect}
 use Rattle.amf_broker.specs.declared.reply.Reply.{Reply}
 use Rattle.amf_broker.specs.State.{Board, Connection, Subscription}
-use Rattle.amf_broker.specs.Machine.{is_connected, at_client, queue_of, queue_in, emptied, subscribers, is_same_topic, served}
-use Rattle.amf_broker.specs.Delivery.{messages_for, handed_to, published_to, ended_by, left_by}
-use Rattle.amf_broker.proofs.Clients.{waiting, connected-at, connected-new, queue_of-new, queue_of-emptied, queue_of-gone, client_at-stays, queue_of-other}
+use Rattle.amf_broker.specs.Machine.{is_connected, at_client, queue_of, queue_in, emptied, subscribers, is_same_topic, served, last_of, same_batch, next_batch}
+use Rattle.amf_broker.specs.Delivery.{messages_for, handed_to, published_to, ends, says_bye}
+use Rattle.amf_broker.proofs.Clients.{waiting, Same, same-kept, waiting-same, connected-at, connected-new, queue_of-new, queue_of-emptied, queue_of-gone, client_at-stays, queue_of-other}
 use Rattle.amf_broker.proofs.Spreads.{named, filter-swap, connected-spread, spread-other, spread-named}
 
 -- nothing waits for the subscription at client j
@@ -61,7 +61,7 @@ abbrev pub Elsewhere : ℕ → Board → Board → Type 0
 Elsewhere n s t = (t.next_sub ≤ n) ⊎ (n < s.next_sub)
 
 pub idle-served : (n : ℕ) (P : ℕ → Type 0) (s : Board) (c : Call) → Elsewhere n s (served s c).1 → Idle n P s.clients s.subs → Idle n P (served s c).1.clients (served s c).1.subs
-idle-served n P s Connect e i = record { none = i.none; quiet = λ j p. ap (messages_for n) (queue_of-new j s.next_client s.clients) ∙ i.quiet j p }
+idle-served n P s Connect e i = record { none = i.none; quiet = λ j p. ap (messages_for n) (queue_of-new j s.next_client s.moment s.clients) ∙ i.quiet j p }
 idle-served n P s (Subscribe k t) e i =
     let other : s.next_sub ≢ n = elim e [ inl h ↦ omega arith | inr h ↦ omega arith ] in
     record { none = named-new n _ s.subs other ∙ i.none; quiet = i.quiet }
@@ -70,6 +70,11 @@ idle-served n P s (Publish k t message) e i =
     let to = spread-other n s.next_message message (subscribers t s.subs) s.clients (named-none n _ s.subs i.none) in
     record { none = named-none n _ s.subs i.none; quiet = λ j p. to.waits j ∙ i.quiet j p }
 idle-served n P s (Poll k) e i = record { none = i.none; quiet = λ j p. silent-emptied n j k s.clients (i.quiet j p) }
+idle-served n P s (PollNumbered k number) e i = elim (number == last_of k s.clients)
+    as (λ again. Idle n P (if again then same_batch s k number else next_batch s k number).1.clients (if again then same_batch s k number else next_batch s k number).1.subs) [
+      | true ↦ i
+      | false ↦ record { none = i.none; quiet = λ j p. waiting-same n j _ _ (same-kept k number s.clients) ∙ silent-emptied n j k s.clients (i.quiet j p) }
+    ]
 idle-served n P s (Disconnect k) e i = record { none = named-none n _ s.subs i.none; quiet = λ j p. silent-gone n j k s.clients (i.quiet j p) }
 
 -- a poll of client j, where nothing waits for the subscription but at client k
@@ -85,6 +90,11 @@ next-served s (Subscribe k t) = omega arith
 next-served s (Unsubscribe k sub) = omega arith
 next-served s (Publish k t message) = omega arith
 next-served s (Poll k) = omega arith
+next-served s (PollNumbered k number) = elim (number == last_of k s.clients)
+    as (λ again. s.next_sub ≤ (if again then same_batch s k number else next_batch s k number).1.next_sub) [
+      | true ↦ omega arith
+      | false ↦ omega arith
+    ]
 next-served s (Disconnect k) = omega arith
 
 -- A subscription of client k that has ended.
@@ -94,13 +104,13 @@ pub record Done (n k : ℕ) (s : Board) : Type 0 where
 
 -- its messages move from what waits to what it got
 pub record Stays (n k : ℕ) (c : Call) (r : Reply) (s t : Board) : Type 0 where
-  pub left : left_by k c r ≡ false
+  pub left : says_bye k c r ≡ false
   pub done : Done n k t
   pub moves : handed_to n r ++ waiting n k t.clients ≡ waiting n k s.clients
 
 -- its client disconnects
 pub record Parts (n k : ℕ) (c : Call) (r : Reply) (s t : Board) : Type 0 where
-  pub left : left_by k c r ≡ true
+  pub left : says_bye k c r ≡ true
   pub done : Done n k t
   pub hands : handed_to n r ≡ []
   pub waits : waiting n k t.clients ≡ []
@@ -112,7 +122,7 @@ done-after n k s c d =
     record { old = omega arith; idle = idle-served n (λ j. j ≢ k) s c (inr old) d.idle }
 
 pub done-served : (n k : ℕ) (s : Board) (c : Call) → Done n k s → Stays n k c (served s c).0 s (served s c).1 ⊎ Parts n k c (served s c).0 s (served s c).1
-done-served n k s Connect d = inl (record { left = refl; done = done-after n k s Connect d; moves = ap (messages_for n) (queue_of-new k s.next_client s.clients) })
+done-served n k s Connect d = inl (record { left = refl; done = done-after n k s Connect d; moves = ap (messages_for n) (queue_of-new k s.next_client s.moment s.clients) })
 done-served n k s (Subscribe j t) d = inl (record { left = refl; done = done-after n k s (Subscribe j t) d; moves = refl })
 done-served n k s (Unsubscribe j sub) d = inl (record { left = refl; done = done-after n k s (Unsubscribe j sub) d; moves = refl })
 done-served n k s (Publish j t message) d =
@@ -122,6 +132,19 @@ done-served n k s (Publish j t message) d =
       moves = (spread-other n s.next_message message (subscribers t s.subs) s.clients (named-none n _ s.subs d.idle.none)).waits k;
     })
 done-served n k s (Poll j) d = inl (record { left = refl; done = done-after n k s (Poll j) d; moves = poll-moves n k j s.clients d.idle.quiet })
+done-served n k s (PollNumbered j number) d = inl (record {
+  left = elim (number == last_of j s.clients)
+      as (λ again. says_bye k (PollNumbered j number) (if again then same_batch s j number else next_batch s j number).0 ≡ false) [
+        | true ↦ refl
+        | false ↦ refl
+      ];
+  done = done-after n k s (PollNumbered j number) d;
+  moves = elim (number == last_of j s.clients)
+      as (λ again. handed_to n (if again then same_batch s j number else next_batch s j number).0 ++ waiting n k (if again then same_batch s j number else next_batch s j number).1.clients ≡ waiting n k s.clients) [
+        | true ↦ refl
+        | false ↦ ap (λ m. messages_for n (queue_of j s.clients) ++ m) (waiting-same n k _ _ (same-kept j number s.clients)) ∙ poll-moves n k j s.clients d.idle.quiet
+      ];
+})
 done-served n k s (Disconnect j) d = elim (eqb_tells j k) [
   | inl same ↦ inr (record {
     left = same.0;
@@ -145,14 +168,14 @@ pub record Live (n k : ℕ) (t : Topic) (s : Board) : Type 0 where
 
 -- it stays live: what is published to its topic comes behind what waits
 pub record Goes (n k : ℕ) (t : Topic) (c : Call) (r : Reply) (s s' : Board) : Type 0 where
-  pub ended : ended_by n k c r ≡ false
-  pub left : left_by k c r ≡ false
+  pub ended : ends n k c r ≡ false
+  pub left : says_bye k c r ≡ false
   pub live : Live n k t s'
   pub moves : handed_to n r ++ waiting n k s'.clients ≡ waiting n k s.clients ++ cons_option (published_to t c r) []
 
 -- it ends: what waits stays, or is gone with its client
 abbrev pub Ends : ℕ → ℕ → Call → Reply → Board → Board → Type 0
-Ends n k c r s s' = (ended_by n k c r ≡ true) × (Stays n k c r s s' ⊎ Parts n k c r s s')
+Ends n k c r s s' = (ends n k c r ≡ true) × (Stays n k c r s s' ⊎ Parts n k c r s s')
 
 abbrev pub LiveStep : ℕ → ℕ → Topic → Call → Reply → Board → Board → Type 0
 LiveStep n k t c r s s' = Goes n k t c r s s' ⊎ Ends n k c r s s'
@@ -214,9 +237,9 @@ live-served n k t s Connect l = inl (record {
     old = l.old;
     one = l.one;
     connected = connected-new k _ s.clients l.connected;
-    quiet = λ j o. ap (messages_for n) (queue_of-new j s.next_client s.clients) ∙ l.quiet j o;
+    quiet = λ j o. ap (messages_for n) (queue_of-new j s.next_client s.moment s.clients) ∙ l.quiet j o;
   };
-  moves = ap (messages_for n) (queue_of-new k s.next_client s.clients) ∙ sym (append-nil _);
+  moves = ap (messages_for n) (queue_of-new k s.next_client s.moment s.clients) ∙ sym (append-nil _);
 })
 live-served n k t s (Subscribe j at) l =
     let old = l.old in
@@ -255,6 +278,23 @@ live-served n k t s (Poll j) l = inl (record {
   };
   moves = poll-moves n k j s.clients l.quiet ∙ sym (append-nil _);
 })
+live-served n k t s (PollNumbered j number) l = elim (number == last_of j s.clients)
+    as (λ again. LiveStep n k t (PollNumbered j number) (if again then same_batch s j number else next_batch s j number).0 s (if again then same_batch s j number else next_batch s j number).1) [
+      | true ↦ inl (record { ended = refl; left = refl; live = l; moves = sym (append-nil _) })
+      | false ↦
+          let same = same-kept j number s.clients in
+          inl (record {
+            ended = refl;
+            left = refl;
+            live = record {
+              old = l.old;
+              one = l.one;
+              connected = same.here k ∙ (connected-at k j emptied s.clients (λ c. refl) ∙ l.connected);
+              quiet = λ i o. waiting-same n i _ _ same ∙ silent-emptied n i j s.clients (l.quiet i o);
+            };
+            moves = ap (λ m. messages_for n (queue_of j s.clients) ++ m) (waiting-same n k _ _ same) ∙ (poll-moves n k j s.clients l.quiet ∙ sym (append-nil _));
+          })
+    ]
 live-served n k t s (Disconnect j) l = elim (eqb_tells j k) [
   | inl same ↦ inr (
     same.0,

@@ -1,12 +1,13 @@
 -- What was due to a subscription by the history, what it got by the history, and what rests in the state.
-use Rattle.std.specs.Prelude.{◌≡◌, ℕ, Bool, true, false, ◌==◌, if◌then◌else◌, List, [], ◌∷◌, ◌++◌, filter_map, flat_map, Option, Some, None}
+use Rattle.std.specs.Prelude.{◌≡◌, ℕ, Bool, true, false, ◌==◌, ◌||◌, if◌then◌else◌, List, [], ◌∷◌, ◌++◌, filter_map, flat_map, Option, Some, None}
 use Rattle.std.specs.List.{list_any}
 use Rattle.amf_broker.specs.declared.topic.Topic.{Topic}
 use Rattle.amf_broker.specs.declared.call.Call.{Call}
 use Rattle.amf_broker.specs.declared.call.Call.TheVariants.{Subscribe, Publish, Disconnect}
 use Rattle.amf_broker.specs.declared.reply.Delivery.{Delivery}
 use Rattle.amf_broker.specs.declared.reply.Reply.{Reply}
-use Rattle.amf_broker.specs.declared.reply.Reply.TheVariants.{Subscribed, Unsubscribed, Published, Batch, Bye}
+use Rattle.amf_broker.specs.declared.reply.Answer.{Answer}
+use Rattle.amf_broker.specs.declared.reply.Reply.TheVariants.{Subscribed, Unsubscribed, Published, Batch, Numbered, Bye}
 use Rattle.amf_broker.specs.State.{State}
 use Rattle.amf_broker.specs.Machine.{is_same_topic, queue_of}
 use Rattle.amf_broker.specs.History.{Entry, Leaves, then_entry}
@@ -21,26 +22,38 @@ abbrev pub disconnects : ℕ → Call → Bool
 disconnects client (Disconnect c) = c == client
 disconnects client _ = false
 
--- the entry is the client's Bye
-abbrev pub left_by : ℕ → Call → Reply → Bool
-left_by client call Bye = disconnects client call
-left_by client call _ = false
+-- the client is among these
+abbrev pub is_in : ℕ → List ℕ → Bool
+is_in client ids = list_any (λ id. id == client) ids
 
--- the client disconnected in these entries
+-- the reply is the client's Bye
+abbrev pub says_bye : ℕ → Call → Reply → Bool
+says_bye client call Bye = disconnects client call
+says_bye client call _ = false
+
+-- by the entry the client expired or disconnected
+abbrev pub left_by : ℕ → Call → Answer → Bool
+left_by client call a = is_in client a.expired || says_bye client call a.reply
+
+-- the client expired or disconnected in these entries
 abbrev pub has_left : ℕ → List Entry → Bool
-has_left client entries = list_any (λ e. left_by client e.call e.reply) entries
+has_left client entries = list_any (λ e. left_by client e.call e.answer) entries
 
--- the entry ended the subscription of this client
-abbrev pub ended_by : ℕ → ℕ → Call → Reply → Bool
-ended_by sub client call (Unsubscribed s) = s == sub
-ended_by sub client call (Published number ended) = list_any (λ s. s == sub) ended
-ended_by sub client call Bye = disconnects client call
-ended_by sub client call _ = false
+-- the reply ended the subscription of this client
+abbrev pub ends : ℕ → ℕ → Call → Reply → Bool
+ends sub client call (Unsubscribed s) = s == sub
+ends sub client call (Published number ended) = is_in sub ended
+ends sub client call Bye = disconnects client call
+ends sub client call _ = false
+
+-- by the entry the subscription of this client ended
+abbrev pub ended_by : ℕ → ℕ → Call → Answer → Bool
+ended_by sub client call a = is_in client a.expired || ends sub client call a.reply
 
 -- the entries before the first that ended the subscription
 abbrev pub while_live : ℕ → ℕ → List Entry → List Entry
 while_live sub client [] = []
-while_live sub client (e ∷ later) = if ended_by sub client e.call e.reply then [] else e ∷ while_live sub client later
+while_live sub client (e ∷ later) = if ended_by sub client e.call e.answer then [] else e ∷ while_live sub client later
 
 -- the message of a publish to this topic
 abbrev pub message_to : Topic → Call → Option (List ℕ)
@@ -58,7 +71,7 @@ published_to topic call _ = None
 
 -- What was due to a subscription: the messages published to its topic in the entries since it began, before its end.
 abbrev pub due : ℕ → ℕ → Topic → List Entry → List Message
-due sub client topic since = filter_map (λ e. published_to topic e.call e.reply) (while_live sub client since)
+due sub client topic since = filter_map (λ e. published_to topic e.call e.answer.reply) (while_live sub client since)
 
 -- those deliveries that are the subscription's
 abbrev pub message_for : ℕ → Delivery → Option Message
@@ -69,11 +82,12 @@ messages_for sub deliveries = filter_map (message_for sub) deliveries
 
 abbrev pub handed_to : ℕ → Reply → List Message
 handed_to sub (Batch deliveries ended) = messages_for sub deliveries
+handed_to sub (Numbered number deliveries ended) = messages_for sub deliveries
 handed_to sub _ = []
 
--- What the subscription got: its deliveries in the replies to polls.
+-- What the subscription got: its deliveries in the replies to polls. A batch that was handed out again is not counted again.
 abbrev pub got : ℕ → List Entry → List Message
-got sub history = flat_map (λ e. handed_to sub e.reply) history
+got sub history = flat_map (λ e. handed_to sub e.answer.reply) history
 
 -- What rests: its deliveries in the queue of its client.
 abbrev pub rest : ℕ → ℕ → State → List Message
@@ -87,22 +101,22 @@ pub record Delivers (history since : List Entry) (s : State) (sub client : ℕ) 
   pub connected : has_left client since ≡ false → got sub history ++ rest sub client s ≡ due sub client topic since
   pub gone : has_left client since ≡ true → IsPrefix (got sub history) (due sub client topic since)
 
--- the entry that began a subscription
-abbrev pub began : ℕ → ℕ → Topic → ℕ → Entry
-began by client topic sub = record { caller = by; call = Subscribe client topic; reply = Subscribed sub }
+-- the entry began the subscription
+abbrev pub Begins : Entry → ℕ → ℕ → Topic → Type 0
+Begins e sub client topic = (e.call ≡ Subscribe client topic) × (e.answer.reply ≡ Subscribed sub)
 
 -- They hold of every subscription of a history.
 abbrev pub AllDelivered : List Entry → State → Type 0
 AllDelivered history s =
-    (earlier since : List Entry) (by sub client : ℕ) (topic : Topic)
-    → history ≡ earlier ++ (began by client topic sub ∷ since) → Delivers history since s sub client topic
+    (earlier since : List Entry) (e : Entry) (sub client : ℕ) (topic : Topic)
+    → Begins e sub client topic → history ≡ earlier ++ (e ∷ since) → Delivers history since s sub client topic
 
 -- The law of delivery: over every legal history.
 abbrev pub DeliveryHolds : Type 0
 DeliveryHolds = (history : List Entry) (s : State) → Leaves history s → AllDelivered history s
 
 -- Whichever history left s, with this entry it leaves t, and the two sentences hold of it.
-abbrev pub KeepsDelivery : State → Call → Reply → State → Type 0
-KeepsDelivery s call reply t =
+abbrev pub KeepsDelivery : State → ℕ → Call → Answer → State → Type 0
+KeepsDelivery s at call told t =
     (history : List Entry) (by : ℕ) → Leaves history s
-    → Leaves (then_entry history by call reply) t × AllDelivered (then_entry history by call reply) t
+    → Leaves (then_entry history by at call told) t × AllDelivered (then_entry history by at call told) t

@@ -6,3 +6,4 @@ pub mod Sound
 pub mod Admission
 pub mod Parcels
 pub mod Memory
+pub mod Moments

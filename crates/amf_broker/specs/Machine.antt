@@ -1,13 +1,14 @@
--- The broker as a machine: the reply to each call, and the state after it.
-use Rattle.std.specs.Prelude.{ℕ, ◌+◌, Bool, not, ◌&&◌, ◌==◌, nat_lt, nat_le, if◌then◌else◌, List, [], ◌∷◌, ◌++◌, length, filter, find, Option, Some, None, is_some, bytes_eq}
+-- The broker as a machine: the answer to each call, and the state after it.
+use Rattle.std.specs.Prelude.{ℕ, ◌+◌, Bool, not, ◌&&◌, ◌==◌, nat_lt, nat_le, ◌||◌, if◌then◌else◌, List, [], ◌∷◌, ◌++◌, length, map, filter, find, Option, Some, None, is_some, bytes_eq}
 use Rattle.std.specs.List.{list_any}
-use Rattle.amf_broker.specs.declared.limits.TheConstants.{MAX_CLIENTS, MAX_SUBS, MAX_QUEUED, MAX_SUBTOPIC, MAX_MESSAGE}
+use Rattle.amf_broker.specs.declared.limits.TheConstants.{MAX_CLIENTS, MAX_SUBS, MAX_QUEUED, MAX_SUBTOPIC, MAX_MESSAGE, MAX_IDLE}
 use Rattle.amf_broker.specs.declared.topic.Topic.{Topic}
 use Rattle.amf_broker.specs.declared.call.Call.{Call}
-use Rattle.amf_broker.specs.declared.call.Call.TheVariants.{Connect, Subscribe, Unsubscribe, Publish, Poll, Disconnect}
+use Rattle.amf_broker.specs.declared.call.Call.TheVariants.{Connect, Subscribe, Unsubscribe, Publish, Poll, PollNumbered, Disconnect}
 use Rattle.amf_broker.specs.declared.reply.Delivery.{Delivery}
 use Rattle.amf_broker.specs.declared.reply.Reply.{Reply}
-use Rattle.amf_broker.specs.declared.reply.Reply.TheVariants.{Client, Subscribed, Unsubscribed, Published, Batch, Bye, Full, NoClient, NoTopic, TooLong, TooManySubs, NoSub}
+use Rattle.amf_broker.specs.declared.reply.Answer.{Answer}
+use Rattle.amf_broker.specs.declared.reply.Reply.TheVariants.{Client, Subscribed, Unsubscribed, Published, Batch, Numbered, Again, Bye, Full, NoClient, NoTopic, TooLong, TooManySubs, NoSub, BadNumber}
 use Rattle.amf_broker.specs.State.{State, Board, Connection, Subscription}
 
 -- the client of this number, if it is connected
@@ -37,6 +38,28 @@ ended_in (Some c) = c.ended
 abbrev pub ended_of : ℕ → List Connection → List ℕ
 ended_of id clients = ended_in (client_at id clients)
 
+-- the number of the client's last numbered poll, and the batch that is kept of it
+abbrev pub last_in : Option Connection → ℕ
+last_in None = 0
+last_in (Some c) = c.last
+
+abbrev pub last_of : ℕ → List Connection → ℕ
+last_of id clients = last_in (client_at id clients)
+
+abbrev pub kept_in : Option Connection → List Delivery
+kept_in None = []
+kept_in (Some c) = c.kept
+
+abbrev pub kept_of : ℕ → List Connection → List Delivery
+kept_of id clients = kept_in (client_at id clients)
+
+abbrev pub kept_ended_in : Option Connection → List ℕ
+kept_ended_in None = []
+kept_ended_in (Some c) = c.kept_ended
+
+abbrev pub kept_ended_of : ℕ → List Connection → List ℕ
+kept_ended_of id clients = kept_ended_in (client_at id clients)
+
 -- two topics are equal where their bytes are
 abbrev pub is_same_topic : Topic → Topic → Bool
 is_same_topic a b = bytes_eq a.destination b.destination && bytes_eq a.subtopic b.subtopic
@@ -64,6 +87,10 @@ or_then (Some first) second = Some first
 abbrev pub client_refusal : Board → ℕ → Option Reply
 client_refusal b client = if is_connected client b.clients then None else Some (NoClient client)
 
+-- a numbered poll asks for the next batch, or for the one before once more
+abbrev pub number_refusal : ℕ → ℕ → Option Reply
+number_refusal last number = if number == last + 1 || (number == last && nat_le 1 last) then None else Some (BadNumber last)
+
 abbrev pub refusal : Board → Call → Option Reply
 refusal b Connect = if nat_le MAX_CLIENTS (length b.clients) then Some (Full MAX_CLIENTS) else None
 refusal b (Subscribe client topic) =
@@ -76,15 +103,20 @@ refusal b (Publish client topic message) =
     or_then (client_refusal b client) (or_then (topic_refusal b topic)
     (if nat_lt MAX_MESSAGE (length message) then Some (TooLong MAX_MESSAGE) else None))
 refusal b (Poll client) = client_refusal b client
+refusal b (PollNumbered client number) = or_then (client_refusal b client) (number_refusal (last_of client b.clients) number)
 refusal b (Disconnect client) = client_refusal b client
 
 -- What is answered where nothing is refused.
+
+-- a client that has just come
+abbrev pub new_client : ℕ → ℕ → Connection
+new_client id moment = record { id = id; queue = []; ended = []; seen = moment; last = 0; kept = []; kept_ended = [] }
 
 abbrev pub connected : Board → Reply × Board
 connected b = (
   Client b.next_client,
   record b {
-    clients = b.clients ++ (record { id = b.next_client; queue = []; ended = [] } ∷ []);
+    clients = b.clients ++ (new_client b.next_client b.moment ∷ []);
     next_client = b.next_client + 1;
   },
 )
@@ -147,21 +179,39 @@ published b topic message =
     )
 
 abbrev pub emptied : Connection → Connection
-emptied c = record { id = c.id; queue = []; ended = [] }
+emptied c = record c { queue = []; ended = [] }
 
 -- the whole queue from front to back
 abbrev pub polled : Board → ℕ → Reply × Board
 polled b client = (Batch (queue_of client b.clients) (ended_of client b.clients), record b { clients = at_client client emptied b.clients })
 
--- the client's subscriptions end, and its queue is gone
-abbrev pub disconnected : Board → ℕ → Reply × Board
-disconnected b client = (
-  Bye,
-  record b {
-    clients = filter (λ c. not (c.id == client)) b.clients;
-    subs = filter (λ u. not (u.client == client)) b.subs;
-  },
+-- the batch is kept under its number
+abbrev pub kept_as : ℕ → Connection → Connection
+kept_as number c = record c { queue = []; ended = []; last = number; kept = c.queue; kept_ended = c.ended }
+
+-- the next batch: what a poll hands out
+abbrev pub next_batch : Board → ℕ → ℕ → Reply × Board
+next_batch b client number = (
+  Numbered number (queue_of client b.clients) (ended_of client b.clients),
+  record b { clients = at_client client (kept_as number) b.clients },
 )
+
+-- the batch that is kept
+abbrev pub same_batch : Board → ℕ → ℕ → Reply × Board
+same_batch b client number = (Again number (kept_of client b.clients) (kept_ended_of client b.clients), b)
+
+abbrev pub polled_numbered : Board → ℕ → ℕ → Reply × Board
+polled_numbered b client number = if number == last_of client b.clients then same_batch b client number else next_batch b client number
+
+-- the client's subscriptions end, and its queue is gone
+abbrev pub without : ℕ → Board → Board
+without client b = record b {
+  clients = filter (λ c. not (c.id == client)) b.clients;
+  subs = filter (λ u. not (u.client == client)) b.subs;
+}
+
+abbrev pub disconnected : Board → ℕ → Reply × Board
+disconnected b client = (Bye, without client b)
 
 abbrev pub served : Board → Call → Reply × Board
 served b Connect = connected b
@@ -169,21 +219,66 @@ served b (Subscribe client topic) = subscribed b client topic
 served b (Unsubscribe client sub) = unsubscribed b sub
 served b (Publish client topic message) = published b topic message
 served b (Poll client) = polled b client
+served b (PollNumbered client number) = polled_numbered b client number
 served b (Disconnect client) = disconnected b client
+
+-- What comes before and after the reply to any call.
+
+-- the present moment, which never falls back
+abbrev pub later : ℕ → ℕ → ℕ
+later present moment = if nat_le present moment then moment else present
+
+-- no call has named the client for so long that it expires
+abbrev pub is_idle : ℕ → Connection → Bool
+is_idle present c = nat_le (c.seen + MAX_IDLE) present
+
+-- the clients that expire at a call of this moment, in order of their numbers
+abbrev pub expired_at : ℕ → Board → List ℕ
+expired_at moment b = map (λ c. c.id) (filter (is_idle (later b.moment moment)) b.clients)
+
+-- these clients leave one after another, each as by a Disconnect
+abbrev pub without_all : List ℕ → Board → Board
+without_all [] b = b
+without_all (client ∷ others) b = without_all others (without client b)
+
+abbrev pub advanced : ℕ → List ℕ → Board → Board
+advanced present expired b = without_all expired (record b { moment = present })
+
+-- the board that a call of this moment finds
+abbrev pub found : ℕ → Board → Board
+found moment b = advanced (later b.moment moment) (expired_at moment b) b
+
+-- the client that a call names
+abbrev pub named_by : Call → Option ℕ
+named_by Connect = None
+named_by (Subscribe client topic) = Some client
+named_by (Unsubscribe client sub) = Some client
+named_by (Publish client topic message) = Some client
+named_by (Poll client) = Some client
+named_by (PollNumbered client number) = Some client
+named_by (Disconnect client) = Some client
+
+abbrev pub seen_at : ℕ → Connection → Connection
+seen_at present c = record c { seen = present }
+
+-- the client, if it is connected, was seen at the present moment
+abbrev pub sighted : Option ℕ → Board → Board
+sighted None b = b
+sighted (Some client) b = record b { clients = at_client client (seen_at b.moment) b.clients }
 
 -- a refusal changes nothing
 abbrev pub unless : Option Reply → Board → Reply × Board → Reply × Board
 unless (Some refused) b otherwise = (refused, b)
 unless None b otherwise = otherwise
 
--- the answer to a call
-abbrev pub answer : Board → Call → Reply × Board
-answer b call = unless (refusal b call) b (served b call)
+-- the reply to a call, and the board after it
+abbrev pub reply_on : Board → Call → Reply × Board
+reply_on b call = unless (refusal b call) b (served b call)
 
--- the reply to a call
-unfoldable pub reply_to : State → Call → Reply
-reply_to s call = (answer s.board call).0
+-- the answer to a call
+unfoldable pub answer_to : State → ℕ → Call → Answer
+answer_to s moment call = record { reply = (reply_on (found moment s.board) call).0; expired = expired_at moment s.board }
 
 -- the state after it: each answer counts as one call
-unfoldable pub after : State → Call → State
-after s call = record { board = (answer s.board call).1; calls = s.calls + 1 }
+unfoldable pub after : State → ℕ → Call → State
+after s moment call = record { board = sighted (named_by call) (reply_on (found moment s.board) call).1; calls = s.calls + 1 }

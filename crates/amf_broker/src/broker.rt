@@ -1,11 +1,11 @@
 ghost use Rattle.std.specs.Prelude.{◌≡◌, ℕ, List, ◌<◌, ◌^◌, IfOk, OnOk, OnErr, IsOk, IsTrue, length, sum_by};
 ghost use Rattle.amf_broker.specs.State.{first};
-ghost use Rattle.amf_broker.specs.Machine.{reply_to, after};
+ghost use Rattle.amf_broker.specs.Machine.{answer_to, after};
 ghost use Rattle.amf_broker.specs.Delivery.{KeepsDelivery};
 ghost use Rattle.amf_broker.specs.Memory.{takes_none};
 
 use crate::switchboard::Switchboard;
-use crate::{Call, Reply};
+use crate::{Answer, Call, ClientIds};
 use amf_wire::{Memory, Name};
 use std::alloc::Global;
 use std::marker::Model;
@@ -51,25 +51,36 @@ impl Broker {
         self.board.queued()
     }
 
-    /// Answers a call, of which a broker takes 2^62. After `Memory` the broker is as before, and no call is counted.
-    pub fn step(&mut self, alloc: Global, call: Call) -> Result<Reply, Memory>
+    /// Answers a call of this moment, of which a broker takes 2^62. The moment is in milliseconds, and one that is before
+    /// the present moment stands for it. After `Memory` the broker is as before, the present moment too, and no call is
+    /// counted.
+    pub fn step(&mut self, alloc: Global, moment: u64, call: Call) -> Result<Answer, Memory>
         requires { self.old.calls < 2 ^ 62 }
 
-        // The reply and the state are the machine's.
-        ensures reply { IfOk result (λ reply. reply ≡ reply_to self.old call) }
-        ensures state { OnOk result (self.new ≡ after self.old call) }
+        // The answer and the state are the machine's.
+        ensures answer { IfOk result (λ a. a ≡ answer_to self.old moment call) }
+        ensures state { OnOk result (self.new ≡ after self.old moment call) }
         ensures memory { OnErr result (self.new ≡ self.old) }
 
         // So each subscription of any history got what was due to it.
-        ensures delivery { IfOk result (λ reply. KeepsDelivery self.old call reply self.new) }
+        ensures delivery { IfOk result (λ a. KeepsDelivery self.old moment call a self.new) }
 
-        ensures takes_none { IsTrue (takes_none call (reply_to self.old call)) → IsOk result }
+        ensures takes_none { IsTrue (takes_none call (answer_to self.old moment call)) → IsOk result }
     {
-        let reply = match self.board.admitted(call) {
-            Err(refusal) => refusal,
-            Ok(call) => self.board.serve(alloc, call)?,
+        let moment = self.board.moment(alloc, moment)?;
+        let caller = call.client();
+        let reply = match self.board.admitted(&moment, call) {
+            Err(refusal) => {
+                self.board.advance(&moment);
+                refusal
+            }
+            Ok(call) => self.board.serve(alloc, &moment, call)?,
         };
+        self.board.see(caller);
         self.calls += 1;
-        Ok(reply)
+        Ok(Answer {
+            reply,
+            expired: ClientIds::of_vec(moment.expired),
+        })
     }
 }

@@ -1,3 +1,5 @@
+ghost use Rattle.std.specs.Prelude.{◌≡◌};
+
 use crate::{ClientId, SubId, Topic};
 use amf_wire::Name;
 
@@ -26,8 +28,32 @@ pub enum Call {
     Poll {
         client: ClientId,
     },
+    /// The poll of this number, which counts from 1: all that is queued, or the batch of the poll before once more.
+    PollNumbered {
+        client: ClientId,
+        number: u64,
+    },
     /// The end of a client, of its subscriptions and of its queue.
     Disconnect {
         client: ClientId,
     },
+}
+
+impl Call {
+    ghost use Rattle.amf_broker.specs.Machine.{named_by};
+
+    /// The client that the call names.
+    pub(crate) fn client(&self) -> Option<ClientId>
+        ensures { result ≡ named_by self.now }
+    {
+        match self {
+            Call::Connect => None,
+            Call::Subscribe { client, .. }
+            | Call::Unsubscribe { client, .. }
+            | Call::Publish { client, .. }
+            | Call::Poll { client }
+            | Call::PollNumbered { client, .. }
+            | Call::Disconnect { client } => Some(*client),
+        }
+    }
 }

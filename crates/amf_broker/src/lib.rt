@@ -8,9 +8,12 @@ mod laws;
 mod limits;
 mod live_sub;
 mod mailbox;
+mod moment;
 mod parcel;
 mod parcels;
+mod payload;
 mod reply;
+mod room;
 mod switchboard;
 mod topic;
 
@@ -18,8 +21,9 @@ pub use broker::Broker;
 pub use call::Call;
 pub use ids::{ClientId, SubId};
 pub use laws::{delivery_holds, entries_count};
-pub use limits::{MAX_CLIENTS, MAX_MESSAGE, MAX_QUEUED, MAX_SUBS, MAX_SUBTOPIC};
-pub use reply::{Deliveries, Delivery, Reply, SubIds};
+pub use limits::{MAX_CLIENTS, MAX_IDLE, MAX_MESSAGE, MAX_QUEUED, MAX_SUBS, MAX_SUBTOPIC};
+pub use payload::Payload;
+pub use reply::{Answer, ClientIds, Deliveries, Delivery, Reply, SubIds};
 pub use topic::Topic;
 
 #[cfg(test)]

@@ -12,3 +12,6 @@ pub const MAX_SUBTOPIC: u32 = 255;
 
 /// The most bytes of a message.
 pub const MAX_MESSAGE: u32 = 32768;
+
+/// The milliseconds after which a client that no call has named expires.
+pub const MAX_IDLE: u64 = 600_000;

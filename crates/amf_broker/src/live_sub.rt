@@ -1,4 +1,5 @@
-ghost use Rattle.std.specs.Prelude.{◌≡◌, ◌==◌, count_by};
+ghost use Rattle.std.specs.Prelude.{◌≡◌, ◌==◌, ◌&&◌, count_by};
+ghost use Rattle.std.specs.List.{list_any};
 ghost use Rattle.amf_broker.specs.Machine.{is_same_topic};
 
 use crate::{ClientId, SubId, Topic};
@@ -52,4 +53,12 @@ pub(crate) fn live_of(subs: &[LiveSub], client: ClientId) -> usize
     ensures { result ≡ count_by (λ u. u.client == client) subs.now }
 {
     subs.iter().filter(|live| live.client() == client).count()
+}
+
+/// Whether the subscription is one of these, and the client's.
+pub(crate) fn is_live(subs: &[LiveSub], sub: SubId, client: ClientId) -> bool
+    ensures { result ≡ list_any (λ u. u.id == sub && u.client == client) subs.now }
+{
+    subs.iter()
+        .any(|live| live.id() == sub && live.client() == client)
 }

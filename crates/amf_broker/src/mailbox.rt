@@ -1,7 +1,8 @@
-ghost use Rattle.std.specs.Prelude.{◌≡◌, ◌<◌, ◌≤◌, ◌==◌, [], length, position, nat_le, IfOk, IfSome, OnErr};
-ghost use Rattle.amf_broker.specs.Machine.{with_delivery, with_ended, emptied, ended_of, is_connected};
+ghost use Rattle.std.specs.Prelude.{◌≡◌, ◌<◌, ◌≤◌, ◌==◌, [], length, position, nat_le, IfOk, IfSome};
+ghost use Rattle.amf_broker.specs.Machine.{new_client, with_delivery, with_ended, emptied, kept_as, seen_at, is_idle, ended_of, last_of, is_connected};
 
-use crate::{ClientId, Deliveries, Delivery, MAX_QUEUED, MAX_SUBS, SubId, SubIds};
+use crate::room::Room;
+use crate::{ClientId, Deliveries, Delivery, MAX_IDLE, MAX_QUEUED, MAX_SUBS, SubId, SubIds};
 use amf_wire::Memory;
 use std::alloc::Global;
 use std::marker::Model;
@@ -14,6 +15,10 @@ pub(crate) struct Mailbox {
     id: ClientId,
     queue: Vec<Delivery>,
     ended: Vec<SubId>,
+    seen: u64,
+    last: u64,
+    kept: Vec<Delivery>,
+    kept_ended: Vec<SubId>,
 }
 
 impl Model for Mailbox {
@@ -23,19 +28,24 @@ impl Model for Mailbox {
 
     ghost Value = { Connection };
 
-    ghost view = { λ m. record { id = m.id; queue = m.queue.items; ended = m.ended.items } };
+    ghost view = { λ m. record { id = m.id; queue = m.queue.items; ended = m.ended.items; seen = m.seen; last = m.last; kept = m.kept.items; kept_ended = m.kept_ended.items } };
 
     ghost invariant = { λ m. (vec_len m.queue ≤ MAX_QUEUED) × (MAX_QUEUED ≤ vec_capacity m.queue) × (vec_len m.ended ≤ MAX_SUBS) × (MAX_SUBS ≤ vec_capacity m.ended) };
 }
 
 impl Mailbox {
-    pub(crate) fn new(alloc: Global, id: ClientId) -> Result<Mailbox, Memory>
-        ensures { IfOk result (λ m. m ≡ record { id = id; queue = []; ended = [] }) }
+    pub(crate) fn new(alloc: Global, id: ClientId, present: u64) -> Result<Mailbox, Memory>
+        ensures { IfOk result (λ m. m ≡ new_client id present) }
     {
+        let Room { queue, ended } = Room::new(alloc)?;
         Ok(Mailbox {
             id,
-            queue: Vec::with_capacity(alloc, MAX_QUEUED as usize)?,
-            ended: Vec::with_capacity(alloc, MAX_SUBS as usize)?,
+            queue,
+            ended,
+            seen: present,
+            last: 0,
+            kept: Vec::new(alloc),
+            kept_ended: Vec::new(alloc),
         })
     }
 
@@ -80,18 +90,70 @@ impl Mailbox {
         self.ended.push(sub).unwrap();
     }
 
-    /// Hands out all that waits.
-    pub(crate) fn empty(&mut self, alloc: Global) -> Result<(Deliveries, SubIds), Memory>
-        ensures deliveries { IfOk result (λ all. all.0 ≡ self.old.queue) }
-        ensures ended { IfOk result (λ all. all.1 ≡ self.old.ended) }
-        ensures ok { IfOk result (λ _. self.new ≡ emptied self.old) }
-        ensures err { OnErr result (self.new ≡ self.old) }
+    /// Whether no call has named the client for so long that it expires.
+    pub(crate) fn is_idle(&self, present: u64) -> bool
+        ensures { result ≡ is_idle present self.now }
     {
-        let queue = Vec::with_capacity(alloc, MAX_QUEUED as usize)?;
-        let ended = Vec::with_capacity(alloc, MAX_SUBS as usize)?;
+        present.saturating_sub(self.seen) >= MAX_IDLE
+    }
+
+    pub(crate) fn see(&mut self, present: u64)
+        ensures { self.new ≡ seen_at present self.old }
+    {
+        self.seen = present;
+    }
+
+    /// The number of the last numbered poll, or 0.
+    pub(crate) fn last(&self) -> u64
+        ensures { result ≡ self.now.last }
+    {
+        self.last
+    }
+
+    pub(crate) fn queue(&self) -> &[Delivery]
+        ensures { result.now ≡ self.now.queue }
+    {
+        self.queue.as_slice()
+    }
+
+    pub(crate) fn ended(&self) -> &[SubId]
+        ensures { result.now ≡ self.now.ended }
+    {
+        self.ended.as_slice()
+    }
+
+    pub(crate) fn kept(&self) -> &[Delivery]
+        ensures { result.now ≡ self.now.kept }
+    {
+        self.kept.as_slice()
+    }
+
+    pub(crate) fn kept_ended(&self) -> &[SubId]
+        ensures { result.now ≡ self.now.kept_ended }
+    {
+        self.kept_ended.as_slice()
+    }
+
+    /// Hands out all that waits. The room is for what waits next.
+    pub(crate) fn empty(&mut self, room: Room) -> (Deliveries, SubIds)
+        ensures deliveries { result.0 ≡ self.old.queue }
+        ensures ended { result.1 ≡ self.old.ended }
+        ensures state { self.new ≡ emptied self.old }
+    {
+        let Room { queue, ended } = room;
         let deliveries = mem::replace(&mut self.queue, queue);
         let told = mem::replace(&mut self.ended, ended);
-        Ok((Deliveries::of_vec(deliveries), SubIds::of_vec(told)))
+        (Deliveries::of_vec(deliveries), SubIds::of_vec(told))
+    }
+
+    /// Keeps all that waits under this number. The room is for what waits next.
+    pub(crate) fn keep(&mut self, number: u64, room: Room)
+        ensures { self.new ≡ kept_as number self.old }
+    {
+        let Room { queue, ended } = room;
+        self.kept = mem::replace(&mut self.queue, queue);
+        self.kept_ended = mem::replace(&mut self.ended, ended);
+        self.last = number;
     }
 }
 
@@ -116,6 +178,16 @@ pub(crate) fn untold_of(clients: &[Mailbox], client: ClientId) -> usize
 {
     match place_of(clients, client) {
         Some(place) => clients[place].untold(),
+        None => 0,
+    }
+}
+
+/// The number of the client's last numbered poll, or 0.
+pub(crate) fn last_of(clients: &[Mailbox], client: ClientId) -> u64
+    ensures { result ≡ last_of client clients.now }
+{
+    match place_of(clients, client) {
+        Some(place) => clients[place].last(),
         None => 0,
     }
 }

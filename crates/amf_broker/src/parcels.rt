@@ -1,32 +1,42 @@
-ghost use Rattle.std.specs.Prelude.{◌≡◌, ◌+◌, ◌≤◌, ◌==◌, ℕ, [], length, vec_capacity, IfOk};
+ghost use Rattle.std.specs.Prelude.{◌≡◌, ◌+◌, ◌≤◌, ◌==◌, ℕ, [], length, filter, vec_capacity, IfOk};
 ghost use Rattle.std.specs.List.{list_any};
-ghost use Rattle.amf_broker.specs.Machine.{ended_of, subscribers};
+ghost use Rattle.amf_broker.specs.Machine.{ended_of};
+ghost use Rattle.amf_broker.specs.Moments.{is_reached};
 ghost use Rattle.amf_broker.specs.Parcels.{parcels_for, parcels_of, clients_after, ended_after};
 
 use crate::live_sub::LiveSub;
 use crate::mailbox::Mailbox;
+use crate::moment::is_in;
 use crate::parcel::Parcel;
-use crate::{Delivery, MAX_SUBS, SubId, Topic};
-use amf_wire::{Memory, Name};
+use crate::{ClientId, Deliveries, Delivery, MAX_SUBS, Payload, SubId, Topic};
+use amf_wire::Memory;
 use std::alloc::Global;
 
-/// A parcel with a copy of the message for each subscription of the topic.
+/// Whether the subscription is of the topic, and its client does not expire.
+fn is_reached(live: &LiveSub, expired: &[ClientId], topic: &Topic) -> bool
+    ensures { result ≡ is_reached expired.now topic.now live.now }
+{
+    !is_in(expired, live.client()) && live.is_of(topic)
+}
+
+/// A parcel for each subscription of the topic whose client does not expire. All share the message.
 pub(crate) fn packed(
     alloc: Global,
     subs: &[LiveSub],
+    expired: &[ClientId],
     topic: &Topic,
     number: u64,
-    message: &Name,
+    message: &Payload,
 ) -> Result<Vec<Parcel>, Memory>
-    ensures { IfOk result (λ parcels. parcels.items ≡ parcels_for number message.now (subscribers topic.now subs.now)) }
+    ensures { IfOk result (λ parcels. parcels.items ≡ parcels_for number message.now (filter (is_reached expired.now topic.now) subs.now)) }
 {
     let mut parcels = Vec::new(alloc);
     for live in subs {
-        if live.is_of(topic) {
+        if is_reached(live, expired, topic) {
             let delivery = Delivery {
                 sub: live.id(),
                 number,
-                message: message.copy(alloc)?,
+                message: message.share()?,
             };
             parcels.push(Parcel::new(live.client(), delivery))?;
         }
@@ -59,4 +69,19 @@ pub(crate) fn is_among(subs: &[SubId], sub: SubId) -> bool
     ensures { result ≡ list_any (λ id. id == sub) subs.now }
 {
     subs.iter().any(|id| *id == sub)
+}
+
+/// These deliveries once more, which share their messages.
+pub(crate) fn shared(alloc: Global, deliveries: &[Delivery]) -> Result<Deliveries, Memory>
+    ensures { IfOk result (λ all. all ≡ deliveries.now) }
+{
+    let mut all = Vec::new(alloc);
+    for delivery in deliveries {
+        all.push(Delivery {
+            sub: delivery.sub,
+            number: delivery.number,
+            message: delivery.message.share()?,
+        })?;
+    }
+    Ok(Deliveries::of_vec(all))
 }

@@ -1,6 +1,6 @@
 ghost use Rattle.std.specs.Prelude.{◌≡◌};
 
-use crate::{ClientId, SubId};
+use crate::{ClientId, Payload, SubId};
 use amf_wire::Name;
 use std::marker::Model;
 
@@ -10,7 +10,7 @@ pub struct Delivery {
     pub sub: SubId,
     /// The message's number. Numbers count from 1, and none is used again.
     pub number: u64,
-    pub message: Name,
+    pub message: Payload,
 }
 
 /// Deliveries, in the order in which they were queued.
@@ -74,7 +74,45 @@ impl SubIds {
     }
 }
 
-/// What the broker answers. `Full` and what follows are refusals, which change nothing but the count of calls.
+/// Clients, in order of their numbers.
+#[derive(Debug, Drop)]
+pub struct ClientIds {
+    items: Vec<ClientId>,
+}
+
+impl Model for ClientIds {
+    ghost use Rattle.std.specs.Prelude.{ℕ, List};
+
+    ghost Value = { List ℕ };
+
+    ghost view = { λ c. c.items.items };
+}
+
+impl ClientIds {
+    /// These clients.
+    pub fn of_vec(items: Vec<ClientId>) -> ClientIds
+        ensures { result ≡ items.items }
+    {
+        ClientIds { items }
+    }
+
+    /// The clients, in order.
+    pub fn as_slice(&self) -> &[ClientId]
+        ensures { result.now ≡ self.now }
+    {
+        self.items.as_slice()
+    }
+}
+
+/// What the broker answers to a call: its reply, and the clients that expired before it.
+#[derive(Debug, Drop)]
+pub struct Answer {
+    pub reply: Reply,
+    pub expired: ClientIds,
+}
+
+/// What the broker replies. `Full` and what follows are refusals, which change nothing but
+/// what every call does.
 #[derive(Debug, Drop)]
 pub enum Reply {
     /// The number of the new client.
@@ -93,6 +131,18 @@ pub enum Reply {
         deliveries: Deliveries,
         ended: SubIds,
     },
+    /// The batch of the numbered poll.
+    Numbered {
+        number: u64,
+        deliveries: Deliveries,
+        ended: SubIds,
+    },
+    /// The batch that was handed out under this number before.
+    Again {
+        number: u64,
+        deliveries: Deliveries,
+        ended: SubIds,
+    },
     /// The client is gone.
     Bye,
     /// As many clients are connected as may be.
@@ -107,4 +157,6 @@ pub enum Reply {
     TooManySubs(u32),
     /// No such subscription of this client is live.
     NoSub(SubId),
+    /// The number is neither that of the client's next numbered poll nor that of its last one, which is this.
+    BadNumber(u64),
 }

@@ -1,22 +1,29 @@
 use crate::live_sub::LiveSub;
 use crate::mailbox::{Mailbox, place_of};
-use crate::parcels::{hand_round, is_among, packed};
-use crate::{Call, ClientId, MAX_CLIENTS, MAX_SUBS, Reply, SubId, SubIds, Topic};
+use crate::moment::{Moment, has_idle, idle_among, is_in, later_of};
+use crate::parcel::Parcel;
+use crate::parcels::{hand_round, is_among, packed, shared};
+use crate::room::Room;
+use crate::{Call, ClientId, MAX_CLIENTS, MAX_SUBS, Payload, Reply, SubId, SubIds, Topic};
 use amf_wire::{Memory, Name};
 use std::alloc::Global;
 use std::marker::Model;
 
 mod admission;
 
-ghost use Rattle.std.specs.Prelude.{◌≡◌, ℕ, ◌<◌, ◌^◌, IfOk, OnOk, OnErr, IsOk, None, length, true, sum_by, IsTrue};
+ghost use Rattle.std.specs.Prelude.{◌≡◌, ℕ, List, [], ◌<◌, ◌≤◌, ◌^◌, IfOk, OnOk, OnErr, IsOk, None, length, true, sum_by, vec_len, vec_capacity};
 ghost use Rattle.amf_broker.specs.State.{first_board};
-ghost use Rattle.amf_broker.specs.Machine.{connected, subscribed, unsubscribed, published, polled, disconnected, served, refusal, is_connected, places_of};
-ghost use Rattle.amf_broker.specs.Memory.{is_unsubscribe};
+ghost use Rattle.amf_broker.specs.Machine.{connected, subscribed, unsubscribed, published, polled, kept_as, at_client, next_batch, same_batch, polled_numbered, disconnected, served, refusal, is_connected, places_of, subscribers, last_of, later, expired_at, sighted};
+ghost use Rattle.amf_broker.specs.Memory.{is_unsubscribe, nobody};
+ghost use Rattle.amf_broker.specs.Moments.{board_at, clients_left, subs_left};
+ghost use Rattle.amf_broker.specs.Parcels.{parcels_for};
 
-/// The destinations, the connected clients with what waits for each, and the live subscriptions in order of their numbers.
+/// The destinations, the present moment, the connected clients with what waits for each, and the live subscriptions, these
+/// two in order of their numbers.
 #[derive(Drop)]
 pub(crate) struct Switchboard {
     destinations: Vec<Name>,
+    moment: u64,
     clients: Vec<Mailbox>,
     subs: Vec<LiveSub>,
     next_client: u64,
@@ -30,9 +37,25 @@ impl Model for Switchboard {
 
     ghost Value = { Board };
 
-    ghost view = { λ b. record { destinations = b.destinations.items; clients = b.clients.items; subs = b.subs.items; next_client = b.next_client; next_sub = b.next_sub; next_message = b.next_message } };
+    ghost view = { λ b. record { destinations = b.destinations.items; moment = b.moment; clients = b.clients.items; subs = b.subs.items; next_client = b.next_client; next_sub = b.next_sub; next_message = b.next_message } };
 
-    ghost invariant = { λ b. IsSound (record { destinations = b.destinations.items; clients = b.clients.items; subs = b.subs.items; next_client = b.next_client; next_sub = b.next_sub; next_message = b.next_message }) };
+    ghost invariant = { λ b. IsSound (record { destinations = b.destinations.items; moment = b.moment; clients = b.clients.items; subs = b.subs.items; next_client = b.next_client; next_sub = b.next_sub; next_message = b.next_message }) };
+}
+
+/// The clients that expire leave, and their subscriptions end.
+fn leave(clients: &mut Vec<Mailbox>, subs: &mut Vec<LiveSub>, expired: &[ClientId])
+    ensures clients { clients.new.items ≡ clients_left expired.now clients.old.items }
+    ensures subs { subs.new.items ≡ subs_left expired.now subs.old.items }
+    ensures clients_len { vec_len clients.new ≤ vec_len clients.old }
+    ensures subs_len { vec_len subs.new ≤ vec_len subs.old }
+    ensures clients_room { vec_capacity clients.new ≡ vec_capacity clients.old }
+    ensures subs_room { vec_capacity subs.new ≡ vec_capacity subs.old }
+{
+    if expired.is_empty() {
+        return;
+    }
+    clients.retain(|mailbox| !is_in(expired, mailbox.id()));
+    subs.retain(|live| !is_in(expired, live.client()));
 }
 
 impl Switchboard {
@@ -41,6 +64,7 @@ impl Switchboard {
     {
         Switchboard {
             destinations,
+            moment: 0,
             clients: Vec::new(alloc),
             subs: Vec::new(alloc),
             next_client: 1,
@@ -60,28 +84,76 @@ impl Switchboard {
         queued
     }
 
-    fn connect(&mut self, alloc: Global) -> Result<Reply, Memory>
-        requires few { length self.old.clients < MAX_CLIENTS }
+    /// What the present moment is at a call of this moment, and who expires at it.
+    pub(crate) fn moment(&self, alloc: Global, moment: u64) -> Result<Moment, Memory>
+        ensures present { IfOk result (λ m. m.present ≡ later self.now.moment moment) }
+        ensures expired { IfOk result (λ m. m.expired.items ≡ expired_at moment self.now) }
+        ensures nobody { nobody (expired_at moment self.now) ≡ true → IsOk result }
+    {
+        let present = later_of(self.moment, moment);
+        let expired = if has_idle(&self.clients, present) {
+            idle_among(alloc, &self.clients, present)?
+        } else {
+            Vec::new(alloc)
+        };
+        Ok(Moment { present, expired })
+    }
+
+    /// It is this moment, and the clients that expire at it are gone.
+    pub(crate) fn advance(&mut self, moment: &Moment)
+        ensures { self.new ≡ board_at moment.now self.old }
+    {
+        leave(&mut self.clients, &mut self.subs, &moment.expired);
+        self.moment = moment.present;
+    }
+
+    /// The client was seen at the present moment.
+    pub(crate) fn see(&mut self, client: Option<ClientId>)
+        ensures { self.new ≡ sighted client self.old }
+    {
+        let Some(client) = client else {
+            return;
+        };
+        let Some(place) = place_of(&self.clients, client) else {
+            return;
+        };
+        self.clients[place].see(self.moment);
+    }
+
+    fn connect(&mut self, alloc: Global, moment: &Moment) -> Result<Reply, Memory>
+        requires few { length (board_at moment.now self.old).clients < MAX_CLIENTS }
         requires room { self.old.next_client < 2 ^ 63 }
-        ensures reply { IfOk result (λ reply. reply ≡ (connected self.old).0) }
-        ensures state { OnOk result (self.new ≡ (connected self.old).1) }
+        ensures reply { IfOk result (λ reply. reply ≡ (connected (board_at moment.now self.old)).0) }
+        ensures state { OnOk result (self.new ≡ (connected (board_at moment.now self.old)).1) }
         ensures err { OnErr result (self.new ≡ self.old) }
     {
         let id = ClientId(self.next_client);
-        self.clients.push(Mailbox::new(alloc, id)?)?;
+        let mailbox = Mailbox::new(alloc, id, moment.present)?;
+        self.clients.reserve(1)?;
+        leave(&mut self.clients, &mut self.subs, &moment.expired);
+        self.moment = moment.present;
+        self.clients.push(mailbox).unwrap();
         self.next_client += 1;
         Ok(Reply::Client(id))
     }
 
-    fn subscribe(&mut self, client: ClientId, topic: Topic) -> Result<Reply, Memory>
-        requires few { places_of client self.old < MAX_SUBS }
+    fn subscribe(
+        &mut self,
+        moment: &Moment,
+        client: ClientId,
+        topic: Topic,
+    ) -> Result<Reply, Memory>
+        requires few { places_of client (board_at moment.now self.old) < MAX_SUBS }
         requires room { self.old.next_sub < 2 ^ 63 }
-        ensures reply { IfOk result (λ reply. reply ≡ (subscribed self.old client topic).0) }
-        ensures state { OnOk result (self.new ≡ (subscribed self.old client topic).1) }
+        ensures reply { IfOk result (λ reply. reply ≡ (subscribed (board_at moment.now self.old) client topic).0) }
+        ensures state { OnOk result (self.new ≡ (subscribed (board_at moment.now self.old) client topic).1) }
         ensures err { OnErr result (self.new ≡ self.old) }
     {
         let id = SubId(self.next_sub);
-        self.subs.push(LiveSub::new(id, client, topic))?;
+        self.subs.reserve(1)?;
+        leave(&mut self.clients, &mut self.subs, &moment.expired);
+        self.moment = moment.present;
+        self.subs.push(LiveSub::new(id, client, topic)).unwrap();
         self.next_sub += 1;
         Ok(Reply::Subscribed(id))
     }
@@ -94,34 +166,150 @@ impl Switchboard {
         Reply::Unsubscribed(sub)
     }
 
-    /// The copies of the message are made and the room is taken first, so that a publish that fails has changed nothing.
-    fn publish(&mut self, alloc: Global, topic: Topic, message: Name) -> Result<Reply, Memory>
+    /// The parcels are made and the room is taken first, so that a publish that fails has changed nothing.
+    fn publish(
+        &mut self,
+        alloc: Global,
+        moment: &Moment,
+        topic: Topic,
+        message: Name,
+    ) -> Result<Reply, Memory>
         requires { self.old.next_message < 2 ^ 63 }
-        ensures reply { IfOk result (λ reply. reply ≡ (published self.old topic message).0) }
-        ensures state { OnOk result (self.new ≡ (published self.old topic message).1) }
+        ensures reply { IfOk result (λ reply. reply ≡ (published (board_at moment.now self.old) topic message).0) }
+        ensures state { OnOk result (self.new ≡ (published (board_at moment.now self.old) topic message).1) }
         ensures err { OnErr result (self.new ≡ self.old) }
     {
         let number = self.next_message;
-        let parcels = packed(alloc, &self.subs, &topic, number, &message)?;
+        let message = Payload::new(alloc, message)?;
+        let parcels = packed(alloc, &self.subs, &moment.expired, &topic, number, &message)?;
         let ended = Vec::with_capacity(alloc, parcels.len())?;
+        self.advance(moment);
+        Ok(self.deliver(parcels, ended, &topic, &message))
+    }
+
+    /// Hands the parcels of the next message round. The subscriptions that end by that go into `ended`.
+    fn deliver(
+        &mut self,
+        parcels: Vec<Parcel>,
+        ended: Vec<SubId>,
+        topic: &Topic,
+        message: &Payload,
+    ) -> Reply
+        requires number { self.old.next_message < 2 ^ 63 }
+        requires parcels { parcels.items ≡ parcels_for self.old.next_message message.now (subscribers topic.now self.old.subs) }
+        requires empty { ended.items ≡ [] }
+        requires room { length parcels.items ≤ vec_capacity ended }
+        ensures reply { result ≡ (published self.old topic.now message.now).0 }
+        ensures state { self.new ≡ (published self.old topic.now message.now).1 }
+    {
+        let number = self.next_message;
         let ended = hand_round(parcels, &mut self.clients, ended);
         self.subs.retain(|live| !is_among(&ended, live.id()));
         self.next_message += 1;
-        Ok(Reply::Published {
+        Reply::Published {
             number,
             ended: SubIds::of_vec(ended),
-        })
+        }
     }
 
-    fn poll(&mut self, alloc: Global, client: ClientId) -> Result<Reply, Memory>
+    fn poll(&mut self, alloc: Global, moment: &Moment, client: ClientId) -> Result<Reply, Memory>
+        requires { is_connected client (board_at moment.now self.old).clients ≡ true }
+        ensures reply { IfOk result (λ reply. reply ≡ (polled (board_at moment.now self.old) client).0) }
+        ensures state { OnOk result (self.new ≡ (polled (board_at moment.now self.old) client).1) }
+        ensures err { OnErr result (self.new ≡ self.old) }
+    {
+        let room = Room::new(alloc)?;
+        self.advance(moment);
+        Ok(self.empty(client, room))
+    }
+
+    /// Hands out all that waits for the client.
+    fn empty(&mut self, client: ClientId, room: Room) -> Reply
         requires { is_connected client self.old.clients ≡ true }
-        ensures reply { IfOk result (λ reply. reply ≡ (polled self.old client).0) }
-        ensures state { OnOk result (self.new ≡ (polled self.old client).1) }
+        ensures reply { result ≡ (polled self.old client).0 }
+        ensures state { self.new ≡ (polled self.old client).1 }
+    {
+        let place = place_of(&self.clients, client).unwrap();
+        let (deliveries, ended) = self.clients[place].empty(room);
+        Reply::Batch { deliveries, ended }
+    }
+
+    fn poll_numbered(
+        &mut self,
+        alloc: Global,
+        moment: &Moment,
+        client: ClientId,
+        number: u64,
+    ) -> Result<Reply, Memory>
+        requires { is_connected client (board_at moment.now self.old).clients ≡ true }
+        ensures reply { IfOk result (λ reply. reply ≡ (polled_numbered (board_at moment.now self.old) client number).0) }
+        ensures state { OnOk result (self.new ≡ (polled_numbered (board_at moment.now self.old) client number).1) }
+        ensures err { OnErr result (self.new ≡ self.old) }
+    {
+        if number == self.last_of(moment, client) {
+            self.repeat(alloc, moment, client, number)
+        } else {
+            self.next(alloc, moment, client, number)
+        }
+    }
+
+    /// Hands out the kept batch once more.
+    fn repeat(
+        &mut self,
+        alloc: Global,
+        moment: &Moment,
+        client: ClientId,
+        number: u64,
+    ) -> Result<Reply, Memory>
+        requires { is_connected client (board_at moment.now self.old).clients ≡ true }
+        ensures reply { IfOk result (λ reply. reply ≡ (same_batch (board_at moment.now self.old) client number).0) }
+        ensures state { OnOk result (self.new ≡ (same_batch (board_at moment.now self.old) client number).1) }
         ensures err { OnErr result (self.new ≡ self.old) }
     {
         let place = place_of(&self.clients, client).unwrap();
-        let (deliveries, ended) = self.clients[place].empty(alloc)?;
-        Ok(Reply::Batch { deliveries, ended })
+        let deliveries = shared(alloc, self.clients[place].kept())?;
+        let ended = SubIds::of_vec(self.clients[place].kept_ended().to_vec(alloc)?);
+        self.advance(moment);
+        Ok(Reply::Again {
+            number,
+            deliveries,
+            ended,
+        })
+    }
+
+    /// Hands out all that waits for the client, and keeps it under the number.
+    fn next(
+        &mut self,
+        alloc: Global,
+        moment: &Moment,
+        client: ClientId,
+        number: u64,
+    ) -> Result<Reply, Memory>
+        requires { is_connected client (board_at moment.now self.old).clients ≡ true }
+        ensures reply { IfOk result (λ reply. reply ≡ (next_batch (board_at moment.now self.old) client number).0) }
+        ensures state { OnOk result (self.new ≡ (next_batch (board_at moment.now self.old) client number).1) }
+        ensures err { OnErr result (self.new ≡ self.old) }
+    {
+        let place = place_of(&self.clients, client).unwrap();
+        let deliveries = shared(alloc, self.clients[place].queue())?;
+        let ended = SubIds::of_vec(self.clients[place].ended().to_vec(alloc)?);
+        let room = Room::new(alloc)?;
+        self.advance(moment);
+        self.keep(client, number, room);
+        Ok(Reply::Numbered {
+            number,
+            deliveries,
+            ended,
+        })
+    }
+
+    /// Keeps all that waits for the client under this number.
+    fn keep(&mut self, client: ClientId, number: u64, room: Room)
+        requires { is_connected client self.old.clients ≡ true }
+        ensures { self.new ≡ (next_batch self.old client number).1 }
+    {
+        let place = place_of(&self.clients, client).unwrap();
+        self.clients[place].keep(number, room);
     }
 
     fn disconnect(&mut self, client: ClientId) -> Reply
@@ -133,26 +321,40 @@ impl Switchboard {
         Reply::Bye
     }
 
-    /// Answers a call that is not refused.
-    pub(crate) fn serve(&mut self, alloc: Global, call: Call) -> Result<Reply, Memory>
-        requires allowed { refusal self.old call ≡ None }
+    /// Answers a call of this moment that is not refused.
+    pub(crate) fn serve(
+        &mut self,
+        alloc: Global,
+        moment: &Moment,
+        call: Call,
+    ) -> Result<Reply, Memory>
+        requires allowed { refusal (board_at moment.now self.old) call ≡ None }
         requires room { (self.old.next_client < 2 ^ 63) × (self.old.next_sub < 2 ^ 63) × (self.old.next_message < 2 ^ 63) }
-        ensures reply { IfOk result (λ reply. reply ≡ (served self.old call).0) }
-        ensures state { OnOk result (self.new ≡ (served self.old call).1) }
+        ensures reply { IfOk result (λ reply. reply ≡ (served (board_at moment.now self.old) call).0) }
+        ensures state { OnOk result (self.new ≡ (served (board_at moment.now self.old) call).1) }
         ensures err { OnErr result (self.new ≡ self.old) }
-        ensures unsubscribe { IsTrue (is_unsubscribe call) → IsOk result }
+        ensures unsubscribe { is_unsubscribe call ≡ true → IsOk result }
     {
         match call {
-            Call::Connect => self.connect(alloc),
-            Call::Subscribe { client, topic } => self.subscribe(client, topic),
-            Call::Unsubscribe { client: _, sub } => Ok(self.unsubscribe(sub)),
+            Call::Connect => self.connect(alloc, moment),
+            Call::Subscribe { client, topic } => self.subscribe(moment, client, topic),
+            Call::Unsubscribe { client: _, sub } => {
+                self.advance(moment);
+                Ok(self.unsubscribe(sub))
+            }
             Call::Publish {
                 client: _,
                 topic,
                 message,
-            } => self.publish(alloc, topic, message),
-            Call::Poll { client } => self.poll(alloc, client),
-            Call::Disconnect { client } => Ok(self.disconnect(client)),
+            } => self.publish(alloc, moment, topic, message),
+            Call::Poll { client } => self.poll(alloc, moment, client),
+            Call::PollNumbered { client, number } => {
+                self.poll_numbered(alloc, moment, client, number)
+            }
+            Call::Disconnect { client } => {
+                self.advance(moment);
+                Ok(self.disconnect(client))
+            }
         }
     }
 }

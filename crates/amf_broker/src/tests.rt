@@ -12,6 +12,7 @@ enum Request<'a> {
     Unsubscribe(u64, u64),
     Publish(u64, &'a str, &'a str, &'a str),
     Poll(u64),
+    PollNumbered(u64, u64),
     Disconnect(u64),
 }
 
@@ -23,6 +24,8 @@ enum Want<'a> {
     Unsubscribed(u64),
     Published(u64, &'a [u64]),
     Batch(&'a [(u64, u64, &'a str)], &'a [u64]),
+    Numbered(u64, &'a [(u64, u64, &'a str)], &'a [u64]),
+    Again(u64, &'a [(u64, u64, &'a str)], &'a [u64]),
     Bye,
     Full(u32),
     NoClient(u64),
@@ -30,6 +33,7 @@ enum Want<'a> {
     TooLong(u32),
     TooManySubs(u32),
     NoSub(u64),
+    BadNumber(u64),
 }
 
 fn name_of(alloc: Global, text: &str) -> Result<Name, Fail> {
@@ -61,6 +65,10 @@ fn call_of(alloc: Global, ask: &Request) -> Result<Call, Fail> {
         },
         Request::Poll(client) => Call::Poll {
             client: ClientId(*client),
+        },
+        Request::PollNumbered(client, number) => Call::PollNumbered {
+            client: ClientId(*client),
+            number: *number,
         },
         Request::Disconnect(client) => Call::Disconnect {
             client: ClientId(*client),
@@ -94,6 +102,22 @@ fn is_wanted(reply: &Reply, want: &Want) -> bool {
         (Reply::Batch { deliveries, ended }, Want::Batch(rows, subs)) => {
             are_delivered(deliveries, rows) && are_ended(ended, subs)
         }
+        (
+            Reply::Numbered {
+                number,
+                deliveries,
+                ended,
+            },
+            Want::Numbered(n, rows, subs),
+        ) => *number == *n && are_delivered(deliveries, rows) && are_ended(ended, subs),
+        (
+            Reply::Again {
+                number,
+                deliveries,
+                ended,
+            },
+            Want::Again(n, rows, subs),
+        ) => *number == *n && are_delivered(deliveries, rows) && are_ended(ended, subs),
         (Reply::Bye, Want::Bye) => true,
         (Reply::Full(n), Want::Full(m)) => *n == *m,
         (Reply::NoClient(client), Want::NoClient(number)) => client.0 == *number,
@@ -101,6 +125,7 @@ fn is_wanted(reply: &Reply, want: &Want) -> bool {
         (Reply::TooLong(n), Want::TooLong(m)) => *n == *m,
         (Reply::TooManySubs(n), Want::TooManySubs(m)) => *n == *m,
         (Reply::NoSub(sub), Want::NoSub(number)) => sub.0 == *number,
+        (Reply::BadNumber(last), Want::BadNumber(number)) => *last == *number,
         _ => false,
     }
 }
@@ -117,12 +142,46 @@ fn chat(alloc: Global) -> Result<Broker, Fail> {
     Ok(sendable(Broker::new(alloc, destinations)?))
 }
 
-fn answer(rt: &impl Abort, alloc: Global, broker: &mut Broker, call: Call) -> Result<Reply, Fail> {
+fn answer(
+    rt: &impl Abort,
+    alloc: Global,
+    broker: &mut Broker,
+    moment: u64,
+    call: Call,
+) -> Result<Answer, Fail> {
     assert!(rt; broker.calls() < 1 << 62);
-    Ok(broker.step(alloc, call)?)
+    Ok(broker.step(alloc, moment, call)?)
 }
 
-/// Asks a call and compares its reply.
+fn are_expired(expired: &ClientIds, want: &[u64]) -> bool {
+    let expired = expired.as_slice();
+    expired.len() == want.len()
+        && expired
+            .iter()
+            .zip(want)
+            .all(|(client, number)| client.0 == *number)
+}
+
+/// Asks a call at a moment and compares its answer.
+fn ask_at(
+    rt: &impl Abort,
+    alloc: Global,
+    broker: &mut Broker,
+    moment: u64,
+    asked: &Request,
+    want: &Want,
+    expired: &[u64],
+) -> Result<(), Fail> {
+    let answer = answer(rt, alloc, broker, moment, call_of(alloc, asked)?)?;
+    let number = broker.calls();
+    assert!(rt;
+        is_wanted(&answer.reply, want) && are_expired(&answer.expired, expired),
+        "call {number}: {answer:?}"
+    );
+    Ok(())
+}
+
+/// Asks a call at moment 0, at which nobody expires, and compares its reply.
 fn ask(
     rt: &impl Abort,
     alloc: Global,
@@ -130,10 +189,7 @@ fn ask(
     asked: &Request,
     want: &Want,
 ) -> Result<(), Fail> {
-    let reply = answer(rt, alloc, broker, call_of(alloc, asked)?)?;
-    let number = broker.calls();
-    assert!(rt; is_wanted(&reply, want), "call {number}: {reply:?}");
-    Ok(())
+    ask_at(rt, alloc, broker, 0, asked, want, &[])
 }
 
 /// A client whose one subscription is live.
@@ -179,7 +235,7 @@ fn polled(
     ended: &[u64],
 ) -> Result<usize, Fail> {
     let client = ClientId(1);
-    match answer(rt, alloc, broker, Call::Poll { client })? {
+    match answer(rt, alloc, broker, 0, Call::Poll { client })?.reply {
         Reply::Batch {
             deliveries,
             ended: told,
@@ -383,5 +439,148 @@ fn keeps_to_its_limits(rt: HostRuntime) -> Result<(), Fail> {
         &Request::Publish(2, "chat", "", message),
         &Want::Published(1, &[]),
     )?;
+    Ok(())
+}
+
+#[test]
+fn expires_idle_clients(rt: HostRuntime) -> Result<(), Fail> {
+    let alloc = rt.alloc();
+    let rows = [
+        (0, Request::Connect, Want::Client(1), &[][..]),
+        (
+            0,
+            Request::Subscribe(1, "chat", ""),
+            Want::Subscribed(1),
+            &[],
+        ),
+        (1_000, Request::Connect, Want::Client(2), &[]),
+        (
+            600_000,
+            Request::Publish(2, "chat", "", "a"),
+            Want::Published(1, &[]),
+            &[1],
+        ),
+        (600_000, Request::Poll(1), Want::NoClient(1), &[]),
+        (599_000, Request::Poll(2), Want::Batch(&[], &[]), &[]),
+        (1_200_000, Request::Poll(2), Want::NoClient(2), &[2]),
+    ];
+    let mut broker = chat(alloc)?;
+    for (moment, asked, want, expired) in rows.iter() {
+        ask_at(&rt, alloc, &mut broker, *moment, asked, want, expired)?;
+    }
+    Ok(())
+}
+
+#[test]
+fn numbers_polls(rt: HostRuntime) -> Result<(), Fail> {
+    let alloc = rt.alloc();
+    let rows = [
+        (
+            Request::Publish(1, "chat", "", "a"),
+            Want::Published(1, &[]),
+        ),
+        (
+            Request::PollNumbered(1, 1),
+            Want::Numbered(1, &[(1, 1, "a")], &[]),
+        ),
+        (
+            Request::Publish(1, "chat", "", "b"),
+            Want::Published(2, &[]),
+        ),
+        (
+            Request::PollNumbered(1, 1),
+            Want::Again(1, &[(1, 1, "a")], &[]),
+        ),
+        (
+            Request::PollNumbered(1, 2),
+            Want::Numbered(2, &[(1, 2, "b")], &[]),
+        ),
+        (Request::PollNumbered(1, 1), Want::BadNumber(2)),
+        (Request::PollNumbered(1, 0), Want::BadNumber(2)),
+        (Request::Poll(1), Want::Batch(&[], &[])),
+    ];
+    let mut broker = one_listener(&rt, alloc)?;
+    for (asked, want) in rows.iter() {
+        ask(&rt, alloc, &mut broker, asked, want)?;
+    }
+    Ok(())
+}
+
+#[test]
+fn merges_topics(rt: HostRuntime) -> Result<(), Fail> {
+    let alloc = rt.alloc();
+    let rows = [
+        (Request::Connect, Want::Client(1)),
+        (Request::Subscribe(1, "chat", ""), Want::Subscribed(1)),
+        (Request::Subscribe(1, "news", ""), Want::Subscribed(2)),
+        (
+            Request::Publish(1, "news", "", "a"),
+            Want::Published(1, &[]),
+        ),
+        (
+            Request::Publish(1, "chat", "", "b"),
+            Want::Published(2, &[]),
+        ),
+        (
+            Request::Publish(1, "news", "", "c"),
+            Want::Published(3, &[]),
+        ),
+        (Request::Unsubscribe(1, 2), Want::Unsubscribed(2)),
+        (
+            Request::Poll(1),
+            Want::Batch(&[(2, 1, "a"), (1, 2, "b"), (2, 3, "c")], &[]),
+        ),
+    ];
+    let mut destinations = Vec::new(alloc);
+    destinations.push(name_of(alloc, "chat")?)?;
+    destinations.push(name_of(alloc, "news")?)?;
+    let mut broker = Broker::new(alloc, destinations)?;
+    for (asked, want) in rows.iter() {
+        ask(&rt, alloc, &mut broker, asked, want)?;
+    }
+    Ok(())
+}
+
+/// As many clients as may be, each with a full queue of the longest messages.
+#[test]
+fn fills_every_queue(rt: HostRuntime) -> Result<(), Fail> {
+    let alloc = rt.alloc();
+    let mut broker = chat(alloc)?;
+    for n in 1..=1024 {
+        ask(&rt, alloc, &mut broker, &Request::Connect, &Want::Client(n))?;
+        ask(
+            &rt,
+            alloc,
+            &mut broker,
+            &Request::Subscribe(n, "chat", ""),
+            &Want::Subscribed(n),
+        )?;
+    }
+    let long = "x".repeat(alloc, 32_768)?;
+    for n in 1..=128 {
+        ask(
+            &rt,
+            alloc,
+            &mut broker,
+            &Request::Publish(1, "chat", "", long.as_str()),
+            &Want::Published(n, &[]),
+        )?;
+    }
+    assert_eq!(rt; broker.queued(), 131_072);
+    for n in 1..=1024 {
+        let client = ClientId(n);
+        match answer(&rt, alloc, &mut broker, 0, Call::Poll { client })?.reply {
+            Reply::Batch { deliveries, ended } => {
+                let deliveries = deliveries.as_slice();
+                assert!(rt; deliveries.len() == 128 && ended.as_slice().is_empty());
+                assert!(rt;
+                    deliveries.iter().zip(1..).all(|(d, number): (&Delivery, u64)| d.number
+                        == number
+                        && d.sub.0 == n)
+                );
+            }
+            reply => panic!(rt; "no batch: {reply:?}"),
+        }
+    }
     Ok(())
 }

@@ -1,38 +1,73 @@
 -- The broker answers as the machine does.
-use Rattle.std.proofs.Common.{◌≡◌, ◌+◌, ◌∙◌, sym}
-use Rattle.amf_broker.specs.Machine.{reply_to, after}
-use Rattle.amf_broker.proofs.Answered.{refused, was-served, only-unsubscribe}
+use Rattle.std.proofs.Common.{◌≡◌, ◌+◌, ◌≤◌, ◌∙◌, sym, ap, refl, arith}
+use Rattle.amf_broker.specs.contracts.broker.Broker.{the_view}
+use Rattle.amf_broker.specs.Machine.{answer_to, after, found, expired_at, sighted, named_by}
+use Rattle.amf_broker.specs.Moments.{board_at}
+use Rattle.amf_broker.proofs.Answered.{Replied, refused, was-served, only-unsubscribe, nobody-free, the-answer, the-state, grows-answer}
 use Rattle.amf_broker.proofs.Law.{leaves-then, delivered}
 use Rattle.amf_broker.proofs.broker.Broker.step.Goals as goal
 use Rattle.amf_broker.proofs.broker.Broker.step.Goals.{in-Err, in-Ok+in_ok-reply-in-Ok}
 
+pub returns-in_err-moment-clause-takes_none : goal.returns-in_err-moment-clause-takes_none
+returns-in_err-moment-clause-takes_none c free =
+    let here = rw (← c.self.view_is) at free in
+    let fine = c.in_err-moment.ensures.nobody (nobody-free (the_view c.self.inside) c.args.moment c.args.call here) in
+    cc fine
+
 pub returns-in_err-reply-in-Ok-clause-takes_none : goal.returns-in_err-reply-in-Ok-clause-takes_none
 returns-in_err-reply-in-Ok-clause-takes_none c free =
     let here = rw (← c.self.view_is) at free in
-    let none = only-unsubscribe (record { board = c.self.inside.board; calls = c.self.inside.calls }) c.args.call c.in-Ok.call (sym c.in-Ok.is ∙ c.admitted.ensures) here in
+    let at : board_at c.in_ok-moment.moment c.self.inside.board ≡ found c.args.moment c.self.inside.board = rw (c.in_ok-moment.ensures.present, c.in_ok-moment.ensures.expired) refl in
+    let allows = rw at at (sym c.in-Ok.is ∙ c.admitted.ensures) in
+    let none = only-unsubscribe (the_view c.self.inside) c.args.moment c.args.call c.in-Ok.call allows here in
     let fine = c.in_err-reply-in-Ok.ensures.unsubscribe none in
     cc fine
 
-the-reply : (c : goal.After-self-1) → c.match-admitted.reply ≡ reply_to (record { board = c.self.inside.board; calls = c.self.inside.calls }) c.args.call
-the-reply c = elim c.match-admitted.branch [
-  | in-Err w ↦ w.reply-is ∙ (refused (record { board = c.self.inside.board; calls = c.self.inside.calls }) c.args.call w.in-Err.refusal (sym w.in-Err.is ∙ c.admitted.ensures)).reply
-  | in-Ok+in_ok-reply-in-Ok w ↦ w.reply-is ∙ (was-served (record { board = c.self.inside.board; calls = c.self.inside.calls }) c.args.call w.in-Ok.call _ w.serve.new.self (sym w.in-Ok.is ∙ c.admitted.ensures) w.in_ok-reply-in-Ok.ensures.reply w.in_ok-reply-in-Ok.ensures.state).reply
+replied : (c : goal.After-of_vec) → Replied (found c.args.moment c.self.inside.board) c.args.call c.match-admitted.reply c.match-admitted.self-inside.board
+replied c =
+    let at : board_at c.in_ok-moment.moment c.self.inside.board ≡ found c.args.moment c.self.inside.board = rw (c.in_ok-moment.ensures.present, c.in_ok-moment.ensures.expired) refl in
+    elim c.match-admitted.branch [
+      | in-Err w ↦
+          let r = rw at at (refused (board_at c.in_ok-moment.moment c.self.inside.board) c.args.call w.in-Err.refusal (sym w.in-Err.is ∙ c.admitted.ensures)) in
+          rw (w.reply-is, w.self-inside-is, w.advance.ensures, at) r
+      | in-Ok+in_ok-reply-in-Ok w ↦
+          let r = rw at at (was-served (board_at c.in_ok-moment.moment c.self.inside.board) c.args.call w.in-Ok.call w.in_ok-reply-in-Ok.reply w.serve.new.self (sym w.in-Ok.is ∙ c.admitted.ensures) w.in_ok-reply-in-Ok.ensures.reply w.in_ok-reply-in-Ok.ensures.state) in
+          rw (w.reply-is, w.self-inside-is) r
+    ]
+
+same-calls : (c : goal.After-of_vec) → c.match-admitted.self-inside.calls ≡ c.self.inside.calls
+same-calls c = elim c.match-admitted.branch [
+  | in-Err w ↦ rw w.self-inside-is
+  | in-Ok+in_ok-reply-in-Ok w ↦ rw w.self-inside-is
 ]
 
-the-state : (c : goal.After-self-1) → (record { board = c.match-admitted.self-inside.board; calls = c.match-admitted.self-inside.calls + 1 }) ≡ after (record { board = c.self.inside.board; calls = c.self.inside.calls }) c.args.call
-the-state c = elim c.match-admitted.branch [
-  | in-Err w ↦ rw w.self-inside-is (refused (record { board = c.self.inside.board; calls = c.self.inside.calls }) c.args.call w.in-Err.refusal (sym w.in-Err.is ∙ c.admitted.ensures)).state
-  | in-Ok+in_ok-reply-in-Ok w ↦ rw w.self-inside-is (was-served (record { board = c.self.inside.board; calls = c.self.inside.calls }) c.args.call w.in-Ok.call w.in_ok-reply-in-Ok.reply w.serve.new.self (sym w.in-Ok.is ∙ c.admitted.ensures) w.in_ok-reply-in-Ok.ensures.reply w.in_ok-reply-in-Ok.ensures.state).state
-]
+seen : (c : goal.After-of_vec) → c.see.new.self ≡ sighted (named_by c.args.call) c.match-admitted.self-inside.board
+seen c = c.see.ensures ∙ rw c.client-caller.ensures refl
 
-pub returns-clause-reply : goal.returns-clause-reply
-returns-clause-reply c = rw (← c.self.view_is) (the-reply c)
+the-whole-answer : (c : goal.After-of_vec) → record { reply = c.match-admitted.reply; expired = c.of_vec.result } ≡ answer_to (the_view c.self.inside) c.args.moment c.args.call
+the-whole-answer c = the-answer (the_view c.self.inside) c.args.moment c.args.call c.match-admitted.reply c.of_vec.result c.match-admitted.self-inside.board (replied c) (c.of_vec.ensures ∙ c.in_ok-moment.ensures.expired)
+
+the-whole-state : (c : goal.After-of_vec) → record { board = c.see.new.self; calls = c.match-admitted.self-inside.calls + 1 } ≡ after (the_view c.self.inside) c.args.moment c.args.call
+the-whole-state c = rw (same-calls c) (the-state (the_view c.self.inside) c.args.moment c.args.call c.match-admitted.reply c.match-admitted.self-inside.board c.see.new.self (replied c) (seen c))
+
+pub invariant_of-self-2 : goal.invariant_of-self-2
+invariant_of-self-2 c =
+    let grows = grows-answer c.args.moment c.self.inside.board c.args.call in
+    let board = seen c ∙ ap (sighted (named_by c.args.call)) (replied c).board in
+    let a = grows.clients in
+    let b = grows.subs in
+    let d = grows.messages in
+    let old = c.self.invariant in
+    rw (board, same-calls c) (omega arith, omega arith, omega arith)
+
+pub returns-clause-answer : goal.returns-clause-answer
+returns-clause-answer c = rw (← c.self.view_is) (the-whole-answer c)
 
 pub returns-clause-state : goal.returns-clause-state
-returns-clause-state c = rw (← c.self.view_is) (the-state c)
+returns-clause-state c = rw (← c.self.view_is) (the-whole-state c)
 
 pub returns-clause-delivery : goal.returns-clause-delivery
 returns-clause-delivery c history by leaves =
     let before = rw (← c.self.view_is) at leaves in
-    let now = leaves-then history (record { board = c.self.inside.board; calls = c.self.inside.calls }) by c.args.call before in
-    rw (the-reply c, the-state c) (now, delivered _ _ now)
+    let now = leaves-then history (the_view c.self.inside) by c.args.moment c.args.call before in
+    rw (the-whole-answer c, the-whole-state c) (now, delivered _ _ now)

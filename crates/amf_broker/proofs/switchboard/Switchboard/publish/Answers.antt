@@ -1,39 +1,18 @@
--- A publish is handed round.
-use Rattle.std.proofs.Common.{◌≡◌, ◌∙◌, ap, sym, rules, length}
-use Rattle.std.proofs.lemmas.Fn.{filter_same}
-use Rattle.amf_broker.specs.Machine.{spread, subscribers, still_live}
-use Rattle.amf_broker.proofs.Sounds.{sound-published, length-spread}
-use Rattle.amf_broker.proofs.Rounds.{round-fits, refilled, clients-spread, ended-spread-parcels}
+-- The parcels are those of the board of the moment.
+use Rattle.std.proofs.Common.{◌≡◌, ◌∙◌, ◌<◌, sym, ap}
+use Rattle.amf_broker.specs.Machine.{subscribers}
+use Rattle.amf_broker.specs.Parcels.{parcels_for}
+use Rattle.amf_broker.specs.contracts.switchboard.Switchboard.{the_view}
+use Rattle.amf_broker.proofs.Leavers.{reached-is}
+use Rattle.amf_broker.proofs.Advances.{next-message, subs-at}
 use Rattle.amf_broker.proofs.switchboard.Switchboard.publish.Goals as goal
 
-pub hand_round-ended-requires-clause-places : goal.hand_round-ended-requires-clause-places
-hand_round-ended-requires-clause-places c =
-    rw (c.in_ok-parcels.ensures, c.deref.ensures.value, c.deref_mut.ensures.value) (round-fits _ c.args.topic c.args.message c.self.invariant)
+pub deliver-requires-clause-number : goal.deliver-requires-clause-number
+deliver-requires-clause-number c =
+    let few = rw (← c.self.view_is) at c.requires in
+    rw (c.advance.ensures, ← c.self.view_is, next-message c.args.moment.now.present c.args.moment.now.expired.items (the_view c.self.inside)) few
 
-pub invariant_of-self : goal.invariant_of-self
-invariant_of-self c =
-    let clients : c.hand_round-ended.new.clients ≡ (spread c.self.inside.next_message c.args.message (subscribers c.args.topic c.self.inside.subs.items) c.self.inside.clients.items).clients =
-    c.hand_round-ended.ensures.clients ∙ rw (c.in_ok-parcels.ensures, c.deref.ensures.value, c.deref_mut.ensures.value) (clients-spread c.self.inside.next_message c.args.message (subscribers c.args.topic c.self.inside.subs.items) c.self.inside.clients.items) in
-    let ended : c.hand_round-ended.result.items ≡ (spread c.self.inside.next_message c.args.message (subscribers c.args.topic c.self.inside.subs.items) c.self.inside.clients.items).ended =
-    c.hand_round-ended.ensures.ended ∙ rw (c.in_ok-parcels.ensures, c.deref.ensures.value, c.deref_mut.ensures.value) (ended-spread-parcels c.self.inside.next_message c.args.message (subscribers c.args.topic c.self.inside.subs.items) c.self.inside.clients.items) in
-    let kept : c.retain.new.self.items ≡ still_live c.hand_round-ended.result.items c.self.inside.subs.items = filter_same _ _ _ (λ x b f' k. search rules) _ _ c.retain.ensures.filtered in
-    let same : length c.hand_round-ended.new.clients ≡ length c.self.inside.clients.items = ap length clients ∙ length-spread c.self.inside.next_message c.args.message (subscribers c.args.topic c.self.inside.subs.items) c.self.inside.clients.items in
-    let whole = refilled c.self.inside.clients.len c.hand_round-ended.new.clients c.self.inside.clients.items (sym c.self.inside.clients.ok.0) same in
-    rw (whole, kept, clients, ended) (sound-published _ c.args.topic c.args.message c.self.invariant)
-
-pub returns-clause-reply : goal.returns-clause-reply
-returns-clause-reply c =
-    let ended : c.hand_round-ended.result.items ≡ (spread c.self.inside.next_message c.args.message (subscribers c.args.topic c.self.inside.subs.items) c.self.inside.clients.items).ended =
-    c.hand_round-ended.ensures.ended ∙ rw (c.in_ok-parcels.ensures, c.deref.ensures.value, c.deref_mut.ensures.value) (ended-spread-parcels c.self.inside.next_message c.args.message (subscribers c.args.topic c.self.inside.subs.items) c.self.inside.clients.items) in
-    rw (← c.self.view_is, c.of_vec.ensures, ended)
-
-pub returns-clause-state : goal.returns-clause-state
-returns-clause-state c =
-    let clients : c.hand_round-ended.new.clients ≡ (spread c.self.inside.next_message c.args.message (subscribers c.args.topic c.self.inside.subs.items) c.self.inside.clients.items).clients =
-    c.hand_round-ended.ensures.clients ∙ rw (c.in_ok-parcels.ensures, c.deref.ensures.value, c.deref_mut.ensures.value) (clients-spread c.self.inside.next_message c.args.message (subscribers c.args.topic c.self.inside.subs.items) c.self.inside.clients.items) in
-    let ended : c.hand_round-ended.result.items ≡ (spread c.self.inside.next_message c.args.message (subscribers c.args.topic c.self.inside.subs.items) c.self.inside.clients.items).ended =
-    c.hand_round-ended.ensures.ended ∙ rw (c.in_ok-parcels.ensures, c.deref.ensures.value, c.deref_mut.ensures.value) (ended-spread-parcels c.self.inside.next_message c.args.message (subscribers c.args.topic c.self.inside.subs.items) c.self.inside.clients.items) in
-    let kept : c.retain.new.self.items ≡ still_live c.hand_round-ended.result.items c.self.inside.subs.items = filter_same _ _ _ (λ x b f' k. search rules) _ _ c.retain.ensures.filtered in
-    let same : length c.hand_round-ended.new.clients ≡ length c.self.inside.clients.items = ap length clients ∙ length-spread c.self.inside.next_message c.args.message (subscribers c.args.topic c.self.inside.subs.items) c.self.inside.clients.items in
-    let whole = refilled c.self.inside.clients.len c.hand_round-ended.new.clients c.self.inside.clients.items (sym c.self.inside.clients.ok.0) same in
-    rw (← c.self.view_is, whole, kept, clients, ended)
+pub deliver-requires-clause-parcels : goal.deliver-requires-clause-parcels
+deliver-requires-clause-parcels c =
+    let all = rw (c.deref.ensures.value, c.deref-2.ensures.value, reached-is c.args.moment.now.expired.items c.args.topic c.self.inside.subs.items) at c.in_ok-parcels.ensures in
+    rw (c.advance.ensures, ← c.self.view_is, next-message c.args.moment.now.present c.args.moment.now.expired.items (the_view c.self.inside), subs-at c.args.moment.now.present c.args.moment.now.expired.items (the_view c.self.inside)) all

@@ -1,0 +1,43 @@
+-- A publish is handed round.
+use Rattle.std.proofs.Common.{◌≡◌, ◌∙◌, ap, sym, rules, length}
+use Rattle.std.proofs.lemmas.Fn.{filter_same}
+use Rattle.amf_broker.specs.Machine.{spread, subscribers, still_live}
+use Rattle.amf_broker.proofs.Sounds.{sound-published, length-spread}
+use Rattle.amf_broker.proofs.Rounds.{round-fits, refilled, clients-spread, ended-spread-parcels}
+use Rattle.amf_broker.proofs.switchboard.Switchboard.deliver.Goals as goal
+
+pub hand_round-ended-requires-clause-places : goal.hand_round-ended-requires-clause-places
+hand_round-ended-requires-clause-places c =
+    let parcels = rw (← c.self.view_is) at c.requires.parcels in
+    rw (parcels, c.deref_mut.ensures.value) (round-fits _ c.args.topic.now c.args.message.now c.self.invariant)
+
+pub invariant_of-self : goal.invariant_of-self
+invariant_of-self c =
+    let parcels = rw (← c.self.view_is) at c.requires.parcels in
+    let clients : c.hand_round-ended.new.clients ≡ (spread c.self.inside.next_message c.args.message.now (subscribers c.args.topic.now c.self.inside.subs.items) c.self.inside.clients.items).clients =
+    c.hand_round-ended.ensures.clients ∙ rw (parcels, c.deref_mut.ensures.value) (clients-spread c.self.inside.next_message c.args.message.now (subscribers c.args.topic.now c.self.inside.subs.items) c.self.inside.clients.items) in
+    let ended : c.hand_round-ended.result.items ≡ (spread c.self.inside.next_message c.args.message.now (subscribers c.args.topic.now c.self.inside.subs.items) c.self.inside.clients.items).ended =
+    c.hand_round-ended.ensures.ended ∙ rw (parcels, c.deref_mut.ensures.value) (ended-spread-parcels c.self.inside.next_message c.args.message.now (subscribers c.args.topic.now c.self.inside.subs.items) c.self.inside.clients.items) in
+    let kept : c.retain.new.self.items ≡ still_live c.hand_round-ended.result.items c.self.inside.subs.items = filter_same _ _ _ (λ x b f' k. search rules) _ _ c.retain.ensures.filtered in
+    let same : length c.hand_round-ended.new.clients ≡ length c.self.inside.clients.items = ap length clients ∙ length-spread c.self.inside.next_message c.args.message.now (subscribers c.args.topic.now c.self.inside.subs.items) c.self.inside.clients.items in
+    let whole = refilled c.self.inside.clients.len c.hand_round-ended.new.clients c.self.inside.clients.items (sym c.self.inside.clients.ok.0) same in
+    rw (whole, kept, clients, ended) (sound-published _ c.args.topic.now c.args.message.now c.self.invariant)
+
+pub returns-clause-reply : goal.returns-clause-reply
+returns-clause-reply c =
+    let parcels = rw (← c.self.view_is) at c.requires.parcels in
+    let ended : c.hand_round-ended.result.items ≡ (spread c.self.inside.next_message c.args.message.now (subscribers c.args.topic.now c.self.inside.subs.items) c.self.inside.clients.items).ended =
+    c.hand_round-ended.ensures.ended ∙ rw (parcels, c.deref_mut.ensures.value) (ended-spread-parcels c.self.inside.next_message c.args.message.now (subscribers c.args.topic.now c.self.inside.subs.items) c.self.inside.clients.items) in
+    rw (← c.self.view_is, c.of_vec.ensures, ended)
+
+pub returns-clause-state : goal.returns-clause-state
+returns-clause-state c =
+    let parcels = rw (← c.self.view_is) at c.requires.parcels in
+    let clients : c.hand_round-ended.new.clients ≡ (spread c.self.inside.next_message c.args.message.now (subscribers c.args.topic.now c.self.inside.subs.items) c.self.inside.clients.items).clients =
+    c.hand_round-ended.ensures.clients ∙ rw (parcels, c.deref_mut.ensures.value) (clients-spread c.self.inside.next_message c.args.message.now (subscribers c.args.topic.now c.self.inside.subs.items) c.self.inside.clients.items) in
+    let ended : c.hand_round-ended.result.items ≡ (spread c.self.inside.next_message c.args.message.now (subscribers c.args.topic.now c.self.inside.subs.items) c.self.inside.clients.items).ended =
+    c.hand_round-ended.ensures.ended ∙ rw (parcels, c.deref_mut.ensures.value) (ended-spread-parcels c.self.inside.next_message c.args.message.now (subscribers c.args.topic.now c.self.inside.subs.items) c.self.inside.clients.items) in
+    let kept : c.retain.new.self.items ≡ still_live c.hand_round-ended.result.items c.self.inside.subs.items = filter_same _ _ _ (λ x b f' k. search rules) _ _ c.retain.ensures.filtered in
+    let same : length c.hand_round-ended.new.clients ≡ length c.self.inside.clients.items = ap length clients ∙ length-spread c.self.inside.next_message c.args.message.now (subscribers c.args.topic.now c.self.inside.subs.items) c.self.inside.clients.items in
+    let whole = refilled c.self.inside.clients.len c.hand_round-ended.new.clients c.self.inside.clients.items (sym c.self.inside.clients.ok.0) same in
+    rw (← c.self.view_is, whole, kept, clients, ended)

@@ -1,0 +1,23 @@
+-- The moment of a call, and who expires at it.
+use Rattle.std.proofs.Common.{◌≡◌, ◌∙◌, true, false, refl, ap, sym, rules}
+use Rattle.amf_broker.specs.Machine.{is_idle, later, expired_at}
+use Rattle.amf_broker.specs.Memory.{nobody}
+use Rattle.amf_broker.proofs.Advances.{none-idle, some-idle}
+use Rattle.amf_broker.proofs.switchboard.Switchboard.moment.Goals as goal
+use Rattle.amf_broker.proofs.switchboard.Switchboard.moment.Goals.{then-has_idle+in_ok-expired, else-has_idle}
+
+pub returns-in_err-expired-clause-nobody : goal.returns-in_err-expired-clause-nobody
+returns-in_err-expired-clause-nobody c none =
+    let any = sym (rw (c.later_of-present.ensures, c.deref.ensures.value) at c.has_idle.ensures) ∙ c.if-has_idle.true in
+    let some = some-idle (later c.self.inside.moment c.args.moment) c.self.inside.clients.items any in
+    let here = rw (← c.self.view_is) at none in
+    let never : true ≡ false = sym here ∙ some in
+    absurd (cc)
+
+pub returns-clause-expired : goal.returns-clause-expired
+returns-clause-expired c = elim c.if-has_idle.branch [
+  | then-has_idle+in_ok-expired w ↦ rw (← c.self.view_is, w.expired-is) (w.in_ok-expired.ensures ∙ rw (c.later_of-present.ensures, w.deref-then-has_idle.ensures.value) refl)
+  | else-has_idle w ↦
+      let any = sym (rw (c.later_of-present.ensures, c.deref.ensures.value) at c.has_idle.ensures) ∙ w.if-has_idle.false in
+      rw (← c.self.view_is, w.expired-is) (w.new-expired.ensures.items ∙ sym (none-idle (later c.self.inside.moment c.args.moment) c.self.inside.clients.items any))
+]
