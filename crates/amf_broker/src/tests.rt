@@ -235,7 +235,8 @@ fn polled(
     ended: &[u64],
 ) -> Result<usize, Fail> {
     let client = ClientId(1);
-    match answer(rt, alloc, broker, 0, Call::Poll { client })?.reply {
+    let Answer { reply, expired: _ } = answer(rt, alloc, broker, 0, Call::Poll { client })?;
+    match reply {
         Reply::Batch {
             deliveries,
             ended: told,
@@ -569,7 +570,14 @@ fn fills_every_queue(rt: HostRuntime) -> Result<(), Fail> {
     assert_eq!(rt; broker.queued(), 131_072);
     for n in 1..=1024 {
         let client = ClientId(n);
-        match answer(&rt, alloc, &mut broker, 0, Call::Poll { client })?.reply {
+        let Answer { reply, expired: _ } = answer(
+            &rt,
+            alloc,
+            &mut broker,
+            0,
+            Call::Poll { client },
+        )?;
+        match reply {
             Reply::Batch { deliveries, ended } => {
                 let deliveries = deliveries.as_slice();
                 assert!(rt; deliveries.len() == 128 && ended.as_slice().is_empty());
