@@ -1,11 +1,12 @@
 -- What a change of one client's connection does to what waits for each client.
-use Rattle.std.proofs.Common.{◌≡◌, ℕ, true, not, List, [], ◌∷◌, ◌++◌, length, refl, sym, ap, ◌∙◌, arith}
+use Rattle.std.proofs.Common.{◌≡◌, ℕ, ◌+◌, true, not, List, [], ◌∷◌, ◌++◌, length, refl, sym, ap, ◌∙◌, arith}
 use Rattle.std.specs.Prelude.{◌==◌, filter, ◌≢◌}
 use Rattle.std.proofs.lemmas.Bool.Decides.{nat_tests}
 use Rattle.amf_broker.specs.declared.reply.Delivery.{Delivery}
 use Rattle.amf_broker.specs.State.{Connection}
 use Rattle.amf_broker.specs.Machine.{client_at, is_connected, at_client, queue_of, ended_of, with_delivery, emptied, kept_as, seen_at, new_client}
 use Rattle.amf_broker.specs.Delivery.{Message, messages_for}
+use Rattle.amf_broker.specs.Sound.{rises}
 
 -- the messages for a subscription that wait for a client
 abbrev pub waiting : ℕ → ℕ → List Connection → List Message
@@ -71,12 +72,18 @@ pub length-at : (k : ℕ) (f : Connection → Connection) (cs : List Connection)
 length-at k f [] = refl
 length-at k f (c ∷ cs) = let ih = length-at k f cs in grind (arith, nat_tests, ih)
 
+-- the order stays where the numbers do
+pub rises-at : (n k : ℕ) (f : Connection → Connection) (cs : List Connection) → ((c : Connection) → (f c).id ≡ c.id) → rises n (at_client k f cs) ≡ rises n cs
+rises-at n k f [] keeps = refl
+rises-at n k f (c ∷ cs) keeps = let ih = rises-at (c.id + 1) k f cs keeps in let e = keeps c in grind (arith, nat_tests, ih, e)
+
 -- Two lists of clients that differ in no number, no queue and no list of ended subscriptions.
 pub record Same (cs ds : List Connection) : Type 0 where
   pub many : length ds ≡ length cs
   pub here : (j : ℕ) → is_connected j ds ≡ is_connected j cs
   pub queues : (j : ℕ) → queue_of j ds ≡ queue_of j cs
   pub ends : (j : ℕ) → ended_of j ds ≡ ended_of j cs
+  pub order : (n : ℕ) → rises n ds ≡ rises n cs
 
 ended_of-seen : (j k m : ℕ) (cs : List Connection) → ended_of j (at_client k (seen_at m) cs) ≡ ended_of j cs
 ended_of-seen j k m [] = refl
@@ -88,6 +95,7 @@ same-seen k m cs = record {
   here = λ j. connected-at j k (seen_at m) cs (λ c. refl);
   queues = λ j. queue_of-at j k (seen_at m) cs (λ c. (refl, refl));
   ends = λ j. ended_of-seen j k m cs;
+  order = λ n. rises-at n k (seen_at m) cs (λ c. refl);
 }
 
 queue_of-kept : (j k n : ℕ) (cs : List Connection) → queue_of j (at_client k (kept_as n) cs) ≡ queue_of j (at_client k emptied cs)
@@ -105,6 +113,7 @@ same-kept k n cs = record {
   here = λ j. connected-at j k (kept_as n) cs (λ c. refl) ∙ sym (connected-at j k emptied cs (λ c. refl));
   queues = λ j. queue_of-kept j k n cs;
   ends = λ j. ended_of-kept j k n cs;
+  order = λ m. rises-at m k (kept_as n) cs (λ c. refl) ∙ sym (rises-at m k emptied cs (λ c. refl));
 }
 
 pub waiting-same : (n j : ℕ) (cs ds : List Connection) → Same cs ds → waiting n j ds ≡ waiting n j cs

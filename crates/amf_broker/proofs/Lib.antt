@@ -5,6 +5,7 @@ mod Steps
 mod Leavers
 pub mod Law
 mod Places
+mod Orders
 mod Sounds
 mod Rounds
 mod Advances

@@ -11,6 +11,8 @@ use Rattle.amf_broker.specs.State.{Board, Connection, Subscription}
 use Rattle.amf_broker.specs.Machine.{client_at, at_client, queue_in, ended_in, ended_of, subs_of, with_delivery, with_ended, is_full, spread, ended_first, subscribers, is_same_topic}
 use Rattle.amf_broker.specs.Sound.{IsSound}
 use Rattle.amf_broker.specs.Parcels.{parcels_for, parcels_of, ended_by_parcel, clients_after_parcel, clients_after, ended_after}
+use Rattle.amf_broker.specs.Sound.{rises}
+use Rattle.amf_broker.proofs.Clients.{rises-at}
 use Rattle.amf_broker.proofs.Places.{found-at}
 use Rattle.amf_broker.proofs.Sounds.{ended-more, ended-delivery, part-places}
 
@@ -92,6 +94,17 @@ length-next p xs ys all is = let e = ap length is in let n = length-append xs (p
 pub ended-step : (xs : List Parcel) (p : Parcel) (cs now : List Connection) (ended : List ℕ) (o : Option ℕ) → ended ≡ ended_after xs cs → now ≡ clients_after xs cs → o ≡ ended_by_parcel p now
     → ended ++ cons_option o [] ≡ ended_after (xs ++ (p ∷ [])) cs
 ended-step xs p cs now ended o before at is = ap (λ m. m ++ cons_option o []) before ∙ (ap (λ m. ended_after xs cs ++ cons_option m []) (is ∙ ap (ended_by_parcel p) at) ∙ sym (ended-more-after xs p cs))
+
+rises-parcel : (p : Parcel) (cs : List Connection) → rises 0 (clients_after_parcel p cs) ≡ rises 0 cs
+rises-parcel p cs = elim (is_full p.client cs)
+    as (λ full. rises 0 (if full then at_client p.client (with_ended p.delivery.sub) cs else at_client p.client (with_delivery p.delivery) cs) ≡ rises 0 cs) [
+      | true ↦ rises-at 0 p.client (with_ended p.delivery.sub) cs (λ c. refl)
+      | false ↦ rises-at 0 p.client (with_delivery p.delivery) cs (λ c. refl)
+    ]
+
+pub rises-after : (xs : List Parcel) (cs : List Connection) → rises 0 (clients_after xs cs) ≡ rises 0 cs
+rises-after [] cs = refl
+rises-after (x ∷ xs) cs = rises-after xs (clients_after_parcel x cs) ∙ rises-parcel x cs
 
 -- The parcels of a publish do what the machine says.
 

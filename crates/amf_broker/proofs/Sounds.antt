@@ -13,7 +13,8 @@ use Rattle.amf_broker.specs.State.{Board, Connection, Subscription, first_board}
 use Rattle.amf_broker.specs.Machine.{is_connected, at_client, queue_of, queue_in, ended_of, ended_in, subs_of, places_of, with_delivery, with_ended, emptied, spread, ended_first, is_full, subscribers, is_same_topic, served, connected, subscribed, unsubscribed, published, polled, next_batch, disconnected, new_client, advanced, without_all, without, sighted}
 use Rattle.amf_broker.specs.Sound.{IsSound, IsNowhere}
 use Rattle.amf_broker.specs.Delivery.{messages_for}
-use Rattle.amf_broker.proofs.Clients.{Same, same-seen, same-kept, length-at, connected-at, client_at-stays, queue_of-at, queue_of-new, queue_of-emptied, queue_of-gone, queue_of-other}
+use Rattle.amf_broker.proofs.Clients.{rises-at, Same, same-seen, same-kept, length-at, connected-at, client_at-stays, queue_of-at, queue_of-new, queue_of-emptied, queue_of-gone, queue_of-other}
+use Rattle.amf_broker.proofs.Orders.{rises-new, rises-part, rises-spread}
 use Rattle.amf_broker.proofs.Spreads.{is_among, filter-swap, connected-spread}
 use Rattle.amf_broker.proofs.Steps.{Idle, idle-served, next-served}
 
@@ -126,6 +127,7 @@ numbered-spread n j number message (u ∷ us) cs other = elim (is_full u.client 
 
 pub sound-first : (names : List (List ℕ)) → IsSound (first_board names)
 sound-first names = record {
+  ordered = refl;
   few = omega arith;
   places = λ j. omega arith;
   new_clients = λ j new. refl;
@@ -135,6 +137,7 @@ sound-first names = record {
 
 pub sound-connected : (b : Board) → IsSound b → length b.clients < MAX_CLIENTS → IsSound (connected b).1
 sound-connected b s few = record {
+  ordered = rises-new 0 b.next_client b.moment b.clients (omega arith) s.new_clients s.ordered;
   few = let e = length-append b.clients (new_client b.next_client b.moment ∷ []) in omega arith;
   places = λ j. let same = ap length (ended-new j b.next_client b.moment b.clients) in let old = s.places j in omega arith;
   new_clients = λ j new. let other : b.next_client ≢ j = omega arith in absent-new j _ b.clients other ∙ s.new_clients j (omega arith);
@@ -144,6 +147,7 @@ sound-connected b s few = record {
 
 pub sound-subscribed : (b : Board) (client : ℕ) (topic : Topic) → IsSound b → places_of client b < MAX_SUBS → IsSound (subscribed b client topic).1
 sound-subscribed b client topic s few = record {
+  ordered = s.ordered;
   few = s.few;
   places = λ j.
       let more = new-places j (record { id = b.next_sub; client = client; topic = topic }) b.subs in
@@ -162,6 +166,7 @@ sound-subscribed b client topic s few = record {
 
 pub sound-unsubscribed : (b : Board) (sub : ℕ) → IsSound b → IsSound (unsubscribed b sub).1
 sound-unsubscribed b sub s = record {
+  ordered = s.ordered;
   few = s.few;
   places = λ j. let less = part-places j (λ u. not (u.id == sub)) b.subs in let old = s.places j in omega arith;
   new_clients = s.new_clients;
@@ -171,6 +176,7 @@ sound-unsubscribed b sub s = record {
 
 pub sound-polled : (b : Board) (client : ℕ) → IsSound b → IsSound (polled b client).1
 sound-polled b client s = record {
+  ordered = rises-at 0 client emptied b.clients (λ c. refl) ∙ s.ordered;
   few = let same = length-at client emptied b.clients in let old = s.few in omega arith;
   places = λ j. let less = ended-emptied j client b.clients in let old = s.places j in omega arith;
   new_clients = λ j new. connected-at j client emptied b.clients (λ c. refl) ∙ s.new_clients j new;
@@ -180,6 +186,7 @@ sound-polled b client s = record {
 
 pub sound-disconnected : (b : Board) (client : ℕ) → IsSound b → IsSound (disconnected b client).1
 sound-disconnected b client s = record {
+  ordered = rises-part 0 (λ c. not (c.id == client)) b.clients s.ordered;
   few = let less = length-gone client b.clients in let old = s.few in omega arith;
   places = λ j.
       let less = part-places j (λ u. not (u.client == client)) b.subs in
@@ -193,6 +200,7 @@ sound-disconnected b client s = record {
 -- what is sound speaks of the clients' numbers, queues and ended subscriptions alone
 pub sound-same : (b : Board) (ds : List Connection) → IsSound b → Same b.clients ds → IsSound (record b { clients = ds })
 sound-same b ds s same = record {
+  ordered = same.order 0 ∙ s.ordered;
   few = let e = same.many in let old = s.few in omega arith;
   places = λ j. let e = ap length (same.ends j) in let old = s.places j in omega arith;
   new_clients = λ j new. same.here j ∙ s.new_clients j new;
@@ -213,6 +221,7 @@ sound-without_all (k ∷ ks) b s = sound-without_all ks (without k b) (sound-dis
 
 pub sound-advanced : (present : ℕ) (ks : List ℕ) (b : Board) → IsSound b → IsSound (advanced present ks b)
 sound-advanced present ks b s = sound-without_all ks (record b { moment = present }) (record {
+  ordered = s.ordered;
   few = s.few;
   places = s.places;
   new_clients = s.new_clients;
@@ -258,6 +267,7 @@ sound-published b topic message s =
     let us = subscribers topic b.subs in
     let to = spread b.next_message message us b.clients in
     record {
+      ordered = rises-spread 0 b.next_message message us b.clients ∙ s.ordered;
       few = let same = length-spread b.next_message message us b.clients in let old = s.few in omega arith;
       places = λ j.
           let over : Subscription → Bool = λ u. list_any (λ (id : ℕ). id == u.id) to.ended in

@@ -1,4 +1,5 @@
-ghost use Rattle.std.specs.Prelude.{◌≡◌, ◌<◌, ◌≤◌, ◌==◌, [], length, position, nat_le, IfOk, IfSome};
+ghost use Rattle.std.specs.Prelude.{◌≡◌, ◌<◌, ◌≤◌, ◌==◌, [], length, position, nat_le, true, IfOk, IfSome};
+ghost use Rattle.amf_broker.specs.Sound.{rises};
 ghost use Rattle.amf_broker.specs.Machine.{new_client, with_delivery, with_ended, emptied, kept_as, seen_at, is_idle, ended_of, last_of, is_connected};
 
 use crate::room::Room;
@@ -163,6 +164,18 @@ pub(crate) fn place_of(clients: &[Mailbox], client: ClientId) -> Option<usize>
     ensures bound { IfSome result (λ i. i < length clients.now) }
 {
     clients.iter().position(|mailbox| mailbox.id() == client)
+}
+
+/// Where the client stands, if it is connected, among clients in order of their numbers.
+pub(crate) fn place_in_order(clients: &[Mailbox], client: ClientId) -> Option<usize>
+    requires { rises 0 clients.now ≡ true }
+    ensures place { result ≡ position (λ c. c.id == client) clients.now }
+    ensures bound { IfSome result (λ i. i < length clients.now) }
+{
+    match clients.binary_search_by_key(&client.0, |mailbox| mailbox.id().0) {
+        Ok(place) => Some(place),
+        Err(_) => None,
+    }
 }
 
 /// Whether the client is connected.

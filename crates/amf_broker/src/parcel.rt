@@ -1,4 +1,4 @@
-use crate::mailbox::{Mailbox, place_of};
+use crate::mailbox::{Mailbox, place_in_order};
 use crate::{ClientId, Delivery, MAX_SUBS, SubId};
 
 /// A delivery on the way to its client.
@@ -9,8 +9,9 @@ pub(crate) struct Parcel {
 }
 
 impl Parcel {
-    ghost use Rattle.std.specs.Prelude.{◌≡◌, ◌<◌, length};
+    ghost use Rattle.std.specs.Prelude.{◌≡◌, ◌<◌, length, true};
     ghost use Rattle.amf_broker.specs.Machine.{ended_of};
+    ghost use Rattle.amf_broker.specs.Sound.{rises};
     ghost use Rattle.amf_broker.specs.Parcels.{ended_by_parcel, clients_after_parcel};
 
     pub(crate) fn new(client: ClientId, delivery: Delivery) -> Parcel
@@ -21,12 +22,13 @@ impl Parcel {
 
     /// Puts the delivery into its client's mailbox. Where that is full the subscription ends instead, and is answered.
     pub(crate) fn hand_over(self, clients: &mut [Mailbox]) -> Option<SubId>
-        requires { length (ended_of self.client clients.old) < MAX_SUBS }
+        requires room { length (ended_of self.client clients.old) < MAX_SUBS }
+        requires ordered { rises 0 clients.old ≡ true }
         ensures ended { result ≡ ended_by_parcel self clients.old }
         ensures clients { clients.new ≡ clients_after_parcel self clients.old }
     {
         let Parcel { client, delivery } = self;
-        let Some(place) = place_of(clients, client) else {
+        let Some(place) = place_in_order(clients, client) else {
             return None;
         };
         let mailbox = &mut clients[place];

@@ -1,7 +1,8 @@
-ghost use Rattle.std.specs.Prelude.{◌≡◌, ◌+◌, ◌≤◌, ◌==◌, ℕ, [], length, filter, vec_capacity, IfOk};
+ghost use Rattle.std.specs.Prelude.{◌≡◌, ◌+◌, ◌≤◌, ◌==◌, ℕ, [], length, filter, true, vec_capacity, IfOk};
 ghost use Rattle.std.specs.List.{list_any};
 ghost use Rattle.amf_broker.specs.Machine.{ended_of};
 ghost use Rattle.amf_broker.specs.Moments.{is_reached};
+ghost use Rattle.amf_broker.specs.Sound.{rises};
 ghost use Rattle.amf_broker.specs.Parcels.{parcels_for, parcels_of, clients_after, ended_after};
 
 use crate::live_sub::LiveSub;
@@ -51,6 +52,7 @@ pub(crate) fn hand_round(
     mut ended: Vec<SubId>,
 ) -> Vec<SubId>
     requires places { (client : ℕ) → length (parcels_of client parcels.items) + length (ended_of client clients.old) ≤ MAX_SUBS }
+    requires ordered { rises 0 clients.old ≡ true }
     requires empty { ended.items ≡ [] }
     requires room { length parcels.items ≤ vec_capacity ended }
     ensures clients { clients.new ≡ clients_after parcels.items clients.old }

@@ -3,11 +3,14 @@ use Rattle.std.proofs.Common.{◌≡◌, ◌∷◌, ◌++◌, ◌∙◌, [], ap,
 use Rattle.std.specs.Prelude.{Some, None}
 use Rattle.std.proofs.lemmas.List.{append-nil}
 use Rattle.amf_broker.specs.Parcels.{clients_after_parcel}
-use Rattle.amf_broker.proofs.Rounds.{clients-more, ended-step, length-ended, room-next, length-next}
+use Rattle.amf_broker.proofs.Rounds.{clients-more, ended-step, length-ended, room-next, length-next, rises-after}
 use Rattle.amf_broker.proofs.parcels.hand_round.Goals as goal
 
-pub hand_over-requires : goal.hand_over-requires
-hand_over-requires c =
+pub hand_over-requires-clause-ordered : goal.hand_over-requires-clause-ordered
+hand_over-requires-clause-ordered c = rw c.loop-parcel.invariant.clients (rises-after c.loop-parcel.yielded c.args.clients.now ∙ c.requires.ordered)
+
+pub hand_over-requires-clause-room : goal.hand_over-requires-clause-room
+hand_over-requires-clause-room c =
     let parts = rw c.in-Some.ensures.steps.0 at c.loop-parcel.invariant.parts in
     let places = rw (← parts) at c.requires.places in
     rw c.loop-parcel.invariant.clients (room-next c.in-Some.parcel c.loop-parcel.yielded _ c.args.clients.now places)

@@ -11,6 +11,9 @@ hand_round-ended-requires-clause-places c =
     let parcels = rw (← c.self.view_is) at c.requires.parcels in
     rw (parcels, c.deref_mut.ensures.value) (round-fits _ c.args.topic.now c.args.message.now c.self.invariant)
 
+pub hand_round-ended-requires-clause-ordered : goal.hand_round-ended-requires-clause-ordered
+hand_round-ended-requires-clause-ordered c = rw c.deref_mut.ensures.value c.self.invariant.ordered
+
 pub invariant_of-self : goal.invariant_of-self
 invariant_of-self c =
     let parcels = rw (← c.self.view_is) at c.requires.parcels in
