@@ -10,3 +10,4 @@ mod Sounds
 mod Rounds
 mod Advances
 mod Answered
+pub mod Worked
