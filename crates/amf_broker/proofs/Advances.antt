@@ -1,17 +1,15 @@
 -- Boards at the moment of a call.
-use Rattle.std.proofs.Common.{◌≡◌, ℕ, ◌+◌, ◌<◌, Bool, true, false, not, List, [], ◌∷◌, ◌++◌, length, refl, sym, ◌∙◌, ap, subst, arith}
-use Rattle.std.specs.Prelude.{◌==◌, ◌&&◌, ◌||◌, nat_le, filter, map, Option, Some, None, is_some, if◌then◌else◌, bytes_eq}
+use Rattle.std.proofs.Common.{◌≡◌, ℕ, ◌+◌, ◌<◌, true, false, List, [], ◌∷◌, ◌++◌, length, refl, sym, ◌∙◌, ap, arith}
+use Rattle.std.specs.Prelude.{filter, map, Some, None, is_some}
 use Rattle.std.specs.List.{list_any}
 use Rattle.amf_broker.specs.declared.limits.TheConstants.{MAX_CLIENTS, MAX_SUBS}
 use Rattle.amf_broker.specs.declared.topic.Topic.{Topic}
-use Rattle.amf_broker.specs.declared.reply.Reply.{Reply}
-use Rattle.amf_broker.specs.declared.reply.Reply.TheVariants.{Client, NoClient}
 use Rattle.amf_broker.specs.State.{Board, Connection, Subscription}
-use Rattle.amf_broker.specs.Machine.{client_at, is_connected, at_client, queue_of, queue_in, ended_of, ended_in, last_of, last_in, kept_of, kept_in, kept_ended_of, kept_ended_in, places_of, subs_of, connected, subscribed, new_client, advanced, sighted, seen_at, is_idle, client_refusal, topic_refusal, subscribers, or_then}
+use Rattle.amf_broker.specs.Machine.{client_at, is_connected, at_client, queue_of, queue_in, ended_of, ended_in, last_of, last_in, kept_of, kept_in, kept_ended_of, kept_ended_in, places_of, connected, subscribed, new_client, advanced, sighted, seen_at, is_idle}
 use Rattle.amf_broker.specs.Memory.{nobody}
-use Rattle.amf_broker.specs.Moments.{stays, clients_left, subs_left}
+use Rattle.amf_broker.specs.Moments.{clients_left, subs_left}
 use Rattle.amf_broker.specs.Sound.{IsSound}
-use Rattle.amf_broker.proofs.Sounds.{sound-advanced, sound-connected, sound-subscribed, sound-sighted}
+use Rattle.amf_broker.proofs.Sounds.{sound-advanced, sound-connected, sound-subscribed}
 use Rattle.amf_broker.proofs.Leavers.{advanced-is, client-left, stays-connected}
 
 module _ (m : ℕ) (ks : List ℕ) (b : Board) (cs : List Connection) (us : List Subscription) (clients : cs ≡ clients_left ks b.clients) (subs : us ≡ subs_left ks b.subs) where

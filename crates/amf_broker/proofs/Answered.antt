@@ -6,7 +6,6 @@ use Rattle.amf_broker.specs.declared.call.Call.TheVariants.{Connect, Subscribe, 
 use Rattle.amf_broker.specs.declared.reply.Reply.{Reply}
 use Rattle.amf_broker.specs.State.{State, Board}
 use Rattle.amf_broker.specs.Machine.{refusal, served, unless, reply_on, found, later, expired_at, sighted, named_by, answer_to, after, last_of, same_batch, next_batch}
-use Rattle.amf_broker.specs.declared.reply.Answer.{Answer}
 use Rattle.amf_broker.specs.Admission.{allowed}
 use Rattle.amf_broker.specs.Memory.{is_unsubscribe, is_missing, nobody, takes_none}
 use Rattle.amf_broker.proofs.Advances.{next-client, next-sub, next-message}

@@ -14,7 +14,7 @@ use Rattle.amf_broker.specs.Machine.{answer_to, after, served, refusal, unless, 
 use Rattle.amf_broker.specs.History.{Entry, state_after, IsAnsweredFrom, Leaves, then_entry}
 use Rattle.amf_broker.specs.Delivery.{Message, is_in, handed_to, published_to, says_bye, ends, ended_by, left_by, has_left, while_live, due, got, rest, IsPrefix, Begins, DeliveryHolds}
 use Rattle.amf_broker.proofs.Clients.{waiting, waiting-same, same-seen}
-use Rattle.amf_broker.proofs.Leavers.{Left, Kept, done-leave, live-leave, idle-leave, next-leave, destinations-leave}
+use Rattle.amf_broker.proofs.Leavers.{Left, done-leave, live-leave, idle-leave, next-leave, destinations-leave}
 use Rattle.amf_broker.proofs.Refusals.{AllQuiet, quiet-refusal, connected-served}
 use Rattle.amf_broker.proofs.Steps.{Idle, idle-served, next-served, Done, Stays, Parts, done-served, Live, LiveStep, live-served, named-begun}
 

@@ -1,6 +1,6 @@
 -- Clients that leave one after another.
-use Rattle.std.proofs.Common.{◌≡◌, ℕ, ◌+◌, Bool, true, false, not, List, [], ◌∷◌, ◌++◌, length, refl, sym, ◌∙◌, ap, subst, arith, ◌⊎◌, inl, inr}
-use Rattle.std.specs.Prelude.{◌==◌, ◌&&◌, ◌||◌, filter, map, count_by, Option, Some, None, is_some, if◌then◌else◌}
+use Rattle.std.proofs.Common.{◌≡◌, ℕ, Bool, true, false, not, List, [], ◌∷◌, length, refl, sym, ◌∙◌, ap, arith, ◌⊎◌, inl, inr}
+use Rattle.std.specs.Prelude.{◌==◌, ◌&&◌, ◌||◌, filter, count_by}
 use Rattle.std.specs.List.{list_any}
 use Rattle.std.proofs.lemmas.Bool.Decides.{nat_tests, eqb_tells}
 use Rattle.std.proofs.lemmas.List.{append-nil}
@@ -8,9 +8,9 @@ use Rattle.std.proofs.lemmas.List.Sums.{length-filter}
 use Rattle.amf_broker.specs.declared.topic.Topic.{Topic}
 use Rattle.amf_broker.specs.declared.call.Call.TheVariants.{Disconnect}
 use Rattle.amf_broker.specs.State.{Board, Connection, Subscription}
-use Rattle.amf_broker.specs.Machine.{client_at, is_connected, queue_in, ended_in, queue_of, ended_of, subs_of, places_of, without, without_all, advanced, is_idle, subscribers}
+use Rattle.amf_broker.specs.Machine.{client_at, is_connected, subs_of, places_of, without, without_all, advanced, subscribers}
 use Rattle.amf_broker.specs.Moments.{stays, clients_left, subs_left, is_reached}
-use Rattle.amf_broker.specs.Delivery.{is_in, messages_for}
+use Rattle.amf_broker.specs.Delivery.{is_in}
 use Rattle.amf_broker.proofs.Clients.{waiting}
 use Rattle.amf_broker.proofs.Steps.{Done, Live, done-served, live-served, Idle, named-none, silent-gone}
 

@@ -9,7 +9,7 @@ use Rattle.amf_broker.specs.declared.reply.Reply.{Reply}
 use Rattle.amf_broker.specs.declared.reply.Reply.TheVariants.{Subscribed, Full, NoClient, NoTopic, TooLong, TooManySubs, NoSub, BadNumber}
 use Rattle.amf_broker.specs.declared.limits.TheConstants.{MAX_CLIENTS, MAX_SUBS, MAX_SUBTOPIC, MAX_MESSAGE}
 use Rattle.amf_broker.specs.State.{Board}
-use Rattle.amf_broker.specs.Machine.{refusal, or_then, topic_refusal, client_refusal, is_connected, places_of, last_of, number_refusal}
+use Rattle.amf_broker.specs.Machine.{refusal, or_then, topic_refusal, client_refusal, is_connected, places_of, last_of}
 use Rattle.amf_broker.specs.Delivery.{handed_to, published_to, ends, says_bye}
 
 -- the reply tells of no event

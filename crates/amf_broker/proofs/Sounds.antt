@@ -7,7 +7,7 @@ use Rattle.std.proofs.Math.Bool.{or-true}
 use Rattle.amf_broker.specs.declared.limits.TheConstants.{MAX_CLIENTS, MAX_SUBS}
 use Rattle.amf_broker.specs.declared.topic.Topic.{Topic}
 use Rattle.amf_broker.specs.declared.call.Call.{Call}
-use Rattle.amf_broker.specs.declared.call.Call.TheVariants.{Connect, Subscribe, Unsubscribe, Publish, Poll, PollNumbered, Disconnect}
+use Rattle.amf_broker.specs.declared.call.Call.TheVariants.{Connect, Subscribe, Unsubscribe, Publish, Poll, Disconnect}
 use Rattle.amf_broker.specs.declared.reply.Delivery.{Delivery}
 use Rattle.amf_broker.specs.State.{Board, Connection, Subscription, first_board}
 use Rattle.amf_broker.specs.Machine.{is_connected, at_client, queue_of, queue_in, ended_of, ended_in, subs_of, places_of, with_delivery, with_ended, emptied, spread, ended_first, is_full, subscribers, is_same_topic, served, connected, subscribed, unsubscribed, published, polled, next_batch, disconnected, new_client, advanced, without_all, without, sighted}

@@ -12,7 +12,7 @@ use Rattle.amf_broker.specs.declared.reply.Reply.{Reply}
 use Rattle.amf_broker.specs.State.{Board, Connection, Subscription}
 use Rattle.amf_broker.specs.Machine.{is_connected, at_client, queue_of, queue_in, emptied, subscribers, is_same_topic, served, last_of, same_batch, next_batch}
 use Rattle.amf_broker.specs.Delivery.{messages_for, handed_to, published_to, ends, says_bye}
-use Rattle.amf_broker.proofs.Clients.{waiting, Same, same-kept, waiting-same, connected-at, connected-new, queue_of-new, queue_of-emptied, queue_of-gone, client_at-stays, queue_of-other}
+use Rattle.amf_broker.proofs.Clients.{waiting, same-kept, waiting-same, connected-at, connected-new, queue_of-new, queue_of-emptied, queue_of-gone, client_at-stays, queue_of-other}
 use Rattle.amf_broker.proofs.Spreads.{named, filter-swap, connected-spread, spread-other, spread-named}
 
 -- nothing waits for the subscription at client j

@@ -39,6 +39,7 @@ impl Payload {
         })
     }
 
+    /// The bytes, which need be no text.
     pub fn as_bytes(&self) -> &[u8]
         ensures { result.now ≡ self.now }
     {

@@ -1,7 +1,6 @@
 -- Those that expire are filtered out.
-use Rattle.std.proofs.Common.{◌≡◌, ◌∙◌, sym, rules}
+use Rattle.std.proofs.Common.{◌∙◌, sym, rules}
 use Rattle.std.proofs.lemmas.Fn.{filter_same}
-use Rattle.amf_broker.specs.Moments.{clients_left, subs_left}
 use Rattle.amf_broker.proofs.Leavers.{nobody-left, empty-none}
 use Rattle.amf_broker.proofs.switchboard.leave.Goals as goal
 

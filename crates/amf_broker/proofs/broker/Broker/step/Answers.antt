@@ -1,7 +1,7 @@
 -- The broker answers as the machine does.
-use Rattle.std.proofs.Common.{◌≡◌, ◌+◌, ◌≤◌, ◌∙◌, sym, ap, refl, arith}
+use Rattle.std.proofs.Common.{◌≡◌, ◌+◌, ◌∙◌, sym, ap, refl, arith}
 use Rattle.amf_broker.specs.contracts.broker.Broker.{the_view}
-use Rattle.amf_broker.specs.Machine.{answer_to, after, found, expired_at, sighted, named_by}
+use Rattle.amf_broker.specs.Machine.{answer_to, after, found, sighted, named_by}
 use Rattle.amf_broker.specs.Moments.{board_at}
 use Rattle.amf_broker.proofs.Answered.{Replied, refused, was-served, only-unsubscribe, nobody-free, the-answer, the-state, grows-answer}
 use Rattle.amf_broker.proofs.Law.{leaves-then, delivered}

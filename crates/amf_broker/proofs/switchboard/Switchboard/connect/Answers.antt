@@ -1,8 +1,7 @@
 -- A new client comes to the board of the moment.
-use Rattle.std.proofs.Common.{◌≡◌, ◌<◌, ◌∙◌, ◌∷◌, ◌++◌, [], refl, ap, sym, rules, length}
-use Rattle.amf_broker.specs.declared.limits.TheConstants.{MAX_CLIENTS}
+use Rattle.std.proofs.Common.{◌≡◌, ◌∙◌, ◌∷◌, ◌++◌, [], refl, ap, sym, rules}
 use Rattle.amf_broker.specs.declared.reply.Reply.TheVariants.{Client}
-use Rattle.amf_broker.specs.Machine.{new_client, advanced}
+use Rattle.amf_broker.specs.Machine.{new_client}
 use Rattle.amf_broker.specs.Moments.{clients_left, subs_left}
 use Rattle.amf_broker.specs.contracts.switchboard.Switchboard.{the_view}
 use Rattle.amf_broker.proofs.Advances.{connect-state, connect-sound, next-client}

@@ -1,5 +1,5 @@
 -- The destinations stay as they are.
-use Rattle.std.proofs.Common.{◌≡◌, ◌∙◌, sym, ap}
+use Rattle.std.proofs.Common.{◌∙◌, sym, ap}
 use Rattle.std.specs.Prelude.{bytes_eq}
 use Rattle.std.specs.List.{list_any}
 use Rattle.amf_broker.specs.contracts.switchboard.Switchboard.{the_view}

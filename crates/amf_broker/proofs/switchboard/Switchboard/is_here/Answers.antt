@@ -1,5 +1,5 @@
 -- A client is there where it was and does not expire.
-use Rattle.std.proofs.Common.{◌≡◌, ◌∙◌, sym, ap, true, false, not, refl}
+use Rattle.std.proofs.Common.{◌∙◌, sym, ap, not}
 use Rattle.std.specs.Prelude.{◌&&◌}
 use Rattle.amf_broker.specs.Machine.{is_connected}
 use Rattle.amf_broker.specs.contracts.switchboard.Switchboard.{the_view}

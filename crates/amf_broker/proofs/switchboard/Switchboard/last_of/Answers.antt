@@ -1,5 +1,5 @@
 -- The number is that of the client, which stays.
-use Rattle.std.proofs.Common.{◌≡◌, ◌∙◌}
+use Rattle.std.proofs.Common.{◌∙◌}
 use Rattle.amf_broker.specs.contracts.switchboard.Switchboard.{the_view}
 use Rattle.amf_broker.proofs.Advances.{last-here}
 use Rattle.amf_broker.proofs.switchboard.Switchboard.last_of.Goals as goal

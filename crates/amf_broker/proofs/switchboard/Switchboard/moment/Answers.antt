@@ -1,7 +1,6 @@
 -- The moment of a call, and who expires at it.
-use Rattle.std.proofs.Common.{◌≡◌, ◌∙◌, true, false, refl, ap, sym, rules}
-use Rattle.amf_broker.specs.Machine.{is_idle, later, expired_at}
-use Rattle.amf_broker.specs.Memory.{nobody}
+use Rattle.std.proofs.Common.{◌≡◌, ◌∙◌, true, false, refl, sym}
+use Rattle.amf_broker.specs.Machine.{later}
 use Rattle.amf_broker.proofs.Advances.{none-idle, some-idle}
 use Rattle.amf_broker.proofs.switchboard.Switchboard.moment.Goals as goal
 use Rattle.amf_broker.proofs.switchboard.Switchboard.moment.Goals.{then-has_idle+in_ok-expired, else-has_idle}

@@ -1,7 +1,4 @@
 -- The parcels are those of the board of the moment.
-use Rattle.std.proofs.Common.{◌≡◌, ◌∙◌, ◌<◌, sym, ap}
-use Rattle.amf_broker.specs.Machine.{subscribers}
-use Rattle.amf_broker.specs.Parcels.{parcels_for}
 use Rattle.amf_broker.specs.contracts.switchboard.Switchboard.{the_view}
 use Rattle.amf_broker.proofs.Leavers.{reached-is}
 use Rattle.amf_broker.proofs.Advances.{next-message, subs-at}

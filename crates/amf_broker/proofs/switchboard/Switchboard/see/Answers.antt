@@ -1,10 +1,10 @@
 -- The client was seen.
-use Rattle.std.proofs.Common.{◌≡◌, ◌∙◌, sym, ap}
+use Rattle.std.proofs.Common.{◌∙◌, sym}
 use Rattle.std.specs.Prelude.{Some}
-use Rattle.amf_broker.specs.Machine.{seen_at, sighted}
+use Rattle.amf_broker.specs.Machine.{seen_at}
 use Rattle.amf_broker.proofs.Sounds.{sound-sighted}
 use Rattle.amf_broker.proofs.Places.{changed-at, absent-at}
-use Rattle.amf_broker.proofs.Advances.{sighted-at, sighted-none}
+use Rattle.amf_broker.proofs.Advances.{sighted-none}
 use Rattle.amf_broker.proofs.switchboard.Switchboard.see.Goals as goal
 
 pub returns-in_default-place_of : goal.returns-in_default-place_of

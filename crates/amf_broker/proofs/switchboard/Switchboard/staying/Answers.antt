@@ -1,5 +1,5 @@
 -- Those that stay are counted.
-use Rattle.std.proofs.Common.{◌≡◌, ◌∙◌, sym, ap, length}
+use Rattle.std.proofs.Common.{◌∙◌, sym, ap, length}
 use Rattle.amf_broker.specs.contracts.switchboard.Switchboard.{the_view}
 use Rattle.amf_broker.proofs.Leavers.{length-left}
 use Rattle.amf_broker.proofs.Advances.{clients-at}

@@ -1,7 +1,6 @@
 -- A new subscription comes to the board of the moment.
 use Rattle.std.proofs.Common.{◌≡◌, ◌∙◌, ◌∷◌, ◌++◌, [], refl, ap, sym, rules}
 use Rattle.amf_broker.specs.declared.reply.Reply.TheVariants.{Subscribed}
-use Rattle.amf_broker.specs.State.{Subscription}
 use Rattle.amf_broker.specs.Moments.{clients_left, subs_left}
 use Rattle.amf_broker.specs.contracts.switchboard.Switchboard.{the_view}
 use Rattle.amf_broker.proofs.Advances.{subscribe-state, subscribe-sound, next-sub}
