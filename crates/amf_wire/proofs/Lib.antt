@@ -7,3 +7,4 @@ pub mod TextTest
 pub mod U29Fields
 pub mod Integers
 pub mod TextFront
+pub mod Doubles

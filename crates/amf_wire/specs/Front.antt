@@ -1,4 +1,4 @@
--- A unit at the front of bytes.
+-- A unit at the front of bytes. A device of proofs.
 use Rattle.std.specs.Prelude.{ℕ, zero, suc, ◌≤◌, List, [], ◌∷◌, length, take, replicate}
 use Rattle.amf_wire.specs.Text.{IsUnit, Range, rest_byte}
 

@@ -1,5 +1,13 @@
 ghost use Rattle.std.specs.Prelude.{◌≡◌, ◌+◌, ◌≤◌, length, take, drop};
-ghost use Rattle.std.specs.Int.{w32, w64, from_be_bytes};
+ghost use Rattle.std.specs.Int.{w16, w32, w64, from_be_bytes};
+
+/// The number of the two bytes at `at`, which have to be there, the higher first.
+pub fn be16_at(bytes: &[u8], at: usize) -> u16
+    requires { at + 2 ≤ length bytes.now }
+    ensures { result ≡ from_be_bytes w16 (take 2 (drop at bytes.now)) }
+{
+    u16::from_be_bytes([bytes[at], bytes[at + 1]])
+}
 
 /// The number of the four bytes at `at`, which have to be there, the highest first.
 pub fn be32_at(bytes: &[u8], at: usize) -> u32

@@ -47,8 +47,45 @@ fn reads_integers(rt: HostRuntime) -> Result<(), Fail> {
 #[test]
 fn reads_big_endian(rt: HostRuntime) -> Result<(), Fail> {
     let bytes = [9, 1, 2, 3, 4, 5, 6, 7, 8];
+    assert_eq!(rt; be16_at(&bytes, 1), 0x0102);
     assert_eq!(rt; be32_at(&bytes, 1), 0x0102_0304);
     assert_eq!(rt; be64_at(&bytes, 1), 0x0102_0304_0506_0708);
+    Ok(())
+}
+
+#[test]
+fn knows_whole_numbers(rt: HostRuntime) -> Result<(), Fail> {
+    let rows: [(i64, u64); 8] = [
+        (0, 0),
+        (1, 0x3FF0_0000_0000_0000),
+        (-1, 0xBFF0_0000_0000_0000),
+        (5, 0x4014_0000_0000_0000),
+        (-5, 0xC014_0000_0000_0000),
+        (268_435_455, 0x41AF_FFFF_FE00_0000),
+        (9_007_199_254_740_991, 0x433F_FFFF_FFFF_FFFF),
+        (-9_007_199_254_740_991, 0xC33F_FFFF_FFFF_FFFF),
+    ];
+    for (whole, bits) in rows.iter() {
+        assert_eq!(rt; pattern_of(*whole), Some(Pattern(*bits)));
+        assert_eq!(rt; whole_of(Pattern(*bits)), Some(*whole));
+    }
+    for large in [9_007_199_254_740_992, i64::MAX, i64::MIN] {
+        assert_eq!(rt; pattern_of(large), None);
+    }
+    // minus zero, a half, one and a half, 2^53, 2^60, the least number, infinity and a not-a-number
+    let others: [u64; 8] = [
+        0x8000_0000_0000_0000,
+        0x3FE0_0000_0000_0000,
+        0x3FF8_0000_0000_0000,
+        0x4340_0000_0000_0000,
+        0x43B0_0000_0000_0000,
+        1,
+        0x7FF0_0000_0000_0000,
+        0x7FF8_0000_0000_0000,
+    ];
+    for bits in others.iter() {
+        assert_eq!(rt; whole_of(Pattern(*bits)), None);
+    }
     Ok(())
 }
 
