@@ -14,7 +14,7 @@ text_there [] i all h = absurd (omega arith)
 text_there (x ∷ xs) zero all h = all.0
 text_there (x ∷ xs) (suc i) all h = text_there xs i all.1 (omega arith)
 
-value_good : (a : Arena) → AllByRecursion IsText a.texts → (s : Stored) → Names a s → IsValue (value_content a s)
+pub value_good : (a : Arena) → AllByRecursion IsText a.texts → (s : Stored) → Names a s → IsValue (value_content a s)
 value_good a all Undefined h = tt
 value_good a all Null h = tt
 value_good a all (Flag b) h = tt

@@ -62,7 +62,7 @@ small_head a b (values f x) names parts l = short_text a b x
 small_head a b (dictionary f) names parts l = tt
 
 -- entries are counted alike
-same_count : (a : Arena) (h : StoredHead) (n : ℕ) → count_of (head_content a h) n ≡ parts_of h n
+pub same_count : (a : Arena) (h : StoredHead) (n : ℕ) → count_of (head_content a h) n ≡ parts_of h n
 same_count a (xml_document x) n = refl
 same_count a (date p) n = refl
 same_count a array n = refl
@@ -80,11 +80,11 @@ short_names : (a : Arena) → IsWithinBounds a → (ps : List (ℕ × Stored)) �
 short_names a b [] = tt
 short_names a b (p ∷ ps) = (short_text a b p.0, short_names a b ps)
 
-names_long : (a : Arena) (ps : List (ℕ × Stored)) → length {A = List ℕ × Value} (map (λ p. (text_at a p.0, value_content a p.1)) ps) ≡ length ps
+pub names_long : (a : Arena) (ps : List (ℕ × Stored)) → length {A = List ℕ × Value} (map (λ p. (text_at a p.0, value_content a p.1)) ps) ≡ length ps
 names_long a [] = refl
 names_long a (p ∷ ps) = ap suc (names_long a ps)
 
-values_long : (a : Arena) (ss : List Stored) → length (map (value_content a) ss) ≡ length ss
+pub values_long : (a : Arena) (ss : List Stored) → length (map (value_content a) ss) ≡ length ss
 values_long a [] = refl
 values_long a (s ∷ ss) = ap suc (values_long a ss)
 

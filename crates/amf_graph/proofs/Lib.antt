@@ -17,7 +17,8 @@ pub mod Isomorphisms
 pub mod Counting
 pub mod Walks
 pub mod Places
-pub mod Descents
+pub mod OrderExists
+pub mod Reaching
 pub mod Copies
 pub mod PlaceOf
 pub mod Renumbering

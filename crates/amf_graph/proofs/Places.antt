@@ -5,8 +5,7 @@ use Rattle.std.proofs.lemmas.Option.{same_Some, slice_get_within}
 use Rattle.amf_graph.specs.Graph.{Value, leaf, node, Graph, node_at}
 use Rattle.amf_graph.specs.ByName.{by_name}
 use Rattle.amf_graph.specs.Isomorphic.{ValuesMatch, PairsMatch, NodesMatch, StandIn, Isomorphic}
-use Rattle.amf_graph.specs.Order as order
-use Rattle.amf_graph.specs.Order.{Absent, is_array, seconds, values_met, at_depth, Descends, Walks, over, past, again, first, IsOrder}
+use Rattle.amf_graph.specs.Order.{Absent, is_array, seconds, values_met, Walks, over, past, again, first, IsOrder}
 use Rattle.amf_graph.proofs.Lists.{entry, at_push, length_pushed, no_entry}
 use Rattle.amf_graph.proofs.Matching.{Implies, values_more, nodes_more}
 use Rattle.amf_graph.proofs.Walks.{In, each_left, each_right, walks_fixed, walk_distinct, walk_within, walk_closed}
@@ -59,23 +58,9 @@ zip_seconds P [] (y ∷ ys) m = elim m [ ]
 zip_seconds P (x ∷ xs) [] m = elim m [ ]
 zip_seconds P (x ∷ xs) (y ∷ ys) m = (m.0.1, zip_seconds P xs ys m.1)
 
-zip_met : (P : ℕ → ℕ → Type 0) (f : Bool) (v w : List (List ℕ × Value)) (vs ws : List Value) → AllZip (PairsMatch P) v w → AllZip (ValuesMatch P) vs ws → AllZip (ValuesMatch P) (cond f (seconds v ++ vs) (vs ++ seconds v)) (cond f (seconds w ++ ws) (ws ++ seconds w))
+pub zip_met : (P : ℕ → ℕ → Type 0) (f : Bool) (v w : List (List ℕ × Value)) (vs ws : List Value) → AllZip (PairsMatch P) v w → AllZip (ValuesMatch P) vs ws → AllZip (ValuesMatch P) (cond f (seconds v ++ vs) (vs ++ seconds v)) (cond f (seconds w ++ ws) (ws ++ seconds w))
 zip_met P true v w vs ws m n = zip_append (ValuesMatch P) (seconds v) (seconds w) vs ws (zip_seconds P v w m) n
 zip_met P false v w vs ws m n = zip_append (ValuesMatch P) vs ws (seconds v) (seconds w) n (zip_seconds P v w m)
-
--- values that match, and are met at the same depth
-abbrev pub DeepMatch : (ℕ → ℕ → Type 0) → Value × ℕ → Value × ℕ → Type 0
-DeepMatch P p q = ValuesMatch P p.0 q.0 × (p.1 ≡ q.1)
-
--- nodes of a pair, at the same depth
-abbrev pub FoundMatch : (ℕ → ℕ → Type 0) → ℕ × ℕ → ℕ × ℕ → Type 0
-FoundMatch P p q = P p.0 q.0 × (p.1 ≡ q.1)
-
-zip_deep : (P : ℕ → ℕ → Type 0) (d e : ℕ) → d ≡ e → (vs ws : List Value) (us zs : List (Value × ℕ)) → AllZip (ValuesMatch P) vs ws → AllZip (DeepMatch P) us zs → AllZip (DeepMatch P) (at_depth d vs ++ us) (at_depth e ws ++ zs)
-zip_deep P d e same [] [] us zs m n = n
-zip_deep P d e same [] (w ∷ ws) us zs m n = elim m [ ]
-zip_deep P d e same (v ∷ vs) [] us zs m n = elim m [ ]
-zip_deep P d e same (v ∷ vs) (w ∷ ws) us zs m n = ((m.0, same), zip_deep P d e same vs ws us zs m.1 n)
 
 module _ (g h : Graph) (P : ℕ → ℕ → Type 0)
     (left : (i j k : ℕ) → P i j → P i k → j ≡ k) (right : (i j k : ℕ) → P i k → P j k → i ≡ j)
@@ -113,27 +98,6 @@ module _ (g h : Graph) (P : ℕ → ℕ → Type 0)
       let o = walk_along a (ys ++ j ∷ []) (values_met (node_at h j) ++ ws) (along_push P xs ys i j m.0 k) (zip_append (ValuesMatch P) (values_met (node_at g i)) (values_met (node_at h j)) vs ws (met_match i j m.0) m.1) in
       (o.0, first j (within i j m.0) (absent_along xs ys i j n k m.0) o.1, o.2)
 
-  -- and so does the one descent
-  pub descent_along : {xs : List ℕ} {vs : List (Value × ℕ)} {ms : List (ℕ × ℕ)} → Descends g xs vs ms → (ys : List ℕ) (ws : List (Value × ℕ)) → Along P xs ys → AllZip (DeepMatch P) vs ws → (ns : List (ℕ × ℕ)) × Descends h ys ws ns × AllZip (FoundMatch P) ms ns
-  descent_along order.over ys [] k m = ([], order.over, tt)
-  descent_along order.over ys (w ∷ ws) k m = elim m [ ]
-  descent_along (order.past x d a) ys [] k m = elim m [ ]
-  descent_along (order.past x d a) ys ((leaf y, e) ∷ ws) k m = let o = descent_along a ys ws k m.1 in (o.0, order.past y e o.1, o.2)
-  descent_along (order.past x d a) ys ((node j, e) ∷ ws) k m = elim m.0.0 [ ]
-  descent_along (order.again i d l f a) ys [] k m = elim m [ ]
-  descent_along (order.again i d l f a) ys ((leaf y, e) ∷ ws) k m = elim m.0.0 [ ]
-  descent_along (order.again {met = xs} i d l f a) ys ((node j, e) ∷ ws) k m =
-      let o = descent_along a ys ws k m.1 in
-      let other = entry ys l (subst (λ w. l < w) k.size (slice_get_within xs l i f)) in
-      let same : other.0 ≡ j = left i other.0 j (k.pairs l i other.0 f other.1) m.0.0 in
-      (o.0, order.again j e l (other.1 ∙ ap (λ w. Some w) same) o.1, o.2)
-  descent_along (order.first i d l n a) ys [] k m = elim m [ ]
-  descent_along (order.first i d l n a) ys ((leaf y, e) ∷ ws) k m = elim m.0.0 [ ]
-  descent_along (order.first {met = xs} {vs = vs} i d l n a) ys ((node j, e) ∷ ws) k m =
-      let deep = zip_deep P (suc d) (suc e) (ap suc m.0.1) (values_met (node_at g i)) (values_met (node_at h j)) vs ws (met_match i j m.0.0) m.1 in
-      let o = descent_along a (ys ++ j ∷ []) (at_depth (suc e) (values_met (node_at h j)) ++ ws) (along_push P xs ys i j m.0.0 k) deep in
-      ((j, e) ∷ o.0, order.first j e (within i j m.0.0) (absent_along xs ys i j n k m.0.0) o.1, (m.0, o.2))
-
   -- a matching of values that stand in the lists is one by their numbers
   same_value : (xs ys : List ℕ) → Along P xs ys → (v w : Value) → In xs v → ValuesMatch P v w → ValuesMatch (SamePlace xs ys) v w
   same_value xs ys k (leaf x) (leaf y) e m = m
@@ -166,12 +130,13 @@ pub record PlacesMatch (g h : Graph) (xs ys : List ℕ) : Type 0 where
   pub root : ValuesMatch (SamePlace xs ys) g.root h.root
   pub nodes : (k i j : ℕ) → slice_get xs k ≡ Some i → slice_get ys k ≡ Some j → NodesMatch (SamePlace xs ys) (node_at g i) (node_at h j)
 
--- the nodes that are found in two isomorphic graphs match, and stand at the same depths
-pub depths_along : (g h : Graph) (i : Isomorphic g h) (depth : ℕ) (found : List (ℕ × ℕ)) → order.HasDepths depth g found → (others : List (ℕ × ℕ)) × order.HasDepths depth h others × AllZip (FoundMatch (StandIn i.pairs)) found others
-depths_along g h i depth found d =
+-- isomorphic graphs have orders together
+pub order_along : (g h : Graph) (xs : List ℕ) → IsOrder g xs → Isomorphic g h → (ys : List ℕ) × IsOrder h ys
+order_along g h xs a i =
     let within : (k l : ℕ) → StandIn i.pairs k l → l < length h.nodes = λ k l m. (i.within k l m).1 in
     let none : Along (StandIn i.pairs) [] [] = record { size = refl; pairs = λ k l m e f. absurd (no_entry k l e) } in
-    descent_along g h (StandIn i.pairs) i.left i.right within i.nodes d [] ((h.root, depth) ∷ []) none ((i.root, refl), tt)
+    let o = walk_along g h (StandIn i.pairs) i.left i.right within i.nodes a [] (h.root ∷ []) none (i.root, tt) in
+    (o.0, o.1)
 
 pub to_places : (g h : Graph) (xs ys : List ℕ) → IsOrder g xs → IsOrder h ys → Isomorphic g h → PlacesMatch g h xs ys
 to_places g h xs ys a b i =

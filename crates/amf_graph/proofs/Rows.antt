@@ -2,7 +2,7 @@
 use Rattle.std.proofs.Common.{◌≡◌, ◌≢◌, ℕ, zero, suc, ◌<◌, [], ◌∷◌, Option, Some, None, refl, ap, sym, ◌∙◌, subst, arith, inl, inr, ◌⊎◌}
 use Rattle.amf_graph.specs.Graph.{array, object, node_at}
 use Rattle.amf_graph.specs.Isomorphic.{Isomorphic, StandIn, NodesMatch}
-use Rattle.amf_graph.specs.Order.{Absent, IsOrder, HasDepths, Walks, Descends}
+use Rattle.amf_graph.specs.Order.{Absent, IsOrder, Walks}
 use Rattle.amf_graph.specs.Order as order
 use Rattle.amf_graph.specs.WorkedGraphs.{shared, apart, renumbered, three_arrays, one_sealed}
 
@@ -66,9 +66,6 @@ absent_one j i h (suc k) e = let f : None ≡ Some i = e in absurd cc
 
 pub in_order : IsOrder renumbered (3 ∷ 2 ∷ [])
 in_order = order.Walks.first 3 (omega arith) (absent_nil 3) (order.Walks.first 2 (omega arith) (absent_one 3 2 (λ e. omega arith)) (order.Walks.again 2 1 refl order.Walks.over))
-
-pub depths : HasDepths 1 renumbered ((3, 1) ∷ (2, 2) ∷ [])
-depths = order.Descends.first 3 1 (omega arith) (absent_nil 3) (order.Descends.first 2 2 (omega arith) (absent_one 3 2 (λ e. omega arith)) (order.Descends.again 2 2 1 refl order.Descends.over))
 
 -- the nodes are met one after the other
 

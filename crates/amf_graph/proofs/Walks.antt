@@ -25,7 +25,7 @@ walks_fixed (again i k e a) (first j l n b) = absurd (n k e)
 walks_fixed (first i m n a) (again j l f b) = absurd (n l f)
 walks_fixed (first i l n a) (first j k m b) = walks_fixed a b
 
-walk_stays : {g : Graph} {xs ys : List ℕ} {vs : List Value} → Walks g xs vs ys → (k i : ℕ) → slice_get xs k ≡ Some i → slice_get ys k ≡ Some i
+pub walk_stays : {g : Graph} {xs ys : List ℕ} {vs : List Value} → Walks g xs vs ys → (k i : ℕ) → slice_get xs k ≡ Some i → slice_get ys k ≡ Some i
 walk_stays over k i e = e
 walk_stays (past x a) k i e = walk_stays a k i e
 walk_stays (again j l f a) k i e = walk_stays a k i e

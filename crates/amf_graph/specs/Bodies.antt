@@ -1,4 +1,4 @@
--- What is kept of a node, as its model.
+-- What is kept of a node, as its model. A device of proofs.
 use Rattle.std.specs.Prelude.{◌≡◌, ℕ, Bool, List, [], ◌∷◌, Option, Some, None, ◌<◌, ◌^◌, FitsSigned}
 use Rattle.std.specs.List.{AllByRecursion}
 use Rattle.std.specs.Int.{w32}

@@ -1,17 +1,16 @@
 -- The first node that has no spelling, and the first reason at it.
 use Rattle.std.specs.Prelude.{ℕ, ◌≤◌}
 use Rattle.amf_graph.specs.declared.lack.LackKind.{LackKind}
-use Rattle.amf_graph.specs.declared.lack.LackKind.TheVariants.{EmptyName, TooDeep, NoForm, LongName, Shared, FarReference, LongFile}
+use Rattle.amf_graph.specs.declared.lack.LackKind.TheVariants.{EmptyName, NoForm, LongName, Shared, FarReference, LongFile}
 
 -- the order in which reasons are looked for
 abbrev pub rank : LackKind → ℕ
 rank EmptyName = 0
-rank TooDeep = 1
-rank NoForm = 2
-rank LongName = 3
-rank Shared = 4
-rank FarReference = 5
-rank LongFile = 6
+rank NoForm = 1
+rank LongName = 2
+rank Shared = 3
+rank FarReference = 4
+rank LongFile = 5
 
 -- Lacks says of a canonical number and a reason that it applies there
 pub record IsFirstLack (Lacks : ℕ → LackKind → Type 0) (number : ℕ) (kind : LackKind) : Type 0 where

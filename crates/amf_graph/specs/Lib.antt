@@ -11,9 +11,10 @@ pub mod Bounds
 pub mod Small
 pub mod Building
 pub mod Views
-pub mod Bodies
 pub mod Rooted
 pub mod Renumbered
 pub mod WorkedGraphs
 pub mod WorkedFits
 pub mod FinishedFacts
+-- Devices of the proofs: no clause of a public call needs them.
+pub mod Bodies

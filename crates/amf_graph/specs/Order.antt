@@ -1,5 +1,5 @@
--- The canonical order of the reached nodes, and their canonical depths: the order in which AMF 3 lays out their values (3.11, 3.12, 3.15, 3.16).
-use Rattle.std.specs.Prelude.{◌≡◌, ◌≢◌, ℕ, suc, ◌<◌, Bool, true, false, cond, List, [], ◌∷◌, ◌++◌, map, length, slice_get, Some}
+-- The canonical order of the reached nodes: the order in which AMF 3 lays out their values (3.11, 3.12, 3.15, 3.16).
+use Rattle.std.specs.Prelude.{◌≡◌, ◌≢◌, ℕ, ◌<◌, Bool, true, false, cond, List, [], ◌∷◌, ◌++◌, map, length, slice_get, Some}
 use Rattle.amf_graph.specs.Graph.{Leaf, Value, leaf, node, Head, array, Node, Graph, node_at}
 use Rattle.amf_graph.specs.ByName.{by_name}
 
@@ -32,19 +32,3 @@ pub data Walks (g : Graph) : List ℕ → List Value → List ℕ → Type 0 whe
 -- the reached nodes, each at its first meeting and before its parts
 abbrev pub IsOrder : Graph → List ℕ → Type 0
 IsOrder g order = Walks g [] (g.root ∷ []) order
-
--- values whose node, where it is met for the first time, has this depth
-abbrev pub at_depth : ℕ → List Value → List (Value × ℕ)
-at_depth depth [] = []
-at_depth depth (v ∷ vs) = (v, depth) ∷ at_depth depth vs
-
--- the same way, with the depth at which each node is met first
-pub data Descends (g : Graph) : List ℕ → List (Value × ℕ) → List (ℕ × ℕ) → Type 0 where
-  over : {met : List ℕ} → Descends g met [] []
-  past : {met : List ℕ} {found : List (ℕ × ℕ)} {vs : List (Value × ℕ)} (x : Leaf) (depth : ℕ) → Descends g met vs found → Descends g met ((leaf x, depth) ∷ vs) found
-  again : {met : List ℕ} {found : List (ℕ × ℕ)} {vs : List (Value × ℕ)} (i depth k : ℕ) → slice_get met k ≡ Some i → Descends g met vs found → Descends g met ((node i, depth) ∷ vs) found
-  first : {met : List ℕ} {found : List (ℕ × ℕ)} {vs : List (Value × ℕ)} (i depth : ℕ) → i < length g.nodes → Absent met i → Descends g (met ++ i ∷ []) (at_depth (suc depth) (values_met (node_at g i)) ++ vs) found → Descends g met ((node i, depth) ∷ vs) ((i, depth) ∷ found)
-
--- the nodes in canonical order, each with its canonical depth, the root's node at this depth
-abbrev pub HasDepths : ℕ → Graph → List (ℕ × ℕ) → Type 0
-HasDepths depth g found = Descends g [] ((g.root, depth) ∷ []) found

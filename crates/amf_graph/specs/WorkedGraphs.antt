@@ -3,7 +3,7 @@ use Rattle.std.specs.Prelude.{◌≡◌, ℕ, true, List, [], ◌∷◌}
 use Rattle.amf_graph.specs.Graph.{Value, node, Traits, Head, array, object, Node, Graph}
 use Rattle.amf_graph.specs.ByName.{by_name}
 use Rattle.amf_graph.specs.Isomorphic.{Isomorphic}
-use Rattle.amf_graph.specs.Order.{IsOrder, HasDepths}
+use Rattle.amf_graph.specs.Order.{IsOrder}
 
 abbrev pub items : List Value → Node
 items vs = record { head = array; names = []; values = vs }
@@ -45,4 +45,3 @@ pub record GraphRows : Type 0 where
   pub names_before_items : IsOrder (three_arrays array) (0 ∷ 2 ∷ 1 ∷ 3 ∷ [])
   pub sealed_before_members : IsOrder (three_arrays (object one_sealed)) (0 ∷ 3 ∷ 2 ∷ 1 ∷ [])
   pub in_order : IsOrder renumbered (3 ∷ 2 ∷ [])
-  pub depths : HasDepths 1 renumbered ((3, 1) ∷ (2, 2) ∷ [])

@@ -3,7 +3,7 @@ ghost use Rattle.amf_graph.specs.WorkedFits.{FitRows};
 ghost use Rattle.amf_graph.specs.WorkedGraphs.{GraphRows};
 
 /// Worked facts of graphs: an array that holds one array twice is another graph than one that holds two; it is the same in
-/// other numbers, with its canonical order and depths.
+/// other numbers, with its canonical order.
 pub fn graph_rows()
     ensures { GraphRows }
 {}

@@ -3,8 +3,6 @@
 pub enum LackKind {
     /// A dynamic member or an array's name is empty.
     EmptyName,
-    /// The node stands deeper than the limit of depth.
-    TooDeep,
     /// The format has no such kind of node.
     NoForm,
     /// A name is longer than the format's length field can say.

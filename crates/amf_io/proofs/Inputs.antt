@@ -39,11 +39,11 @@ fault_is_first P base k w r s =
       none = λ o. s.none (subst (Opens P) through o);
     }
 
-module _ {X : Type 0} (most : ℕ) (t : ℕ → Layout X) (P : List Field → Type 0) (g : IsLayout most t P) where
+module _ {X : Type 0} (t : ℕ → Layout X) (P : List Field → Type 0) (g : IsLayout t P) where
   -- reading all but what is left behind an accepted list
   done_run : (base limit k m : ℕ) (input rest : List ℕ) (a : IsAccepted P base limit input k rest) → length (flat a.fields) < m → (x : X) × (run (t m) base input ≡ Done x k rest)
   done_run base limit k m input rest a lt =
-      let d = accepts most t P g base a.fields m rest a.accepted lt in
+      let d = accepts t P g base a.fields m rest a.accepted lt in
       (d.0, ap (run (t m) base) a.parts ∙ d.1 ∙ ap (λ n. Done d.0 n rest) (sym a.place))
 
   -- an accepted list within the limit is one of the window
@@ -57,7 +57,7 @@ module _ {X : Type 0} (most : ℕ) (t : ℕ → Layout X) (P : List Field → Ty
   -- bytes that begin with an accepted list are not cut off
   not_cut_off : (base limit k j : ℕ) (input rest : List ℕ) → IsAccepted P base limit input k rest → IsCutOff P base input j → ⊥
   not_cut_off base limit k j input rest a c =
-      let s = short_run most t P g base j input c in
+      let s = short_run t P g base j input c in
       let m = s.0 + length (flat a.fields) + 1 in
       let d = done_run base limit k m input rest a (omega arith) in
       let clash : Done d.0 k rest ≡ Short j = sym d.1 ∙ s.1 m (omega arith) in
@@ -66,7 +66,7 @@ module _ {X : Type 0} (most : ℕ) (t : ℕ → Layout X) (P : List Field → Ty
   -- nor at fault
   not_faulty : (base limit k j : ℕ) (r : Reason) (input rest : List ℕ) → IsAccepted P base limit input k rest → IsFault P base input r j → ⊥
   not_faulty base limit k j r input rest a f =
-      let s = fault_run most t P g base j r input f in
+      let s = fault_run t P g base j r input f in
       let m = s.0 + length (flat a.fields) + 1 in
       let d = done_run base limit k m input rest a (omega arith) in
       let clash : Done d.0 k rest ≡ Bad r j = sym d.1 ∙ s.1 m (omega arith) in
@@ -97,7 +97,7 @@ module _ {X : Type 0} (most : ℕ) (t : ℕ → Layout X) (P : List Field → Ty
       absurd (omega arith)
 
   one_input_refusal : (limit k j : ℕ) (r q : Reason) (input : List ℕ) → IsInputRefused P limit input r k → IsInputRefused P limit input q j → (r ≡ q) × (k ≡ j)
-  one_input_refusal limit k j r q input (refused a) (refused b) = one_refusal most t P g 0 limit k j r q input a b
+  one_input_refusal limit k j r q input (refused a) (refused b) = one_refusal t P g 0 limit k j r q input a b
   one_input_refusal limit k j r q input (refused a) (trailing how rest some b) = absurd (not_refused 0 limit j k r input rest b a)
   one_input_refusal limit k j r q input (trailing why rest some a) (refused b) = absurd (not_refused 0 limit k j q input rest a b)
   one_input_refusal limit k j r q input (trailing why rest some a) (trailing how more _ b) = (why ∙ sym how, (one_end 0 limit limit k j input rest more a b).0)
@@ -108,26 +108,26 @@ module _ {X : Type 0} (most : ℕ) (t : ℕ → Layout X) (P : List Field → Ty
   -- The outcome of reading a whole input.
 
   pub is_input_accepted : (n limit k : ℕ) (input : List ℕ) (x : X) → AreBytes (take (k - 0) input) → read limit (t n) 0 input ≡ Done x k [] → IsInputAccepted P limit input
-  is_input_accepted n limit k input x bs e = all_taken P limit k input (is_accepted most t P g 0 limit (omega arith) n k input x [] bs e)
+  is_input_accepted n limit k input x bs e = all_taken P limit k input (is_accepted t P g 0 limit (omega arith) n k input x [] bs e)
 
   pub is_trailing : (n limit k : ℕ) (input : List ℕ) (x : X) (rest : List ℕ) → 0 < length rest → AreBytes (take (k - 0) input) → read limit (t n) 0 input ≡ Done x k rest → IsInputRefused P limit input Trailing k
-  is_trailing n limit k input x rest some bs e = trailing refl rest some (is_accepted most t P g 0 limit (omega arith) n k input x rest bs e)
+  is_trailing n limit k input x rest some bs e = trailing refl rest some (is_accepted t P g 0 limit (omega arith) n k input x rest bs e)
 
   window_less : (n limit : ℕ) (input : List ℕ) → length (take limit input) < n → length (take (limit - 0) input) < n
   window_less n limit input lt = let e : limit - 0 ≡ limit = omega arith in subst (λ (i : ℕ). length (take i input) < n) (sym e) lt
 
-  pub is_input_refused : (n limit k : ℕ) (input : List ℕ) (r : Reason) → n ≤ most → length (take limit input) < n → AreBytes (take (k - 0) input) → read limit (t n) 0 input ≡ Bad r k → IsInputRefused P limit input r k
-  is_input_refused n limit k input r up lt bs e = refused (is_refused most t P g 0 limit (omega arith) n k input r up (window_less n limit input lt) bs e)
+  pub is_input_refused : (n limit k : ℕ) (input : List ℕ) (r : Reason) → length (take limit input) < n → AreBytes (take (k - 0) input) → read limit (t n) 0 input ≡ Bad r k → IsInputRefused P limit input r k
+  is_input_refused n limit k input r lt bs e = refused (is_refused t P g 0 limit (omega arith) n k input r (window_less n limit input lt) bs e)
 
-  decided : (n limit : ℕ) (input : List ℕ) (o : Outcome X) → n ≤ most → length (take limit input) < n → AreBytes input → read limit (t n) 0 input ≡ o → Decides P limit input o
-  decided n limit input (Done x k []) up lt bs e = is_input_accepted n limit k input x (bytes_take (k - 0) input bs) e
-  decided n limit input (Done x k (b ∷ rest)) up lt bs e = is_trailing n limit k input x (b ∷ rest) (omega arith) (bytes_take (k - 0) input bs) e
-  decided n limit input (Bad r k) up lt bs e = is_input_refused n limit k input r up lt (bytes_take (k - 0) input bs) e
-  decided n limit input (Short k) up lt bs e = read_short limit (t n) 0 input k e
-  decided n limit input Stuck up lt bs e = not_stuck most t P g 0 n (take (limit - 0) input) up (window_less n limit input lt) (read_stuck limit (t n) 0 input e)
+  decided : (n limit : ℕ) (input : List ℕ) (o : Outcome X) → length (take limit input) < n → AreBytes input → read limit (t n) 0 input ≡ o → Decides P limit input o
+  decided n limit input (Done x k []) lt bs e = is_input_accepted n limit k input x (bytes_take (k - 0) input bs) e
+  decided n limit input (Done x k (b ∷ rest)) lt bs e = is_trailing n limit k input x (b ∷ rest) (omega arith) (bytes_take (k - 0) input bs) e
+  decided n limit input (Bad r k) lt bs e = is_input_refused n limit k input r lt (bytes_take (k - 0) input bs) e
+  decided n limit input (Short k) lt bs e = read_short limit (t n) 0 input k e
+  decided n limit input Stuck lt bs e = not_stuck t P g 0 n (take (limit - 0) input) (window_less n limit input lt) (read_stuck limit (t n) 0 input e)
 
-  pub outcome_decides : (n limit : ℕ) (input : List ℕ) → n ≤ most → length (take limit input) < n → AreBytes input → Decides P limit input (read limit (t n) 0 input)
-  outcome_decides n limit input up lt bs = decided n limit input (read limit (t n) 0 input) up lt bs refl
+  pub outcome_decides : (n limit : ℕ) (input : List ℕ) → length (take limit input) < n → AreBytes input → Decides P limit input (read limit (t n) 0 input)
+  outcome_decides n limit input lt bs = decided n limit input (read limit (t n) 0 input) lt bs refl
 
   judged_by : (limit : ℕ) (input : List ℕ) (o : Outcome X) → Decides P limit input o → IsJudged P limit input
   judged_by limit input (Done x k []) d = inl d
@@ -136,13 +136,13 @@ module _ {X : Type 0} (most : ℕ) (t : ℕ → Layout X) (P : List Field → Ty
   judged_by limit input (Short k) d = absurd d
   judged_by limit input Stuck d = absurd d
 
-  pub judged : (limit : ℕ) (input : List ℕ) → length (take limit input) < most → AreBytes input → IsJudged P limit input
-  judged limit input lt bs = judged_by limit input (read limit (t most) 0 input) (outcome_decides most limit input (omega arith) lt bs)
+  pub judged : (limit : ℕ) (input : List ℕ) → AreBytes input → IsJudged P limit input
+  judged limit input bs = let n = length (take limit input) + 1 in judged_by limit input (read limit (t n) 0 input) (outcome_decides n limit input (omega arith) bs)
 
   -- What was given of an input so far.
 
-  pub cut_off_unsettled : (n limit k : ℕ) (given : List ℕ) → n ≤ most → length given < n → AreBytes (take (k - 0) given) → length given ≤ limit → run (t n) 0 given ≡ Short k → IsUnsettled P limit given
-  cut_off_unsettled n limit k given up lt bs le e = record { within = le; waits = inl (k, is_short most t P g 0 n k given up lt bs e) }
+  pub cut_off_unsettled : (n limit k : ℕ) (given : List ℕ) → length given < n → AreBytes (take (k - 0) given) → length given ≤ limit → run (t n) 0 given ≡ Short k → IsUnsettled P limit given
+  cut_off_unsettled n limit k given lt bs le e = record { within = le; waits = inl (k, is_short t P g 0 n k given lt bs e) }
 
   pub whole_unsettled : (n limit k : ℕ) (given : List ℕ) (x : X) → AreBytes (take (k - 0) given) → length given ≤ limit → run (t n) 0 given ≡ Done x k [] → IsUnsettled P limit given
   whole_unsettled n limit k given x bs le e =
@@ -151,12 +151,12 @@ module _ {X : Type 0} (most : ℕ) (t : ℕ → Layout X) (P : List Field → Ty
       let end : length (flat s.fields) ≤ limit = omega (arith, ap length s.parts, length-append (flat s.fields) []) in
       record { within = le; waits = inr (all_taken P limit k given (record { fields = s.fields; accepted = g.sound n s.fields x (bytes_taken 0 k given (flat s.fields) [] s.parts s.place bs) s.runs; parts = s.parts; place = s.place; within = omega arith })) }
 
-  waiting : (n limit : ℕ) (given : List ℕ) (o : Outcome X) → n ≤ most → length given < n → AreBytes given → length given ≤ limit → run (t n) 0 given ≡ o → Waits P limit given o
-  waiting n limit given (Done x k []) up lt bs le e = whole_unsettled n limit k given x (bytes_take (k - 0) given bs) le e
-  waiting n limit given (Done x k (b ∷ rest)) up lt bs le e = tt
-  waiting n limit given (Bad r k) up lt bs le e = tt
-  waiting n limit given (Short k) up lt bs le e = cut_off_unsettled n limit k given up lt (bytes_take (k - 0) given bs) le e
-  waiting n limit given Stuck up lt bs le e = not_stuck most t P g 0 n given up lt e
+  waiting : (n limit : ℕ) (given : List ℕ) (o : Outcome X) → length given < n → AreBytes given → length given ≤ limit → run (t n) 0 given ≡ o → Waits P limit given o
+  waiting n limit given (Done x k []) lt bs le e = whole_unsettled n limit k given x (bytes_take (k - 0) given bs) le e
+  waiting n limit given (Done x k (b ∷ rest)) lt bs le e = tt
+  waiting n limit given (Bad r k) lt bs le e = tt
+  waiting n limit given (Short k) lt bs le e = cut_off_unsettled n limit k given lt (bytes_take (k - 0) given bs) le e
+  waiting n limit given Stuck lt bs le e = not_stuck t P g 0 n given lt e
 
-  pub outcome_waits : (n limit : ℕ) (given : List ℕ) → n ≤ most → length given < n → AreBytes given → length given ≤ limit → Waits P limit given (run (t n) 0 given)
-  outcome_waits n limit given up lt bs le = waiting n limit given (run (t n) 0 given) up lt bs le refl
+  pub outcome_waits : (n limit : ℕ) (given : List ℕ) → length given < n → AreBytes given → length given ≤ limit → Waits P limit given (run (t n) 0 given)
+  outcome_waits n limit given lt bs le = waiting n limit given (run (t n) 0 given) lt bs le refl

@@ -245,9 +245,9 @@ module _ {X Y Z : Type 0} (t : Layout X) (f : X → Layout Y) (g : Y → Layout 
   regrouped told view input rest at place limit (Err Memory) d = tt
 
 -- the verdicts that they are
-module _ {X : Type 0} (most : ℕ) (t : ℕ → Layout X) (P : List Field → Type 0) (g : IsLayout most t P) (base limit : ℕ) (le : base ≤ limit) where
-  pub refused_verdict : (n : ℕ) (input : List ℕ) (f : Refusal) → n ≤ most → length (take (limit - base) input) < n → RefusedBy (t n) input base limit f → IsRefused P base limit input f.reason f.at
-  refused_verdict n input f up lt r = is_refused most t P g base limit le n f.at input f.reason up lt r.bytes r.outcome
+module _ {X : Type 0} (t : ℕ → Layout X) (P : List Field → Type 0) (g : IsLayout t P) (base limit : ℕ) (le : base ≤ limit) where
+  pub refused_verdict : (n : ℕ) (input : List ℕ) (f : Refusal) → length (take (limit - base) input) < n → RefusedBy (t n) input base limit f → IsRefused P base limit input f.reason f.at
+  refused_verdict n input f lt r = is_refused t P g base limit le n f.at input f.reason lt r.bytes r.outcome
 
-  pub waits_verdict : (n : ℕ) (input rest : List ℕ) (w : WaitsBy (t n) input rest base limit) → n ≤ most → length w.given < n → IsCutOff P base w.given w.stop
-  waits_verdict n input rest w up lt = is_short most t P g base n w.stop w.given up lt w.bytes w.outcome
+  pub waits_verdict : (n : ℕ) (input rest : List ℕ) (w : WaitsBy (t n) input rest base limit) → length w.given < n → IsCutOff P base w.given w.stop
+  waits_verdict n input rest w lt = is_short t P g base n w.stop w.given lt w.bytes w.outcome

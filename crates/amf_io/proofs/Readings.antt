@@ -165,20 +165,20 @@ read_stuck limit (want kind next) at l h = stuck_case limit kind next at l (λ b
 read_stuck limit stuck at l h = refl
 
 -- What the layout of a format answers is the verdict on what it read: no more than what it took need be bytes.
-module _ {X : Type 0} (most : ℕ) (t : ℕ → Layout X) (P : List Field → Type 0) (g : IsLayout most t P) (base limit : ℕ) (le : base ≤ limit) where
-  short_refused : (n k : ℕ) (l : List ℕ) (r : Reason) (b : Bool) → n ≤ most → length (take (limit - base) l) < n → AreBytes (take (k - base) (take (limit - base) l)) → leb (base + length l) limit ≡ b → run (t n) base (take (limit - base) l) ≡ Short k → r ≡ cond b Truncated TooLarge → IsRefused P base limit l r k
-  short_refused n k l r true up lt bs test e why =
+module _ {X : Type 0} (t : ℕ → Layout X) (P : List Field → Type 0) (g : IsLayout t P) (base limit : ℕ) (le : base ≤ limit) where
+  short_refused : (n k : ℕ) (l : List ℕ) (r : Reason) (b : Bool) → length (take (limit - base) l) < n → AreBytes (take (k - base) (take (limit - base) l)) → leb (base + length l) limit ≡ b → run (t n) base (take (limit - base) l) ≡ Short k → r ≡ cond b Truncated TooLarge → IsRefused P base limit l r k
+  short_refused n k l r true lt bs test e why =
       let fits = leb-true (base + length l) limit test in
       let all : take (limit - base) l ≡ l = take_all (limit - base) l (omega arith) in
-      truncated why (is_truncated most t P g base n k limit l up (subst (λ (w : List ℕ). length w < n) all lt) (subst (λ (w : List ℕ). AreBytes (take (k - base) w)) all bs) fits (ap (run (t n) base) (sym all) ∙ e))
-  short_refused n k l r false up lt bs test e why = too_large why (is_too_large most t P g base n k limit l up lt bs (leb-false (base + length l) limit test) e)
+      truncated why (is_truncated t P g base n k limit l (subst (λ (w : List ℕ). length w < n) all lt) (subst (λ (w : List ℕ). AreBytes (take (k - base) w)) all bs) fits (ap (run (t n) base) (sym all) ∙ e))
+  short_refused n k l r false lt bs test e why = too_large why (is_too_large t P g base n k limit l lt bs (leb-false (base + length l) limit test) e)
 
-  pub is_refused : (n k : ℕ) (l : List ℕ) (r : Reason) → n ≤ most → length (take (limit - base) l) < n → AreBytes (take (k - base) l) → read limit (t n) base l ≡ Bad r k → IsRefused P base limit l r k
-  is_refused n k l r up lt bs e =
+  pub is_refused : (n k : ℕ) (l : List ℕ) (r : Reason) → length (take (limit - base) l) < n → AreBytes (take (k - base) l) → read limit (t n) base l ≡ Bad r k → IsRefused P base limit l r k
+  is_refused n k l r lt bs e =
       let front = bytes_window (k - base) (limit - base) l bs in
       elim (read_bad limit (t n) base l r k le e) [
-        | inl bad ↦ faulty (is_fault most t P g base n k (take (limit - base) l) r up lt front bad)
-        | inr s ↦ short_refused n k l r (leb (base + length l) limit) up lt front refl s.0 s.1
+        | inl bad ↦ faulty (is_fault t P g base n k (take (limit - base) l) r lt front bad)
+        | inr s ↦ short_refused n k l r (leb (base + length l) limit) lt front refl s.0 s.1
       ]
 
   pub is_accepted : (n k : ℕ) (l : List ℕ) (x : X) (rest : List ℕ) → AreBytes (take (k - base) l) → read limit (t n) base l ≡ Done x k rest → IsAccepted P base limit l k rest

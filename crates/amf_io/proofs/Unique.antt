@@ -16,7 +16,7 @@ badly (want k next) f fs x kind at n r rest e p s d =
     ap (λ o. after o (λ b. run (next b))) (ap (λ o. field_whole o k at rest) (subst (λ j. whole j.size rest ≡ Some n) same s) ∙ ap (λ o. field_clean o (take n rest) n at (drop n rest)) (subst (λ j. j.refusal (take n rest) ≡ Some r) same d))
 badly stuck f fs x kind at n r rest e p s d = absurd p
 
-module _ {X : Type 0} (most : ℕ) (t : ℕ → Layout X) (P : List Field → Type 0) (g : IsLayout most t P) (base : ℕ) where
+module _ {X : Type 0} (t : ℕ → Layout X) (P : List Field → Type 0) (g : IsLayout t P) (base : ℕ) where
   -- where a start is followed by a field that is refused, reading says so
   pub fault_run : (k : ℕ) (r : Reason) (w : List ℕ) → IsFault P base w r k → (n : ℕ) × ((m : ℕ) → n ≤ m → run (t m) base w ≡ Bad r k)
   fault_run k r w s =
@@ -45,17 +45,17 @@ module _ {X : Type 0} (most : ℕ) (t : ℕ → Layout X) (P : List Field → Ty
       let e = settled (take (limit - base) l) (Bad r k) (Bad q j) (fault_run k r (take (limit - base) l) a) (fault_run j q (take (limit - base) l) b) in (cc, cc)
   one_refusal limit k j r q l (faulty a) (truncated why b) =
       let w = take_all (limit - base) l (let f = b.within in omega arith) in
-      let e = settled l (Bad r k) (Short j) (fault_run k r l (subst (λ m. IsFault P base m r k) w a)) (short_run most t P g base j l b.cut_off) in absurd cc
+      let e = settled l (Bad r k) (Short j) (fault_run k r l (subst (λ m. IsFault P base m r k) w a)) (short_run t P g base j l b.cut_off) in absurd cc
   one_refusal limit k j r q l (faulty a) (too_large why b) =
-      let e = settled (take (limit - base) l) (Bad r k) (Short j) (fault_run k r (take (limit - base) l) a) (short_run most t P g base j (take (limit - base) l) b.cut_off) in absurd cc
+      let e = settled (take (limit - base) l) (Bad r k) (Short j) (fault_run k r (take (limit - base) l) a) (short_run t P g base j (take (limit - base) l) b.cut_off) in absurd cc
   one_refusal limit k j r q l (truncated why a) (faulty b) =
       let w = take_all (limit - base) l (let f = a.within in omega arith) in
-      let e = settled l (Short k) (Bad q j) (short_run most t P g base k l a.cut_off) (fault_run j q l (subst (λ m. IsFault P base m q j) w b)) in absurd cc
+      let e = settled l (Short k) (Bad q j) (short_run t P g base k l a.cut_off) (fault_run j q l (subst (λ m. IsFault P base m q j) w b)) in absurd cc
   one_refusal limit k j r q l (truncated why a) (truncated how b) =
-      let e = settled l (Short k) (Short j) (short_run most t P g base k l a.cut_off) (short_run most t P g base j l b.cut_off) in (why ∙ sym how, cc)
+      let e = settled l (Short k) (Short j) (short_run t P g base k l a.cut_off) (short_run t P g base j l b.cut_off) in (why ∙ sym how, cc)
   one_refusal limit k j r q l (truncated why a) (too_large how b) = let f = a.within in let h = b.longer in absurd (omega arith)
   one_refusal limit k j r q l (too_large why a) (faulty b) =
-      let e = settled (take (limit - base) l) (Short k) (Bad q j) (short_run most t P g base k (take (limit - base) l) a.cut_off) (fault_run j q (take (limit - base) l) b) in absurd cc
+      let e = settled (take (limit - base) l) (Short k) (Bad q j) (short_run t P g base k (take (limit - base) l) a.cut_off) (fault_run j q (take (limit - base) l) b) in absurd cc
   one_refusal limit k j r q l (too_large why a) (truncated how b) = let f = b.within in let h = a.longer in absurd (omega arith)
   one_refusal limit k j r q l (too_large why a) (too_large how b) =
-      let e = settled (take (limit - base) l) (Short k) (Short j) (short_run most t P g base k (take (limit - base) l) a.cut_off) (short_run most t P g base j (take (limit - base) l) b.cut_off) in (why ∙ sym how, cc)
+      let e = settled (take (limit - base) l) (Short k) (Short j) (short_run t P g base k (take (limit - base) l) a.cut_off) (short_run t P g base j (take (limit - base) l) b.cut_off) in (why ∙ sym how, cc)

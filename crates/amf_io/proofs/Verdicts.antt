@@ -30,12 +30,12 @@ shortly (want k next) f fs x kind at rest e r s =
     ap (λ o. after o (λ b. run (next b))) (ap (λ o. field_whole o k at rest) (subst (λ j. whole j.size rest ≡ None) same s))
 shortly stuck f fs x kind at rest e r s = absurd r
 
-module _ {X : Type 0} (most : ℕ) (t : ℕ → Layout X) (P : List Field → Type 0) (g : IsLayout most t P) (base : ℕ) where
+module _ {X : Type 0} (t : ℕ → Layout X) (P : List Field → Type 0) (g : IsLayout t P) (base : ℕ) where
   -- the field at which reading stops follows a start
-  pub follows : (n at k : ℕ) (w : List ℕ) (s : Stops (t n) at w k) → n ≤ most → length w < n → AreBytes (take (k - at) w) → Follows P s.start s.kind
-  follows n at k w s up lt bs =
+  pub follows : (n at k : ℕ) (w : List ℕ) (s : Stops (t n) at w k) → length w < n → AreBytes (take (k - at) w) → Follows P s.start s.kind
+  follows n at k w s lt bs =
       let le : length (flat s.start) < n = omega (arith, ap length s.parts, length-append (flat s.start) s.rest) in
-      let a = g.able n up s.start (want s.kind s.next) s.path le in
+      let a = g.able n s.start (want s.kind s.next) s.path le in
       let f = followed s.kind s.next a.more a.value a.runs in
       record {
         next = f.0;
@@ -52,8 +52,8 @@ module _ {X : Type 0} (most : ℕ) (t : ℕ → Layout X) (P : List Field → Ty
   pub more_fuel : (n m : ℕ) (w : List ℕ) (o : Outcome X) → n ≤ m → run (t n) base w ≡ o → Answer o → run (t m) base w ≡ o
   more_fuel n m w o le e a = extends_run (t n) (t m) base w (g.grows n m le) (subst Answer (sym e) a) ∙ e
 
-  pub is_fault : (n k : ℕ) (w : List ℕ) (r : Reason) → n ≤ most → length w < n → AreBytes (take (k - base) w) → run (t n) base w ≡ Bad r k → IsFault P base w r k
-  is_fault n k w r up lt bs e =
+  pub is_fault : (n k : ℕ) (w : List ℕ) (r : Reason) → length w < n → AreBytes (take (k - base) w) → run (t n) base w ≡ Bad r k → IsFault P base w r k
+  is_fault n k w r lt bs e =
       let b = run_bad (t n) base w r k e in
       let s = b.stop in
       record {
@@ -61,7 +61,7 @@ module _ {X : Type 0} (most : ℕ) (t : ℕ → Layout X) (P : List Field → Ty
         kind = s.kind;
         rest = s.rest;
         size = b.size;
-        follows = follows n base k w s up lt bs;
+        follows = follows n base k w s lt bs;
         place = omega (arith, s.place);
         parts = s.parts;
         is_whole = b.is_whole;
@@ -79,11 +79,11 @@ module _ {X : Type 0} (most : ℕ) (t : ℕ → Layout X) (P : List Field → Ty
             absurd cc;
       }
 
-  pub is_short : (n k : ℕ) (w : List ℕ) → n ≤ most → length w < n → AreBytes (take (k - base) w) → run (t n) base w ≡ Short k → IsCutOff P base w k
-  is_short n k w up lt bs e =
+  pub is_short : (n k : ℕ) (w : List ℕ) → length w < n → AreBytes (take (k - base) w) → run (t n) base w ≡ Short k → IsCutOff P base w k
+  is_short n k w lt bs e =
       let b = run_short (t n) base w k e in
       let s = b.stop in
-      record { start = s.start; kind = s.kind; rest = s.rest; follows = follows n base k w s up lt bs; place = omega (arith, s.place); parts = s.parts; is_short = b.is_short }
+      record { start = s.start; kind = s.kind; rest = s.rest; follows = follows n base k w s lt bs; place = omega (arith, s.place); parts = s.parts; is_short = b.is_short }
 
   -- and back: where a start is followed by a field that is not whole, reading says so
   pub short_run : (k : ℕ) (w : List ℕ) → IsCutOff P base w k → (n : ℕ) × ((m : ℕ) → n ≤ m → run (t m) base w ≡ Short k)
@@ -101,22 +101,22 @@ module _ {X : Type 0} (most : ℕ) (t : ℕ → Layout X) (P : List Field → Ty
             ap (run (t m) base) s.parts ∙ e ∙ sh ∙ ap Short place,
       )
 
-  pub is_truncated : (n k limit : ℕ) (w : List ℕ) → n ≤ most → length w < n → AreBytes (take (k - base) w) → base + length w ≤ limit → run (t n) base w ≡ Short k → IsTruncated P base limit w k
-  is_truncated n k limit w up lt bs le e = record {
+  pub is_truncated : (n k limit : ℕ) (w : List ℕ) → length w < n → AreBytes (take (k - base) w) → base + length w ≤ limit → run (t n) base w ≡ Short k → IsTruncated P base limit w k
+  is_truncated n k limit w lt bs le e = record {
     within = le;
-    cut_off = is_short n k w up lt bs e;
+    cut_off = is_short n k w lt bs e;
     not_accepted = λ fs p same.
         let a = accepts fs n [] p (omega (arith, ap length same)) in
         let clash : Done a.0 (base + length (flat fs)) [] ≡ Short k = sym a.1 ∙ ap (λ l. run (t n) base (l ++ [])) same ∙ ap (run (t n) base) (append-nil w) ∙ e in
         absurd cc;
   }
 
-  pub is_too_large : (n k limit : ℕ) (w : List ℕ) → n ≤ most → length (take (limit - base) w) < n → AreBytes (take (k - base) (take (limit - base) w)) → limit < base + length w → run (t n) base (take (limit - base) w) ≡ Short k → IsTooLarge P base limit w k
-  is_too_large n k limit w up lt bs le e =
+  pub is_too_large : (n k limit : ℕ) (w : List ℕ) → length (take (limit - base) w) < n → AreBytes (take (k - base) (take (limit - base) w)) → limit < base + length w → run (t n) base (take (limit - base) w) ≡ Short k → IsTooLarge P base limit w k
+  is_too_large n k limit w lt bs le e =
       let less = lt in
       record {
         longer = le;
-        cut_off = is_short n k (take (limit - base) w) up less bs e;
+        cut_off = is_short n k (take (limit - base) w) less bs e;
         least = λ j s.
             let h = short_run j (take (limit - base) w) s in
             let m = h.0 + n in
@@ -128,8 +128,8 @@ module _ {X : Type 0} (most : ℕ) (t : ℕ → Layout X) (P : List Field → Ty
       }
 
   -- with more fuel than bytes reading does not run out of it
-  pub not_stuck : (n : ℕ) (w : List ℕ) → n ≤ most → length w < n → run (t n) base w ≡ Stuck → ⊥
-  not_stuck n w up lt e =
+  pub not_stuck : (n : ℕ) (w : List ℕ) → length w < n → run (t n) base w ≡ Stuck → ⊥
+  not_stuck n w lt e =
       let s = run_stuck (t n) base w e in
-      let a = g.able n up s.fields stuck s.path (omega (arith, ap length s.parts, length-append (flat s.fields) s.rest)) in
+      let a = g.able n s.fields stuck s.path (omega (arith, ap length s.parts, length-append (flat s.fields) s.rest)) in
       never a.more a.value a.runs

@@ -1,5 +1,5 @@
 -- What the fronts in memory hold.
-use Rattle.std.specs.Prelude.{◌≡◌, ℕ, false, List}
+use Rattle.std.specs.Prelude.{◌≡◌, ℕ, false, List, vec_capacity}
 use Rattle.amf_io.specs.declared.memory_front.Halls.{Halls}
 
 -- the halls to open
@@ -13,6 +13,10 @@ returned_of f = f.returned.items
 -- what was asked
 abbrev pub asked_of : {H : Type 0} → Halls H → List (ℕ × ℕ)
 asked_of f = f.asked.items
+
+-- how many halls there is room for to be taken back
+abbrev pub halls_room : {H : Type 0} → Halls H → ℕ
+halls_room f = vec_capacity f.returned
 
 -- no hall that came back was dropped
 abbrev pub HasAllHalls : {H : Type 0} → Halls H → Type 0

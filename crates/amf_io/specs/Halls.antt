@@ -1,5 +1,5 @@
 -- What the halls and fronts in memory hold.
-use Rattle.std.specs.Prelude.{◌≡◌, ℕ, zero, suc, ◌-◌, ◌^◌, ◌<◌, false, List, [], ◌∷◌, ◌++◌, slice_index_or}
+use Rattle.std.specs.Prelude.{◌≡◌, ℕ, zero, suc, ◌-◌, ◌^◌, ◌<◌, false, List, [], ◌∷◌, ◌++◌, slice_index_or, vec_capacity}
 use Rattle.amf_io.specs.declared.numbers.Numbers.{Numbers}
 use Rattle.amf_io.specs.declared.memory_hall.Links.{Links}
 
@@ -8,9 +8,13 @@ unfoldable pub first_of : ℕ → List ℕ → List ℕ
 first_of zero list = []
 first_of (suc n) list = first_of n list ++ slice_index_or list n 0 ∷ []
 
+-- the numbers that are to be given, before it goes on with 0
+abbrev pub listed : Numbers → List ℕ
+listed n = n.list.items
+
 -- the numbers given so far
 abbrev pub given : Numbers → List ℕ
-given n = first_of n.count n.list.items
+given n = first_of n.count (listed n)
 
 -- their count is not at the end of its range
 abbrev pub TellsNumbers : Numbers → Type 0
@@ -23,6 +27,10 @@ coming_of l = l.coming.items
 -- the links taken back, but for those that were dropped
 abbrev pub served_of : {L : Type 0} → Links L → List L
 served_of l = l.served.items
+
+-- how many links there is room for to be taken back
+abbrev pub links_room : {L : Type 0} → Links L → ℕ
+links_room l = vec_capacity l.served
 
 -- no link that came back was dropped
 abbrev pub HasAll : {L : Type 0} → Links L → Type 0

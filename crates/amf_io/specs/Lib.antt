@@ -1,17 +1,19 @@
+-- The definitions that contracts cite.
 pub mod Outside
 pub mod Window
 pub mod Cursor
 pub mod InMemory
 pub mod Field
 pub mod Verdict
+pub mod ReadEnds
+pub mod Halls
+pub mod Front
+pub mod Fronts
+-- Devices of the proofs: no clause of a public call needs them.
 pub mod Layout
 pub mod Reading
 pub mod LayoutAnswer
-pub mod ReadEnds
 pub mod CursorReads
 pub mod Worked
 pub mod Standard
 pub mod Rests
-pub mod Halls
-pub mod Front
-pub mod Fronts

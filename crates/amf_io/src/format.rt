@@ -16,17 +16,13 @@ pub trait Format {
     /// The layouts that read them, with more and more fuel.
     ghost layout: { ℕ → Layout value };
 
-    /// The most fuel with which what has been read can always be completed.
-    ghost most: { ℕ };
-
     /// The layouts read what is accepted, nothing else, and never come to a dead end.
-    ghost is_layout: { IsLayout most layout accepts };
+    ghost is_layout: { IsLayout layout accepts };
 }
 
-/// An input of bytes has a verdict, where it or the limit is below the most fuel, and no input has
-/// two: it is accepted, or it is refused for one reason at one offset.
+/// An input of bytes has a verdict, and no input has two: it is accepted, or it is refused for one reason at one offset.
 pub fn one_verdict<F: Format>()
-    ensures judged { (limit : ℕ) (input : List ℕ) → length (take limit input) < F.most → AreBytes input → IsJudged F.accepts limit input }
+    ensures judged { (limit : ℕ) (input : List ℕ) → AreBytes input → IsJudged F.accepts limit input }
     ensures once { (limit : ℕ) (input : List ℕ) → IsJudgedOnce F.accepts limit input }
 {}
 
@@ -41,16 +37,16 @@ pub fn faults_are_first<F: Format>()
     ensures first { (base at : ℕ) (input : List ℕ) (reason : Reason) → IsFault F.accepts base input reason at → IsFirstFault F.accepts base input at }
 {}
 
-/// The outcome of reading an input of bytes up to a limit is the verdict on it, where the fuel is more than those bytes and
-/// no more than the most.
+/// The outcome of reading an input of bytes up to a limit is the verdict on it, where the fuel is more than those
+/// bytes.
 pub fn reading_decides<F: Format>()
-    ensures decides { (n limit : ℕ) (input : List ℕ) → n ≤ F.most → length (take limit input) < n → AreBytes input → Decides F.accepts limit input (read limit (F.layout n) 0 input) }
+    ensures decides { (n limit : ℕ) (input : List ℕ) → length (take limit input) < n → AreBytes input → Decides F.accepts limit input (read limit (F.layout n) 0 input) }
 {}
 
 /// Where the bytes given so far, within the limit, end a field too early, or are an accepted list to the last byte, they fix
-/// no verdict yet. The fuel is more than those bytes and no more than the most.
+/// no verdict yet. The fuel is more than those bytes.
 pub fn reading_waits<F: Format>()
-    ensures waits { (n limit : ℕ) (given : List ℕ) → n ≤ F.most → length given < n → AreBytes given → length given ≤ limit → Waits F.accepts limit given (run (F.layout n) 0 given) }
+    ensures waits { (n limit : ℕ) (given : List ℕ) → length given < n → AreBytes given → length given ≤ limit → Waits F.accepts limit given (run (F.layout n) 0 given) }
 {}
 
 #[cfg(test)]
@@ -69,9 +65,7 @@ mod tests {
 
         ghost layout = { bit_layout };
 
-        ghost most = { 1000 };
-
-        ghost is_layout = { bit_is_layout 1000 };
+        ghost is_layout = { bit_is_layout };
     }
 
     #[test]

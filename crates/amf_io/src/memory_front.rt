@@ -15,13 +15,14 @@ pub struct Halls<H: Drop> {
 }
 
 impl<H: Drop> Halls<H> {
-    ghost use Rattle.std.specs.Prelude.{◌≡◌, ◌++◌, ◌∷◌, ◌≤◌, [], length, take, drop, is_ok, if◌then◌else◌, IfOk, OnOk, OnErr};
-    ghost use Rattle.amf_io.specs.Fronts.{to_open_of, returned_of, asked_of, HasAllHalls};
+    ghost use Rattle.std.specs.Prelude.{◌≡◌, ◌++◌, ◌∷◌, ◌<◌, ◌≤◌, [], length, take, drop, is_ok, if◌then◌else◌, IfOk, OnOk, OnErr};
+    ghost use Rattle.amf_io.specs.Fronts.{to_open_of, returned_of, halls_room, asked_of, HasAllHalls};
 
     /// These halls, with room for all of them to come back.
     fn new(alloc: Global, halls: Vec<H>) -> Result<Halls<H>, Memory>
         ensures to_open { IfOk result (λ f. to_open_of f ≡ halls.items) }
         ensures returned { IfOk result (λ f. returned_of f ≡ []) }
+        ensures room { IfOk result (λ f. length halls.items ≤ halls_room f) }
         ensures asked { IfOk result (λ f. asked_of f ≡ []) }
         ensures all { IfOk result HasAllHalls }
     {
@@ -36,7 +37,7 @@ impl<H: Drop> Halls<H> {
     /// Notes what was asked.
     fn note(&mut self, port: u16, workers: u32) -> Result<(), Memory>
         ensures to_open { to_open_of self.new ≡ to_open_of self.old }
-        ensures returned { returned_of self.new ≡ returned_of self.old }
+        ensures returned { self.new.returned ≡ self.old.returned }
         ensures asked { OnOk result (asked_of self.new ≡ asked_of self.old ++ (port, workers) ∷ []) }
         ensures same { OnErr result (asked_of self.new ≡ asked_of self.old) }
         ensures all { self.new.dropped ≡ self.old.dropped }
@@ -52,7 +53,7 @@ impl<H: Drop> Halls<H> {
         ensures workers { IfOk result (λ v. length v.items ≡ workers) }
         ensures front { IfOk result (λ v. v.items ≡ take workers (to_open_of self.old)) }
         ensures rest { to_open_of self.new ≡ (if is_ok result then drop workers (to_open_of self.old) else to_open_of self.old) }
-        ensures returned { returned_of self.new ≡ returned_of self.old }
+        ensures returned { self.new.returned ≡ self.old.returned }
         ensures asked { OnOk result (asked_of self.new ≡ asked_of self.old ++ (port, workers) ∷ []) }
         ensures same { OnErr result (asked_of self.new ≡ asked_of self.old) }
         ensures all { self.new.dropped ≡ self.old.dropped }
@@ -73,6 +74,8 @@ impl<H: Drop> Halls<H> {
         ensures returned { HasAllHalls self.new → returned_of self.new ≡ returned_of self.old ++ hall ∷ [] }
         ensures asked { asked_of self.new ≡ asked_of self.old }
         ensures all { HasAllHalls self.new → HasAllHalls self.old }
+        ensures room { HasAllHalls self.old → length (returned_of self.old) < halls_room self.old → HasAllHalls self.new }
+        ensures kept_room { halls_room self.old ≤ halls_room self.new }
     {
         if self.returned.len() == self.returned.capacity() {
             self.dropped = true;
@@ -98,8 +101,8 @@ pub struct MemoryFront<L: Drop> {
 }
 
 impl<L: Drop> MemoryFront<L> {
-    ghost use Rattle.std.specs.Prelude.{◌≡◌, [], length, All, IfOk};
-    ghost use Rattle.amf_io.specs.Fronts.{to_open_of, returned_of, asked_of, HasAllHalls};
+    ghost use Rattle.std.specs.Prelude.{◌≡◌, ◌≤◌, [], length, All, IfOk};
+    ghost use Rattle.amf_io.specs.Fronts.{to_open_of, returned_of, halls_room, asked_of, HasAllHalls};
 
     /// A front of these halls, of which none has failed or served. The calls of `open` whose
     /// numbers stand in `failing` fail.
@@ -112,6 +115,7 @@ impl<L: Drop> MemoryFront<L> {
         requires fresh { All (λ h. length h.links.served.items ≡ 0) halls.items }
         ensures to_open { IfOk result (λ f. to_open_of f.halls ≡ halls.items) }
         ensures returned { IfOk result (λ f. returned_of f.halls ≡ []) }
+        ensures room { IfOk result (λ f. length halls.items ≤ halls_room f.halls) }
         ensures asked { IfOk result (λ f. asked_of f.halls ≡ []) }
         ensures all { IfOk result (λ f. HasAllHalls f.halls) }
         ensures faults { IfOk result (λ f. f.failed ≡ 0) }
@@ -197,14 +201,15 @@ pub struct FaultlessFront<L: Drop> {
 }
 
 impl<L: Drop> FaultlessFront<L> {
-    ghost use Rattle.std.specs.Prelude.{◌≡◌, [], length, All, IfOk};
-    ghost use Rattle.amf_io.specs.Fronts.{to_open_of, returned_of, asked_of, HasAllHalls};
+    ghost use Rattle.std.specs.Prelude.{◌≡◌, ◌≤◌, [], length, All, IfOk};
+    ghost use Rattle.amf_io.specs.Fronts.{to_open_of, returned_of, halls_room, asked_of, HasAllHalls};
 
     /// A front of these halls, of which none has served.
     pub fn new(alloc: Global, halls: Vec<FaultlessHall<L>>) -> Result<FaultlessFront<L>, Memory>
         requires { All (λ h. length h.links.served.items ≡ 0) halls.items }
         ensures to_open { IfOk result (λ f. to_open_of f.halls ≡ halls.items) }
         ensures returned { IfOk result (λ f. returned_of f.halls ≡ []) }
+        ensures room { IfOk result (λ f. length halls.items ≤ halls_room f.halls) }
         ensures asked { IfOk result (λ f. asked_of f.halls ≡ []) }
         ensures all { IfOk result (λ f. HasAllHalls f.halls) }
     {

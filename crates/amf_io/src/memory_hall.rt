@@ -13,14 +13,15 @@ pub struct Links<L: Drop> {
 }
 
 impl<L: Drop> Links<L> {
-    ghost use Rattle.std.specs.Prelude.{◌≡◌, ◌++◌, ◌∷◌, ◌<◌, [], Ok, IfOk};
+    ghost use Rattle.std.specs.Prelude.{◌≡◌, ◌++◌, ◌∷◌, ◌<◌, ◌≤◌, [], length, Ok, IfOk};
     ghost use Rattle.amf_io.specs.Outside.{NextOf};
-    ghost use Rattle.amf_io.specs.Halls.{coming_of, served_of, HasAll};
+    ghost use Rattle.amf_io.specs.Halls.{coming_of, served_of, links_room, HasAll};
 
     /// These links, with room for all of them to come back.
     fn new(alloc: Global, links: Vec<L>) -> Result<Links<L>, Memory>
         ensures coming { IfOk result (λ l. coming_of l ≡ links.items) }
         ensures served { IfOk result (λ l. served_of l ≡ []) }
+        ensures room { IfOk result (λ l. length links.items ≤ links_room l) }
         ensures all { IfOk result HasAll }
     {
         Ok(Links {
@@ -33,7 +34,7 @@ impl<L: Drop> Links<L> {
     /// Gives the next link.
     fn next(&mut self) -> Option<L>
         ensures gives { NextOf (coming_of self.old) (coming_of self.new) (Ok result) }
-        ensures served { served_of self.new ≡ served_of self.old }
+        ensures served { self.new.served ≡ self.old.served }
         ensures all { self.new.dropped ≡ self.old.dropped }
     {
         self.coming.pop_front()
@@ -44,6 +45,8 @@ impl<L: Drop> Links<L> {
         ensures coming { coming_of self.new ≡ coming_of self.old }
         ensures served { HasAll self.new → served_of self.new ≡ served_of self.old ++ link ∷ [] }
         ensures all { HasAll self.new → HasAll self.old }
+        ensures room { HasAll self.old → length (served_of self.old) < links_room self.old → HasAll self.new }
+        ensures kept_room { links_room self.old ≤ links_room self.new }
     {
         if self.served.len() == self.served.capacity() {
             self.dropped = true;
@@ -69,8 +72,8 @@ pub struct MemoryHall<L: Drop> {
 }
 
 impl<L: Drop> MemoryHall<L> {
-    ghost use Rattle.std.specs.Prelude.{◌≡◌, [], IfOk};
-    ghost use Rattle.amf_io.specs.Halls.{coming_of, served_of, HasAll, given, TellsNumbers};
+    ghost use Rattle.std.specs.Prelude.{◌≡◌, ◌≤◌, [], length, IfOk};
+    ghost use Rattle.amf_io.specs.Halls.{coming_of, served_of, links_room, HasAll, given, listed, TellsNumbers};
 
     /// A hall of these links. Moments and words are 0 once their lists are used up. The calls of
     /// `next` whose numbers stand in `failing` fail.
@@ -83,10 +86,13 @@ impl<L: Drop> MemoryHall<L> {
     ) -> Result<MemoryHall<L>, Memory>
         ensures coming { IfOk result (λ h. coming_of h.links ≡ links.items) }
         ensures served { IfOk result (λ h. served_of h.links ≡ []) }
+        ensures room { IfOk result (λ h. length links.items ≤ links_room h.links) }
         ensures all { IfOk result (λ h. HasAll h.links) }
         ensures moments { IfOk result (λ h. given h.moments ≡ []) }
+        ensures listed_moments { IfOk result (λ h. listed h.moments ≡ moments.now) }
         ensures tells_moments { IfOk result (λ h. TellsNumbers h.moments) }
         ensures words { IfOk result (λ h. given h.words ≡ []) }
+        ensures listed_words { IfOk result (λ h. listed h.words ≡ words.now) }
         ensures tells_words { IfOk result (λ h. TellsNumbers h.words) }
         ensures faults { IfOk result (λ h. h.failed ≡ 0) }
     {
@@ -118,8 +124,8 @@ impl<L: Drop> MemoryHall<L> {
 }
 
 impl<L: Drop> Clock for MemoryHall<L> {
-    ghost use Rattle.std.specs.Prelude.{ℕ};
-    ghost use Rattle.amf_io.specs.Halls.{given, TellsNumbers};
+    ghost use Rattle.std.specs.Prelude.{ℕ, List};
+    ghost use Rattle.amf_io.specs.Halls.{given, listed, TellsNumbers};
     ghost use Rattle.amf_io.specs.declared.memory_hall.Links.{Links};
     ghost use Rattle.amf_io.specs.declared.numbers.Numbers.{Numbers};
 
@@ -127,9 +133,9 @@ impl<L: Drop> Clock for MemoryHall<L> {
 
     ghost moments = { λ h. given h.moments };
 
-    ghost ClockRest = { Links L × Numbers × ℕ };
+    ghost ClockRest = { Links L × Numbers × ℕ × List ℕ };
 
-    ghost clock_rest = { λ h. (h.links, h.words, h.failed) };
+    ghost clock_rest = { λ h. (h.links, h.words, h.failed, listed h.moments) };
 
     fn now(&mut self) -> u64 {
         self.moments.next()
@@ -137,8 +143,8 @@ impl<L: Drop> Clock for MemoryHall<L> {
 }
 
 impl<L: Drop> Dice for MemoryHall<L> {
-    ghost use Rattle.std.specs.Prelude.{ℕ};
-    ghost use Rattle.amf_io.specs.Halls.{given, TellsNumbers};
+    ghost use Rattle.std.specs.Prelude.{ℕ, List};
+    ghost use Rattle.amf_io.specs.Halls.{given, listed, TellsNumbers};
     ghost use Rattle.amf_io.specs.declared.memory_hall.Links.{Links};
     ghost use Rattle.amf_io.specs.declared.numbers.Numbers.{Numbers};
 
@@ -146,9 +152,9 @@ impl<L: Drop> Dice for MemoryHall<L> {
 
     ghost words = { λ h. given h.words };
 
-    ghost DiceRest = { Links L × Numbers × ℕ };
+    ghost DiceRest = { Links L × Numbers × ℕ × List ℕ };
 
-    ghost dice_rest = { λ h. (h.links, h.moments, h.failed) };
+    ghost dice_rest = { λ h. (h.links, h.moments, h.failed, listed h.words) };
 
     fn word(&mut self) -> u64 {
         self.words.next()
@@ -203,8 +209,8 @@ pub struct FaultlessHall<L: Drop> {
 }
 
 impl<L: Drop> FaultlessHall<L> {
-    ghost use Rattle.std.specs.Prelude.{◌≡◌, [], IfOk};
-    ghost use Rattle.amf_io.specs.Halls.{coming_of, served_of, HasAll, given, TellsNumbers};
+    ghost use Rattle.std.specs.Prelude.{◌≡◌, ◌≤◌, [], length, IfOk};
+    ghost use Rattle.amf_io.specs.Halls.{coming_of, served_of, links_room, HasAll, given, listed, TellsNumbers};
 
     /// A hall of these links. Moments and words are 0 once their lists are used up.
     pub fn new(
@@ -215,10 +221,13 @@ impl<L: Drop> FaultlessHall<L> {
     ) -> Result<FaultlessHall<L>, Memory>
         ensures coming { IfOk result (λ h. coming_of h.links ≡ links.items) }
         ensures served { IfOk result (λ h. served_of h.links ≡ []) }
+        ensures room { IfOk result (λ h. length links.items ≤ links_room h.links) }
         ensures all { IfOk result (λ h. HasAll h.links) }
         ensures moments { IfOk result (λ h. given h.moments ≡ []) }
+        ensures listed_moments { IfOk result (λ h. listed h.moments ≡ moments.now) }
         ensures tells_moments { IfOk result (λ h. TellsNumbers h.moments) }
         ensures words { IfOk result (λ h. given h.words ≡ []) }
+        ensures listed_words { IfOk result (λ h. listed h.words ≡ words.now) }
         ensures tells_words { IfOk result (λ h. TellsNumbers h.words) }
     {
         Ok(FaultlessHall {
@@ -237,7 +246,8 @@ impl<L: Drop> FaultlessHall<L> {
 }
 
 impl<L: Drop> Clock for FaultlessHall<L> {
-    ghost use Rattle.amf_io.specs.Halls.{given, TellsNumbers};
+    ghost use Rattle.std.specs.Prelude.{ℕ, List};
+    ghost use Rattle.amf_io.specs.Halls.{given, listed, TellsNumbers};
     ghost use Rattle.amf_io.specs.declared.memory_hall.Links.{Links};
     ghost use Rattle.amf_io.specs.declared.numbers.Numbers.{Numbers};
 
@@ -245,9 +255,9 @@ impl<L: Drop> Clock for FaultlessHall<L> {
 
     ghost moments = { λ h. given h.moments };
 
-    ghost ClockRest = { Links L × Numbers };
+    ghost ClockRest = { Links L × Numbers × List ℕ };
 
-    ghost clock_rest = { λ h. (h.links, h.words) };
+    ghost clock_rest = { λ h. (h.links, h.words, listed h.moments) };
 
     fn now(&mut self) -> u64 {
         self.moments.next()
@@ -255,7 +265,8 @@ impl<L: Drop> Clock for FaultlessHall<L> {
 }
 
 impl<L: Drop> Dice for FaultlessHall<L> {
-    ghost use Rattle.amf_io.specs.Halls.{given, TellsNumbers};
+    ghost use Rattle.std.specs.Prelude.{ℕ, List};
+    ghost use Rattle.amf_io.specs.Halls.{given, listed, TellsNumbers};
     ghost use Rattle.amf_io.specs.declared.memory_hall.Links.{Links};
     ghost use Rattle.amf_io.specs.declared.numbers.Numbers.{Numbers};
 
@@ -263,9 +274,9 @@ impl<L: Drop> Dice for FaultlessHall<L> {
 
     ghost words = { λ h. given h.words };
 
-    ghost DiceRest = { Links L × Numbers };
+    ghost DiceRest = { Links L × Numbers × List ℕ };
 
-    ghost dice_rest = { λ h. (h.links, h.moments) };
+    ghost dice_rest = { λ h. (h.links, h.moments, listed h.words) };
 
     fn word(&mut self) -> u64 {
         self.words.next()

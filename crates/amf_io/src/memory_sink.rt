@@ -112,7 +112,7 @@ pub struct FaultlessSink {
 }
 
 impl FaultlessSink {
-    ghost use Rattle.std.specs.Prelude.{◌≡◌, ◌↔◌, [], false, IfOk};
+    ghost use Rattle.std.specs.Prelude.{◌≡◌, ◌≤◌, ◌↔◌, [], false, vec_capacity, IfOk};
     ghost use Rattle.amf_io.specs.InMemory.{faultless_taken, IsWhole, room_of};
 
     /// An empty sink with room for so many bytes.
@@ -120,6 +120,7 @@ impl FaultlessSink {
         ensures held { IfOk result (λ s. faultless_taken s ≡ []) }
         ensures whole { IfOk result IsWhole }
         ensures room { IfOk result (λ s. room_of s ≡ room) }
+        ensures reserved { IfOk result (λ s. room ≤ vec_capacity s.bytes) }
     {
         Ok(FaultlessSink {
             bytes: Vec::with_capacity(alloc, room)?,

@@ -1,5 +1,5 @@
 ghost use Rattle.std.specs.Prelude.{◌≡◌, ◌++◌, ◌∷◌, [], slice_index_or, IfOk};
-ghost use Rattle.amf_io.specs.Halls.{given, TellsNumbers};
+ghost use Rattle.amf_io.specs.Halls.{given, listed, TellsNumbers};
 
 use amf_wire::Memory;
 use std::alloc::Global;
@@ -17,6 +17,7 @@ impl Numbers {
     pub(crate) fn new(alloc: Global, list: &[u64]) -> Result<Numbers, Memory>
         ensures tells { IfOk result TellsNumbers }
         ensures given { IfOk result (λ n. given n ≡ []) }
+        ensures listed { IfOk result (λ n. listed n ≡ list.now) }
     {
         let mut copy = Vec::new(alloc);
         copy.extend_from_slice(list)?;
@@ -42,6 +43,7 @@ impl Numbers {
     pub(crate) fn next(&mut self) -> u64
         ensures tells { TellsNumbers self.new → TellsNumbers self.old }
         ensures gives { TellsNumbers self.new → given self.new ≡ given self.old ++ result ∷ [] }
+        ensures listed { listed self.new ≡ listed self.old }
     {
         let number = self.first();
         self.count = self.count.saturating_add(1);

@@ -17,8 +17,6 @@ pub enum Reason {
     WrongKind,
     /// The class name cannot be that of a served externalizable class.
     UnknownExternal,
-    /// An inline node would stand deeper than the limit of depth.
-    TooDeep,
     /// The field is not whole within the limit of bytes, and the input is longer.
     TooLarge,
     /// A whole input is followed by more bytes.

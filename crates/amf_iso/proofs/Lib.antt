@@ -8,5 +8,4 @@ pub mod Remaining
 pub mod HeadFacts
 mod Orders
 mod OrderParts
-pub mod Reaching
 mod Relabelled

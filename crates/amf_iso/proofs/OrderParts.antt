@@ -1,26 +1,23 @@
 -- The nodes of a canonical order have with each node those that it names.
-use Rattle.std.proofs.Common.{◌≡◌, ℕ, suc, List, [], ◌∷◌, slice_get, Some, refl, subst, arith}
+use Rattle.std.proofs.Common.{◌≡◌, ℕ, List, [], ◌∷◌, slice_get, Some, refl, subst, arith}
 use Rattle.std.specs.List.{AllByRecursion}
 use Rattle.amf_graph.specs.declared.value.Value.{Value as Stored}
 use Rattle.amf_graph.specs.declared.value.Value.TheVariants.{Undefined, Null, Bool as Flag, Integer, Double, Text, Node as NodeRef}
-use Rattle.amf_graph.specs.Graph.{Value}
 use Rattle.amf_graph.specs.ByName.{by_name}
-use Rattle.amf_graph.specs.Order.{is_array, seconds, values_met, IsOrder}
+use Rattle.amf_graph.specs.Order.{is_array, values_met, IsOrder}
 use Rattle.amf_graph.specs.Arena.{Arena, StoredNode, node_content, value_content}
 use Rattle.amf_graph.specs.Building.{stored_at}
 use Rattle.amf_graph.specs.Rooted.{RootedArena, content}
 use Rattle.amf_graph.specs.Renumbered.{StandsIn, IsPart}
 use Rattle.amf_graph.proofs.Growth.{names_content, values_content}
+use Rattle.amf_graph.proofs.Alls.{each_from}
 use Rattle.amf_graph.proofs.Lists.{no_entry}
 use Rattle.amf_graph.proofs.NameOrder.{by_name_all_back}
 use Rattle.amf_graph.proofs.Places.{each_met}
+use Rattle.amf_graph.proofs.Reaching.{seconds_all}
 use Rattle.amf_graph.proofs.Walks.{In, walk_distinct, walk_closed}
 use Rattle.amf_iso.proofs.MetValues.{shown}
 use Rattle.amf_iso.proofs.Orders.{order_within}
-
-pub each_of : {X : Type 0} (P : X → Type 0) (xs : List X) → ((k : ℕ) (x : X) → slice_get xs k ≡ Some x → P x) → AllByRecursion P xs
-each_of P [] h = tt
-each_of P (x ∷ xs) h = (h 0 x refl, each_of P xs (λ k y e. h (suc k) y e))
 
 value_stands : (a : Arena) (order : List ℕ) (v : Stored) → In order (value_content a v) → StandsIn order v
 value_stands a order Undefined h = tt
@@ -39,10 +36,6 @@ names_stand : (a : Arena) (order : List ℕ) (ps : List (ℕ × Stored)) → All
 names_stand a order [] h = tt
 names_stand a order (p ∷ ps) h = (value_stands a order p.1 h.0, names_stand a order ps h.1)
 
-pub seconds_all : (P : Value → Type 0) (ps : List (List ℕ × Value)) → AllByRecursion P (seconds ps) → AllByRecursion (λ p. P p.1) ps
-seconds_all P [] h = tt
-seconds_all P (p ∷ ps) h = (h.0, seconds_all P ps h.1)
-
 met_stand : (a : Arena) (order : List ℕ) (n : StoredNode) → AllByRecursion (In order) (values_met (node_content a n)) → AllByRecursion (λ p. StandsIn order p.1) n.names × AllByRecursion (StandsIn order) n.values
 met_stand a order n h =
     let ps = names_content a n.names in
@@ -56,8 +49,8 @@ order_is_part g order w =
     λ k i e. met_stand g.arena order (stored_at g.arena i) (subst (λ n. AllByRecursion (In order) (values_met n)) (shown g.arena g.root i (stored_at g.arena i) refl) (closed.1 k i (omega arith) e)) in
     record {
       distinct = walk_distinct w (λ j k i e f. absurd (no_entry j i e));
-      there = each_of _ order (λ k i e. order_within g.arena g.root order k i w e);
+      there = each_from _ order (λ k i e. order_within g.arena g.root order k i w e);
       root = value_stands g.arena order g.root closed.0.0;
-      names = each_of (λ i. AllByRecursion (λ p. StandsIn order p.1) (stored_at g.arena i).names) order (λ k i e. (stand k i e).0);
-      values = each_of (λ i. AllByRecursion (StandsIn order) (stored_at g.arena i).values) order (λ k i e. (stand k i e).1);
+      names = each_from (λ i. AllByRecursion (λ p. StandsIn order p.1) (stored_at g.arena i).names) order (λ k i e. (stand k i e).0);
+      values = each_from (λ i. AllByRecursion (StandsIn order) (stored_at g.arena i).values) order (λ k i e. (stand k i e).1);
     }

@@ -1,4 +1,5 @@
 -- The definitions that contracts cite.
 pub mod Contents
 pub mod Numbers
+-- Devices of the proofs: no clause of a public call needs them.
 pub mod Matches

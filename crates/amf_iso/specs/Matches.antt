@@ -1,4 +1,4 @@
--- What of two numbered graphs is alike.
+-- What of two numbered graphs is alike. A device of proofs.
 use Rattle.std.specs.Prelude.{ℕ, List}
 use Rattle.std.specs.List.{AllZip}
 use Rattle.amf_graph.specs.declared.value.Value.{Value as Stored}

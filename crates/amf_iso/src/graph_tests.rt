@@ -174,7 +174,7 @@ fn says_why(rt: HostRuntime) -> Result<(), Fail> {
         assert_eq!(rt; said.as_str(), words);
     }
     let lack = Lack {
-        kind: LackKind::TooDeep,
+        kind: LackKind::EmptyName,
         node: 512,
     };
     for (end, words) in [

@@ -17,19 +17,19 @@ use Rattle.amf_tables.specs.Words3.{Text, TextBy, empty, whole, IsUnnamed, given
 use Rattle.amf_tables.specs.Then.{Spelling, Then}
 use Rattle.amf_tables.specs.Parts3.{value, word, Lifted, Parts, layout}
 use Rattle.amf_tables.specs.Headers3.{marker_field, header_field, HeaderBy}
-use Rattle.amf_tables.specs.Spells3.{ValueBy, InlineIn, Spells3, Spelled3}
+use Rattle.amf_tables.specs.Spells3.{InlineIn, SpellsIn, Spelled3}
 use Rattle.amf_tables.specs.WorkedRows3.{items, five, two_texts, ring, foo, open_traits, members, shared, collection}
 use Rattle.amf_tables.proofs.Build.{Built, both, lifted, a_leaf, an_integer, no_text, new_text, old_text, a_text, a_reference, a_node, no_parts, word_part, value_part, absent_nil, absent_cons, unnamed, unnamed_zero}
 
 -- what was built spells the graph
-abbrev pub spelled_by : (levels : ℕ) (s : Style) (g : Graph) (x : Built (Spells3 levels s g g.root) no_tables) → Spelled3 s g (flat x.fields)
-spelled_by levels s g x = (levels, x.fields, (x.after, x.spelled), refl)
+abbrev pub spelled_by : (n : ℕ) (s : Style) (g : Graph) (x : Built (SpellsIn n s g g.root) no_tables) → Spelled3 s g (flat x.fields)
+spelled_by n s g x = (x.fields, (x.after, (n, x.spelled)), refl)
 
 pub shortest_integer : Spelled3 canonical five (0x04 ∷ 0x05 ∷ [])
-shortest_integer = spelled_by 0 canonical five (an_integer (InlineIn 0 canonical five) canonical 0 five 5 no_tables (omega arith))
+shortest_integer = spelled_by 0 canonical five (an_integer (InlineIn 0 canonical five) canonical five 5 no_tables (omega arith))
 
 pub longer_integer : Spelled3 free five (0x04 ∷ 0x80 ∷ 0x05 ∷ [])
-longer_integer = spelled_by 0 free five (a_leaf (InlineIn 0 free five) free 0 five (integer (pos 5)) no_tables (omega arith)
+longer_integer = spelled_by 0 free five (a_leaf (InlineIn 0 free five) free five (integer (pos 5)) no_tables (omega arith)
     (record { fields = field (u29_kind no_refusal) (0x80 ∷ 5 ∷ []) ∷ []; after = no_words; spelled = (0x80 ∷ 5 ∷ [], five_longer, refl, refl) }))
 
 foo_is : foo ≢ []
@@ -42,9 +42,9 @@ foo_text = (is_text-is foo).0 refl
 abbrev counted : (s : Style) (g : Graph) (i n : ℕ) (t : Tables) → HeaderBy s (node_at g i).head (node_at g i).values n t.words [] t.words → Built (Lifted (HeaderBy s (node_at g i).head (node_at g i).values n)) t
 counted s g i n t h = lifted (HeaderBy s (node_at g i).head (node_at g i).values n) t (record { fields = []; after = t.words; spelled = h })
 
--- the relation for values one level down
-abbrev pub inner : (levels : ℕ) (s : Style) (g : Graph) → Value → Spelling Tables
-inner levels s g = ValueBy (InlineIn levels s g) s levels g
+-- the relation for a node's values
+abbrev pub inner : (n : ℕ) (s : Style) (g : Graph) → Value → Spelling Tables
+inner n s g = SpellsIn n s g
 
 pub cycle : Spelled3 canonical ring (0x09 ∷ 0x03 ∷ 0x01 ∷ 0x09 ∷ 0x00 ∷ [])
 cycle =
@@ -53,15 +53,15 @@ cycle =
     spelled_by 1 canonical ring (a_node 0 canonical ring 0 no_tables [] 3 (omega arith) (absent_nil 0) tt refl refl tt (omega arith)
     (both _ _ t (counted canonical ring 0 3 t (refl, (refl, refl)))
     (word_part R canonical [] (value (node 0) ∷ []) t (no_text canonical t.words)
-    (value_part R canonical (node 0) [] t (a_reference (InlineIn 0 canonical ring) canonical 0 ring 0 0 t refl (omega arith)) (no_parts R canonical t)))))
+    (value_part R canonical (node 0) [] t (a_reference (InlineIn 0 canonical ring) canonical ring 0 0 t refl (omega arith)) (no_parts R canonical t)))))
 
 pub text_twice : Spelled3 free two_texts (0x09 ∷ 0x05 ∷ 0x01 ∷ 0x06 ∷ 0x07 ∷ foo ++ 0x06 ∷ 0x07 ∷ foo)
 text_twice =
     let t : Tables = add_node no_tables 0 in
     let R : Value → Spelling Tables = inner 0 free two_texts in
     let I : ℕ → Spelling Tables = InlineIn 0 free two_texts in
-    let first : Built (R (leaf (text foo))) t = a_text I free 0 two_texts foo t foo_text (new_text free foo t.words foo_is foo_text tt (omega arith)) in
-    let second : Built (R (leaf (text foo))) first.after = a_text I free 0 two_texts foo first.after foo_text (new_text free foo first.after.words foo_is foo_text tt (omega arith)) in
+    let first : Built (R (leaf (text foo))) t = a_text I free two_texts foo t foo_text (new_text free foo t.words foo_is foo_text tt (omega arith)) in
+    let second : Built (R (leaf (text foo))) first.after = a_text I free two_texts foo first.after foo_text (new_text free foo first.after.words foo_is foo_text tt (omega arith)) in
     spelled_by 1 free two_texts (a_node 0 free two_texts 0 no_tables [] 5 (omega arith) (absent_nil 0) tt refl tt tt (omega arith)
     (both _ _ t (counted free two_texts 0 5 t (refl, (refl, refl)))
     (word_part R free [] (value (leaf (text foo)) ∷ value (leaf (text foo)) ∷ []) t (no_text free t.words)
@@ -73,8 +73,8 @@ text_by_place =
     let t : Tables = add_node no_tables 0 in
     let R : Value → Spelling Tables = inner 0 canonical two_texts in
     let I : ℕ → Spelling Tables = InlineIn 0 canonical two_texts in
-    let first : Built (R (leaf (text foo))) t = a_text I canonical 0 two_texts foo t foo_text (new_text canonical foo t.words foo_is foo_text (unnamed _ [] foo (absent_nil foo)) (omega arith)) in
-    let second : Built (R (leaf (text foo))) first.after = a_text I canonical 0 two_texts foo first.after foo_text (old_text canonical foo first.after.words 0 foo_is refl (unnamed_zero first.after.words.texts foo) (omega arith)) in
+    let first : Built (R (leaf (text foo))) t = a_text I canonical two_texts foo t foo_text (new_text canonical foo t.words foo_is foo_text (unnamed _ [] foo (absent_nil foo)) (omega arith)) in
+    let second : Built (R (leaf (text foo))) first.after = a_text I canonical two_texts foo first.after foo_text (old_text canonical foo first.after.words 0 foo_is refl (unnamed_zero first.after.words.texts foo) (omega arith)) in
     spelled_by 1 canonical two_texts (a_node 0 canonical two_texts 0 no_tables [] 5 (omega arith) (absent_nil 0) tt refl refl tt (omega arith)
     (both _ _ t (counted canonical two_texts 0 5 t (refl, (refl, refl)))
     (word_part R canonical [] (value (leaf (text foo)) ∷ value (leaf (text foo)) ∷ []) t (no_text canonical t.words)
@@ -82,9 +82,9 @@ text_by_place =
     (value_part R canonical (leaf (text foo)) [] first.after second (no_parts R canonical second.after))))))
 
 -- an empty array
-abbrev pub an_empty_array : (levels : ℕ) (s : Style) (g : Graph) (i : ℕ) (t : Tables) → i < length g.nodes → Absent t.done i → node_at g i ≡ items [] → Built (inner (suc levels) s g (node i)) t
-an_empty_array levels s g i t there new e = record {
-  fields = marker_field (suc levels) g t (marker (node_at g i).head) ∷ header_field (suc levels) g t (marker (node_at g i).head) (1 ∷ []) ∷ field (text_header_kind (length t.words.texts)) (1 ∷ []) ∷ [];
+abbrev pub an_empty_array : (n : ℕ) (s : Style) (g : Graph) (i : ℕ) (t : Tables) → i < length g.nodes → Absent t.done i → node_at g i ≡ items [] → Built (inner (suc n) s g (node i)) t
+an_empty_array n s g i t there new e = record {
+  fields = marker_field (marker (node_at g i).head) ∷ header_field g t (marker (node_at g i).head) (1 ∷ []) ∷ field (text_header_kind (length t.words.texts)) (1 ∷ []) ∷ [];
   after = add_node t i;
   spelled = inr (record {
     there = there;
@@ -99,7 +99,7 @@ an_empty_array levels s g i t there new e = record {
     spelled = small s 1 (omega arith);
     rest = field (text_header_kind (length t.words.texts)) (1 ∷ []) ∷ [];
     fields = refl;
-    behind = subst (λ a. Then (Lifted (HeaderBy s a.head a.values 1)) (Parts (inner levels s g) s (layout a.head [] a.values)) (add_node t i) (field (text_header_kind (length t.words.texts)) (1 ∷ []) ∷ []) (add_node t i)) (sym e) body;
+    behind = subst (λ a. Then (Lifted (HeaderBy s a.head a.values 1)) (Parts (inner n s g) s (layout a.head [] a.values)) (add_node t i) (field (text_header_kind (length t.words.texts)) (1 ∷ []) ∷ []) (add_node t i)) (sym e) body;
   });
 }
   where
@@ -107,7 +107,7 @@ an_empty_array levels s g i t there new e = record {
     in_order_of free h = tt
     in_order_of canonical h = h
 
-    body : Then (Lifted (HeaderBy s array [] 1)) (Parts (inner levels s g) s (layout array [] [])) (add_node t i) (field (text_header_kind (length t.words.texts)) (1 ∷ []) ∷ []) (add_node t i)
+    body : Then (Lifted (HeaderBy s array [] 1)) (Parts (inner n s g) s (layout array [] [])) (add_node t i) (field (text_header_kind (length t.words.texts)) (1 ∷ []) ∷ []) (add_node t i)
     body = record {
       front = [];
       back = field (text_header_kind (length t.words.texts)) (1 ∷ []) ∷ [];
@@ -170,9 +170,9 @@ members_on_the_wire =
     spelled_by 1 free members (a_node 0 free members 0 no_tables ((0x62 ∷ [], one) ∷ (0x61 ∷ [], two) ∷ []) 11 (omega arith) (absent_nil 0) (refl, tt) refl tt (b_is, (a_is, tt)) (omega arith)
     (both _ _ t h
     (word_part R free (0x62 ∷ []) (value one ∷ word (0x61 ∷ []) ∷ value two ∷ word [] ∷ []) h.after b
-    (value_part R free one (word (0x61 ∷ []) ∷ value two ∷ word [] ∷ []) u (an_integer I free 0 members 1 u (omega arith))
+    (value_part R free one (word (0x61 ∷ []) ∷ value two ∷ word [] ∷ []) u (an_integer I free members 1 u (omega arith))
     (word_part R free (0x61 ∷ []) (value two ∷ word [] ∷ []) u a
-    (value_part R free two (word [] ∷ []) w (an_integer I free 0 members 2 w (omega arith))
+    (value_part R free two (word [] ∷ []) w (an_integer I free members 2 w (omega arith))
     (word_part R free [] [] w (no_text free w.words) (no_parts R free w))))))))
 
 pub members_by_name : Spelled3 canonical members (0x0A ∷ 0x0B ∷ 0x01 ∷ 0x03 ∷ 0x61 ∷ 0x04 ∷ 0x02 ∷ 0x03 ∷ 0x62 ∷ 0x04 ∷ 0x01 ∷ 0x01 ∷ [])
@@ -190,9 +190,9 @@ members_by_name =
     spelled_by 1 canonical members (a_node 0 canonical members 0 no_tables ((0x61 ∷ [], two) ∷ (0x62 ∷ [], one) ∷ []) 11 (omega arith) (absent_nil 0) (refl, tt) refl refl (a_is, (b_is, tt)) (omega arith)
     (both _ _ t h
     (word_part R canonical (0x61 ∷ []) (value two ∷ word (0x62 ∷ []) ∷ value one ∷ word [] ∷ []) h.after a
-    (value_part R canonical two (word (0x62 ∷ []) ∷ value one ∷ word [] ∷ []) u (an_integer I canonical 0 members 2 u (omega arith))
+    (value_part R canonical two (word (0x62 ∷ []) ∷ value one ∷ word [] ∷ []) u (an_integer I canonical members 2 u (omega arith))
     (word_part R canonical (0x62 ∷ []) (value one ∷ word [] ∷ []) u b
-    (value_part R canonical one (word [] ∷ []) w (an_integer I canonical 0 members 1 w (omega arith))
+    (value_part R canonical one (word [] ∷ []) w (an_integer I canonical members 1 w (omega arith))
     (word_part R canonical [] [] w (no_text canonical w.words) (no_parts R canonical w))))))))
 
 pub shared_on_the_wire : Spelled3 free shared (0x0A ∷ 0x0B ∷ 0x01 ∷ 0x03 ∷ 0x62 ∷ 0x09 ∷ 0x01 ∷ 0x01 ∷ 0x03 ∷ 0x61 ∷ 0x09 ∷ 0x02 ∷ 0x01 ∷ [])
@@ -210,7 +210,7 @@ shared_on_the_wire =
     (word_part R free (0x62 ∷ []) (value (node 1) ∷ word (0x61 ∷ []) ∷ value (node 1) ∷ word [] ∷ []) h.after b
     (value_part R free (node 1) (word (0x61 ∷ []) ∷ value (node 1) ∷ word [] ∷ []) u x
     (word_part R free (0x61 ∷ []) (value (node 1) ∷ word [] ∷ []) x.after a
-    (value_part R free (node 1) (word [] ∷ []) w (a_reference (InlineIn 1 free shared) free 1 shared 1 1 w refl (omega arith))
+    (value_part R free (node 1) (word [] ∷ []) w (a_reference (InlineIn 1 free shared) free shared 1 1 w refl (omega arith))
     (word_part R free [] [] w (no_text free w.words) (no_parts R free w))))))))
 
 pub shared_by_name : Spelled3 canonical shared (0x0A ∷ 0x0B ∷ 0x01 ∷ 0x03 ∷ 0x61 ∷ 0x09 ∷ 0x01 ∷ 0x01 ∷ 0x03 ∷ 0x62 ∷ 0x09 ∷ 0x02 ∷ 0x01 ∷ [])
@@ -228,7 +228,7 @@ shared_by_name =
     (word_part R canonical (0x61 ∷ []) (value (node 1) ∷ word (0x62 ∷ []) ∷ value (node 1) ∷ word [] ∷ []) h.after a
     (value_part R canonical (node 1) (word (0x62 ∷ []) ∷ value (node 1) ∷ word [] ∷ []) u x
     (word_part R canonical (0x62 ∷ []) (value (node 1) ∷ word [] ∷ []) x.after b
-    (value_part R canonical (node 1) (word [] ∷ []) w (a_reference (InlineIn 1 canonical shared) canonical 1 shared 1 1 w refl (omega arith))
+    (value_part R canonical (node 1) (word [] ∷ []) w (a_reference (InlineIn 1 canonical shared) canonical shared 1 1 w refl (omega arith))
     (word_part R canonical [] [] w (no_text canonical w.words) (no_parts R canonical w))))))))
 
 class_is : class_name ArrayCollection ≢ []
@@ -250,7 +250,7 @@ collected s number unused e o few u =
       spelled = given (only_traits s) (unused, e, o) name.after name.spelled refl;
     }) in
     let x : Built (R (node 1)) h.after = an_empty_array 0 s collection 1 h.after (omega arith) (absent_cons 0 [] 1 (λ e. omega arith) (absent_nil 1)) refl in
-    let whole_row : Built (Spells3 2 s collection (node 0)) no_tables = a_node 1 s collection 0 no_tables [] number (omega arith) (absent_nil 0) (refl, refl) refl (no_pairs s) tt few
+    let whole_row : Built (SpellsIn 2 s collection (node 0)) no_tables = a_node 1 s collection 0 no_tables [] number (omega arith) (absent_nil 0) (refl, refl) refl (no_pairs s) tt few
     (both _ _ t h (value_part R s (node 1) [] h.after x (no_parts R s x.after))) in
     spelled_by 2 s collection whole_row
   where

@@ -13,7 +13,7 @@ use Rattle.amf_tables.specs.Refusals3.{leaf_marker, marker, text_header_kind}
 use Rattle.amf_tables.specs.Words3.{empty, whole, named, Text, IsUnnamed}
 use Rattle.amf_tables.specs.Parts3.{Part, word, value, Lifted, Parts, layout}
 use Rattle.amf_tables.specs.Headers3.{HeaderBy, marker_field, header_field}
-use Rattle.amf_tables.specs.Spells3.{LeafBy, Marked, ValueBy, InlineIn}
+use Rattle.amf_tables.specs.Spells3.{LeafBy, Marked, ValueBy, SpellsIn}
 
 -- fields and tables behind them that A relates to the tables before
 pub record Built {S : Type 0} (A : S → List Field → S → Type 0) (t : S) : Type 0 where
@@ -27,20 +27,20 @@ both A B t x y = record { fields = x.fields ++ y.fields; after = y.after; spelle
 abbrev pub lifted : (A : Spelling Words) (t : Tables) → Built A t.words → Built (Lifted A) t
 lifted A t x = record { fields = x.fields; after = with_words t x.after; spelled = (x.after, x.spelled, refl) }
 
-abbrev pub marked : (levels : ℕ) (g : Graph) (m : ℕ) (t : Tables) → Built (Marked levels g m) t
-marked levels g m t = record { fields = marker_field levels g t m ∷ []; after = t; spelled = (refl, refl) }
+abbrev pub marked : (m : ℕ) (t : Tables) → Built (Marked m) t
+marked m t = record { fields = marker_field m ∷ []; after = t; spelled = (refl, refl) }
 
-abbrev pub a_leaf : (Inline : ℕ → Spelling Tables) (s : Style) (levels : ℕ) (g : Graph) (x : Leaf) (t : Tables) → IsLeaf x → Built (LeafBy s x) t.words → Built (ValueBy Inline s levels g (leaf x)) t
-a_leaf Inline s levels g x t h y =
-    let z : Built (Then (Marked levels g (leaf_marker x)) (Lifted (LeafBy s x))) t = both _ _ t (marked levels g (leaf_marker x) t) (lifted (LeafBy s x) t y) in
+abbrev pub a_leaf : (Inline : ℕ → Spelling Tables) (s : Style) (g : Graph) (x : Leaf) (t : Tables) → IsLeaf x → Built (LeafBy s x) t.words → Built (ValueBy Inline s g (leaf x)) t
+a_leaf Inline s g x t h y =
+    let z : Built (Then (Marked (leaf_marker x)) (Lifted (LeafBy s x))) t = both _ _ t (marked (leaf_marker x) t) (lifted (LeafBy s x) t y) in
     record { fields = z.fields; after = z.after; spelled = (h, z.spelled) }
 
-abbrev pub a_null : (Inline : ℕ → Spelling Tables) (s : Style) (levels : ℕ) (g : Graph) (t : Tables) → Built (ValueBy Inline s levels g (leaf null)) t
-a_null Inline s levels g t = a_leaf Inline s levels g null t tt (record { fields = []; after = t.words; spelled = (refl, refl) })
+abbrev pub a_null : (Inline : ℕ → Spelling Tables) (s : Style) (g : Graph) (t : Tables) → Built (ValueBy Inline s g (leaf null)) t
+a_null Inline s g t = a_leaf Inline s g null t tt (record { fields = []; after = t.words; spelled = (refl, refl) })
 
 -- a small integer, by one byte
-abbrev pub an_integer : (Inline : ℕ → Spelling Tables) (s : Style) (levels : ℕ) (g : Graph) (n : ℕ) (t : Tables) → n < 128 → Built (ValueBy Inline s levels g (leaf (integer (pos n)))) t
-an_integer Inline s levels g n t h = a_leaf Inline s levels g (integer (pos n)) t (omega arith) (record { fields = field (u29_kind no_refusal) (n ∷ []) ∷ []; after = t.words; spelled = (n ∷ [], small s n h, refl, refl) })
+abbrev pub an_integer : (Inline : ℕ → Spelling Tables) (s : Style) (g : Graph) (n : ℕ) (t : Tables) → n < 128 → Built (ValueBy Inline s g (leaf (integer (pos n)))) t
+an_integer Inline s g n t h = a_leaf Inline s g (integer (pos n)) t (omega arith) (record { fields = field (u29_kind no_refusal) (n ∷ []) ∷ []; after = t.words; spelled = (n ∷ [], small s n h, refl, refl) })
 
 abbrev pub no_text : (s : Style) (w : Words) → Built (Text s []) w
 no_text s w = record { fields = field (text_header_kind (length w.texts)) (1 ∷ []) ∷ []; after = w; spelled = empty refl (1 ∷ []) (small s 1 (omega arith)) refl refl }
@@ -59,25 +59,25 @@ old_text s x w k h there unnamed few = record {
   spelled = named h k there unnamed ((2 * k) ∷ []) (small s (2 * k) few) refl refl;
 }
 
-abbrev pub a_text : (Inline : ℕ → Spelling Tables) (s : Style) (levels : ℕ) (g : Graph) (x : List ℕ) (t : Tables) → IsText x → Built (Text s x) t.words → Built (ValueBy Inline s levels g (leaf (text x))) t
-a_text Inline s levels g x t h y = a_leaf Inline s levels g (text x) t h (record { fields = y.fields; after = y.after; spelled = y.spelled })
+abbrev pub a_text : (Inline : ℕ → Spelling Tables) (s : Style) (g : Graph) (x : List ℕ) (t : Tables) → IsText x → Built (Text s x) t.words → Built (ValueBy Inline s g (leaf (text x))) t
+a_text Inline s g x t h y = a_leaf Inline s g (text x) t h (record { fields = y.fields; after = y.after; spelled = y.spelled })
 
 -- a node by its place
-abbrev pub a_reference : (Inline : ℕ → Spelling Tables) (s : Style) (levels : ℕ) (g : Graph) (i place : ℕ) (t : Tables) → slice_get t.nodes place ≡ Some i → 2 * place < 128 → Built (ValueBy Inline s levels g (node i)) t
-a_reference Inline s levels g i place t there few = record {
-  fields = marker_field levels g t (marker (node_at g i).head) ∷ header_field levels g t (marker (node_at g i).head) ((2 * place) ∷ []) ∷ [];
+abbrev pub a_reference : (Inline : ℕ → Spelling Tables) (s : Style) (g : Graph) (i place : ℕ) (t : Tables) → slice_get t.nodes place ≡ Some i → 2 * place < 128 → Built (ValueBy Inline s g (node i)) t
+a_reference Inline s g i place t there few = record {
+  fields = marker_field (marker (node_at g i).head) ∷ header_field g t (marker (node_at g i).head) ((2 * place) ∷ []) ∷ [];
   after = t;
   spelled = inl (record { place = place; header = (2 * place) ∷ []; there = there; spelled = small s (2 * place) few; fields = refl; same = refl });
 }
 
 -- a node inline, with its pairs in the order of the wire
-abbrev pub a_node : (levels : ℕ) (s : Style) (g : Graph) (i : ℕ) (t : Tables) (pairs : List (List ℕ × Value)) (number : ℕ)
+abbrev pub a_node : (n : ℕ) (s : Style) (g : Graph) (i : ℕ) (t : Tables) (pairs : List (List ℕ × Value)) (number : ℕ)
     → i < length g.nodes → Absent t.done i → Fits (node_at g i).head (node_at g i).names (node_at g i).values
     → by_name pairs ≡ by_name (node_at g i).names → Only s (pairs ≡ by_name (node_at g i).names) → AllNamed pairs → number < 128
-    → Built (Then (Lifted (HeaderBy s (node_at g i).head (node_at g i).values number)) (Parts (ValueBy (InlineIn levels s g) s levels g) s (layout (node_at g i).head pairs (node_at g i).values))) (add_node t i)
-    → Built (ValueBy (InlineIn (suc levels) s g) s (suc levels) g (node i)) t
-a_node levels s g i t pairs number there new fits same_names in_order all_named few body = record {
-  fields = marker_field (suc levels) g t (marker (node_at g i).head) ∷ header_field (suc levels) g t (marker (node_at g i).head) (number ∷ []) ∷ body.fields;
+    → Built (Then (Lifted (HeaderBy s (node_at g i).head (node_at g i).values number)) (Parts (SpellsIn n s g) s (layout (node_at g i).head pairs (node_at g i).values))) (add_node t i)
+    → Built (SpellsIn (suc n) s g (node i)) t
+a_node n s g i t pairs number there new fits same_names in_order all_named few body = record {
+  fields = marker_field (marker (node_at g i).head) ∷ header_field g t (marker (node_at g i).head) (number ∷ []) ∷ body.fields;
   after = body.after;
   spelled = inr (record {
     there = there;

@@ -15,7 +15,7 @@ use Rattle.amf_tables.specs.Words3.{TextBy, empty as empty_text, whole as whole_
 use Rattle.amf_tables.specs.Parts3 as fields
 use Rattle.amf_tables.specs.Headers3.{Counted, HeaderBy}
 use Rattle.amf_tables.specs.Nodes3 as nodes
-use Rattle.amf_tables.specs.Spells3.{LeafBy, Marked, InlineIn, Spells3, Spelled3}
+use Rattle.amf_tables.specs.Spells3.{LeafBy, Marked, InlineIn, Spelled3}
 use Rattle.amf_tables.specs.Spells3 as spells
 use Rattle.amf_tables.proofs.ByteSpelling.{Spelling, Then, Text, empty, whole, placed, Texts, entry_texts, TraitsOf, given, indexed, Step, byte, number, flag, raw, word, StepOf, Part, step, value, values_then, pairs_then, four_bytes, signed_bytes, eight_bytes, header_step, body, layout, leaf_layout, Lifted, Parts, Placed, Begun, ValueBy, NodeIn, Spells, Spelled}
 
@@ -203,11 +203,11 @@ to_layout s R R' r a w vs n header h t fs t' z = record {
   second = to_body s R R' r a w vs z.mid z.back t' z.second;
 }
 
-to_named : (s : Style) (levels : ℕ) (g : Graph) (i : ℕ) (t : Tables) (fs : List Field) (t' : Tables) → nodes.Named s levels g i t fs t' → (c : List ℕ) × (flat fs ≡ marker (node_at g i).head ∷ c) × Placed s i t c t'
-to_named s levels g i t fs t' z = (z.header, ap flat z.fields ∙ ap (λ b. marker (node_at g i).head ∷ b) (append-nil z.header), record { place = z.place; here = z.there; spelled = z.spelled; same = z.same })
+to_named : (s : Style) (g : Graph) (i : ℕ) (t : Tables) (fs : List Field) (t' : Tables) → nodes.Named s g i t fs t' → (c : List ℕ) × (flat fs ≡ marker (node_at g i).head ∷ c) × Placed s i t c t'
+to_named s g i t fs t' z = (z.header, ap flat z.fields ∙ ap (λ b. marker (node_at g i).head ∷ b) (append-nil z.header), record { place = z.place; here = z.there; spelled = z.spelled; same = z.same })
 
-to_begun : (s : Style) (R : Value → Fields Tables) (R' : Value → Spelling Tables) → ((v : Value) → To (R v) (R' v)) → (levels : ℕ) (g : Graph) (i : ℕ) (t : Tables) (fs : List Field) (t' : Tables) → nodes.Begun R s levels g i t fs t' → (c : List ℕ) × (flat fs ≡ marker (node_at g i).head ∷ c) × Begun R' s g i t c t'
-to_begun s R R' r levels g i t fs t' z = (
+to_begun : (s : Style) (R : Value → Fields Tables) (R' : Value → Spelling Tables) → ((v : Value) → To (R v) (R' v)) → (g : Graph) (i : ℕ) (t : Tables) (fs : List Field) (t' : Tables) → nodes.Begun R s g i t fs t' → (c : List ℕ) × (flat fs ≡ marker (node_at g i).head ∷ c) × Begun R' s g i t c t'
+to_begun s R R' r g i t fs t' z = (
   z.header ++ flat z.rest,
   ap flat z.fields,
   record {
@@ -234,8 +234,8 @@ to_leaf_rest s (integer n) t fs t' z = one_step s (λ v t b t'. ⊥) (number (in
 to_leaf_rest s (double p) t fs t' z = one_step s (λ v t b t'. ⊥) (raw (to_be_bytes w64 p)) t (flat fs) t' (z.0, (one_field fs (raw_kind 8) (to_be_bytes w64 p) z.1.0, z.1.1), z.2)
 to_leaf_rest s (text x) t fs t' z = one_step s (λ v t b t'. ⊥) (word x) t (flat fs) t' (z.0, to_text s x t.words fs z.0 z.1, z.2)
 
-to_leaf : (s : Style) (levels : ℕ) (g : Graph) (x : Leaf) → To (FieldThen (Marked levels g (leaf_marker x)) (fields.Lifted (LeafBy s x))) (Parts (λ v t b t'. ⊥) s (step (byte (leaf_marker x)) ∷ leaf_layout x))
-to_leaf s levels g x t fs t' z = record {
+to_leaf : (s : Style) (x : Leaf) → To (FieldThen (Marked (leaf_marker x)) (fields.Lifted (LeafBy s x))) (Parts (λ v t b t'. ⊥) s (step (byte (leaf_marker x)) ∷ leaf_layout x))
+to_leaf s x t fs t' z = record {
   front = flat z.front;
   back = flat z.back;
   mid = z.mid;
@@ -244,10 +244,10 @@ to_leaf s levels g x t fs t' z = record {
   second = to_leaf_rest s x z.mid z.back t' z.second;
 }
 
-to_value_by : (s : Style) (d : ℕ) (g : Graph) (I : ℕ → Fields Tables) (N : ℕ → Spelling Tables) → ((i : ℕ) (t : Tables) (b : List ℕ) (t' : Tables) → Placed s i t b t' → N i t b t') → ((i : ℕ) (t : Tables) (fs : List Field) (t' : Tables) → I i t fs t' → (c : List ℕ) × (flat fs ≡ marker (node_at g i).head ∷ c) × N i t c t') → (v : Value) → To (spells.ValueBy I s d g v) (ValueBy N s g v)
-to_value_by s d g I N p f (leaf x) t fs t' z = (z.0, to_leaf s d g x t fs t' z.1)
-to_value_by s d g I N p f (node i) t fs t' (inl z) = let o = to_named s d g i t fs t' z in (o.0, o.1, p i t o.0 t' o.2)
-to_value_by s d g I N p f (node i) t fs t' (inr z) = f i t fs t' z
+to_value_by : (s : Style) (g : Graph) (I : ℕ → Fields Tables) (N : ℕ → Spelling Tables) → ((i : ℕ) (t : Tables) (b : List ℕ) (t' : Tables) → Placed s i t b t' → N i t b t') → ((i : ℕ) (t : Tables) (fs : List Field) (t' : Tables) → I i t fs t' → (c : List ℕ) × (flat fs ≡ marker (node_at g i).head ∷ c) × N i t c t') → (v : Value) → To (spells.ValueBy I s g v) (ValueBy N s g v)
+to_value_by s g I N p f (leaf x) t fs t' z = (z.0, to_leaf s x t fs t' z.1)
+to_value_by s g I N p f (node i) t fs t' (inl z) = let o = to_named s g i t fs t' z in (o.0, o.1, p i t o.0 t' o.2)
+to_value_by s g I N p f (node i) t fs t' (inr z) = f i t fs t' z
 
 placed_in : (s : Style) (d : ℕ) (g : Graph) (i : ℕ) (t : Tables) (b : List ℕ) (t' : Tables) → Placed s i t b t' → NodeIn d s g i t b t'
 placed_in s zero g i t b t' p = p
@@ -256,11 +256,11 @@ placed_in s (suc d) g i t b t' p = inl p
 to_inline : (d : ℕ) (s : Style) (g : Graph) (i : ℕ) (t : Tables) (fs : List Field) (t' : Tables) → InlineIn d s g i t fs t' → (c : List ℕ) × (flat fs ≡ marker (node_at g i).head ∷ c) × NodeIn d s g i t c t'
 to_inline zero s g i t fs t' z = absurd z
 to_inline (suc d) s g i t fs t' z =
-    let o = to_begun s (spells.ValueBy (InlineIn d s g) s d g) (Spells d s g) (to_value_by s d g (InlineIn d s g) (NodeIn d s g) (placed_in s d g) (to_inline d s g)) (suc d) g i t fs t' z in
+    let o = to_begun s (spells.SpellsIn d s g) (Spells d s g) (to_value_by s g (InlineIn d s g) (NodeIn d s g) (placed_in s d g) (to_inline d s g)) g i t fs t' z in
     (o.0, o.1, inr o.2)
 
-pub to_spells : (d : ℕ) (s : Style) (g : Graph) (v : Value) → To (Spells3 d s g v) (Spells d s g v)
-to_spells d s g v = to_value_by s d g (InlineIn d s g) (NodeIn d s g) (placed_in s d g) (to_inline d s g) v
+pub to_spells : (d : ℕ) (s : Style) (g : Graph) (v : Value) → To (spells.SpellsIn d s g v) (Spells d s g v)
+to_spells d s g v = to_value_by s g (InlineIn d s g) (NodeIn d s g) (placed_in s d g) (to_inline d s g) v
 
 pub to_spelled : (s : Style) (g : Graph) (b : List ℕ) → Spelled3 s g b → Spelled s g b
-to_spelled s g b (d, fs, (t, z), e) = (d, t, subst (λ c. Spells d s g g.root no_tables c t) (sym e) (to_spells d s g g.root no_tables fs t z))
+to_spelled s g b (fs, (t, (d, z)), e) = (d, t, subst (λ c. Spells d s g g.root no_tables c t) (sym e) (to_spells d s g g.root no_tables fs t z))

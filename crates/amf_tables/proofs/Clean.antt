@@ -1,9 +1,9 @@
 -- No field of a spelling is refused, and each is whole: the rows of refusals agree with the spellings.
-use Rattle.std.proofs.Common.{◌≡◌, ◌≢◌, ℕ, zero, suc, ◌+◌, ◌*◌, ◌/◌, ◌%◌, ◌<◌, Bool, true, false, not, ◌&&◌, ◌||◌, cond, ℤ, List, [], ◌∷◌, ◌++◌, length, slice_get, Option, Some, None, refl, ap, sym, ◌∙◌, subst, arith, inl, inr, nat_lt, nat_le, ◌==◌, if◌then◌else◌}
-use Rattle.std.specs.List.{AllByRecursion, list_any}
+use Rattle.std.proofs.Common.{◌≡◌, ◌≢◌, ℕ, zero, suc, ◌+◌, ◌*◌, ◌/◌, ◌%◌, ◌<◌, Bool, true, false, ◌&&◌, cond, ℤ, List, [], ◌∷◌, ◌++◌, length, slice_get, Option, Some, None, refl, ap, sym, ◌∙◌, subst, arith, inl, inr, nat_le, ◌==◌, if◌then◌else◌}
+use Rattle.std.specs.List.{AllByRecursion}
 use Rattle.std.specs.Int.{to_be_bytes, w32, w64}
 use Rattle.amf_io.specs.declared.reason.Reason.{Reason}
-use Rattle.amf_io.specs.declared.reason.Reason.TheVariants.{BadMarker, BadTraits, BadTextIndex, BadText, WrongKind, UnknownExternal, TooDeep}
+use Rattle.amf_io.specs.declared.reason.Reason.TheVariants.{BadTraits, BadTextIndex, BadText, WrongKind, UnknownExternal}
 use Rattle.amf_io.specs.Field.{Kind, Field, IsClean, field, fixed, contents, raw_kind, text_kind, u29_kind, no_refusal}
 use Rattle.amf_wire.specs.Style.{Style}
 use Rattle.amf_wire.specs.U29.{IsU29}
@@ -21,7 +21,7 @@ use Rattle.amf_tables.specs.Words3 as words
 use Rattle.amf_tables.specs.Parts3.{Part, flag, four, eight, raw, chars, word, value, Fixed, Lifted, Parts, layout, values_then, pairs_then, fours, signed_fours, eights}
 use Rattle.amf_tables.specs.Headers3.{HeaderBy, marker_field}
 use Rattle.amf_tables.specs.Nodes3.{Begun}
-use Rattle.amf_tables.specs.Spells3.{LeafBy, ValueBy, InlineIn, Spells3}
+use Rattle.amf_tables.specs.Spells3.{LeafBy, ValueBy, InlineIn, SpellsIn, Spells3}
 use Rattle.amf_tables.proofs.OddHeaders.{header_odd}
 
 abbrev pub AllClean : List Field → Type 0
@@ -174,39 +174,32 @@ clean_leaf s (text x) t fs t' z = clean_text s x t fs t' z
 
 -- markers
 
-low : (levels : ℕ) (b : Bool) → ◌≡◌ {A = Option Reason} (if ((levels == 0) && false) && b then Some TooDeep else None) None
-low levels b = ap (λ c. if c && b then Some TooDeep else None) (and_false (levels == 0))
-  where
-    and_false : (a : Bool) → (a && false) ≡ false
-    and_false true = refl
-    and_false false = refl
+leaf_allowed : (x : Leaf) → marker_refusal (leaf_marker x) ≡ None
+leaf_allowed undefined = refl
+leaf_allowed null = refl
+leaf_allowed (boolean false) = refl
+leaf_allowed (boolean true) = refl
+leaf_allowed (integer n) = refl
+leaf_allowed (double p) = refl
+leaf_allowed (text x) = refl
 
-leaf_allowed : (levels : ℕ) (table : List ℕ) (x : Leaf) → marker_refusal levels table (leaf_marker x) ≡ None
-leaf_allowed levels table undefined = low levels (not (list_any (λ k. k == 0) table))
-leaf_allowed levels table null = low levels (not (list_any (λ k. k == 1) table))
-leaf_allowed levels table (boolean false) = low levels (not (list_any (λ k. k == 2) table))
-leaf_allowed levels table (boolean true) = low levels (not (list_any (λ k. k == 3) table))
-leaf_allowed levels table (integer n) = low levels (not (list_any (λ k. k == 4) table))
-leaf_allowed levels table (double p) = low levels (not (list_any (λ k. k == 5) table))
-leaf_allowed levels table (text x) = low levels (not (list_any (λ k. k == 6) table))
+node_allowed : (h : Head) → marker_refusal (marker h) ≡ None
+node_allowed (xml_document x) = refl
+node_allowed (date p) = refl
+node_allowed array = refl
+node_allowed (object t) = refl
+node_allowed (wrapper c) = refl
+node_allowed (xml x) = refl
+node_allowed (bytes x) = refl
+node_allowed (ints f ns) = refl
+node_allowed (uints f ns) = refl
+node_allowed (doubles f ns) = refl
+node_allowed (values f x) = refl
+node_allowed (dictionary f) = refl
 
 pub and_false : (a : Bool) → (a && false) ≡ false
 and_false true = refl
 and_false false = refl
-
-node_marker_low : (h : Head) → nat_lt 0x11 (marker h) ≡ false
-node_marker_low (xml_document x) = refl
-node_marker_low (date p) = refl
-node_marker_low array = refl
-node_marker_low (object t) = refl
-node_marker_low (wrapper c) = refl
-node_marker_low (xml x) = refl
-node_marker_low (bytes x) = refl
-node_marker_low (ints f ns) = refl
-node_marker_low (uints f ns) = refl
-node_marker_low (doubles f ns) = refl
-node_marker_low (values f x) = refl
-node_marker_low (dictionary f) = refl
 
 equal_self : (n : ℕ) → (n == n) ≡ true
 equal_self n = grind arith
@@ -216,36 +209,11 @@ marker_there g [] k i e = let h : None ≡ Some i = e in absurd cc
 marker_there g (j ∷ nodes) zero i e = let h : j ≡ i = cc in ap (λ n. Some (marker (node_at g n).head)) h
 marker_there g (j ∷ nodes) (suc k) i e = marker_there g nodes k i e
 
-any_there : (m : ℕ) (table : List ℕ) (k : ℕ) → slice_get table k ≡ Some m → list_any (λ n. n == m) table ≡ true
-any_there m [] k e = let h : None ≡ Some m = e in absurd cc
-any_there m (n ∷ table) zero e = let h : n ≡ m = cc in ap (λ b. b || list_any (λ n. n == m) table) (ap (λ j. j == m) h ∙ equal_self m)
-any_there m (n ∷ table) (suc k) e = ap (λ b. (n == m) || b) (any_there m table k e) ∙ or_true (n == m)
-  where
-    or_true : (a : Bool) → (a || true) ≡ true
-    or_true true = refl
-    or_true false = refl
-
-named_marker : (levels : ℕ) (g : Graph) (nodes : List ℕ) (k i : ℕ) → slice_get nodes k ≡ Some i → marker_refusal levels (markers g nodes) (marker (node_at g i).head) ≡ None
-named_marker levels g nodes k i e =
+named_header : (g : Graph) (nodes : List ℕ) (traits k i : ℕ) → slice_get nodes k ≡ Some i → header_refusal (markers g nodes) traits (marker (node_at g i).head) (2 * k) ≡ None
+named_header g nodes traits k i e =
     let m : ℕ = marker (node_at g i).head in
     let table : List ℕ = markers g nodes in
-    ap (λ b. if b then Some BadMarker else (if (levels == 0 && nat_le 0x07 m) && not (list_any (λ n. n == m) table) then Some TooDeep else None)) (node_marker_low (node_at g i).head)
-    ∙ ap (λ b. if (levels == 0 && nat_le 0x07 m) && not b then Some TooDeep else None) (any_there m table k (marker_there g nodes k i e))
-    ∙ ap (λ b. if b then Some TooDeep else None) (and_false (levels == 0 && nat_le 0x07 m))
-
-inline_marker : (levels : ℕ) (table : List ℕ) (h : Head) → marker_refusal (suc levels) table (marker h) ≡ None
-inline_marker levels table h =
-    ap (λ b. if b then Some BadMarker else (if (suc levels == 0 && nat_le 0x07 (marker h)) && not (list_any (λ n. n == marker h) table) then Some TooDeep else None)) (node_marker_low h)
-    ∙ ap (λ b. if (b && nat_le 0x07 (marker h)) && not (list_any (λ n. n == marker h) table) then Some TooDeep else None) (not_zero levels)
-  where
-    not_zero : (n : ℕ) → (suc n == 0) ≡ false
-    not_zero n = grind arith
-
-named_header : (levels : ℕ) (g : Graph) (nodes : List ℕ) (traits k i : ℕ) → slice_get nodes k ≡ Some i → header_refusal levels (markers g nodes) traits (marker (node_at g i).head) (2 * k) ≡ None
-named_header levels g nodes traits k i e =
-    let m : ℕ = marker (node_at g i).head in
-    let table : List ℕ = markers g nodes in
-    ap (λ b. if b then kind_refusal m (slice_get table (2 * k / 2)) else (if levels == 0 then Some TooDeep else (if ((m == 0x0A) && ((2 * k) % 4 == 1)) && nat_le traits (2 * k / 4) then Some BadTraits else None))) (even_is k)
+    ap (λ b. if b then kind_refusal m (slice_get table (2 * k / 2)) else (if ((m == 0x0A) && ((2 * k) % 4 == 1)) && nat_le traits (2 * k / 4) then Some BadTraits else None)) (even_is k)
     ∙ ap (λ j. kind_refusal m (slice_get table j)) (half_is k)
     ∙ ap (kind_refusal m) (marker_there g nodes k i e)
     ∙ ap (λ b. if b then None else Some WrongKind) (equal_self m)
@@ -290,19 +258,14 @@ no_bad_traits s (doubles f ns) vs n w fs w' z = refl
 no_bad_traits s (values f x) vs n w fs w' z = refl
 no_bad_traits s (dictionary f) vs n w fs w' z = refl
 
-inline_header : (s : Style) (levels : ℕ) (table : List ℕ) (h : Head) (vs : List Value) (n : ℕ) (w : Words) (fs : List Field) (w' : Words) → HeaderBy s h vs n w fs w' → header_refusal (suc levels) table (length w.traits) (marker h) n ≡ None
-inline_header s levels table h vs n w fs w' z =
+inline_header : (s : Style) (table : List ℕ) (h : Head) (vs : List Value) (n : ℕ) (w : Words) (fs : List Field) (w' : Words) → HeaderBy s h vs n w fs w' → header_refusal table (length w.traits) (marker h) n ≡ None
+inline_header s table h vs n w fs w' z =
     let o : (k : ℕ) × (n ≡ 2 * k + 1) = header_odd s h vs n w fs w' z in
-    let bad : Bool = ((marker h == 0x0A) && (n % 4 == 1)) && nat_le (length w.traits) (n / 4) in
-    ap (λ b. if b then kind_refusal (marker h) (slice_get table (n / 2)) else (if suc levels == 0 then Some TooDeep else (if ((marker h == 0x0A) && (n % 4 == 1)) && nat_le (length w.traits) (n / 4) then Some BadTraits else None))) (ap (λ k. k % 2 == 0) o.1 ∙ odd_is o.0)
-    ∙ ap (λ b. if b then Some TooDeep else (if ((marker h == 0x0A) && (n % 4 == 1)) && nat_le (length w.traits) (n / 4) then Some BadTraits else None)) (not_zero levels)
+    ap (λ b. if b then kind_refusal (marker h) (slice_get table (n / 2)) else (if ((marker h == 0x0A) && (n % 4 == 1)) && nat_le (length w.traits) (n / 4) then Some BadTraits else None)) (ap (λ k. k % 2 == 0) o.1 ∙ odd_is o.0)
     ∙ ap (λ b. if b then Some BadTraits else None) (no_bad_traits s h vs n w fs w' z)
-  where
-    not_zero : (n : ℕ) → (suc n == 0) ≡ false
-    not_zero n = grind arith
 
-marker_clean : (levels : ℕ) (g : Graph) (t : Tables) (m : ℕ) → marker_refusal levels (markers g t.nodes) m ≡ None → IsClean (marker_field levels g t m)
-marker_clean levels g t m e = record { is_whole = refl; clean = e }
+marker_clean : (m : ℕ) → marker_refusal m ≡ None → IsClean (marker_field m)
+marker_clean m e = record { is_whole = refl; clean = e }
 
 -- parts
 
@@ -373,37 +336,37 @@ good_layout (dictionary f) pairs names vs fits = (tt, good_values vs [] tt)
 
 -- values
 
-clean_value : (I : ℕ → Spelling Tables) (s : Style) → ((i : ℕ) → Cleans (I i)) → (levels : ℕ) (g : Graph) (v : Value) → Cleans (ValueBy I s levels g v)
-clean_value I s f levels g (leaf x) t fs t' (h, z) =
+clean_value : (I : ℕ → Spelling Tables) (s : Style) → ((i : ℕ) → Cleans (I i)) → (g : Graph) (v : Value) → Cleans (ValueBy I s g v)
+clean_value I s f g (leaf x) t fs t' (h, z) =
     clean_as (z.front ++ z.back) fs z.joined (clean_append z.front z.back
-    (clean_as _ z.front z.first.0 (marker_clean levels g t (leaf_marker x) (leaf_allowed levels (markers g t.nodes) x), tt))
+    (clean_as _ z.front z.first.0 (marker_clean (leaf_marker x) (leaf_allowed x), tt))
     (clean_lifted (LeafBy s x) (clean_leaf s x) z.mid z.back t' z.second))
-clean_value I s f levels g (node i) t fs t' (inl z) =
+clean_value I s f g (node i) t fs t' (inl z) =
     clean_as _ fs z.fields (
-      marker_clean levels g t (marker (node_at g i).head) (named_marker levels g t.nodes z.place i z.there),
-      (number_field s (2 * z.place) z.header (header_refusal levels (markers g t.nodes) (length t.words.traits) (marker (node_at g i).head)) z.spelled (named_header levels g t.nodes (length t.words.traits) z.place i z.there), tt),
+      marker_clean (marker (node_at g i).head) (node_allowed (node_at g i).head),
+      (number_field s (2 * z.place) z.header (header_refusal (markers g t.nodes) (length t.words.traits) (marker (node_at g i).head)) z.spelled (named_header g t.nodes (length t.words.traits) z.place i z.there), tt),
     )
-clean_value I s f levels g (node i) t fs t' (inr z) = f i t fs t' z
+clean_value I s f g (node i) t fs t' (inr z) = f i t fs t' z
 
-clean_begun : (R : Value → Spelling Tables) (s : Style) → ((v : Value) → Cleans (R v)) → (levels : ℕ) (g : Graph) (i : ℕ) → Cleans (Begun R s (suc levels) g i)
-clean_begun R s f levels g i t fs t' z =
+clean_begun : (R : Value → Spelling Tables) (s : Style) → ((v : Value) → Cleans (R v)) → (g : Graph) (i : ℕ) → Cleans (Begun R s g i)
+clean_begun R s f g i t fs t' z =
     let h : Head = (node_at g i).head in
     let vs : List Value = (node_at g i).values in
     clean_as _ fs z.fields (
-      marker_clean (suc levels) g t (marker h) (inline_marker levels (markers g t.nodes) h),
+      marker_clean (marker h) (node_allowed h),
       (
-        number_field s z.number z.header (header_refusal (suc levels) (markers g t.nodes) (length t.words.traits) (marker h)) z.spelled
-            (inline_header s levels (markers g t.nodes) h vs z.number t.words z.behind.front z.behind.first.0 z.behind.first.1),
+        number_field s z.number z.header (header_refusal (markers g t.nodes) (length t.words.traits) (marker h)) z.spelled
+            (inline_header s (markers g t.nodes) h vs z.number t.words z.behind.front z.behind.first.0 z.behind.first.1),
         clean_then (Lifted (HeaderBy s h vs z.number)) (Parts R s (layout h z.pairs vs))
             (clean_lifted (HeaderBy s h vs z.number) (clean_header s h vs z.number))
             (clean_parts R s f (layout h z.pairs vs) (good_layout h z.pairs (node_at g i).names vs z.fits)) (add_node t i) z.rest t' z.behind,
       ),
     )
 
-clean_inline : (levels : ℕ) (s : Style) (g : Graph) (i : ℕ) → Cleans (InlineIn levels s g i)
+clean_inline : (n : ℕ) (s : Style) (g : Graph) (i : ℕ) → Cleans (InlineIn n s g i)
 clean_inline zero s g i t fs t' z = absurd z
-clean_inline (suc levels) s g i t fs t' z = clean_begun (ValueBy (InlineIn levels s g) s levels g) s (clean_value (InlineIn levels s g) s (clean_inline levels s g) levels g) levels g i t fs t' z
+clean_inline (suc n) s g i t fs t' z = clean_begun (SpellsIn n s g) s (clean_value (InlineIn n s g) s (clean_inline n s g) g) g i t fs t' z
 
 -- each field of a spelling is whole, and none is refused
-pub clean3 : (levels : ℕ) (s : Style) (g : Graph) (v : Value) → Cleans (Spells3 levels s g v)
-clean3 levels s g v = clean_value (InlineIn levels s g) s (clean_inline levels s g) levels g v
+pub clean3 : (s : Style) (g : Graph) (v : Value) → Cleans (Spells3 s g v)
+clean3 s g v t fs t' (n, z) = clean_value (InlineIn n s g) s (clean_inline n s g) g v t fs t' z

@@ -59,8 +59,8 @@ canonical_exist = record {
 
 pub table_is_order : TableIsOrder
 table_is_order =
-    let level : (levels : ℕ) (g : Graph) (fs : List Field) (t : Tables) → Spells3 levels canonical g g.root no_tables fs t → t.nodes ≡ t.done = λ levels g fs t z. (keeps_spells g canonical levels g.root no_tables (flat fs) t (to_spells levels canonical g g.root no_tables fs t z)).level refl in
+    let even : (g : Graph) (fs : List Field) (t : Tables) → Spells3 canonical g g.root no_tables fs t → t.nodes ≡ t.done = λ g fs t z. (keeps_spells g canonical z.0 g.root no_tables (flat fs) t (to_spells z.0 canonical g g.root no_tables fs t z.1)).level refl in
     record {
-      nodes = λ levels g fs t z. subst (λ w. IsOrder g w) (sym (level levels g fs t z)) (in_order g (flat fs) (levels, t, to_spells levels canonical g g.root no_tables fs t z));
-      done = λ levels g fs t z. sym (level levels g fs t z);
+      nodes = λ g fs t z. subst (λ w. IsOrder g w) (sym (even g fs t z)) (in_order g (flat fs) (z.0, t, to_spells z.0 canonical g g.root no_tables fs t z.1));
+      done = λ g fs t z. sym (even g fs t z);
     }

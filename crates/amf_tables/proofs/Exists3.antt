@@ -1,7 +1,7 @@
 -- A graph within bounds and without empty names has a canonical spelling.
-use Rattle.std.proofs.Common.{◌≡◌, ℕ, zero, suc, ◌+◌, ◌*◌, ◌<◌, ◌≤◌, ◌≢◌, ◌⊎◌, Bool, true, false, cond, List, [], ◌∷◌, ◌++◌, length, slice_get, Some, sym, refl, ap, ◌∙◌, subst, inl, inr, arith}
+use Rattle.std.proofs.Common.{◌≡◌, ℕ, zero, suc, ◌+◌, ◌*◌, ◌<◌, ◌≤◌, ◌≢◌, ◌⊎◌, Bool, true, false, cond, List, [], ◌∷◌, ◌++◌, length, slice_get, Some, sym, refl, ap, ◌∙◌, inl, inr, arith}
 use Rattle.std.specs.List.{AllByRecursion}
-use Rattle.std.proofs.lemmas.Option.{same_Some, slice_get_within}
+use Rattle.std.proofs.lemmas.Option.{slice_get_within}
 use Rattle.std.proofs.lemmas.Bool.{cases_eq}
 use Rattle.amf_wire.specs.Style.{canonical}
 use Rattle.amf_wire.specs.Text.{IsText}
@@ -10,6 +10,7 @@ use Rattle.amf_graph.specs.ByName.{by_name}
 use Rattle.amf_graph.specs.Order.{Absent}
 use Rattle.amf_graph.specs.Reached.{Reached, at_root, inside, IsReachedValue, IsWhole, IsNamed}
 use Rattle.amf_graph.specs.Small.{IsFew, IsShort, IsSmallValue, IsSmallHead, count_of, IsSmall}
+use Rattle.amf_graph.proofs.Alls.{each_at, each_from}
 use Rattle.amf_graph.proofs.Lists.{length_pushed, search_for}
 use Rattle.amf_graph.proofs.NameOrder.{by_name_again, by_name_all, by_name_length}
 use Rattle.amf_graph.proofs.Counting.{missing, missing_none, missing_push}
@@ -22,15 +23,6 @@ use Rattle.amf_tables.proofs.Numbers3.{number_found}
 use Rattle.amf_tables.proofs.Steps3.{step_found, Small}
 use Rattle.amf_tables.proofs.Kept3.{Proper, kept_begin, keeps_step}
 use Rattle.amf_tables.proofs.Fixed3.{proper_none}
-
-pub each_at : {X : Type 0} (P : X → Type 0) (xs : List X) (k : ℕ) (x : X) → AllByRecursion P xs → slice_get xs k ≡ Some x → P x
-each_at P [] k x h e = cc
-each_at P (y ∷ xs) zero x h e = subst P (same_Some y x e) h.0
-each_at P (y ∷ xs) (suc k) x h e = each_at P xs k x h.1 e
-
-pub each_from : {X : Type 0} (P : X → Type 0) (xs : List X) → ((k : ℕ) (x : X) → slice_get xs k ≡ Some x → P x) → AllByRecursion P xs
-each_from P [] h = tt
-each_from P (y ∷ xs) h = (h 0 y refl, each_from P xs (λ k. h (suc k)))
 
 pub each_both : {X : Type 0} (P Q : X → Type 0) (xs : List X) → AllByRecursion P xs → AllByRecursion Q xs → AllByRecursion (λ x. P x × Q x) xs
 each_both P Q [] h k = tt

@@ -13,7 +13,7 @@ use Rattle.amf_tables.specs.Words3.{TextBy, empty as empty_text, whole as whole_
 use Rattle.amf_tables.specs.Parts3 as fields
 use Rattle.amf_tables.specs.Headers3.{HeaderBy, marker_field, header_field}
 use Rattle.amf_tables.specs.Nodes3 as nodes
-use Rattle.amf_tables.specs.Spells3.{LeafBy, Marked, InlineIn, Spells3, Spelled3}
+use Rattle.amf_tables.specs.Spells3.{LeafBy, Marked, InlineIn, Spelled3}
 use Rattle.amf_tables.specs.Spells3 as spells
 use Rattle.amf_tables.proofs.ByteSpelling.{Spelling, Then, Text, empty, whole, placed, Texts, entry_texts, TraitsOf, given, indexed, byte, flag, raw, word, StepOf, Part, step, value, values_then, pairs_then, four_bytes, signed_bytes, eight_bytes, header_step, body, leaf_layout, Lifted, Parts, Placed, Begun, ValueBy, NodeIn, Spells, Spelled}
 use Rattle.amf_tables.proofs.BytesOf.{fits_too, flat_append, flat_contents}
@@ -175,21 +175,21 @@ from_header s (dictionary f) vs w b w' d z =
 even_parts : (a : Head) (w : List (List ℕ × Value)) (vs : List Value) → Fits a w vs → (f : Bool) → a ≡ dictionary f → (n : ℕ) × (length vs ≡ 2 * n)
 even_parts a w vs h f e = let k : Fits (dictionary f) w vs = subst (λ z. Fits z w vs) e h in (k.1, k.2)
 
-of_placed : (s : Style) (levels : ℕ) (g : Graph) (i : ℕ) (t : Tables) (c : List ℕ) (t' : Tables) → Placed s i t c t' → Of (nodes.Named s levels g i) t (marker (node_at g i).head ∷ c) t'
-of_placed s levels g i t c t' p = (
-  marker_field levels g t (marker (node_at g i).head) ∷ header_field levels g t (marker (node_at g i).head) c ∷ [],
+of_placed : (s : Style) (g : Graph) (i : ℕ) (t : Tables) (c : List ℕ) (t' : Tables) → Placed s i t c t' → Of (nodes.Named s g i) t (marker (node_at g i).head ∷ c) t'
+of_placed s g i t c t' p = (
+  marker_field (marker (node_at g i).head) ∷ header_field g t (marker (node_at g i).head) c ∷ [],
   record { place = p.place; header = c; there = p.here; spelled = p.spelled; fields = refl; same = p.same },
   ap (λ w. marker (node_at g i).head ∷ w) (sym (append-nil c)),
 )
 
-of_begun : (s : Style) (R : Value → Fields Tables) (R' : Value → Spelling Tables) → ((v : Value) → From (R v) (R' v)) → (levels : ℕ) (g : Graph) (i : ℕ) (t : Tables) (c : List ℕ) (t' : Tables) → Begun R' s g i t c t' → Of (nodes.Begun R s levels g i) t (marker (node_at g i).head ∷ c) t'
-of_begun s R R' r levels g i t c t' p =
+of_begun : (s : Style) (R : Value → Fields Tables) (R' : Value → Spelling Tables) → ((v : Value) → From (R v) (R' v)) → (g : Graph) (i : ℕ) (t : Tables) (c : List ℕ) (t' : Tables) → Begun R' s g i t c t' → Of (nodes.Begun R s g i) t (marker (node_at g i).head ∷ c) t'
+of_begun s R R' r g i t c t' p =
     let a = node_at g i in
     let m = marker (node_at g i).head in
     let h = from_header s a.head a.values t.words p.body.front p.body.first.0 (even_parts a.head p.wire a.values p.fits) p.body.first.1 in
     let o = from_body s R R' r a.head p.wire a.values p.body.mid p.body.back t' p.body.second in
     let rest : List Field = h.rest ++ o.0 in (
-      marker_field levels g t m ∷ header_field levels g t m h.header ∷ rest,
+      marker_field m ∷ header_field g t m h.header ∷ rest,
       record {
         there = p.exists;
         new = p.new;
@@ -226,25 +226,25 @@ from_leaf_rest s (text x) t b t' z =
     let o = from_text s x t.words z.front z.first.0 z.first.1 in
     (o.0, (z.first.0, o.1, z.second.1 ∙ z.first.2), z.joined ∙ ap (λ w. z.front ++ w) z.second.0 ∙ append-nil z.front ∙ o.2)
 
-from_leaf : (s : Style) (levels : ℕ) (g : Graph) (x : Leaf) → From (FieldThen (Marked levels g (leaf_marker x)) (fields.Lifted (LeafBy s x))) (Parts (λ v t b t'. ⊥) s (step (byte (leaf_marker x)) ∷ leaf_layout x))
-from_leaf s levels g x t b t' z =
-    of_then (Marked levels g (leaf_marker x)) (fields.Lifted (LeafBy s x)) t z.mid t' b z.front z.back z.joined
-    (marker_field levels g t (leaf_marker x) ∷ [], (refl, z.first.2 ∙ ap (λ w. with_words t w) z.first.1.1), z.first.1.0)
+from_leaf : (s : Style) (x : Leaf) → From (FieldThen (Marked (leaf_marker x)) (fields.Lifted (LeafBy s x))) (Parts (λ v t b t'. ⊥) s (step (byte (leaf_marker x)) ∷ leaf_layout x))
+from_leaf s x t b t' z =
+    of_then (Marked (leaf_marker x)) (fields.Lifted (LeafBy s x)) t z.mid t' b z.front z.back z.joined
+    (marker_field (leaf_marker x) ∷ [], (refl, z.first.2 ∙ ap (λ w. with_words t w) z.first.1.1), z.first.1.0)
     (from_leaf_rest s x z.mid z.back t' z.second)
 
-from_value_by : (s : Style) (d : ℕ) (g : Graph) (I : ℕ → Fields Tables) (N : ℕ → Spelling Tables) → ((i : ℕ) (t : Tables) (c : List ℕ) (t' : Tables) → N i t c t' → Of (spells.ValueBy I s d g (node i)) t (marker (node_at g i).head ∷ c) t') → (v : Value) → From (spells.ValueBy I s d g v) (ValueBy N s g v)
-from_value_by s d g I N f (leaf x) t b t' z = let o = from_leaf s d g x t b t' z.1 in (o.0, (z.0, o.1), o.2)
-from_value_by s d g I N f (node i) t b t' z = let o = f i t z.0 t' z.2 in (o.0, o.1, z.1 ∙ o.2)
+from_value_by : (s : Style) (g : Graph) (I : ℕ → Fields Tables) (N : ℕ → Spelling Tables) → ((i : ℕ) (t : Tables) (c : List ℕ) (t' : Tables) → N i t c t' → Of (spells.ValueBy I s g (node i)) t (marker (node_at g i).head ∷ c) t') → (v : Value) → From (spells.ValueBy I s g v) (ValueBy N s g v)
+from_value_by s g I N f (leaf x) t b t' z = let o = from_leaf s x t b t' z.1 in (o.0, (z.0, o.1), o.2)
+from_value_by s g I N f (node i) t b t' z = let o = f i t z.0 t' z.2 in (o.0, o.1, z.1 ∙ o.2)
 
-from_node : (d : ℕ) (s : Style) (g : Graph) (i : ℕ) (t : Tables) (c : List ℕ) (t' : Tables) → NodeIn d s g i t c t' → Of (spells.ValueBy (InlineIn d s g) s d g (node i)) t (marker (node_at g i).head ∷ c) t'
-from_node zero s g i t c t' p = let o = of_placed s 0 g i t c t' p in (o.0, inl o.1, o.2)
-from_node (suc d) s g i t c t' (inl p) = let o = of_placed s (suc d) g i t c t' p in (o.0, inl o.1, o.2)
+from_node : (d : ℕ) (s : Style) (g : Graph) (i : ℕ) (t : Tables) (c : List ℕ) (t' : Tables) → NodeIn d s g i t c t' → Of (spells.SpellsIn d s g (node i)) t (marker (node_at g i).head ∷ c) t'
+from_node zero s g i t c t' p = let o = of_placed s g i t c t' p in (o.0, inl o.1, o.2)
+from_node (suc d) s g i t c t' (inl p) = let o = of_placed s g i t c t' p in (o.0, inl o.1, o.2)
 from_node (suc d) s g i t c t' (inr p) =
-    let o = of_begun s (spells.ValueBy (InlineIn d s g) s d g) (Spells d s g) (from_value_by s d g (InlineIn d s g) (NodeIn d s g) (from_node d s g)) (suc d) g i t c t' p in
+    let o = of_begun s (spells.SpellsIn d s g) (Spells d s g) (from_value_by s g (InlineIn d s g) (NodeIn d s g) (from_node d s g)) g i t c t' p in
     (o.0, inr o.1, o.2)
 
-pub from_spells : (d : ℕ) (s : Style) (g : Graph) (v : Value) → From (Spells3 d s g v) (Spells d s g v)
-from_spells d s g v = from_value_by s d g (InlineIn d s g) (NodeIn d s g) (from_node d s g) v
+pub from_spells : (d : ℕ) (s : Style) (g : Graph) (v : Value) → From (spells.SpellsIn d s g v) (Spells d s g v)
+from_spells d s g v = from_value_by s g (InlineIn d s g) (NodeIn d s g) (from_node d s g) v
 
 pub from_spelled : (s : Style) (g : Graph) (b : List ℕ) → Spelled s g b → Spelled3 s g b
-from_spelled s g b (d, t, z) = let o = from_spells d s g g.root no_tables b t z in (d, o.0, (t, o.1), o.2)
+from_spelled s g b (d, t, z) = let o = from_spells d s g g.root no_tables b t z in (o.0, (t, (d, o.1)), o.2)

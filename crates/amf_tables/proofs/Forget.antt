@@ -10,7 +10,7 @@ use Rattle.amf_tables.specs.Words3.{TextBy, empty, whole, named, Text, Texts, En
 use Rattle.amf_tables.specs.Parts3.{Part, flag, four, eight, raw, chars, word, value, Fixed, Lifted, Parts, layout}
 use Rattle.amf_tables.specs.Headers3.{HeaderBy}
 use Rattle.amf_tables.specs.Nodes3.{Named, Begun}
-use Rattle.amf_tables.specs.Spells3.{LeafBy, ValueBy, InlineIn, Spells3, Spelled3}
+use Rattle.amf_tables.specs.Spells3.{LeafBy, ValueBy, InlineIn, SpellsIn, Spells3, Spelled3}
 
 -- A implies B
 abbrev pub Implies : {S : Type 0} → (S → List Field → S → Type 0) → (S → List Field → S → Type 0) → Type 0
@@ -85,11 +85,11 @@ parts R R' s f (eight n ∷ ps) t fs t' z = then_implies (Plain (Fixed s (eight 
 parts R R' s f (raw x ∷ ps) t fs t' z = then_implies (Plain (Fixed s (raw x))) (Parts R s ps) (Plain (Fixed free (raw x))) (Parts R' free ps) (plain_implies s (raw x)) (parts R R' s f ps) t fs t' z
 parts R R' s f (chars x ∷ ps) t fs t' z = then_implies (Plain (Fixed s (chars x))) (Parts R s ps) (Plain (Fixed free (chars x))) (Parts R' free ps) (plain_implies s (chars x)) (parts R R' s f ps) t fs t' z
 
-named_by : (s : Style) (levels : ℕ) (g : Graph) (i : ℕ) → Implies (Named s levels g i) (Named free levels g i)
-named_by s levels g i t fs t' z = record { place = z.place; header = z.header; there = z.there; spelled = forget_u29 s _ z.header z.spelled; fields = z.fields; same = z.same }
+named_by : (s : Style) (g : Graph) (i : ℕ) → Implies (Named s g i) (Named free g i)
+named_by s g i t fs t' z = record { place = z.place; header = z.header; there = z.there; spelled = forget_u29 s _ z.header z.spelled; fields = z.fields; same = z.same }
 
-begun_by : (R R' : Value → Spelling Tables) (s : Style) → ((v : Value) → Implies (R v) (R' v)) → (levels : ℕ) (g : Graph) (i : ℕ) → Implies (Begun R s levels g i) (Begun R' free levels g i)
-begun_by R R' s f levels g i t fs t' z = record {
+begun_by : (R R' : Value → Spelling Tables) (s : Style) → ((v : Value) → Implies (R v) (R' v)) → (g : Graph) (i : ℕ) → Implies (Begun R s g i) (Begun R' free g i)
+begun_by R R' s f g i t fs t' z = record {
   there = z.there;
   new = z.new;
   fits = z.fits;
@@ -116,18 +116,21 @@ leaf_by s (integer n) t fs t' (digits, u, e, a) = (digits, forget_u29 s _ digits
 leaf_by s (double p) t fs t' z = z
 leaf_by s (text x) t fs t' z = text_of s x t fs t' z
 
-value_by : (I I' : ℕ → Spelling Tables) (s : Style) → ((i : ℕ) → Implies (I i) (I' i)) → (levels : ℕ) (g : Graph) (v : Value) → Implies (ValueBy I s levels g v) (ValueBy I' free levels g v)
-value_by I I' s f levels g (leaf x) t fs t' (h, z) = (h, then_implies _ (Lifted (LeafBy s x)) _ (Lifted (LeafBy free x)) (λ u gs u' y. y) (lifted_implies (LeafBy s x) (LeafBy free x) (leaf_by s x)) t fs t' z)
-value_by I I' s f levels g (node i) t fs t' (inl z) = inl (named_by s levels g i t fs t' z)
-value_by I I' s f levels g (node i) t fs t' (inr z) = inr (f i t fs t' z)
+value_by : (I I' : ℕ → Spelling Tables) (s : Style) → ((i : ℕ) → Implies (I i) (I' i)) → (g : Graph) (v : Value) → Implies (ValueBy I s g v) (ValueBy I' free g v)
+value_by I I' s f g (leaf x) t fs t' (h, z) = (h, then_implies _ (Lifted (LeafBy s x)) _ (Lifted (LeafBy free x)) (λ u gs u' y. y) (lifted_implies (LeafBy s x) (LeafBy free x) (leaf_by s x)) t fs t' z)
+value_by I I' s f g (node i) t fs t' (inl z) = inl (named_by s g i t fs t' z)
+value_by I I' s f g (node i) t fs t' (inr z) = inr (f i t fs t' z)
 
-inline_in : (levels : ℕ) (s : Style) (g : Graph) (i : ℕ) → Implies (InlineIn levels s g i) (InlineIn levels free g i)
+inline_in : (n : ℕ) (s : Style) (g : Graph) (i : ℕ) → Implies (InlineIn n s g i) (InlineIn n free g i)
 inline_in zero s g i t fs t' z = z
-inline_in (suc levels) s g i t fs t' z = begun_by (ValueBy (InlineIn levels s g) s levels g) (ValueBy (InlineIn levels free g) free levels g) s (value_by (InlineIn levels s g) (InlineIn levels free g) s (inline_in levels s g) levels g) (suc levels) g i t fs t' z
+inline_in (suc n) s g i t fs t' z = begun_by (SpellsIn n s g) (SpellsIn n free g) s (value_by (InlineIn n s g) (InlineIn n free g) s (inline_in n s g) g) g i t fs t' z
 
--- the same fields, in the same number of levels
-pub forget3 : (levels : ℕ) (s : Style) (g : Graph) (v : Value) → Implies (Spells3 levels s g v) (Spells3 levels free g v)
-forget3 levels s g v = value_by (InlineIn levels s g) (InlineIn levels free g) s (inline_in levels s g) levels g v
+-- the same fields, in the same height
+pub forget_in : (n : ℕ) (s : Style) (g : Graph) (v : Value) → Implies (SpellsIn n s g v) (SpellsIn n free g v)
+forget_in n s g v = value_by (InlineIn n s g) (InlineIn n free g) s (inline_in n s g) g v
+
+pub forget3 : (s : Style) (g : Graph) (v : Value) → Implies (Spells3 s g v) (Spells3 free g v)
+forget3 s g v t fs t' (n, z) = (n, forget_in n s g v t fs t' z)
 
 pub forget_spelled3 : (s : Style) (g : Graph) (b : List ℕ) → Spelled3 s g b → Spelled3 free g b
-forget_spelled3 s g b (levels, fs, (t, z), e) = (levels, fs, (t, forget3 levels s g g.root _ fs t z), e)
+forget_spelled3 s g b (fs, (t, z), e) = (fs, (t, forget3 s g g.root _ fs t z), e)

@@ -12,7 +12,7 @@ use Rattle.amf_tables.specs.Then.{Spelling, Then, Plain}
 use Rattle.amf_tables.specs.Words3.{Text, Texts, given, named}
 use Rattle.amf_tables.specs.Parts3.{Part, flag, four, eight, raw, chars, word, value, IsFlag, Fixed, Lifted, Parts, layout}
 use Rattle.amf_tables.specs.Headers3.{HeaderBy}
-use Rattle.amf_tables.specs.Spells3.{InlineIn, Spells3, Spelled3}
+use Rattle.amf_tables.specs.Spells3.{InlineIn, SpellsIn, Spelled3}
 use Rattle.amf_tables.specs.WorkedKinds3.{single, bare_class, one_sealed, two_objects, sealed_and_open, sealed_and_member, named_and_item}
 use Rattle.amf_tables.proofs.Build.{Built, both, lifted, an_integer, no_text, new_text, a_text, a_node, no_parts, word_part, value_part, absent_nil, absent_cons, unnamed, unnamed_zero}
 use Rattle.amf_tables.proofs.Amf3Rows.{inner, spelled_by}
@@ -49,7 +49,7 @@ no_pairs canonical = refl
 -- one node alone, by its header's number and its parts
 abbrev pub single_node : (s : Style) (h : Head) (vs : List Value) (number : ℕ) → Fits h [] vs → number < 128
     → (x : Built (Lifted (HeaderBy s h vs number)) (add_node no_tables 0)) → Built (Parts (inner 0 s (single h vs)) s (layout h [] vs)) x.after
-    → Built (Spells3 1 s (single h vs) (node 0)) no_tables
+    → Built (SpellsIn 1 s (single h vs) (node 0)) no_tables
 single_node s h vs number fits few x y = a_node 0 s (single h vs) 0 no_tables [] number (omega arith) (absent_nil 0) fits refl (no_pairs s) tt few (both _ _ (add_node no_tables 0) x y)
 
 abbrev pub counted : (s : Style) (h : Head) (vs : List Value) (number : ℕ) (t : Tables) → HeaderBy s h vs number t.words [] t.words → Built (Lifted (HeaderBy s h vs number)) t
@@ -84,7 +84,7 @@ ints_fit = ((int_fits, (int_fits_too, tt)), refl, refl)
     int_fits_too : FitsSigned w32 (negsuc 0)
     int_fits_too = grind arith
 
-abbrev ints_row : (s : Style) (m : ℕ) → IsFlag s true m → Built (Spells3 1 s (single two_ints []) (node 0)) no_tables
+abbrev ints_row : (s : Style) (m : ℕ) → IsFlag s true m → Built (SpellsIn 1 s (single two_ints []) (node 0)) no_tables
 ints_row s m h =
     let R : Value → Spelling Tables = inner 0 s (single two_ints []) in
     single_node s two_ints [] 5 ints_fit (omega arith) (counted s two_ints [] 5 start (refl, (refl, refl)))
@@ -130,8 +130,8 @@ one_entry =
     let g : Graph = single (dictionary false) (leaf (integer (pos 1)) ∷ leaf (text (0x61 ∷ [])) ∷ []) in
     let R : Value → Spelling Tables = inner 0 canonical g in
     let I : ℕ → Spelling Tables = InlineIn 0 canonical g in
-    let k : Built (R (leaf (integer (pos 1)))) start = an_integer I canonical 0 g 1 start (omega arith) in
-    let v : Built (R (leaf (text (0x61 ∷ [])))) start = a_text I canonical 0 g (0x61 ∷ []) start a_text_is (new_text canonical (0x61 ∷ []) start.words a_is a_text_is (unnamed _ [] (0x61 ∷ []) (absent_nil (0x61 ∷ []))) (omega arith)) in
+    let k : Built (R (leaf (integer (pos 1)))) start = an_integer I canonical g 1 start (omega arith) in
+    let v : Built (R (leaf (text (0x61 ∷ [])))) start = a_text I canonical g (0x61 ∷ []) start a_text_is (new_text canonical (0x61 ∷ []) start.words a_is a_text_is (unnamed _ [] (0x61 ∷ []) (absent_nil (0x61 ∷ []))) (omega arith)) in
     spelled_by 1 canonical g (single_node canonical (dictionary false) (leaf (integer (pos 1)) ∷ leaf (text (0x61 ∷ [])) ∷ []) 3 (refl, 1, refl) (omega arith)
     (counted canonical (dictionary false) (leaf (integer (pos 1)) ∷ leaf (text (0x61 ∷ [])) ∷ []) 3 start (1, refl, (refl, (refl, refl))))
     (flag_part R canonical false 0 (value (leaf (integer (pos 1))) ∷ value (leaf (text (0x61 ∷ []))) ∷ []) start (refl, omega arith, omega arith)
@@ -165,7 +165,7 @@ traits_by_place =
       after = add_entry names.after (plain one_sealed);
       spelled = given (unnamed _ [] (plain one_sealed) (absent_nil (plain one_sealed))) refl names.after (record { front = c.fields; back = names.fields; mid = c.after; joined = refl; first = c.spelled; second = names.spelled }) refl;
     }) in
-    let v : Built (Q one) h.after = an_integer I canonical 0 two_objects 1 h.after (omega arith) in
+    let v : Built (Q one) h.after = an_integer I canonical two_objects 1 h.after (omega arith) in
     let x : Built (R (node 1)) start = a_node 0 canonical two_objects 1 start [] 19 (omega arith) (absent_cons 0 [] 1 (λ e. omega arith) (absent_nil 1)) (refl, refl) refl refl tt (omega arith)
     (both _ _ t h (value_part Q canonical one [] h.after v (no_parts Q canonical v.after))) in
     let u : Tables = add_node x.after 2 in
@@ -174,7 +174,7 @@ traits_by_place =
       after = u.words;
       spelled = named 0 refl (unnamed_zero u.words.traits (plain one_sealed)) refl refl refl;
     }) in
-    let w : Built (Q two) k.after = an_integer I canonical 0 two_objects 2 k.after (omega arith) in
+    let w : Built (Q two) k.after = an_integer I canonical two_objects 2 k.after (omega arith) in
     let y : Built (R (node 2)) x.after = a_node 0 canonical two_objects 2 x.after [] 1 (omega arith) (absent_cons 0 (1 ∷ []) 2 (λ e. omega arith) (absent_cons 1 [] 2 (λ e. omega arith) (absent_nil 2))) (refl, refl) refl refl tt (omega arith)
     (both _ _ u k (value_part Q canonical two [] k.after w (no_parts Q canonical w.after))) in
     spelled_by 2 canonical two_objects (a_node 1 canonical two_objects 0 no_tables [] 5 (omega arith) (absent_nil 0) tt refl refl tt (omega arith)
@@ -257,9 +257,9 @@ sealed_before_member =
     let w : Tables = with_words h.after b.after in
     spelled_by 1 canonical sealed_and_member (a_node 0 canonical sealed_and_member 0 no_tables ((0x62 ∷ [], leaf (integer (pos 2))) ∷ []) 27 (omega arith) (absent_nil 0) (refl, tt) refl refl (b_is, tt) (omega arith)
     (both _ _ start h
-    (value_part R canonical one (word (0x62 ∷ []) ∷ value two ∷ word [] ∷ []) h.after (an_integer I canonical 0 sealed_and_member 1 h.after (omega arith))
+    (value_part R canonical one (word (0x62 ∷ []) ∷ value two ∷ word [] ∷ []) h.after (an_integer I canonical sealed_and_member 1 h.after (omega arith))
     (word_part R canonical (0x62 ∷ []) (value two ∷ word [] ∷ []) h.after b
-    (value_part R canonical two (word [] ∷ []) w (an_integer I canonical 0 sealed_and_member 2 w (omega arith))
+    (value_part R canonical two (word [] ∷ []) w (an_integer I canonical sealed_and_member 2 w (omega arith))
     (word_part R canonical [] [] w (no_text canonical w.words) (no_parts R canonical w)))))))
 
 pub name_before_item : Spelled3 canonical named_and_item (0x09 ∷ 0x03 ∷ 0x03 ∷ 0x61 ∷ 0x04 ∷ 0x02 ∷ 0x01 ∷ 0x04 ∷ 0x01 ∷ [])
@@ -273,6 +273,6 @@ name_before_item =
     spelled_by 1 canonical named_and_item (a_node 0 canonical named_and_item 0 no_tables ((0x61 ∷ [], leaf (integer (pos 2))) ∷ []) 3 (omega arith) (absent_nil 0) tt refl refl (a_is, tt) (omega arith)
     (both _ _ start (counted canonical array (leaf (integer (pos 1)) ∷ []) 3 start (refl, (refl, refl)))
     (word_part R canonical (0x61 ∷ []) (value two ∷ word [] ∷ value one ∷ []) start a
-    (value_part R canonical two (word [] ∷ value one ∷ []) w (an_integer I canonical 0 named_and_item 2 w (omega arith))
+    (value_part R canonical two (word [] ∷ value one ∷ []) w (an_integer I canonical named_and_item 2 w (omega arith))
     (word_part R canonical [] (value one ∷ []) w (no_text canonical w.words)
-    (value_part R canonical one [] w (an_integer I canonical 0 named_and_item 1 w (omega arith)) (no_parts R canonical w)))))))
+    (value_part R canonical one [] w (an_integer I canonical named_and_item 1 w (omega arith)) (no_parts R canonical w)))))))

@@ -1,5 +1,5 @@
 -- A value of AMF 3 that is spelled is read.
-use Rattle.std.proofs.Common.{◌≡◌, ℕ, zero, suc, ◌+◌, ◌-◌, ◌*◌, ◌/◌, ◌%◌, ◌<◌, Bool, true, false, cond, eqb, not, List, [], ◌∷◌, ◌++◌, length, map, Option, refl, sym, ap, ◌∙◌, arith, subst, inl, inr, length-append, slice_index, ℤ}
+use Rattle.std.proofs.Common.{◌≡◌, ℕ, zero, suc, ◌+◌, ◌*◌, ◌/◌, ◌%◌, ◌<◌, Bool, true, false, cond, eqb, not, List, [], ◌∷◌, ◌++◌, length, map, Option, refl, sym, ap, ◌∙◌, arith, subst, inl, inr, length-append, slice_index, ℤ}
 use Rattle.std.proofs.lemmas.List.{append-nil, map-append, length-map}
 use Rattle.std.specs.Int.{from_be_bytes, to_be_bytes, w32, w64, cast_signed, cast_unsigned}
 use Rattle.amf_wire.specs.Style.{free}
@@ -20,7 +20,7 @@ use Rattle.amf_tables.specs.Words3.{Text, TraitsBy, given, named}
 use Rattle.amf_tables.specs.Parts3.{Part, flag, four, word, Parts, Lifted, layout, values_then, fours, signed_fours, eights}
 use Rattle.amf_tables.specs.Headers3.{HeaderBy, marker_field, header_field}
 use Rattle.amf_tables.specs.Nodes3.{Named, Begun}
-use Rattle.amf_tables.specs.Spells3.{ValueBy, InlineIn, Spells3}
+use Rattle.amf_tables.specs.Spells3.{ValueBy, InlineIn, SpellsIn, Spells3}
 use Rattle.amf_tables.specs.Layout3State.{State3, stored_marker, with_contents, with_node}
 use Rattle.amf_tables.specs.Layout3Words.{chunk, text_layout, Opening}
 use Rattle.amf_tables.specs.Layout3.{NodeForm, xml_document, date, array, object, xml, bytes, ints, uints, doubles, values, dictionary, Form, undefined, null, untrue, true_, integer, double, text, node, form_of, node_marker, flag_layout, four_layout, eight_layout, many, whole_node, opening, ValueRead, read, parts, inline_node, known_node, node_layout, behind_marker, value_layout}
@@ -300,19 +300,18 @@ open_complete R (graph.dictionary b) names n s qs vs t fs u fit same c p =
 
 -- A marker and a header, at tables that are like the state.
 
-marker_step : {X : Type 0} (levels m : ℕ) (ks js : List ℕ) (next : ℕ → Layout X) (rest : List Field) (u : Layout X) → ks ≡ js → IsClean (field (marker_kind levels ks) (m ∷ [])) → Path (next m) rest u
-    → Path (want (marker_kind levels js) (λ b. next (slice_index b 0))) (field (marker_kind levels ks) (m ∷ []) ∷ rest) u
-marker_step levels m ks js next rest u e c p = subst (λ l. Path (want (marker_kind levels l) (λ b. next (slice_index b 0))) (field (marker_kind levels ks) (m ∷ []) ∷ rest) u) e (takes (marker_kind levels ks) (m ∷ []) c, p)
+marker_step : {X : Type 0} (m : ℕ) (next : ℕ → Layout X) (rest : List Field) (u : Layout X) → IsClean (marker_field m) → Path (next m) rest u → Path (want marker_kind (λ b. next (slice_index b 0))) (marker_field m ∷ rest) u
+marker_step m next rest u c p = (takes marker_kind (m ∷ []) c, p)
 
 header_step : {X : Type 0} (refusal other : ℕ → Option Reason) (next : ℕ → Layout X) (n : ℕ) (h : List ℕ) (rest : List Field) (u : Layout X) → refusal ≡ other → IsClean (field (u29_kind refusal) h) → SpellsU29 n h → Path (next n) rest u
     → Path (want (u29_kind other) (λ b. next (u29_value b))) (field (u29_kind refusal) h ∷ rest) u
 header_step refusal other next n h rest u e c s p = subst (λ r. Path (want (u29_kind r) (λ b. next (u29_value b))) (field (u29_kind refusal) h ∷ rest) u) e (u29_step refusal next n h rest u c s p)
 
-same_refusal : (levels : ℕ) (g : Graph) (t : Tables) (s : State3) (h : Head) → Like g t s → header_refusal levels (markers g t.nodes) (length t.words.traits) (marker h) ≡ header_refusal levels s.marks (length s.words.traits) (node_marker (head_form h))
-same_refusal levels g t s h like =
-    ap (λ l. header_refusal levels l (length t.words.traits) (marker h)) like.marks
-    ∙ ap (λ w. header_refusal levels s.marks (length w.traits) (marker h)) like.words
-    ∙ ap (header_refusal levels s.marks (length s.words.traits)) (sym (marker_form h))
+same_refusal : (g : Graph) (t : Tables) (s : State3) (h : Head) → Like g t s → header_refusal (markers g t.nodes) (length t.words.traits) (marker h) ≡ header_refusal s.marks (length s.words.traits) (node_marker (head_form h))
+same_refusal g t s h like =
+    ap (λ l. header_refusal l (length t.words.traits) (marker h)) like.marks
+    ∙ ap (λ w. header_refusal s.marks (length w.traits) (marker h)) like.words
+    ∙ ap (header_refusal s.marks (length s.words.traits)) (sym (marker_form h))
 
 -- what is read behind a marker
 pub record FoundBehind (g : Graph) (l : Layout ValueRead) (fs : List Field) (u : Tables) : Type 0 where
@@ -323,20 +322,20 @@ pub record FoundBehind (g : Graph) (l : Layout ValueRead) (fs : List Field) (u :
 abbrev behind_header : Reader → ℕ → NodeForm → State3 → ℕ → Layout ValueRead
 behind_header v N f s h = cond (eqb (h % 2) 0) (give (known_node s (h / 2))) (inline_node v N f h s)
 
-abbrev Marked : Reader → ℕ → ℕ → State3 → Layout ValueRead
-Marked v N levels s = want (marker_kind levels s.marks) (λ b. behind_marker v N levels s (form_of (slice_index b 0)))
+abbrev Marked : Reader → ℕ → State3 → Layout ValueRead
+Marked v N s = want marker_kind (λ b. behind_marker v N s (form_of (slice_index b 0)))
 
 -- a marker and a header of a node, and what stands behind them
-node_step : (g : Graph) (v : Reader) (N levels i n : ℕ) (t : Tables) (s : State3) (header : List ℕ) (rest fs : List Field) (x : ValueRead) → Like g t s → SpellsU29 n header → AllClean fs
-    → fs ≡ marker_field levels g t (marker (node_at g i).head) ∷ header_field levels g t (marker (node_at g i).head) header ∷ rest → Runs (behind_header v N (head_form (node_at g i).head) s n) rest x → Runs (Marked v N levels s) fs x
-node_step g v N levels i n t s header rest fs x like spelled c e p =
+node_step : (g : Graph) (v : Reader) (N i n : ℕ) (t : Tables) (s : State3) (header : List ℕ) (rest fs : List Field) (x : ValueRead) → Like g t s → SpellsU29 n header → AllClean fs → fs ≡ marker_field (marker (node_at g i).head) ∷ header_field g t (marker (node_at g i).head) header ∷ rest
+    → Runs (behind_header v N (head_form (node_at g i).head) s n) rest x → Runs (Marked v N s) fs x
+node_step g v N i n t s header rest fs x like spelled c e p =
     let h = (node_at g i).head in
     let d = subst AllClean e c in
-    let back : Path (node_layout v N levels (head_form h) s) (header_field levels g t (marker h) header ∷ rest) (give x) =
-    header_step (header_refusal levels (markers g t.nodes) (length t.words.traits) (marker h)) (header_refusal levels s.marks (length s.words.traits) (node_marker (head_form h))) (behind_header v N (head_form h) s) n header rest (give x) (same_refusal levels g t s h like) d.1.0 spelled p in
-    subst (λ l. Runs (Marked v N levels s) l x) (sym e)
-    (marker_step levels (marker h) (markers g t.nodes) s.marks (λ m. behind_marker v N levels s (form_of m)) (header_field levels g t (marker h) header ∷ rest) (give x) like.marks d.0
-    (subst (λ f. Path (behind_marker v N levels s f) (header_field levels g t (marker h) header ∷ rest) (give x)) (sym (form_marker h)) back))
+    let back : Path (node_layout v N (head_form h) s) (header_field g t (marker h) header ∷ rest) (give x) =
+    header_step (header_refusal (markers g t.nodes) (length t.words.traits) (marker h)) (header_refusal s.marks (length s.words.traits) (node_marker (head_form h))) (behind_header v N (head_form h) s) n header rest (give x) (same_refusal g t s h like) d.1.0 spelled p in
+    subst (λ l. Runs (Marked v N s) l x) (sym e)
+    (marker_step (marker h) (λ m. behind_marker v N s (form_of m)) (header_field g t (marker h) header ∷ rest) (give x) d.0
+    (subst (λ f. Path (behind_marker v N s f) (header_field g t (marker h) header ∷ rest) (give x)) (sym (form_marker h)) back))
 
 traits_odd : (e : Entry) (n : ℕ) (w : Words) (fs : List Field) (w' : Words) → TraitsBy free e n w fs w' → (j : ℕ) × (n ≡ 2 * j + 1)
 traits_odd (plain t) n w fs w' (given o number u texts a) = by_flag t.dynamic (length t.sealed) number
@@ -361,9 +360,9 @@ header_odd (graph.doubles b ns) vs n w fs w' p = (length ns, p.0)
 header_odd (graph.values b x) vs n w fs w' p = (length vs, p.0)
 header_odd (graph.dictionary b) vs n w fs w' p = (p.0, p.2.0)
 
-begun_complete : (g : Graph) (R : Value → Spelling Tables) (v : Reader) (N levels i : ℕ) → Finds g R v N → (t : Tables) (fs : List Field) (u : Tables) (s : State3) → AllClean fs → Like g t s → length (flat fs) < suc N → Begun R free levels g i t fs u
-    → FoundBehind g (Marked v N levels s) fs u
-begun_complete g R v N levels i h t fs u s c like lt p =
+begun_complete : (g : Graph) (R : Value → Spelling Tables) (v : Reader) (N i : ℕ) → Finds g R v N → (t : Tables) (fs : List Field) (u : Tables) (s : State3) → AllClean fs → Like g t s → length (flat fs) < suc N → Begun R free g i t fs u
+    → FoundBehind g (Marked v N s) fs u
+begun_complete g R v N i h t fs u s c like lt p =
     let a = node_at g i in
     let d = subst AllClean p.fields c in
     let e = header_odd a.head a.values p.number t.words p.behind.front p.behind.first.0 p.behind.first.1 in
@@ -373,7 +372,7 @@ begun_complete g R v N levels i h t fs u s c like lt p =
     ap (markers g) o.nodes ∙ map-append (λ j. marker (node_at g j).head) t.nodes (i ∷ []) ∙ ap (λ l. l ++ marker a.head ∷ []) (like.marks ∙ sym o.marks) ∙ ap (λ m. o.begun.state.marks ++ m ∷ []) (sym o.mark) in
     let cb = clean_parts p.rest o.front o.back o.joined d.1.1 in
     let total = parts_length p.rest o.front o.back o.joined in
-    let head = marker_field levels g t (marker a.head) in
+    let head = marker_field (marker a.head) in
     let bytes : length (flat fs) ≡ 1 + (length p.header + length (flat p.rest)) = ap (λ l. length (flat l)) p.fields ∙ ap suc (length-append p.header (flat p.rest)) ∙ omega arith in
     let x = parts_complete g R v N h o.begun p.pairs a.values o.mid u o.back p.named cb.1 (record { words = o.words; marks = marks }) (omega arith) o.count o.rest in
     let f = head_form a.head in
@@ -382,85 +381,84 @@ begun_complete g R v N levels i h t fs u s c like lt p =
     record {
       result = x.result;
       like = x.like;
-      runs = node_step g v N levels i p.number t s p.header p.rest fs x.result like p.spelled.spelled c p.fields
+      runs = node_step g v N i p.number t s p.header p.rest fs x.result like p.spelled.spelled c p.fields
           (path_if {X = ValueRead} (eqb (p.number % 2) 0) false (give (known_node s (p.number / 2))) (inline_node v N f p.number s) p.rest (give x.result) odd inside);
     }
 
-named_complete : (g : Graph) (v : Reader) (N levels i : ℕ) (t : Tables) (fs : List Field) (u : Tables) (s : State3) → AllClean fs → Like g t s → Named free levels g i t fs u → FoundBehind g (Marked v N levels s) fs u
-named_complete g v N levels i t fs u s c like p =
+named_complete : (g : Graph) (v : Reader) (N i : ℕ) (t : Tables) (fs : List Field) (u : Tables) (s : State3) → AllClean fs → Like g t s → Named free g i t fs u → FoundBehind g (Marked v N s) fs u
+named_complete g v N i t fs u s c like p =
     let n = 2 * p.place in
     let x = known_node s (n / 2) in
     let f = head_form (node_at g i).head in
     record {
       result = x;
       like = subst (λ w. Like g w s) (sym p.same) like;
-      runs = node_step g v N levels i n t s p.header [] fs x like p.spelled.spelled c p.fields (path_if {X = ValueRead} (eqb (n % 2) 0) true (give x) (inline_node v N f n s) [] (give x) (even_test p.place) refl);
+      runs = node_step g v N i n t s p.header [] fs x like p.spelled.spelled c p.fields (path_if {X = ValueRead} (eqb (n % 2) 0) true (give x) (inline_node v N f n s) [] (give x) (even_test p.place) refl);
     }
 
 -- Values that are no node.
 
-leaf_step : (g : Graph) (v : Reader) (N levels m : ℕ) (f : Form) (x : ValueRead) (t mid u : Tables) (w : Words) (s : State3) (fs front back : List Field) → form_of m ≡ f → Like g t s → AllClean fs → fs ≡ front ++ back → front ≡ marker_field levels g t m ∷ [] → mid ≡ t → u ≡ with_words mid w
-    → Runs (behind_marker v N levels s f) back x → w ≡ x.state.words → x.state.marks ≡ s.marks → FoundBehind g (Marked v N levels s) fs u
-leaf_step g v N levels m f x t mid u w s fs front back is like c joined e same after runs words marks =
-    let all : fs ≡ marker_field levels g t m ∷ back = joined ∙ ap (λ l. l ++ back) e in
+leaf_step : (g : Graph) (v : Reader) (N m : ℕ) (f : Form) (x : ValueRead) (t mid u : Tables) (w : Words) (s : State3) (fs front back : List Field) → form_of m ≡ f → Like g t s → AllClean fs → fs ≡ front ++ back → front ≡ marker_field m ∷ [] → mid ≡ t → u ≡ with_words mid w
+    → Runs (behind_marker v N s f) back x → w ≡ x.state.words → x.state.marks ≡ s.marks → FoundBehind g (Marked v N s) fs u
+leaf_step g v N m f x t mid u w s fs front back is like c joined e same after runs words marks =
+    let all : fs ≡ marker_field m ∷ back = joined ∙ ap (λ l. l ++ back) e in
     let d = subst AllClean all c in
     record {
       result = x;
       like = record { words = ap (λ k. k.words) after ∙ words; marks = ap (λ k. markers g k.nodes) after ∙ ap (λ k. markers g k.nodes) same ∙ like.marks ∙ sym marks };
-      runs = subst (λ l. Runs (Marked v N levels s) l x) (sym all)
-          (marker_step levels m (markers g t.nodes) s.marks (λ k. behind_marker v N levels s (form_of k)) back (give x) like.marks d.0 (subst (λ k. Path (behind_marker v N levels s k) back (give x)) (sym is) runs));
+      runs = subst (λ l. Runs (Marked v N s) l x) (sym all)
+          (marker_step m (λ k. behind_marker v N s (form_of k)) back (give x) d.0 (subst (λ k. Path (behind_marker v N s k) back (give x)) (sym is) runs));
     }
 
-leaf_complete : (g : Graph) (I : ℕ → Spelling Tables) (v : Reader) (N levels : ℕ) (x : Leaf) (t : Tables) (fs : List Field) (u : Tables) (s : State3) → AllClean fs → Like g t s → ValueBy I free levels g (leaf x) t fs u → FoundBehind g (Marked v N levels s) fs u
-leaf_complete g I v N levels graph.undefined t fs u s c like p =
+leaf_complete : (g : Graph) (I : ℕ → Spelling Tables) (v : Reader) (N : ℕ) (x : Leaf) (t : Tables) (fs : List Field) (u : Tables) (s : State3) → AllClean fs → Like g t s → ValueBy I free g (leaf x) t fs u → FoundBehind g (Marked v N s) fs u
+leaf_complete g I v N graph.undefined t fs u s c like p =
     let q = p.1 in
-    leaf_step g v N levels 0 undefined (read Undefined s) t q.mid u q.second.0 s fs q.front q.back refl like c q.joined q.first.0 q.first.1 q.second.2 (subst (λ l. Runs (give (read Undefined s)) l (read Undefined s)) (sym q.second.1.0) refl) (q.second.1.1 ∙ ap (λ k. k.words) q.first.1 ∙ like.words) refl
-leaf_complete g I v N levels graph.null t fs u s c like p =
+    leaf_step g v N 0 undefined (read Undefined s) t q.mid u q.second.0 s fs q.front q.back refl like c q.joined q.first.0 q.first.1 q.second.2 (subst (λ l. Runs (give (read Undefined s)) l (read Undefined s)) (sym q.second.1.0) refl) (q.second.1.1 ∙ ap (λ k. k.words) q.first.1 ∙ like.words) refl
+leaf_complete g I v N graph.null t fs u s c like p =
     let q = p.1 in
-    leaf_step g v N levels 1 null (read Null s) t q.mid u q.second.0 s fs q.front q.back refl like c q.joined q.first.0 q.first.1 q.second.2 (subst (λ l. Runs (give (read Null s)) l (read Null s)) (sym q.second.1.0) refl) (q.second.1.1 ∙ ap (λ k. k.words) q.first.1 ∙ like.words) refl
-leaf_complete g I v N levels (graph.boolean false) t fs u s c like p =
+    leaf_step g v N 1 null (read Null s) t q.mid u q.second.0 s fs q.front q.back refl like c q.joined q.first.0 q.first.1 q.second.2 (subst (λ l. Runs (give (read Null s)) l (read Null s)) (sym q.second.1.0) refl) (q.second.1.1 ∙ ap (λ k. k.words) q.first.1 ∙ like.words) refl
+leaf_complete g I v N (graph.boolean false) t fs u s c like p =
     let q = p.1 in
-    leaf_step g v N levels 2 untrue (read (Flag false) s) t q.mid u q.second.0 s fs q.front q.back refl like c q.joined q.first.0 q.first.1 q.second.2 (subst (λ l. Runs (give (read (Flag false) s)) l (read (Flag false) s)) (sym q.second.1.0) refl) (q.second.1.1 ∙ ap (λ k. k.words) q.first.1 ∙ like.words) refl
-leaf_complete g I v N levels (graph.boolean true) t fs u s c like p =
+    leaf_step g v N 2 untrue (read (Flag false) s) t q.mid u q.second.0 s fs q.front q.back refl like c q.joined q.first.0 q.first.1 q.second.2 (subst (λ l. Runs (give (read (Flag false) s)) l (read (Flag false) s)) (sym q.second.1.0) refl) (q.second.1.1 ∙ ap (λ k. k.words) q.first.1 ∙ like.words) refl
+leaf_complete g I v N (graph.boolean true) t fs u s c like p =
     let q = p.1 in
-    leaf_step g v N levels 3 true_ (read (Flag true) s) t q.mid u q.second.0 s fs q.front q.back refl like c q.joined q.first.0 q.first.1 q.second.2 (subst (λ l. Runs (give (read (Flag true) s)) l (read (Flag true) s)) (sym q.second.1.0) refl) (q.second.1.1 ∙ ap (λ k. k.words) q.first.1 ∙ like.words) refl
-leaf_complete g I v N levels (graph.integer k) t fs u s c like p =
+    leaf_step g v N 3 true_ (read (Flag true) s) t q.mid u q.second.0 s fs q.front q.back refl like c q.joined q.first.0 q.first.1 q.second.2 (subst (λ l. Runs (give (read (Flag true) s)) l (read (Flag true) s)) (sym q.second.1.0) refl) (q.second.1.1 ∙ ap (λ k. k.words) q.first.1 ∙ like.words) refl
+leaf_complete g I v N (graph.integer k) t fs u s c like p =
     let q = p.1 in
     let d = clean_parts fs q.front q.back q.joined c in
     let digits = q.second.1.0 in
     let r = read (Integer (integer_of (u29_value digits))) s in
-    leaf_step g v N levels 4 integer r t q.mid u q.second.0 s fs q.front q.back refl like c q.joined q.first.0 q.first.1 q.second.2
-    (subst (λ l. Runs (behind_marker v N levels s integer) l r) (sym q.second.1.2) (takes (u29_kind no_refusal) digits (subst AllClean q.second.1.2 d.1).0, refl)) (q.second.1.3 ∙ ap (λ k. k.words) q.first.1 ∙ like.words) refl
-leaf_complete g I v N levels (graph.double k) t fs u s c like p =
+    leaf_step g v N 4 integer r t q.mid u q.second.0 s fs q.front q.back refl like c q.joined q.first.0 q.first.1 q.second.2
+    (subst (λ l. Runs (behind_marker v N s integer) l r) (sym q.second.1.2) (takes (u29_kind no_refusal) digits (subst AllClean q.second.1.2 d.1).0, refl)) (q.second.1.3 ∙ ap (λ k. k.words) q.first.1 ∙ like.words) refl
+leaf_complete g I v N (graph.double k) t fs u s c like p =
     let q = p.1 in
     let d = clean_parts fs q.front q.back q.joined c in
     let r = read (Double (record { 0 = from_be_bytes w64 (to_be_bytes w64 k) })) s in
-    leaf_step g v N levels 5 double r t q.mid u q.second.0 s fs q.front q.back refl like c q.joined q.first.0 q.first.1 q.second.2
-    (subst (λ l. Runs (behind_marker v N levels s double) l r) (sym q.second.1.0) (takes (raw_kind 8) (to_be_bytes w64 k) (subst AllClean q.second.1.0 d.1).0, refl)) (q.second.1.1 ∙ ap (λ k. k.words) q.first.1 ∙ like.words) refl
-leaf_complete g I v N levels (graph.text x) t fs u s c like p =
+    leaf_step g v N 5 double r t q.mid u q.second.0 s fs q.front q.back refl like c q.joined q.first.0 q.first.1 q.second.2
+    (subst (λ l. Runs (behind_marker v N s double) l r) (sym q.second.1.0) (takes (raw_kind 8) (to_be_bytes w64 k) (subst AllClean q.second.1.0 d.1).0, refl)) (q.second.1.1 ∙ ap (λ k. k.words) q.first.1 ∙ like.words) refl
+leaf_complete g I v N (graph.text x) t fs u s c like p =
     let q = p.1 in
     let d = clean_parts fs q.front q.back q.joined c in
     let one = text_complete (text_header_refusal (length s.words.texts)) text_kind s x q.back q.second.0 d.1 (subst (λ w. Text free x w q.back q.second.0) (ap (λ k. k.words) q.first.1 ∙ like.words) q.second.1) in
     let r = read (TextRef (record { 0 = one.read.id })) one.read.state in
-    leaf_step g v N levels 6 text r t q.mid u q.second.0 s fs q.front q.back refl like c q.joined q.first.0 q.first.1 q.second.2
-    (subst (λ l. Runs (behind_marker v N levels s text) l r) (append-nil q.back) (runs_bind (text_layout s) (λ y. give (read (TextRef (record { 0 = y.id })) y.state)) q.back [] one.read (give r) one.runs refl)) one.after one.marks
+    leaf_step g v N 6 text r t q.mid u q.second.0 s fs q.front q.back refl like c q.joined q.first.0 q.first.1 q.second.2
+    (subst (λ l. Runs (behind_marker v N s text) l r) (append-nil q.back) (runs_bind (text_layout s) (λ y. give (read (TextRef (record { 0 = y.id })) y.state)) q.back [] one.read (give r) one.runs refl)) one.after one.marks
 
-value_by : (g : Graph) (N levels : ℕ) → ((d : ℕ) → Finds g (Spells3 d free g) (value_layout N d) N) → (x : Value) (t : Tables) (fs : List Field) (u : Tables) (s : State3) → AllClean fs → Like g t s → length (flat fs) < suc N → Spells3 levels free g x t fs u
-    → FoundBehind g (Marked (value_layout N (levels - 1)) N levels s) fs u
-value_by g N levels h (leaf x) t fs u s c like lt p = leaf_complete g (InlineIn levels free g) (value_layout N (levels - 1)) N levels x t fs u s c like p
-value_by g N levels h (node_value i) t fs u s c like lt (inl p) = named_complete g (value_layout N (levels - 1)) N levels i t fs u s c like p
+value_by : (g : Graph) (N height : ℕ) → ((k : ℕ) → Finds g (SpellsIn k free g) (value_layout N) N) → (x : Value) (t : Tables) (fs : List Field) (u : Tables) (s : State3) → AllClean fs → Like g t s → length (flat fs) < suc N → SpellsIn height free g x t fs u
+    → FoundBehind g (Marked (value_layout N) N s) fs u
+value_by g N height h (leaf x) t fs u s c like lt p = leaf_complete g (InlineIn height free g) (value_layout N) N x t fs u s c like p
+value_by g N height h (node_value i) t fs u s c like lt (inl p) = named_complete g (value_layout N) N i t fs u s c like p
 value_by g N zero h (node_value i) t fs u s c like lt (inr p) = absurd p
-value_by g N (suc d) h (node_value i) t fs u s c like lt (inr p) =
-    let e : d ≡ suc d - 1 = omega arith in
-    subst (λ j. FoundBehind g (Marked (value_layout N j) N (suc d) s) fs u) e (begun_complete g (Spells3 d free g) (value_layout N d) N (suc d) i (h d) t fs u s c like lt p)
+value_by g N (suc k) h (node_value i) t fs u s c like lt (inr p) = begun_complete g (SpellsIn k free g) (value_layout N) N i (h k) t fs u s c like lt p
 
-found : (g : Graph) (N levels : ℕ) (s : State3) (fs : List Field) (u : Tables) → FoundBehind g (Marked (value_layout N (levels - 1)) N levels s) fs u → Found g (value_layout (suc N) levels) s fs u
-found g N levels s fs u p = record { result = p.result; runs = p.runs; like = p.like }
+found : (g : Graph) (N : ℕ) (s : State3) (fs : List Field) (u : Tables) → FoundBehind g (Marked (value_layout N) N s) fs u → Found g (value_layout (suc N)) s fs u
+found g N s fs u p = record { result = p.result; runs = p.runs; like = p.like }
 
-pub value_complete : (g : Graph) (n levels : ℕ) → Finds g (Spells3 levels free g) (value_layout n levels) n
-value_complete g zero levels x t fs u s c like lt p = absurd (omega arith)
-value_complete g (suc N) levels x t fs u s c like lt p = found g N levels s fs u (value_by g N levels (λ d. value_complete g N d) x t fs u s c like lt p)
+-- in a spelling of any height, with more fuel than bytes
+pub value_complete : (g : Graph) (n height : ℕ) → Finds g (SpellsIn height free g) (value_layout n) n
+value_complete g zero height x t fs u s c like lt p = absurd (omega arith)
+value_complete g (suc N) height x t fs u s c like lt p = found g N s fs u (value_by g N height (λ k. value_complete g N k) x t fs u s c like lt p)
 
 -- with clean fields, as all fields of spellings are
-pub spelled_read : (g : Graph) (n levels : ℕ) (x : Value) (t : Tables) (fs : List Field) (u : Tables) (s : State3) → Like g t s → length (flat fs) < n → Spells3 levels free g x t fs u → Found g (value_layout n levels) s fs u
-spelled_read g n levels x t fs u s like lt p = value_complete g n levels x t fs u s (clean3 levels free g x t fs u p) like lt p
+pub spelled_read : (g : Graph) (n : ℕ) (x : Value) (t : Tables) (fs : List Field) (u : Tables) (s : State3) → Like g t s → length (flat fs) < n → Spells3 free g x t fs u → Found g (value_layout n) s fs u
+spelled_read g n x t fs u s like lt p = value_complete g n p.0 x t fs u s (clean3 free g x t fs u p) like lt p.1

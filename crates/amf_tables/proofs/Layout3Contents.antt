@@ -206,7 +206,7 @@ tables_more a b t l all v = record {
 }
 
 -- a text in the arena
-text_larger : (a : Arena) (x : List ℕ) → Larger a (kept_text a x)
+pub text_larger : (a : Arena) (x : List ℕ) → Larger a (kept_text a x)
 text_larger a x = record { more_texts = x ∷ []; texts = refl; more_traits = []; traits = sym (append-nil a.traits); nodes = omega arith }
 
 kept_with_text : (a : Arena) (x : List ℕ) → IsText x → Kept a → Kept (kept_text a x)
@@ -265,7 +265,7 @@ before_or_last (y ∷ xs) n (suc j) x e = later (before_or_last xs n j x e)
     later (inl h) = inl h
     later (inr h) = inr (ap suc h.0, h.1)
 
-distinct_more : (xs : List ℕ) (n : ℕ) → IsDistinct xs → AllByRecursion (λ i. i < n) xs → IsDistinct (xs ++ n ∷ [])
+pub distinct_more : (xs : List ℕ) (n : ℕ) → IsDistinct xs → AllByRecursion (λ i. i < n) xs → IsDistinct (xs ++ n ∷ [])
 distinct_more xs n d below j k x e h = by (before_or_last xs n j x e) (before_or_last xs n k x h)
   where
     by : (slice_get xs j ≡ Some x) ⊎ ((j ≡ length xs) × (x ≡ n)) → (slice_get xs k ≡ Some x) ⊎ ((k ≡ length xs) × (x ≡ n)) → j ≡ k
@@ -274,7 +274,7 @@ distinct_more xs n d below j k x e h = by (before_or_last xs n j x e) (before_or
     by (inr a) (inl b) = let lt = all_place (λ i. i < n) xs k x below b in let e = a.1 in absurd (omega arith)
     by (inr a) (inr b) = a.0 ∙ sym b.0
 
-marks_more : (a b : Arena) (q : StoredNode) (ids : List ℕ) → b.nodes ≡ a.nodes ++ q ∷ [] → AllByRecursion (λ i. i < length a.nodes) ids → marks_of b ids ≡ marks_of a ids
+pub marks_more : (a b : Arena) (q : StoredNode) (ids : List ℕ) → b.nodes ≡ a.nodes ++ q ∷ [] → AllByRecursion (λ i. i < length a.nodes) ids → marks_of b ids ≡ marks_of a ids
 marks_more a b q [] e h = refl
 marks_more a b q (i ∷ ids) e h =
     ap (λ m. m ∷ marks_of b ids) (ap (λ l. stored_marker (get_or l i no_stored).head) e ∙ ap (λ (n : StoredNode). stored_marker n.head) (get_or_append_left a.nodes (q ∷ []) no_stored i h.0)) ∙ ap (λ l. stored_marker (stored_at a i).head ∷ l) (marks_more a b q ids e h.1)

@@ -115,19 +115,35 @@ all_back : (b : Arena) (xs ys : List StoredNode) → AllByRecursion (KeptNode b)
 all_back b [] ys h = h
 all_back b (x ∷ xs) ys h = all_back b xs ys h.1
 
-pub reading : (n levels : ℕ) (a : Arena) (t : KeptTables) (fs : List Field) (x : ValueRead) → IsBuilt a → AreTablesIn a t → AreBytes (flat fs) → Runs (value_layout n levels (state_of a t)) fs x → IsReading3 levels a t fs
-reading n levels a t fs x b v h r =
-    let z = value_sound n levels (state_of a t) fs x (good_start a t b v) h r in
-    let c = x.state.arena in
-    let all : AllByRecursion (Fillable c) c.nodes = subst (AllByRecursion (Fillable c)) (sym z.nodes) (all_append (Fillable c) a.nodes z.more (all_more (IsNodeIn a) (Fillable c) a.nodes (may_fit a c z.larger b.traits) b.nodes)
-    (closed_fillable c z.more (all_back c a.nodes z.more (subst (AllByRecursion (KeptNode c)) z.nodes z.good.kept.nodes)) z.closed)) in
-    let f = finished c z.good.kept all in
-    let whole : Completes c (filled c) = record { finished = f; more_texts = []; texts = sym (append-nil c.texts); more_traits = []; traits = sym (append-nil c.traits); nodes = subst (λ l. NodesComplete c.nodes (map (λ n. filled_by n.is_open c n) l)) (append-nil c.nodes) (filled_complete c c.nodes []) } in
+-- a finished graph that completes what is there afterwards, and so what was there before
+pub record Filling (a c : Arena) : Type 0 where
+  pub graph : Arena
+  pub larger : Larger c graph
+  pub after : Completes c graph
+  pub before : Completes a graph
+
+pub filling : (a c : Arena) (more : List StoredNode) → IsBuilt a → Kept c → Larger a c → c.nodes ≡ a.nodes ++ more → AllByRecursion (λ n. n.is_open ≡ false) more → Filling a c
+filling a c more b k l nodes closed =
+    let all : AllByRecursion (Fillable c) c.nodes = subst (AllByRecursion (Fillable c)) (sym nodes) (all_append (Fillable c) a.nodes more (all_more (IsNodeIn a) (Fillable c) a.nodes (may_fit a c l b.traits) b.nodes)
+    (closed_fillable c more (all_back c a.nodes more (subst (AllByRecursion (KeptNode c)) nodes k.nodes)) closed)) in
+    let f = finished c k all in
     record {
       graph = filled c;
+      larger = larger c k.traits;
+      after = record { finished = f; more_texts = []; texts = sym (append-nil c.texts); more_traits = []; traits = sym (append-nil c.traits); nodes = subst (λ l. NodesComplete c.nodes (map (λ n. filled_by n.is_open c n) l)) (append-nil c.nodes) (filled_complete c c.nodes []) };
+      before = record { finished = f; more_texts = l.more_texts; texts = l.texts; more_traits = l.more_traits; traits = l.traits; nodes = subst (λ l. NodesComplete a.nodes (map (λ n. filled_by n.is_open c n) l)) (sym nodes) (filled_complete c a.nodes more) };
+    }
+
+pub reading : (n : ℕ) (a : Arena) (t : KeptTables) (fs : List Field) (x : ValueRead) → IsBuilt a → AreTablesIn a t → AreBytes (flat fs) → Runs (value_layout n (state_of a t)) fs x → IsReading3 a t fs
+reading n a t fs x b v h r =
+    let z = value_sound n (state_of a t) fs x (good_start a t b v) h r in
+    let c = x.state.arena in
+    let w = filling a c z.more b z.good.kept z.larger z.nodes z.closed in
+    record {
+      graph = w.graph;
       value = x.value;
       after = tables_of c x.state.tables;
-      names = names_more c (filled c) (larger c z.good.kept.traits) x.value z.named;
-      completes = record { finished = f; more_texts = z.larger.more_texts; texts = z.larger.texts; more_traits = z.larger.more_traits; traits = z.larger.traits; nodes = subst (λ l. NodesComplete a.nodes (map (λ n. filled_by n.is_open c n) l)) (sym z.nodes) (filled_complete c a.nodes z.more) };
-      spelled = (reads n levels a t fs x b v h r).spelled (filled c) whole;
+      names = names_more c w.graph w.larger x.value z.named;
+      completes = w.before;
+      spelled = (reads n a t fs x b v h r).spelled w.graph w.after;
     }

@@ -1,14 +1,14 @@
 -- Each kind of field of AMF 3 can be filled in, and so can what stands behind it.
-use Rattle.std.proofs.Common.{◌≡◌, ℕ, zero, suc, ◌+◌, ◌-◌, ◌^◌, ◌≤◌, ◌<◌, Bool, true, false, cond, eqb, ◌||◌, List, [], ◌∷◌, length, Option, Some, None, refl, sym, ap, ◌∙◌, arith, subst}
+use Rattle.std.proofs.Common.{◌≡◌, ℕ, zero, suc, Bool, true, false, cond, eqb, ◌||◌, List, [], ◌∷◌, length, Option, Some, None, refl, sym, ap, ◌∙◌, arith, subst}
 use Rattle.std.proofs.lemmas.Bool.{le-leb, eqb-true}
 use Rattle.amf_wire.specs.U29.{SpellsU29, one, two, three, four}
 use Rattle.amf_wire.specs.Text.{is_text}
 use Rattle.amf_wire.proofs.U29Fields.{IsOneField, one_field}
 use Rattle.amf_io.specs.declared.reason.Reason.{Reason}
 use Rattle.amf_io.specs.declared.reason.Reason.TheVariants.{BadText}
-use Rattle.amf_io.specs.Field.{Kind, Field, field, fixed, whole, AreBytes, raw_kind, text_kind, u29_kind}
-use Rattle.amf_io.specs.Layout.{Layout, give, want, bind, Runs, Able}
-use Rattle.amf_io.proofs.Ables.{AbleIn, in_give, in_bind, in_want, in_start, start_bind}
+use Rattle.amf_io.specs.Field.{Kind, field, fixed, whole, AreBytes, raw_kind, text_kind, u29_kind}
+use Rattle.amf_io.specs.Layout.{Layout, give, want}
+use Rattle.amf_io.proofs.Ables.{AbleWithin, able_none, able_give, able_want}
 use Rattle.amf_graph.specs.declared.wrapped.Wrapped.TheVariants.{ArrayCollection, ArrayList, ObjectProxy}
 use Rattle.amf_graph.specs.Graph.{class_name}
 use Rattle.amf_tables.specs.Refusals3.{is_served_length, class_kind}
@@ -78,69 +78,13 @@ served_name n e = at_first (eqb 33 n) refl e
 pub class_filled : (n j : ℕ) → n ≡ suc j → is_served_length n ≡ true → Filled (class_kind (suc j))
 class_filled n j e h = subst (λ m. Filled (class_kind m)) e (served_name n h)
 
--- so many nodes can be named by a header
-abbrev pub most : ℕ
-most = 2 ^ 28
-
--- what is read in fewer than N bytes, from a size of at most m on, can be completed
-abbrev pub Ready : {X : Type 0} → ℕ → (X → ℕ) → ℕ → Layout X → Type 0
-Ready N size c t = (n m : ℕ) → n ≤ N → m + n ≤ most → c ≤ m → AbleIn size n m t
-
-pub ready_give : {X : Type 0} (N : ℕ) (size : X → ℕ) (c : ℕ) (x : X) → size x ≤ c → Ready N size c (give x)
-ready_give N size c x h n m few up le = in_give size n m x (omega arith)
-
-pub ready_cond : {X : Type 0} (N : ℕ) (size : X → ℕ) (c : ℕ) (b : Bool) (t u : Layout X) → (b ≡ true → Ready N size c t) → (b ≡ false → Ready N size c u) → Ready N size c (cond b t u)
-ready_cond N size c true t u f g = f refl
-ready_cond N size c false t u f g = g refl
-
-pub ready_none : {X : Type 0} (size : X → ℕ) (c : ℕ) (t : Layout X) → Ready 0 size c t
-ready_none size c t n m few up le fs u p lt = absurd (omega arith)
-
-pub ready_less : {X : Type 0} (N M : ℕ) (size : X → ℕ) (c d : ℕ) (t : Layout X) → M ≤ N → c ≤ d → Ready N size c t → Ready M size d t
-ready_less N M size c d t h k a n m few up le = a n m (omega arith) up (omega arith)
-
--- at the start
-pub ready_start : {X : Type 0} (N : ℕ) (size : X → ℕ) (c m : ℕ) (t : Layout X) → 0 < N → m + 1 ≤ most → c ≤ m → Ready N size c t → (a : Able t) × (size a.value ≤ m)
-ready_start N size c m t some up le a = in_start size 1 m t (omega arith) (a 1 m (omega arith) up le)
-
--- the same with one more
-pub ready_plus : {X : Type 0} (N : ℕ) (size : X → ℕ) (c : ℕ) (t : Layout X) → Ready N size c t → Ready N (λ x. size x + 1) (c + 1) t
-ready_plus N size c t a n m few up le fs u p lt = let b = a n (m - 1) few (omega arith) (omega arith) fs u p lt in let q = b.1 in (b.0, omega arith)
-
 -- a field
-pub ready_want : {X : Type 0} (N : ℕ) (size : X → ℕ) (c : ℕ) (k : Kind) (next : List ℕ → Layout X) → Filled k → ((b : List ℕ) → whole k.size b ≡ Some (length b) → k.refusal b ≡ None → Ready N size c (next b)) → Ready N size c (want k next)
-ready_want N size c k next f h zero m few up le = λ fs u p lt. absurd (omega arith)
-ready_want N size c k next f h (suc n) m few up le =
-    let a = ready_start N size c m (next f.bytes) (omega arith) (omega arith) le (h f.bytes f.is_whole f.clean) in
-    in_want size (suc n) m k next (field k f.bytes) (record { is_kind = refl; is_whole = f.is_whole; clean = f.clean }) f.are_bytes a.0 a.1
-    (λ b w ok lt. h b w ok (suc n - length b) (m + length b) (omega arith) (omega arith) (omega arith))
-
-give_size : {X : Type 0} (size : X → ℕ) (c : ℕ) (t : Layout X) (x : X) → ((a : Able t) × (size a.value ≤ c)) → t ≡ give x → size x ≤ c
-give_size size c t x a e = go a.0.more a.0.value (subst (λ u. Runs u a.0.more a.0.value) e a.0.runs) a.1
-  where
-    go : (more : List Field) (y : _) → Runs (give x) more y → size y ≤ c → size x ≤ c
-    go [] y r le = let q : x ≡ y = cc in subst (λ z. size z ≤ c) (sym q) le
-    go (f ∷ fs) y r le = absurd r
-
--- one layout and then another
-pub ready_bind : {X Y : Type 0} (N : ℕ) (size : X → ℕ) (size' : Y → ℕ) (c : ℕ) (t : Layout X) (g : X → Layout Y) → Ready N size c t → ((x : X) → Ready N size' (size x) (g x)) → Ready N size' c (bind t g)
-ready_bind N size size' c t g a h zero m few up le = λ fs u p lt. absurd (omega arith)
-ready_bind N size size' c t g a h (suc n) m few up le =
-    let s = ready_start N size c m t (omega arith) (omega arith) le a in
-    in_bind size size' (suc n) m t g (a (suc n) m few up le)
-    (λ some. start_bind size size' m t g s (λ x small. ready_start N size' (size x) m (g x) (omega arith) (omega arith) small (h x)))
-    (λ x e. h x (suc n) m few up (give_size size m t x s e))
-    (λ k x one lt small. h x (suc n - k) (m + k) (omega arith) (omega arith) small)
-
--- the same where the first takes a byte, and the second has less fuel
-pub ready_bind_less : {X Y : Type 0} (N : ℕ) (size : X → ℕ) (size' : Y → ℕ) (c : ℕ) (t : Layout X) (g : X → Layout Y) → Ready (suc N) size c t → ((x : X) → t ≡ give x → ⊥) → ((m : ℕ) → m + 1 ≤ most → c ≤ m → (a : Able (bind t g)) × (size' a.value ≤ m))
-    → ((x : X) → Ready N size' (size x) (g x)) → Ready (suc N) size' c (bind t g)
-ready_bind_less N size size' c t g a never start h zero m few up le = λ fs u p lt. absurd (omega arith)
-ready_bind_less N size size' c t g a never start h (suc n) m few up le =
-    in_bind size size' (suc n) m t g (a (suc n) m few up le) (λ some. start m (omega arith) le) (λ x e. absurd (never x e))
-    (λ k x one lt small. h x (suc n - k) (m + k) (omega arith) (omega arith) small)
+pub able_field : {X : Type 0} (N : ℕ) (k : Kind) (next : List ℕ → Layout X) → Filled k → ((b : List ℕ) → whole k.size b ≡ Some (length b) → k.refusal b ≡ None → AbleWithin N (next b)) → AbleWithin N (want k next)
+able_field zero k next f h = able_none (want k next)
+able_field (suc N) k next f h =
+    able_want (suc N) (suc N) k next (field k f.bytes) (record { is_kind = refl; is_whole = f.is_whole; clean = f.clean }) f.are_bytes (h f.bytes f.is_whole f.clean [] (next f.bytes) refl (omega arith)) h (λ b i w lt. omega arith)
 
 -- so many bytes
-pub ready_chunk : {X : Type 0} (N : ℕ) (size : X → ℕ) (c : ℕ) (kind : ℕ → Kind) (k : ℕ) (f : List ℕ → X) → ((j : ℕ) → k ≡ suc j → Filled (kind (suc j))) → ((x : List ℕ) → size (f x) ≤ c) → Ready N size c (chunk kind k (λ x. give (f x)))
-ready_chunk N size c kind zero f fill h = ready_give N size c (f []) (h [])
-ready_chunk N size c kind (suc k) f fill h = ready_want N size c (kind (suc k)) (λ x. give (f x)) (fill k refl) (λ b w ok. ready_give N size c (f b) (h b))
+pub able_chunk : {X : Type 0} (N : ℕ) (kind : ℕ → Kind) (k : ℕ) (f : List ℕ → X) → ((j : ℕ) → k ≡ suc j → Filled (kind (suc j))) → AbleWithin N (chunk kind k (λ x. give (f x)))
+able_chunk N kind zero f fill = able_give N (f [])
+able_chunk N kind (suc k) f fill = able_field N (kind (suc k)) (λ x. give (f x)) (fill k refl) (λ b w ok. able_give N (f b))

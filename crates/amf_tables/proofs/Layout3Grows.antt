@@ -1,5 +1,5 @@
 -- More fuel reads the same value of AMF 3.
-use Rattle.std.proofs.Common.{ℕ, zero, suc, ◌-◌, ◌/◌, ◌%◌, ◌≤◌, Bool, cond, eqb, length, slice_index, refl, arith}
+use Rattle.std.proofs.Common.{ℕ, zero, suc, ◌/◌, ◌%◌, ◌≤◌, Bool, cond, eqb, length, slice_index, refl, arith}
 use Rattle.amf_wire.specs.U29.{u29_value}
 use Rattle.amf_io.specs.Layout.{Layout, give, bind, Extends}
 use Rattle.amf_io.proofs.Paths.{extends_bind, extends_same}
@@ -63,8 +63,8 @@ parts_grow t u f h o le g =
     (λ s. extends_bind (items_of o.twins t id o.count s) (items_of o.twins u id o.count s) (behind_items t f id o.last) (behind_items u h id o.last) (items_of_grow o.twins t u id o.count s g)
     (λ z. extends_bind (pairs_if o.last t f id z) (pairs_if o.last u h id z) (ending id) (ending id) (pairs_if_grow o.last t u f h id z le g) (λ y. refl)))
 
-node_grow : (t u : Reader) (f h d : ℕ) (k : NodeForm) (s : State3) → f ≤ h → Grow t u → Extends (node_layout t f d k s) (node_layout u h d k s)
-node_grow t u f h d k s le g = (
+node_grow : (t u : Reader) (f h : ℕ) (k : NodeForm) (s : State3) → f ≤ h → Grow t u → Extends (node_layout t f k s) (node_layout u h k s)
+node_grow t u f h k s le g = (
   refl,
   λ b.
       let m = u29_value b in
@@ -72,17 +72,17 @@ node_grow t u f h d k s le g = (
       (extends_bind (opening k m s) (opening k m s) (parts t f) (parts u h) (extends_same (opening k m s)) (λ o. parts_grow t u f h o le g)),
 )
 
-marker_grow : (t u : Reader) (f h d : ℕ) (s : State3) (m : Form) → f ≤ h → Grow t u → Extends (behind_marker t f d s m) (behind_marker u h d s m)
-marker_grow t u f h d s undefined le g = refl
-marker_grow t u f h d s null le g = refl
-marker_grow t u f h d s untrue le g = refl
-marker_grow t u f h d s true_ le g = refl
-marker_grow t u f h d s integer le g = extends_same (behind_marker t f d s integer)
-marker_grow t u f h d s double le g = extends_same (behind_marker t f d s double)
-marker_grow t u f h d s text le g = extends_same (behind_marker t f d s text)
-marker_grow t u f h d s (node k) le g = node_grow t u f h d k s le g
+marker_grow : (t u : Reader) (f h : ℕ) (s : State3) (m : Form) → f ≤ h → Grow t u → Extends (behind_marker t f s m) (behind_marker u h s m)
+marker_grow t u f h s undefined le g = refl
+marker_grow t u f h s null le g = refl
+marker_grow t u f h s untrue le g = refl
+marker_grow t u f h s true_ le g = refl
+marker_grow t u f h s integer le g = extends_same (behind_marker t f s integer)
+marker_grow t u f h s double le g = extends_same (behind_marker t f s double)
+marker_grow t u f h s text le g = extends_same (behind_marker t f s text)
+marker_grow t u f h s (node k) le g = node_grow t u f h k s le g
 
-pub value_grows : (n m d : ℕ) → n ≤ m → Grow (value_layout n d) (value_layout m d)
-value_grows zero m d le s = tt
-value_grows (suc n) zero d le s = absurd (omega arith)
-value_grows (suc n) (suc m) d le s = (refl, λ b. marker_grow (value_layout n (d - 1)) (value_layout m (d - 1)) n m d s (form_of (slice_index b 0)) (omega arith) (value_grows n m (d - 1) (omega arith)))
+pub value_grows : (n m : ℕ) → n ≤ m → Grow (value_layout n) (value_layout m)
+value_grows zero m le s = tt
+value_grows (suc n) zero le s = absurd (omega arith)
+value_grows (suc n) (suc m) le s = (refl, λ b. marker_grow (value_layout n) (value_layout m) n m s (form_of (slice_index b 0)) (omega arith) (value_grows n m (omega arith)))

@@ -8,11 +8,11 @@ use Rattle.amf_graph.specs.Arena.{StoredNode, Arena, MayFit, IsTraitsIn, IsNodeI
 use Rattle.amf_tables.specs.Tables.{Tables}
 use Rattle.amf_tables.specs.KeptTables.{KeptTables, AreTablesIn, tables_of, below}
 use Rattle.amf_tables.specs.Reads3.{IsRead3}
-use Rattle.amf_tables.specs.Spells3.{Spells3}
+use Rattle.amf_tables.specs.Spells3.{SpellsIn}
 use Rattle.amf_wire.specs.Style.{free}
 use Rattle.amf_tables.specs.Layout3State.{state_of}
 use Rattle.amf_tables.specs.Layout3.{ValueRead, value_layout}
-use Rattle.amf_tables.proofs.Layout3Contents.{all_more, Larger, head_kept, pairs_kept, values_kept, KeptNode, Good}
+use Rattle.amf_tables.proofs.Layout3Contents.{all_more, Larger, head_kept, pairs_kept, values_kept, KeptNode, Kept, Good}
 use Rattle.amf_tables.proofs.Layout3SoundParts.{AllClosed}
 use Rattle.amf_tables.proofs.Layout3Sound.{value_sound}
 
@@ -40,13 +40,17 @@ nodes_in a b l all [] [] h c k = k
 nodes_in a b l all [] (n ∷ more) h c k = (node_closed b n c.0 k.0, nodes_in a b l all [] more h c.1 k.1)
 nodes_in a b l all (n ∷ old) more h c k = (node_there a b l all n h.0 k.0, nodes_in a b l all old more h.1 c k.1)
 
-pub reads : (n levels : ℕ) (a : Arena) (t : KeptTables) (fs : List Field) (x : ValueRead) → IsBuilt a → AreTablesIn a t → AreBytes (flat fs) → Runs (value_layout n levels (state_of a t)) fs x → IsRead3 levels a t fs x.state.arena x.state.tables x.value
-reads n levels a t fs x b v h r =
-    let z = value_sound n levels (state_of a t) fs x (good_start a t b v) h r in
+-- what is there afterwards is a builder's arena again
+pub grown_built : (a b : Arena) (more : List StoredNode) → IsBuilt a → Larger a b → Kept b → b.nodes ≡ a.nodes ++ more → AllClosed more → IsBuilt b
+grown_built a b more o l k nodes closed = record { texts = k.texts; traits = k.traits; nodes = subst (AllByRecursion (IsNodeIn b)) (sym nodes) (nodes_in a b l o.traits a.nodes more o.nodes closed (subst (AllByRecursion (KeptNode b)) nodes k.nodes)) }
+
+pub reads : (n : ℕ) (a : Arena) (t : KeptTables) (fs : List Field) (x : ValueRead) → IsBuilt a → AreTablesIn a t → AreBytes (flat fs) → Runs (value_layout n (state_of a t)) fs x → IsRead3 a t fs x.state.arena x.state.tables x.value
+reads n a t fs x b v h r =
+    let z = value_sound n (state_of a t) fs x (good_start a t b v) h r in
     record {
       grows = record { more_texts = z.larger.more_texts; texts = z.larger.texts; more_traits = z.larger.more_traits; traits = z.larger.traits; more_nodes = z.more; nodes = z.nodes; closed = z.closed };
-      built = λ o. record { texts = z.good.kept.texts; traits = z.good.kept.traits; nodes = subst (AllByRecursion (IsNodeIn x.state.arena)) (sym z.nodes) (nodes_in a x.state.arena z.larger b.traits a.nodes z.more b.nodes z.closed (subst (AllByRecursion (KeptNode x.state.arena)) z.nodes z.good.kept.nodes)) };
+      built = λ o. grown_built a x.state.arena z.more o z.larger z.good.kept z.nodes z.closed;
       value = z.named;
       tables = z.good.tables;
-      spelled = λ g c. subst (λ w. Spells3 levels free (graph_of g x.value) (value_content g x.value) (tables_of a t) fs w) (ap (λ w. let k : Tables = record { words = w; nodes = x.state.tables.nodes; done = below (length x.state.arena.nodes) } in k) z.good.words) (z.spelled g x.value c);
+      spelled = λ g c. (n, subst (λ w. SpellsIn n free (graph_of g x.value) (value_content g x.value) (tables_of a t) fs w) (ap (λ w. let k : Tables = record { words = w; nodes = x.state.tables.nodes; done = below (length x.state.arena.nodes) } in k) z.good.words) (z.spelled g x.value c));
     }

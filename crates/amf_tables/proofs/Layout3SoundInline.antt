@@ -21,7 +21,7 @@ use Rattle.amf_tables.specs.Refusals3.{marker}
 use Rattle.amf_tables.specs.Parts3.{Parts, Lifted, layout}
 use Rattle.amf_tables.specs.Headers3.{HeaderBy, marker_field, header_field}
 use Rattle.amf_tables.specs.Nodes3.{Begun}
-use Rattle.amf_tables.specs.Spells3.{Spells3}
+use Rattle.amf_tables.specs.Spells3.{SpellsIn}
 use Rattle.amf_tables.specs.Layout3State.{State3, with_node, begun, takes_parts, changed}
 use Rattle.amf_tables.specs.Layout3.{NodeForm, object, node_marker, opening, ValueRead, parts, inline_node}
 use Rattle.amf_tables.proofs.Layout3Parts.{behind}
@@ -32,7 +32,7 @@ use Rattle.amf_tables.proofs.Layout3SoundParts.{Reader, Spell, table, AllClosed,
 use Rattle.amf_tables.proofs.Layout3SoundNodes.{parts_sound}
 
 abbrev pub spell3 : ℕ → Spell
-spell3 levels g r = Spells3 levels free (graph_of g r)
+spell3 n g r = SpellsIn n free (graph_of g r)
 
 no_spelling : Value → Spelling Tables
 no_spelling v t fs u = ⊥
@@ -42,25 +42,25 @@ record At (g : Arena) (i : ℕ) (n : StoredNode) : Type 0 where
   pub below : i < length g.nodes
   pub is : get_or g.nodes i no_stored ≡ n
 
-closed_at : (g : Arena) (pre post gs : List StoredNode) (n : StoredNode) → n.is_open ≡ false → NodesComplete (pre ++ n ∷ post) gs → (length pre < length gs) × (get_or gs (length pre) no_stored ≡ n)
+pub closed_at : (g : Arena) (pre post gs : List StoredNode) (n : StoredNode) → n.is_open ≡ false → NodesComplete (pre ++ n ∷ post) gs → (length pre < length gs) × (get_or gs (length pre) no_stored ≡ n)
 closed_at g [] post [] n o h = absurd h
 closed_at g [] post (m ∷ gs) n o h = (omega arith, subst (λ b. cond b (Extends n m) (m ≡ n)) o h.0)
 closed_at g (p ∷ pre) post [] n o h = absurd h
 closed_at g (p ∷ pre) post (m ∷ gs) n o h = let r = closed_at g pre post gs n o h.1 in let lt = r.0 in (omega arith, r.1)
 
-shut_completes : (q : StoredNode) → NodeCompletes q (shut q)
+pub shut_completes : (q : StoredNode) → NodeCompletes q (shut q)
 shut_completes q = by q.is_open refl
   where
     by : (b : Bool) → q.is_open ≡ b → cond b (Extends q (shut q)) (shut q ≡ q)
     by true e = (refl, ([], sym (append-nil q.names)), ([], sym (append-nil q.values)))
     by false e = ap (λ b. let n : StoredNode = record { is_open = b; head = q.head; names = q.names; values = q.values } in n) (sym e)
 
-content_at : (g : Arena) (ns : List StoredNode) (i : ℕ) → i < length ns → get_or (map (node_content g) ns) i no_node ≡ node_content g (get_or ns i no_stored)
+pub content_at : (g : Arena) (ns : List StoredNode) (i : ℕ) → i < length ns → get_or (map (node_content g) ns) i no_node ≡ node_content g (get_or ns i no_stored)
 content_at g [] i lt = absurd (omega arith)
 content_at g (n ∷ ns) zero lt = refl
 content_at g (n ∷ ns) (suc i) lt = content_at g ns i (omega arith)
 
-absent_below : (n m : ℕ) → n ≤ m → Absent (below n) m
+pub absent_below : (n m : ℕ) → n ≤ m → Absent (below n) m
 absent_below zero m le k e = cc
 absent_below (suc n) m le k e = later n m k (omega arith) e (absent_below n m (omega arith))
   where
@@ -74,7 +74,7 @@ absent_below (suc n) m le k e = later n m k (omega arith) e (absent_below n m (o
     later n m k lt e h = in_last (below n) n m k lt h e
 
 -- a node that was read inline
-pub record InlineSound (levels : ℕ) (f : NodeForm) (n : ℕ) (header : List ℕ) (s : State3) (rest : List Field) (x : ValueRead) : Type 0 where
+pub record InlineSound (height : ℕ) (f : NodeForm) (n : ℕ) (header : List ℕ) (s : State3) (rest : List Field) (x : ValueRead) : Type 0 where
   pub good : Good x.state
   pub larger : Larger s.arena x.state.arena
   pub place : ℕ
@@ -84,11 +84,11 @@ pub record InlineSound (levels : ℕ) (f : NodeForm) (n : ℕ) (header : List �
   pub closed : AllClosed more
   pub named : place < length x.state.arena.nodes
   pub spelled : (g : Arena) (r : Stored) → Completes x.state.arena g
-      → Begun (spell3 levels g r) free (suc levels) (graph_of g r) place (table s) (marker_field (suc levels) (graph_of g r) (table s) (node_marker f) ∷ header_field (suc levels) (graph_of g r) (table s) (node_marker f) header ∷ rest) (table x.state)
+      → Begun (spell3 height g r) free (graph_of g r) place (table s) (marker_field (node_marker f) ∷ header_field (graph_of g r) (table s) (node_marker f) header ∷ rest) (table x.state)
 
-pub inline_sound : (levels : ℕ) (v : Reader) (N : ℕ) → Sounds (spell3 levels) v → (f : NodeForm) (n : ℕ) (header : List ℕ) (s : State3) → Good s → SpellsU29 n header → n ≡ 2 * (n / 2) + 1 → eqb (n % 2) 0 ≡ false → (f ≡ object → eqb (n % 4) 1 ≡ true → n / 4 < length s.words.traits)
-    → (rest : List Field) (x : ValueRead) → AreBytes (flat rest) → Runs (inline_node v N f n s) rest x → InlineSound levels f n header s rest x
-inline_sound levels v N h f n header s g spelled odd test place rest x b r =
+pub inline_sound : (height : ℕ) (v : Reader) (N : ℕ) → Sounds (spell3 height) v → (f : NodeForm) (n : ℕ) (header : List ℕ) (s : State3) → Good s → SpellsU29 n header → n ≡ 2 * (n / 2) + 1 → eqb (n % 2) 0 ≡ false → (f ≡ object → eqb (n % 4) 1 ≡ true → n / 4 < length s.words.traits)
+    → (rest : List Field) (x : ValueRead) → AreBytes (flat rest) → Runs (inline_node v N f n s) rest x → InlineSound height f n header s rest x
+inline_sound height v N h f n header s g spelled odd test place rest x b r =
     let a = bind_runs (opening f n s) (parts v N) rest x r in
     let ab = bytes_parts rest a.front a.back a.parts b in
     let o = a.value in
@@ -98,7 +98,7 @@ inline_sound levels v N h f n header s g spelled odd test place rest x b r =
     let z0 = with_node o.state o.head in
     let gz = good_node o.state o.head os.good os.named (λ e. (os.leaf e).0) in
     let to_z0 : Larger o.state.arena z0.arena = larger_itself o.state.arena z0.arena refl refl (omega (arith, length-append pre (begun o.head ∷ []))) in
-    let e = parts_sound (spell3 levels) v N h o a.back x (takes_parts o.head) refl (λ k. (os.leaf k).1) os.once gz ab.1 a.second in
+    let e = parts_sound (spell3 height) v N h o a.back x (takes_parts o.head) refl (λ k. (os.leaf k).1) os.once gz ab.1 a.second in
     let z = e.state in
     let p = e.sound in
     let q = grown (begun o.head) p.names p.values in
@@ -112,7 +112,7 @@ inline_sound levels v N h f n header s g spelled odd test place rest x b r =
     let gw = good_changed z shut i p.good refl (subst (λ k. KeptNode z.arena (shut k)) (sym at) node) in
     let here : w.arena.nodes ≡ pre ++ shut q ∷ p.more = spot_changed shut pre p.more q z p.nodes in
     let to_w : Larger z.arena w.arena = larger_itself z.arena w.arena refl refl (omega (arith, length-set z.arena.nodes i (shut (stored_at z.arena i)))) in
-    subst (λ y. InlineSound levels f n header s rest y) (sym e.is) (record {
+    subst (λ y. InlineSound height f n header s rest y) (sym e.is) (record {
       good = gw;
       larger = larger_twice s.arena o.state.arena w.arena os.larger (larger_twice o.state.arena z.arena w.arena to_z to_w);
       place = i;
@@ -122,7 +122,7 @@ inline_sound levels v N h f n header s g spelled odd test place rest x b r =
       closed = (refl, p.closed);
       named = omega (arith, ap length here, length-append pre (shut q ∷ p.more));
       spelled = λ g2 r2 c.
-          let R = spell3 levels g2 r2 in
+          let R = spell3 height g2 r2 in
           let reach : NodesComplete z.arena.nodes w.arena.nodes = subst (λ l. NodesComplete l w.arena.nodes) (sym p.nodes) (subst (NodesComplete (pre ++ q ∷ p.more)) (ap (λ l. pre ++ shut q ∷ l) (append-nil p.more) ∙ sym here) (nodes_changed pre q (shut q) p.more [] (shut_completes q))) in
           let cz = completes_before z.arena w.arena g2 to_w reach c in
           let ca = closed_at g2 pre p.more g2.nodes (shut q) refl (subst (λ l. NodesComplete l g2.nodes) here c.nodes) in
@@ -154,7 +154,7 @@ inline_sound levels v N h f n header s g spelled odd test place rest x b r =
             header = header;
             spelled = record { spelled = spelled; shortest = tt };
             rest = rest;
-            fields = ap (λ m. marker_field (suc levels) (graph_of g2 r2) (table s) m ∷ header_field (suc levels) (graph_of g2 r2) (table s) m header ∷ rest) (sym mark);
+            fields = ap (λ m. marker_field m ∷ header_field (graph_of g2 r2) (table s) m header ∷ rest) (sym mark);
             behind = subst (λ (k : Node). Then (Lifted (HeaderBy free k.head k.values n)) (Parts R free (layout k.head qs k.values)) (add_node (table s) i) rest (table w)) (sym na) there;
           };
     })

@@ -20,7 +20,7 @@ use Rattle.amf_tables.specs.Layout3Words.{chunk}
 use Rattle.amf_tables.specs.Layout3.{four_layout, eight_layout, many}
 use Rattle.amf_tables.proofs.Layout3SoundTexts.{taken, give_is}
 
-all_below : (bytes : List ℕ) → AreBytes bytes → (i : ℕ) → get_or bytes i 0 < 256
+pub all_below : (bytes : List ℕ) → AreBytes bytes → (i : ℕ) → get_or bytes i 0 < 256
 all_below [] b i = omega arith
 all_below (x ∷ bytes) b zero = b.0
 all_below (x ∷ bytes) b (suc i) = all_below bytes b.1 i

@@ -22,7 +22,8 @@ pub mod SameBytes3
 pub mod Decides3
 pub mod Exists3
 pub mod Ordered3
-pub mod Depths3
+pub mod Heights
+pub mod SpelledNamed
 pub mod LacksAlike
 pub mod FirstLack3
 pub mod Stops3

@@ -37,11 +37,11 @@ name_twice =
     let u : Tables = with_words start a.after in
     let b : Built (Text free (0x61 ∷ [])) u.words = new_text free (0x61 ∷ []) u.words a_is a_text_is tt (omega arith) in
     let w : Tables = with_words u b.after in
-    let x : Built (R no) w = a_leaf I free 0 named_twice (boolean false) w tt (record { fields = []; after = w.words; spelled = (refl, refl) }) in
+    let x : Built (R no) w = a_leaf I free named_twice (boolean false) w tt (record { fields = []; after = w.words; spelled = (refl, refl) }) in
     spelled_by 1 free named_twice (a_node 0 free named_twice 0 no_tables ((0x61 ∷ [], leaf null) ∷ (0x61 ∷ [], leaf (boolean false)) ∷ []) 1 (omega arith) (absent_nil 0) tt refl tt (a_is, (a_is, tt)) (omega arith)
     (both _ _ start (counted free array [] 1 start (refl, (refl, refl)))
     (word_part R free (0x61 ∷ []) (value (leaf null) ∷ word (0x61 ∷ []) ∷ value no ∷ word [] ∷ []) start a
-    (value_part R free (leaf null) (word (0x61 ∷ []) ∷ value no ∷ word [] ∷ []) u (a_null I free 0 named_twice u)
+    (value_part R free (leaf null) (word (0x61 ∷ []) ∷ value no ∷ word [] ∷ []) u (a_null I free named_twice u)
     (word_part R free (0x61 ∷ []) (value no ∷ word [] ∷ []) u b
     (value_part R free no (word [] ∷ []) w x
     (word_part R free [] [] w (no_text free w.words) (no_parts R free w))))))))
@@ -55,11 +55,11 @@ name_by_place =
     let u : Tables = with_words start a.after in
     let b : Built (Text canonical (0x61 ∷ [])) u.words = old_text canonical (0x61 ∷ []) u.words 0 a_is refl (unnamed_zero u.words.texts (0x61 ∷ [])) (omega arith) in
     let w : Tables = with_words u b.after in
-    let x : Built (R no) w = a_leaf I canonical 0 named_twice (boolean false) w tt (record { fields = []; after = w.words; spelled = (refl, refl) }) in
+    let x : Built (R no) w = a_leaf I canonical named_twice (boolean false) w tt (record { fields = []; after = w.words; spelled = (refl, refl) }) in
     spelled_by 1 canonical named_twice (a_node 0 canonical named_twice 0 no_tables ((0x61 ∷ [], leaf null) ∷ (0x61 ∷ [], leaf (boolean false)) ∷ []) 1 (omega arith) (absent_nil 0) tt refl refl (a_is, (a_is, tt)) (omega arith)
     (both _ _ start (counted canonical array [] 1 start (refl, (refl, refl)))
     (word_part R canonical (0x61 ∷ []) (value (leaf null) ∷ word (0x61 ∷ []) ∷ value no ∷ word [] ∷ []) start a
-    (value_part R canonical (leaf null) (word (0x61 ∷ []) ∷ value no ∷ word [] ∷ []) u (a_null I canonical 0 named_twice u)
+    (value_part R canonical (leaf null) (word (0x61 ∷ []) ∷ value no ∷ word [] ∷ []) u (a_null I canonical named_twice u)
     (word_part R canonical (0x61 ∷ []) (value no ∷ word [] ∷ []) u b
     (value_part R canonical no (word [] ∷ []) w x
     (word_part R canonical [] [] w (no_text canonical w.words) (no_parts R canonical w))))))))
@@ -81,14 +81,14 @@ closed_completes = record {
   nodes = ((refl, ([], refl), ([], refl)), tt);
 }
 
-pub open_node : IsReading3 0 open_array open_tables reference_fields
+pub open_node : IsReading3 open_array open_tables reference_fields
 open_node = record {
   graph = closed_array;
   completes = closed_completes;
   value = NodeRef (record { 0 = 0 });
   names = omega arith;
   after = tables_of open_array open_tables;
-  spelled = inl (record { place = 0; header = 0x00 ∷ []; there = refl; spelled = small free 0 (omega arith); fields = refl; same = refl });
+  spelled = (0, inl (record { place = 0; header = 0x00 ∷ []; there = refl; spelled = small free 0 (omega arith); fields = refl; same = refl }));
 }
 
 pub typed_values : Spelled3 canonical (single (values false (0x43 ∷ [])) (leaf null ∷ [])) (0x10 ∷ 0x03 ∷ 0x00 ∷ 0x03 ∷ 0x43 ∷ 0x01 ∷ [])
@@ -102,7 +102,7 @@ typed_values =
     (counted canonical (values false (0x43 ∷ [])) (leaf null ∷ []) 3 start (refl, (refl, refl)))
     (flag_part R canonical false 0 (word (0x43 ∷ []) ∷ value (leaf null) ∷ []) start (refl, omega arith, omega arith)
     (word_part R canonical (0x43 ∷ []) (value (leaf null) ∷ []) start c
-    (value_part R canonical (leaf null) [] u (a_null I canonical 0 g u) (no_parts R canonical u)))))
+    (value_part R canonical (leaf null) [] u (a_null I canonical g u) (no_parts R canonical u)))))
 
 -- collections
 
@@ -143,7 +143,7 @@ wrapper_traits_by_place =
       after = u.words;
       spelled = named 0 refl (unnamed_zero u.words.traits (external ArrayCollection)) refl refl refl;
     }) in
-    let r : Built (Q (node 2)) k.after = a_reference (InlineIn 1 canonical two_collections) canonical 1 two_collections 2 2 k.after refl (omega arith) in
+    let r : Built (Q (node 2)) k.after = a_reference (InlineIn 1 canonical two_collections) canonical two_collections 2 2 k.after refl (omega arith) in
     let y : Built (R (node 3)) x.after = a_node 1 canonical two_collections 3 x.after [] 1 (omega arith) (absent_cons 0 (1 ∷ 2 ∷ []) 3 (λ e. omega arith) (absent_cons 1 (2 ∷ []) 3 (λ e. omega arith) (absent_cons 2 [] 3 (λ e. omega arith) (absent_nil 3)))) (refl, refl) refl refl tt (omega arith)
     (both _ _ u k (value_part Q canonical (node 2) [] k.after r (no_parts Q canonical r.after))) in
     spelled_by 3 canonical two_collections (a_node 2 canonical two_collections 0 no_tables [] 5 (omega arith) (absent_nil 0) tt refl refl tt (omega arith)
@@ -157,7 +157,7 @@ class_by_place =
     let R : Value → Spelling Tables = inner 2 canonical name_and_collection in
     let Q : Value → Spelling Tables = inner 1 canonical name_and_collection in
     let v : Value = leaf (text (class_name ArrayCollection)) in
-    let n : Built (R v) start = a_text (InlineIn 2 canonical name_and_collection) canonical 2 name_and_collection (class_name ArrayCollection) start class_text (new_text canonical (class_name ArrayCollection) start.words class_is class_text (unnamed _ [] (class_name ArrayCollection) (absent_nil (class_name ArrayCollection))) (omega arith)) in
+    let n : Built (R v) start = a_text (InlineIn 2 canonical name_and_collection) canonical name_and_collection (class_name ArrayCollection) start class_text (new_text canonical (class_name ArrayCollection) start.words class_is class_text (unnamed _ [] (class_name ArrayCollection) (absent_nil (class_name ArrayCollection))) (omega arith)) in
     let t : Tables = add_node n.after 1 in
     let name : Built Class t.words = record {
       fields = field (class_header_kind t.words.texts) (0x00 ∷ []) ∷ [];

@@ -34,7 +34,7 @@ same_fields (want kind next) (f ∷ fs) (g ∷ gs) x y rest more p q e =
     ap (λ h. h ∷ fs) s.0 ∙ ap (λ hs. g ∷ hs) (same_fields (next g.bytes) fs gs x y rest more (subst (λ h. Runs (next h.bytes) fs x) s.0 p.1) q.1 s.1)
 same_fields stuck (f ∷ fs) (g ∷ gs) x y rest more p q e = absurd p
 
-module _ {X : Type 0} (most : ℕ) (t : ℕ → Layout X) (P : List Field → Type 0) (g : IsLayout most t P) where
+module _ {X : Type 0} (t : ℕ → Layout X) (P : List Field → Type 0) (g : IsLayout t P) where
   front : (fs gs : List Field) (rest more : List ℕ) → P fs → P gs → flat fs ++ rest ≡ flat gs ++ more → fs ≡ gs
   front fs gs rest more p q e =
       let m = length (flat fs) + length (flat gs) + 1 in

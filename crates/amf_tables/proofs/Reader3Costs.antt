@@ -1,5 +1,5 @@
 -- What is read weighs less than its bytes: each value of AMF 3 takes more bytes than it adds to the weight of the arena.
-use Rattle.std.proofs.Common.{◌≡◌, ℕ, zero, suc, ◌+◌, ◌-◌, ◌/◌, ◌%◌, ◌≤◌, ◌<◌, Bool, true, false, cond, eqb, List, length, set, slice_index, ap, arith, inl, inr, ◌⊎◌}
+use Rattle.std.proofs.Common.{◌≡◌, ℕ, zero, suc, ◌+◌, ◌/◌, ◌%◌, ◌≤◌, ◌<◌, Bool, true, false, cond, eqb, List, length, set, slice_index, ap, arith, inl, inr, ◌⊎◌}
 use Rattle.std.proofs.lemmas.Bool.{cases_lt}
 use Rattle.std.proofs.lemmas.List.{set_past}
 use Rattle.amf_wire.specs.U29.{u29_value}
@@ -105,34 +105,34 @@ module _ (v : State3 → Layout ValueRead) (h : (s : State3) → Costs value_siz
   costs_inline_node fuel f n s = costs_bind (λ (o : Opening). opening_size o + 2) value_size (state_size s + 2) (opening f n s) (parts v fuel) (costs_more opening_size (state_size s) 2 (opening f n s) (costs_opening f n s)) (costs_parts fuel)
 
   -- behind a marker
-  costs_node : (fuel levels : ℕ) (f : NodeForm) (s : State3) → Costs value_size (state_size s + 1) (node_layout v fuel levels f s)
-  costs_node fuel levels f s =
-      costs_want value_size (state_size s + 1) (header_kind levels s.marks (length s.words.traits) (node_marker f)) (λ b. cond (eqb (u29_value b % 2) 0) (give (known_node s (u29_value b / 2))) (inline_node v fuel f (u29_value b) s))
+  costs_node : (fuel : ℕ) (f : NodeForm) (s : State3) → Costs value_size (state_size s + 1) (node_layout v fuel f s)
+  costs_node fuel f s =
+      costs_want value_size (state_size s + 1) (header_kind s.marks (length s.words.traits) (node_marker f)) (λ b. cond (eqb (u29_value b % 2) 0) (give (known_node s (u29_value b / 2))) (inline_node v fuel f (u29_value b) s))
       (λ b some. costs_cond value_size (state_size s + 1 + length b) (eqb (u29_value b % 2) 0) (give (known_node s (u29_value b / 2))) (inline_node v fuel f (u29_value b) s)
       (costs_give value_size (state_size s + 1 + length b) (known_node s (u29_value b / 2)) (omega arith))
       (costs_within value_size (state_size s + 2) (state_size s + 1 + length b) (inline_node v fuel f (u29_value b) s) (omega arith) (costs_inline_node fuel f (u29_value b) s)))
 
-  costs_behind : (fuel levels : ℕ) (s : State3) (f : Form) → Costs value_size (state_size s + 1) (behind_marker v fuel levels s f)
-  costs_behind fuel levels s undefined = costs_give value_size (state_size s + 1) (read Undefined s) (omega arith)
-  costs_behind fuel levels s null = costs_give value_size (state_size s + 1) (read Null s) (omega arith)
-  costs_behind fuel levels s untrue = costs_give value_size (state_size s + 1) (read (Flag false) s) (omega arith)
-  costs_behind fuel levels s true_ = costs_give value_size (state_size s + 1) (read (Flag true) s) (omega arith)
-  costs_behind fuel levels s integer =
+  costs_behind : (fuel : ℕ) (s : State3) (f : Form) → Costs value_size (state_size s + 1) (behind_marker v fuel s f)
+  costs_behind fuel s undefined = costs_give value_size (state_size s + 1) (read Undefined s) (omega arith)
+  costs_behind fuel s null = costs_give value_size (state_size s + 1) (read Null s) (omega arith)
+  costs_behind fuel s untrue = costs_give value_size (state_size s + 1) (read (Flag false) s) (omega arith)
+  costs_behind fuel s true_ = costs_give value_size (state_size s + 1) (read (Flag true) s) (omega arith)
+  costs_behind fuel s integer =
       costs_want value_size (state_size s + 1) (u29_kind no_refusal) (λ b. give (read (Integer (integer_of (u29_value b))) s))
       (λ b some. costs_give value_size (state_size s + 1 + length b) (read (Integer (integer_of (u29_value b))) s) (omega arith))
-  costs_behind fuel levels s double =
+  costs_behind fuel s double =
       costs_bind (λ (p : ℕ). state_size s + 1) value_size (state_size s + 1) eight_layout (λ p. give (read (Double (record { 0 = p })) s)) (costs_nothing (state_size s + 1) eight_layout)
       (λ p. costs_give value_size (state_size s + 1) (read (Double (record { 0 = p })) s) (omega arith))
-  costs_behind fuel levels s text =
+  costs_behind fuel s text =
       costs_bind text_size value_size (state_size s + 1) (text_layout s) (λ x. give (read (Text (record { 0 = x.id })) x.state)) (costs_within text_size (state_size s) (state_size s + 1) (text_layout s) (omega arith) (costs_text s))
       (λ x. costs_give value_size (text_size x) (read (Text (record { 0 = x.id })) x.state) (omega arith))
-  costs_behind fuel levels s (node f) = costs_node fuel levels f s
+  costs_behind fuel s (node f) = costs_node fuel f s
 
-costs_value : (n levels : ℕ) (s : State3) → Costs value_size (state_size s) (value_layout n levels s)
-costs_value zero levels s = costs_stuck value_size (state_size s)
-costs_value (suc n) levels s =
-    costs_want value_size (state_size s) (marker_kind levels s.marks) (λ b. behind_marker (value_layout n (levels - 1)) n levels s (form_of (slice_index b 0)))
-    (λ b some. costs_within value_size (state_size s + 1) (state_size s + length b) (behind_marker (value_layout n (levels - 1)) n levels s (form_of (slice_index b 0))) (omega arith) (costs_behind (value_layout n (levels - 1)) (costs_value n (levels - 1)) n levels s (form_of (slice_index b 0))))
+costs_value : (n : ℕ) (s : State3) → Costs value_size (state_size s) (value_layout n s)
+costs_value zero s = costs_stuck value_size (state_size s)
+costs_value (suc n) s =
+    costs_want value_size (state_size s) marker_kind (λ b. behind_marker (value_layout n) n s (form_of (slice_index b 0)))
+    (λ b some. costs_within value_size (state_size s + 1) (state_size s + length b) (behind_marker (value_layout n) n s (form_of (slice_index b 0))) (omega arith) (costs_behind (value_layout n) (costs_value n) n s (form_of (slice_index b 0))))
 
-pub value_costs : (n levels : ℕ) (s : State3) (fs : List Field) (x : ValueRead) → Runs (value_layout n levels s) fs x → weight x.state.arena < weight s.arena + length (flat fs)
-value_costs n levels s fs x r = let c = costs_value n levels s fs x r in omega arith
+pub value_costs : (n : ℕ) (s : State3) (fs : List Field) (x : ValueRead) → Runs (value_layout n s) fs x → weight x.state.arena < weight s.arena + length (flat fs)
+value_costs n s fs x r = let c = costs_value n s fs x r in omega arith

@@ -1,174 +1,151 @@
 -- What is written whole meets nodes that lack nothing, so what stops behind it stops at the first node that lacks a spelling.
-use Rattle.std.proofs.Common.{◌≡◌, ℕ, zero, suc, ◌+◌, ◌<◌, ◌≤◌, ◌≢◌, List, [], ◌∷◌, ◌++◌, length, slice_get, sym, refl, ap, ◌∙◌, subst, inl, inr, arith, append_assoc, length-append}
-use Rattle.std.specs.List.{AllByRecursion}
+use Rattle.std.proofs.Common.{◌≡◌, ℕ, zero, suc, ◌<◌, ◌≤◌, ◌≢◌, List, [], ◌∷◌, ◌++◌, length, slice_get, Some, sym, ap, ◌∙◌, subst, inl, inr, arith, append_assoc}
+use Rattle.std.proofs.lemmas.Bool.{cases_lt}
 use Rattle.std.proofs.lemmas.Option.{same_Some}
 use Rattle.amf_wire.specs.Style.{canonical}
 use Rattle.amf_graph.specs.declared.lack.LackKind.{LackKind}
-use Rattle.amf_graph.specs.declared.lack.LackKind.TheVariants.{EmptyName, TooDeep, NoForm, LongName, Shared, FarReference, LongFile}
+use Rattle.amf_graph.specs.declared.lack.LackKind.TheVariants.{EmptyName}
 use Rattle.amf_graph.specs.Graph.{AllNamed, Value, leaf, node, Graph, node_at}
 use Rattle.amf_graph.specs.Reached.{IsWhole}
-use Rattle.amf_graph.specs.Lacks.{rank, IsFirstLack}
-use Rattle.amf_graph.specs.Order.{Absent, values_met, at_depth, Descends, past, again, first}
-use Rattle.amf_graph.proofs.Descents.{depths_exist}
-use Rattle.amf_graph.proofs.Lists.{length_pushed}
+use Rattle.amf_graph.specs.Lacks.{IsFirstLack}
+use Rattle.amf_graph.specs.Order.{Absent, values_met, Walks, past, again, first}
+use Rattle.amf_graph.proofs.Lists.{at_end, length_pushed}
 use Rattle.amf_graph.proofs.NameOrder.{by_name_all_back}
+use Rattle.amf_graph.proofs.OrderExists.{order_exists}
+use Rattle.amf_graph.proofs.Walks.{walk_stays}
 use Rattle.amf_tables.specs.Tables.{Tables, add_node}
 use Rattle.amf_tables.specs.Refusals3.{leaf_marker}
-use Rattle.amf_tables.specs.Lacks3.{NodeLacks3, Lacks3, IsLack3}
-use Rattle.amf_tables.specs.Lacking3.{Lacking3}
+use Rattle.amf_tables.specs.Lacks3.{IsLack3}
+use Rattle.amf_tables.specs.Lacking3.{LacksFrom, Lacking3}
 use Rattle.amf_tables.specs.ByteSpelling.{Spelling, Part, step, value, byte, layout, leaf_layout, Parts, Placed, Begun, ValueBy, NodeIn, Spells}
 use Rattle.amf_tables.proofs.Kept3.{Keeps, keeps_step, keeps_spells}
 use Rattle.amf_tables.proofs.Ordered3.{part_values, met, layout_met, leaf_none}
-use Rattle.amf_tables.proofs.Depths3.{IsFine, depth_append}
-use Rattle.amf_tables.proofs.FirstLack3.{fine_lacks}
+use Rattle.amf_tables.proofs.LacksAlike.{lack_is}
 
-module _ (g : Graph) (limit : ℕ) where
-  abbrev FirstIn : List (ℕ × ℕ) → ℕ → LackKind → Type 0
-  FirstIn found = IsFirstLack (Lacks3 g limit found)
+module _ (g : Graph) where
+  abbrev FirstFrom : ℕ → List ℕ → ℕ → LackKind → Type 0
+  FirstFrom start all = IsFirstLack (LacksFrom start g all)
 
-  abbrev AllFine : List (ℕ × ℕ) → Type 0
-  AllFine = AllByRecursion (IsFine g limit)
+  -- the nodes at these places have names
+  abbrev NamedBetween : ℕ → ℕ → List ℕ → Type 0
+  NamedBetween start end all = (k i : ℕ) → start ≤ k → k < end → slice_get all k ≡ Some i → AllNamed (node_at g i).names
 
-  behind_fine : (p : ℕ × ℕ) (found : List (ℕ × ℕ)) (n : ℕ) (kind : LackKind) → IsFine g limit p → FirstIn found n kind → FirstIn (p ∷ found) (suc n) kind
-  behind_fine p found n kind f x = record { lacks = x.lacks; least = least; first = x.first }
-    where
-      least : (m : ℕ) (k : LackKind) → Lacks3 g limit (p ∷ found) m k → suc n ≤ m
-      least zero k l = absurd (fine_lacks g limit p k f (subst (λ (q : ℕ × ℕ). NodeLacks3 g limit q.0 q.1 k) (same_Some (l.0, l.1) p (sym l.2)) l.3))
-      least (suc m) k l = let o = x.least m k l in omega arith
+  first_from : (start end : ℕ) (all : List ℕ) (number : ℕ) (kind : LackKind) → start ≤ end → NamedBetween start end all → FirstFrom end all number kind → FirstFrom start all number kind
+  first_from start end all number kind l named f = record {
+    lacks = (omega (arith, l, f.lacks.0), f.lacks.1);
+    least = λ m k o. elim (cases_lt m end) [
+      | inl below ↦ absurd ((lack_is g o.1.0 k o.1.2).1 (named m o.1.0 o.0 below o.1.1))
+      | inr above ↦ f.least m k (above, o.1)
+    ];
+    first = λ k o. f.first k (f.lacks.0, o.1);
+  }
 
-  behind_all : (new found : List (ℕ × ℕ)) (n : ℕ) (kind : LackKind) → AllFine new → FirstIn found n kind → FirstIn (new ++ found) (length new + n) kind
-  behind_all [] found n kind f x = subst (λ w. FirstIn found w kind) (omega arith) x
-  behind_all (p ∷ new) found n kind f x = subst (λ w. FirstIn (p ∷ (new ++ found)) w kind) (omega arith) (behind_fine p (new ++ found) (length new + n) kind f.0 (behind_all new found n kind f.1 x))
+  -- the walk goes over what is written, meets nodes with names there, and goes on from the tables behind
+  record Over (done behind : List ℕ) (ws : List Value) (all : List ℕ) : Type 0 where
+    longer : length done ≤ length behind
+    named : NamedBetween (length done) (length behind) all
+    on : Walks g behind ws all
 
-  fine_append : (xs ys : List (ℕ × ℕ)) → AllFine xs → AllFine ys → AllFine (xs ++ ys)
-  fine_append [] ys a b = b
-  fine_append (x ∷ xs) ys a b = (a.0, fine_append xs ys a.1 b)
+  over_none : (t t' : Tables) (ws : List Value) (all : List ℕ) → t'.done ≡ t.done → Walks g t.done ws all → Over t.done t'.done ws all
+  over_none t t' ws all e w = record { longer = omega (arith, ap length e); named = λ k i l m. absurd (omega (arith, ap length e)); on = subst (λ x. Walks g x ws all) (sym e) w }
 
-  -- the walk goes over what is written, meets fine nodes there, and goes on from the tables behind
-  record Over (done behind : List ℕ) (ws : List (Value × ℕ)) (found : List (ℕ × ℕ)) : Type 0 where
-    new : List (ℕ × ℕ)
-    rest : List (ℕ × ℕ)
-    joined : found ≡ new ++ rest
-    fine : AllFine new
-    size : length behind ≡ length done + length new
-    on : Descends g behind ws rest
-
-  over_none : (t t' : Tables) (ws : List (Value × ℕ)) (found : List (ℕ × ℕ)) → t'.done ≡ t.done → Descends g t.done ws found → Over t.done t'.done ws found
-  over_none t t' ws found e w = record { new = []; rest = found; joined = refl; fine = tt; size = omega (arith, ap length e); on = subst (λ x. Descends g x ws found) (sym e) w }
-
-  over_both : (done mid behind : List ℕ) (vs ws : List (Value × ℕ)) (found : List (ℕ × ℕ)) (o : Over done mid vs found) → Over mid behind ws o.rest → Over done behind ws found
-  over_both done mid behind vs ws found o n = record {
-    new = o.new ++ n.new;
-    rest = n.rest;
-    joined = o.joined ∙ ap (λ w. o.new ++ w) n.joined ∙ sym (append_assoc o.new n.new n.rest);
-    fine = fine_append o.new n.new o.fine n.fine;
-    size = simp length-append (omega (arith, o.size, n.size));
+  over_both : (done mid behind : List ℕ) (vs ws : List Value) (all : List ℕ) → Over done mid vs all → Over mid behind ws all → Over done behind ws all
+  over_both done mid behind vs ws all o n = record {
+    longer = omega (arith, o.longer, n.longer);
+    named = λ k i l m e. elim (cases_lt k (length mid)) [ inl below ↦ o.named k i l below e | inr above ↦ n.named k i above m e ];
     on = n.on;
   }
 
-  abbrev Follows : ℕ → Spelling Tables → List Value → Type 0
-  Follows k A vs = (t : Tables) (b : List ℕ) (t' : Tables) → t.nodes ≡ t.done → A t b t' → (ws : List (Value × ℕ)) (found : List (ℕ × ℕ)) → Descends g t.done (at_depth k vs ++ ws) found → Over t.done t'.done ws found
+  abbrev Follows : Spelling Tables → List Value → Type 0
+  Follows A vs = (t : Tables) (b : List ℕ) (t' : Tables) → t.nodes ≡ t.done → A t b t' → (ws : List Value) (all : List ℕ) → Walks g t.done (vs ++ ws) all → Over t.done t'.done ws all
 
-  follows_parts : (k : ℕ) (R : Value → Spelling Tables) → ((v : Value) → Keeps g (R v)) → ((v : Value) → Follows k (R v) (v ∷ [])) → (ps : List Part) → Follows k (Parts R canonical ps) (part_values ps)
-  follows_parts k R q f [] t b t' e p ws found w = over_none t t' ws found (ap (λ (x : Tables). x.done) p.1) w
-  follows_parts k R q f (step x ∷ ps) t b t' e p ws found w =
+  follows_parts : (R : Value → Spelling Tables) → ((v : Value) → Keeps g (R v)) → ((v : Value) → Follows (R v) (v ∷ [])) → (ps : List Part) → Follows (Parts R canonical ps) (part_values ps)
+  follows_parts R q f [] t b t' e p ws all w = over_none t t' ws all (ap (λ (x : Tables). x.done) p.1) w
+  follows_parts R q f (step x ∷ ps) t b t' e p ws all w =
       let kept = keeps_step g canonical x t p.front p.mid p.first in
       let same : p.mid.done ≡ t.done = ap (λ (x : Tables). x.done) p.first.2 in
-      let o = follows_parts k R q f ps p.mid p.back t' (kept.level e) p.second ws found (subst (λ x. Descends g x (at_depth k (part_values ps) ++ ws) found) (sym same) w) in
-      subst (λ x. Over x t'.done ws found) same o
-  follows_parts k R q f (value v ∷ ps) t b t' e p ws found w =
+      let o = follows_parts R q f ps p.mid p.back t' (kept.level e) p.second ws all (subst (λ x. Walks g x (part_values ps ++ ws) all) (sym same) w) in
+      subst (λ x. Over x t'.done ws all) same o
+  follows_parts R q f (value v ∷ ps) t b t' e p ws all w =
       let kept = q v t p.front p.mid p.first in
-      let o = f v t p.front p.mid e p.first (at_depth k (part_values ps) ++ ws) found w in
-      let n = follows_parts k R q f ps p.mid p.back t' (kept.level e) p.second ws o.rest o.on in
-      over_both t.done p.mid.done t'.done (at_depth k (part_values ps) ++ ws) ws found o n
+      let o = f v t p.front p.mid e p.first (part_values ps ++ ws) all w in
+      let n = follows_parts R q f ps p.mid p.back t' (kept.level e) p.second ws all o.on in
+      over_both t.done p.mid.done t'.done (part_values ps ++ ws) ws all o n
 
-  follows_placed : (k i : ℕ) → Follows k (Placed canonical i) (node i ∷ [])
-  follows_placed k i t b t' e p ws found (again j m q f w) = over_none t t' ws found (ap (λ (x : Tables). x.done) p.same) w
-  follows_placed k i t b t' e p ws found (first j m l new w) = absurd (new p.place (ap (λ x. slice_get x p.place) (sym e) ∙ p.here))
+  follows_placed : (i : ℕ) → Follows (Placed canonical i) (node i ∷ [])
+  follows_placed i t b t' e p ws all (again j m q w) = over_none t t' ws all (ap (λ (x : Tables). x.done) p.same) w
+  follows_placed i t b t' e p ws all (first j l new w) = absurd (new p.place (ap (λ x. slice_get x p.place) (sym e) ∙ p.here))
 
-  follows_begun : (k : ℕ) → k ≤ limit → (R : Value → Spelling Tables) → ((v : Value) → Keeps g (R v)) → ((v : Value) → Follows (suc k) (R v) (v ∷ [])) → (i : ℕ) → Follows k (Begun R canonical g i) (node i ∷ [])
-  follows_begun k l R q f i t b t' e p ws found (again j m n h w) = absurd (p.new n h)
-  follows_begun k l R q f i t b t' e p ws found (first {found = more} j m there new w) =
+  -- a node with names that is met now
+  over_node : (i : ℕ) (done behind : List ℕ) (ws vs : List Value) (all : List ℕ) → AllNamed (node_at g i).names → Walks g (done ++ i ∷ []) vs all → Over (done ++ i ∷ []) behind ws all → Over done behind ws all
+  over_node i done behind ws vs all named w o = record {
+    longer = omega (arith, o.longer, length_pushed done i);
+    named = λ k j l m e. elim (cases_lt (length done) k) [
+      | inl above ↦ o.named k j (omega (arith, length_pushed done i, above)) m e
+      | inr below ↦
+          let at : length done ≡ k = omega (arith, l, below) in
+          let here : slice_get all (length done) ≡ Some i = walk_stays w (length done) i (at_end done i) in
+          subst (λ n. AllNamed (node_at g n).names) (same_Some i j (sym here ∙ ap (λ n. slice_get all n) at ∙ e)) named
+    ];
+    on = o.on;
+  }
+
+  follows_begun : (R : Value → Spelling Tables) → ((v : Value) → Keeps g (R v)) → ((v : Value) → Follows (R v) (v ∷ [])) → (i : ℕ) → Follows (Begun R canonical g i) (node i ∷ [])
+  follows_begun R q f i t b t' e p ws all (again j m h w) = absurd (p.new m h)
+  follows_begun R q f i t b t' e p ws all (first j there new w) =
       let a = node_at g i in
       let meets : part_values (layout a.head p.wire a.values) ≡ values_met a = layout_met a.head p.wire a.values p.fits ∙ ap (λ x. met a.head x a.values) p.in_order in
-      let o = follows_parts (suc k) R q f (layout a.head p.wire a.values) (add_node t i) b t' (ap (λ x. x ++ i ∷ []) e) p.body ws more (subst (λ x. Descends g (t.done ++ i ∷ []) (at_depth (suc k) x ++ ws) more) (sym meets) w) in
-      let named = by_name_all_back (λ p. p.0 ≢ []) a.names (subst (λ x. AllNamed x) p.in_order p.named) in
-      record {
-        new = (i, k) ∷ o.new;
-        rest = o.rest;
-        joined = ap (λ x. (i, k) ∷ x) o.joined;
-        fine = ((named, l), o.fine);
-        size = omega (arith, o.size, length_pushed t.done i);
-        on = o.on;
-      }
+      let o = follows_parts R q f (layout a.head p.wire a.values) (add_node t i) b t' (ap (λ x. x ++ i ∷ []) e) p.body ws all (subst (λ x. Walks g (t.done ++ i ∷ []) (x ++ ws) all) (sym meets) w) in
+      over_node i t.done t'.done ws (values_met a ++ ws) all (by_name_all_back (λ p. p.0 ≢ []) a.names (subst (λ x. AllNamed x) p.in_order p.named)) w o
 
-  follows_value : (k : ℕ) (N : ℕ → Spelling Tables) → ((i : ℕ) → Follows k (N i) (node i ∷ [])) → (v : Value) → Follows k (ValueBy N canonical g v) (v ∷ [])
-  follows_value k N f (leaf x) t b t' e p ws found (past y m w) =
-      follows_parts k (λ v t b t'. ⊥) (λ v t b t' e. absurd e) (λ v t b t' d e. absurd e) (step (byte (leaf_marker x)) ∷ leaf_layout x) t b t' e p.1 ws found
-      (subst (λ y. Descends g t.done (at_depth k y ++ ws) found) (sym (leaf_none x)) w)
-  follows_value k N f (node i) t b t' e p ws found w = f i t p.0 t' e p.2 ws found w
+  follows_value : (N : ℕ → Spelling Tables) → ((i : ℕ) → Follows (N i) (node i ∷ [])) → (v : Value) → Follows (ValueBy N canonical g v) (v ∷ [])
+  follows_value N f (leaf x) t b t' e p ws all (past y w) =
+      follows_parts (λ v t b t'. ⊥) (λ v t b t' e. absurd e) (λ v t b t' d e. absurd e) (step (byte (leaf_marker x)) ∷ leaf_layout x) t b t' e p.1 ws all
+      (subst (λ y. Walks g t.done (y ++ ws) all) (sym (leaf_none x)) w)
+  follows_value N f (node i) t b t' e p ws all w = f i t p.0 t' e p.2 ws all w
 
-  follows_node : (d k : ℕ) → d + k ≡ suc limit → (i : ℕ) → Follows k (NodeIn d canonical g i) (node i ∷ [])
-  follows_node zero k e i t b t' x p ws found w = follows_placed k i t b t' x p ws found w
-  follows_node (suc d) k e i t b t' x (inl p) ws found w = follows_placed k i t b t' x p ws found w
-  follows_node (suc d) k e i t b t' x (inr p) ws found w =
-      follows_begun k (omega arith) (Spells d canonical g) (keeps_spells g canonical d) (follows_value (suc k) (NodeIn d canonical g) (follows_node d (suc k) (omega arith))) i t b t' x p ws found w
+  follows_node : (n i : ℕ) → Follows (NodeIn n canonical g i) (node i ∷ [])
+  follows_node zero i t b t' e p ws all w = follows_placed i t b t' e p ws all w
+  follows_node (suc n) i t b t' e (inl p) ws all w = follows_placed i t b t' e p ws all w
+  follows_node (suc n) i t b t' e (inr p) ws all w = follows_begun (Spells n canonical g) (keeps_spells g canonical n) (follows_value (NodeIn n canonical g) (follows_node n)) i t b t' e p ws all w
 
-  -- parts that are written whole in so many levels, and values behind them that stop
-  pub stops_behind : (levels k : ℕ) → levels + k ≡ suc limit → (ps : List Part) (t : Tables) (b : List ℕ) (t' : Tables) → t.nodes ≡ t.done → Parts (Spells levels canonical g) canonical ps t b t'
-      → (vs : List Value) (number : ℕ) (kind : LackKind) → Lacking3 g limit k vs t'.done number kind → Lacking3 g limit k (part_values ps ++ vs) t.done number kind
-  stops_behind levels k e ps t b t' even p vs number kind h = record { stops = stops }
+  -- parts that are written whole, and values behind them that stop
+  pub stops_behind : (n : ℕ) (ps : List Part) (t : Tables) (b : List ℕ) (t' : Tables) → t.nodes ≡ t.done → Parts (Spells n canonical g) canonical ps t b t'
+      → (vs : List Value) (number : ℕ) (kind : LackKind) → Lacking3 g vs t'.done number kind → Lacking3 g (part_values ps ++ vs) t.done number kind
+  stops_behind n ps t b t' even p vs number kind h = record { stops = stops }
     where
-      stops : (ws : List (Value × ℕ)) (found : List (ℕ × ℕ)) → Descends g t.done (at_depth k (part_values ps ++ vs) ++ ws) found → (place : ℕ) × (number ≡ length t.done + place) × FirstIn found place kind
-      stops ws found w =
-          let o = follows_parts k (Spells levels canonical g) (keeps_spells g canonical levels) (follows_value k (NodeIn levels canonical g) (follows_node levels k e)) ps t b t' even p (at_depth k vs ++ ws) found
-          (subst (λ x. Descends g t.done x found) (depth_append k (part_values ps) vs ws) w) in
-          let n = h.stops ws o.rest o.on in
-          (length o.new + n.0, omega (arith, o.size, n.1), subst (λ x. FirstIn x (length o.new + n.0) kind) (sym o.joined) (behind_all o.new o.rest n.0 kind o.fine n.2))
+      stops : (ws : List Value) (all : List ℕ) → Walks g t.done ((part_values ps ++ vs) ++ ws) all → FirstFrom (length t.done) all number kind
+      stops ws all w =
+          let o = follows_parts (Spells n canonical g) (keeps_spells g canonical n) (follows_value (NodeIn n canonical g) (follows_node n)) ps t b t' even p (vs ++ ws) all
+          (subst (λ x. Walks g t.done x all) (append_assoc (part_values ps) vs ws) w) in
+          first_from (length t.done) (length t'.done) all number kind o.longer o.named (h.stops ws all o.on)
 
   -- values that stop, whatever values stand behind them
-  pub stops_before : (k : ℕ) (vs us : List Value) (met : List ℕ) (number : ℕ) (kind : LackKind) → Lacking3 g limit k vs met number kind → Lacking3 g limit k (vs ++ us) met number kind
-  stops_before k vs us met number kind h = record { stops = λ ws found w. h.stops (at_depth k us ++ ws) found (subst (λ x. Descends g met x found) (depth_append k vs us ws) w) }
+  pub stops_before : (vs us : List Value) (met : List ℕ) (number : ℕ) (kind : LackKind) → Lacking3 g vs met number kind → Lacking3 g (vs ++ us) met number kind
+  stops_before vs us met number kind h = record { stops = λ ws all w. h.stops (us ++ ws) all (subst (λ x. Walks g met x all) (append_assoc vs us ws) w) }
 
   -- a node that is not met yet and has an empty name
-  pub stops_unnamed : (k i : ℕ) (met : List ℕ) → Absent met i → (AllNamed (node_at g i).names → ⊥) → Lacking3 g limit k (node i ∷ []) met (length met) EmptyName
-  stops_unnamed k i met new h = record { stops = stops }
+  pub stops_unnamed : (i : ℕ) (met : List ℕ) → Absent met i → (AllNamed (node_at g i).names → ⊥) → Lacking3 g (node i ∷ []) met (length met) EmptyName
+  stops_unnamed i met new h = record { stops = stops }
     where
-      stops : (ws : List (Value × ℕ)) (found : List (ℕ × ℕ)) → Descends g met ((node i, k) ∷ ws) found → (place : ℕ) × (length met ≡ length met + place) × FirstIn found place EmptyName
-      stops ws found (again j m q f w) = absurd (new q f)
-      stops ws found (first j m l n w) = (0, omega arith, record { lacks = (i, k, refl, h); least = λ m k o. omega arith; first = λ k o. omega arith })
-
-  too_deep_first : (i k : ℕ) (found : List (ℕ × ℕ)) (kind : LackKind) → AllNamed (node_at g i).names → Lacks3 g limit ((i, k) ∷ found) 0 kind → 1 ≤ rank kind
-  too_deep_first i k found EmptyName h o = absurd (subst (λ (q : ℕ × ℕ). NodeLacks3 g limit q.0 q.1 EmptyName) (same_Some (o.0, o.1) (i, k) (sym o.2)) o.3 h)
-  too_deep_first i k found TooDeep h o = omega arith
-  too_deep_first i k found NoForm h o = omega arith
-  too_deep_first i k found LongName h o = omega arith
-  too_deep_first i k found Shared h o = omega arith
-  too_deep_first i k found FarReference h o = omega arith
-  too_deep_first i k found LongFile h o = omega arith
-
-  -- a node that is not met yet and stands too deep
-  pub stops_deep : (k i : ℕ) (met : List ℕ) → Absent met i → AllNamed (node_at g i).names → limit < k → Lacking3 g limit k (node i ∷ []) met (length met) TooDeep
-  stops_deep k i met new h deep = record { stops = stops }
-    where
-      stops : (ws : List (Value × ℕ)) (found : List (ℕ × ℕ)) → Descends g met ((node i, k) ∷ ws) found → (place : ℕ) × (length met ≡ length met + place) × FirstIn found place TooDeep
-      stops ws found (again j m q f w) = absurd (new q f)
-      stops ws found (first {found = more} j m l n w) = (0, omega arith, record { lacks = (i, k, refl, deep); least = λ m k o. omega arith; first = λ kind o. too_deep_first i k more kind h o })
+      stops : (ws : List Value) (all : List ℕ) → Walks g met (node i ∷ ws) all → FirstFrom (length met) all (length met) EmptyName
+      stops ws all (again j m q w) = absurd (new m q)
+      stops ws all (first j l n w) = record { lacks = (omega arith, (i, walk_stays w (length met) i (at_end met i), h)); least = λ m k o. o.0; first = λ k o. omega arith }
 
   -- a node that is not met yet and lacks nothing, whose values stop
-  pub stops_inside : (k i : ℕ) (met : List ℕ) (number : ℕ) (kind : LackKind) → Absent met i → AllNamed (node_at g i).names → k ≤ limit
-      → Lacking3 g limit (suc k) (values_met (node_at g i)) (met ++ i ∷ []) number kind → Lacking3 g limit k (node i ∷ []) met number kind
-  stops_inside k i met number kind new named l h = record { stops = stops }
+  pub stops_inside : (i : ℕ) (met : List ℕ) (number : ℕ) (kind : LackKind) → Absent met i → AllNamed (node_at g i).names
+      → Lacking3 g (values_met (node_at g i)) (met ++ i ∷ []) number kind → Lacking3 g (node i ∷ []) met number kind
+  stops_inside i met number kind new named h = record { stops = stops }
     where
-      stops : (ws : List (Value × ℕ)) (found : List (ℕ × ℕ)) → Descends g met ((node i, k) ∷ ws) found → (place : ℕ) × (number ≡ length met + place) × FirstIn found place kind
-      stops ws found (again j m q f w) = absurd (new q f)
-      stops ws found (first {found = more} j m there n w) =
-          let o = h.stops ws more w in
-          (suc o.0, omega (arith, o.1, length_pushed met i), behind_fine (i, k) more o.0 kind (named, l) o.2)
+      stops : (ws : List Value) (all : List ℕ) → Walks g met (node i ∷ ws) all → FirstFrom (length met) all number kind
+      stops ws all (again j m q w) = absurd (new m q)
+      stops ws all (first j l n w) =
+          let o = over_node i met (met ++ i ∷ []) (values_met (node_at g i) ++ ws) (values_met (node_at g i) ++ ws) all named w (record { longer = omega arith; named = λ k j a b e. absurd (omega (arith, a, b)); on = w }) in
+          first_from (length met) (length (met ++ i ∷ [])) all number kind o.longer o.named (h.stops ws all w)
 
   -- the root stops: the graph has this first lack
-  pub lack_of_root : IsWhole g → (number : ℕ) (kind : LackKind) → Lacking3 g limit 1 (g.root ∷ []) [] number kind → IsLack3 g limit number kind
+  pub lack_of_root : IsWhole g → (number : ℕ) (kind : LackKind) → Lacking3 g (g.root ∷ []) [] number kind → IsLack3 g number kind
   lack_of_root whole number kind h =
-      let d = depths_exist g whole.there in
+      let d = order_exists g whole.there in
       let o = h.stops [] d.0 d.1 in
-      (d.0, d.1, subst (λ x. FirstIn d.0 x kind) (omega (arith, o.1)) o.2)
+      (d.0, d.1, record { lacks = o.lacks.1; least = λ m k l. o.least m k (omega arith, l); first = λ k l. o.first k (omega arith, l) })

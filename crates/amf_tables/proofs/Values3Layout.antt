@@ -1,5 +1,5 @@
 -- The layouts of values from nothing.
-use Rattle.std.proofs.Common.{◌≡◌, ℕ, ◌^◌, [], Option, Some, None}
+use Rattle.std.proofs.Common.{◌≡◌, ℕ, [], Option, Some, None}
 use Rattle.amf_io.specs.Layout.{IsLayout}
 use Rattle.amf_graph.specs.Arena.{IsBuilt}
 use Rattle.amf_graph.specs.Building.{no_arena}
@@ -19,5 +19,5 @@ no_numbers j k x e f = let none : ◌≡◌ {A = Option ℕ} None (Some x) = e i
 pub no_tables_in : AreTablesIn no_arena no_kept_tables
 no_tables_in = record { texts = tt; traits = tt; nodes = tt; distinct = no_numbers }
 
-pub values3_is_layout : (levels : ℕ) → IsLayout (2 ^ 28) (λ n. value_layout n levels no_state) (IsValue3 levels)
-values3_is_layout levels = is_layout levels no_arena no_kept_tables no_arena_built no_tables_in
+pub values3_is_layout : IsLayout (λ n. value_layout n no_state) IsValue3
+values3_is_layout = is_layout no_arena no_kept_tables no_arena_built no_tables_in

@@ -1,5 +1,5 @@
 -- The bytes that are accepted from nothing are those that spell a graph.
-use Rattle.std.proofs.Common.{ℕ, ◌+◌, List, length, refl, arith}
+use Rattle.std.proofs.Common.{◌+◌, List, length, refl, arith}
 use Rattle.amf_io.specs.Field.{Field, AreBytes, flat}
 use Rattle.amf_graph.specs.Arena.{graph_of}
 use Rattle.amf_graph.specs.Building.{no_arena}
@@ -14,11 +14,11 @@ use Rattle.amf_tables.proofs.Layout3Complete.{spelled_read}
 use Rattle.amf_tables.proofs.Layout3Filled.{reading}
 use Rattle.amf_tables.proofs.Values3Layout.{no_arena_built, no_tables_in}
 
-pub value_spells : (levels : ℕ) (fs : List Field) → IsValue3 levels fs → SpellsSome levels fs
-value_spells levels fs p = (graph_of p.graph p.value, (p.after, p.spelled))
+pub value_spells : (fs : List Field) → IsValue3 fs → SpellsSome fs
+value_spells fs p = (graph_of p.graph p.value, (p.after, p.spelled))
 
-pub spelling_is_value : (levels : ℕ) (fs : List Field) → AreBytes (flat fs) → SpellsSome levels fs → IsValue3 levels fs
-spelling_is_value levels fs bytes (g, (t, spelled)) =
+pub spelling_is_value : (fs : List Field) → AreBytes (flat fs) → SpellsSome fs → IsValue3 fs
+spelling_is_value fs bytes (g, (t, spelled)) =
     let n = length (flat fs) + 1 in
-    let f : Found g (value_layout n levels) no_state fs t = spelled_read g n levels g.root no_tables fs t no_state (record { words = refl; marks = refl }) (omega arith) spelled in
-    reading n levels no_arena no_kept_tables fs f.result no_arena_built no_tables_in bytes f.runs
+    let f : Found g (value_layout n) no_state fs t = spelled_read g n g.root no_tables fs t no_state (record { words = refl; marks = refl }) (omega arith) spelled in
+    reading n no_arena no_kept_tables fs f.result no_arena_built no_tables_in bytes f.runs

@@ -1,5 +1,5 @@
 -- Canonical spellings are spellings, and the rows of refusals agree with the spellings of AMF 3.
-use Rattle.std.specs.Prelude.{ℕ, List}
+use Rattle.std.specs.Prelude.{List}
 use Rattle.amf_io.specs.Field.{Field, IsClean}
 use Rattle.std.specs.List.{AllByRecursion}
 use Rattle.amf_wire.specs.Style.{free, canonical}
@@ -7,10 +7,10 @@ use Rattle.amf_graph.specs.Graph.{Value, Graph}
 use Rattle.amf_tables.specs.Tables.{Tables}
 use Rattle.amf_tables.specs.Spells3.{Spells3}
 
--- a canonical spelling is a spelling, in the same number of levels and with the same tables
+-- a canonical spelling is a spelling, with the same tables
 abbrev pub Forgets : Type 0
-Forgets = (levels : ℕ) (g : Graph) (v : Value) (t : Tables) (fs : List Field) (t' : Tables) → Spells3 levels canonical g v t fs t' → Spells3 levels free g v t fs t'
+Forgets = (g : Graph) (v : Value) (t : Tables) (fs : List Field) (t' : Tables) → Spells3 canonical g v t fs t' → Spells3 free g v t fs t'
 
 -- each field of a spelling is whole, and none is refused
 abbrev pub FieldsAgree : Type 0
-FieldsAgree = (levels : ℕ) (g : Graph) (v : Value) (t : Tables) (fs : List Field) (t' : Tables) → Spells3 levels free g v t fs t' → AllByRecursion IsClean fs
+FieldsAgree = (g : Graph) (v : Value) (t : Tables) (fs : List Field) (t' : Tables) → Spells3 free g v t fs t' → AllByRecursion IsClean fs

@@ -1,4 +1,4 @@
--- The spelling of AMF 3 by its bytes alone, without the kinds of fields.
+-- The spelling of AMF 3 by its bytes alone, without the kinds of fields. A device of proofs.
 use Rattle.std.specs.Prelude.{◌≡◌, ◌≢◌, ℕ, zero, suc, ◌+◌, ◌*◌, ◌<◌, ◌⊎◌, Bool, cond, List, [], ◌∷◌, ◌++◌, length, slice_get, Some, ℤ}
 use Rattle.std.specs.Int.{to_be_bytes, w32, w64, cast_unsigned}
 use Rattle.amf_wire.specs.Style.{Style, Only}
@@ -138,7 +138,7 @@ leaf_layout (text x) = step (word x) ∷ []
 abbrev pub Lifted : Spelling Words → Spelling Tables
 Lifted A t b t' = (w : Words) × A t.words b w × (t' ≡ with_words t w)
 
--- R spells a value one level down
+-- parts one after the other, where R spells a value
 abbrev pub Parts : (Value → Spelling Tables) → Style → List Part → Spelling Tables
 Parts R s [] t b t' = (b ≡ []) × (t' ≡ t)
 Parts R s (step x ∷ ps) t b t' = Then (Lifted (StepOf s x)) (Parts R s ps) t b t'
@@ -167,7 +167,7 @@ abbrev pub ValueBy : (ℕ → Spelling Tables) → Style → Graph → Value →
 ValueBy N s g (leaf x) t b t' = IsLeaf x × Parts (λ v t b t'. ⊥) s (step (byte (leaf_marker x)) ∷ leaf_layout x) t b t'
 ValueBy N s g (node i) t b t' = (c : List ℕ) × (b ≡ marker (node_at g i).head ∷ c) × N i t c t'
 
--- d levels are left
+-- a node with inline nodes within one another, at most so many with itself
 abbrev pub NodeIn : ℕ → Style → Graph → ℕ → Spelling Tables
 NodeIn zero s g i t b t' = Placed s i t b t'
 NodeIn (suc d) s g i t b t' = Placed s i t b t' ⊎ Begun (ValueBy (NodeIn d s g) s g) s g i t b t'
@@ -175,6 +175,6 @@ NodeIn (suc d) s g i t b t' = Placed s i t b t' ⊎ Begun (ValueBy (NodeIn d s g
 abbrev pub Spells : ℕ → Style → Graph → Value → Spelling Tables
 Spells d s g = ValueBy (NodeIn d s g) s g
 
--- the bytes spell the graph, in some number of levels
+-- the bytes spell the graph
 abbrev pub Spelled : Style → Graph → List ℕ → Type 0
 Spelled s g b = (d : ℕ) × (t : Tables) × Spells d s g g.root no_tables b t

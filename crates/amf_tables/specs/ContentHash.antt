@@ -1,4 +1,4 @@
--- The hash of what an entry of a writer's table holds: of a text, and of traits by their flag, class and sealed names.
+-- The hash of what an entry of a writer's table holds: of a text, and of traits by their flag, class and sealed names. A device of proofs.
 use Rattle.std.specs.Prelude.{ℕ, List, [], ◌∷◌, cond}
 use Rattle.std.specs.List.{fold}
 use Rattle.std.specs.Hash.DefaultHasher.{write, finish}

@@ -1,4 +1,4 @@
--- The first places of the hashes of a table's entries, in a map.
+-- The first places of the hashes of a table's entries, in a map. A device of proofs.
 use Rattle.std.specs.Prelude.{ℕ, List, nat_eq, MatchOption}
 use Rattle.indexmap.specs.IndexMap.{IndexMap, get}
 use Rattle.amf_graph.specs.Order.{Absent}

@@ -27,9 +27,9 @@ HeaderBy s (doubles f ns) vs n w fs w' = Counted (length ns) n w fs w'
 HeaderBy s (values f x) vs n w fs w' = Counted (length vs) n w fs w'
 HeaderBy s (dictionary f) vs n w fs w' = (entries : ℕ) × (length vs ≡ 2 * entries) × Counted entries n w fs w'
 
--- the fields of a marker and of a header, at the tables behind which they stand
-abbrev pub marker_field : ℕ → Graph → Tables → ℕ → Field
-marker_field levels g t m = field (marker_kind levels (markers g t.nodes)) (m ∷ [])
+-- the fields of a marker and of a header, the header at the tables behind which it stands
+abbrev pub marker_field : ℕ → Field
+marker_field m = field marker_kind (m ∷ [])
 
-abbrev pub header_field : ℕ → Graph → Tables → ℕ → List ℕ → Field
-header_field levels g t m header = field (header_kind levels (markers g t.nodes) (length t.words.traits) m) header
+abbrev pub header_field : Graph → Tables → ℕ → List ℕ → Field
+header_field g t m header = field (header_kind (markers g t.nodes) (length t.words.traits) m) header

@@ -1,5 +1,5 @@
 -- A canonical spelling meets the nodes in canonical order (AMF 3).
-use Rattle.std.specs.Prelude.{◌≡◌, ℕ, List}
+use Rattle.std.specs.Prelude.{◌≡◌, List}
 use Rattle.amf_io.specs.Field.{Field}
 use Rattle.amf_wire.specs.Style.{canonical}
 use Rattle.amf_graph.specs.Graph.{Graph}
@@ -9,5 +9,5 @@ use Rattle.amf_tables.specs.Spells3.{Spells3}
 
 -- the table of nodes at the end of a canonical spelling is the canonical order, and so are the nodes spelled inline
 pub record TableIsOrder : Type 0 where
-  pub nodes : (levels : ℕ) (g : Graph) (fs : List Field) (t : Tables) → Spells3 levels canonical g g.root no_tables fs t → IsOrder g t.nodes
-  pub done : (levels : ℕ) (g : Graph) (fs : List Field) (t : Tables) → Spells3 levels canonical g g.root no_tables fs t → t.done ≡ t.nodes
+  pub nodes : (g : Graph) (fs : List Field) (t : Tables) → Spells3 canonical g g.root no_tables fs t → IsOrder g t.nodes
+  pub done : (g : Graph) (fs : List Field) (t : Tables) → Spells3 canonical g g.root no_tables fs t → t.done ≡ t.nodes

@@ -1,5 +1,5 @@
 -- A value of AMF 3 as it is read, field by field (3.2 to 3.16). A device by which verdicts are proved: no spelling needs it.
-use Rattle.std.specs.Prelude.{ℕ, zero, suc, ◌-◌, ◌/◌, ◌%◌, Bool, true, false, not, List, [], ◌∷◌, length, map, get_or, ◌==◌, if◌then◌else◌, slice_index}
+use Rattle.std.specs.Prelude.{ℕ, zero, suc, ◌/◌, ◌%◌, Bool, true, false, not, List, [], ◌∷◌, length, map, get_or, ◌==◌, if◌then◌else◌, slice_index}
 use Rattle.std.specs.Int.{from_be_bytes, w32, w64, cast_signed}
 use Rattle.amf_wire.specs.U29.{u29_value}
 use Rattle.amf_wire.specs.Integer.{integer_of}
@@ -124,21 +124,21 @@ abbrev pub known_node : State3 → ℕ → ValueRead
 known_node s k = read (Node (record { 0 = get_or s.tables.nodes k 0 })) s
 
 -- a header, and then a node of the table or one inline
-abbrev pub node_layout : (State3 → Layout ValueRead) → ℕ → ℕ → NodeForm → State3 → Layout ValueRead
-node_layout value fuel levels f s =
-    want (header_kind levels s.marks (length s.words.traits) (node_marker f)) (λ b. if u29_value b % 2 == 0 then give (known_node s (u29_value b / 2)) else inline_node value fuel f (u29_value b) s)
+abbrev pub node_layout : (State3 → Layout ValueRead) → ℕ → NodeForm → State3 → Layout ValueRead
+node_layout value fuel f s =
+    want (header_kind s.marks (length s.words.traits) (node_marker f)) (λ b. if u29_value b % 2 == 0 then give (known_node s (u29_value b / 2)) else inline_node value fuel f (u29_value b) s)
 
-abbrev pub behind_marker : (State3 → Layout ValueRead) → ℕ → ℕ → State3 → Form → Layout ValueRead
-behind_marker value fuel levels s undefined = give (read Undefined s)
-behind_marker value fuel levels s null = give (read Null s)
-behind_marker value fuel levels s untrue = give (read (Flag false) s)
-behind_marker value fuel levels s true_ = give (read (Flag true) s)
-behind_marker value fuel levels s integer = want (u29_kind no_refusal) (λ b. give (read (Integer (integer_of (u29_value b))) s))
-behind_marker value fuel levels s double = bind eight_layout (λ p. give (read (Double (record { 0 = p })) s))
-behind_marker value fuel levels s text = bind (text_layout s) (λ x. give (read (Text (record { 0 = x.id })) x.state))
-behind_marker value fuel levels s (node f) = node_layout value fuel levels f s
+abbrev pub behind_marker : (State3 → Layout ValueRead) → ℕ → State3 → Form → Layout ValueRead
+behind_marker value fuel s undefined = give (read Undefined s)
+behind_marker value fuel s null = give (read Null s)
+behind_marker value fuel s untrue = give (read (Flag false) s)
+behind_marker value fuel s true_ = give (read (Flag true) s)
+behind_marker value fuel s integer = want (u29_kind no_refusal) (λ b. give (read (Integer (integer_of (u29_value b))) s))
+behind_marker value fuel s double = bind eight_layout (λ p. give (read (Double (record { 0 = p })) s))
+behind_marker value fuel s text = bind (text_layout s) (λ x. give (read (Text (record { 0 = x.id })) x.state))
+behind_marker value fuel s (node f) = node_layout value fuel f s
 
--- one value, with so many levels left and with fuel
-abbrev pub value_layout : ℕ → ℕ → State3 → Layout ValueRead
-value_layout zero levels s = stuck
-value_layout (suc n) levels s = want (marker_kind levels s.marks) (λ b. behind_marker (value_layout n (levels - 1)) n levels s (form_of (slice_index b 0)))
+-- one value, with fuel
+abbrev pub value_layout : ℕ → State3 → Layout ValueRead
+value_layout zero s = stuck
+value_layout (suc n) s = want marker_kind (λ b. behind_marker (value_layout n) n s (form_of (slice_index b 0)))

@@ -1,5 +1,5 @@
--- The laws of the layouts of AMF 3.
-use Rattle.std.specs.Prelude.{ℕ, ◌+◌, ◌-◌, ◌^◌, ◌<◌, ◌≤◌, List, length, ◌↔◌}
+-- The laws of the layouts of AMF 3. A device of proofs.
+use Rattle.std.specs.Prelude.{ℕ, ◌<◌, ◌≤◌, List, length, ◌↔◌}
 use Rattle.amf_io.specs.Field.{Field, AreBytes, flat}
 use Rattle.amf_io.specs.Layout.{Layout, Path, Runs, Extends, Able, IsLayout}
 use Rattle.amf_wire.specs.Style.{free}
@@ -13,32 +13,32 @@ use Rattle.amf_tables.specs.Layout3.{ValueRead, value_layout}
 
 -- more fuel changes no answer
 abbrev pub Layout3Grows : Type 0
-Layout3Grows = (n m levels : ℕ) (s : State3) → n ≤ m → Extends (value_layout n levels s) (value_layout m levels s)
+Layout3Grows = (n m : ℕ) (s : State3) → n ≤ m → Extends (value_layout n s) (value_layout m s)
 
--- what has been read can be completed, while each node of the table can be named
+-- what has been read can be completed
 abbrev pub Layout3Able : Type 0
-Layout3Able = (n levels : ℕ) (a : Arena) (t : KeptTables) → length t.nodes + n ≤ 2 ^ 28 → (fs : List Field) (u : Layout ValueRead) → Path (value_layout n levels (state_of a t)) fs u → length (flat fs) < n → Able u
+Layout3Able = (n : ℕ) (a : Arena) (t : KeptTables) (fs : List Field) (u : Layout ValueRead) → Path (value_layout n (state_of a t)) fs u → length (flat fs) < n → Able u
 
 -- what is accepted is read, with more fuel than bytes
 abbrev pub Layout3Complete : Type 0
-Layout3Complete = (n levels : ℕ) (a : Arena) (t : KeptTables) (fs : List Field) → AreTablesIn a t → IsReading3 levels a t fs → length (flat fs) < n → (x : ValueRead) × Runs (value_layout n levels (state_of a t)) fs x
+Layout3Complete = (n : ℕ) (a : Arena) (t : KeptTables) (fs : List Field) → AreTablesIn a t → IsReading3 a t fs → length (flat fs) < n → (x : ValueRead) × Runs (value_layout n (state_of a t)) fs x
 
 -- what is read of bytes is accepted: it spells a value of some finished graph that completes what was there
 abbrev pub Layout3Accepted : Type 0
-Layout3Accepted = (n levels : ℕ) (a : Arena) (t : KeptTables) (fs : List Field) (x : ValueRead) → IsBuilt a → AreTablesIn a t → AreBytes (flat fs) → Runs (value_layout n levels (state_of a t)) fs x → IsReading3 levels a t fs
+Layout3Accepted = (n : ℕ) (a : Arena) (t : KeptTables) (fs : List Field) (x : ValueRead) → IsBuilt a → AreTablesIn a t → AreBytes (flat fs) → Runs (value_layout n (state_of a t)) fs x → IsReading3 a t fs
 
 -- what is read into a builder's arena and its tables is spelled so in each finished graph that completes it
 abbrev pub Layout3Reads : Type 0
-Layout3Reads = (n levels : ℕ) (a : Arena) (t : KeptTables) (fs : List Field) (x : ValueRead) → IsBuilt a → AreTablesIn a t → AreBytes (flat fs) → Runs (value_layout n levels (state_of a t)) fs x → IsRead3 levels a t fs x.state.arena x.state.tables x.value
+Layout3Reads = (n : ℕ) (a : Arena) (t : KeptTables) (fs : List Field) (x : ValueRead) → IsBuilt a → AreTablesIn a t → AreBytes (flat fs) → Runs (value_layout n (state_of a t)) fs x → IsRead3 a t fs x.state.arena x.state.tables x.value
 
--- from each builder's arena and its tables the layouts are those of what is accepted there, with fuel up to 2^28 less the nodes in the table
+-- from each builder's arena and its tables the layouts are those of what is accepted there
 abbrev pub Layout3OfSpellings : Type 0
-Layout3OfSpellings = (levels : ℕ) (a : Arena) (t : KeptTables) → IsBuilt a → AreTablesIn a t → IsLayout (2 ^ 28 - length t.nodes) (λ n. value_layout n levels (state_of a t)) (IsReading3 levels a t)
+Layout3OfSpellings = (a : Arena) (t : KeptTables) → IsBuilt a → AreTablesIn a t → IsLayout (λ n. value_layout n (state_of a t)) (IsReading3 a t)
 
 -- the fields spell some graph
-abbrev pub SpellsSome : ℕ → List Field → Type 0
-SpellsSome levels fs = (g : Graph) × IsSpelling3 levels free g fs
+abbrev pub SpellsSome : List Field → Type 0
+SpellsSome fs = (g : Graph) × IsSpelling3 free g fs
 
 -- from nothing, the fields of bytes that are accepted are exactly those that spell some graph
 abbrev pub ValuesAreSpellings3 : Type 0
-ValuesAreSpellings3 = (levels : ℕ) (fs : List Field) → AreBytes (flat fs) → IsValue3 levels fs ↔ SpellsSome levels fs
+ValuesAreSpellings3 = (fs : List Field) → AreBytes (flat fs) → IsValue3 fs ↔ SpellsSome fs

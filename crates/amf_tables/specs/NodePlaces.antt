@@ -1,4 +1,4 @@
--- The first places of the nodes of a table, by their numbers.
+-- The first places of the nodes of a table, by their numbers. A device of proofs.
 use Rattle.std.specs.Prelude.{◌≡◌, ℕ, ◌≤◌, ◌<◌, ◌≢◌, List, length, slice_get, Some}
 use Rattle.amf_graph.specs.Order.{Absent}
 use Rattle.amf_tables.specs.FirstPlace.{IsFirstPlace}

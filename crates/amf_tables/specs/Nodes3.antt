@@ -13,16 +13,16 @@ use Rattle.amf_tables.specs.Parts3.{Lifted, Parts, layout}
 use Rattle.amf_tables.specs.Headers3.{HeaderBy, marker_field, header_field}
 
 -- a node at a place of the table
-pub record Named (s : Style) (levels : ℕ) (g : Graph) (i : ℕ) (t : Tables) (fs : List Field) (t' : Tables) : Type 0 where
+pub record Named (s : Style) (g : Graph) (i : ℕ) (t : Tables) (fs : List Field) (t' : Tables) : Type 0 where
   pub place : ℕ
   pub header : List ℕ
   pub there : slice_get t.nodes place ≡ Some i
   pub spelled : IsU29 s (2 * place) header
-  pub fields : fs ≡ marker_field levels g t (marker (node_at g i).head) ∷ header_field levels g t (marker (node_at g i).head) header ∷ []
+  pub fields : fs ≡ marker_field (marker (node_at g i).head) ∷ header_field g t (marker (node_at g i).head) header ∷ []
   pub same : t' ≡ t
 
 -- a node that has not been spelled: marker, header, traits and parts; it is in the table from its header on
-pub record Begun (R : Value → Spelling Tables) (s : Style) (levels : ℕ) (g : Graph) (i : ℕ) (t : Tables) (fs : List Field) (t' : Tables) : Type 0 where
+pub record Begun (R : Value → Spelling Tables) (s : Style) (g : Graph) (i : ℕ) (t : Tables) (fs : List Field) (t' : Tables) : Type 0 where
   pub there : i < length g.nodes
   pub new : Absent t.done i
   pub fits : Fits (node_at g i).head (node_at g i).names (node_at g i).values
@@ -34,5 +34,5 @@ pub record Begun (R : Value → Spelling Tables) (s : Style) (levels : ℕ) (g :
   pub header : List ℕ
   pub spelled : IsU29 s number header
   pub rest : List Field
-  pub fields : fs ≡ marker_field levels g t (marker (node_at g i).head) ∷ header_field levels g t (marker (node_at g i).head) header ∷ rest
+  pub fields : fs ≡ marker_field (marker (node_at g i).head) ∷ header_field g t (marker (node_at g i).head) header ∷ rest
   pub behind : Then (Lifted (HeaderBy s (node_at g i).head (node_at g i).values number)) (Parts R s (layout (node_at g i).head pairs (node_at g i).values)) (add_node t i) rest t'

@@ -21,22 +21,22 @@ pub record Grows (old new : Arena) : Type 0 where
   pub closed : AllByRecursion (λ n. n.is_open ≡ false) more_nodes
 
 -- the fields spell the value in every finished graph that completes what is there now
-pub record IsRead3 (levels : ℕ) (old : Arena) (t : KeptTables) (fs : List Field) (new : Arena) (t' : KeptTables) (v : Stored) : Type 0 where
+pub record IsRead3 (old : Arena) (t : KeptTables) (fs : List Field) (new : Arena) (t' : KeptTables) (v : Stored) : Type 0 where
   pub grows : Grows old new
   pub built : IsBuilt old → IsBuilt new
   pub value : Names new v
   pub tables : AreTablesIn new t'
-  pub spelled : (g : Arena) → Completes new g → Spells3 levels free (graph_of g v) (value_content g v) (tables_of old t) fs (tables_of new t')
+  pub spelled : (g : Arena) → Completes new g → Spells3 free (graph_of g v) (value_content g v) (tables_of old t) fs (tables_of new t')
 
 -- the accepted lists: the fields spell some value of some finished graph that completes what is there
-pub record IsReading3 (levels : ℕ) (a : Arena) (t : KeptTables) (fs : List Field) : Type 0 where
+pub record IsReading3 (a : Arena) (t : KeptTables) (fs : List Field) : Type 0 where
   pub graph : Arena
   pub completes : Completes a graph
   pub value : Stored
   pub names : Names graph value
   pub after : Tables
-  pub spelled : Spells3 levels free (graph_of graph value) (value_content graph value) (tables_of a t) fs after
+  pub spelled : Spells3 free (graph_of graph value) (value_content graph value) (tables_of a t) fs after
 
--- the accepted lists of one value with so many levels, from nothing
-abbrev pub IsValue3 : ℕ → List Field → Type 0
-IsValue3 levels = IsReading3 levels no_arena no_kept_tables
+-- the accepted lists of one value, from nothing
+abbrev pub IsValue3 : List Field → Type 0
+IsValue3 = IsReading3 no_arena no_kept_tables

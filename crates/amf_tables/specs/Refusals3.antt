@@ -1,8 +1,8 @@
 -- The kinds of the fields of AMF 3, and what is refused in each (1.3.2, 2.2, 3.1: the markers, 3.9 to 3.16).
-use Rattle.std.specs.Prelude.{ℕ, ◌/◌, ◌%◌, Bool, true, false, not, ◌&&◌, List, [], ◌∷◌, length, map, slice_get, Option, Some, None, nat_lt, nat_le, ◌==◌, if◌then◌else◌, bytes_eq}
+use Rattle.std.specs.Prelude.{ℕ, ◌/◌, ◌%◌, Bool, true, false, ◌&&◌, List, [], ◌∷◌, length, map, slice_get, Option, Some, None, nat_lt, nat_le, ◌==◌, if◌then◌else◌, bytes_eq}
 use Rattle.std.specs.List.{list_any}
 use Rattle.amf_io.specs.declared.reason.Reason.{Reason}
-use Rattle.amf_io.specs.declared.reason.Reason.TheVariants.{BadMarker, BadReference, BadTraits, BadTextIndex, WrongKind, UnknownExternal, TooDeep}
+use Rattle.amf_io.specs.declared.reason.Reason.TheVariants.{BadMarker, BadReference, BadTraits, BadTextIndex, WrongKind, UnknownExternal}
 use Rattle.amf_io.specs.Field.{Kind, fixed, byte_kind, u29_kind}
 use Rattle.amf_graph.specs.declared.wrapped.Wrapped.TheVariants.{ArrayCollection, ArrayList, ObjectProxy}
 use Rattle.amf_graph.specs.Graph.{Leaf, undefined, null, boolean, integer, double, text, Head, xml_document, date, array, object, wrapper, xml, bytes, ints, uints, doubles, values, dictionary, Graph, node_at, class_name}
@@ -34,12 +34,9 @@ marker (dictionary f) = 0x11
 abbrev pub markers : Graph → List ℕ → List ℕ
 markers g nodes = map (λ i. marker (node_at g i).head) nodes
 
--- a marker, with so many levels left and nodes of these markers in the table: at no level left a node can only be referred to
-abbrev pub marker_refusal : ℕ → List ℕ → ℕ → Option Reason
-marker_refusal levels table m =
-    if nat_lt 0x11 m then Some BadMarker
-    else (if (levels == 0 && nat_le 0x07 m) && not (list_any (λ k. k == m) table) then Some TooDeep
-    else None)
+-- a marker
+abbrev pub marker_refusal : ℕ → Option Reason
+marker_refusal m = if nat_lt 0x11 m then Some BadMarker else None
 
 -- a node that is named has to be of the marker's kind
 abbrev pub kind_refusal : ℕ → Option ℕ → Option Reason
@@ -47,12 +44,11 @@ kind_refusal m None = Some BadReference
 kind_refusal m (Some k) = if k == m then None else Some WrongKind
 
 -- the header of a node with this marker
-abbrev pub header_refusal : ℕ → List ℕ → ℕ → ℕ → ℕ → Option Reason
-header_refusal levels table traits m header =
+abbrev pub header_refusal : List ℕ → ℕ → ℕ → ℕ → Option Reason
+header_refusal table traits m header =
     if header % 2 == 0 then kind_refusal m (slice_get table (header / 2))
-    else (if levels == 0 then Some TooDeep
     else (if ((m == 0x0A) && (header % 4 == 1)) && nat_le traits (header / 4) then Some BadTraits
-    else None))
+    else None)
 
 -- the header of a text
 abbrev pub text_header_refusal : ℕ → ℕ → Option Reason
@@ -82,11 +78,11 @@ class_header_refusal texts header =
 
 -- the kinds
 
-abbrev pub marker_kind : ℕ → List ℕ → Kind
-marker_kind levels table = byte_kind (marker_refusal levels table)
+abbrev pub marker_kind : Kind
+marker_kind = byte_kind marker_refusal
 
-abbrev pub header_kind : ℕ → List ℕ → ℕ → ℕ → Kind
-header_kind levels table traits m = u29_kind (header_refusal levels table traits m)
+abbrev pub header_kind : List ℕ → ℕ → ℕ → Kind
+header_kind table traits m = u29_kind (header_refusal table traits m)
 
 abbrev pub text_header_kind : ℕ → Kind
 text_header_kind texts = u29_kind (text_header_refusal texts)

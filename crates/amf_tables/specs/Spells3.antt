@@ -22,26 +22,30 @@ LeafBy s (text x) w fs w' = Text s x w fs w'
 LeafBy s _ w fs w' = Nothing w fs w'
 
 -- a marker alone
-abbrev pub Marked : ℕ → Graph → ℕ → Spelling Tables
-Marked levels g m t fs t' = (fs ≡ marker_field levels g t m ∷ []) × (t' ≡ t)
+abbrev pub Marked : ℕ → Spelling Tables
+Marked m t fs t' = (fs ≡ marker_field m ∷ []) × (t' ≡ t)
 
 -- a value, where Inline spells a node that has not been spelled
-abbrev pub ValueBy : (ℕ → Spelling Tables) → Style → ℕ → Graph → Value → Spelling Tables
-ValueBy Inline s levels g (leaf x) t fs t' = IsLeaf x × Then (Marked levels g (leaf_marker x)) (Lifted (LeafBy s x)) t fs t'
-ValueBy Inline s levels g (node i) t fs t' = Named s levels g i t fs t' ⊎ Inline i t fs t'
+abbrev pub ValueBy : (ℕ → Spelling Tables) → Style → Graph → Value → Spelling Tables
+ValueBy Inline s g (leaf x) t fs t' = IsLeaf x × Then (Marked (leaf_marker x)) (Lifted (LeafBy s x)) t fs t'
+ValueBy Inline s g (node i) t fs t' = Named s g i t fs t' ⊎ Inline i t fs t'
 
+-- an inline node with inline nodes within one another, at most so many with itself
 abbrev pub InlineIn : ℕ → Style → Graph → ℕ → Spelling Tables
 InlineIn zero s g i t fs t' = ⊥
-InlineIn (suc levels) s g i t fs t' = Begun (ValueBy (InlineIn levels s g) s levels g) s (suc levels) g i t fs t'
+InlineIn (suc n) s g i t fs t' = Begun (ValueBy (InlineIn n s g) s g) s g i t fs t'
 
--- with so many levels left
-abbrev pub Spells3 : ℕ → Style → Graph → Value → Spelling Tables
-Spells3 levels s g = ValueBy (InlineIn levels s g) s levels g
+-- a value in at most so many inline nodes within one another: its height
+abbrev pub SpellsIn : ℕ → Style → Graph → Value → Spelling Tables
+SpellsIn n s g = ValueBy (InlineIn n s g) s g
 
--- the fields spell the graph in at most so many levels, from empty tables
-abbrev pub IsSpelling3 : ℕ → Style → Graph → List Field → Type 0
-IsSpelling3 levels s g fs = (t : Tables) × Spells3 levels s g g.root no_tables fs t
+abbrev pub Spells3 : Style → Graph → Value → Spelling Tables
+Spells3 s g v t fs t' = (n : ℕ) × SpellsIn n s g v t fs t'
 
--- the bytes spell the graph, with no limit of depth
+-- the fields spell the graph, from empty tables
+abbrev pub IsSpelling3 : Style → Graph → List Field → Type 0
+IsSpelling3 s g fs = (t : Tables) × Spells3 s g g.root no_tables fs t
+
+-- the bytes spell the graph
 abbrev pub Spelled3 : Style → Graph → List ℕ → Type 0
-Spelled3 s g b = (levels : ℕ) × (fs : List Field) × IsSpelling3 levels s g fs × (b ≡ flat fs)
+Spelled3 s g b = (fs : List Field) × IsSpelling3 s g fs × (b ≡ flat fs)

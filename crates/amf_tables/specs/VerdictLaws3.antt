@@ -1,5 +1,5 @@
 -- The laws of the verdict on AMF 3: on a whole input, and on a value in the middle of something.
-use Rattle.std.specs.Prelude.{◌≡◌, ℕ, ◌-◌, ◌^◌, ◌<◌, ◌≤◌, ◌⊎◌, List, ◌++◌, length, take}
+use Rattle.std.specs.Prelude.{◌≡◌, ℕ, ◌≤◌, ◌⊎◌, List, ◌++◌}
 use Rattle.amf_io.specs.declared.reason.Reason.{Reason}
 use Rattle.amf_io.specs.Field.{Field, AreBytes, flat}
 use Rattle.amf_io.specs.Verdict.{FixesNext, IsAccepted, IsFault, IsFirstFault, IsJudged, IsJudgedOnce, IsRefused}
@@ -7,9 +7,9 @@ use Rattle.amf_graph.specs.Arena.{Arena, IsBuilt}
 use Rattle.amf_tables.specs.KeptTables.{KeptTables, AreTablesIn}
 use Rattle.amf_tables.specs.Reads3.{IsReading3}
 
--- it holds of what is accepted, with any number of levels, from any builder's arena and its tables
+-- it holds of what is accepted from any builder's arena and its tables
 abbrev pub OfEachReading : ((List Field → Type 0) → Type 0) → Type 0
-OfEachReading Law = (levels : ℕ) (a : Arena) (t : KeptTables) → IsBuilt a → AreTablesIn a t → Law (IsReading3 levels a t)
+OfEachReading Law = (a : Arena) (t : KeptTables) → IsBuilt a → AreTablesIn a t → Law (IsReading3 a t)
 
 pub record HasOneCut (P : List Field → Type 0) : Type 0 where
   -- the same bytes have one cut into fields
@@ -32,9 +32,9 @@ FirstFault3 = OfEachReading (λ P. (base at : ℕ) (input : List ℕ) (reason : 
 abbrev pub JudgedOnce3 : Type 0
 JudgedOnce3 = OfEachReading (λ P. (limit : ℕ) (input : List ℕ) → IsJudgedOnce P limit input)
 
--- an input has a verdict, where its bytes up to the limit and the nodes in the table are fewer than 2^28 together
+-- an input has a verdict
 abbrev pub Judged3 : Type 0
-Judged3 = (levels : ℕ) (a : Arena) (t : KeptTables) → IsBuilt a → AreTablesIn a t → (limit : ℕ) (input : List ℕ) → AreBytes input → length (take limit input) < 2 ^ 28 - length t.nodes → IsJudged (IsReading3 levels a t) limit input
+Judged3 = (a : Arena) (t : KeptTables) → IsBuilt a → AreTablesIn a t → (limit : ℕ) (input : List ℕ) → AreBytes input → IsJudged (IsReading3 a t) limit input
 
 -- A value in the middle of something: the bytes from an offset on.
 
@@ -53,4 +53,4 @@ EndsSomewhere P base limit input = ((end : ℕ) × (rest : List ℕ) × IsAccept
 
 abbrev pub Ends3 : Type 0
 Ends3 =
-    (levels : ℕ) (a : Arena) (t : KeptTables) → IsBuilt a → AreTablesIn a t → (base limit : ℕ) (input : List ℕ) → base ≤ limit → AreBytes input → length (take (limit - base) input) < 2 ^ 28 - length t.nodes → EndsSomewhere (IsReading3 levels a t) base limit input
+    (a : Arena) (t : KeptTables) → IsBuilt a → AreTablesIn a t → (base limit : ℕ) (input : List ℕ) → base ≤ limit → AreBytes input → EndsSomewhere (IsReading3 a t) base limit input

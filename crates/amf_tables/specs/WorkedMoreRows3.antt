@@ -27,9 +27,9 @@ open_array = record { texts = []; traits = []; nodes = record { is_open = true; 
 abbrev pub open_tables : KeptTables
 open_tables = record { texts = []; traits = []; nodes = 0 ∷ [] }
 
--- the fields of 09 00, with no level left
+-- the fields of 09 00
 abbrev pub reference_fields : List Field
-reference_fields = field (marker_kind 0 (9 ∷ [])) (0x09 ∷ []) ∷ field (header_kind 0 (9 ∷ []) 0 9) (0x00 ∷ []) ∷ []
+reference_fields = field marker_kind (0x09 ∷ []) ∷ field (header_kind (9 ∷ []) 0 9) (0x00 ∷ []) ∷ []
 
 abbrev pub collected_at : ℕ → Node
 collected_at i = record { head = wrapper ArrayCollection; names = []; values = node i ∷ [] }
@@ -47,8 +47,8 @@ pub record MoreRows3 : Type 0 where
   pub order_kept : by_name one_name ≡ one_name
   pub name_twice : Spelled3 free named_twice (0x09 ∷ 0x01 ∷ 0x03 ∷ 0x61 ∷ 0x01 ∷ 0x03 ∷ 0x61 ∷ 0x02 ∷ 0x01 ∷ [])
   pub name_by_place : Spelled3 canonical named_twice (0x09 ∷ 0x01 ∷ 0x03 ∷ 0x61 ∷ 0x01 ∷ 0x00 ∷ 0x02 ∷ 0x01 ∷ [])
-  -- a node that is still open can be named, also with no level left
-  pub open_node : IsReading3 0 open_array open_tables reference_fields
+  -- a node that is still open can be named
+  pub open_node : IsReading3 open_array open_tables reference_fields
   pub wrapper_traits_by_place : Spelled3 canonical two_collections (0x09 ∷ 0x05 ∷ 0x01 ∷ 0x0A ∷ 0x07 ∷ 0x43 ∷ class_name ArrayCollection ++ 0x09 ∷ 0x01 ∷ 0x01 ∷ 0x0A ∷ 0x01 ∷ 0x09 ∷ 0x04 ∷ [])
   pub typed_values : Spelled3 canonical (single (values false (0x43 ∷ [])) (leaf null ∷ [])) (0x10 ∷ 0x03 ∷ 0x00 ∷ 0x03 ∷ 0x43 ∷ 0x01 ∷ [])
   pub class_by_place : Spelled3 canonical name_and_collection (0x09 ∷ 0x05 ∷ 0x01 ∷ 0x06 ∷ 0x43 ∷ class_name ArrayCollection ++ 0x0A ∷ 0x07 ∷ 0x00 ∷ 0x09 ∷ 0x01 ∷ 0x01 ∷ [])

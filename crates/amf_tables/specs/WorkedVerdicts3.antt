@@ -1,23 +1,17 @@
 -- Worked verdicts on inputs of one AMF 3 value.
 use Rattle.std.specs.Prelude.{ℕ, List, [], ◌∷◌, replicate}
 use Rattle.amf_io.specs.declared.reason.Reason.{Reason}
-use Rattle.amf_io.specs.declared.reason.Reason.TheVariants.{Truncated, BadMarker, BadReference, BadTraits, BadTextIndex, BadText, WrongKind, UnknownExternal, TooDeep, Trailing}
+use Rattle.amf_io.specs.declared.reason.Reason.TheVariants.{Truncated, BadMarker, BadReference, BadTraits, BadTextIndex, BadText, WrongKind, UnknownExternal, Trailing}
 use Rattle.amf_io.specs.Verdict.{IsInputRefused, IsInputAccepted}
 use Rattle.amf_tables.specs.Reads3.{IsValue3}
 
--- with so many levels, and 2^24 bytes
-abbrev pub AcceptedIn : ℕ → List ℕ → Type 0
-AcceptedIn levels = IsInputAccepted (IsValue3 levels) 16777216
+-- within 2^26 bytes
 
-abbrev pub RefusedIn : ℕ → List ℕ → Reason → ℕ → Type 0
-RefusedIn levels = IsInputRefused (IsValue3 levels) 16777216
-
--- with 512 levels
 abbrev pub Accepted : List ℕ → Type 0
-Accepted = AcceptedIn 512
+Accepted = IsInputAccepted IsValue3 67108864
 
 abbrev pub Refused : List ℕ → Reason → ℕ → Type 0
-Refused = RefusedIn 512
+Refused = IsInputRefused IsValue3 67108864
 
 pub record Verdicts : Type 0 where
   pub a_null : Accepted (0x01 ∷ [])
@@ -46,7 +40,6 @@ pub record Verdicts : Type 0 where
   pub other_class : Refused (0x0A ∷ 0x07 ∷ 0x37 ∷ replicate 27 0x61) UnknownExternal 3
   -- a class name is compared, never read as a text
   pub no_text_class : Refused (0x0A ∷ 0x07 ∷ 0x37 ∷ replicate 27 0xFF) UnknownExternal 3
-  -- with one level: an array can hold itself, but not another one, and no date
-  pub itself : AcceptedIn 1 (0x09 ∷ 0x03 ∷ 0x01 ∷ 0x09 ∷ 0x00 ∷ [])
-  pub deep_array : RefusedIn 1 (0x09 ∷ 0x03 ∷ 0x01 ∷ 0x09 ∷ 0x01 ∷ 0x01 ∷ []) TooDeep 4
-  pub deep_date : RefusedIn 1 (0x09 ∷ 0x03 ∷ 0x01 ∷ 0x08 ∷ 0x01 ∷ []) TooDeep 3
+  -- arrays stand within one another, and so does a date that is cut off
+  pub nested : Accepted (0x09 ∷ 0x03 ∷ 0x01 ∷ 0x09 ∷ 0x01 ∷ 0x01 ∷ [])
+  pub cut_date : Refused (0x09 ∷ 0x03 ∷ 0x01 ∷ 0x08 ∷ 0x01 ∷ []) Truncated 5

@@ -25,7 +25,7 @@ pub fn verdict_rows()
     ensures { Verdicts }
 {}
 
-/// Worked lacks of AMF 3: an empty name, and a node past the limit of depth.
+/// Worked lacks of AMF 3: an empty name of the root, and of a node behind it.
 pub fn lack_rows()
     ensures { Lacks }
 {}

@@ -1,7 +1,8 @@
 ghost use Rattle.amf_tables.specs.LawsByName.{SortIsByName};
 ghost use Rattle.amf_tables.specs.LawsCanonical3.{CanonicalDecides, CanonicalExists, CanonicalIsAlone, IsomorphicHaveSameCanonical, SameBytesAreIsomorphic};
+ghost use Rattle.amf_tables.specs.LawsHeight3.{MoreHeightSpells};
 ghost use Rattle.amf_tables.specs.LawsIsomorphic.{IsomorphicIsEquivalence};
-ghost use Rattle.amf_tables.specs.LawsLack3.{SpellingOrLack};
+ghost use Rattle.amf_tables.specs.LawsLack3.{SpelledLacksNothing, SpellingOrLack};
 ghost use Rattle.amf_tables.specs.LawsOrder.{OrderDecides};
 ghost use Rattle.amf_tables.specs.LawsTable3.{TableIsOrder};
 
@@ -38,8 +39,7 @@ pub fn canonical_decides()
     ensures { CanonicalDecides }
 {}
 
-/// A whole graph within bounds in which no dynamic or associative name is empty has a canonical spelling, in some number of
-/// levels.
+/// A whole graph within bounds in which no dynamic or associative name is empty has a canonical spelling.
 pub fn canonical_exists()
     ensures { CanonicalExists }
 {}
@@ -49,10 +49,20 @@ pub fn table_is_order()
     ensures { TableIsOrder }
 {}
 
-/// For each number of levels, a whole graph within bounds has a canonical spelling in so many or a first lack with its kind,
-/// and not both; isomorphic graphs have the same first lack.
+/// A whole graph within bounds has a canonical spelling or a first lack with its kind, and not both; isomorphic graphs have
+/// the same first lack.
 pub fn spelling_or_lack()
     ensures { SpellingOrLack }
+{}
+
+/// A graph that any bytes spell, canonically or not, has no reached node with an empty name, and so it lacks nothing.
+pub fn spelled_lacks_nothing()
+    ensures { SpelledLacksNothing }
+{}
+
+/// What is spelled in so many inline nodes within one another is spelled in more, by the same fields and bytes.
+pub fn more_height_spells()
+    ensures { MoreHeightSpells }
 {}
 
 /// What std's stable sort by the names' bytes gives is by-name order.

@@ -5,8 +5,7 @@ pub fn layouts_grow()
     ensures { Layout3Grows }
 {}
 
-/// What has been read of a value of AMF 3 can be completed after every start, while the nodes that were in
-/// the table before and the bytes read so far are fewer than 2^28 together.
+/// What has been read of a value of AMF 3 can be completed after every start.
 pub fn layouts_complete_starts()
     ensures { Layout3Able }
 {}
@@ -31,13 +30,13 @@ pub fn layouts_are_sound()
 
 /// From a builder's arena and its tables, the layouts are those of the spellings of AMF 3: they read
 /// every list of fields that is accepted, and of bytes no other; more fuel changes no answer; and what
-/// has been read can be completed, with fuel up to 2^28 less the number of nodes in the table.
+/// has been read can be completed.
 pub fn layouts_are_of_spellings()
     ensures { Layout3OfSpellings }
 {}
 
 /// From nothing, the lists of fields of bytes that are accepted are exactly those that spell some
-/// graph, with the same number of levels.
+/// graph.
 pub fn values_are_spellings()
     ensures { ValuesAreSpellings3 }
 {}

@@ -1,4 +1,4 @@
-//! Laws of the verdict on AMF 3, with any number of levels, from any builder's arena and its tables.
+//! Laws of the verdict on AMF 3, from any builder's arena and its tables.
 
 ghost use Rattle.amf_tables.specs.VerdictLaws3.{Ends3, FirstFault3, Judged3, JudgedOnce3, NextKind3, OneCut3, ReadOnce3};
 
@@ -18,9 +18,8 @@ pub fn faults_are_first()
     ensures { FirstFault3 }
 {}
 
-/// An input of bytes has a verdict, where its bytes up to the limit and the nodes in the table are
-/// fewer than 2^28 together, and no input has two: it is one value of AMF 3, or it is refused for one
-/// reason at one offset.
+/// An input of bytes has a verdict, and no input has two: it is one value of AMF 3, or it is refused
+/// for one reason at one offset.
 pub fn inputs_have_one_verdict()
     ensures judged { Judged3 }
     ensures once { JudgedOnce3 }

@@ -4,4 +4,4 @@ use Rattle.amf_tables.proofs.Clean.{clean3}
 use Rattle.amf_tables.proofs.facts.fields_agree.Goals as goal
 
 pub returns : goal.returns
-returns c = λ levels g v t fs t'. clean3 levels free g v t fs t'
+returns c = λ g v t fs t'. clean3 free g v t fs t'

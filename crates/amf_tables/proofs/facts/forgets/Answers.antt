@@ -4,4 +4,4 @@ use Rattle.amf_tables.proofs.Forget.{forget3}
 use Rattle.amf_tables.proofs.facts.forgets.Goals as goal
 
 pub returns : goal.returns
-returns c = λ levels g v t fs t'. forget3 levels canonical g v t fs t'
+returns c = λ g v t fs t'. forget3 canonical g v t fs t'

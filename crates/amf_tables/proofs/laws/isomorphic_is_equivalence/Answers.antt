@@ -1,5 +1,5 @@
 -- Isomorphic is an equivalence.
-use Rattle.amf_graph.proofs.Descents.{isomorphic_refl}
+use Rattle.amf_graph.proofs.OrderExists.{isomorphic_refl}
 use Rattle.amf_graph.proofs.Isomorphisms.{isomorphic_sym, isomorphic_trans}
 use Rattle.amf_tables.proofs.laws.isomorphic_is_equivalence.Goals as goal
 

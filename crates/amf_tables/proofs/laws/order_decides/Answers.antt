@@ -1,6 +1,6 @@
 -- The canonical order is one and decides.
 use Rattle.amf_graph.proofs.Walks.{walks_fixed}
-use Rattle.amf_graph.proofs.Descents.{order_exists}
+use Rattle.amf_graph.proofs.OrderExists.{order_exists}
 use Rattle.amf_graph.proofs.Places.{to_places, from_places}
 use Rattle.amf_tables.proofs.laws.order_decides.Goals as goal
 

@@ -1,5 +1,4 @@
 -- An input has one verdict.
-use Rattle.std.proofs.Common.{◌-◌, ◌^◌, length}
 use Rattle.amf_tables.specs.Reads3.{IsReading3}
 use Rattle.amf_tables.specs.Layout3State.{state_of}
 use Rattle.amf_tables.specs.Layout3.{value_layout}
@@ -9,6 +8,6 @@ use Rattle.amf_tables.proofs.verdict_laws.inputs_have_one_verdict.Goals as goal
 
 pub returns : goal.returns
 returns c = record {
-  judged = λ levels a t built valid limit input bytes lt. judged (2 ^ 28 - length t.nodes) (λ n. value_layout n levels (state_of a t)) (IsReading3 levels a t) (is_layout levels a t built valid) limit input lt bytes;
-  once = λ levels a t built valid limit input. judged_once (2 ^ 28 - length t.nodes) (λ n. value_layout n levels (state_of a t)) (IsReading3 levels a t) (is_layout levels a t built valid) limit input;
+  judged = λ a t built valid limit input bytes. judged (λ n. value_layout n (state_of a t)) (IsReading3 a t) (is_layout a t built valid) limit input bytes;
+  once = λ a t built valid limit input. judged_once (λ n. value_layout n (state_of a t)) (IsReading3 a t) (is_layout a t built valid) limit input;
 }

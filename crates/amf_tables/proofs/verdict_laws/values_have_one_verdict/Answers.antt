@@ -1,5 +1,4 @@
 -- A value in the middle of something has one verdict.
-use Rattle.std.proofs.Common.{◌-◌, ◌^◌, length}
 use Rattle.amf_tables.specs.Reads3.{IsReading3}
 use Rattle.amf_tables.specs.Layout3State.{state_of}
 use Rattle.amf_tables.specs.Layout3.{value_layout}
@@ -9,6 +8,6 @@ use Rattle.amf_tables.proofs.verdict_laws.values_have_one_verdict.Goals as goal
 
 pub returns : goal.returns
 returns c = record {
-  judged = λ levels a t built valid base limit input le bytes lt. ends_somewhere (2 ^ 28 - length t.nodes) (λ n. value_layout n levels (state_of a t)) (IsReading3 levels a t) (is_layout levels a t built valid) base limit input le bytes lt;
-  once = λ levels a t built valid base limit input. read_once (2 ^ 28 - length t.nodes) (λ n. value_layout n levels (state_of a t)) (IsReading3 levels a t) (is_layout levels a t built valid) base limit input;
+  judged = λ a t built valid base limit input le bytes. ends_somewhere (λ n. value_layout n (state_of a t)) (IsReading3 a t) (is_layout a t built valid) base limit input le bytes;
+  once = λ a t built valid base limit input. read_once (λ n. value_layout n (state_of a t)) (IsReading3 a t) (is_layout a t built valid) base limit input;
 }

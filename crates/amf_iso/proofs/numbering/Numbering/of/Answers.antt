@@ -12,7 +12,7 @@ use Rattle.amf_iso.specs.Contents.{values_of}
 use Rattle.amf_iso.specs.Numbers.{AreNumbers}
 use Rattle.amf_iso.proofs.MetValues.{all_append, all_reverse, met_few}
 use Rattle.amf_iso.proofs.Numbers.{some_is, none_is, is_absent, numbered_push, no_numbers, only_none}
-use Rattle.amf_iso.proofs.Reaching.{order_once, order_reached}
+use Rattle.amf_graph.proofs.Reaching.{order_once, order_reached}
 use Rattle.amf_iso.proofs.Steps.{past_leaf, met_again, met_first, rest_in, top_in}
 use Rattle.amf_iso.proofs.numbering.Numbering.of.Goals as goal
 

@@ -1,5 +1,5 @@
--- Each graph of which all that is reached is there has a canonical order and canonical depths, and so it is isomorphic to itself.
-use Rattle.std.proofs.Common.{◌≡◌, ℕ, zero, suc, ◌<◌, ◌≤◌, ◌≢◌, ◌⊎◌, Bool, true, false, cond, List, [], ◌∷◌, ◌++◌, length, slice_get, Some, sym, refl, ap, ◌∙◌, subst, inl, inr, arith, append_assoc, append-nil}
+-- Each graph of which all that is reached is there has a canonical order, and so it is isomorphic to itself.
+use Rattle.std.proofs.Common.{◌≡◌, ℕ, zero, suc, ◌<◌, ◌≤◌, ◌≢◌, ◌⊎◌, Bool, true, false, cond, List, [], ◌∷◌, ◌++◌, length, slice_get, Some, sym, refl, ◌∙◌, subst, inl, inr, arith}
 use Rattle.std.specs.List.{AllZip, AllByRecursion}
 use Rattle.std.proofs.lemmas.Bool.{cases_eq}
 use Rattle.std.proofs.lemmas.Option.{same_Some}
@@ -7,8 +7,7 @@ use Rattle.amf_graph.specs.Graph.{Value, leaf, node, Graph, node_at}
 use Rattle.amf_graph.specs.ByName.{by_name}
 use Rattle.amf_graph.specs.Isomorphic.{ValuesMatch, PairsMatch, NodesMatch, Isomorphic}
 use Rattle.amf_graph.specs.Reached.{Reached, at_root, inside}
-use Rattle.amf_graph.specs.Order as order
-use Rattle.amf_graph.specs.Order.{Absent, is_array, seconds, values_met, at_depth, Descends, over, past, again, first, HasDepths, Walks, IsOrder}
+use Rattle.amf_graph.specs.Order.{Absent, is_array, seconds, values_met, over, past, again, first, Walks, IsOrder}
 use Rattle.amf_graph.proofs.Lists.{search_for}
 use Rattle.amf_graph.proofs.NameOrder.{by_name_all}
 use Rattle.amf_graph.proofs.Counting.{missing, missing_push}
@@ -30,38 +29,30 @@ Holds G (node i) = G i
 
 module _ (g : Graph) (G : ℕ → Type 0) (closed : (i : ℕ) → G i → (i < length g.nodes) × AllByRecursion (Holds G) (values_met (node_at g i))) where
   abbrev Total : ℕ → List Value → Type 0
-  Total d vs = (k : ℕ) (xs : List ℕ) → missing (length g.nodes) xs ≤ d → (ws : List (Value × ℕ)) → ((ys : List ℕ) → missing (length g.nodes) ys ≤ missing (length g.nodes) xs → (ms : List (ℕ × ℕ)) × Descends g ys ws ms) → (ms : List (ℕ × ℕ)) × Descends g xs (at_depth k vs ++ ws) ms
+  Total d vs = (xs : List ℕ) → missing (length g.nodes) xs ≤ d → (ws : List Value) → ((ys : List ℕ) → missing (length g.nodes) ys ≤ missing (length g.nodes) xs → (all : List ℕ) × Walks g ys ws all) → (all : List ℕ) × Walks g xs (vs ++ ws) all
 
   total_values : (d : ℕ) → ((i : ℕ) → G i → Total d (node i ∷ [])) → (vs : List Value) → AllByRecursion (Holds G) vs → Total d vs
-  total_values d f [] h k xs m ws r = r xs (omega arith)
-  total_values d f (leaf x ∷ vs) h k xs m ws r = let o = total_values d f vs h.1 k xs m ws r in (o.0, past x k o.1)
-  total_values d f (node i ∷ vs) h k xs m ws r = f i h.0 k xs m (at_depth k vs ++ ws) (λ ys l. total_values d f vs h.1 k ys (omega arith) ws (λ zs l'. r zs (omega arith)))
+  total_values d f [] h xs m ws r = r xs (omega arith)
+  total_values d f (leaf x ∷ vs) h xs m ws r = let o = total_values d f vs h.1 xs m ws r in (o.0, past x o.1)
+  total_values d f (node i ∷ vs) h xs m ws r = f i h.0 xs m (vs ++ ws) (λ ys l. total_values d f vs h.1 ys (omega arith) ws (λ zs l'. r zs (omega arith)))
 
   total_node : (d i : ℕ) → G i → Total d (node i ∷ [])
-  total_node zero i h k xs m ws r =
+  total_node zero i h xs m ws r =
       elim (search_for cases_eq xs i) [
-        | inl p ↦ let o = r xs (omega arith) in (o.0, again i k p.0 p.1 o.1)
+        | inl p ↦ let o = r xs (omega arith) in (o.0, again i p.0 p.1 o.1)
         | inr new ↦ let less : missing (length g.nodes) (xs ++ i ∷ []) < missing (length g.nodes) xs = missing_push (length g.nodes) i xs (closed i h).0 new in absurd (omega arith)
       ]
-  total_node (suc d) i h k xs m ws r = go (total_values d (total_node d)) (search_for cases_eq xs i)
+  total_node (suc d) i h xs m ws r = go (total_values d (total_node d)) (search_for cases_eq xs i)
     where
-      go : ((vs : List Value) → AllByRecursion (Holds G) vs → Total d vs) → ((p : ℕ) × (slice_get xs p ≡ Some i) × ((j : ℕ) → j < p → slice_get xs j ≢ Some i)) ⊎ Absent xs i → (ms : List (ℕ × ℕ)) × Descends g xs ((node i, k) ∷ ws) ms
-      go f (inl p) = let o = r xs (omega arith) in (o.0, again i k p.0 p.1 o.1)
+      go : ((vs : List Value) → AllByRecursion (Holds G) vs → Total d vs) → ((p : ℕ) × (slice_get xs p ≡ Some i) × ((j : ℕ) → j < p → slice_get xs j ≢ Some i)) ⊎ Absent xs i → (all : List ℕ) × Walks g xs (node i ∷ ws) all
+      go f (inl p) = let o = r xs (omega arith) in (o.0, again i p.0 p.1 o.1)
       go f (inr new) =
           let less : missing (length g.nodes) (xs ++ i ∷ []) < missing (length g.nodes) xs = missing_push (length g.nodes) i xs (closed i h).0 new in
-          let o = f (values_met (node_at g i)) (closed i h).1 (suc k) (xs ++ i ∷ []) (omega arith) ws (λ ys l. r ys (omega arith)) in
-          ((i, k) ∷ o.0, first i k (closed i h).0 new o.1)
+          let o = f (values_met (node_at g i)) (closed i h).1 (xs ++ i ∷ []) (omega arith) ws (λ ys l. r ys (omega arith)) in
+          (o.0, first i (closed i h).0 new o.1)
 
-  pub total_root : Holds G g.root → (ms : List (ℕ × ℕ)) × HasDepths 1 g ms
-  total_root h = total_values (missing (length g.nodes) []) (total_node (missing (length g.nodes) [])) (g.root ∷ []) (h, tt) 1 [] (omega arith) [] (λ ys l. ([], over))
-
-pub depths_fixed : {g : Graph} {xs : List ℕ} {ms ns : List (ℕ × ℕ)} {vs : List (Value × ℕ)} → Descends g xs vs ms → Descends g xs vs ns → ms ≡ ns
-depths_fixed over over = refl
-depths_fixed (past x k a) (past y l b) = depths_fixed a b
-depths_fixed (again i k p e a) (again j l q f b) = depths_fixed a b
-depths_fixed (again i k p e a) (first j l m n b) = absurd (n p e)
-depths_fixed (first i k l n a) (again j m q f b) = absurd (n q f)
-depths_fixed (first i k l n a) (first j m o p b) = ap (λ w. (i, k) ∷ w) (depths_fixed a b)
+  pub total_root : Holds G g.root → (xs : List ℕ) × IsOrder g xs
+  total_root h = total_values (missing (length g.nodes) []) (total_node (missing (length g.nodes) [])) (g.root ∷ []) (h, tt) [] (omega arith) [] (λ ys l. (ys, over))
 
 values_held : (g : Graph) (vs : List Value) → ((k i : ℕ) → slice_get vs k ≡ Some (node i) → Reached g i) → AllByRecursion (Holds (Reached g)) vs
 values_held g [] h = tt
@@ -81,8 +72,8 @@ root_held : (g : Graph) (v : Value) → g.root ≡ v → Holds (Reached g) v
 root_held g (leaf x) e = tt
 root_held g (node n) e = at_root e
 
-pub depths_exist : (g : Graph) → ((i : ℕ) → Reached g i → i < length g.nodes) → (found : List (ℕ × ℕ)) × HasDepths 1 g found
-depths_exist g there =
+pub order_exists : (g : Graph) → ((i : ℕ) → Reached g i → i < length g.nodes) → (xs : List ℕ) × IsOrder g xs
+order_exists g there =
     total_root g (Reached g)
     (λ i r. (
       there i r,
@@ -91,31 +82,6 @@ depths_exist g there =
           (values_held g (node_at g i).values (λ k j e. inside i r (inl (k, e)))),
     ))
     (root_held g g.root refl)
-
-firsts : List (ℕ × ℕ) → List ℕ
-firsts [] = []
-firsts (p ∷ ps) = p.0 ∷ firsts ps
-
-bare : List (Value × ℕ) → List Value
-bare [] = []
-bare (p ∷ ps) = p.0 ∷ bare ps
-
-bare_append : (depth : ℕ) (vs : List Value) (ws : List (Value × ℕ)) → bare (at_depth depth vs ++ ws) ≡ vs ++ bare ws
-unfolding bare
-bare_append depth [] ws = refl
-bare_append depth (v ∷ vs) ws = ap (λ w. v ∷ w) (bare_append depth vs ws)
-
-descent_walks : {g : Graph} {met : List ℕ} {vs : List (Value × ℕ)} {found : List (ℕ × ℕ)} → Descends g met vs found → Walks g met (bare vs) (met ++ firsts found)
-unfolding bare firsts
-descent_walks {g} {met} over = subst (λ w. Walks g met [] w) (sym (append-nil met)) order.over
-descent_walks (past x depth a) = order.past x (descent_walks a)
-descent_walks (again i depth k e a) = order.again i k e (descent_walks a)
-descent_walks {g} {met} (first {found = found} {vs = vs} i depth l n a) =
-    order.first i l n (subst (λ w. Walks g (met ++ i ∷ []) w (met ++ i ∷ firsts found)) (bare_append (suc depth) (values_met (node_at g i)) vs) (subst (λ w. Walks g (met ++ i ∷ []) (bare (at_depth (suc depth) (values_met (node_at g i)) ++ vs)) w) (append_assoc met (i ∷ []) (firsts found)) (descent_walks a)))
-
-pub order_exists : (g : Graph) → ((i : ℕ) → Reached g i → i < length g.nodes) → (xs : List ℕ) × IsOrder g xs
-unfolding bare
-order_exists g there = let d = depths_exist g there in (firsts d.0, descent_walks d.1)
 
 same_value : (xs : List ℕ) (v : Value) → In xs v → ValuesMatch (SamePlace xs xs) v v
 same_value xs (leaf x) h = refl

@@ -1,22 +1,23 @@
 -- A canonical order has the nodes that the root leads to, and no others.
-use Rattle.std.proofs.Common.{◌≡◌, ℕ, List, [], ◌∷◌, ◌++◌, slice_get, Some, refl, subst, inl, inr, arith}
+use Rattle.std.proofs.Common.{◌≡◌, ◌↔◌, ℕ, List, [], ◌∷◌, ◌++◌, slice_get, Some, refl, subst, inl, inr, arith}
 use Rattle.std.specs.List.{AllByRecursion}
 use Rattle.amf_graph.specs.Graph.{Value, node, Graph, node_at}
 use Rattle.amf_graph.specs.ByName.{by_name}
 use Rattle.amf_graph.specs.Order.{is_array, seconds, values_met, Walks, over, past, again, first, IsOrder, IsDistinct}
 use Rattle.amf_graph.specs.Reached.{Holds, Reached, at_root, inside, IsReachedValue}
-use Rattle.amf_graph.proofs.Alls.{all_append}
-use Rattle.amf_graph.proofs.Descents.{each_met as met_each}
+use Rattle.amf_graph.proofs.Alls.{all_append, each_at, each_from}
+use Rattle.amf_graph.proofs.OrderExists.{each_met as met_each}
 use Rattle.amf_graph.proofs.Lists.{at_push, no_entry}
 use Rattle.amf_graph.proofs.NameOrder.{by_name_all, by_name_all_back}
 use Rattle.amf_graph.proofs.Places.{each_met}
 use Rattle.amf_graph.proofs.Walks.{In, walk_distinct, walk_closed}
-use Rattle.amf_tables.proofs.Exists3.{each_at}
-use Rattle.amf_iso.specs.Numbers.{HasReached}
-use Rattle.amf_iso.proofs.OrderParts.{each_of, seconds_all}
 
 pub order_once : (g : Graph) (order : List ℕ) → IsOrder g order → IsDistinct order
 order_once g order w = walk_distinct w (λ j k i e f. absurd (no_entry j i e))
+
+pub seconds_all : (P : Value → Type 0) (ps : List (List ℕ × Value)) → AllByRecursion P (seconds ps) → AllByRecursion (λ p. P p.1) ps
+seconds_all P [] h = tt
+seconds_all P (p ∷ ps) h = (h.0, seconds_all P ps h.1)
 
 -- what is reached stands in an order
 module _ (g : Graph) (order : List ℕ) (w : IsOrder g order) where
@@ -46,10 +47,10 @@ seconds_each P (p ∷ ps) h = (h.0, seconds_each P ps h.1)
 met_reached : (g : Graph) (i : ℕ) → Reached g i → AllByRecursion (IsReachedValue g) (values_met (node_at g i))
 met_reached g i r =
     let a = node_at g i in
-    let names : AllByRecursion (λ (p : List ℕ × Value). IsReachedValue g p.1) a.names = each_of (λ (p : List ℕ × Value). IsReachedValue g p.1) a.names (λ k p e. inr (i, r, inr (k, p.0, e))) in
+    let names : AllByRecursion (λ (p : List ℕ × Value). IsReachedValue g p.1) a.names = each_from (λ (p : List ℕ × Value). IsReachedValue g p.1) a.names (λ k p e. inr (i, r, inr (k, p.0, e))) in
     met_each (IsReachedValue g) (is_array a.head) (by_name a.names) a.values
     (seconds_each (IsReachedValue g) (by_name a.names) (by_name_all (λ p. IsReachedValue g p.1) a.names names))
-    (each_of (IsReachedValue g) a.values (λ k v e. inr (i, r, inl (k, e))))
+    (each_from (IsReachedValue g) a.values (λ k v e. inr (i, r, inl (k, e))))
 
 abbrev AreReached : Graph → List ℕ → Type 0
 AreReached g xs = (k i : ℕ) → slice_get xs k ≡ Some i → Reached g i
@@ -65,5 +66,5 @@ walk_reached {g} {xs = xs} (first {vs = vs} j l n a) r h =
     let here : Reached g j = node_reached g j h.0 in
     walk_reached a (reached_push g xs j r here) (all_append (IsReachedValue g) (values_met (node_at g j)) vs (met_reached g j here) h.1)
 
-pub order_reached : (g : Graph) (order : List ℕ) → IsOrder g order → HasReached g order
+pub order_reached : (g : Graph) (order : List ℕ) → IsOrder g order → (i : ℕ) → Reached g i ↔ ((k : ℕ) × (slice_get order k ≡ Some i))
 order_reached g order w i = (reached_stands g order w i, λ o. walk_reached w (λ k i e. absurd (no_entry k i e)) (inl refl, tt) o.0 i o.1)
