@@ -11,7 +11,6 @@ mod PartPut
 mod Stack
 mod Empties
 mod NodeStarts
-mod FreeLayout
 mod GoesOn
 mod TextsLayouts
 mod TextsReads

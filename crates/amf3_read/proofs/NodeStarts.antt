@@ -20,7 +20,7 @@ use Rattle.amf_tables.specs.Reads3.{Grows}
 use Rattle.amf_tables.specs.Refusals3.{header_refusal, header_kind}
 use Rattle.amf_tables.specs.Layout3State.{State3, state_of, begun}
 use Rattle.amf_tables.specs.Layout3Words as layout
-use Rattle.amf_tables.specs.Layout3.{NodeForm, node_marker, Form, ValueRead, read, known_node, opening, parts, inline_node, node_layout, behind_marker}
+use Rattle.amf_tables.specs.Layout3.{NodeForm, node_marker, Form, ValueRead, read, known_node, opening, parts, inline_node, node_layout, behind_marker, value_layout}
 use Rattle.amf_tables.proofs.Reader3Tables.{grows_itself, open_there, open_place}
 use Rattle.amf3_read.specs.declared.opening.Parts.{Parts}
 use Rattle.amf3_read.specs.declared.opening.Parts.TheVariants.{Array, Object, Items, Entries}
@@ -33,7 +33,7 @@ use Rattle.amf3_read.specs.Steps.{marker_layout}
 use Rattle.amf3_read.specs.Filling.{IsEmptyNode}
 use Rattle.amf3_read.specs.Ready.{Ready, left_of}
 use Rattle.amf3_read.specs.Begins.{Begins, has_parts, IsShaped, IsBegun}
-use Rattle.amf3_read.specs.Frames.{free_layout, todo, Suits, Kept, Starts, StartsBy, StartHolds}
+use Rattle.amf3_read.specs.Frames.{todo, Suits, Kept, Starts, StartsBy, StartHolds}
 use Rattle.amf3_read.proofs.LayoutBinds.{bind_give}
 use Rattle.amf3_read.proofs.InlineReads.{parts_at, whole_continues, parts_are}
 use Rattle.amf3_read.proofs.TextReads.{odd_test}
@@ -115,25 +115,25 @@ module _ {S : Type 0} (tells : S → Type 0) (left : S → List ℕ) (faults : S
 
 -- Behind a header.
 module _ {S : Type 0} (tells : S → Type 0) (left : S → List ℕ) (faults : S → ℕ) (v : State3 → Layout ValueRead) (n : ℕ) (f : NodeForm) (s : State3) (c d : Cursor S Window) (b : List ℕ) (h : ℕ) (fd : AnswersField {X = List ℕ} tells left (λ x. x) u29 c d (Ok b)) (is : h ≡ u29_value b)
-    (g : Goes {X = List ℕ} tells left faults c d (Ok b)) (placed : IsPlaced d) (clean : header_refusal 1 s.marks (length s.words.traits) (node_marker f) h ≡ None) (odd : h % 2 ≡ 1) where
+    (g : Goes {X = List ℕ} tells left faults c d (Ok b)) (placed : IsPlaced d) (clean : header_refusal s.marks (length s.words.traits) (node_marker f) h ≡ None) (odd : h % 2 ≡ 1) where
   abbrev behind_header : ℕ → Layout ValueRead
   behind_header k = cond (eqb (k % 2) 0) (give (known_node s (k / 2))) (inline_node v n f k s)
 
-  header_leads : Leads tells left (node_layout v n 1 f s) (inline_node v n f h s) c d
+  header_leads : Leads tells left (node_layout v n f s) (inline_node v n f h s) c d
   header_leads =
-      subst (λ o. Leads tells left (node_layout v n 1 f s) (cond o (give (known_node s (h / 2))) (inline_node v n f h s)) c d) (odd_test h odd)
-      (subst (λ k. Leads tells left (node_layout v n 1 f s) (behind_header k) c d) (sym is)
-      (leads_behind tells left faults (λ (x : List ℕ). x) (want (header_kind 1 s.marks (length s.words.traits) (node_marker f)) (λ x. give x)) (λ x. behind_header (u29_value x)) c d b
-      (field_reads tells left faults (λ (x : List ℕ). x) (λ (x : List ℕ). x) (header_kind 1 s.marks (length s.words.traits) (node_marker f)) (λ x. give x) c d d b (Ok b) g fd
-      (subst (λ k. header_refusal 1 s.marks (length s.words.traits) (node_marker f) k ≡ None) is clean) (gives tells left faults (λ (x : List ℕ). x) d b b placed refl))))
+      subst (λ o. Leads tells left (node_layout v n f s) (cond o (give (known_node s (h / 2))) (inline_node v n f h s)) c d) (odd_test h odd)
+      (subst (λ k. Leads tells left (node_layout v n f s) (behind_header k) c d) (sym is)
+      (leads_behind tells left faults (λ (x : List ℕ). x) (want (header_kind s.marks (length s.words.traits) (node_marker f)) (λ x. give x)) (λ x. behind_header (u29_value x)) c d b
+      (field_reads tells left faults (λ (x : List ℕ). x) (λ (x : List ℕ). x) (header_kind s.marks (length s.words.traits) (node_marker f)) (λ x. give x) c d d b (Ok b) g fd
+      (subst (λ k. header_refusal s.marks (length s.words.traits) (node_marker f) k ≡ None) is clean) (gives tells left faults (λ (x : List ℕ). x) d b b placed refl))))
 
-  pub node_starts : (z : State3) (e : Cursor S Window) (r : Result Start ReadEnd) → StartsBy tells left v n (inline_node v n f h s) z d e r → StartsBy tells left v n (node_layout v n 1 f s) z c e r
+  pub node_starts : (z : State3) (e : Cursor S Window) (r : Result Start ReadEnd) → StartsBy tells left v n (inline_node v n f h s) z d e r → StartsBy tells left v n (node_layout v n f s) z c e r
   node_starts z e (Ok (start.Value x)) a = leads_done_on x a
     where
-      leads_done_on : (x : Stored) → Answers tells left (λ y. read y z) (inline_node v n f h s) d e (Ok x) → Answers tells left (λ y. read y z) (node_layout v n 1 f s) c e (Ok x)
-      leads_done_on x a = answers_on tells left faults (λ y. read y z) (node_layout v n 1 f s) (inline_node v n f h s) c d e b x g header_leads a
-  node_starts z e (Ok (start.Open i p)) a = leads_on tells left faults (node_layout v n 1 f s) (inline_node v n f h s) (todo v n i.0 p z) c d e b g header_leads a
-  node_starts z e (Err end) a = leads_end tells left faults (node_layout v n 1 f s) (inline_node v n f h s) c d e b end g header_leads a
+      leads_done_on : (x : Stored) → Answers tells left (λ y. read y z) (inline_node v n f h s) d e (Ok x) → Answers tells left (λ y. read y z) (node_layout v n f s) c e (Ok x)
+      leads_done_on x a = answers_on tells left faults (λ y. read y z) (node_layout v n f s) (inline_node v n f h s) c d e b x g header_leads a
+  node_starts z e (Ok (start.Open i p)) a = leads_on tells left faults (node_layout v n f s) (inline_node v n f h s) (todo v n i.0 p z) c d e b g header_leads a
+  node_starts z e (Err end) a = leads_end tells left faults (node_layout v n f s) (inline_node v n f h s) c d e b end g header_leads a
 
 -- Behind a marker.
 module _ {S : Type 0} (tells : S → Type 0) (left : S → List ℕ) (faults : S → ℕ) where
@@ -143,32 +143,32 @@ module _ {S : Type 0} (tells : S → Type 0) (left : S → List ℕ) (faults : S
   marker_starts_not (suc k) s z c d (Err x) e lt i a = record {
     fuel = k;
     enough = tt;
-    starts = subst (Ends tells left (free_layout (suc k) s) c d) (sym i) (end_reads tells left faults marker_layout (λ f. behind_marker (free_layout k) k 1 s f) c d e a);
+    starts = subst (Ends tells left (value_layout (suc k) s) c d) (sym i) (end_reads tells left faults marker_layout (λ f. behind_marker (value_layout k) k s f) c d e a);
   }
 
   module _ (s : State3) (c d : Cursor S Window) (m : Marker) (f : Form) (is : form m ≡ f) (g : Goes tells left faults c d (Ok m)) (a : Answers tells left form marker_layout c d (Ok m)) (moves : place c < place d) where
-    marker_leads : (k : ℕ) → Leads tells left (free_layout (suc k) s) (behind_marker (free_layout k) k 1 s f) c d
-    marker_leads k = subst (λ f. Leads tells left (free_layout (suc k) s) (behind_marker (free_layout k) k 1 s f) c d) is (leads_behind tells left faults form marker_layout (λ f. behind_marker (free_layout k) k 1 s f) c d m a)
+    marker_leads : (k : ℕ) → Leads tells left (value_layout (suc k) s) (behind_marker (value_layout k) k s f) c d
+    marker_leads k = subst (λ f. Leads tells left (value_layout (suc k) s) (behind_marker (value_layout k) k s f) c d) is (leads_behind tells left faults form marker_layout (λ f. behind_marker (value_layout k) k s f) c d m a)
 
-    pub value_starts : (z : State3) (e : Cursor S Window) (r : Result Start ReadEnd) → OnOk r (place d ≤ place e) → OnOk r (place e ≤ bound e) → bound e ≡ bound d → ((k : ℕ) → StartsBy tells left (free_layout k) k (behind_marker (free_layout k) k 1 s f) z d e r) → (n : ℕ) → left_of c < n → Starts tells left n s z c e r
+    pub value_starts : (z : State3) (e : Cursor S Window) (r : Result Start ReadEnd) → OnOk r (place d ≤ place e) → OnOk r (place e ≤ bound e) → bound e ≡ bound d → ((k : ℕ) → StartsBy tells left (value_layout k) k (behind_marker (value_layout k) k s f) z d e r) → (n : ℕ) → left_of c < n → Starts tells left n s z c e r
     value_starts z e r stays within same h zero lt = absurd (omega arith)
     value_starts z e (Ok (start.Value x)) stays within same h (suc k) lt = record {
       fuel = k;
       enough = let w = a.within in let q = g.same_bound in omega arith;
-      starts = answers_on tells left faults (λ y. read y z) (free_layout (suc k) s) (behind_marker (free_layout k) k 1 s f) c d e m x g (marker_leads k) (h k);
+      starts = answers_on tells left faults (λ y. read y z) (value_layout (suc k) s) (behind_marker (value_layout k) k s f) c d e m x g (marker_leads k) (h k);
     }
     value_starts z e (Ok (start.Open i p)) stays within same h (suc k) lt = record {
       fuel = k;
       enough = let w = a.within in let q = g.same_bound in omega arith;
-      starts = leads_on tells left faults (free_layout (suc k) s) (behind_marker (free_layout k) k 1 s f) (todo (free_layout k) k i.0 p z) c d e m g (marker_leads k) (h k);
+      starts = leads_on tells left faults (value_layout (suc k) s) (behind_marker (value_layout k) k s f) (todo (value_layout k) k i.0 p z) c d e m g (marker_leads k) (h k);
     }
-    value_starts z e (Err end) stays within same h (suc k) lt = record { fuel = k; enough = tt; starts = leads_end tells left faults (free_layout (suc k) s) (behind_marker (free_layout k) k 1 s f) c d e m end g (marker_leads k) (h k) }
+    value_starts z e (Err end) stays within same h (suc k) lt = record { fuel = k; enough = tt; starts = leads_end tells left faults (value_layout (suc k) s) (behind_marker (value_layout k) k s f) c d e m end g (marker_leads k) (h k) }
 
   pub made : {X Y : Type 0} (view : X → Y) (t : Layout Y) (make : Y → ValueRead) (z : State3) (v : Stored) (d e : Cursor S Window) (x : X) → Goes tells left faults d e (Ok x) → Answers tells left view t d e (Ok x) → IsPlaced e → read v z ≡ make (view x) → Answers tells left (λ y. read y z) (bind t (λ y. give (make y))) d e (Ok v)
   made view t make z v d e x g a p q = then_reads tells left faults view (λ y. read y z) t (λ y. give (make y)) d e e x (Ok v) g a (gives tells left faults (λ y. read y z) e v (make (view x)) p q)
 
-  pub unmade : {Y : Type 0} (n : ℕ) (s z : State3) (c d e : Cursor S Window) (m : Marker) (f : Form) → form m ≡ f → Goes tells left faults c d (Ok m) → Answers tells left form marker_layout c d (Ok m) → place c < place d → bound e ≡ bound d → (t : Layout Y) (make : Y → ValueRead) → ((k : ℕ) → behind_marker (free_layout k) k 1 s f ≡ bind t (λ y. give (make y)))
+  pub unmade : {Y : Type 0} (n : ℕ) (s z : State3) (c d e : Cursor S Window) (m : Marker) (f : Form) → form m ≡ f → Goes tells left faults c d (Ok m) → Answers tells left form marker_layout c d (Ok m) → place c < place d → bound e ≡ bound d → (t : Layout Y) (make : Y → ValueRead) → ((k : ℕ) → behind_marker (value_layout k) k s f ≡ bind t (λ y. give (make y)))
       → left_of c < n → (r : Result Start ReadEnd) (end : ReadEnd) → IsErrAnd r (λ x. x ≡ end) → Ends tells left t d e end → Starts tells left n s z c e r
   unmade n s z c d e m f is g a moves same t make eq lt (Ok x) end i h = absurd i
   unmade n s z c d e m f is g a moves same t make eq lt (Err x) end i h =
-      value_starts s c d m f is g a moves z e (Err x) tt tt same (λ k. subst (Ends tells left (behind_marker (free_layout k) k 1 s f) d e) (sym i) (subst (λ l. Ends tells left l d e end) (sym (eq k)) (end_reads tells left faults t (λ y. give (make y)) d e end h))) n lt
+      value_starts s c d m f is g a moves z e (Err x) tt tt same (λ k. subst (Ends tells left (behind_marker (value_layout k) k s f) d e) (sym i) (subst (λ l. Ends tells left l d e end) (sym (eq k)) (end_reads tells left faults t (λ y. give (make y)) d e end h))) n lt

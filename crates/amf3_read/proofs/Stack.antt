@@ -22,7 +22,7 @@ use Rattle.amf_graph.specs.Building.{kept_node, stored_at, changed as changed_ar
 use Rattle.amf_tables.specs.KeptTables.{KeptTables}
 use Rattle.amf_tables.specs.Reads3.{Grows}
 use Rattle.amf_tables.specs.Layout3State.{State3, state_of}
-use Rattle.amf_tables.specs.Layout3.{ValueRead, read}
+use Rattle.amf_tables.specs.Layout3.{ValueRead, read, value_layout}
 use Rattle.amf_tables.proofs.Reader3Tables.{grows_itself, grows_twice, names_after_growth, text_id_after_growth}
 use Rattle.amf_tables.proofs.Reader3States.{more_value_state, more_name_state, more_entry_state}
 use Rattle.amf3_read.specs.declared.opening.Parts.{Parts}
@@ -36,7 +36,7 @@ use Rattle.amf3_read.specs.declared.fill.Step.TheVariants as step
 use Rattle.amf3_read.specs.Slots.{IsPart}
 use Rattle.amf3_read.specs.Filling.{with_more, IsOpened}
 use Rattle.amf3_read.specs.Ready.{Ready, Continues, left_of}
-use Rattle.amf3_read.specs.Frames.{free_layout, todo, resume, Fuel, rest, Enough, HaveFuel, LacksItems, Suits, WaitsFor, SlotNames, spare, Nested, IsAt, Kept, Starts, StartHolds, GoesOn, StepHolds, StackSo}
+use Rattle.amf3_read.specs.Frames.{todo, resume, Fuel, rest, Enough, HaveFuel, LacksItems, Suits, WaitsFor, SlotNames, spare, Nested, IsAt, Kept, Starts, StartHolds, GoesOn, StepHolds, StackSo}
 use Rattle.amf3_read.proofs.LayoutBinds.{bind_give, bind_bind}
 use Rattle.amf3_read.proofs.PartPut.{part_names, part_values, more_size, there, stays, still_open, same_head, put_node, put_built, put_tables, put_opened, put_head, put_nodes}
 
@@ -242,7 +242,7 @@ module _ {S : Type 0} (tells : S → Type 0) (left : S → List ℕ) (faults : S
       fuels = [];
       enough = (lt, lt);
       fueled = tt;
-      leads = subst (λ l. Leads tells left (free_layout n (state_of a t)) l c c) (sym (bind_give (free_layout n (state_of a t)))) (leads_nowhere tells left faults (free_layout n (state_of a t)) c r.placed);
+      leads = subst (λ l. Leads tells left (value_layout n (state_of a t)) l c c) (sym (bind_give (value_layout n (state_of a t)))) (leads_nowhere tells left faults (value_layout n (state_of a t)) c r.placed);
     };
     moved = omega arith;
   }
@@ -250,11 +250,11 @@ module _ {S : Type 0} (tells : S → Type 0) (left : S → List ℕ) (faults : S
   module _ (a b : Arena) (t u : KeptTables) (c d : Cursor S Window) (fs : List Frame) where
     -- a value is wanted
     module _ (so : StackSo tells left faults a b t u c d now.Wanted fs) (b1 : Arena) (u1 : KeptTables) (e : Cursor S Window) where
-      pub so_end : (end : ReadEnd) → ((n : ℕ) → left_of d < n → Starts tells left n (state_of b u) (state_of b1 u1) d e (Err end)) → (n : ℕ) → left_of c < n → Ends tells left (free_layout n (state_of a t)) c e end
+      pub so_end : (end : ReadEnd) → ((n : ℕ) → left_of d < n → Starts tells left n (state_of b u) (state_of b1 u1) d e (Err end)) → (n : ℕ) → left_of c < n → Ends tells left (value_layout n (state_of a t)) c e end
       so_end end h n lt =
           let y = so.at n lt in
-          leads_end tells left faults (free_layout n (state_of a t)) (bind (free_layout y.fuel.values (state_of b u)) (rest y.fuels fs)) c d e tt end so.goes y.leads
-          (end_reads tells left faults (free_layout y.fuel.values (state_of b u)) (rest y.fuels fs) d e end (h y.fuel.values y.enough.0).starts)
+          leads_end tells left faults (value_layout n (state_of a t)) (bind (value_layout y.fuel.values (state_of b u)) (rest y.fuels fs)) c d e tt end so.goes y.leads
+          (end_reads tells left faults (value_layout y.fuel.values (state_of b u)) (rest y.fuels fs) d e end (h y.fuel.values y.enough.0).starts)
 
       pub so_value : (v : Stored) → Goes tells left faults d e (Ok (start.Value v)) → ((n : ℕ) → left_of d < n → Starts tells left n (state_of b u) (state_of b1 u1) d e (Ok (start.Value v))) → Kept 0 b b1 u1 d e → StartHolds b b1 (left_of e) (start.Value v) → place d < place e
           → StackSo tells left faults a b1 t u1 c e (now.Given v) fs
@@ -272,8 +272,8 @@ module _ {S : Type 0} (tells : S → Type 0) (left : S → List ℕ) (faults : S
                   fuels = y.fuels;
                   enough = enough_less (left_of e) (left_of d) y.fuel (omega arith) y.enough;
                   fueled = fueled_less (left_of e) (left_of d) y.fuels fs (omega arith) y.fueled;
-                  leads = leads_on tells left faults (free_layout n (state_of a t)) (bind (free_layout y.fuel.values (state_of b u)) (rest y.fuels fs)) (rest y.fuels fs (read v (state_of b1 u1))) c d e tt so.goes y.leads
-                      (leads_behind tells left faults (λ x. read x (state_of b1 u1)) (free_layout y.fuel.values (state_of b u)) (rest y.fuels fs) d e v (h y.fuel.values y.enough.0).starts);
+                  leads = leads_on tells left faults (value_layout n (state_of a t)) (bind (value_layout y.fuel.values (state_of b u)) (rest y.fuels fs)) (rest y.fuels fs (read v (state_of b1 u1))) c d e tt so.goes y.leads
+                      (leads_behind tells left faults (λ x. read x (state_of b1 u1)) (value_layout y.fuel.values (state_of b u)) (rest y.fuels fs) d e v (h y.fuel.values y.enough.0).starts);
                 };
             moved = let m = so.moved in omega arith;
           }
@@ -302,20 +302,20 @@ module _ {S : Type 0} (tells : S → Type 0) (left : S → List ℕ) (faults : S
                   fuels = y.fuels;
                   enough = (z.enough, z.enough);
                   fueled = fueled_less (left_of e) (left_of d) y.fuels fs (omega arith) y.fueled;
-                  leads = leads_on tells left faults (free_layout n (state_of a t)) (bind (free_layout y.fuel.values (state_of b u)) (rest y.fuels fs)) (bind (todo (free_layout z.fuel) z.fuel i.0 p (state_of b1 u1)) (rest y.fuels fs)) c d e tt so.goes y.leads
-                      (leads_bound (free_layout y.fuel.values (state_of b u)) (todo (free_layout z.fuel) z.fuel i.0 p (state_of b1 u1)) (rest y.fuels fs) d e z.starts);
+                  leads = leads_on tells left faults (value_layout n (state_of a t)) (bind (value_layout y.fuel.values (state_of b u)) (rest y.fuels fs)) (bind (todo (value_layout z.fuel) z.fuel i.0 p (state_of b1 u1)) (rest y.fuels fs)) c d e tt so.goes y.leads
+                      (leads_bound (value_layout y.fuel.values (state_of b u)) (todo (value_layout z.fuel) z.fuel i.0 p (state_of b1 u1)) (rest y.fuels fs) d e z.starts);
                 };
             moved = let m = so.moved in omega arith;
           }
 
     -- a node is open
     module _ (i : NodeId) (p : Parts) (so : StackSo tells left faults a b t u c d (now.Open i p) fs) (b1 : Arena) (u1 : KeptTables) (e : Cursor S Window) where
-      pub go_end : (end : ReadEnd) → ((v : State3 → Layout ValueRead) (m : ℕ) → left_of d < m → GoesOn tells left v m i.0 p (state_of b u) (state_of b1 u1) d e (Err end)) → (n : ℕ) → left_of c < n → Ends tells left (free_layout n (state_of a t)) c e end
+      pub go_end : (end : ReadEnd) → ((v : State3 → Layout ValueRead) (m : ℕ) → left_of d < m → GoesOn tells left v m i.0 p (state_of b u) (state_of b1 u1) d e (Err end)) → (n : ℕ) → left_of c < n → Ends tells left (value_layout n (state_of a t)) c e end
       go_end end h n lt =
           let y = so.at n lt in
-          let w = todo (free_layout y.fuel.values) y.fuel.pairs i.0 p (state_of b u) in
-          leads_end tells left faults (free_layout n (state_of a t)) (bind w (rest y.fuels fs)) c d e tt end so.goes y.leads
-          (end_reads tells left faults w (rest y.fuels fs) d e end (h (free_layout y.fuel.values) y.fuel.pairs y.enough.1))
+          let w = todo (value_layout y.fuel.values) y.fuel.pairs i.0 p (state_of b u) in
+          leads_end tells left faults (value_layout n (state_of a t)) (bind w (rest y.fuels fs)) c d e tt end so.goes y.leads
+          (end_reads tells left faults w (rest y.fuels fs) d e end (h (value_layout y.fuel.values) y.fuel.pairs y.enough.1))
 
       module _ (k : Kept 0 b b1 u1 d e) (stays : place d ≤ place e) (same : left_of e ≤ left_of d) where
         pub go_wait : (x : Slot) (q : Parts) → Goes tells left faults d e (Ok (step.Wait x q)) → ((v : State3 → Layout ValueRead) (m : ℕ) → left_of d < m → GoesOn tells left v m i.0 p (state_of b u) (state_of b1 u1) d e (Ok (step.Wait x q))) → StepHolds b b1 i.0 (step.Wait x q)
@@ -336,7 +336,7 @@ module _ {S : Type 0} (tells : S → Type 0) (left : S → List ℕ) (faults : S
               };
               at = λ n lt.
                   let y = so.at n lt in
-                  let v = free_layout y.fuel.values in
+                  let v = value_layout y.fuel.values in
                   let z = h v y.fuel.pairs y.enough.1 in
                   let f : Fuel = record { values = y.fuel.values; pairs = z.fuel } in
                   let few : left_of e < y.fuel.values = let l = y.enough.0 in omega arith in
@@ -347,8 +347,8 @@ module _ {S : Type 0} (tells : S → Type 0) (left : S → List ℕ) (faults : S
                     fuels = f ∷ y.fuels;
                     enough = (few, z.enough);
                     fueled = ((few, z.enough), fueled_less (left_of e) (left_of d) y.fuels fs same y.fueled);
-                    leads = subst (λ l. Leads tells left (free_layout n (state_of a t)) l c e) (bind_bind (v (state_of b1 u1)) (resume v z.fuel i.0 x q) (rest y.fuels fs))
-                        (leads_on tells left faults (free_layout n (state_of a t)) (bind w (rest y.fuels fs)) (bind next (rest y.fuels fs)) c d e tt so.goes y.leads (leads_bound w next (rest y.fuels fs) d e z.leads));
+                    leads = subst (λ l. Leads tells left (value_layout n (state_of a t)) l c e) (bind_bind (v (state_of b1 u1)) (resume v z.fuel i.0 x q) (rest y.fuels fs))
+                        (leads_on tells left faults (value_layout n (state_of a t)) (bind w (rest y.fuels fs)) (bind next (rest y.fuels fs)) c d e tt so.goes y.leads (leads_bound w next (rest y.fuels fs) d e z.leads));
                   };
               moved = let m = so.moved in omega arith;
             }
@@ -370,7 +370,7 @@ module _ {S : Type 0} (tells : S → Type 0) (left : S → List ℕ) (faults : S
               };
               at = λ n lt.
                   let y = so.at n lt in
-                  let v = free_layout y.fuel.values in
+                  let v = value_layout y.fuel.values in
                   let z = h v y.fuel.pairs y.enough.1 in
                   let w = todo v y.fuel.pairs i.0 p (state_of b u) in
                   let next = todo v z.fuel i.0 q (state_of b1 u1) in
@@ -379,7 +379,7 @@ module _ {S : Type 0} (tells : S → Type 0) (left : S → List ℕ) (faults : S
                     fuels = y.fuels;
                     enough = (let l = y.enough.0 in omega arith, z.enough);
                     fueled = fueled_less (left_of e) (left_of d) y.fuels fs same y.fueled;
-                    leads = leads_on tells left faults (free_layout n (state_of a t)) (bind w (rest y.fuels fs)) (bind next (rest y.fuels fs)) c d e tt so.goes y.leads (leads_bound w next (rest y.fuels fs) d e z.leads);
+                    leads = leads_on tells left faults (value_layout n (state_of a t)) (bind w (rest y.fuels fs)) (bind next (rest y.fuels fs)) c d e tt so.goes y.leads (leads_bound w next (rest y.fuels fs) d e z.leads);
                   };
               moved = let m = so.moved in omega arith;
             }
@@ -395,7 +395,7 @@ module _ {S : Type 0} (tells : S → Type 0) (left : S → List ℕ) (faults : S
               holds = (nested_grows a (suc (left_of e)) fs o.opened.before b1 o.built (closes o.opened.before (stored_at b i.0) o.opened.place o.opened.within) (nested_less a (suc (left_of e)) (suc (left_of d)) fs o.opened.before (omega arith) o.below), there);
               at = λ n lt.
                   let y = so.at n lt in
-                  let v = free_layout y.fuel.values in
+                  let v = value_layout y.fuel.values in
                   let w = todo v y.fuel.pairs i.0 p (state_of b u) in
                   let next : Layout ValueRead = give (read (value.Node (record { 0 = i.0 })) (state_of b1 u1)) in
                   record {
@@ -403,15 +403,15 @@ module _ {S : Type 0} (tells : S → Type 0) (left : S → List ℕ) (faults : S
                     fuels = y.fuels;
                     enough = enough_less (left_of e) (left_of d) y.fuel same y.enough;
                     fueled = fueled_less (left_of e) (left_of d) y.fuels fs same y.fueled;
-                    leads = leads_on tells left faults (free_layout n (state_of a t)) (bind w (rest y.fuels fs)) (bind next (rest y.fuels fs)) c d e tt so.goes y.leads (leads_bound w next (rest y.fuels fs) d e (h v y.fuel.pairs y.enough.1));
+                    leads = leads_on tells left faults (value_layout n (state_of a t)) (bind w (rest y.fuels fs)) (bind next (rest y.fuels fs)) c d e tt so.goes y.leads (leads_bound w next (rest y.fuels fs) d e (h v y.fuel.pairs y.enough.1));
                   };
               moved = let m = so.moved in omega arith;
             }
 
   -- A value was read.
 
-  pub so_done : (a b : Arena) (t u : KeptTables) (c d : Cursor S Window) (v : Stored) → StackSo tells left faults a b t u c d (now.Given v) [] → (n : ℕ) → left_of c < n → Answers tells left (λ x. read x (state_of b u)) (free_layout n (state_of a t)) c d (Ok v)
-  so_done a b t u c d v so n lt = leads_answers tells left faults (λ x. read x (state_of b u)) (free_layout n (state_of a t)) (read v (state_of b u)) c d v refl (so.at n lt).leads
+  pub so_done : (a b : Arena) (t u : KeptTables) (c d : Cursor S Window) (v : Stored) → StackSo tells left faults a b t u c d (now.Given v) [] → (n : ℕ) → left_of c < n → Answers tells left (λ x. read x (state_of b u)) (value_layout n (state_of a t)) c d (Ok v)
+  so_done a b t u c d v so n lt = leads_answers tells left faults (λ x. read x (state_of b u)) (value_layout n (state_of a t)) (read v (state_of b u)) c d v refl (so.at n lt).leads
 
   pub so_continues : (a b : Arena) (t u : KeptTables) (c d : Cursor S Window) (v : Stored) → StackSo tells left faults a b t u c d (now.Given v) [] → Continues 0 a b u c d
   so_continues a b t u c d v so = let k = so.kept in record { built = k.built; tables = k.tables; placed = k.placed; grows = so.holds.0; texts = k.texts; traits = k.traits; nodes = k.nodes }
@@ -442,7 +442,7 @@ module _ {S : Type 0} (tells : S → Type 0) (left : S → List ℕ) (faults : S
         waits (Object n x) h = absurd h
         waits (Items n) h = absurd h
 
-        by : (n : ℕ) (us : List Fuel) → HaveFuel (left_of d) us (record { node = i; slot = slot.Key; todo = q } ∷ fs) → Leads tells left (free_layout n (state_of a t)) (rest us (record { node = i; slot = slot.Key; todo = q } ∷ fs) (read v (state_of b u))) c d
+        by : (n : ℕ) (us : List Fuel) → HaveFuel (left_of d) us (record { node = i; slot = slot.Key; todo = q } ∷ fs) → Leads tells left (value_layout n (state_of a t)) (rest us (record { node = i; slot = slot.Key; todo = q } ∷ fs) (read v (state_of b u))) c d
             → IsAt tells left n (state_of a t) now.Wanted (record { node = i; slot = slot.Entry v; todo = q } ∷ fs) (state_of b u) c d
         by n [] h l = absurd h
         by n (f ∷ us) h l = record {
@@ -450,7 +450,7 @@ module _ {S : Type 0} (tells : S → Type 0) (left : S → List ℕ) (faults : S
           fuels = f ∷ us;
           enough = h.0;
           fueled = h;
-          leads = subst (λ w. Leads tells left (free_layout n (state_of a t)) w c d) (bind_bind (free_layout f.values (state_of b u)) (resume (free_layout f.values) f.pairs i.0 (slot.Entry v) q) (rest us fs)) l;
+          leads = subst (λ w. Leads tells left (value_layout n (state_of a t)) w c d) (bind_bind (value_layout f.values (state_of b u)) (resume (value_layout f.values) f.pairs i.0 (slot.Entry v) q) (rest us fs)) l;
         }
 
     -- it is a part of the innermost node
@@ -503,12 +503,12 @@ module _ {S : Type 0} (tells : S → Type 0) (left : S → List ℕ) (faults : S
           state_is : (x : Slot) → IsPart x v (Some p) → (w : State3 → Layout ValueRead) (m : ℕ) → resume w m f.node.0 x f.todo (read v (state_of b u)) ≡ todo w m f.node.0 f.todo (state_of b2 u)
           state_is x h w m = resumed b u v p b2 f.node.0 f.todo e x h w m
 
-          by : (n : ℕ) (us : List Fuel) → HaveFuel (left_of d) us (f ∷ fs) → Leads tells left (free_layout n (state_of a t)) (rest us (f ∷ fs) (read v (state_of b u))) c d → IsAt tells left n (state_of a t) (now.Open f.node f.todo) fs (state_of b2 u) c d
+          by : (n : ℕ) (us : List Fuel) → HaveFuel (left_of d) us (f ∷ fs) → Leads tells left (value_layout n (state_of a t)) (rest us (f ∷ fs) (read v (state_of b u))) c d → IsAt tells left n (state_of a t) (now.Open f.node f.todo) fs (state_of b2 u) c d
           by n [] h l = absurd h
           by n (z ∷ us) h l = record {
             fuel = z;
             fuels = us;
             enough = h.0;
             fueled = h.1;
-            leads = subst (λ w. Leads tells left (free_layout n (state_of a t)) (bind w (rest us fs)) c d) (state_is f.slot is (free_layout z.values) z.pairs) l;
+            leads = subst (λ w. Leads tells left (value_layout n (state_of a t)) (bind w (rest us fs)) c d) (state_is f.slot is (value_layout z.values) z.pairs) l;
           }

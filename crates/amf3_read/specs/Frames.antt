@@ -1,21 +1,20 @@
 -- What a stack of open nodes is: what is still to be read, as a layout, and what holds of the arena. A device by which verdicts are proved.
-use Rattle.std.specs.Prelude.{◌≡◌, ℕ, zero, suc, ◌+◌, ◌*◌, ◌<◌, ◌≤◌, Bool, true, false, List, [], ◌∷◌, length, slice_index, ◌⊎◌, Result, Ok, Err, OnOk}
+use Rattle.std.specs.Prelude.{◌≡◌, ℕ, zero, suc, ◌+◌, ◌*◌, ◌<◌, ◌≤◌, Bool, true, false, List, [], ◌∷◌, length, ◌⊎◌, Result, Ok, Err, OnOk}
 use Rattle.amf_io.specs.declared.window.Window.{Window}
 use Rattle.amf_io.specs.declared.cursor.Cursor.{Cursor}
 use Rattle.amf_io.specs.declared.ends.ReadEnd.{ReadEnd}
 use Rattle.amf_io.specs.Cursor.{place}
-use Rattle.amf_io.specs.Layout.{Layout, give, want, stuck, bind}
+use Rattle.amf_io.specs.Layout.{Layout, give, stuck, bind}
 use Rattle.amf_io.specs.CursorReads.{IsPlaced, Goes, Answers, Ends, Leads}
 use Rattle.amf_graph.specs.declared.wrapped.Wrapped.{Wrapped}
 use Rattle.amf_graph.specs.declared.value.Value.TheVariants as value
 use Rattle.amf_graph.specs.Graph as graph
 use Rattle.amf_graph.specs.Arena.{Arena, StoredNode, IsBuilt, IsTextId, Names, head_content}
 use Rattle.amf_graph.specs.Building.{stored_at, kept_node, shut, more_value, more_name, more_entry}
-use Rattle.amf_tables.specs.Refusals3.{marker_kind}
 use Rattle.amf_tables.specs.KeptTables.{KeptTables, AreTablesIn}
 use Rattle.amf_tables.specs.Reads3.{Grows}
 use Rattle.amf_tables.specs.Layout3State.{State3, state_of, changed}
-use Rattle.amf_tables.specs.Layout3.{ValueRead, read, items, entries, pairs, pairs_if, behind_marker, form_of}
+use Rattle.amf_tables.specs.Layout3.{ValueRead, read, items, entries, pairs, pairs_if, value_layout}
 use Rattle.amf3_read.specs.declared.opening.Parts.{Parts}
 use Rattle.amf3_read.specs.declared.opening.Parts.TheVariants.{Array, Object, Items, Entries}
 use Rattle.amf3_read.specs.declared.frame.Slot.{Slot}
@@ -33,11 +32,6 @@ use Rattle.amf3_read.specs.Filling.{IsOpened}
 use Rattle.amf3_read.specs.Ready.{Ready, left_of}
 
 -- Layouts.
-
--- one value, with fuel, where no level is lacking
-abbrev pub free_layout : ℕ → State3 → Layout ValueRead
-free_layout zero s = stuck
-free_layout (suc n) s = want (marker_kind 1 s.marks) (λ b. behind_marker (free_layout n) n 1 s (form_of (slice_index b 0)))
 
 abbrev pub closed_node : ℕ → State3 → ValueRead
 closed_node i s = read (value.Node (record { 0 = i })) (changed shut i s)
@@ -65,13 +59,13 @@ pub record Fuel : Type 0 where
 abbrev pub rest : List Fuel → List Frame → ValueRead → Layout ValueRead
 rest us [] x = give x
 rest [] (f ∷ fs) x = stuck
-rest (u ∷ us) (f ∷ fs) x = bind (resume (free_layout u.values) u.pairs f.node.0 f.slot f.todo x) (rest us fs)
+rest (u ∷ us) (f ∷ fs) x = bind (resume (value_layout u.values) u.pairs f.node.0 f.slot f.todo x) (rest us fs)
 
 -- what is read now
 abbrev pub current : Fuel → Now → State3 → Layout ValueRead
-current u now.Wanted s = free_layout u.values s
+current u now.Wanted s = value_layout u.values s
 current u (now.Given v) s = give (read v s)
-current u (now.Open node p) s = todo (free_layout u.values) u.pairs node.0 p s
+current u (now.Open node p) s = todo (value_layout u.values) u.pairs node.0 p s
 
 -- the fuel is more than the bytes that may come
 abbrev pub Enough : ℕ → Fuel → Type 0
@@ -154,7 +148,7 @@ pub record IsAt {S : Type 0} (tells : S → Type 0) (left : S → List ℕ) (n :
   pub fuels : List Fuel
   pub enough : Enough (left_of d) fuel
   pub fueled : HaveFuel (left_of d) fuels fs
-  pub leads : Leads tells left (free_layout n s) (bind (current fuel now z) (rest fuels fs)) c d
+  pub leads : Leads tells left (value_layout n s) (bind (current fuel now z) (rest fuels fs)) c d
 
 -- How a value begins.
 
@@ -177,7 +171,7 @@ StartsBy tells left v m t z c d (Err e) = Ends tells left t c d e
 pub record Starts {S : Type 0} (tells : S → Type 0) (left : S → List ℕ) (n : ℕ) (s z : State3) (c d : Cursor S Window) (result : Result Start ReadEnd) : Type 0 where
   pub fuel : ℕ
   pub enough : OnOk result (left_of d < fuel)
-  pub starts : StartsBy tells left (free_layout fuel) fuel (free_layout n s) z c d result
+  pub starts : StartsBy tells left (value_layout fuel) fuel (value_layout n s) z c d result
 
 -- an open node that was read as far as its parts
 pub record OpenedFrom (a b : Arena) (left i : ℕ) (p : Parts) : Type 0 where

@@ -1,4 +1,10 @@
+-- The definitions that contracts cite.
 pub mod Answer
+pub mod Ready
+pub mod TextAnswer
+pub mod Pairs
+pub mod VerdictLaws
+-- Devices of the proofs: no clause of a public call needs them.
 pub mod Begins
 pub mod FieldSize
 pub mod Filling
@@ -10,10 +16,5 @@ pub mod Opened
 pub mod OpeningItems
 pub mod OpeningNames
 pub mod OpeningShapes
-pub mod Levels
-pub mod Ready
 pub mod Steps
-pub mod TextAnswer
 pub mod Vectors
-pub mod Pairs
-pub mod VerdictLaws

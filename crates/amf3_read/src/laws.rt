@@ -1,14 +1,14 @@
 ghost use Rattle.amf3_read.specs.VerdictLaws.{TextsReadOnce, TextsEnd, PairsJudgedOnce, PairsJudged};
 
-/// A text in the middle of something, from an offset within the limit on, has no two verdicts, and bytes have one where those
-/// up to the limit are fewer than 2^28: it ends at one offset, or is refused for one reason at one offset.
+/// A text in the middle of something, from an offset within the limit on, has one verdict and no
+/// two: it ends at one offset, or is refused for one reason at one offset.
 pub fn texts_have_one_verdict()
     ensures judged { TextsEnd }
     ensures once { TextsReadOnce }
 {}
 
-/// An input of two values, one after the other, has no two verdicts, and bytes have one where those up to the limit are fewer
-/// than 2^28: it is accepted, or refused for one reason at one offset.
+/// An input of two values, one after the other, has one verdict and no two: it is accepted, or refused for one
+/// reason at one offset.
 pub fn pairs_have_one_verdict()
     ensures judged { PairsJudged }
     ensures once { PairsJudgedOnce }

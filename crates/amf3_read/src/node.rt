@@ -46,7 +46,7 @@ pub fn start_node<S: Source>(
 ) -> Result<Start, ReadEnd>
     requires { Ready 0 builder.old tables.old cursor.old }
     ensures goes { Goes S.tells S.left S.faults cursor.old cursor.new result }
-    ensures starts { (v : State3 → Layout ValueRead) (n : ℕ) → StartsBy S.tells S.left v n (node_layout v n 1 (node_form marker) (state_of builder.old tables.old)) (state_of builder.new tables.new) cursor.old cursor.new result }
+    ensures starts { (v : State3 → Layout ValueRead) (n : ℕ) → StartsBy S.tells S.left v n (node_layout v n (node_form marker) (state_of builder.old tables.old)) (state_of builder.new tables.new) cursor.old cursor.new result }
     ensures kept { OnOk result (Kept 0 builder.old builder.new tables.new cursor.old cursor.new) }
     ensures holds { IfOk result (StartHolds builder.old builder.new (left_of cursor.new)) }
     ensures stays { OnOk result (place cursor.old ≤ place cursor.new) }

@@ -6,13 +6,13 @@ ghost use Rattle.amf_io.specs.Layout.{give, want};
 ghost use Rattle.amf_io.specs.Cursor.{place};
 ghost use Rattle.amf_io.specs.CursorReads.{IsPlaced, Goes, Answers};
 ghost use Rattle.amf_tables.specs.Layout3State.{state_of};
-ghost use Rattle.amf_tables.specs.Layout3.{read, eight_layout};
+ghost use Rattle.amf_tables.specs.Layout3.{read, eight_layout, value_layout};
 ghost use Rattle.amf3_read.specs.Forms.{form};
 ghost use Rattle.amf3_read.specs.Ready.{Ready, Continues, left_of};
 ghost use Rattle.amf_tables.specs.KeptTables.{AreTablesIn};
 ghost use Rattle.amf3_read.specs.Answer.{HasRoomFor, Answers3, Raises};
 ghost use Rattle.amf3_read.specs.Steps.{marker_layout};
-ghost use Rattle.amf3_read.specs.Frames.{free_layout, Starts, StartHolds, Kept};
+ghost use Rattle.amf3_read.specs.Frames.{Starts, StartHolds, Kept};
 
 use crate::ends::{kept, refused};
 use crate::field::{FieldSize, read_field};
@@ -44,7 +44,7 @@ pub fn read3<S: Source>(
     requires tables { AreTablesIn builder.old tables.old }
     requires room { HasRoomFor builder.old (left_of cursor.old) }
     ensures goes { Goes S.tells S.left S.faults cursor.old cursor.new result }
-    ensures answers { (levels : ℕ) → left_of cursor.old < levels → Answers3 S.tells S.left levels builder.old builder.new tables.old tables.new cursor.old cursor.new result }
+    ensures answers { Answers3 S.tells S.left builder.old builder.new tables.old tables.new cursor.old cursor.new result }
     ensures tables { OnOk result (AreTablesIn builder.new tables.new) }
     ensures raises { OnOk result (Raises builder.old builder.new (place cursor.new - place cursor.old)) }
 {
@@ -63,7 +63,7 @@ fn read_value<S: Source>(
 ) -> Result<Value, ReadEnd>
     requires { Ready 0 builder.old tables.old cursor.old }
     ensures goes { Goes S.tells S.left S.faults cursor.old cursor.new result }
-    ensures answers { (n : ℕ) → left_of cursor.old < n → Answers S.tells S.left (λ v. read v (state_of builder.new tables.new)) (free_layout n (state_of builder.old tables.old)) cursor.old cursor.new result }
+    ensures answers { (n : ℕ) → left_of cursor.old < n → Answers S.tells S.left (λ v. read v (state_of builder.new tables.new)) (value_layout n (state_of builder.old tables.old)) cursor.old cursor.new result }
     ensures continues { OnOk result (Continues 0 builder.old builder.new tables.new cursor.old cursor.new) }
     ensures moves { OnOk result (place cursor.old < place cursor.new) }
 {

@@ -18,14 +18,14 @@ returns-in_err-read_field-clause-starts g c = λ v n.
     let S = g.S.Source in
     let s : State3 = state_of c.args.builder.now c.args.tables.now in
     let end = c.in_err-read_field.field-0.0 in
-    ended_start S.tells S.left v n (node_layout v n 1 (node_form c.args.marker) s) s c.args.cursor.now c.read_field.new.cursor c.from_residual.result end c.from_residual.ensures.1
-    (node_ended S.tells S.left S.faults v n 1 (node_form c.args.marker) s c.args.cursor.now c.read_field.new.cursor end c.in_err-read_field.ensures.field)
+    ended_start S.tells S.left v n (node_layout v n (node_form c.args.marker) s) s c.args.cursor.now c.read_field.new.cursor c.from_residual.result end c.from_residual.ensures.1
+    (node_ended S.tells S.left S.faults v n (node_form c.args.marker) s c.args.cursor.now c.read_field.new.cursor end c.in_err-read_field.ensures.field)
 
 pub returns-in-Err-clause-starts : goal.returns-in-Err-clause-starts
 returns-in-Err-clause-starts g c = λ v n.
     let S = g.S.Source in
     let s : State3 = state_of c.args.builder.now c.args.tables.now in
-    node_refused S.tells S.left S.faults v n 1 (node_form c.args.marker) s c.args.cursor.now c.read_field.new.cursor c.in_ok-read_field.field-0 c.get-header.result c.in_ok-read_field.ensures.field (c.get-header.ensures.value ∙ c.number.ensures.value)
+    node_refused S.tells S.left S.faults v n (node_form c.args.marker) s c.args.cursor.now c.read_field.new.cursor c.in_ok-read_field.field-0 c.get-header.result c.in_ok-read_field.ensures.field (c.get-header.ensures.value ∙ c.number.ensures.value)
     c.read_field.new.cursor c.in-Err.reason c.refused.result c.at-start.result c.in-Err.ensures.err c.refused.ensures c.at-start.ensures.place
 
 pub returns-in-Ok-Known-clause-starts : goal.returns-in-Ok-Known-clause-starts
@@ -34,7 +34,7 @@ returns-in-Ok-Known-clause-starts g c = λ v n.
     let s : State3 = state_of c.args.builder.now c.args.tables.now in
     let e = c.in_ok-read_field.ensures in
     let h : IsHeader c.args.builder.now c.args.tables.now (node_form c.args.marker) c.get-header.result (Known c.in-Ok-Known.node) = rw c.in-Ok-Known.field-0-is at c.in-Ok-Known.ensures.ok in
-    node_known S.tells S.left S.faults v n 1 (node_form c.args.marker) s c.args.cursor.now c.read_field.new.cursor c.in_ok-read_field.field-0 c.get-header.result c.in_ok-read_field.ensures.field (c.get-header.ensures.value ∙ c.number.ensures.value) e.goes h.clean
+    node_known S.tells S.left S.faults v n (node_form c.args.marker) s c.args.cursor.now c.read_field.new.cursor c.in_ok-read_field.field-0 c.get-header.result c.in_ok-read_field.ensures.field (c.get-header.ensures.value ∙ c.number.ensures.value) e.goes h.clean
     (λ (v : Stored). read v s) (value.Node c.in-Ok-Known.node) h.says.0 e.placed (known_node_is c.args.builder.now c.args.tables.now c.in-Ok-Known.node (c.get-header.result / 2) h.says.1)
 
 pub returns-in-Ok-Known-clause-holds : goal.returns-in-Ok-Known-clause-holds

@@ -1,23 +1,18 @@
-use Rattle.std.proofs.Common.{suc, subst, arith}
+use Rattle.std.proofs.Common.{suc, arith}
 use Rattle.amf_io.specs.Cursor.{source_of, place, bound, unread}
-use Rattle.amf_io.specs.CursorReads.{Answers}
-use Rattle.amf_graph.specs.declared.value.Value.{Value as Stored}
-use Rattle.amf_tables.specs.Layout3State.{state_of}
-use Rattle.amf_tables.specs.Layout3.{read}
 use Rattle.amf3_read.specs.Ready.{left_of}
-use Rattle.amf3_read.proofs.FreeLayout.{free_is}
 use Rattle.amf3_read.proofs.ReadAnswers.{answers, raises}
 use Rattle.amf3_read.proofs.value.read3.Goals as goal
 
 pub returns-clause-answers : goal.returns-clause-answers
-returns-clause-answers g c = λ levels lt.
+returns-clause-answers g c =
     let S = g.S.Source in
     let old = c.args.cursor.now in
     let new = c.read_value.new.cursor in
     let n = suc (left_of old) in
-    answers levels (S.tells (source_of old).now) c.args.builder.now c.read_value.new.builder c.args.tables.now c.read_value.new.tables c.is_built.ensures.built c.requires.tables
-    (unread S.left old) (unread S.left new) (place old) (place new) (bound old) c.read_value.result c.at-start.ensures.within c.requires.room.nodes
-    (subst (λ l. Answers S.tells S.left (λ (v : Stored). read v (state_of c.read_value.new.builder c.read_value.new.tables)) l old new c.read_value.result) (free_is n levels (state_of c.args.builder.now c.args.tables.now) (omega arith)) (c.read_value.ensures.answers n (omega arith)))
+    answers (S.tells (source_of old).now) c.args.builder.now c.read_value.new.builder c.args.tables.now c.read_value.new.tables c.is_built.ensures.built c.requires.tables
+    (unread S.left old) (unread S.left new) (place old) (place new) (bound old) c.read_value.result c.at-start.ensures.within
+    (c.read_value.ensures.answers n (omega arith))
 
 pub returns-clause-raises : goal.returns-clause-raises
 returns-clause-raises g c =
@@ -25,6 +20,6 @@ returns-clause-raises g c =
     let old = c.args.cursor.now in
     let new = c.read_value.new.cursor in
     let n = suc (left_of old) in
-    raises n S.tells S.left S.faults c.args.builder.now c.read_value.new.builder c.args.tables.now c.read_value.new.tables old new c.read_value.result c.at-start.ensures.within c.read_value.ensures.goes
-    (subst (λ l. Answers S.tells S.left (λ (v : Stored). read v (state_of c.read_value.new.builder c.read_value.new.tables)) l old new c.read_value.result) (free_is n n (state_of c.args.builder.now c.args.tables.now) (omega arith)) (c.read_value.ensures.answers n (omega arith)))
+    raises S.tells S.left S.faults c.args.builder.now c.read_value.new.builder c.args.tables.now c.read_value.new.tables old new c.read_value.result c.at-start.ensures.within c.read_value.ensures.goes
+    (c.read_value.ensures.answers n (omega arith))
     c.read_value.ensures.continues c.read_value.ensures.moves

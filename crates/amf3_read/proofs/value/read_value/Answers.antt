@@ -5,7 +5,8 @@ use Rattle.amf3_read.specs.declared.frame.Now.{Now}
 use Rattle.amf3_read.specs.declared.frame.Now.TheVariants as now
 use Rattle.amf3_read.specs.declared.frame.Slot.TheVariants as slot
 use Rattle.amf3_read.specs.Slots.{IsPart}
-use Rattle.amf3_read.specs.Frames.{StackSo, free_layout}
+use Rattle.amf_tables.specs.Layout3.{value_layout}
+use Rattle.amf3_read.specs.Frames.{StackSo}
 use Rattle.amf3_read.proofs.LayoutBinds.{passed_on}
 use Rattle.amf3_read.proofs.Stack.{so_begin, so_end, so_value, so_open, go_end, go_wait, go_open, go_closed, so_done, so_key, so_put, popped, popped_none, pushed, key_of, done}
 use Rattle.amf3_read.proofs.value.read_value.Goals as goal
@@ -21,7 +22,7 @@ returns-in_err-value-in-Wanted-clause-answers g c = λ n lt.
     let S = g.S.Source in
     let a = c.args.builder.now in let b = c.loop-now.builder in let t = c.args.tables.now in let u = c.loop-now.tables in let d = c.loop-now.cursor in let fs = reverse c.loop-now.frames.items in
     let so = subst (λ (w : Now). StackSo S.tells S.left S.faults a b t u c.args.cursor.now d w fs) c.in-Wanted.is c.loop-now.invariant in
-    passed_on S.tells S.left S.faults _ (free_layout n (state_of a t)) c.args.cursor.now c.start_value.new.cursor c.from_residual.result c.in_err-value-in-Wanted.field-0.0 c.from_residual.ensures.1
+    passed_on S.tells S.left S.faults _ (value_layout n (state_of a t)) c.args.cursor.now c.start_value.new.cursor c.from_residual.result c.in_err-value-in-Wanted.field-0.0 c.from_residual.ensures.1
     (so_end S.tells S.left S.faults a b t u c.args.cursor.now d fs so c.start_value.new.builder c.start_value.new.tables c.start_value.new.cursor c.in_err-value-in-Wanted.field-0.0 c.in_err-value-in-Wanted.ensures.starts n lt)
 
 pub loop-now-preserved-in-Value : goal.loop-now-preserved-in-Value
@@ -76,7 +77,7 @@ returns-in_err-slot-in-Open-clause-answers g c = λ n lt.
     let S = g.S.Source in
     let a = c.args.builder.now in let b = c.loop-now.builder in let t = c.args.tables.now in let u = c.loop-now.tables in let d = c.loop-now.cursor in let fs = reverse c.loop-now.frames.items in
     let so = subst (λ (w : Now). StackSo S.tells S.left S.faults a b t u c.args.cursor.now d w fs) c.in-Open.is c.loop-now.invariant in
-    passed_on S.tells S.left S.faults _ (free_layout n (state_of a t)) c.args.cursor.now c.go_on.new.cursor c.from_residual-in_err-slot-in-Open.result c.in_err-slot-in-Open.field-0.0 c.from_residual-in_err-slot-in-Open.ensures.1
+    passed_on S.tells S.left S.faults _ (value_layout n (state_of a t)) c.args.cursor.now c.go_on.new.cursor c.from_residual-in_err-slot-in-Open.result c.in_err-slot-in-Open.field-0.0 c.from_residual-in_err-slot-in-Open.ensures.1
     (go_end S.tells S.left S.faults a b t u c.args.cursor.now d fs c.in-Open.node c.in-Open.todo so c.go_on.new.builder c.go_on.new.tables c.go_on.new.cursor c.in_err-slot-in-Open.field-0.0 c.in_err-slot-in-Open.ensures.answers n lt)
 
 pub loop-now-preserved-in-Wait : goal.loop-now-preserved-in-Wait

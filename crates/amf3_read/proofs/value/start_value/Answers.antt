@@ -13,13 +13,12 @@ use Rattle.amf_graph.specs.declared.value.Value.{Value as Stored}
 use Rattle.amf_graph.specs.declared.value.Value.TheVariants as value
 use Rattle.amf_tables.specs.Layout3State.{State3, state_of}
 use Rattle.amf_tables.specs.Layout3Words.{TextRead, text_layout}
-use Rattle.amf_tables.specs.Layout3.{read, eight_layout, node_layout, ValueRead}
+use Rattle.amf_tables.specs.Layout3.{read, eight_layout, node_layout, ValueRead, value_layout}
 use Rattle.amf_tables.specs.Layout3 as layout
 use Rattle.amf_tables.proofs.Reader3Tables.{grows_itself}
 use Rattle.amf3_read.specs.declared.node.Start.TheVariants as start
 use Rattle.amf3_read.specs.Forms.{form, node_form}
 use Rattle.amf3_read.specs.Ready.{text_read}
-use Rattle.amf3_read.specs.Frames.{free_layout}
 use Rattle.amf3_read.proofs.ValueReads.{integer_fits}
 use Rattle.amf3_read.proofs.NodeStarts.{marker_starts_not, value_starts, made, unmade}
 use Rattle.amf3_read.proofs.value.start_value.Goals as goal
@@ -168,4 +167,4 @@ returns-in-Node-clause-starts g c =
     let z : State3 = state_of c.start_node.new.builder c.start_node.new.tables in
     let e = c.start_node.ensures in
     value_starts S.tells S.left S.faults s c.args.cursor.now d c.in_ok-read_marker.field-0 (layout.node (node_form c.in-Node.node)) (ap form c.in-Node.is) m.goes m.answers m.moves z c.start_node.new.cursor c.start_node.result e.stays (on_ok_weaker c.start_node.result (λ k. k.placed.within) e.kept) e.goes.same_bound
-    (λ k. e.starts (free_layout k) k)
+    (λ k. e.starts (value_layout k) k)
