@@ -2,11 +2,11 @@
 pub mod Wrote
 pub mod WroteParts
 pub mod NamedPairs
-pub mod PairParts
-pub mod Stopped
-pub mod Loops
+pub mod Runs
+pub mod Leading
 pub mod WroteNodes
 pub mod Whole
+pub mod Turns
 pub mod PartWritten
 pub mod Least
 pub mod FoundSteps

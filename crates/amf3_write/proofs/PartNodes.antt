@@ -39,10 +39,11 @@ module _ (g : Graph) where
   stays_node (suc d) i t b t' (inr p) h =
       stays_parts (Spells d canonical g) (stays_value (NodeIn d canonical g) (stays_node d)) (layout (node_at g i).head p.wire (node_at g i).values) (add_node t i) b t' p.body (all_push (λ j. j < length g.nodes) t.nodes i h p.exists)
 
-  pub part_inside : (levels : ℕ) (v : Value) (t t' : Tables) (old new : List ℕ) (n : ℕ) → length g.nodes ≡ n → AppendsPart g levels v t t' old new → AllByRecursion (λ i. i < n) t.nodes → AllByRecursion (λ i. i < n) t'.nodes
-  part_inside levels v t t' old new n e p h =
+  pub part_inside : (v : Value) (t t' : Tables) (old new : List ℕ) (n : ℕ) → length g.nodes ≡ n → AppendsPart g v t t' old new → AllByRecursion (λ i. i < n) t.nodes → AllByRecursion (λ i. i < n) t'.nodes
+  part_inside v t t' old new n e p h =
+      let height = p.1.0 in
       subst (λ k. AllByRecursion (λ i. i < k) t'.nodes) e
-      (stays_value (NodeIn levels canonical g) (stays_node levels) v t (flat p.0) t' (to_spells levels canonical g v t p.0 t' p.1) (subst (λ k. AllByRecursion (λ i. i < k) t.nodes) (sym e) h))
+      (stays_value (NodeIn height canonical g) (stays_node height) v t (flat p.0) t' (to_spells height canonical g v t p.0 t' p.1.1) (subst (λ k. AllByRecursion (λ i. i < k) t.nodes) (sym e) h))
 
 map_take : (ns : List NodeId) (n : ℕ) → map {A = NodeId} {B = ℕ} (λ i. i.0) (take n ns) ≡ take n (map (λ i. i.0) ns)
 map_take ns zero = refl

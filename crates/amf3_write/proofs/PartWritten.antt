@@ -30,10 +30,10 @@ text_written x o n t t' old new e b f d h =
       appended o n old new h.bytes (flat fs.0) b d h.appended fs.2,
     )
 
-pub part_written : (g : Graph) (levels : ℕ) (v : Value) (o n : Output) (t t' : Tables) (old new : List ℕ) → o.tables ≡ t → o.bytes.items ≡ old → t' ≡ n.tables → new ≡ n.bytes.items → WritesValue g levels v o n → AppendsPart g levels v t t' old new
-part_written g levels v o n t t' old new e b f d h =
-    let fs = from_spells levels canonical g v o.tables h.bytes n.tables h.spelled in (
+pub part_written : (g : Graph) (v : Value) (o n : Output) (t t' : Tables) (old new : List ℕ) → o.tables ≡ t → o.bytes.items ≡ old → t' ≡ n.tables → new ≡ n.bytes.items → WritesValue g v o n → AppendsPart g v t t' old new
+part_written g v o n t t' old new e b f d h =
+    let fs = from_spells h.spelled.0 canonical g v o.tables h.bytes n.tables h.spelled.1 in (
       fs.0,
-      subst (λ z. Spells3 levels canonical g v t fs.0 z) (sym f) (subst (λ z. Spells3 levels canonical g v z fs.0 n.tables) e fs.1),
+      subst (λ z. Spells3 canonical g v t fs.0 z) (sym f) (subst (λ z. Spells3 canonical g v z fs.0 n.tables) e (h.spelled.0, fs.1)),
       appended o n old new h.bytes (flat fs.0) b d h.appended fs.2,
     )

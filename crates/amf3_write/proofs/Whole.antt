@@ -1,24 +1,24 @@
 -- What was taken out and put back, and a graph as the part that its root is.
-use Rattle.std.proofs.Common.{◌≡◌, ℕ, suc, ◌-◌, true, false, List, [], length, take, OnOk, append-nil, sym, refl, ap, ◌∙◌, subst, arith}
+use Rattle.std.proofs.Common.{◌≡◌, ℕ, true, false, List, [], ◌∷◌, length, take, OnOk, append-nil, sym, refl, ap, ◌∙◌, subst, arith}
 use Rattle.std.specs.Prelude.{Result, Ok, Err, OnErr, is_err}
 use Rattle.std.proofs.lemmas.List.{take_at}
 use Rattle.amf_graph.specs.declared.lack.Lack.{Lack}
 use Rattle.amf_graph.specs.Graph.{Value, Graph}
 use Rattle.amf_tables.specs.Tables.{Tables, no_tables}
-use Rattle.amf_tables.specs.Lacking3.{Lacking3}
+use Rattle.amf_tables.specs.ByteSpelling.{value}
 use Rattle.amf3_write.specs.declared.output.Output.{Output}
 use Rattle.amf3_write.specs.Written.{AppendsCanonical, AppendsPart}
-use Rattle.amf3_write.specs.Writes.{BeginsWith, HasFront, Stops, StopsAt}
+use Rattle.amf3_write.specs.PartLacks.{HasUnnamed}
+use Rattle.amf3_write.specs.Writes.{BeginsWith, HasFront, Stops}
 
-pub written_whole : (g : Graph) (v : Value) (t t' : Tables) (old new : List ℕ) → t ≡ no_tables → v ≡ g.root → AppendsPart g 512 v t t' old new → AppendsCanonical g old new
+pub written_whole : (g : Graph) (v : Value) (t t' : Tables) (old new : List ℕ) → t ≡ no_tables → v ≡ g.root → AppendsPart g v t t' old new → AppendsCanonical g old new
 written_whole g v t t' old new e r h =
-    let k : AppendsPart g 512 g.root no_tables t' old new = subst (λ w. AppendsPart g 512 w no_tables t' old new) r (subst (λ w. AppendsPart g 512 v w t' old new) e h) in
+    let k : AppendsPart g g.root no_tables t' old new = subst (λ w. AppendsPart g w no_tables t' old new) r (subst (λ w. AppendsPart g v w t' old new) e h) in
     (k.0, (t', k.1), k.2)
 
-pub stops_at : (g : Graph) (levels : ℕ) (vs : List Value) (o : Output) (t : Tables) (l : Lack) → o.tables ≡ t → Stops g levels vs o l → StopsAt g levels vs t l
-stops_at g levels vs o t l e s =
-    let one : suc levels - levels ≡ 1 = omega arith in
-    subst (λ w. StopsAt g levels vs w l) e (λ even. subst (λ k. Lacking3 g levels k vs o.tables.done l.node l.kind) one (s.at levels (omega arith) even))
+-- where a writer of a value stops, the value leads to a node with an empty name
+pub stops_at : (g : Graph) (v : Value) (o : Output) (t : Tables) (l : Lack) → o.tables ≡ t → Stops g (value v ∷ []) o l → HasUnnamed g v t.done
+stops_at g v o t l e s = subst (λ (w : Tables). HasUnnamed g v w.done) e (s.node, s.unnamed, λ all w. (l.node, s.later, s.place all w))
 
 pub taken_back : (old new : List ℕ) (start : ℕ) → start ≡ length old → BeginsWith old new → take start new ≡ old
 taken_back old new start e b = ap (λ w. take start w) b.is ∙ take_at old b.rest start (sym e)

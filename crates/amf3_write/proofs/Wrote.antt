@@ -1,5 +1,5 @@
 -- What was written, step by step.
-use Rattle.std.proofs.Common.{◌≡◌, ◌≢◌, ℕ, zero, suc, ◌+◌, ◌*◌, ◌<◌, List, [], ◌∷◌, ◌++◌, length, get_or, sym, refl, ap, ◌∙◌, subst, arith, append_assoc, append-nil, OnOk}
+use Rattle.std.proofs.Common.{◌≡◌, ◌≢◌, ℕ, zero, suc, ◌+◌, ◌*◌, ◌<◌, List, [], ◌∷◌, ◌++◌, length, get_or, sym, refl, ap, ◌∙◌, subst, arith, append_assoc, append-nil, OnOk, IfOk}
 use Rattle.std.specs.Prelude.{Result, Ok, Err}
 use Rattle.std.specs.List.{AllByRecursion}
 use Rattle.std.proofs.lemmas.List.{length-map}
@@ -21,14 +21,15 @@ pub on_ok : {T E P Q : Type 0} (r : Result T E) → (P → Q) → OnOk r P → O
 on_ok (Ok v) f h = f h
 on_ok (Err e) f h = tt
 
+pub if_ok : {T E : Type 0} {P Q : T → Type 0} (r : Result T E) → ((v : T) → P v → Q v) → IfOk r P → IfOk r Q
+if_ok (Ok v) f h = f v h
+if_ok (Err e) f h = tt
+
 number_tables : (n : ℕ) (o m : Output) → WritesStep (number n) o m → m.tables ≡ o.tables
 number_tables n o m h = h.spelled.2 ∙ ap (λ w. with_words o.tables w) h.spelled.1.1
 
 raw_tables : (x : List ℕ) (o m : Output) → WritesStep (raw x) o m → m.tables ≡ o.tables
 raw_tables x o m h = h.spelled.2 ∙ ap (λ w. with_words o.tables w) h.spelled.1.1
-
-pub number_from : (n k : ℕ) (o m : Output) → n ≡ k → WritesStep (number n) o m → WritesStep (number k) o m
-number_from n k o m e h = subst (λ x. WritesStep (number x) o m) e h
 
 joined : (o m n p : List ℕ) (b c : List ℕ) → m ≡ o ++ b → n ≡ m ++ c → p ≡ n → p ≡ o ++ (b ++ c)
 joined o m n p b c e f h = h ∙ f ∙ ap (λ x. x ++ c) e ∙ append_assoc o b c
@@ -128,11 +129,9 @@ each_there P [] i d h l = absurd (omega arith)
 each_there P (x ∷ xs) zero d h l = h.0
 each_there P (x ∷ xs) (suc i) d h l = each_there P xs i d h.1 (omega arith)
 
-pub text_there : (a : Arena) (i : ℕ) → IsFinished a → i < length a.texts → IsText (text_at a i)
-text_there a i f l = each_there IsText a.texts i [] f.built.texts l
-
-pub text_short : (a : Arena) (i : ℕ) → IsWithinBounds a → i < length a.texts → length (text_at a i) < 268435456
-text_short a i f l = each_there (λ x. length x < 268435456) a.texts i [] f.texts l
-
 pub flags_are : (a : Arena) (ids : List TextId) (flags bits : ℕ) → flags ≡ bits → 16 * length ids + flags ≡ 16 * length (texts_at a ids) + bits
 flags_are a ids flags bits e = simp length-map (omega arith)
+
+pub each_append : {X : Type 0} (P : X → Type 0) (xs ys : List X) → AllByRecursion P xs → AllByRecursion P ys → AllByRecursion P (xs ++ ys)
+each_append P [] ys h k = k
+each_append P (x ∷ xs) ys h k = (h.0, each_append P xs ys h.1 k)

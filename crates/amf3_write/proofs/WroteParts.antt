@@ -15,13 +15,6 @@ use Rattle.amf3_write.specs.Writes.{Writes, WritesStep, WritesSteps}
 joined : (o m n b c : List ℕ) → m ≡ o ++ b → n ≡ m ++ c → n ≡ o ++ (b ++ c)
 joined o m n b c e f = f ∙ ap (λ x. x ++ c) e ∙ append_assoc o b c
 
-pub wrote_then : (A B : Tables → List ℕ → Tables → Type 0) (o m n : Output) → Writes A o m → Writes B m n → Writes (Then A B) o n
-wrote_then A B o m n h k = record {
-  bytes = h.bytes ++ k.bytes;
-  spelled = record { front = h.bytes; back = k.bytes; mid = m.tables; joined = refl; first = h.spelled; second = k.spelled };
-  appended = joined o.bytes.items m.bytes.items n.bytes.items h.bytes k.bytes h.appended k.appended;
-}
-
 pub wrote_unused : (o m : Output) → WritesStep (number 1) o m → WritesStep unused o m
 wrote_unused o m h = record { bytes = h.bytes; spelled = (h.spelled.0, ((0, h.spelled.1.0, refl), h.spelled.1.1), h.spelled.2); appended = h.appended }
 
@@ -42,13 +35,6 @@ module _ (R : Value → Tables → List ℕ → Tables → Type 0) where
   pub wrote_one : (x : Step) (o m : Output) → WritesStep x o m → WritesThese (step x ∷ []) o m
   wrote_one x o m h = wrote_step x [] o m m h (wrote_none m)
 
-  pub wrote_value : (v : Value) (ps : List Part) (o m n : Output) → Writes (R v) o m → WritesThese ps m n → WritesThese (value v ∷ ps) o n
-  wrote_value v ps o m n h k = record {
-    bytes = h.bytes ++ k.bytes;
-    spelled = record { front = h.bytes; back = k.bytes; mid = m.tables; joined = refl; first = h.spelled; second = k.spelled };
-    appended = joined o.bytes.items m.bytes.items n.bytes.items h.bytes k.bytes h.appended k.appended;
-  }
-
   parts_append : (ps qs : List Part) (t u v : Tables) (b c : List ℕ) → Parts R canonical ps t b u → Parts R canonical qs u c v → Parts R canonical (ps ++ qs) t (b ++ c) v
   parts_append [] qs t u v b c h k = subst (λ z. Parts R canonical qs t z v) (sym (ap (λ z. z ++ c) h.0)) (subst (λ z. Parts R canonical qs z c v) h.1 k)
   parts_append (step x ∷ ps) qs t u v b c h k = record { front = h.front; back = h.back ++ c; mid = h.mid; joined = ap (λ z. z ++ c) h.joined ∙ append_assoc h.front h.back c; first = h.first; second = parts_append ps qs h.mid u v h.back c h.second k }
@@ -60,15 +46,6 @@ module _ (R : Value → Tables → List ℕ → Tables → Type 0) where
     spelled = parts_append ps qs o.tables m.tables n.tables h.bytes k.bytes h.spelled k.spelled;
     appended = joined o.bytes.items m.bytes.items n.bytes.items h.bytes k.bytes h.appended k.appended;
   }
-
-  -- steps alone are parts, whatever a value's spelling is
-  steps_any : (ps : List Part) (t u : Tables) (b : List ℕ) → Parts (λ v t b t'. ⊥) canonical ps t b u → Parts R canonical ps t b u
-  steps_any [] t u b h = h
-  steps_any (step x ∷ ps) t u b h = record { front = h.front; back = h.back; mid = h.mid; joined = h.joined; first = h.first; second = steps_any ps h.mid u h.back h.second }
-  steps_any (value x ∷ ps) t u b h = absurd h.first
-
-  pub wrote_steps : (ps : List Part) (o m : Output) → WritesSteps ps o m → WritesThese ps o m
-  wrote_steps ps o m h = record { bytes = h.bytes; spelled = steps_any ps o.tables m.tables h.bytes h.spelled; appended = h.appended }
 
 -- Two steps, three steps.
 

@@ -1,5 +1,8 @@
+-- The definitions that contracts cite.
 pub mod Written
+pub mod PartLacks
+-- Devices of the proofs: no clause of a public call needs them.
 pub mod Writes
 pub mod Contents
-pub mod PartLacks
+pub mod Unwritten
 pub mod Found

@@ -1,12 +1,14 @@
--- What each part of a writer appends, by its bytes, and where it stops.
-use Rattle.std.specs.Prelude.{◌≡◌, ℕ, suc, ◌-◌, ◌≤◌, List, ◌++◌}
+-- What each part of a writer appends, by its bytes, and where it stops. A device of proofs.
+use Rattle.std.specs.Prelude.{◌≡◌, ℕ, ◌≤◌, List, ◌++◌, length, slice_get, Some}
 use Rattle.amf_wire.specs.Style.{canonical}
 use Rattle.amf_graph.specs.declared.lack.Lack.{Lack}
-use Rattle.amf_graph.specs.Graph.{Value, Graph}
+use Rattle.amf_graph.specs.declared.lack.LackKind.TheVariants.{EmptyName}
+use Rattle.amf_graph.specs.Graph.{Value, Graph, node_at, AllNamed}
+use Rattle.amf_graph.specs.Order.{Walks}
 use Rattle.amf_tables.specs.Tables.{Tables}
-use Rattle.amf_tables.specs.Lacking3.{Lacking3}
 use Rattle.amf_tables.specs.ByteSpelling.{Texts, Step, StepOf, Part, Lifted, Parts, Spells}
 use Rattle.amf3_write.specs.declared.output.Output.{Output}
+use Rattle.amf3_write.specs.Contents.{part_values}
 
 -- the bytes that were appended are a spelling from the tables before to those behind
 pub record Writes (A : Tables → List ℕ → Tables → Type 0) (old new : Output) : Type 0 where
@@ -14,22 +16,39 @@ pub record Writes (A : Tables → List ℕ → Tables → Type 0) (old new : Out
   pub spelled : A old.tables bytes new.tables
   pub appended : new.bytes.items ≡ old.bytes.items ++ bytes
 
--- a step that names no node; such steps alone; parts, with so many levels left; a value
+-- the bytes are the canonical case of a value
+abbrev pub IsCanonical : Graph → Value → Tables → List ℕ → Tables → Type 0
+IsCanonical g v t b t' = (height : ℕ) × Spells height canonical g v t b t'
+
+-- a step that names no node; such steps alone; a value
 abbrev pub WritesStep : Step → Output → Output → Type 0
 WritesStep x = Writes (Lifted (StepOf canonical x))
 
 abbrev pub WritesSteps : List Part → Output → Output → Type 0
 WritesSteps ps = Writes (Parts (λ v t b t'. ⊥) canonical ps)
 
-abbrev pub WritesParts : Graph → ℕ → List Part → Output → Output → Type 0
-WritesParts g levels ps = Writes (Parts (Spells levels canonical g) canonical ps)
-
-abbrev pub WritesValue : Graph → ℕ → Value → Output → Output → Type 0
-WritesValue g levels v = Writes (Spells levels canonical g v)
+abbrev pub WritesValue : Graph → Value → Output → Output → Type 0
+WritesValue g v = Writes (IsCanonical g v)
 
 -- texts one after another
 abbrev pub WritesTexts : List (List ℕ) → Output → Output → Type 0
 WritesTexts xs = Writes (Lifted (Texts canonical xs))
+
+-- from parts that were to be written to those that are left: what spells those that are left spells all, behind the bytes that were appended, and a walk over the values of all goes on over those that are left
+pub record Leads (g : Graph) (whole left : List Part) (old new : Output) : Type 0 where
+  pub bytes : List ℕ
+  pub appended : new.bytes.items ≡ old.bytes.items ++ bytes
+  pub completes : (more : List ℕ) (t : Tables) → Parts (IsCanonical g) canonical left new.tables more t → Parts (IsCanonical g) canonical whole old.tables (bytes ++ more) t
+  pub walks : (all : List ℕ) → Walks g old.tables.done (part_values whole) all → Walks g new.tables.done (part_values left) all
+  pub later : length old.tables.done ≤ length new.tables.done
+
+-- a writer of these parts stops at a node that it has not met before and that has an empty name: the lack has the number of the node's place among those that are met
+pub record Stops (g : Graph) (parts : List Part) (old : Output) (lack : Lack) : Type 0 where
+  pub node : ℕ
+  pub unnamed : AllNamed (node_at g node).names → ⊥
+  pub kind : lack.kind ≡ EmptyName
+  pub later : length old.tables.done ≤ lack.node
+  pub place : (all : List ℕ) → Walks g old.tables.done (part_values parts) all → slice_get all lack.node ≡ Some node
 
 -- the bytes begin with these
 pub record BeginsWith (front bytes : List ℕ) : Type 0 where
@@ -48,11 +67,3 @@ pub record HasFront (front : Front) (o : Output) : Type 0 where
 -- what the output began with, it still begins with
 abbrev pub Keeps : Output → Output → Type 0
 Keeps old new = (front : Front) → HasFront front old → HasFront front new
-
--- a writer of these values, with so many levels left, stops at the first node that lacks a spelling, whatever the limit
-pub record Stops (g : Graph) (levels : ℕ) (vs : List Value) (old : Output) (lack : Lack) : Type 0 where
-  pub at : (limit : ℕ) → levels ≤ limit → old.tables.nodes ≡ old.tables.done → Lacking3 g limit (suc limit - levels) vs old.tables.done lack.node lack.kind
-
--- such a writer, where the tables name each node that was spelled and the limit is the levels that are left
-abbrev pub StopsAt : Graph → ℕ → List Value → Tables → Lack → Type 0
-StopsAt g levels vs t lack = t.nodes ≡ t.done → Lacking3 g levels 1 vs t.done lack.node lack.kind

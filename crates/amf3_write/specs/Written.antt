@@ -8,13 +8,13 @@ use Rattle.amf_tables.specs.Spells3.{Spells3, IsSpelling3}
 use Rattle.amf_tables.specs.Tables.{Tables}
 use Rattle.amf_tables.specs.Words3.{Text}
 
--- the bytes of the canonical spelling of a graph, in at most 512 levels
+-- the bytes of the canonical spelling of a graph
 abbrev pub AppendsCanonical : Graph → List ℕ → List ℕ → Type 0
-AppendsCanonical g old new = (fs : List Field) × IsSpelling3 512 canonical g fs × (new ≡ old ++ flat fs)
+AppendsCanonical g old new = (fs : List Field) × IsSpelling3 canonical g fs × (new ≡ old ++ flat fs)
 
--- the bytes of the canonical case of a value of a graph, with so many levels left, from the tables before to those behind
-abbrev pub AppendsPart : Graph → ℕ → Value → Tables → Tables → List ℕ → List ℕ → Type 0
-AppendsPart g levels v t t' old new = (fs : List Field) × Spells3 levels canonical g v t fs t' × (new ≡ old ++ flat fs)
+-- the bytes of the canonical case of a value of a graph, from the tables before to those behind
+abbrev pub AppendsPart : Graph → Value → Tables → Tables → List ℕ → List ℕ → Type 0
+AppendsPart g v t t' old new = (fs : List Field) × Spells3 canonical g v t fs t' × (new ≡ old ++ flat fs)
 
 -- the bytes of the canonical case of a text, from the tables before to those behind
 abbrev pub AppendsText : List ℕ → Tables → Tables → List ℕ → List ℕ → Type 0

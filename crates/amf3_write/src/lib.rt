@@ -4,12 +4,14 @@
 mod first_lack;
 mod leaves;
 mod nodes;
+mod open;
 mod output;
 mod pairs;
 mod part;
 #[cfg(test)]
 mod tests;
 mod traits;
+mod unwritten;
 mod values;
 mod write;
 

@@ -204,25 +204,22 @@ fn an_empty_name(rt: HostRuntime) -> Result<(), Fail> {
 }
 
 #[test]
-fn too_many_levels(rt: HostRuntime) -> Result<(), Fail> {
-    let mut builder = Builder::new(rt.alloc())?;
+fn arrays_within_one_another(rt: HostRuntime) -> Result<(), Fail> {
+    let alloc = rt.alloc();
+    let mut builder = Builder::new(alloc)?;
     let mut root = builder.open_node(Shape::Array)?;
     builder.close_node(root);
-    for _ in 1..513 {
+    let mut bytes = vec![in alloc; 0xAA]?;
+    for _ in 0..2000 {
         let outer = builder.open_node(Shape::Array)?;
         builder.put(outer, Part::Item(Value::Node(root)))?;
         builder.close_node(outer);
         root = outer;
+        bytes.extend_from_slice(b"\x09\x03\x01")?;
     }
+    bytes.extend_from_slice(b"\x09\x01\x01")?;
     let graph = finished(builder, Value::Node(root))?;
-    let lack = Lack {
-        kind: LackKind::TooDeep,
-        node: 512,
-    };
-    assert_eq!(rt;
-        written(rt.alloc(), &graph),
-        Err(WriteEnd::NoSpelling(lack))
-    );
+    assert_eq!(rt; written(alloc, &graph)?.as_slice(), bytes.as_slice());
     Ok(())
 }
 
@@ -276,8 +273,8 @@ fn a_part_behind_another(rt: HostRuntime) -> Result<(), Fail> {
     );
     let mut tables = WriterTables::new(alloc)?;
     let mut out = vec![in alloc; 0xAA]?;
-    write3_part(alloc, &graph, first, &mut tables, 1, &mut out)?;
-    write3_part(alloc, &graph, second, &mut tables, 1, &mut out)?;
+    write3_part(alloc, &graph, first, &mut tables, &mut out)?;
+    write3_part(alloc, &graph, second, &mut tables, &mut out)?;
     let bytes = b"\xAA\x09\x01\x01\x09\x03\x01\x09\x00".as_slice();
     assert_eq!(rt; out.as_slice(), bytes);
     Ok(())
@@ -290,23 +287,24 @@ fn the_least_lack_of_a_part(rt: HostRuntime) -> Result<(), Fail> {
     assert!(rt; is_amf_text(b""));
     let empty = builder.text(b"")?;
     let root = builder.open_node(Shape::Array)?;
-    let unnamed = builder.open_node(Shape::Array)?;
+    let first = builder.open_node(Shape::Array)?;
     let outer = builder.open_node(Shape::Array)?;
-    let deep = builder.open_node(Shape::Array)?;
-    builder.put(root, Part::Item(Value::Node(unnamed)))?;
+    let second = builder.open_node(Shape::Array)?;
+    builder.put(root, Part::Item(Value::Node(first)))?;
     builder.put(root, Part::Item(Value::Node(outer)))?;
-    builder.put(outer, Part::Item(Value::Node(deep)))?;
-    builder.put(outer, Part::Item(Value::Node(unnamed)))?;
-    builder.put(unnamed, Part::Named(empty, Value::Null))?;
-    builder.close_node(unnamed);
-    builder.close_node(deep);
+    builder.put(outer, Part::Item(Value::Node(second)))?;
+    builder.put(outer, Part::Item(Value::Node(first)))?;
+    builder.put(first, Part::Named(empty, Value::Null))?;
+    builder.put(second, Part::Named(empty, Value::Null))?;
+    builder.close_node(first);
+    builder.close_node(second);
     builder.close_node(outer);
     builder.close_node(root);
     let graph = finished(builder, Value::Node(root))?;
     let part = item(&graph, 1).ok_or("no item")?;
     let mut tables = WriterTables::new(alloc)?;
     let mut out = vec![in alloc; 0xAA]?;
-    let end = write3_part(alloc, &graph, part, &mut tables, 1, &mut out);
+    let end = write3_part(alloc, &graph, part, &mut tables, &mut out);
     let lack = Lack {
         kind: LackKind::EmptyName,
         node: 1,
@@ -320,6 +318,8 @@ fn the_least_lack_of_a_part(rt: HostRuntime) -> Result<(), Fail> {
 fn a_lack_behind_the_part(rt: HostRuntime) -> Result<(), Fail> {
     let alloc = rt.alloc();
     let mut builder = Builder::new(alloc)?;
+    assert!(rt; is_amf_text(b""));
+    let empty = builder.text(b"")?;
     let root = builder.open_node(Shape::Array)?;
     let first = builder.open_node(Shape::Array)?;
     let second = builder.open_node(Shape::Array)?;
@@ -327,6 +327,7 @@ fn a_lack_behind_the_part(rt: HostRuntime) -> Result<(), Fail> {
     builder.put(root, Part::Item(Value::Node(first)))?;
     builder.put(root, Part::Item(Value::Node(second)))?;
     builder.put(second, Part::Item(Value::Node(inner)))?;
+    builder.put(inner, Part::Named(empty, Value::Null))?;
     builder.close_node(first);
     builder.close_node(inner);
     builder.close_node(second);
@@ -335,9 +336,9 @@ fn a_lack_behind_the_part(rt: HostRuntime) -> Result<(), Fail> {
     let part = item(&graph, 1).ok_or("no item")?;
     let mut tables = WriterTables::new(alloc)?;
     let mut out = Vec::new(alloc);
-    let end = write3_part(alloc, &graph, part, &mut tables, 1, &mut out);
+    let end = write3_part(alloc, &graph, part, &mut tables, &mut out);
     let lack = Lack {
-        kind: LackKind::TooDeep,
+        kind: LackKind::EmptyName,
         node: 3,
     };
     assert_eq!(rt; end, Err(WriteEnd::NoSpelling(lack)));

@@ -13,19 +13,16 @@ use amf_wire::Memory;
 use std::alloc::Global;
 use std::hash::RandomState;
 
-/// How many nodes may stand within one another.
-const LEVELS: u32 = 512;
-
 /// Appends the canonical spelling of a graph (AMF 3, 3.2 to 3.16).
 ///
-/// After an end `out` is as before. `NoSpelling` comes only where the graph has no canonical spelling with at most 512 nodes
-/// within one another, and tells the first lack of the graph; `Memory` where there is no room for the tables or the bytes.
+/// After an end `out` is as before. `NoSpelling` comes only where the graph has no canonical spelling, and tells the first lack
+/// of the graph; `Memory` where there is no room for the tables or the bytes.
 ///
 /// The tables are looked up by fixed keys, so whoever knows them can make a graph that takes long: `write3_keyed` is passed
 /// others.
 pub fn write3(alloc: Global, graph: &Rooted, out: &mut Vec<u8>) -> Result<(), WriteEnd>
     ensures written { OnOk result (AppendsCanonical (content graph.now) out.old.items out.new.items) }
-    ensures lack { (l : Lack) → IsErrOf result (WriteEnd.NoSpelling l) → IsLack3 (content graph.now) 512 l.node l.kind }
+    ensures lack { (l : Lack) → IsErrOf result (WriteEnd.NoSpelling l) → IsLack3 (content graph.now) l.node l.kind }
     ensures kept { OnErr result (out.new.items ≡ out.old.items) }
 {
     write3_keyed(alloc, None, graph, out)
@@ -40,12 +37,12 @@ pub fn write3_keyed(
     out: &mut Vec<u8>,
 ) -> Result<(), WriteEnd>
     ensures written { OnOk result (AppendsCanonical (content graph.now) out.old.items out.new.items) }
-    ensures lack { (l : Lack) → IsErrOf result (WriteEnd.NoSpelling l) → IsLack3 (content graph.now) 512 l.node l.kind }
+    ensures lack { (l : Lack) → IsErrOf result (WriteEnd.NoSpelling l) → IsLack3 (content graph.now) l.node l.kind }
     ensures kept { OnErr result (out.new.items ≡ out.old.items) }
 {
     graph.is_finished();
     let mut tables = tables_with(alloc, keys)?;
-    write3_part(alloc, graph, graph.root(), &mut tables, LEVELS, out)
+    write3_part(alloc, graph, graph.root(), &mut tables, out)
 }
 
 /// Tables without entries, that are looked up by these keys.

@@ -2,6 +2,7 @@ use Rattle.std.proofs.Common.{◌≡◌, ◌+◌, ◌<◌, ◌∷◌, ◌++◌, 
 use Rattle.std.proofs.Math.Seq.{take-suc}
 use Rattle.std.proofs.lemmas.List.{map-append, length-set}
 use Rattle.amf_graph.specs.declared.value.NodeId.{NodeId}
+use Rattle.amf_graph.specs.Renumbered.{numbers_of}
 use Rattle.amf3_write.specs.Found.{AreSeen}
 use Rattle.amf3_write.proofs.Wrote.{each_there}
 use Rattle.amf3_write.proofs.FoundSteps.{seen_push}
@@ -16,8 +17,8 @@ loop-node-preserved c =
     let inv = c.loop-node.invariant in
     let node = (get_or ns i d).0 in
     let there : node < length c.args.graph.now.arena.nodes = each_there (λ n. n.0 < length c.args.graph.now.arena.nodes) ns i d c.requires within in
-    let more : map {A = NodeId} {B = ℕ} (λ n. n.0) (take (i + 1) ns) ≡ map (λ n. n.0) (take i ns) ++ node ∷ [] = rw (add-one, take-suc ns i d within, map-append) refl in
+    let more : numbers_of (take (i + 1) ns) ≡ numbers_of (take i ns) ++ node ∷ [] = rw (add-one, take-suc ns i d within, map-append) refl in
     record {
-      marked = subst (λ w. AreSeen w (set c.loop-node.seen.items node true)) (sym more) (seen_push (map (λ n. n.0) (take i ns)) c.loop-node.seen.items node inv.marked (omega (arith, there, inv.room)));
+      marked = subst (λ w. AreSeen w (set c.loop-node.seen.items node true)) (sym more) (seen_push (numbers_of (take i ns)) c.loop-node.seen.items node inv.marked (omega (arith, there, inv.room)));
       room = length-set c.loop-node.seen.items node true ∙ inv.room;
     }

@@ -10,11 +10,11 @@ use Rattle.amf3_write.proofs.part.write_value.Goals as goal
 pub returns-clause-written : goal.returns-clause-written
 returns-clause-written c =
     on_ok_then _ _ c.value-result.result (λ ok h.
-    part_written (content c.args.graph.now) c.args.depth (value_content c.args.graph.now.arena c.args.value) c.in_ok-output.output c.value-result.new.self c.args.tables.now c.put_back.new.tables c.args.out.now.items c.put_back.new.bytes.items
+    part_written (content c.args.graph.now) (value_content c.args.graph.now.arena c.args.value) c.in_ok-output.output c.value-result.new.self c.args.tables.now c.put_back.new.tables c.args.out.now.items c.put_back.new.bytes.items
     c.in_ok-output.ensures.tables (ap (λ v. v.items) c.in_ok-output.ensures.bytes) c.put_back.ensures.tables (ap (λ v. v.items) (c.put_back.ensures.whole (c.is_err.ensures.value ∙ ok))) h) c.value-result.ensures.ok
 
 pub returns-clause-lack : goal.returns-clause-lack
-returns-clause-lack c = λ l e. stops_at (content c.args.graph.now) c.args.depth (value_content c.args.graph.now.arena c.args.value ∷ []) c.in_ok-output.output c.args.tables.now l c.in_ok-output.ensures.tables (c.value-result.ensures.lack l e)
+returns-clause-lack c = λ l e. stops_at (content c.args.graph.now) (value_content c.args.graph.now.arena c.args.value) c.in_ok-output.output c.args.tables.now l c.in_ok-output.ensures.tables (c.value-result.ensures.lack l e)
 
 pub returns-clause-nodes : goal.returns-clause-nodes
 returns-clause-nodes c =

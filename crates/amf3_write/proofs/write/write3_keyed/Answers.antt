@@ -18,6 +18,6 @@ pub returns-clause-lack : goal.returns-clause-lack
 returns-clause-lack c = λ l e.
     let g = content c.args.graph.now in
     let a = c.args.graph.now.arena in
-    whole_lack g 512 l.node l.kind
-    (subst (λ v. IsPartLack3 g 512 v [] l.node l.kind) (ap (value_content a) c.root.ensures)
-    (subst (λ (t : Tables). IsPartLack3 g 512 (value_content a c.root.result) t.done l.node l.kind) c.in_ok-tables.ensures (c.write3_part.ensures.lack l e)))
+    whole_lack g l.node l.kind
+    (subst (λ v. IsPartLack3 g v [] l.node l.kind) (ap (value_content a) c.root.ensures)
+    (subst (λ (t : Tables). IsPartLack3 g (value_content a c.root.result) t.done l.node l.kind) c.in_ok-tables.ensures (c.write3_part.ensures.lack l e)))

@@ -1,0 +1,63 @@
+-- Runs that are put onto a stack and taken off it.
+use Rattle.std.proofs.Common.{◌≡◌, ℕ, ◌+◌, ◌*◌, ◌≤◌, List, [], ◌∷◌, ◌++◌, length, reverse, Option, sym, refl, ap, ◌∙◌, subst, arith, append_assoc, append-nil}
+use Rattle.std.proofs.lemmas.List.{reverse-append, length-append}
+use Rattle.amf_graph.specs.declared.value.Value.{Value as Stored}
+use Rattle.amf_graph.specs.Graph.{Value, Graph}
+use Rattle.amf_graph.specs.Arena.{Arena, value_content}
+use Rattle.amf_graph.specs.Views.{flat}
+use Rattle.amf_tables.specs.ByteSpelling.{Part, step, value, word, values_then, pairs_then}
+use Rattle.amf_iso.specs.Contents.{values_of, pair_content, named_pairs}
+use Rattle.amf3_write.specs.declared.unwritten.Unwritten.{Unwritten}
+use Rattle.amf3_write.specs.Unwritten.{run_parts, next_parts, parts_left, IsRunOf, AreRunsOf, run_turns, turns_left}
+use Rattle.amf3_write.proofs.NamedPairs.{all_push}
+use Rattle.amf3_write.specs.declared.output.Output.{Output}
+use Rattle.amf3_write.specs.Writes.{Leads}
+use Rattle.amf3_write.proofs.Leading.{leads_then, leads_from}
+use denote.Ref.{Bor}
+
+pub parts_push : (a : Arena) (runs : List Unwritten) (run : Unwritten) → parts_left a (runs ++ run ∷ []) ≡ run_parts a run ++ parts_left a runs
+parts_push a [] run = sym (append-nil (run_parts a run))
+parts_push a (r ∷ runs) run = ap (λ w. w ++ run_parts a r) (parts_push a runs run) ∙ append_assoc (run_parts a run) (parts_left a runs) (run_parts a r)
+
+pub turns_push : (runs : List Unwritten) (run : Unwritten) → turns_left (runs ++ run ∷ []) ≡ run_turns run + turns_left runs
+turns_push [] run = refl
+turns_push (r ∷ runs) run = omega (arith, turns_push runs run)
+
+pub parts_pushed : (a : Arena) (runs now : List Unwritten) (run : Unwritten) → now ≡ runs ++ run ∷ [] → parts_left a now ≡ run_parts a run ++ parts_left a runs
+parts_pushed a runs now run e = ap (parts_left a) e ∙ parts_push a runs run
+
+pub turns_pushed : (runs now : List Unwritten) (run : Unwritten) → now ≡ runs ++ run ∷ [] → turns_left now ≡ run_turns run + turns_left runs
+turns_pushed runs now run e = ap turns_left e ∙ turns_push runs run
+
+pub values_joined : (vs : List Value) (ps : List Part) → values_then vs [] ++ ps ≡ values_then vs ps
+values_joined [] ps = refl
+values_joined (v ∷ vs) ps = ap (λ w. value v ∷ w) (values_joined vs ps)
+
+pub pairs_joined : (w : List (List ℕ × Value)) (ps : List Part) → pairs_then w [] ++ ps ≡ pairs_then w ps
+pairs_joined [] ps = refl
+pairs_joined (p ∷ w) ps = ap (λ z. step (word p.0) ∷ value p.1 ∷ z) (pairs_joined w ps)
+
+-- one run before another, as one list of parts
+pub values_before : (vs : List Value) (ps old mid now : List Part) → mid ≡ ps ++ old → now ≡ values_then vs [] ++ mid → values_then vs ps ++ old ≡ now
+values_before vs ps old mid now e f = ap (λ w. w ++ old) (sym (values_joined vs ps)) ∙ append_assoc (values_then vs []) ps old ∙ ap (λ w. values_then vs [] ++ w) (sym e) ∙ sym f
+
+pub pairs_before : (ws : List (List ℕ × Value)) (ps old mid now : List Part) → mid ≡ ps ++ old → now ≡ pairs_then ws [] ++ mid → pairs_then ws ps ++ old ≡ now
+pairs_before ws ps old mid now e f = ap (λ w. w ++ old) (sym (pairs_joined ws ps)) ∙ append_assoc (pairs_then ws []) ps old ∙ ap (λ w. pairs_then ws [] ++ w) (sym e) ∙ sym f
+
+-- the last of pairs in reverse is the first
+pub pairs_popped : (a : Arena) (all rest : List (Bor (List ℕ) × Stored)) (p : Bor (List ℕ) × Stored) → all ≡ rest ++ p ∷ [] → pairs_then (named_pairs a (reverse all)) [] ≡ step (word p.0.now) ∷ value (value_content a p.1) ∷ pairs_then (named_pairs a (reverse rest)) []
+pairs_popped a all rest p e = ap (λ w. pairs_then (named_pairs a w) []) (ap reverse e ∙ reverse-append rest (p ∷ []))
+
+pub flat_length : (es : List (Stored × Stored)) → length (flat es) ≡ 2 * length es
+flat_length [] = refl
+flat_length (e ∷ es) = omega (arith, flat_length es)
+
+pub runs_pushed : (a : Arena) (runs now : List Unwritten) (run : Unwritten) → now ≡ runs ++ run ∷ [] → AreRunsOf a runs → IsRunOf a run → AreRunsOf a now
+runs_pushed a runs now run e h k = subst (λ w. AreRunsOf a w) (sym e) (all_push (IsRunOf a) runs run h k)
+
+-- one run taken off the stack, and written up to its next value
+pub turned : (g : Graph) (a : Arena) (whole : List Part) (runs all left : List Unwritten) (top : Unwritten) (next : Option Stored) (o m n : Output) → all ≡ runs ++ top ∷ [] → Leads g whole (parts_left a all) o m
+    → Leads g (run_parts a top ++ parts_left a runs) (next_parts a next ++ parts_left a left) m n → Leads g whole (next_parts a next ++ parts_left a left) o n
+turned g a whole runs all left top next o m n e h k =
+    let behind = next_parts a next ++ parts_left a left in
+    leads_then g whole (parts_left a all) behind o m n h (leads_from g (parts_left a all) (run_parts a top ++ parts_left a runs) behind m n (parts_pushed a runs all top e) k)

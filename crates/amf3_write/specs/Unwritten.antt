@@ -1,0 +1,58 @@
+-- What a stack of runs stands for. A device of proofs.
+use Rattle.std.specs.Prelude.{ℕ, ◌+◌, ◌*◌, ◌<◌, ◌≤◌, ◌⊎◌, List, [], ◌∷◌, ◌++◌, length, reverse, Option, Some, None}
+use Rattle.std.specs.List.{AllByRecursion}
+use Rattle.amf_graph.specs.declared.value.Value.{Value as Stored}
+use Rattle.amf_graph.specs.Arena.{Arena, Names, value_content}
+use Rattle.amf_graph.specs.Order.{Absent}
+use Rattle.amf_graph.specs.Views.{flat}
+use Rattle.amf_tables.specs.ByteSpelling.{Part, value, values_then, pairs_then}
+use Rattle.amf_iso.specs.Contents.{values_of, AreValues, named_pairs, AreNamedPairs}
+use Rattle.amf3_write.specs.declared.unwritten.Unwritten.{Unwritten}
+use Rattle.amf3_write.specs.declared.unwritten.Unwritten.TheVariants.{One, Values, Entries, Pairs}
+use Rattle.amf3_write.specs.Writes.{BeginsWith}
+
+-- the parts of a run
+abbrev pub run_parts : Arena → Unwritten → List Part
+run_parts a (One v) = value (value_content a v) ∷ []
+run_parts a (Values vs) = values_then (values_of a vs.now) []
+run_parts a (Entries es) = values_then (values_of a (flat es.now)) []
+run_parts a (Pairs ps) = pairs_then (named_pairs a (reverse ps.items)) []
+
+-- the parts of a stack, those of the last run first
+abbrev pub parts_left : Arena → List Unwritten → List Part
+parts_left a [] = []
+parts_left a (run ∷ runs) = parts_left a runs ++ run_parts a run
+
+-- the part that a value is, if there is one
+abbrev pub next_parts : Arena → Option Stored → List Part
+next_parts a None = []
+next_parts a (Some v) = value (value_content a v) ∷ []
+
+abbrev pub IsNextOf : Arena → Option Stored → Type 0
+IsNextOf a None = Unit {0}
+IsNextOf a (Some v) = Names a v
+
+-- the values are the arena's, and the names are texts that a header has room for
+abbrev pub IsRunOf : Arena → Unwritten → Type 0
+IsRunOf a (One v) = Names a v
+IsRunOf a (Values vs) = AreValues a vs.now
+IsRunOf a (Entries es) = AreValues a (flat es.now)
+IsRunOf a (Pairs ps) = AreNamedPairs a ps.items
+
+abbrev pub AreRunsOf : Arena → List Unwritten → Type 0
+AreRunsOf a runs = AllByRecursion (IsRunOf a) runs
+
+-- how many turns a run takes at most
+abbrev pub run_turns : Unwritten → ℕ
+run_turns (One v) = 1
+run_turns (Values vs) = 1 + length vs.now
+run_turns (Entries es) = 1 + 2 * length es.now
+run_turns (Pairs ps) = 1 + length ps.items
+
+abbrev pub turns_left : List Unwritten → ℕ
+turns_left [] = 0
+turns_left (run ∷ runs) = run_turns run + turns_left runs
+
+-- no more turns are left than before; or one of so many nodes is new in the table, and no more turns came than a node has
+abbrev pub Falls : ℕ → List ℕ → List ℕ → ℕ → ℕ → Type 0
+Falls count old new before after = (after ≤ before) ⊎ ((i : ℕ) × (i < count) × Absent old i × BeginsWith (old ++ i ∷ []) new × (after ≤ before + 1073741824))

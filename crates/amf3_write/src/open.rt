@@ -1,0 +1,136 @@
+ghost use Rattle.std.specs.Prelude.{◌≡◌, ◌+◌, ◌<◌, ◌≤◌, ◌^◌, [], ◌++◌, length, OnOk};
+ghost use Rattle.amf_graph.specs.Arena.{traits_at};
+ghost use Rattle.amf_graph.specs.ByName.{by_name};
+ghost use Rattle.amf_graph.specs.Graph as graph_of_values;
+ghost use Rattle.amf_graph.specs.Graph.{node_at};
+ghost use Rattle.amf_graph.specs.Rooted.{content};
+ghost use Rattle.amf_tables.specs.ByteSpelling as spell;
+ghost use Rattle.amf_iso.specs.Contents.{values_of, pairs_of, AreValues, ArePairs};
+ghost use Rattle.amf3_write.specs.Contents.{node_parts};
+ghost use Rattle.amf3_write.specs.Unwritten.{AreRunsOf, parts_left, turns_left};
+ghost use Rattle.amf3_write.specs.Writes.{Leads, Keeps};
+
+use crate::output::Output;
+use crate::unwritten::Unwritten;
+use amf_graph::{NodeId, NodeView, Rooted, TextId, TraitsId, Value};
+use amf_iso::by_name;
+use amf_wire::Memory;
+use std::alloc::Global;
+
+/// Nodes behind their markers, up to their first values.
+impl Output {
+    /// The header of a node and what stands behind it up to its first value; what is behind that goes onto the stack (3.9 to
+    /// 3.16).
+    pub(crate) fn open<'g>(
+        &mut self,
+        node: NodeId,
+        graph: &'g Rooted,
+        waiting: &mut Vec<Unwritten<'g>>,
+    ) -> Result<(), Memory>
+        requires there { node.0 < length graph.now.arena.nodes }
+        requires runs { AreRunsOf graph.now.arena waiting.old.items }
+        ensures leads { OnOk result (Leads (content graph.now) (node_parts (node_at (content graph.now) node.0) ++ parts_left graph.now.arena waiting.old.items) (parts_left graph.now.arena waiting.new.items) self.old self.new) }
+        ensures runs { OnOk result (AreRunsOf graph.now.arena waiting.new.items) }
+        ensures turns { OnOk result (turns_left waiting.new.items ≤ turns_left waiting.old.items + 2 ^ 30) }
+        ensures kept { Keeps self.old self.new }
+    {
+        graph.is_finished();
+        match graph.node(node) {
+            NodeView::XmlDocument(text) => self.counted(text)?,
+            NodeView::Xml(text) => self.counted(text)?,
+            NodeView::Bytes(bytes) => self.counted(bytes)?,
+            NodeView::Date(milliseconds) => self.date(milliseconds)?,
+            NodeView::Ints { fixed, items } => self.ints(fixed, items)?,
+            NodeView::Uints { fixed, items } => self.uints(fixed, items)?,
+            NodeView::Doubles { fixed, items } => self.doubles(fixed, items)?,
+            NodeView::Array { items, names } => self.array(items, names, graph, waiting)?,
+            NodeView::Object {
+                traits,
+                sealed,
+                members,
+            } => self.object(traits, sealed, members, graph, waiting)?,
+            NodeView::Wrapper { class, value } => {
+                self.wrapper(class)?;
+                waiting.push(Unwritten::One(value))?;
+            }
+            NodeView::Values { fixed, of, items } => {
+                self.vector(items.len(), fixed)?;
+                self.text_of(of, graph)?;
+                waiting.push(Unwritten::Values(items))?;
+            }
+            NodeView::Dictionary { weak, entries } => {
+                self.vector(entries.len(), weak)?;
+                waiting.push(Unwritten::Entries(entries))?;
+            }
+        }
+        Ok(())
+    }
+
+    /// An array: its named pairs, and then its items (3.11).
+    fn array<'g>(
+        &mut self,
+        items: &'g [Value],
+        names: &[(TextId, Value)],
+        graph: &'g Rooted,
+        waiting: &mut Vec<Unwritten<'g>>,
+    ) -> Result<(), Memory>
+        requires values { AreValues graph.now.arena items.now }
+        requires few { length items.now < 2 ^ 28 }
+        requires pairs { ArePairs graph.now.arena names.now }
+        requires runs { AreRunsOf graph.now.arena waiting.old.items }
+        ensures leads { OnOk result (Leads (content graph.now) (spell.layout graph_of_values.array (by_name (pairs_of graph.now.arena names.now)) (values_of graph.now.arena items.now) ++ parts_left graph.now.arena waiting.old.items) (parts_left graph.now.arena waiting.new.items) self.old self.new) }
+        ensures runs { OnOk result (AreRunsOf graph.now.arena waiting.new.items) }
+        ensures turns { OnOk result (turns_left waiting.new.items ≤ turns_left waiting.old.items + (length names.now + length items.now + 2)) }
+        ensures kept { Keeps self.old self.new }
+    {
+        self.number(2 * items.len() as u32 + 1)?;
+        waiting.push(Unwritten::Values(items))?;
+        push_pairs(self.alloc, names, graph, waiting)
+    }
+
+    /// An object: its sealed values, and then its members, if it may have some (3.12).
+    fn object<'g>(
+        &mut self,
+        traits: TraitsId,
+        sealed: &'g [Value],
+        members: &[(TextId, Value)],
+        graph: &'g Rooted,
+        waiting: &mut Vec<Unwritten<'g>>,
+    ) -> Result<(), Memory>
+        requires traits { traits.0 < length graph.now.arena.traits }
+        requires values { AreValues graph.now.arena sealed.now }
+        requires pairs { ArePairs graph.now.arena members.now }
+        requires runs { AreRunsOf graph.now.arena waiting.old.items }
+        ensures leads { OnOk result (Leads (content graph.now) (spell.layout (graph_of_values.object (traits_at graph.now.arena traits.0)) (by_name (pairs_of graph.now.arena members.now)) (values_of graph.now.arena sealed.now) ++ parts_left graph.now.arena waiting.old.items) (parts_left graph.now.arena waiting.new.items) self.old self.new) }
+        ensures runs { OnOk result (AreRunsOf graph.now.arena waiting.new.items) }
+        ensures turns { OnOk result (turns_left waiting.new.items ≤ turns_left waiting.old.items + (length members.now + length sealed.now + 2)) }
+        ensures kept { Keeps self.old self.new }
+    {
+        graph.is_finished();
+        let class = graph.traits(traits);
+        self.traits(&class, graph)?;
+        if class.dynamic {
+            push_pairs(self.alloc, members, graph, waiting)?;
+        }
+        waiting.push(Unwritten::Values(sealed))?;
+        Ok(())
+    }
+}
+
+/// Puts pairs onto the stack, in by-name order.
+fn push_pairs<'g>(
+    alloc: Global,
+    pairs: &[(TextId, Value)],
+    graph: &'g Rooted,
+    waiting: &mut Vec<Unwritten<'g>>,
+) -> Result<(), Memory>
+    requires { ArePairs graph.now.arena pairs.now }
+    ensures left { OnOk result (parts_left graph.now.arena waiting.new.items ≡ spell.pairs_then (by_name (pairs_of graph.now.arena pairs.now)) [] ++ parts_left graph.now.arena waiting.old.items) }
+    ensures runs { AreRunsOf graph.now.arena waiting.old.items → OnOk result (AreRunsOf graph.now.arena waiting.new.items) }
+    ensures turns { OnOk result (turns_left waiting.new.items ≡ turns_left waiting.old.items + (length pairs.now + 1)) }
+{
+    let mut pairs = by_name(alloc, pairs, graph)?;
+    pairs.reverse();
+    waiting.push(Unwritten::Pairs(pairs))?;
+    Ok(())
+}
