@@ -1,5 +1,5 @@
 -- How the reading of a whole input ends.
-use Rattle.std.proofs.Common.{◌≡◌, ℕ, ◌≤◌, List, [], ◌∷◌, ◌++◌, ◌+◌, ◌^◌, length, length-append, append_assoc, take, drop, Result, Ok, Err, false, refl, sym, ap, ◌∙◌, subst, arith, inl, inr}
+use Rattle.std.proofs.Common.{◌≡◌, ℕ, ◌≤◌, List, [], ◌∷◌, ◌++◌, ◌+◌, length, length-append, append_assoc, take, drop, Result, Ok, Err, false, refl, sym, ap, ◌∙◌, subst, arith, inl, inr}
 use Rattle.std.specs.List.{AllByRecursion}
 use Rattle.std.proofs.lemmas.List.{append-nil, length-take}
 use Rattle.amf_io.specs.declared.window.Window.{Window}
@@ -19,7 +19,7 @@ use Rattle.amf_graph.specs.Arena.{Arena, graph_of, IsFinished}
 use Rattle.amf_graph.proofs.FinishedSmall.{completes_itself}
 use Rattle.amf_graph.specs.Building.{no_arena}
 use Rattle.amf_tables.specs.KeptTables.{KeptTables, no_kept_tables, tables_of}
-use Rattle.amf_tables.specs.Reads3.{Grows, IsRead3, IsReading3}
+use Rattle.amf_tables.specs.Reads3.{Grows, IsRead3, IsReading3, IsValue3}
 use Rattle.amf_tables.proofs.Values3Layout.{no_arena_built, values3_is_layout}
 use Rattle.amf_tables.specs.Layout3State.{no_state}
 use Rattle.amf_tables.specs.Layout3.{value_layout}
@@ -27,8 +27,7 @@ use Rattle.amf3_read.specs.Answer.{IsTaken, AnswersAs}
 use Rattle.amf_cli.specs.declared.command.Command.{Command}
 use Rattle.amf_cli.specs.declared.command.Command.TheVariants.{Canon, Same}
 use Rattle.amf3_read.specs.Pairs.{Pair}
-use Rattle.amf3_read.specs.Levels.{enough_levels}
-use Rattle.amf_cli.specs.Run.{most, IsValue, Accepts, IsInputOf, ArePairIn, IsHidden, ReadsInput}
+use Rattle.amf_cli.specs.Run.{most, Accepts, IsInputOf, ArePairIn, IsHidden, ReadsInput}
 use Rattle.amf_cli.specs.Reading.{IsReadOne, AnswersOne, AnswersEnd}
 use Rattle.amf_cli.specs.Lines.{end_of}
 use Rattle.amf3_read.proofs.Pairs.{first_refused, first_cut, second_refused, second_cut}
@@ -66,23 +65,23 @@ taken_whole at end next behind ahead rest limit bound z l b total past within = 
 
 -- what is answered, from nothing up to the most
 pub from_nothing : (told : Type 0) (a b : Arena) (t u : KeptTables) (input rest : List ℕ) (at place limit : ℕ) (r : Result Value ReadEnd) → a ≡ no_arena → t ≡ no_kept_tables → limit ≡ most
-    → AnswersAs enough_levels told a b t u input rest at place limit r → AnswersAs enough_levels told no_arena b no_kept_tables u input rest at place most r
+    → AnswersAs told a b t u input rest at place limit r → AnswersAs told no_arena b no_kept_tables u input rest at place most r
 from_nothing told a b t u input rest at place limit r e h m w =
-    subst (λ x. AnswersAs enough_levels told x b no_kept_tables u input rest at place most r) e
-    (subst (λ x. AnswersAs enough_levels told a b x u input rest at place most r) h
-    (subst (λ x. AnswersAs enough_levels told a b t u input rest at place x r) m w))
+    subst (λ x. AnswersAs told x b no_kept_tables u input rest at place most r) e
+    (subst (λ x. AnswersAs told a b x u input rest at place most r) h
+    (subst (λ x. AnswersAs told a b t u input rest at place x r) m w))
 
 -- what was read from nothing: all nodes of it are new, and closed
 
 pub all_closed : (b : Arena) → Grows no_arena b → AllByRecursion (λ n. n.is_open ≡ false) b.nodes
 all_closed b g = subst (λ ns. AllByRecursion (λ n. n.is_open ≡ false) ns) (sym g.nodes) g.closed
 
-pub one_read : (told : Type 0) (b : Arena) (u : KeptTables) (v : Value) (input rest : List ℕ) (at place : ℕ) → IsTaken told (λ fs. IsRead3 enough_levels no_arena no_kept_tables fs b u v) (IsReading3 enough_levels no_arena no_kept_tables) input rest at place most → IsReadOne told (graph_of b v) input rest at place
+pub one_read : (told : Type 0) (b : Arena) (u : KeptTables) (v : Value) (input rest : List ℕ) (at place : ℕ) → IsTaken told (λ fs. IsRead3 no_arena no_kept_tables fs b u v) (IsReading3 no_arena no_kept_tables) input rest at place most → IsReadOne told (graph_of b v) input rest at place
 one_read told b u v input rest at place r =
     let finished : IsFinished b = record { built = r.read.built no_arena_built; closed = all_closed b r.read.grows } in
     record { fields = r.fields; read = (tables_of b u, r.read.spelled b (completes_itself b finished)); accepted = r.accepted; parts = r.parts; taken = r.taken; within = r.within }
 
-pub one_ends : (told : Type 0) (b : Arena) (u : KeptTables) (input rest : List ℕ) (at place : ℕ) (e : ReadEnd) → AnswersAs enough_levels told no_arena b no_kept_tables u input rest at place most (Err e) → AnswersOne told input rest at place (Err e)
+pub one_ends : (told : Type 0) (b : Arena) (u : KeptTables) (input rest : List ℕ) (at place : ℕ) (e : ReadEnd) → AnswersAs told no_arena b no_kept_tables u input rest at place most (Err e) → AnswersOne told input rest at place (Err e)
 one_ends told b u input rest at place (Refused f) h = h
 one_ends told b u input rest at place ReadFault h = h
 one_ends told b u input rest at place Memory h = tt
@@ -131,18 +130,18 @@ whole_end_ends Q told g input mid rest place Memory y r h = absurd h
 -- The two values of an input.
 
 -- some fields are accepted
-null_fields : (fs : List Field) × IsValue fs
+null_fields : (fs : List Field) × IsValue3 fs
 null_fields =
-    let r = values3_is_layout enough_levels in
-    let a = r.able 1 (omega arith) [] (value_layout 1 enough_levels no_state) refl (omega arith) in
+    let r = values3_is_layout in
+    let a = r.able 1 [] (value_layout 1 no_state) refl (omega arith) in
     (a.more, r.sound 1 a.more a.value a.bytes a.runs)
 
 pub pair_first_ends : {X : Type 0} (Q : X → Type 0) (told : Type 0) (input rest : List ℕ) (place : ℕ) (e : ReadEnd) → told → AnswersOne told input rest 0 place (Err e) → AnswersInput Same Q input rest (Err e)
-pair_first_ends Q told input rest place (Refused f) y h = refused (first_refused (2 ^ 28) layouts IsValue (values3_is_layout enough_levels) most f.at f.reason input null_fields.0 null_fields.1 (h y))
+pair_first_ends Q told input rest place (Refused f) y h = refused (first_refused layouts IsValue3 values3_is_layout most f.at f.reason input null_fields.0 null_fields.1 (h y))
 pair_first_ends Q told input rest place ReadFault y h =
     let i = h y in
     let w = i.within in
-    record { given = i.given; parts = i.parts; unsettled = record { within = omega arith; waits = inl (i.stop, first_cut (2 ^ 28) layouts IsValue (values3_is_layout enough_levels) i.stop i.given null_fields.0 null_fields.1 i.cut_off) } }
+    record { given = i.given; parts = i.parts; unsettled = record { within = omega arith; waits = inl (i.stop, first_cut layouts IsValue3 values3_is_layout i.stop i.given null_fields.0 null_fields.1 i.cut_off) } }
 pair_first_ends Q told input rest place Memory y h = tt
 
 pub pair_second_ends : {X : Type 0} (Q : X → Type 0) (told : Type 0) (g : Graph) (input mid rest : List ℕ) (between place : ℕ) (e : ReadEnd) → told → IsReadOne told g input mid 0 between → AnswersOne told mid rest between place (Err e) → AnswersInput Same Q input rest (Err e)
@@ -150,8 +149,8 @@ pair_second_ends Q told g input mid rest between place (Refused f) y r h =
     let fs = r.fields in
     let w = r.within in
     let t : between ≡ length (flat fs) = let k = r.taken in omega arith in
-    refused (subst (λ l. IsRefused (Pair IsValue) 0 most l f.reason f.at) (sym (r.parts y))
-    (second_refused (2 ^ 28) layouts IsValue (values3_is_layout enough_levels) fs most f.at f.reason mid r.accepted (omega arith) (subst (λ k. IsRefused IsValue k most mid f.reason f.at) t (h y))))
+    refused (subst (λ l. IsRefused (Pair IsValue3) 0 most l f.reason f.at) (sym (r.parts y))
+    (second_refused layouts IsValue3 values3_is_layout fs most f.at f.reason mid r.accepted (omega arith) (subst (λ k. IsRefused IsValue3 k most mid f.reason f.at) t (h y))))
 pair_second_ends Q told g input mid rest between place ReadFault y r h =
     let fs = r.fields in
     let i = h y in
@@ -162,7 +161,7 @@ pair_second_ends Q told g input mid rest between place ReadFault y r h =
       parts = r.parts y ∙ ap (λ l. flat fs ++ l) i.parts ∙ sym (append_assoc (flat fs) i.given rest);
       unsettled = record {
         within = omega (arith, length-append (flat fs) i.given);
-        waits = inl (i.stop, second_cut (2 ^ 28) layouts IsValue (values3_is_layout enough_levels) fs i.stop i.given r.accepted (subst (λ k. IsCutOff IsValue k i.given i.stop) t i.cut_off));
+        waits = inl (i.stop, second_cut layouts IsValue3 values3_is_layout fs i.stop i.given r.accepted (subst (λ k. IsCutOff IsValue3 k i.given i.stop) t i.cut_off));
       };
     }
 pair_second_ends Q told g input mid rest between place Memory y r h = tt

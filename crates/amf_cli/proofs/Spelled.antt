@@ -1,5 +1,5 @@
 -- An input that a command accepts: it is not refused, and what is written of it holds of all graphs that it spells.
-use Rattle.std.proofs.Common.{◌≡◌, inl, inr, ℕ, ◌+◌, ◌-◌, ◌^◌, ◌<◌, ◌≤◌, List, [], ◌++◌, length, length-append, take, refl, sym, ap, ◌∙◌, subst, arith}
+use Rattle.std.proofs.Common.{◌≡◌, inl, inr, ℕ, ◌+◌, ◌-◌, ◌<◌, ◌≤◌, List, [], ◌++◌, length, length-append, take, refl, sym, ap, ◌∙◌, subst, arith}
 use Rattle.std.proofs.lemmas.List.{append-nil, take_all, take_at}
 use Rattle.amf_io.specs.declared.reason.Reason.{Reason}
 use Rattle.amf_io.specs.Field.{Field, flat}
@@ -10,59 +10,49 @@ use Rattle.amf_io.proofs.Inputs.{judged_once}
 use Rattle.amf_io.proofs.Paths.{runs_run, runs_bind, flat-append}
 use Rattle.amf_io.proofs.Unique.{fault_run}
 use Rattle.amf_io.proofs.Verdicts.{accepts, short_run}
-use Rattle.amf_wire.specs.Style.{free, canonical}
+use Rattle.amf_wire.specs.Style.{free}
 use Rattle.amf_graph.specs.declared.lack.Lack.{Lack}
 use Rattle.amf_graph.specs.declared.lack.LackKind.{LackKind}
 use Rattle.amf_graph.specs.Graph.{Graph}
-use Rattle.amf_graph.specs.Isomorphic.{StandIn, Isomorphic}
+use Rattle.amf_graph.specs.Isomorphic.{Isomorphic}
 use Rattle.amf_graph.proofs.Isomorphisms.{isomorphic_sym, isomorphic_trans}
-use Rattle.amf_graph.proofs.NameOrder.{by_name_again}
 use Rattle.amf_tables.specs.Tables.{no_tables}
 use Rattle.amf_tables.specs.Lacks3.{IsLack3}
+use Rattle.amf_tables.specs.Reads3.{IsValue3}
 use Rattle.amf_tables.specs.Spells3.{Spelled3, IsSpelling3}
 use Rattle.amf_tables.specs.Layout3State.{no_state}
 use Rattle.amf_tables.specs.Layout3.{ValueRead, value_layout}
-use Rattle.amf_tables.proofs.BytesOf.{to_spells}
-use Rattle.amf_tables.proofs.FieldsOf.{from_spells}
-use Rattle.amf_tables.proofs.Carried3.{carried_root}
 use Rattle.amf_tables.proofs.Decides3.{canonical_decides, same_bytes_isomorphic}
-use Rattle.amf_tables.proofs.FirstLack3.{spelling_or_lack}
+use Rattle.amf_tables.proofs.FirstLack3.{nothing_lacks}
 use Rattle.amf_tables.proofs.Layout3Parts.{Found}
 use Rattle.amf_tables.proofs.Layout3Complete.{spelled_read}
 use Rattle.amf_tables.proofs.Values3Layout.{values3_is_layout}
 use Rattle.amf_cli.specs.declared.command.Command.{Command}
 use Rattle.amf_cli.specs.declared.command.Command.TheVariants.{Canon, Same}
-use Rattle.amf3_read.specs.Levels.{enough_levels}
 use Rattle.amf3_read.specs.Pairs.{Pair}
 use Rattle.amf3_read.proofs.PairLayouts.{pair_layout, pairs_are_layouts}
-use Rattle.amf_cli.specs.Run.{most, levels, IsValue, Accepts, IsInputOf, ArePairIn, IsCanonicalOf, IsConverted, Says, Makes, Decides, Lacks}
+use Rattle.amf_cli.specs.Run.{most, Accepts, IsInputOf, ArePairIn, Says, Makes, Decides, Lacks}
 
 abbrev pub layouts : ℕ → Layout ValueRead
-layouts n = value_layout n enough_levels no_state
-
-abbrev pairs : ℕ → Layout ValueRead
-pairs = pair_layout enough_levels
-
-pairs_are_layout : IsLayout (2 ^ 28) pairs (Pair IsValue)
-pairs_are_layout = pairs_are_layouts enough_levels
+layouts n = value_layout n no_state
 
 -- an input has one verdict
 pub once : (c : Command) (input : List ℕ) → IsInputAccepted (Accepts c) most input → (reason : Reason) (at : ℕ) → IsInputRefused (Accepts c) most input reason at → ⊥
-once Canon input = (judged_once (2 ^ 28) layouts IsValue (values3_is_layout enough_levels) most input).not_both
-once Same input = (judged_once (2 ^ 28) pairs (Pair IsValue) pairs_are_layout most input).not_both
+once Canon input = (judged_once layouts IsValue3 values3_is_layout most input).not_both
+once Same input = (judged_once pair_layout (Pair IsValue3) pairs_are_layouts most input).not_both
 
 -- an input within the most that is read to its end is not refused
-module _ (t : ℕ → Layout ValueRead) (P : List Field → Type 0) (g : IsLayout (2 ^ 28) t P) (input : List ℕ) (within : length input ≤ most) (done : (m : ℕ) → length input < m → (x : ValueRead) × (run (t m) 0 input ≡ Done x (length input) [])) where
+module _ (t : ℕ → Layout ValueRead) (P : List Field → Type 0) (g : IsLayout t P) (input : List ℕ) (within : length input ≤ most) (done : (m : ℕ) → length input < m → (x : ValueRead) × (run (t m) 0 input ≡ Done x (length input) [])) where
   not_faulty : (reason : Reason) (at : ℕ) → IsFault P 0 input reason at → ⊥
   not_faulty reason at f =
-      let s = fault_run (2 ^ 28) t P g 0 at reason input f in
+      let s = fault_run t P g 0 at reason input f in
       let d = done (s.0 + length input + 1) (omega arith) in
       let clash : Done d.0 (length input) [] ≡ Bad reason at = sym d.1 ∙ s.1 (s.0 + length input + 1) (omega arith) in
       absurd cc
 
   not_cut_off : (at : ℕ) → IsCutOff P 0 input at → ⊥
   not_cut_off at f =
-      let s = short_run (2 ^ 28) t P g 0 at input f in
+      let s = short_run t P g 0 at input f in
       let d = done (s.0 + length input + 1) (omega arith) in
       let clash : Done d.0 (length input) [] ≡ Short at = sym d.1 ∙ s.1 (s.0 + length input + 1) (omega arith) in
       absurd cc
@@ -70,7 +60,7 @@ module _ (t : ℕ → Layout ValueRead) (P : List Field → Type 0) (g : IsLayou
   none_behind : (rest : List ℕ) (at : ℕ) → IsAccepted P 0 most input at rest → rest ≡ []
   none_behind rest at a =
       let m = length (flat a.fields) + length input + 1 in
-      let c = accepts (2 ^ 28) t P g 0 a.fields m rest a.accepted (omega arith) in
+      let c = accepts t P g 0 a.fields m rest a.accepted (omega arith) in
       let d = done m (omega arith) in
       let same : Done d.0 (length input) [] ≡ Done c.0 (0 + length (flat a.fields)) rest = sym d.1 ∙ ap (run (t m) 0) a.parts ∙ c.1 in
       cc
@@ -82,8 +72,8 @@ module _ (t : ℕ → Layout ValueRead) (P : List Field → Type 0) (g : IsLayou
   whole_not_refused reason at (trailing why rest some a) = let none : length rest ≡ 0 = ap length (none_behind rest at a) in absurd (omega arith)
 
 -- the fields of a graph are read
-found : (g : Graph) (fs : List Field) (m : ℕ) (s : IsSpelling3 enough_levels free g fs) → length (flat fs) < m → Found g (value_layout m enough_levels) no_state fs s.0
-found g fs m s lt = spelled_read g m enough_levels g.root no_tables fs s.0 no_state (record { words = refl; marks = refl }) lt s.1
+found : (g : Graph) (fs : List Field) (m : ℕ) (s : IsSpelling3 free g fs) → length (flat fs) < m → Found g (value_layout m) no_state fs s.0
+found g fs m s lt = spelled_read g m g.root no_tables fs s.0 no_state (record { words = refl; marks = refl }) lt s.1
 
 -- what spells a graph is read to its end
 spelled_done : (g : Graph) (input : List ℕ) → IsInputOf g input → (m : ℕ) → length input < m → (x : ValueRead) × (run (layouts m) 0 input ≡ Done x (length input) [])
@@ -95,7 +85,7 @@ spelled_done g input i m lt =
     (f.result, ap (run (layouts m) 0) e ∙ runs_run (layouts m) i.fields f.result 0 [] f.runs ∙ ap (λ k. Done f.result k []) place)
 
 -- and so is what spells two
-pair_done : (g h : Graph) (input : List ℕ) → ArePairIn g h input → (m : ℕ) → length input < m → (x : ValueRead) × (run (pairs m) 0 input ≡ Done x (length input) [])
+pair_done : (g h : Graph) (input : List ℕ) → ArePairIn g h input → (m : ℕ) → length input < m → (x : ValueRead) × (run (pair_layout m) 0 input ≡ Done x (length input) [])
 pair_done g h input p m lt =
     let n : length input ≡ length (flat p.front) + length (flat p.back) = ap length p.parts ∙ length-append (flat p.front) (flat p.back) in
     let a = found g p.front m p.first (omega arith) in
@@ -104,49 +94,31 @@ pair_done g h input p m lt =
     let all : input ≡ flat fs = p.parts ∙ sym (flat-append p.front p.back) in
     let e : input ≡ flat fs ++ [] = all ∙ sym (append-nil (flat fs)) in
     let place : 0 + length (flat fs) ≡ length input = omega (arith, ap length all) in
-    let r : Runs (pairs m) fs b.result = runs_bind (layouts m) (λ x. layouts m) p.front p.back a.result (give b.result) a.runs b.runs in
-    (b.result, ap (run (pairs m) 0) e ∙ runs_run (pairs m) fs b.result 0 [] r ∙ ap (λ k. Done b.result k []) place)
+    let r : Runs (pair_layout m) fs b.result = runs_bind (layouts m) (λ x. layouts m) p.front p.back a.result (give b.result) a.runs b.runs in
+    (b.result, ap (run (pair_layout m) 0) e ∙ runs_run (pair_layout m) fs b.result 0 [] r ∙ ap (λ k. Done b.result k []) place)
 
 -- what spells a graph is not refused
-pub never_refused : (g : Graph) (input : List ℕ) (reason : Reason) (at : ℕ) → IsInputOf g input → IsInputRefused IsValue most input reason at → ⊥
-never_refused g input reason at i q = whole_not_refused layouts IsValue (values3_is_layout enough_levels) input i.within (spelled_done g input i) reason at q
+pub never_refused : (g : Graph) (input : List ℕ) (reason : Reason) (at : ℕ) → IsInputOf g input → IsInputRefused IsValue3 most input reason at → ⊥
+never_refused g input reason at i q = whole_not_refused layouts IsValue3 values3_is_layout input i.within (spelled_done g input i) reason at q
 
-pair_never_refused : (g h : Graph) (input : List ℕ) (reason : Reason) (at : ℕ) → ArePairIn g h input → IsInputRefused (Pair IsValue) most input reason at → ⊥
-pair_never_refused g h input reason at p q = whole_not_refused pairs (Pair IsValue) pairs_are_layout input p.within (pair_done g h input p) reason at q
+pair_never_refused : (g h : Graph) (input : List ℕ) (reason : Reason) (at : ℕ) → ArePairIn g h input → IsInputRefused (Pair IsValue3) most input reason at → ⊥
+pair_never_refused g h input reason at p q = whole_not_refused pair_layout (Pair IsValue3) pairs_are_layouts input p.within (pair_done g h input p) reason at q
 
 -- what an output is made of is not refused
 pub made_not_refused : (c : Command) (input bytes : List ℕ) (reason : Reason) (at : ℕ) → Makes c input bytes → IsInputRefused (Accepts c) most input reason at → ⊥
 made_not_refused Canon input bytes reason at (g, i, s) q = never_refused g input reason at i q
 made_not_refused Same input bytes reason at (g, h, p, s) q = pair_never_refused g h input reason at p q
 
-pub lacks_not_refused : (c : Command) (input : List ℕ) (l : Lack) (reason : Reason) (at : ℕ) → Lacks c input l → IsInputRefused (Accepts c) most input reason at → ⊥
-lacks_not_refused Canon input l reason at (g, i, k) q = never_refused g input reason at i q
-lacks_not_refused Same input l reason at k q = absurd k
-
--- isomorphic graphs have the same canonical spelling in the same levels
-carried : (g h : Graph) (bytes : List ℕ) → Isomorphic g h → IsCanonicalOf g bytes → IsCanonicalOf h bytes
-carried g h bytes i (fs, p, e) =
-    let o = carried_root g h (StandIn i.pairs) i.left i.right (λ a c m. (i.within a c m).1) i.nodes by_name_again levels (flat fs) p.0 i.root (to_spells levels canonical g g.root no_tables fs p.0 p.1) in
-    let k = from_spells levels canonical h h.root no_tables (flat fs) o.0 o.1 in
-    (k.0, (o.0, k.1), e ∙ k.2)
-
 spells_free : (g : Graph) (input : List ℕ) → IsInputOf g input → Spelled3 free g input
-spells_free g input i = (enough_levels, i.fields, i.spelled, i.parts)
+spells_free g input i = (i.fields, i.spelled, i.parts)
 
--- where an input is converted, no graph that it spells lacks a spelling
-pub never_both : (g : Graph) (input bytes : List ℕ) (number : ℕ) (kind : LackKind) → IsConverted input bytes → IsInputOf g input → IsLack3 g levels number kind → ⊥
-never_both g input bytes number kind (h, j, c) i l =
-    let k : IsCanonicalOf g bytes = carried h g bytes (same_bytes_isomorphic h g input (spells_free h input j) (spells_free g input i)) c in
-    spelling_or_lack.not_both g levels k.0 number kind k.1 l
+-- no graph that an input spells lacks a canonical spelling
+pub never_lacks : (g : Graph) (input : List ℕ) (number : ℕ) (kind : LackKind) → IsInputOf g input → IsLack3 g number kind → ⊥
+never_lacks g input number kind i l = (nothing_lacks free g i.fields i.spelled).1 number kind l
 
--- what one graph lacks that an input spells, each lacks
-pub lacks_every : (c : Command) (input : List ℕ) (l : Lack) → Lacks c input l → (g : Graph) → IsInputOf g input → IsLack3 g levels l.node l.kind
-lacks_every Canon input l (h, j, k) g i = spelling_or_lack.alike h g (same_bytes_isomorphic h g input (spells_free h input j) (spells_free g input i)) levels l.node l.kind k
-lacks_every Same input l k g i = absurd k
-
-pub makes_or_lacks : (c : Command) (input bytes : List ℕ) (l : Lack) → Makes c input bytes → Lacks c input l → ⊥
-makes_or_lacks Canon input bytes l m (g, i, k) = never_both g input bytes l.node l.kind m i k
-makes_or_lacks Same input bytes l m k = absurd k
+pub none_lacks : (c : Command) (input : List ℕ) (l : Lack) → Lacks c input l → ⊥
+none_lacks Canon input l (g, i, k) = never_lacks g input l.node l.kind i k
+none_lacks Same input l k = k
 
 -- Two graphs that an input spells have the same fronts and backs as two others.
 
@@ -167,8 +139,8 @@ cut_alike g h f e input p q =
     let n : length (flat q.front) ≡ length (flat p.front) = omega arith in
     let front : flat p.front ≡ flat q.front = sym (take_at (flat p.front) (flat p.back) (length (flat p.front)) refl) ∙ ap (take (length (flat p.front))) (sym p.parts ∙ q.parts) ∙ take_at (flat q.front) (flat q.back) (length (flat p.front)) n in
     record {
-      left = same_bytes_isomorphic g f (flat p.front) (enough_levels, p.front, p.first, refl) (enough_levels, q.front, q.first, front);
-      right = same_bytes_isomorphic h e (flat p.back) (enough_levels, p.back, p.second, refl) (enough_levels, q.back, q.second, back);
+      left = same_bytes_isomorphic g f (flat p.front) (p.front, p.first, refl) (q.front, q.first, front);
+      right = same_bytes_isomorphic h e (flat p.back) (p.back, p.second, refl) (q.back, q.second, back);
     }
 
 said : (P Q : Type 0) (line : List ℕ) → (P → Q) → (Q → P) → Says P line → Says Q line
@@ -176,7 +148,7 @@ said P Q line go back (inl (p, e)) = inl (go p, e)
 said P Q line go back (inr (n, e)) = inr (λ q. n (back q), e)
 
 pub decides : (c : Command) (input bytes : List ℕ) → Makes c input bytes → Decides c input bytes
-decides Canon input bytes (r, j, (fs, p, e)) = λ g h i. canonical_decides.headline input bytes r (spells_free r input j) (levels, fs, p, e) g (spells_free g input i) h
+decides Canon input bytes (r, j, (fs, p, e)) = λ g h i. canonical_decides.headline input bytes r (spells_free r input j) (fs, p, e) g (spells_free g input i) h
 decides Same input bytes (g, h, p, s) = λ f e q.
     let a = cut_alike g h f e input p q in
     said (Isomorphic g h) (Isomorphic f e) bytes

@@ -13,8 +13,8 @@ use Rattle.amf_cli.specs.declared.command.Command.TheVariants.{Canon}
 use Rattle.amf_cli.specs.declared.run_end.RunEnd.{RunEnd}
 use Rattle.amf_cli.specs.declared.run_end.RunEnd.TheVariants.{Refused, Usage, ReadFault, WriteFault, NoMemory, NoForm}
 use Rattle.amf_cli.specs.Lines.{status_of, line_of}
-use Rattle.amf_cli.specs.Run.{most, levels, CountsReads, CountsWrites, Accepts, IsInputOf, Makes, RunsTo, WritesAll, IsRefusedWith, HasNoForm, Reports}
-use Rattle.amf_cli.proofs.Spelled.{lacks_every, once, never_refused, never_both, made_not_refused, lacks_not_refused, makes_or_lacks}
+use Rattle.amf_cli.specs.Run.{most, CountsReads, CountsWrites, Accepts, IsInputOf, Makes, RunsTo, WritesAll, IsRefusedWith, HasNoForm, Reports}
+use Rattle.amf_cli.proofs.Spelled.{once, never_refused, made_not_refused, never_lacks, none_lacks}
 
 abbrev Done : RunEnd → Result (Unit {0}) RunEnd
 Done e = Err e
@@ -34,13 +34,13 @@ line_written (Ok done) before now c s h = h
 line_written (Err e) before now c s h = let same = s.0 in let low = s.1 in let rose = c.1 in absurd (omega arith)
 
 pub accepted_says : (c : Command) (e : RunEnd) (input rest : List ℕ) (told : Type 0) (held now : List ℕ) → (Done e ≡ Err Usage → ⊥) → RunsTo c input rest told held now (Done e) → IsInputAccepted (Accepts c) most input
-    → (status_of e ≡ 0) ⊎ (status_of e ≡ 3) ⊎ (status_of e ≡ 4) ⊎ (status_of e ≡ 5) ⊎ (status_of e ≡ 7)
+    → (status_of e ≡ 0) ⊎ (status_of e ≡ 3) ⊎ (status_of e ≡ 4) ⊎ (status_of e ≡ 5)
 accepted_says c (Refused f) input rest told held now u r a = absurd (once c input a f.reason f.at r)
 accepted_says c Usage input rest told held now u r a = absurd (u refl)
 accepted_says c ReadFault input rest told held now u r a = inr (inl refl)
 accepted_says c WriteFault input rest told held now u r a = inr (inr (inl refl))
-accepted_says c NoMemory input rest told held now u r a = inr (inr (inr (inl refl)))
-accepted_says c (NoForm l) input rest told held now u r a = inr (inr (inr (inr refl)))
+accepted_says c NoMemory input rest told held now u r a = inr (inr (inr refl))
+accepted_says c (NoForm l) input rest told held now u r a = absurd (none_lacks c input l r.0)
 
 pub not_accepted_says : (c : Command) (e : RunEnd) (input rest : List ℕ) (told : Type 0) (held now : List ℕ) → (Done e ≡ Err Usage → ⊥) → RunsTo c input rest told held now (Done e) → (reason : Reason) (at : ℕ) → IsInputRefused (Accepts c) most input reason at
     → (status_of e ≡ 1) ⊎ (status_of e ≡ 3) ⊎ (status_of e ≡ 5)
@@ -49,7 +49,7 @@ not_accepted_says c Usage input rest told held now u r reason at q = absurd (u r
 not_accepted_says c ReadFault input rest told held now u r reason at q = inr (inl refl)
 not_accepted_says c WriteFault input rest told held now u r reason at q = absurd (made_not_refused c input r.bytes reason at r.made q)
 not_accepted_says c NoMemory input rest told held now u r reason at q = inr (inr refl)
-not_accepted_says c (NoForm l) input rest told held now u r reason at q = absurd (lacks_not_refused c input l reason at r.0 q)
+not_accepted_says c (NoForm l) input rest told held now u r reason at q = absurd (none_lacks c input l r.0)
 
 pub done_not_refused : (c : Command) (input rest : List ℕ) (told : Type 0) (held now : List ℕ) → WritesAll c input rest told held now → (reason : Reason) (at : ℕ) → IsInputRefused (Accepts c) most input reason at → ⊥
 done_not_refused c input rest told held now w reason at q = made_not_refused c input w.bytes reason at w.made q
@@ -61,19 +61,16 @@ formed_says c Usage input rest told held now bytes u r m = absurd (u refl)
 formed_says c ReadFault input rest told held now bytes u r m = inr (inl refl)
 formed_says c WriteFault input rest told held now bytes u r m = inr (inr (inl refl))
 formed_says c NoMemory input rest told held now bytes u r m = inr (inr (inr refl))
-formed_says c (NoForm l) input rest told held now bytes u r m = absurd (makes_or_lacks c input bytes l m r.0)
+formed_says c (NoForm l) input rest told held now bytes u r m = absurd (none_lacks c input l r.0)
 
-pub lacking_says : (e : RunEnd) (input rest : List ℕ) (told : Type 0) (held now : List ℕ) → (Done e ≡ Err Usage → ⊥) → RunsTo Canon input rest told held now (Done e) → (g : Graph) → IsInputOf g input → (number : ℕ) (kind : LackKind) → IsLack3 g levels number kind
+pub lacking_says : (e : RunEnd) (input rest : List ℕ) (told : Type 0) (held now : List ℕ) → (Done e ≡ Err Usage → ⊥) → RunsTo Canon input rest told held now (Done e) → (g : Graph) → IsInputOf g input → (number : ℕ) (kind : LackKind) → IsLack3 g number kind
     → (status_of e ≡ 3) ⊎ (status_of e ≡ 5) ⊎ (status_of e ≡ 7)
 lacking_says (Refused f) input rest told held now u r g i number kind l = absurd (never_refused g input f.reason f.at i r)
 lacking_says Usage input rest told held now u r g i number kind l = absurd (u refl)
 lacking_says ReadFault input rest told held now u r g i number kind l = inl refl
-lacking_says WriteFault input rest told held now u r g i number kind l = absurd (never_both g input r.bytes number kind r.made i l)
+lacking_says WriteFault input rest told held now u r g i number kind l = absurd (never_lacks g input number kind i l)
 lacking_says NoMemory input rest told held now u r g i number kind l = inr (inl refl)
 lacking_says (NoForm l) input rest told held now u r g i number kind k = inr (inr refl)
-
-pub done_not_lacking : (input rest : List ℕ) (told : Type 0) (held now : List ℕ) → WritesAll Canon input rest told held now → (g : Graph) → IsInputOf g input → (number : ℕ) (kind : LackKind) → IsLack3 g levels number kind → ⊥
-done_not_lacking input rest told held now w g i number kind l = never_both g input w.bytes number kind w.made i l
 
 pub no_form_says : (c : Command) (e : RunEnd) (input rest : List ℕ) (told seen : Type 0) (held now before after : List ℕ) → status_of e ≡ 7 → RunsTo c input rest told held now (Done e) → (seen → after ≡ before ++ line_of e) → HasNoForm c input rest seen before after
 unfolding line_of
@@ -82,7 +79,7 @@ no_form_says c Usage input rest told seen held now before after h r l = absurd (
 no_form_says c ReadFault input rest told seen held now before after h r l = absurd (omega arith)
 no_form_says c WriteFault input rest told seen held now before after h r l = absurd (omega arith)
 no_form_says c NoMemory input rest told seen held now before after h r l = absurd (omega arith)
-no_form_says c (NoForm k) input rest told seen held now before after h r l = record { lack = k; lacking = r.0; every = lacks_every c input k r.0; all_read = r.1; line = l }
+no_form_says c (NoForm k) input rest told seen held now before after h r l = record { lack = k; lacking = r.0; every = λ g i. absurd (none_lacks c input k r.0); all_read = r.1; line = l }
 
 pub line_says : (e : RunEnd) (held now : List ℕ) → now ≡ held ++ line_of e → Reports (status_of e) held now
 line_says (Refused f) held now h = (Refused f, refl, h)

@@ -1,4 +1,6 @@
+-- The definitions that contracts cite.
 pub mod Lines
 pub mod Written
 pub mod Run
+-- Devices of the proofs: no clause of a public call needs them.
 pub mod Reading

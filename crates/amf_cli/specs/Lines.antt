@@ -4,7 +4,7 @@ use Rattle.amf_io.specs.declared.ends.Refusal.{Refusal}
 use Rattle.amf_io.specs.declared.ends.ReadEnd.{ReadEnd}
 use Rattle.amf_io.specs.declared.ends.ReadEnd.TheVariants as reader
 use Rattle.amf_io.specs.declared.reason.Reason.{Reason}
-use Rattle.amf_io.specs.declared.reason.Reason.TheVariants.{Truncated, BadMarker, BadReference, BadTraits, BadTextIndex, BadText, WrongKind, UnknownExternal, TooDeep, TooLarge, Trailing, BadVersion, BadSignature, BadLength, BadPadding}
+use Rattle.amf_io.specs.declared.reason.Reason.TheVariants.{Truncated, BadMarker, BadReference, BadTraits, BadTextIndex, BadText, WrongKind, UnknownExternal, TooLarge, Trailing, BadVersion, BadSignature, BadLength, BadPadding}
 use Rattle.amf_graph.specs.declared.lack.Lack.{Lack}
 use Rattle.amf_graph.specs.declared.lack.LackKind.{LackKind}
 use Rattle.amf_graph.specs.declared.lack.LackKind.TheVariants as lacking
@@ -41,7 +41,6 @@ reason_name BadTextIndex = codes "BadTextIndex"
 reason_name BadText = codes "BadText"
 reason_name WrongKind = codes "WrongKind"
 reason_name UnknownExternal = codes "UnknownExternal"
-reason_name TooDeep = codes "TooDeep"
 reason_name TooLarge = codes "TooLarge"
 reason_name Trailing = codes "Trailing"
 reason_name BadVersion = codes "BadVersion"
@@ -52,7 +51,6 @@ reason_name BadPadding = codes "BadPadding"
 -- and so is a kind of lack
 abbrev pub kind_name : LackKind → List ℕ
 kind_name lacking.EmptyName = codes "EmptyName"
-kind_name lacking.TooDeep = codes "TooDeep"
 kind_name lacking.NoForm = codes "NoForm"
 kind_name lacking.LongName = codes "LongName"
 kind_name lacking.Shared = codes "Shared"

@@ -11,7 +11,6 @@ use Rattle.amf_graph.specs.Isomorphic.{Isomorphic}
 use Rattle.amf_tables.specs.Lacks3.{IsLack3}
 use Rattle.amf_tables.specs.Reads3.{IsValue3}
 use Rattle.amf_tables.specs.Spells3.{IsSpelling3, Spelled3}
-use Rattle.amf3_read.specs.Levels.{enough_levels}
 use Rattle.amf3_read.specs.Pairs.{Pair}
 use Rattle.amf_cli.specs.declared.command.Command.{Command}
 use Rattle.amf_cli.specs.declared.command.Command.TheVariants.{Canon, Same}
@@ -22,7 +21,7 @@ use Rattle.amf_cli.specs.Written.{WritesFront}
 
 -- the most bytes of an input
 abbrev pub most : ℕ
-most = 16777216
+most = 67108864
 
 -- what the words ask for
 abbrev pub Reads : List (List ℕ) → Command → Type 0
@@ -32,23 +31,15 @@ Reads words Same = words ≡ codes "same" ∷ []
 abbrev pub HasReading : List (List ℕ) → Type 0
 HasReading words = (c : Command) × Reads words c
 
--- the most nodes within one another in an output
-abbrev pub levels : ℕ
-levels = 512
-
--- the lists of fields that are accepted: those of one value, however many of its nodes are within one another
-abbrev pub IsValue : List Field → Type 0
-IsValue = IsValue3 enough_levels
-
 -- the lists of fields that a command accepts: `same` takes two values
 abbrev pub Accepts : Command → List Field → Type 0
-Accepts Canon = IsValue
-Accepts Same = Pair IsValue
+Accepts Canon = IsValue3
+Accepts Same = Pair IsValue3
 
 -- the whole input is one spelling of the graph
 pub record IsInputOf (g : Graph) (input : List ℕ) : Type 0 where
   pub fields : List Field
-  pub spelled : IsSpelling3 enough_levels free g fields
+  pub spelled : IsSpelling3 free g fields
   pub parts : input ≡ flat fields
   pub within : length input ≤ most
 
@@ -56,18 +47,14 @@ pub record IsInputOf (g : Graph) (input : List ℕ) : Type 0 where
 pub record ArePairIn (g h : Graph) (input : List ℕ) : Type 0 where
   pub front : List Field
   pub back : List Field
-  pub first : IsSpelling3 enough_levels free g front
-  pub second : IsSpelling3 enough_levels free h back
+  pub first : IsSpelling3 free g front
+  pub second : IsSpelling3 free h back
   pub parts : input ≡ flat front ++ flat back
   pub within : length input ≤ most
 
--- the bytes are the canonical spelling of the graph, in those levels
-abbrev pub IsCanonicalOf : Graph → List ℕ → Type 0
-IsCanonicalOf g bytes = (fields : List Field) × IsSpelling3 levels canonical g fields × (bytes ≡ flat fields)
-
 -- the bytes are the canonical spelling of a graph that the input is a spelling of
 abbrev pub IsConverted : List ℕ → List ℕ → Type 0
-IsConverted input bytes = (g : Graph) × IsInputOf g input × IsCanonicalOf g bytes
+IsConverted input bytes = (g : Graph) × IsInputOf g input × Spelled3 canonical g bytes
 
 -- the line says whether P is so
 abbrev pub Says : Type 0 → List ℕ → Type 0
@@ -89,7 +76,7 @@ Decides Same input bytes = (g h : Graph) → ArePairIn g h input → Says (Isomo
 
 -- the input is a spelling of a graph whose first lack this is
 abbrev pub IsLacking : List ℕ → Lack → Type 0
-IsLacking input l = (g : Graph) × IsInputOf g input × IsLack3 g levels l.node l.kind
+IsLacking input l = (g : Graph) × IsInputOf g input × IsLack3 g l.node l.kind
 
 -- why the input has no output: `same` writes for each that it accepts
 abbrev pub Lacks : Command → List ℕ → Lack → Type 0
@@ -199,7 +186,7 @@ pub record HasNoForm (c : Command) (input rest : List ℕ) (told : Type 0) (held
   pub lack : Lack
   pub lacking : Lacks c input lack
   -- whichever graph it is of those that the input spells
-  pub every : (g : Graph) → IsInputOf g input → IsLack3 g levels lack.node lack.kind
+  pub every : (g : Graph) → IsInputOf g input → IsLack3 g lack.node lack.kind
   pub all_read : rest ≡ []
   pub line : told → now ≡ held ++ no_form_line lack
 

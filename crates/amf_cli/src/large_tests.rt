@@ -1,47 +1,47 @@
 use crate::run::LIMIT;
-use crate::tests::{Case, check, refused, run_over};
+use crate::tests::{check, refused, run_over};
 use amf_graph::{BuildEnd, Builder};
 use amf_wire::{U29, is_amf_text, write_u29};
 use std::alloc::{AllocError, Global};
+use std::process::Abort;
 use std::test::Fail;
 
-/// An input that is accepted, and whose canonical spelling has more than 512 nodes within one another.
-const DEEP: Case = Case {
-    command: "canon",
-    input: b"",
-    status: 7,
-    output: b"",
-    line: b"amf: no form TooDeep node 512 value 0\n",
-};
-
 /// So many arrays within one another, and what the innermost holds.
-fn nested(alloc: Global, levels: usize, inside: &[u8]) -> Result<Vec<u8>, AllocError> {
+fn nested(alloc: Global, count: usize, inside: &[u8]) -> Result<Vec<u8>, AllocError> {
     let mut bytes = Vec::new(alloc);
-    for _ in 0..levels {
+    for _ in 0..count {
         bytes.extend_from_slice(b"\x09\x03\x01")?;
     }
     bytes.extend_from_slice(inside)?;
     Ok(bytes)
 }
 
+/// Runs `canon` over an input, which is its own canonical spelling.
+fn check_itself(rt: &impl Abort, alloc: Global, input: &[u8], pieces: (usize, usize)) {
+    check_canon(rt, alloc, input, pieces, input);
+}
+
+/// Runs `canon` over an input, of which `output` is the canonical spelling.
+fn check_canon(
+    rt: &impl Abort,
+    alloc: Global,
+    input: &[u8],
+    pieces: (usize, usize),
+    output: &[u8],
+) {
+    let ran = run_over(rt, alloc, &["canon"], input, pieces, &[], &[]);
+    assert_eq!(rt; ran.status, 0);
+    assert!(rt; ran.output.as_bytes() == output);
+    assert_eq!(rt; ran.line.as_bytes(), b"".as_slice());
+}
+
 #[test]
 fn nodes_within_nodes(rt: HostRuntime) -> Result<(), Fail> {
     let alloc = rt.alloc();
     for pieces in [(10_000, 0), (1, 0), (10_000, 1536)] {
-        for inside in [b"\x01".as_slice(), b"\x09\x00"] {
-            let input = nested(alloc, 512, inside)?;
-            let ran = run_over(&rt, alloc, &["canon"], &input, pieces, &[], &[]);
-            assert_eq!(rt; ran.status, 0);
-            assert_eq!(rt; ran.output.as_bytes(), input.as_slice());
+        for inside in [b"\x01".as_slice(), b"\x09\x00", b"\x0C\x03\xFF"] {
+            check_itself(&rt, alloc, &nested(alloc, 513, inside)?, pieces);
         }
-        check(&rt, alloc, &nested(alloc, 513, b"\x01")?, pieces, &DEEP);
-        check(
-            &rt,
-            alloc,
-            &nested(alloc, 512, b"\x0C\x03\xFF")?,
-            pieces,
-            &DEEP,
-        );
     }
     Ok(())
 }
@@ -51,15 +51,15 @@ fn nodes_within_nodes(rt: HostRuntime) -> Result<(), Fail> {
 fn very_many_nodes_within_nodes(rt: HostRuntime) -> Result<(), Fail> {
     let alloc = rt.alloc();
     let pieces = (1 << 16, 0);
-    let levels = 500_000;
-    check(&rt, alloc, &nested(alloc, levels, b"\x01")?, pieces, &DEEP);
+    check_itself(&rt, alloc, &nested(alloc, 2_000_000, b"\x01")?, pieces);
+    let count = 500_000;
     let cut = refused(b"", b"amf: refused Truncated at 1500000\n");
-    check(&rt, alloc, &nested(alloc, levels, b"")?, pieces, &cut);
+    check(&rt, alloc, &nested(alloc, count, b"")?, pieces, &cut);
     let past = refused(b"", b"amf: refused BadReference at 1500001\n");
     check(
         &rt,
         alloc,
-        &nested(alloc, levels, b"\x09\xBD\x84\x40")?,
+        &nested(alloc, count, b"\x09\xBD\x84\x40")?,
         pieces,
         &past,
     );
@@ -67,12 +67,32 @@ fn very_many_nodes_within_nodes(rt: HostRuntime) -> Result<(), Fail> {
         (b"\x01".as_slice(), b"same\n".as_slice()),
         (b"\x02", b"different\n"),
     ] {
-        let mut input = nested(alloc, levels, b"\x01")?;
-        input.extend_from_slice(&nested(alloc, levels, last)?)?;
+        let mut input = nested(alloc, count, b"\x01")?;
+        input.extend_from_slice(&nested(alloc, count, last)?)?;
         let ran = run_over(&rt, alloc, &["same"], &input, pieces, &[], &[]);
         assert_eq!(rt; ran.status, 0);
         assert_eq!(rt; ran.output.as_bytes(), output);
     }
+    Ok(())
+}
+
+/// The name of three digits and its length.
+fn push_name(bytes: &mut Vec<u8>, name: u32) -> Result<(), AllocError> {
+    bytes.push(0x07)?;
+    for digit in [name / 100, name / 10, name] {
+        bytes.push(b'0' + (digit % 10) as u8)?;
+    }
+    Ok(())
+}
+
+/// An array by its place, which is below 8192.
+fn push_array(bytes: &mut Vec<u8>, place: u32) -> Result<(), AllocError> {
+    let header = 2 * (place % 8192);
+    bytes.push(0x09)?;
+    if header >= 128 {
+        bytes.push(0x80 + (header / 128 % 128) as u8)?;
+    }
+    bytes.push((header % 128) as u8)?;
     Ok(())
 }
 
@@ -82,70 +102,93 @@ fn chain(alloc: Global, header: &[u8]) -> Result<Vec<u8>, AllocError> {
     let mut bytes = Vec::new(alloc);
     bytes.extend_from_slice(header)?;
     for member in 1..601_u32 {
-        let name = 600 - member;
-        let digits = [name / 100, name / 10 % 10, name % 10];
-        bytes.push(0x07)?;
-        for digit in digits {
-            bytes.push(b'0' + (digit % 10) as u8)?;
-        }
+        push_name(&mut bytes, 600 - member)?;
         if member == 1 {
             bytes.extend_from_slice(b"\x09\x01\x01")?;
         } else {
-            let place = 2 * (member - 1);
-            bytes.extend_from_slice(b"\x09\x03\x01\x09")?;
-            bytes.push(0x80 + (place / 128 % 128) as u8)?;
-            bytes.push((place % 128) as u8)?;
+            bytes.extend_from_slice(b"\x09\x03\x01")?;
+            push_array(&mut bytes, member - 1)?;
         }
     }
     bytes.push(0x01)?;
     Ok(bytes)
 }
 
+/// The canonical spelling of the same: the first name has all arrays, within one another, and each other name has one of
+/// them by its place.
+fn sorted_chain(alloc: Global, header: &[u8]) -> Result<Vec<u8>, AllocError> {
+    let mut bytes = Vec::new(alloc);
+    bytes.extend_from_slice(header)?;
+    push_name(&mut bytes, 0)?;
+    bytes.extend_from_slice(&nested(alloc, 599, b"\x09\x01\x01")?)?;
+    for name in 1..600_u32 {
+        push_name(&mut bytes, name)?;
+        push_array(&mut bytes, name + 1)?;
+    }
+    bytes.push(0x01)?;
+    Ok(bytes)
+}
+
+/// What is written may have more nodes within one another than what was read.
 #[test]
-fn graphs_without_a_form(rt: HostRuntime) -> Result<(), Fail> {
+fn nodes_within_nodes_by_name(rt: HostRuntime) -> Result<(), Fail> {
+    let alloc = rt.alloc();
     for header in [b"\x0A\x0B\x01".as_slice(), b"\x09\x01"] {
-        let input = chain(rt.alloc(), header)?;
+        let input = chain(alloc, header)?;
+        let output = sorted_chain(alloc, header)?;
         for pieces in [(10_000, 0), (1, 0)] {
-            check(&rt, rt.alloc(), &input, pieces, &DEEP);
+            check_canon(&rt, alloc, &input, pieces, &output);
+            check_itself(&rt, alloc, &output, pieces);
+        }
+        for (last, line) in [
+            (b"\x0A\x0B\x01".as_slice(), header.len() == 3),
+            (b"\x09\x01", header.len() == 2),
+        ] {
+            let mut both = input.clone()?;
+            both.extend_from_slice(&sorted_chain(alloc, last)?)?;
+            let ran = run_over(&rt, alloc, &["same"], &both, (10_000, 0), &[], &[]);
+            assert_eq!(rt; ran.status, 0);
+            let want = if line {
+                b"same\n".as_slice()
+            } else {
+                b"different\n"
+            };
+            assert_eq!(rt; ran.output.as_bytes(), want);
         }
     }
     Ok(())
 }
 
-/// Graphs without a canonical spelling are compared like others.
-#[test]
-fn comparisons_of_deep_graphs(rt: HostRuntime) -> Result<(), Fail> {
-    for (last, output) in [
-        (b"\x0A\x0B\x01".as_slice(), b"same\n".as_slice()),
-        (b"\x09\x01", b"different\n"),
-    ] {
-        let mut input = chain(rt.alloc(), b"\x0A\x0B\x01")?;
-        input.extend_from_slice(&chain(rt.alloc(), last)?)?;
-        let ran = run_over(&rt, rt.alloc(), &["same"], &input, (10_000, 0), &[], &[]);
-        assert_eq!(rt; ran.status, 0);
-        assert_eq!(rt; ran.output.as_bytes(), output);
-    }
-    Ok(())
-}
-
-/// Five bytes, and as many as an input may have.
-fn too_long(alloc: Global, front: [u8; 5], byte: u8) -> Result<Vec<u8>, AllocError> {
+/// Five bytes, and so many more.
+fn long(alloc: Global, front: [u8; 5], count: u32, byte: u8) -> Result<Vec<u8>, AllocError> {
     let mut bytes = Vec::new(alloc);
     bytes.extend_from_slice(&front)?;
-    for _ in 0..LIMIT {
+    for _ in 0..count {
         bytes.push(byte)?;
     }
     Ok(bytes)
 }
 
 #[test]
-fn inputs_past_the_limit(rt: HostRuntime) -> Result<(), Fail> {
-    let want = refused(b"", b"amf: refused TooLarge at 5\n");
+fn long_inputs(rt: HostRuntime) -> Result<(), Fail> {
     for (front, byte) in [
         ([0x0C, 0x88, 0x80, 0x80, 0x01], 0x00),
         ([0x06, 0x88, 0x80, 0x80, 0x01], b'a'),
     ] {
-        let input = too_long(rt.alloc(), front, byte)?;
+        let input = long(rt.alloc(), front, 16_777_216, byte)?;
+        check_itself(&rt, rt.alloc(), &input, (1 << 25, 0));
+    }
+    Ok(())
+}
+
+#[test]
+fn inputs_past_the_limit(rt: HostRuntime) -> Result<(), Fail> {
+    let want = refused(b"", b"amf: refused TooLarge at 5\n");
+    for (front, byte) in [
+        ([0x0C, 0xA0, 0x80, 0x80, 0x01], 0x00),
+        ([0x06, 0xA0, 0x80, 0x80, 0x01], b'a'),
+    ] {
+        let input = long(rt.alloc(), front, LIMIT, byte)?;
         check(&rt, rt.alloc(), &input, (1 << 25, 0), &want);
     }
     Ok(())

@@ -59,7 +59,6 @@ fn kind_of(kind: LackKind) -> &'static [u8]
 {
     match kind {
         LackKind::EmptyName => b"EmptyName",
-        LackKind::TooDeep => b"TooDeep",
         LackKind::NoForm => b"NoForm",
         LackKind::LongName => b"LongName",
         LackKind::Shared => b"Shared",
@@ -81,7 +80,6 @@ fn name_of(reason: Reason) -> &'static [u8]
         Reason::BadText => b"BadText",
         Reason::WrongKind => b"WrongKind",
         Reason::UnknownExternal => b"UnknownExternal",
-        Reason::TooDeep => b"TooDeep",
         Reason::TooLarge => b"TooLarge",
         Reason::Trailing => b"Trailing",
         Reason::BadVersion => b"BadVersion",

@@ -9,7 +9,7 @@ ghost use Rattle.amf_tables.specs.Lacks3.{IsLack3};
 ghost use Rattle.amf_cli.specs.declared.command.Command.{Command};
 ghost use Rattle.amf_cli.specs.declared.command.Command.TheVariants.{Canon, Same};
 ghost use Rattle.amf_cli.specs.Lines.{line_of};
-ghost use Rattle.amf_cli.specs.Run.{most, levels, Reads, HasReading, Accepts, Makes, IsConverted, IsCompared, IsInputOf, ReadsInput, CountsReads, CountsWrites, IsUntouched, IsReadEnd, IsOutputEnd, RunsTo, WritesAll, WritesSome, IsRefusedWith, IsHidden, HasNoForm, Reports};
+ghost use Rattle.amf_cli.specs.Run.{most, Reads, HasReading, Accepts, Makes, IsConverted, IsCompared, IsInputOf, ReadsInput, CountsReads, CountsWrites, IsUntouched, IsReadEnd, IsOutputEnd, RunsTo, WritesAll, WritesSome, IsRefusedWith, IsHidden, HasNoForm, Reports};
 
 use crate::command::Command;
 use crate::reading::{read_graph, read_graphs};
@@ -24,8 +24,8 @@ use std::alloc::Global;
 use std::hash::RandomState;
 use std::random::RandomSource;
 
-/// The most bytes of an input: 16 MiB.
-pub const LIMIT: u32 = 16_777_216;
+/// The most bytes of an input: 64 MiB.
+pub const LIMIT: u32 = 67_108_864;
 
 /// Does what the words say, and gives the status of the program.
 ///
@@ -69,9 +69,10 @@ pub fn run<R: RandomSource, I: Source, O: Sink, E: Sink>(
     ensures front { (c : Command) → Reads words.now c → result ≡ 4 → I.tells input.old → WritesSome c (I.left input.old) (I.left input.new)
         (O.tells out.new) (O.held out.old) (O.held out.new) }
 
-    // What is accepted is not refused, and what is refused is not accepted.
+    // What is accepted is not refused, and what is refused is not accepted. No spelling of AMF 3 has an empty name among its
+    // pairs, so what is accepted has a canonical spelling.
     ensures accepted { (c : Command) → Reads words.now c → I.tells input.old → IsInputAccepted (Accepts c) most (I.left input.old)
-        → (result ≡ 0) ⊎ (result ≡ 3) ⊎ (result ≡ 4) ⊎ (result ≡ 5) ⊎ (result ≡ 7) }
+        → (result ≡ 0) ⊎ (result ≡ 3) ⊎ (result ≡ 4) ⊎ (result ≡ 5) }
     ensures not_accepted { (c : Command) → Reads words.now c → I.tells input.old → (reason : Reason) (at : ℕ)
         → IsInputRefused (Accepts c) most (I.left input.old) reason at
         → (result ≡ 1) ⊎ (result ≡ 3) ⊎ (result ≡ 5) }
@@ -83,7 +84,7 @@ pub fn run<R: RandomSource, I: Source, O: Sink, E: Sink>(
     ensures formed { (c : Command) → Reads words.now c → I.tells input.old → (bytes : List ℕ) → Makes c (I.left input.old) bytes
         → (result ≡ 0) ⊎ (result ≡ 3) ⊎ (result ≡ 4) ⊎ (result ≡ 5) }
     ensures lacking { Reads words.now Canon → I.tells input.old → (g : Graph) → IsInputOf g (I.left input.old)
-        → (number : ℕ) (kind : LackKind) → IsLack3 g levels number kind
+        → (number : ℕ) (kind : LackKind) → IsLack3 g number kind
         → (result ≡ 3) ⊎ (result ≡ 5) ⊎ (result ≡ 7) }
 
     // With any other status than 0 and 4 nothing is asked of the output, and with 2 nothing of the input.

@@ -19,7 +19,7 @@ pub enum RunEnd {
     WriteFault,
     /// There was no memory left: status 5.
     NoMemory,
-    /// The graph that the input spells has no canonical spelling within the levels: status 7.
+    /// The graph that the input spells has no canonical spelling: status 7.
     NoForm(Lack),
 }
 

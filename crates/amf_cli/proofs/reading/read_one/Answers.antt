@@ -1,9 +1,7 @@
-use Rattle.std.proofs.Common.{◌<◌, Ok, Err, sym, subst, arith}
+use Rattle.std.proofs.Common.{Ok, Err, sym, subst}
 use Rattle.std.proofs.lemmas.Result.{err_from_is_err_and}
 use Rattle.amf_io.specs.Cursor.{source_of, place, bound, unread}
 use Rattle.amf_graph.specs.Rooted.{RootedArena, content}
-use Rattle.amf3_read.specs.Levels.{enough_levels}
-use Rattle.amf3_read.specs.Ready.{left_of}
 use Rattle.amf_cli.specs.Reading.{IsReadOne}
 use Rattle.amf_cli.proofs.Inputs.{from_nothing, one_read, one_ends}
 use Rattle.amf_cli.proofs.reading.read_one.Goals as goal
@@ -16,8 +14,7 @@ returns-clause-answers g c =
     let rest = unread left c.read3.new.cursor in
     let at = place c.args.cursor.now in
     let k = place c.read3.new.cursor in
-    let enough : left_of c.args.cursor.now < enough_levels = let limit = c.requires.limit in omega arith in
-    let r = from_nothing y c.in_ok-builder.builder c.read3.new.builder c.in_ok-tables.tables c.read3.new.tables input rest at k (bound c.args.cursor.now) (Ok c.in_ok-root.root) c.in_ok-builder.ensures c.in_ok-tables.ensures c.requires.limit (c.in_ok-root.ensures.answers enough_levels enough) in
+    let r = from_nothing y c.in_ok-builder.builder c.read3.new.builder c.in_ok-tables.tables c.read3.new.tables input rest at k (bound c.args.cursor.now) (Ok c.in_ok-root.root) c.in_ok-builder.ensures c.in_ok-tables.ensures c.requires.limit c.in_ok-root.ensures.answers in
     subst (λ (x : RootedArena). IsReadOne y (content x) input rest at k) (sym c.whole.ensures) (one_read y c.read3.new.builder c.read3.new.tables c.in_ok-root.root input rest at k r)
 
 pub returns-in_err-root-clause-answers : goal.returns-in_err-root-clause-answers
@@ -29,7 +26,6 @@ returns-in_err-root-clause-answers g c =
     let at = place c.args.cursor.now in
     let k = place c.read3.new.cursor in
     let e = c.in_err-root.field-0.0 in
-    let enough : left_of c.args.cursor.now < enough_levels = let limit = c.requires.limit in omega arith in
     let p = err_from_is_err_and c.from_residual-in_err-root.result c.from_residual-in_err-root.ensures.1 in
     rw (p.1, p.2) (one_ends y c.read3.new.builder c.read3.new.tables input rest at k e
-    (from_nothing y c.in_ok-builder.builder c.read3.new.builder c.in_ok-tables.tables c.read3.new.tables input rest at k (bound c.args.cursor.now) (Err e) c.in_ok-builder.ensures c.in_ok-tables.ensures c.requires.limit (c.in_err-root.ensures.answers enough_levels enough)))
+    (from_nothing y c.in_ok-builder.builder c.read3.new.builder c.in_ok-tables.tables c.read3.new.tables input rest at k (bound c.args.cursor.now) (Err e) c.in_ok-builder.ensures c.in_ok-tables.ensures c.requires.limit c.in_err-root.ensures.answers))

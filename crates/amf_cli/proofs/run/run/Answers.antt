@@ -2,14 +2,15 @@ use Rattle.std.proofs.Common.{◌≡◌, ◌⊎◌, sym, subst, ◌∙◌}
 use Rattle.amf_io.specs.Outside.{Steady}
 use Rattle.amf_cli.specs.declared.command.Command.TheVariants.{Canon}
 use Rattle.amf_cli.specs.Run.{Reports}
-use Rattle.amf_cli.proofs.Statuses.{refused_says, no_form_says, accepted_says, not_accepted_says, formed_says, lacking_says, done_not_refused, done_not_lacking, line_says, line_written, usage_status, form_status, reads_steady, writes_steady}
+use Rattle.amf_cli.proofs.Spelled.{never_lacks}
+use Rattle.amf_cli.proofs.Statuses.{refused_says, no_form_says, accepted_says, not_accepted_says, formed_says, lacking_says, done_not_refused, line_says, line_written, usage_status, form_status, reads_steady, writes_steady}
 use Rattle.amf_cli.proofs.run.run.Goals as goal
 
 pub returns-in-Ok-clause-not_accepted : goal.returns-in-Ok-clause-not_accepted
 returns-in-Ok-clause-not_accepted g c = λ d w told reason at q. absurd (done_not_refused d _ _ _ _ _ (c.in-Ok.ensures.runs d w told) reason at q)
 
 pub returns-in-Ok-clause-lacking : goal.returns-in-Ok-clause-lacking
-returns-in-Ok-clause-lacking g c = λ w told h i number kind l. absurd (done_not_lacking _ _ _ _ _ (c.in-Ok.ensures.runs Canon w told) h i number kind l)
+returns-in-Ok-clause-lacking g c = λ w told h i number kind l. absurd (never_lacks h _ number kind i l)
 
 pub returns-in-Err-clause-read : goal.returns-in-Err-clause-read
 returns-in-Err-clause-read g c = λ two. c.in-Err.ensures.read (λ e. two (c.status.ensures ∙ usage_status c.in-Err.end e))
@@ -29,7 +30,7 @@ returns-in-Err-clause-refused g c = λ d w one told.
 
 pub returns-in-Err-clause-accepted : goal.returns-in-Err-clause-accepted
 returns-in-Err-clause-accepted g c = λ d w told a.
-    subst (λ n. (n ≡ 0) ⊎ (n ≡ 3) ⊎ (n ≡ 4) ⊎ (n ≡ 5) ⊎ (n ≡ 7)) (sym c.status.ensures)
+    subst (λ n. (n ≡ 0) ⊎ (n ≡ 3) ⊎ (n ≡ 4) ⊎ (n ≡ 5)) (sym c.status.ensures)
     (accepted_says d c.in-Err.end _ _ _ _ _ (λ h. c.in-Err.ensures.usage.0 h (d, w)) (c.in-Err.ensures.runs d w told) a)
 
 pub returns-in-Err-clause-not_accepted : goal.returns-in-Err-clause-not_accepted
