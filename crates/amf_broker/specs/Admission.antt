@@ -1,4 +1,4 @@
--- A value that goes on unless the machine refuses.
+-- A value that goes on unless the machine refuses. A device of proofs.
 use Rattle.std.specs.Prelude.{Option, Some, None, Result, Ok, Err}
 use Rattle.amf_broker.specs.declared.reply.Reply.{Reply}
 

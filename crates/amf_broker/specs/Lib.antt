@@ -1,9 +1,11 @@
+-- The definitions that contracts cite.
 pub mod State
 pub mod Machine
 pub mod History
 pub mod Delivery
+pub mod Memory
+-- Devices of the proofs: no clause of a public call needs them.
 pub mod Sound
 pub mod Admission
 pub mod Parcels
-pub mod Memory
 pub mod Moments

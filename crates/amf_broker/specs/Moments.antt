@@ -1,4 +1,4 @@
--- The board at the moment of a call, once those that expire have left.
+-- The board at the moment of a call, once those that expire have left. A device of proofs.
 use Rattle.std.specs.Prelude.{ℕ, Bool, not, ◌==◌, ◌&&◌, List, filter}
 use Rattle.std.specs.List.{list_any}
 use Rattle.amf_broker.specs.declared.moment.Moment.{Moment}

@@ -1,4 +1,4 @@
--- The deliveries of one publish on the way to their clients.
+-- The deliveries of one publish on the way to their clients. A device of proofs.
 use Rattle.std.specs.Prelude.{ℕ, ◌==◌, if◌then◌else◌, List, [], ◌∷◌, map, filter, Option, Some, None}
 use Rattle.std.specs.List.{cons_option}
 use Rattle.amf_broker.specs.declared.parcel.Parcel.{Parcel}

@@ -1,4 +1,4 @@
--- What is true of every board: the clients stand in order of their numbers, no client has more than it may, and numbers that were not given yet are nowhere.
+-- What is true of every board: the clients stand in order of their numbers, no client has more than it may, and numbers that were not given yet are nowhere. A device of proofs.
 use Rattle.std.specs.Prelude.{◌≡◌, ℕ, ◌+◌, ◌≤◌, ◌==◌, ◌&&◌, nat_le, Bool, true, false, List, [], ◌∷◌, length, filter}
 use Rattle.amf_broker.specs.declared.limits.TheConstants.{MAX_CLIENTS, MAX_SUBS}
 use Rattle.amf_broker.specs.State.{Board, Connection}
