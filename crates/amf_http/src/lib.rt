@@ -17,7 +17,7 @@ mod tests;
 
 pub use buffer::HttpBuffer;
 pub use ends::{AnswerEnd, HttpEnd};
-pub use laws::{an_answer_stands, one_answer};
+pub use laws::{an_answer_stands, one_answer, worked_rows};
 pub use next::next_request;
 pub use request::{Body, HttpRequest};
 pub use response::write_response;
