@@ -1,0 +1,5 @@
+mod Totals
+mod Longer
+mod Keeps
+mod Turns
+pub mod Own
