@@ -1,5 +1,5 @@
 -- A link is read only where the bytes that are kept decide nothing.
-use Rattle.std.proofs.Common.{Bool, ◌≡◌, ◌∙◌, ℕ, ◌<◌, ◌⊎◌, inl, inr, List, [], ◌∷◌, ◌++◌, length, ap, sym, subst, append_assoc, length-append, arith}
+use Rattle.std.proofs.Common.{Bool, ◌≡◌, ◌∙◌, ℕ, ◌<◌, ◌⊎◌, inl, inr, List, [], ◌∷◌, ◌++◌, length, ap, sym, subst, append_assoc, arith}
 use Rattle.std.proofs.lemmas.List.{append-nil}
 use Rattle.amf_http.specs.Head.{EndsInBlank, NoBlankBelow, IsHead, HeadIsOpen}
 use Rattle.amf_http.specs.Request.{IsHeadAccepted, IsOpen}

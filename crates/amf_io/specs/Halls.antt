@@ -1,5 +1,5 @@
 -- What the halls and fronts in memory hold.
-use Rattle.std.specs.Prelude.{◌≡◌, ℕ, zero, suc, ◌-◌, ◌^◌, ◌<◌, false, List, [], ◌∷◌, ◌++◌, slice_index_or, vec_capacity}
+use Rattle.std.specs.Prelude.{◌≡◌, ℕ, zero, suc, ◌-◌, ◌^◌, ◌<◌, ◌≤◌, true, false, nat_lt, if◌then◌else◌, length, List, [], ◌∷◌, ◌++◌, slice_index_or, vec_capacity}
 use Rattle.amf_io.specs.declared.numbers.Numbers.{Numbers}
 use Rattle.amf_io.specs.declared.memory_hall.Links.{Links}
 
@@ -35,3 +35,9 @@ links_room l = vec_capacity l.served
 -- no link that came back was dropped
 abbrev pub HasAll : {L : Type 0} → Links L → Type 0
 HasAll l = l.dropped ≡ false
+
+-- a link came back: it is the last of those taken back where there was room, and is dropped where there was none; the room never shrinks
+pub record TakesBack {L : Type 0} (before now : Links L) (link : L) : Type 0 where
+  pub taken : served_of now ≡ (if nat_lt (length (served_of before)) (links_room before) then served_of before ++ link ∷ [] else served_of before)
+  pub told : now.dropped ≡ (if nat_lt (length (served_of before)) (links_room before) then before.dropped else true)
+  pub room : links_room before ≤ links_room now

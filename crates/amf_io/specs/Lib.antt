@@ -3,6 +3,7 @@ pub mod Outside
 pub mod Window
 pub mod Cursor
 pub mod InMemory
+pub mod Plans
 pub mod Field
 pub mod Verdict
 pub mod ReadEnds

@@ -41,7 +41,7 @@ impl<'a, S: Source> Cursor<'a, S> {
     ghost use Rattle.amf_io.specs.Cursor.{source_of, place, bound, ahead, unread, GivesByte, GivesBytes, GivesEnd, Counts, IsFaultedAt, TakesNoMemory, EndsByFault, Sees, GivesPiece};
 
     /// A cursor at the front of what the source has left, that gives at most `limit` bytes. It gives up where there is no
-    /// memory.
+    /// memory. Who has to know that the source is then as it was takes a window first, and goes on by `over`.
     pub fn new(alloc: Global, source: &'a mut S, limit: u32) -> Result<Cursor<'a, S>, Memory>
         ensures unread { IfOk result (λ c. unread S.left c ≡ S.left source.old) }
         ensures source { IfOk result (λ c. (source_of c).now ≡ source.old) }

@@ -1,15 +1,16 @@
-ghost use Rattle.amf_io.specs.Cursor.{Counts, TakesNoMemory};
+ghost use Rattle.amf_io.specs.Cursor.{Counts};
 
-use crate::{Cursor, CursorEnd, FaultlessSource, MemorySource, Source};
+use crate::{Cursor, CursorEnd, FaultlessSource, MemorySource, Source, Window};
 use std::alloc::Global;
 
-/// The first byte, with a cursor that is gone then.
+/// The first byte, with a cursor that is gone then. Where there is no memory for it, the source
+/// stays as it was.
 fn first<S: Source>(alloc: Global, source: &mut S) -> Result<u8, CursorEnd>
-    ensures { TakesNoMemory result → Counts (S.faults source.old) (S.faults source.new) result }
+    ensures { Counts (S.faults source.old) (S.faults source.new) result }
 {
-    match Cursor::new(alloc, source, 10) {
-        Ok(made) => {
-            let mut cursor = made;
+    match Window::new(alloc, 10) {
+        Ok(window) => {
+            let mut cursor = Cursor::over(source, window);
             cursor.byte()
         }
         Err(_) => Err(CursorEnd::Memory),

@@ -1,6 +1,7 @@
 //! The outside as traits, a cursor over a source, and the verdict on an input.
 #![tactic(auto)]
 
+mod calls;
 mod clock;
 mod cursor;
 #[cfg(test)]

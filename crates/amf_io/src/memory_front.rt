@@ -1,5 +1,6 @@
 ghost use Rattle.std.specs.Prelude.{◌≡◌, length, All};
 
+use crate::calls::Calls;
 use crate::{FaultlessHall, Front, Link, MemoryHall, OpenEnd};
 use amf_wire::Memory;
 use std::alloc::Global;
@@ -16,7 +17,7 @@ pub struct Halls<H: Drop> {
 
 impl<H: Drop> Halls<H> {
     ghost use Rattle.std.specs.Prelude.{◌≡◌, ◌++◌, ◌∷◌, ◌<◌, ◌≤◌, [], length, take, drop, is_ok, if◌then◌else◌, IfOk, OnOk, OnErr};
-    ghost use Rattle.amf_io.specs.Fronts.{to_open_of, returned_of, halls_room, asked_of, HasAllHalls};
+    ghost use Rattle.amf_io.specs.Fronts.{to_open_of, returned_of, halls_room, asked_of, HasAllHalls, TakesHallBack};
 
     /// These halls, with room for all of them to come back.
     fn new(alloc: Global, halls: Vec<H>) -> Result<Halls<H>, Memory>
@@ -74,8 +75,7 @@ impl<H: Drop> Halls<H> {
         ensures returned { HasAllHalls self.new → returned_of self.new ≡ returned_of self.old ++ hall ∷ [] }
         ensures asked { asked_of self.new ≡ asked_of self.old }
         ensures all { HasAllHalls self.new → HasAllHalls self.old }
-        ensures room { HasAllHalls self.old → length (returned_of self.old) < halls_room self.old → HasAllHalls self.new }
-        ensures kept_room { halls_room self.old ≤ halls_room self.new }
+        ensures takes { TakesHallBack self.old self.new hall }
     {
         if self.returned.len() == self.returned.capacity() {
             self.dropped = true;
@@ -93,8 +93,7 @@ impl<H: Drop> Halls<H> {
 #[derive(Drop)]
 pub struct MemoryFront<L: Drop> {
     halls: Halls<MemoryHall<L>>,
-    failing: Vec<u64>,
-    calls: u64,
+    calls: Calls,
     failed: u64,
     ghost whole: { All (λ h. h.failed ≡ 0) halls.to_open.items },
     ghost fresh: { All (λ h. length h.links.served.items ≡ 0) halls.to_open.items },
@@ -103,6 +102,7 @@ pub struct MemoryFront<L: Drop> {
 impl<L: Drop> MemoryFront<L> {
     ghost use Rattle.std.specs.Prelude.{◌≡◌, ◌≤◌, [], length, All, IfOk};
     ghost use Rattle.amf_io.specs.Fronts.{to_open_of, returned_of, halls_room, asked_of, HasAllHalls};
+    ghost use Rattle.amf_io.specs.Plans.{IsPlanned};
 
     /// A front of these halls, of which none has failed or served. The calls of `open` whose
     /// numbers stand in `failing` fail.
@@ -119,13 +119,11 @@ impl<L: Drop> MemoryFront<L> {
         ensures asked { IfOk result (λ f. asked_of f.halls ≡ []) }
         ensures all { IfOk result (λ f. HasAllHalls f.halls) }
         ensures faults { IfOk result (λ f. f.failed ≡ 0) }
+        ensures calls { IfOk result (λ f. IsPlanned failing.now f.calls) }
     {
-        let mut numbers = Vec::new(alloc);
-        numbers.extend_from_slice(failing)?;
         Ok(MemoryFront {
             halls: Halls::new(alloc, halls)?,
-            failing: numbers,
-            calls: 0,
+            calls: Calls::new(alloc, failing)?,
             failed: 0,
         })
     }
@@ -153,7 +151,11 @@ impl<L: Drop> MemoryFront<L> {
 }
 
 impl<L: Link + Send + Drop> Front for MemoryFront<L> {
-    ghost use Rattle.amf_io.specs.Fronts.{to_open_of, returned_of, asked_of, HasAllHalls};
+    ghost use Rattle.std.specs.Prelude.{◌≡◌, ◌<◌, ◌≤◌, [], length, All, IfOk};
+    ghost use Rattle.amf_io.specs.Front.{Opens, Asks, CountsOpen, CountsBack};
+    ghost use Rattle.amf_io.specs.Fronts.{to_open_of, returned_of, asked_of, HasAllHalls, TakesHallBack, OpensByPlan};
+    ghost use Rattle.amf_io.specs.Halls.{served_of};
+    ghost use Rattle.amf_io.specs.Plans.{IsCounted};
 
     type Hall = MemoryHall<L>;
 
@@ -172,10 +174,20 @@ impl<L: Link + Send + Drop> Front for MemoryFront<L> {
         _alloc: Global,
         port: u16,
         workers: u32,
-    ) -> Result<Vec<MemoryHall<L>>, OpenEnd> {
-        let number = self.calls;
-        self.calls = number.saturating_add(1);
-        if self.failing.contains(&number) || self.halls.to_open.len() < workers as usize {
+    ) -> Result<Vec<MemoryHall<L>>, OpenEnd>
+        ensures asked { Asks (asked_of self.old.halls) (asked_of self.new.halls) port workers result }
+        ensures gives { Opens (to_open_of self.old.halls) (to_open_of self.new.halls) result }
+        ensures workers { IfOk result (λ v. length v.items ≡ workers) }
+        ensures whole { IfOk result (λ v. All (λ h. h.failed ≡ 0) v.items) }
+        ensures fresh { IfOk result (λ v. All (λ h. served_of h.links ≡ []) v.items) }
+        ensures returned { self.new.halls.returned ≡ self.old.halls.returned }
+        ensures all { self.new.halls.dropped ≡ self.old.halls.dropped }
+        ensures cause { CountsOpen self.old.failed self.new.failed result }
+        ensures plan { OpensByPlan self.old.calls (length (to_open_of self.old.halls)) workers result }
+        ensures counted { IsCounted self.old.calls self.new.calls }
+    {
+        let fails = self.calls.is_failing();
+        if fails || self.halls.to_open.len() < workers as usize {
             self.halls.note(port, workers)?;
             self.failed = self.failed.saturating_add(1);
             return Err(OpenEnd::Failed);
@@ -183,7 +195,14 @@ impl<L: Link + Send + Drop> Front for MemoryFront<L> {
         Ok(self.halls.open(port, workers)?)
     }
 
-    fn back(&mut self, hall: MemoryHall<L>) {
+    fn back(&mut self, hall: MemoryHall<L>)
+        ensures tells { HasAllHalls self.new.halls → HasAllHalls self.old.halls }
+        ensures asked { asked_of self.new.halls ≡ asked_of self.old.halls }
+        ensures to_open { to_open_of self.new.halls ≡ to_open_of self.old.halls }
+        ensures cause { CountsBack self.old.failed self.new.failed hall.failed }
+        ensures takes { TakesHallBack self.old.halls self.new.halls hall }
+        ensures calls { self.new.calls ≡ self.old.calls }
+    {
         if hall.faults() > 0 {
             self.failed = self.failed.saturating_add(1);
         }
@@ -227,7 +246,10 @@ impl<L: Drop> FaultlessFront<L> {
 }
 
 impl<L: Link + Send + Drop> Front for FaultlessFront<L> {
-    ghost use Rattle.amf_io.specs.Fronts.{to_open_of, returned_of, asked_of, HasAllHalls};
+    ghost use Rattle.std.specs.Prelude.{◌≡◌, ◌<◌, ◌≤◌, [], length, All, IfOk, IfErr};
+    ghost use Rattle.amf_io.specs.Front.{Opens, Asks};
+    ghost use Rattle.amf_io.specs.Fronts.{to_open_of, returned_of, asked_of, HasAllHalls, TakesHallBack};
+    ghost use Rattle.amf_io.specs.Halls.{served_of};
 
     type Hall = FaultlessHall<L>;
 
@@ -246,14 +268,27 @@ impl<L: Link + Send + Drop> Front for FaultlessFront<L> {
         _alloc: Global,
         port: u16,
         workers: u32,
-    ) -> Result<Vec<FaultlessHall<L>>, OpenEnd> {
+    ) -> Result<Vec<FaultlessHall<L>>, OpenEnd>
+        ensures asked { Asks (asked_of self.old.halls) (asked_of self.new.halls) port workers result }
+        ensures gives { Opens (to_open_of self.old.halls) (to_open_of self.new.halls) result }
+        ensures workers { IfOk result (λ v. (length v.items ≡ workers) × (workers ≤ length (to_open_of self.old.halls))) }
+        ensures fresh { IfOk result (λ v. All (λ h. served_of h.links ≡ []) v.items) }
+        ensures returned { self.new.halls.returned ≡ self.old.halls.returned }
+        ensures all { self.new.halls.dropped ≡ self.old.halls.dropped }
+        ensures never_fails { IfErr result (λ e. e ≡ OpenEnd.Memory) }
+    {
         if self.halls.to_open.len() < workers as usize {
             return Err(OpenEnd::Memory);
         }
         Ok(self.halls.open(port, workers)?)
     }
 
-    fn back(&mut self, hall: FaultlessHall<L>) {
+    fn back(&mut self, hall: FaultlessHall<L>)
+        ensures tells { HasAllHalls self.new.halls → HasAllHalls self.old.halls }
+        ensures asked { asked_of self.new.halls ≡ asked_of self.old.halls }
+        ensures to_open { to_open_of self.new.halls ≡ to_open_of self.old.halls }
+        ensures takes { TakesHallBack self.old.halls self.new.halls hall }
+    {
         self.halls.back(hall);
     }
 }

@@ -1,3 +1,4 @@
+use crate::calls::Calls;
 use crate::numbers::Numbers;
 use crate::{Clock, Dice, Failed, Hall, Link};
 use amf_wire::Memory;
@@ -15,7 +16,7 @@ pub struct Links<L: Drop> {
 impl<L: Drop> Links<L> {
     ghost use Rattle.std.specs.Prelude.{◌≡◌, ◌++◌, ◌∷◌, ◌<◌, ◌≤◌, [], length, Ok, IfOk};
     ghost use Rattle.amf_io.specs.Outside.{NextOf};
-    ghost use Rattle.amf_io.specs.Halls.{coming_of, served_of, links_room, HasAll};
+    ghost use Rattle.amf_io.specs.Halls.{coming_of, served_of, links_room, HasAll, TakesBack};
 
     /// These links, with room for all of them to come back.
     fn new(alloc: Global, links: Vec<L>) -> Result<Links<L>, Memory>
@@ -45,8 +46,7 @@ impl<L: Drop> Links<L> {
         ensures coming { coming_of self.new ≡ coming_of self.old }
         ensures served { HasAll self.new → served_of self.new ≡ served_of self.old ++ link ∷ [] }
         ensures all { HasAll self.new → HasAll self.old }
-        ensures room { HasAll self.old → length (served_of self.old) < links_room self.old → HasAll self.new }
-        ensures kept_room { links_room self.old ≤ links_room self.new }
+        ensures takes { TakesBack self.old self.new link }
     {
         if self.served.len() == self.served.capacity() {
             self.dropped = true;
@@ -66,14 +66,14 @@ pub struct MemoryHall<L: Drop> {
     links: Links<L>,
     moments: Numbers,
     words: Numbers,
-    failing: Vec<u64>,
-    calls: u64,
+    calls: Calls,
     failed: u64,
 }
 
 impl<L: Drop> MemoryHall<L> {
     ghost use Rattle.std.specs.Prelude.{◌≡◌, ◌≤◌, [], length, IfOk};
     ghost use Rattle.amf_io.specs.Halls.{coming_of, served_of, links_room, HasAll, given, listed, TellsNumbers};
+    ghost use Rattle.amf_io.specs.Plans.{IsPlanned};
 
     /// A hall of these links. Moments and words are 0 once their lists are used up. The calls of
     /// `next` whose numbers stand in `failing` fail.
@@ -95,15 +95,13 @@ impl<L: Drop> MemoryHall<L> {
         ensures listed_words { IfOk result (λ h. listed h.words ≡ words.now) }
         ensures tells_words { IfOk result (λ h. TellsNumbers h.words) }
         ensures faults { IfOk result (λ h. h.failed ≡ 0) }
+        ensures calls { IfOk result (λ h. IsPlanned failing.now h.calls) }
     {
-        let mut numbers = Vec::new(alloc);
-        numbers.extend_from_slice(failing)?;
         Ok(MemoryHall {
             links: Links::new(alloc, links)?,
             moments: Numbers::new(alloc, moments)?,
             words: Numbers::new(alloc, words)?,
-            failing: numbers,
-            calls: 0,
+            calls: Calls::new(alloc, failing)?,
             failed: 0,
         })
     }
@@ -124,8 +122,9 @@ impl<L: Drop> MemoryHall<L> {
 }
 
 impl<L: Drop> Clock for MemoryHall<L> {
-    ghost use Rattle.std.specs.Prelude.{ℕ, List};
+    ghost use Rattle.std.specs.Prelude.{◌≡◌, ◌++◌, ◌∷◌, [], ℕ, List};
     ghost use Rattle.amf_io.specs.Halls.{given, listed, TellsNumbers};
+    ghost use Rattle.amf_io.specs.Plans.{GivesNumber};
     ghost use Rattle.amf_io.specs.declared.memory_hall.Links.{Links};
     ghost use Rattle.amf_io.specs.declared.numbers.Numbers.{Numbers};
 
@@ -137,14 +136,20 @@ impl<L: Drop> Clock for MemoryHall<L> {
 
     ghost clock_rest = { λ h. (h.links, h.words, h.failed, listed h.moments) };
 
-    fn now(&mut self) -> u64 {
+    fn now(&mut self) -> u64
+        ensures tells { TellsNumbers self.new.moments → TellsNumbers self.old.moments }
+        ensures gives { TellsNumbers self.new.moments → given self.new.moments ≡ given self.old.moments ++ result ∷ [] }
+        ensures number { GivesNumber self.old.moments self.new.moments result }
+        ensures only { self.new ≡ record self.old { moments = self.new.moments } }
+    {
         self.moments.next()
     }
 }
 
 impl<L: Drop> Dice for MemoryHall<L> {
-    ghost use Rattle.std.specs.Prelude.{ℕ, List};
+    ghost use Rattle.std.specs.Prelude.{◌≡◌, ◌++◌, ◌∷◌, [], ℕ, List};
     ghost use Rattle.amf_io.specs.Halls.{given, listed, TellsNumbers};
+    ghost use Rattle.amf_io.specs.Plans.{GivesNumber};
     ghost use Rattle.amf_io.specs.declared.memory_hall.Links.{Links};
     ghost use Rattle.amf_io.specs.declared.numbers.Numbers.{Numbers};
 
@@ -156,13 +161,21 @@ impl<L: Drop> Dice for MemoryHall<L> {
 
     ghost dice_rest = { λ h. (h.links, h.moments, h.failed, listed h.words) };
 
-    fn word(&mut self) -> u64 {
+    fn word(&mut self) -> u64
+        ensures tells { TellsNumbers self.new.words → TellsNumbers self.old.words }
+        ensures gives { TellsNumbers self.new.words → given self.new.words ≡ given self.old.words ++ result ∷ [] }
+        ensures number { GivesNumber self.old.words self.new.words result }
+        ensures only { self.new ≡ record self.old { words = self.new.words } }
+    {
         self.words.next()
     }
 }
 
 impl<L: Link + Send + Drop> Hall for MemoryHall<L> {
-    ghost use Rattle.amf_io.specs.Halls.{coming_of, served_of, HasAll, given, TellsNumbers};
+    ghost use Rattle.std.specs.Prelude.{◌≡◌, OnErr};
+    ghost use Rattle.amf_io.specs.Outside.{HasCause, NextOf};
+    ghost use Rattle.amf_io.specs.Halls.{coming_of, served_of, HasAll, given, TellsNumbers, TakesBack};
+    ghost use Rattle.amf_io.specs.Plans.{GoesByPlan};
     ghost use Rattle.amf_io.specs.Rests.{same_links, keeps};
 
     type Link = L;
@@ -175,17 +188,28 @@ impl<L: Link + Send + Drop> Hall for MemoryHall<L> {
 
     ghost faults = { λ h. h.failed };
 
-    fn next(&mut self) -> Result<Option<L>, Failed> {
-        let number = self.calls;
-        self.calls = number.saturating_add(1);
-        if self.failing.contains(&number) {
+    fn next(&mut self) -> Result<Option<L>, Failed>
+        ensures gives { NextOf (coming_of self.old.links) (coming_of self.new.links) result }
+        ensures served { self.new.links.served ≡ self.old.links.served }
+        ensures all { self.new.links.dropped ≡ self.old.links.dropped }
+        ensures cause { HasCause self.old.failed self.new.failed result }
+        ensures calls { GoesByPlan self.old.calls self.new.calls result }
+        ensures moments { self.new.moments ≡ self.old.moments }
+        ensures words { self.new.words ≡ self.old.words }
+    {
+        if self.calls.is_failing() {
             self.failed = self.failed.saturating_add(1);
             return Err(Failed);
         }
         Ok(self.links.next())
     }
 
-    fn back(&mut self, link: L) {
+    fn back(&mut self, link: L)
+        ensures coming { coming_of self.new.links ≡ coming_of self.old.links }
+        ensures tells { HasAll self.new.links → HasAll self.old.links }
+        ensures takes { TakesBack self.old.links self.new.links link }
+        ensures only { self.new ≡ record self.old { links = self.new.links } }
+    {
         self.links.back(link);
     }
 
@@ -246,8 +270,9 @@ impl<L: Drop> FaultlessHall<L> {
 }
 
 impl<L: Drop> Clock for FaultlessHall<L> {
-    ghost use Rattle.std.specs.Prelude.{ℕ, List};
+    ghost use Rattle.std.specs.Prelude.{◌≡◌, ◌++◌, ◌∷◌, [], ℕ, List};
     ghost use Rattle.amf_io.specs.Halls.{given, listed, TellsNumbers};
+    ghost use Rattle.amf_io.specs.Plans.{GivesNumber};
     ghost use Rattle.amf_io.specs.declared.memory_hall.Links.{Links};
     ghost use Rattle.amf_io.specs.declared.numbers.Numbers.{Numbers};
 
@@ -259,14 +284,20 @@ impl<L: Drop> Clock for FaultlessHall<L> {
 
     ghost clock_rest = { λ h. (h.links, h.words, listed h.moments) };
 
-    fn now(&mut self) -> u64 {
+    fn now(&mut self) -> u64
+        ensures tells { TellsNumbers self.new.moments → TellsNumbers self.old.moments }
+        ensures gives { TellsNumbers self.new.moments → given self.new.moments ≡ given self.old.moments ++ result ∷ [] }
+        ensures number { GivesNumber self.old.moments self.new.moments result }
+        ensures only { self.new ≡ record self.old { moments = self.new.moments } }
+    {
         self.moments.next()
     }
 }
 
 impl<L: Drop> Dice for FaultlessHall<L> {
-    ghost use Rattle.std.specs.Prelude.{ℕ, List};
+    ghost use Rattle.std.specs.Prelude.{◌≡◌, ◌++◌, ◌∷◌, [], ℕ, List};
     ghost use Rattle.amf_io.specs.Halls.{given, listed, TellsNumbers};
+    ghost use Rattle.amf_io.specs.Plans.{GivesNumber};
     ghost use Rattle.amf_io.specs.declared.memory_hall.Links.{Links};
     ghost use Rattle.amf_io.specs.declared.numbers.Numbers.{Numbers};
 
@@ -278,13 +309,20 @@ impl<L: Drop> Dice for FaultlessHall<L> {
 
     ghost dice_rest = { λ h. (h.links, h.moments, listed h.words) };
 
-    fn word(&mut self) -> u64 {
+    fn word(&mut self) -> u64
+        ensures tells { TellsNumbers self.new.words → TellsNumbers self.old.words }
+        ensures gives { TellsNumbers self.new.words → given self.new.words ≡ given self.old.words ++ result ∷ [] }
+        ensures number { GivesNumber self.old.words self.new.words result }
+        ensures only { self.new ≡ record self.old { words = self.new.words } }
+    {
         self.words.next()
     }
 }
 
 impl<L: Link + Send + Drop> Hall for FaultlessHall<L> {
-    ghost use Rattle.amf_io.specs.Halls.{coming_of, served_of, HasAll, given, TellsNumbers};
+    ghost use Rattle.std.specs.Prelude.{◌≡◌, IsOk};
+    ghost use Rattle.amf_io.specs.Outside.{NextOf};
+    ghost use Rattle.amf_io.specs.Halls.{coming_of, served_of, HasAll, given, TellsNumbers, TakesBack};
     ghost use Rattle.amf_io.specs.Rests.{same_links, keeps};
 
     type Link = L;
@@ -297,11 +335,23 @@ impl<L: Link + Send + Drop> Hall for FaultlessHall<L> {
 
     ghost faults = { λ h. 0 };
 
-    fn next(&mut self) -> Result<Option<L>, Failed> {
+    fn next(&mut self) -> Result<Option<L>, Failed>
+        ensures never_fails { IsOk result }
+        ensures gives { NextOf (coming_of self.old.links) (coming_of self.new.links) result }
+        ensures served { self.new.links.served ≡ self.old.links.served }
+        ensures all { self.new.links.dropped ≡ self.old.links.dropped }
+        ensures moments { self.new.moments ≡ self.old.moments }
+        ensures words { self.new.words ≡ self.old.words }
+    {
         Ok(self.links.next())
     }
 
-    fn back(&mut self, link: L) {
+    fn back(&mut self, link: L)
+        ensures coming { coming_of self.new.links ≡ coming_of self.old.links }
+        ensures tells { HasAll self.new.links → HasAll self.old.links }
+        ensures takes { TakesBack self.old.links self.new.links link }
+        ensures only { self.new ≡ record self.old { links = self.new.links } }
+    {
         self.links.back(link);
     }
 

@@ -1,5 +1,6 @@
-ghost use Rattle.std.specs.Prelude.{◌<◌};
+ghost use Rattle.std.specs.Prelude.{◌<◌, ◌≤◌, vec_capacity};
 
+use crate::calls::Calls;
 use crate::{Failed, Sink};
 use amf_wire::Memory;
 use std::alloc::Global;
@@ -10,30 +11,29 @@ use std::alloc::Global;
 pub struct MemorySink {
     bytes: Vec<u8>,
     most: usize,
-    failing: Vec<u64>,
-    calls: u64,
+    calls: Calls,
     failed: u64,
     ghost some: { 0 < most },
 }
 
 impl MemorySink {
-    ghost use Rattle.std.specs.Prelude.{◌≡◌, ◌≤◌, [], IsTrue, IfOk};
+    ghost use Rattle.std.specs.Prelude.{◌≡◌, ◌≤◌, [], max, IfOk};
     ghost use Rattle.amf_io.specs.Outside.{Rose};
     ghost use Rattle.amf_io.specs.InMemory.{taken, sink_failures};
+    ghost use Rattle.amf_io.specs.Plans.{IsPlanned};
 
     /// An empty sink that takes at most `most` bytes in a write, and one where `most` is 0. The
     /// writes and flushes whose numbers stand in `failing` fail.
     pub fn new(alloc: Global, most: usize, failing: &[u64]) -> Result<MemorySink, Memory>
         ensures held { IfOk result (λ s. taken s ≡ []) }
         ensures faults { IfOk result (λ s. sink_failures s ≡ 0) }
+        ensures most { IfOk result (λ s. s.most ≡ max most 1) }
+        ensures calls { IfOk result (λ s. IsPlanned failing.now s.calls) }
     {
-        let mut numbers = Vec::new(alloc);
-        numbers.extend_from_slice(failing)?;
         Ok(MemorySink {
             bytes: Vec::new(alloc),
             most: most.max(1),
-            failing: numbers,
-            calls: 0,
+            calls: Calls::new(alloc, failing)?,
             failed: 0,
         })
     }
@@ -54,27 +54,22 @@ impl MemorySink {
 
     /// Counts a failure.
     fn fail(&mut self) -> Failed
-        ensures held { taken self.new ≡ taken self.old }
-        ensures risen { sink_failures self.old ≤ sink_failures self.new }
         ensures rose { Rose (sink_failures self.old) (sink_failures self.new) }
+        ensures risen { sink_failures self.old ≤ sink_failures self.new }
+        ensures same { self.new.bytes ≡ self.old.bytes }
+        ensures same_most { self.new.most ≡ self.old.most }
+        ensures same_calls { self.new.calls ≡ self.old.calls }
     {
         self.failed = self.failed.saturating_add(1);
         Failed
     }
-
-    /// Whether this write or flush is one of those that fail.
-    fn is_failing(&mut self) -> bool
-        ensures held { taken self.new ≡ taken self.old }
-        ensures faults { sink_failures self.new ≡ sink_failures self.old }
-    {
-        let number = self.calls;
-        self.calls = number.saturating_add(1);
-        self.failing.contains(&number)
-    }
 }
 
 impl Sink for MemorySink {
+    ghost use Rattle.std.specs.Prelude.{◌≡◌, ◌+◌, ◌<◌, ◌≤◌, false, min, length, vec_capacity, IfOk, OnOk, OnErr};
+    ghost use Rattle.amf_io.specs.Outside.{Takes, HasCause};
     ghost use Rattle.amf_io.specs.InMemory.{taken, sink_failures};
+    ghost use Rattle.amf_io.specs.Plans.{fails_next, IsCounted, GoesByPlan};
 
     ghost tells = { λ s. Unit {0} };
 
@@ -83,8 +78,18 @@ impl Sink for MemorySink {
     ghost faults = { sink_failures };
 
     /// Want of memory is a failure.
-    fn write(&mut self, piece: &[u8]) -> Result<usize, Failed> {
-        if self.is_failing() {
+    fn write(&mut self, piece: &[u8]) -> Result<usize, Failed>
+        ensures within { IfOk result (λ n. n ≤ length piece.now) }
+        ensures progress { IfOk result (λ n. 0 < length piece.now → 0 < n) }
+        ensures takes { Takes (taken self.old) (taken self.new) piece.now result }
+        ensures cause { HasCause (sink_failures self.old) (sink_failures self.new) result }
+        ensures size { IfOk result (λ n. n ≡ min (length piece.now) self.old.most) }
+        ensures goes_on { OnOk result (fails_next self.old.calls ≡ false) }
+        ensures no_memory { OnErr result (fails_next self.old.calls ≡ false → vec_capacity self.old.bytes < length (taken self.old) + min (length piece.now) self.old.most) }
+        ensures counted { IsCounted self.old.calls self.new.calls }
+        ensures most { self.new.most ≡ self.old.most }
+    {
+        if self.calls.is_failing() {
             return Err(self.fail());
         }
         let count = piece.len().min(self.most);
@@ -94,8 +99,13 @@ impl Sink for MemorySink {
         }
     }
 
-    fn flush(&mut self) -> Result<(), Failed> {
-        if self.is_failing() {
+    fn flush(&mut self) -> Result<(), Failed>
+        ensures same { self.new.bytes ≡ self.old.bytes }
+        ensures cause { HasCause (sink_failures self.old) (sink_failures self.new) result }
+        ensures calls { GoesByPlan self.old.calls self.new.calls result }
+        ensures most { self.new.most ≡ self.old.most }
+    {
+        if self.calls.is_failing() {
             return Err(self.fail());
         }
         Ok(())
@@ -109,11 +119,13 @@ pub struct FaultlessSink {
     bytes: Vec<u8>,
     room: usize,
     dropped: bool,
+    ghost reserved: { room ≤ vec_capacity bytes },
 }
 
 impl FaultlessSink {
     ghost use Rattle.std.specs.Prelude.{◌≡◌, ◌≤◌, ◌↔◌, [], false, vec_capacity, IfOk};
     ghost use Rattle.amf_io.specs.InMemory.{faultless_taken, IsWhole, room_of};
+    ghost use Rattle.amf_io.specs.Plans.{has_room_for};
 
     /// An empty sink with room for so many bytes.
     pub fn new(alloc: Global, room: usize) -> Result<FaultlessSink, Memory>
@@ -136,6 +148,13 @@ impl FaultlessSink {
         self.bytes.as_slice()
     }
 
+    /// Whether a piece of so many bytes goes into the room that is left.
+    fn has_room_for(&self, count: usize) -> bool
+        ensures { result ≡ has_room_for self.now count }
+    {
+        count <= self.room && self.bytes.len() <= self.room - count
+    }
+
     /// Whether something was dropped.
     pub fn has_dropped(&self) -> bool
         ensures { (result ≡ false) ↔ IsWhole self.now }
@@ -145,7 +164,9 @@ impl FaultlessSink {
 }
 
 impl Sink for FaultlessSink {
+    ghost use Rattle.std.specs.Prelude.{◌≡◌, ◌++◌, true, false, length, Ok, if◌then◌else◌};
     ghost use Rattle.amf_io.specs.InMemory.{faultless_taken, IsWhole};
+    ghost use Rattle.amf_io.specs.Plans.{has_room_for};
 
     ghost tells = { IsWhole };
 
@@ -153,15 +174,22 @@ impl Sink for FaultlessSink {
 
     ghost faults = { λ s. 0 };
 
-    fn write(&mut self, piece: &[u8]) -> Result<usize, Failed> {
-        let fits = piece.len() <= self.room && self.bytes.len() <= self.room - piece.len();
-        if !fits || self.bytes.extend_from_slice(piece).is_err() {
+    fn write(&mut self, piece: &[u8]) -> Result<usize, Failed>
+        ensures size { result ≡ Ok (length piece.now) }
+        ensures takes { faultless_taken self.new ≡ (if has_room_for self.old (length piece.now) then faultless_taken self.old ++ piece.now else faultless_taken self.old) }
+        ensures dropped { self.new.dropped ≡ (if has_room_for self.old (length piece.now) then self.old.dropped else true) }
+        ensures room { self.new.room ≡ self.old.room }
+    {
+        if !self.has_room_for(piece.len()) || self.bytes.extend_from_slice(piece).is_err() {
             self.dropped = true;
         }
         Ok(piece.len())
     }
 
-    fn flush(&mut self) -> Result<(), Failed> {
+    fn flush(&mut self) -> Result<(), Failed>
+        ensures flushed { result ≡ Ok tt }
+        ensures same { self.new ≡ self.old }
+    {
         Ok(())
     }
 }
