@@ -1,11 +1,14 @@
-ghost use Rattle.std.specs.Prelude.{◌≡◌, ◌<◌, ◌≤◌, ◌↔◌, ◌⊎◌, [], length, get_or, true, IfOk, IfErr, OnOk, OnErr, IsErrOf};
+ghost use Rattle.std.specs.Prelude.{◌≡◌, ◌<◌, ◌≤◌, ◌↔◌, ◌⊎◌, [], ◌∷◌, length, get_or, true, IfOk, IfErr, OnOk, OnErr, IsErrOf};
+ghost use Rattle.std.specs.List.{AllByRecursion};
 ghost use Rattle.amf_wire.specs.Text.{IsText};
 ghost use Rattle.amf_graph.specs.Arena.{IsBuilt, IsFinished, IsTraitsIn, HeadNames, Names, text_at, no_traits};
 ghost use Rattle.amf_graph.specs.Bounds.{IsWithinBounds, items_of};
 ghost use Rattle.amf_graph.specs.Building.{no_arena, kept_text, kept_traits, kept_node, stored_traits, stored_at, leaf_head, shape_head, begun, closed, changed, more_part, shut, PartNames, HasRoom, FitsNow, size_of, IsFirstOpen, kind_of};
+ghost use Rattle.amf_graph.specs.Grafting.{Grafted, IsTooMuch};
 ghost use Rattle.amf_graph.specs.Views.{ShowsTraits};
 
 use crate::class::Class;
+use crate::copying::Copying;
 use crate::limits::{MAX_COUNT, MAX_SEALED, MAX_TRAITS};
 use crate::node::Node;
 use crate::store::Store;
@@ -173,6 +176,43 @@ impl Builder {
         ensures { self.new ≡ changed shut node.0 self.old }
     {
         self.store.close(node);
+    }
+
+    /// Adds one copy of all that the values of a graph reach, and gives the copies of the values, in order. What they share in
+    /// the graph, their copies share.
+    ///
+    /// It adds a node for each node that is reached, and a text and a traits for each number of theirs that is used. `Full` comes
+    /// exactly where the builder has no room for these, and `Memory` where there is none. After an end the builder is as before.
+    pub fn graft_values(&mut self, graph: &Rooted, values: &[Value]) -> Result<Vec<Value>, BuildEnd>
+        requires { AllByRecursion (Names graph.now.arena) values.now }
+        ensures ok { IfOk result (λ copies. Grafted graph.now.arena values.now self.old self.new copies.items) }
+        ensures count { IfOk result (λ copies. length copies.items ≡ length values.now) }
+        ensures names { IfOk result (λ copies. AllByRecursion (Names self.new) copies.items) }
+        ensures err { OnErr result (self.new ≡ self.old) }
+        ensures full { IsErrOf result BuildEnd.Full → IsTooMuch graph.now.arena values.now self.old }
+        ensures room { OnOk result (IsTooMuch graph.now.arena values.now self.old → ⊥) }
+    {
+        graph.is_finished();
+        let copying = Copying::of(self.alloc, graph, values, &self.store)?;
+        if copying.is_too_much() {
+            return Err(BuildEnd::Full);
+        }
+        let copies = copying.values(self.alloc, values)?;
+        self.store.append(copying.copies(self.alloc, graph)?)?;
+        Ok(copies)
+    }
+
+    /// Adds a copy of what the root of a graph reaches, and gives the copy of the root. Its ends are those of `graft_values`.
+    pub fn graft(&mut self, graph: &Rooted) -> Result<Value, BuildEnd>
+        ensures ok { IfOk result (λ copy. Grafted graph.now.arena (graph.now.root ∷ []) self.old self.new (copy ∷ [])) }
+        ensures names { IfOk result (λ copy. Names self.new copy) }
+        ensures err { OnErr result (self.new ≡ self.old) }
+        ensures full { IsErrOf result BuildEnd.Full → IsTooMuch graph.now.arena (graph.now.root ∷ []) self.old }
+        ensures room { OnOk result (IsTooMuch graph.now.arena (graph.now.root ∷ []) self.old → ⊥) }
+    {
+        graph.is_finished();
+        let copies = self.graft_values(graph, &[graph.root()])?;
+        Ok(copies[0])
     }
 
     /// The kind of a node.

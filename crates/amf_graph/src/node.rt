@@ -1,4 +1,4 @@
-ghost use Rattle.std.specs.Prelude.{◌≡◌, ◌^◌, ◌<◌, [], position, IfOk, OnOk, OnErr};
+ghost use Rattle.std.specs.Prelude.{◌≡◌, ◌^◌, ◌<◌, [], false, position, IfOk, OnOk, OnErr};
 ghost use Rattle.amf_graph.specs.Building.{kind_of, leaf_head, shape_head, begun, closed, more_part, shut, size_of};
 ghost use Rattle.amf_graph.specs.Bodies.{TakesPart, body_node};
 ghost use Rattle.amf_graph.specs.Renumbered.{renumbered_node, number_in, HaveNumbers};
@@ -41,6 +41,15 @@ impl Node {
         Node {
             open: false,
             body: Body::Leaf(leaf),
+        }
+    }
+
+    pub(crate) fn of_body(is_open: bool, body: Body) -> Node
+        ensures { result ≡ body_node is_open body }
+    {
+        Node {
+            open: is_open,
+            body,
         }
     }
 

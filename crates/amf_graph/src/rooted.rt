@@ -1,11 +1,16 @@
-ghost use Rattle.std.specs.Prelude.{◌≡◌, ◌<◌, length, get_or, IfOk};
+ghost use Rattle.std.specs.Prelude.{◌≡◌, ◌<◌, ◌^◌, false, length, get_or, IfOk};
+ghost use Rattle.std.specs.List.{AllByRecursion};
 ghost use Rattle.amf_graph.specs.Arena.{IsFinished, Names, text_at, no_traits};
+ghost use Rattle.amf_graph.specs.Bodies.{body_node};
 ghost use Rattle.amf_graph.specs.Bounds.{IsWithinBounds};
 ghost use Rattle.amf_graph.specs.Building.{stored_at};
 ghost use Rattle.amf_graph.specs.Renumbered.{numbers_of, renumbered, IsPart};
+ghost use Rattle.amf_graph.specs.StandIns.{GraphStandsFor};
 ghost use Rattle.amf_graph.specs.Views.{Shows, ShowsTraits};
 
+use crate::body::Body;
 use crate::renumber::{places_by_node, renumbered};
+use crate::stand_ins::stand_in;
 use crate::store::Store;
 use crate::{NodeId, NodeView, TextId, TraitsId, TraitsView, Value};
 use amf_wire::Memory;
@@ -57,11 +62,42 @@ impl Rooted {
         self.root
     }
 
+    /// The same graph with another root.
+    pub fn rooted_at(self, root: Value) -> Rooted
+        requires { Names self.arena root }
+        ensures arena { result.arena ≡ self.arena }
+        ensures root { result.root ≡ root }
+    {
+        Rooted::new(self.store, root)
+    }
+
     /// How many nodes it has, also such that the root does not reach.
     pub fn node_count(&self) -> u32
         ensures { result ≡ length self.now.arena.nodes }
     {
         self.store.node_count() as u32
+    }
+
+    pub(crate) fn text_count(&self) -> u32
+        ensures count { result ≡ length self.now.arena.texts }
+        ensures few { result < 2 ^ 28 }
+    {
+        self.store.text_count() as u32
+    }
+
+    pub(crate) fn traits_count(&self) -> u32
+        ensures count { result ≡ length self.now.arena.traits }
+        ensures few { result < 2 ^ 28 }
+    {
+        self.store.traits_count() as u32
+    }
+
+    /// A node, as it is kept.
+    pub(crate) fn body(&self, node: NodeId) -> &Body
+        requires { node.0 < length self.now.arena.nodes }
+        ensures { stored_at self.now.arena node.0 ≡ body_node false result.now }
+    {
+        self.store.body(node)
     }
 
     /// What a node holds.
@@ -98,5 +134,17 @@ impl Rooted {
         let store = self.store.renumbered(alloc, order, &numbers)?;
         let root = renumbered(self.root, &numbers);
         Ok(Rooted::new(store, root))
+    }
+
+    /// The graph with doubles for integers, and for each node among its values the one that stands in for it, by its number.
+    /// Each class takes further members and has no sealed ones: an object's sealed pairs stand before its members. Texts,
+    /// classes and nodes keep their places. It gives up where there is no memory.
+    pub fn standing_in(&self, alloc: Global, stand_ins: &[Value]) -> Result<Rooted, Memory>
+        requires all { length stand_ins.now ≡ length self.now.arena.nodes }
+        requires names { AllByRecursion (Names self.now.arena) stand_ins.now }
+        ensures { IfOk result (λ graph. GraphStandsFor stand_ins.now self.now graph) }
+    {
+        let store = self.store.standing_in(alloc, stand_ins)?;
+        Ok(Rooted::new(store, stand_in(self.root, stand_ins)))
     }
 }

@@ -1,15 +1,19 @@
 ghost use Rattle.std.specs.Prelude.{[], ◌≡◌, ◌<◌, ◌≤◌, ◌^◌, length, map, slice_get, get_or, false, IfOk, OnOk, OnErr, IsErrOf, MatchOption, Some};
-ghost use Rattle.std.specs.List.{AllByRecursion};
+ghost use Rattle.std.specs.List.{AllByRecursion, AllZip};
 ghost use Rattle.amf_graph.specs.Arena.{text_at, no_traits, HeadNames, IsNodeIn, IsBuilt};
 ghost use Rattle.amf_graph.specs.Building.{no_arena, no_stored, kept_text, kept_traits, kept_node, stored_traits, stored_at, changed, more_part, shut, closed, leaf_head, kind_of, size_of, IsFirstOpen};
-ghost use Rattle.amf_graph.specs.Bodies.{TakesPart};
+ghost use Rattle.amf_graph.specs.Bodies.{TakesPart, body_node};
+ghost use Rattle.amf_graph.specs.Copying.{joined};
 ghost use Rattle.amf_graph.specs.Renumbered.{numbers_of, renumbered_node, renumbered_arena, number_in, HaveNumbers};
+ghost use Rattle.amf_graph.specs.HaveStandIns.{NodeHasStandIns};
+ghost use Rattle.amf_graph.specs.StandIns.{NodeStandsFor, opened_traits};
 ghost use Rattle.amf_graph.specs.Views.{Shows, ShowsTraits};
 
 use crate::body::Body;
 use crate::class::Class;
 use crate::node::{Node, first_open};
-use crate::{Leaf, NodeId, NodeKind, NodeView, Part, TextId, TraitsId, TraitsView};
+use crate::stand_ins::{opened_classes, stand_in_nodes};
+use crate::{Leaf, NodeId, NodeKind, NodeView, Part, TextId, TraitsId, TraitsView, Value};
 use amf_wire::{Memory, Name};
 use std::alloc::Global;
 use std::marker::Model;
@@ -39,6 +43,30 @@ impl Store {
             traits: Vec::new(alloc),
             nodes: Vec::new(alloc),
         }
+    }
+
+    pub(crate) fn of(texts: Vec<Name>, traits: Vec<Class>, nodes: Vec<Node>) -> Store
+        ensures { result ≡ record { texts = texts.items; traits = traits.items; nodes = nodes.items } }
+    {
+        Store {
+            texts,
+            traits,
+            nodes,
+        }
+    }
+
+    /// Keeps what another store has, behind what is there.
+    pub(crate) fn append(&mut self, mut more: Store) -> Result<(), Memory>
+        ensures ok { OnOk result (self.new ≡ joined self.old more) }
+        ensures err { OnErr result (self.new ≡ self.old) }
+    {
+        self.texts.reserve(more.texts.len())?;
+        self.traits.reserve(more.traits.len())?;
+        self.nodes.reserve(more.nodes.len())?;
+        self.texts.append(&mut more.texts)?;
+        self.traits.append(&mut more.traits)?;
+        self.nodes.append(&mut more.nodes)?;
+        Ok(())
     }
 
     pub(crate) fn text_count(&self) -> usize
@@ -136,6 +164,15 @@ impl Store {
         first_open(&self.nodes)
     }
 
+    /// A closed node, as it is kept.
+    pub(crate) fn body(&self, node: NodeId) -> &Body
+        requires there { node.0 < length self.now.nodes }
+        requires closed { (stored_at self.now node.0).is_open ≡ false }
+        ensures { stored_at self.now node.0 ≡ body_node false result.now }
+    {
+        self.nodes[node.0 as usize].body()
+    }
+
     /// What a node without parts holds.
     fn leaf<'a>(&'a self, leaf: &'a Leaf) -> NodeView<'a>
         requires { HeadNames self.now (leaf_head leaf.now) }
@@ -212,6 +249,20 @@ impl Store {
             texts: copied_texts(alloc, &self.texts)?,
             traits: copied_traits(alloc, &self.traits)?,
             nodes: renumbered_nodes(alloc, &self.nodes, order, numbers)?,
+        })
+    }
+
+    /// The same texts and nodes, where each class is opened and each value is the one that stands for it.
+    pub(crate) fn standing_in(&self, alloc: Global, stand_ins: &[Value]) -> Result<Store, Memory>
+        requires { AllByRecursion (NodeHasStandIns self.now.traits stand_ins.now) self.now.nodes }
+        ensures texts { IfOk result (λ store. store.texts ≡ self.now.texts) }
+        ensures traits { IfOk result (λ store. store.traits ≡ map opened_traits self.now.traits) }
+        ensures nodes { IfOk result (λ store. AllZip (NodeStandsFor self.now.traits stand_ins.now) self.now.nodes store.nodes) }
+    {
+        Ok(Store {
+            texts: copied_texts(alloc, &self.texts)?,
+            traits: opened_classes(alloc, &self.traits)?,
+            nodes: stand_in_nodes(alloc, &self.nodes, &self.traits, stand_ins)?,
         })
     }
 }

@@ -1,0 +1,7 @@
+use Rattle.std.proofs.Common.{◌≡◌, take}
+use Rattle.amf_graph.specs.Grafting.{copied_traits}
+use Rattle.amf_graph.specs.Copying.{renaming_of}
+use Rattle.amf_graph.proofs.copying.Copying.traits_copies.Given as goal
+
+abbrev pub invariant-loop-place : goal.invariant-loop-place
+invariant-loop-place l = l.copies.items ≡ copied_traits l.graph.arena (renaming_of l.self) (take l.place l.self.traits.items)

@@ -1,0 +1,7 @@
+use Rattle.std.proofs.Common.{take}
+use Rattle.std.specs.List.{AllZip}
+use Rattle.amf_graph.specs.StandIns.{NodeStandsFor}
+use Rattle.amf_graph.proofs.stand_ins.stand_in_nodes.Given as goal
+
+abbrev pub invariant-loop-node : goal.invariant-loop-node
+invariant-loop-node l = AllZip (NodeStandsFor l.classes l.stand_ins) (take l.node-index l.nodes) l.copies.items

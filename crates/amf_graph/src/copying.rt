@@ -1,0 +1,284 @@
+//! Copies of texts, traits and nodes, under the numbers of the copies.
+
+ghost use Rattle.std.specs.Prelude.{◌≡◌, ◌+◌, ◌<◌, ◌^◌, ◌↔◌, ◌⊎◌, length, get_or, IsTrue, IfOk};
+ghost use Rattle.std.specs.List.{AllByRecursion};
+ghost use Rattle.amf_graph.specs.Arena.{Names, no_traits};
+ghost use Rattle.amf_graph.specs.Bodies.{body_head, body_names, body_values, one_or_none};
+ghost use Rattle.amf_graph.specs.Bounds.{IsWithinBounds};
+ghost use Rattle.amf_graph.specs.Building.{leaf_head};
+ghost use Rattle.amf_graph.specs.Copying.{cut_of, renaming_of, copies_of, ValueCounted, PairCounted, HeadCounted, TraitsCounted, AreCounts, IsBehind};
+ghost use Rattle.amf_graph.specs.Grafting.{IsCut, renamed_value, renamed_values, renamed_names, renamed_head, renamed_traits, copied_texts, copied_traits, copied_nodes};
+ghost use Rattle.amf_graph.specs.Views.{named, flat};
+
+use crate::body::Body;
+use crate::class::Class;
+use crate::limits::{MAX_COUNT, MAX_TRAITS};
+use crate::node::Node;
+use crate::number_set::NumberSet;
+use crate::reach::reached;
+use crate::store::Store;
+use crate::uses::{used_texts, used_traits};
+use crate::{Leaf, NodeId, Rooted, TextId, TraitsId, Value};
+use amf_wire::{Memory, Name};
+use std::alloc::Global;
+use std::marker::Model;
+
+/// What is copied, and the numbers of the first copies.
+#[derive(Drop)]
+pub(crate) struct Copying {
+    texts: NumberSet,
+    traits: NumberSet,
+    nodes: NumberSet,
+    first_text: u32,
+    first_traits: u32,
+    first_node: u32,
+}
+
+impl Model for Copying {
+    ghost use Rattle.std.specs.Prelude.{◌<◌, ◌^◌};
+    ghost use Rattle.amf_graph.specs.Copying.{Plan};
+
+    ghost Value = { Plan };
+
+    ghost view = { λ c. record { texts = c.texts; traits = c.traits; nodes = c.nodes; first_text = c.first_text; first_traits = c.first_traits; first_node = c.first_node } };
+
+    ghost invariant = { λ c. (c.first_text < 2 ^ 28) × (c.first_traits < 2 ^ 28) × (c.first_node < 2 ^ 28) };
+}
+
+impl Copying {
+    fn text(&self, text: TextId) -> TextId
+        requires { text.0 < self.now.texts.count }
+        ensures { result.0 ≡ (renaming_of self.now).texts text.0 }
+    {
+        TextId(self.first_text + self.texts.place(text.0))
+    }
+
+    fn class(&self, traits: TraitsId) -> TraitsId
+        requires { traits.0 < self.now.traits.count }
+        ensures { result.0 ≡ (renaming_of self.now).traits traits.0 }
+    {
+        TraitsId(self.first_traits + self.traits.place(traits.0))
+    }
+
+    fn node(&self, node: NodeId) -> NodeId
+        requires { node.0 < self.now.nodes.count }
+        ensures { result.0 ≡ (renaming_of self.now).nodes node.0 }
+    {
+        NodeId(self.first_node + self.nodes.place(node.0))
+    }
+
+    fn value(&self, value: Value) -> Value
+        requires { ValueCounted self.now value }
+        ensures { result ≡ renamed_value (renaming_of self.now) value }
+    {
+        match value {
+            Value::Text(text) => Value::Text(self.text(text)),
+            Value::Node(node) => Value::Node(self.node(node)),
+            _ => value,
+        }
+    }
+
+    fn option(&self, value: Option<Value>) -> Option<Value>
+        requires { AllByRecursion (ValueCounted self.now) (one_or_none value) }
+        ensures { one_or_none result ≡ renamed_values (renaming_of self.now) (one_or_none value) }
+    {
+        match value {
+            Some(value) => Some(self.value(value)),
+            None => None,
+        }
+    }
+
+    /// Copies of the values.
+    pub(crate) fn values(&self, alloc: Global, values: &[Value]) -> Result<Vec<Value>, Memory>
+        requires { AllByRecursion (ValueCounted self.now) values.now }
+        ensures { IfOk result (λ copies. copies.items ≡ renamed_values (renaming_of self.now) values.now) }
+    {
+        let mut copies = Vec::new(alloc);
+        for value in values {
+            copies.push(self.value(*value))?;
+        }
+        Ok(copies)
+    }
+
+    fn pairs(
+        &self,
+        alloc: Global,
+        pairs: &[(TextId, Value)],
+    ) -> Result<Vec<(TextId, Value)>, Memory>
+        requires { AllByRecursion (PairCounted self.now) (named pairs.now) }
+        ensures { IfOk result (λ copies. named copies.items ≡ renamed_names (renaming_of self.now) (named pairs.now)) }
+    {
+        let mut copies = Vec::new(alloc);
+        for (name, value) in pairs {
+            let pair = (self.text(*name), self.value(*value));
+            copies.push(pair)?;
+        }
+        Ok(copies)
+    }
+
+    fn entries(
+        &self,
+        alloc: Global,
+        entries: &[(Value, Value)],
+    ) -> Result<Vec<(Value, Value)>, Memory>
+        requires { AllByRecursion (ValueCounted self.now) (flat entries.now) }
+        ensures { IfOk result (λ copies. flat copies.items ≡ renamed_values (renaming_of self.now) (flat entries.now)) }
+    {
+        let mut copies = Vec::new(alloc);
+        for (key, value) in entries {
+            let entry = (self.value(*key), self.value(*value));
+            copies.push(entry)?;
+        }
+        Ok(copies)
+    }
+
+    fn leaf(&self, alloc: Global, leaf: &Leaf) -> Result<Leaf, Memory>
+        requires { HeadCounted self.now (leaf_head leaf.now) }
+        ensures { IfOk result (λ copy. leaf_head copy ≡ renamed_head (renaming_of self.now) (leaf_head leaf.now)) }
+    {
+        match leaf {
+            Leaf::XmlDocument(text) => Ok(Leaf::XmlDocument(self.text(*text))),
+            Leaf::Xml(text) => Ok(Leaf::Xml(self.text(*text))),
+            _ => leaf.copy(alloc),
+        }
+    }
+
+    fn body(&self, alloc: Global, body: &Body) -> Result<Body, Memory>
+        requires head { HeadCounted self.now (body_head body.now) }
+        requires names { AllByRecursion (PairCounted self.now) (body_names body.now) }
+        requires values { AllByRecursion (ValueCounted self.now) (body_values body.now) }
+        ensures head { IfOk result (λ copy. body_head copy ≡ renamed_head (renaming_of self.now) (body_head body.now)) }
+        ensures names { IfOk result (λ copy. body_names copy ≡ renamed_names (renaming_of self.now) (body_names body.now)) }
+        ensures values { IfOk result (λ copy. body_values copy ≡ renamed_values (renaming_of self.now) (body_values body.now)) }
+    {
+        Ok(match body {
+            Body::Leaf(leaf) => Body::Leaf(self.leaf(alloc, leaf)?),
+            Body::Array { items, names } => Body::Array {
+                items: self.values(alloc, items)?,
+                names: self.pairs(alloc, names)?,
+            },
+            Body::Object {
+                traits,
+                sealed,
+                members,
+            } => Body::Object {
+                traits: self.class(*traits),
+                sealed: self.values(alloc, sealed)?,
+                members: self.pairs(alloc, members)?,
+            },
+            Body::Wrapper { class, value } => Body::Wrapper {
+                class: *class,
+                value: self.option(*value),
+            },
+            Body::Values { fixed, of, items } => Body::Values {
+                fixed: *fixed,
+                of: self.text(*of),
+                items: self.values(alloc, items)?,
+            },
+            Body::Dictionary { weak, entries } => Body::Dictionary {
+                weak: *weak,
+                entries: self.entries(alloc, entries)?,
+            },
+        })
+    }
+
+    fn traits(&self, alloc: Global, graph: &Rooted, traits: TraitsId) -> Result<Class, Memory>
+        requires there { traits.0 < length graph.now.arena.traits }
+        requires counted { TraitsCounted self.now (get_or graph.now.arena.traits traits.0 no_traits) }
+        ensures { IfOk result (λ copy. copy ≡ renamed_traits (renaming_of self.now) (get_or graph.now.arena.traits traits.0 no_traits)) }
+    {
+        let class = graph.traits(traits);
+        let names = class.sealed;
+        let mut sealed = Vec::new(alloc);
+        for name in names {
+            sealed.push(self.text(*name))?;
+        }
+        Ok(Class::new(self.text(class.class), class.dynamic, sealed))
+    }
+
+    fn text_copies(&self, alloc: Global, graph: &Rooted) -> Result<Vec<Name>, Memory>
+        requires { AreCounts self.now graph.now.arena }
+        ensures { IfOk result (λ copies. copies.items ≡ copied_texts graph.now.arena self.now.texts.items) }
+    {
+        let mut copies = Vec::new(alloc);
+        for place in 0..self.texts.len() {
+            let text = graph.text(TextId(self.texts.at(place)));
+            copies.push(Name::of_bytes(alloc, text)?)?;
+        }
+        Ok(copies)
+    }
+
+    fn traits_copies(&self, alloc: Global, graph: &Rooted) -> Result<Vec<Class>, Memory>
+        requires { AreCounts self.now graph.now.arena }
+        ensures { IfOk result (λ copies. copies.items ≡ copied_traits graph.now.arena (renaming_of self.now) self.now.traits.items) }
+    {
+        graph.is_finished();
+        let mut copies = Vec::new(alloc);
+        for place in 0..self.traits.len() {
+            let traits = TraitsId(self.traits.at(place));
+            copies.push(self.traits(alloc, graph, traits)?)?;
+        }
+        Ok(copies)
+    }
+
+    fn node_copies(&self, alloc: Global, graph: &Rooted) -> Result<Vec<Node>, Memory>
+        requires { AreCounts self.now graph.now.arena }
+        ensures { IfOk result (λ copies. copies.items ≡ copied_nodes graph.now.arena (renaming_of self.now) self.now.nodes.items) }
+    {
+        graph.is_finished();
+        let mut copies = Vec::new(alloc);
+        for place in 0..self.nodes.len() {
+            let body = graph.body(NodeId(self.nodes.at(place)));
+            copies.push(Node::of_body(false, self.body(alloc, body)?))?;
+        }
+        Ok(copies)
+    }
+
+    /// What the values use. The copies get the next numbers behind what the store has. It gives up where there is no memory.
+    pub(crate) fn of(
+        alloc: Global,
+        graph: &Rooted,
+        values: &[Value],
+        store: &Store,
+    ) -> Result<Copying, Memory>
+        requires names { AllByRecursion (Names graph.now.arena) values.now }
+        requires bounds { IsWithinBounds store.now }
+        ensures exact { IfOk result (λ copying. IsCut graph.now.arena values.now (cut_of copying)) }
+        ensures counts { IfOk result (λ copying. AreCounts copying graph.now.arena) }
+        ensures behind { IfOk result (λ copying. IsBehind copying store.now) }
+    {
+        let nodes = reached(alloc, graph, values)?;
+        let traits = used_traits(alloc, graph, &nodes)?;
+        let texts = used_texts(alloc, graph, values, &nodes, &traits)?;
+        Ok(Copying {
+            texts,
+            traits,
+            nodes,
+            first_text: store.text_count() as u32,
+            first_traits: store.traits_count() as u32,
+            first_node: store.node_count() as u32,
+        })
+    }
+
+    /// Whether the copies pass what a graph has room for.
+    pub(crate) fn is_too_much(&self) -> bool
+        ensures { IsTrue result ↔ ((MAX_COUNT < self.now.first_text + length self.now.texts.items) ⊎ (MAX_TRAITS < self.now.first_traits + length self.now.traits.items) ⊎ (MAX_COUNT < self.now.first_node + length self.now.nodes.items)) }
+    {
+        let texts = self.first_text as usize + self.texts.len();
+        let traits = self.first_traits as usize + self.traits.len();
+        let nodes = self.first_node as usize + self.nodes.len();
+        texts > MAX_COUNT as usize || traits > MAX_TRAITS as usize || nodes > MAX_COUNT as usize
+    }
+
+    /// The copies. It gives up where there is no memory.
+    pub(crate) fn copies(&self, alloc: Global, graph: &Rooted) -> Result<Store, Memory>
+        requires { AreCounts self.now graph.now.arena }
+        ensures { IfOk result (λ store. store ≡ copies_of graph.now.arena self.now) }
+    {
+        Ok(Store::of(
+            self.text_copies(alloc, graph)?,
+            self.traits_copies(alloc, graph)?,
+            self.node_copies(alloc, graph)?,
+        ))
+    }
+}

@@ -1,0 +1,162 @@
+//! The texts and traits that nodes and values use.
+
+ghost use Rattle.std.specs.Prelude.{◌≡◌, ◌<◌, ◌++◌, [], false, length, get_or, IfOk, OnOk};
+ghost use Rattle.std.specs.List.{AllByRecursion};
+ghost use Rattle.amf_graph.specs.Arena.{Names, no_traits};
+ghost use Rattle.amf_graph.specs.Building.{stored_at};
+ghost use Rattle.amf_graph.specs.Gather.{placed, with_all, text_in, texts_in, pair_texts, node_texts, traits_texts, head_traits, texts_of_nodes, traits_of_nodes, texts_of_traits};
+ghost use Rattle.amf_graph.specs.Bodies.{body_head, body_node};
+ghost use Rattle.amf_graph.specs.Views.{named, flat};
+
+use crate::body::Body;
+use crate::number_set::NumberSet;
+use crate::{Leaf, NodeId, Rooted, TextId, TraitsId, Value};
+use amf_wire::Memory;
+use std::alloc::Global;
+
+/// Appends the text of a value that is one.
+fn push_text(value: Value, texts: &mut Vec<u32>) -> Result<(), Memory>
+    ensures { OnOk result (texts.new.items ≡ texts.old.items ++ text_in value) }
+{
+    if let Value::Text(text) = value {
+        texts.push(text.0)?;
+    }
+    Ok(())
+}
+
+/// Appends the texts among the values.
+fn push_texts(values: &[Value], texts: &mut Vec<u32>) -> Result<(), Memory>
+    ensures { OnOk result (texts.new.items ≡ texts.old.items ++ texts_in values.now) }
+{
+    for value in values {
+        push_text(*value, texts)?;
+    }
+    Ok(())
+}
+
+/// Appends the names of pairs, and the texts among their values.
+fn push_pair_texts(pairs: &[(TextId, Value)], texts: &mut Vec<u32>) -> Result<(), Memory>
+    ensures { OnOk result (texts.new.items ≡ texts.old.items ++ pair_texts (named pairs.now)) }
+{
+    for (name, value) in pairs {
+        texts.push(name.0)?;
+        push_text(*value, texts)?;
+    }
+    Ok(())
+}
+
+/// Appends the texts among keys and values.
+fn push_entry_texts(entries: &[(Value, Value)], texts: &mut Vec<u32>) -> Result<(), Memory>
+    ensures { OnOk result (texts.new.items ≡ texts.old.items ++ texts_in (flat entries.now)) }
+{
+    for (key, value) in entries {
+        push_text(*key, texts)?;
+        push_text(*value, texts)?;
+    }
+    Ok(())
+}
+
+/// Appends the texts that a node uses itself.
+fn push_node_texts(body: &Body, texts: &mut Vec<u32>) -> Result<(), Memory>
+    ensures { OnOk result (texts.new.items ≡ texts.old.items ++ node_texts (body_node false body.now)) }
+{
+    match body {
+        Body::Leaf(Leaf::XmlDocument(text) | Leaf::Xml(text)) => texts.push(text.0)?,
+        Body::Leaf(_) => {}
+        Body::Array { items, names } => {
+            push_texts(items, texts)?;
+            push_pair_texts(names, texts)?;
+        }
+        Body::Object {
+            sealed,
+            members,
+            ..
+        } => {
+            push_texts(sealed, texts)?;
+            push_pair_texts(members, texts)?;
+        }
+        Body::Wrapper { value, .. } => {
+            if let Some(value) = *value {
+                push_text(value, texts)?;
+            }
+        }
+        Body::Values { of, items, .. } => {
+            texts.push(of.0)?;
+            push_texts(items, texts)?;
+        }
+        Body::Dictionary { entries, .. } => push_entry_texts(entries, texts)?,
+    }
+    Ok(())
+}
+
+/// The texts of a class: its name, and those of its sealed members.
+fn traits_texts(alloc: Global, graph: &Rooted, traits: TraitsId) -> Result<Vec<u32>, Memory>
+    requires { traits.0 < length graph.now.arena.traits }
+    ensures { IfOk result (λ texts. texts.items ≡ traits_texts (get_or graph.now.arena.traits traits.0 no_traits)) }
+{
+    let class = graph.traits(traits);
+    let sealed = class.sealed;
+    let mut texts = Vec::new(alloc);
+    texts.push(class.class.0)?;
+    for name in sealed {
+        texts.push(name.0)?;
+    }
+    Ok(texts)
+}
+
+/// Appends the traits of an object.
+fn push_traits(body: &Body, traits: &mut Vec<u32>) -> Result<(), Memory>
+    ensures { OnOk result (traits.new.items ≡ traits.old.items ++ head_traits (body_head body.now)) }
+{
+    if let Body::Object { traits: of, .. } = body {
+        traits.push(of.0)?;
+    }
+    Ok(())
+}
+
+/// The traits of the objects among the nodes. It gives up where there is no memory.
+pub(crate) fn used_traits(
+    alloc: Global,
+    graph: &Rooted,
+    nodes: &NumberSet,
+) -> Result<NumberSet, Memory>
+    requires { nodes.now.count ≡ length graph.now.arena.nodes }
+    ensures { IfOk result (λ traits. traits ≡ placed (length graph.now.arena.traits) (with_all (traits_of_nodes graph.now.arena nodes.now.items) [])) }
+{
+    graph.is_finished();
+    let mut used = Vec::new(alloc);
+    for place in 0..nodes.len() {
+        push_traits(graph.body(NodeId(nodes.at(place))), &mut used)?;
+    }
+    let mut traits = NumberSet::new(alloc, graph.traits_count())?;
+    traits.add_all(&used)?;
+    Ok(traits)
+}
+
+/// The texts that the values, the nodes and the traits use. It gives up where there is no memory.
+pub(crate) fn used_texts(
+    alloc: Global,
+    graph: &Rooted,
+    values: &[Value],
+    nodes: &NumberSet,
+    traits: &NumberSet,
+) -> Result<NumberSet, Memory>
+    requires values { AllByRecursion (Names graph.now.arena) values.now }
+    requires nodes { nodes.now.count ≡ length graph.now.arena.nodes }
+    requires traits { traits.now.count ≡ length graph.now.arena.traits }
+    ensures { IfOk result (λ texts. texts ≡ placed (length graph.now.arena.texts) (with_all (texts_in values.now ++ (texts_of_nodes graph.now.arena nodes.now.items ++ texts_of_traits graph.now.arena traits.now.items)) [])) }
+{
+    graph.is_finished();
+    let mut used = Vec::new(alloc);
+    push_texts(values, &mut used)?;
+    for place in 0..nodes.len() {
+        push_node_texts(graph.body(NodeId(nodes.at(place))), &mut used)?;
+    }
+    for class in 0..traits.len() {
+        let more = traits_texts(alloc, graph, TraitsId(traits.at(class)))?;
+        used.extend_from_slice(&more)?;
+    }
+    let mut texts = NumberSet::new(alloc, graph.text_count())?;
+    texts.add_all(&used)?;
+    Ok(texts)
+}
