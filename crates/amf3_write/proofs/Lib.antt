@@ -1,6 +1,7 @@
 -- The lemmas that several proofs share.
 pub mod Wrote
 pub mod WroteParts
+pub mod Ready
 pub mod NamedPairs
 pub mod Runs
 pub mod Leading
@@ -12,3 +13,4 @@ pub mod Least
 pub mod FoundSteps
 pub mod PartReached
 pub mod PartNodes
+pub mod PartTables

@@ -2,16 +2,14 @@
 use Rattle.std.proofs.Common.{◌≡◌, ℕ, zero, suc, ◌<◌, List, [], ◌∷◌, length, map, take, sym, refl, ap, ◌∙◌, subst, inl, inr}
 use Rattle.std.specs.List.{AllByRecursion}
 use Rattle.std.proofs.lemmas.List.{take_at}
-use Rattle.amf_io.specs.Field.{flat}
 use Rattle.amf_wire.specs.Style.{canonical}
 use Rattle.amf_graph.specs.declared.value.NodeId.{NodeId}
 use Rattle.amf_graph.specs.Graph.{Value, leaf, node, Graph, node_at}
 use Rattle.amf_tables.specs.Tables.{Tables, add_node}
 use Rattle.amf_tables.specs.Refusals3.{leaf_marker}
 use Rattle.amf_tables.specs.ByteSpelling.{Spelling, Part, step, value, byte, layout, leaf_layout, Parts, ValueBy, NodeIn, Spells}
-use Rattle.amf_tables.proofs.BytesOf.{to_spells}
-use Rattle.amf3_write.specs.Written.{AppendsPart}
-use Rattle.amf3_write.specs.Writes.{BeginsWith}
+use Rattle.amf3_write.specs.declared.output.Output.{Output}
+use Rattle.amf3_write.specs.Writes.{BeginsWith, WritesValue}
 use Rattle.amf3_write.proofs.NamedPairs.{all_push}
 
 module _ (g : Graph) where
@@ -39,11 +37,11 @@ module _ (g : Graph) where
   stays_node (suc d) i t b t' (inr p) h =
       stays_parts (Spells d canonical g) (stays_value (NodeIn d canonical g) (stays_node d)) (layout (node_at g i).head p.wire (node_at g i).values) (add_node t i) b t' p.body (all_push (λ j. j < length g.nodes) t.nodes i h p.exists)
 
-  pub part_inside : (v : Value) (t t' : Tables) (old new : List ℕ) (n : ℕ) → length g.nodes ≡ n → AppendsPart g v t t' old new → AllByRecursion (λ i. i < n) t.nodes → AllByRecursion (λ i. i < n) t'.nodes
-  part_inside v t t' old new n e p h =
-      let height = p.1.0 in
-      subst (λ k. AllByRecursion (λ i. i < k) t'.nodes) e
-      (stays_value (NodeIn height canonical g) (stays_node height) v t (flat p.0) t' (to_spells height canonical g v t p.0 t' p.1.1) (subst (λ k. AllByRecursion (λ i. i < k) t.nodes) (sym e) h))
+  pub value_inside : (v : Value) (o n : Output) (k : ℕ) → length g.nodes ≡ k → WritesValue g v o n → AllByRecursion (λ i. i < k) o.tables.nodes → AllByRecursion (λ i. i < k) n.tables.nodes
+  value_inside v o n k e w h =
+      let height = w.spelled.0 in
+      subst (λ k. AllByRecursion (λ i. i < k) n.tables.nodes) e
+      (stays_value (NodeIn height canonical g) (stays_node height) v o.tables w.bytes n.tables w.spelled.1 (subst (λ k. AllByRecursion (λ i. i < k) o.tables.nodes) (sym e) h))
 
 map_take : (ns : List NodeId) (n : ℕ) → map {A = NodeId} {B = ℕ} (λ i. i.0) (take n ns) ≡ take n (map (λ i. i.0) ns)
 map_take ns zero = refl

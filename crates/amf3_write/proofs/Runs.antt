@@ -3,17 +3,17 @@ use Rattle.std.proofs.Common.{◌≡◌, ℕ, ◌+◌, ◌*◌, ◌≤◌, List,
 use Rattle.std.proofs.lemmas.List.{reverse-append, length-append}
 use Rattle.amf_graph.specs.declared.value.Value.{Value as Stored}
 use Rattle.amf_graph.specs.Graph.{Value, Graph}
-use Rattle.amf_graph.specs.Arena.{Arena, value_content}
+use Rattle.amf_graph.specs.declared.value.TextId.{TextId}
+use Rattle.amf_graph.specs.Arena.{Arena, text_at, value_content}
 use Rattle.amf_graph.specs.Views.{flat}
 use Rattle.amf_tables.specs.ByteSpelling.{Part, step, value, word, values_then, pairs_then}
-use Rattle.amf_iso.specs.Contents.{values_of, pair_content, named_pairs}
+use Rattle.amf_iso.specs.Contents.{values_of, pairs_of, ArePairs}
 use Rattle.amf3_write.specs.declared.unwritten.Unwritten.{Unwritten}
-use Rattle.amf3_write.specs.Unwritten.{run_parts, next_parts, parts_left, IsRunOf, AreRunsOf, run_turns, turns_left}
+use Rattle.amf3_write.specs.Unwritten.{run_parts, next_parts, parts_left, IsRunOf, AreRunsOf, AreStoredPairs, run_turns, turns_left}
 use Rattle.amf3_write.proofs.NamedPairs.{all_push}
 use Rattle.amf3_write.specs.declared.output.Output.{Output}
 use Rattle.amf3_write.specs.Writes.{Leads}
 use Rattle.amf3_write.proofs.Leading.{leads_then, leads_from}
-use denote.Ref.{Bor}
 
 pub parts_push : (a : Arena) (runs : List Unwritten) (run : Unwritten) → parts_left a (runs ++ run ∷ []) ≡ run_parts a run ++ parts_left a runs
 parts_push a [] run = sym (append-nil (run_parts a run))
@@ -45,8 +45,12 @@ pub pairs_before : (ws : List (List ℕ × Value)) (ps old mid now : List Part) 
 pairs_before ws ps old mid now e f = ap (λ w. w ++ old) (sym (pairs_joined ws ps)) ∙ append_assoc (pairs_then ws []) ps old ∙ ap (λ w. pairs_then ws [] ++ w) (sym e) ∙ sym f
 
 -- the last of pairs in reverse is the first
-pub pairs_popped : (a : Arena) (all rest : List (Bor (List ℕ) × Stored)) (p : Bor (List ℕ) × Stored) → all ≡ rest ++ p ∷ [] → pairs_then (named_pairs a (reverse all)) [] ≡ step (word p.0.now) ∷ value (value_content a p.1) ∷ pairs_then (named_pairs a (reverse rest)) []
-pairs_popped a all rest p e = ap (λ w. pairs_then (named_pairs a w) []) (ap reverse e ∙ reverse-append rest (p ∷ []))
+pub pairs_popped : (a : Arena) (all rest : List (TextId × Stored)) (p : TextId × Stored) → all ≡ rest ++ p ∷ [] → pairs_then (pairs_of a (reverse all)) [] ≡ step (word (text_at a p.0.0)) ∷ value (value_content a p.1) ∷ pairs_then (pairs_of a (reverse rest)) []
+pairs_popped a all rest p e = ap (λ w. pairs_then (pairs_of a w) []) (ap reverse e ∙ reverse-append rest (p ∷ []))
+
+pub stored_pairs : (a : Arena) (ps : List (TextId × Stored)) → ArePairs a ps → AreStoredPairs a ps
+stored_pairs a [] h = tt
+stored_pairs a (p ∷ ps) h = (h.0, stored_pairs a ps h.1)
 
 pub flat_length : (es : List (Stored × Stored)) → length (flat es) ≡ 2 * length es
 flat_length [] = refl

@@ -1,6 +1,7 @@
 -- The definitions that contracts cite.
 pub mod Written
 pub mod PartLacks
+pub mod PartTables
 -- Devices of the proofs: no clause of a public call needs them.
 pub mod Writes
 pub mod Contents

@@ -2,11 +2,12 @@
 use Rattle.std.specs.Prelude.{ℕ, ◌+◌, ◌*◌, ◌<◌, ◌≤◌, ◌⊎◌, List, [], ◌∷◌, ◌++◌, length, reverse, Option, Some, None}
 use Rattle.std.specs.List.{AllByRecursion}
 use Rattle.amf_graph.specs.declared.value.Value.{Value as Stored}
-use Rattle.amf_graph.specs.Arena.{Arena, Names, value_content}
+use Rattle.amf_graph.specs.declared.value.TextId.{TextId}
+use Rattle.amf_graph.specs.Arena.{Arena, Names, IsTextId, value_content}
 use Rattle.amf_graph.specs.Order.{Absent}
 use Rattle.amf_graph.specs.Views.{flat}
 use Rattle.amf_tables.specs.ByteSpelling.{Part, value, values_then, pairs_then}
-use Rattle.amf_iso.specs.Contents.{values_of, AreValues, named_pairs, AreNamedPairs}
+use Rattle.amf_iso.specs.Contents.{values_of, pairs_of, AreValues}
 use Rattle.amf3_write.specs.declared.unwritten.Unwritten.{Unwritten}
 use Rattle.amf3_write.specs.declared.unwritten.Unwritten.TheVariants.{One, Values, Entries, Pairs}
 use Rattle.amf3_write.specs.Writes.{BeginsWith}
@@ -16,7 +17,7 @@ abbrev pub run_parts : Arena → Unwritten → List Part
 run_parts a (One v) = value (value_content a v) ∷ []
 run_parts a (Values vs) = values_then (values_of a vs.now) []
 run_parts a (Entries es) = values_then (values_of a (flat es.now)) []
-run_parts a (Pairs ps) = pairs_then (named_pairs a (reverse ps.items)) []
+run_parts a (Pairs ps) = pairs_then (pairs_of a (reverse ps.items)) []
 
 -- the parts of a stack, those of the last run first
 abbrev pub parts_left : Arena → List Unwritten → List Part
@@ -32,12 +33,18 @@ abbrev pub IsNextOf : Arena → Option Stored → Type 0
 IsNextOf a None = Unit {0}
 IsNextOf a (Some v) = Names a v
 
--- the values are the arena's, and the names are texts that a header has room for
+abbrev pub IsStoredPair : Arena → TextId × Stored → Type 0
+IsStoredPair a p = IsTextId a p.0.0 × Names a p.1
+
+abbrev pub AreStoredPairs : Arena → List (TextId × Stored) → Type 0
+AreStoredPairs a ps = AllByRecursion (IsStoredPair a) ps
+
+-- the values and the names are the arena's
 abbrev pub IsRunOf : Arena → Unwritten → Type 0
 IsRunOf a (One v) = Names a v
 IsRunOf a (Values vs) = AreValues a vs.now
 IsRunOf a (Entries es) = AreValues a (flat es.now)
-IsRunOf a (Pairs ps) = AreNamedPairs a ps.items
+IsRunOf a (Pairs ps) = AreStoredPairs a ps.items
 
 abbrev pub AreRunsOf : Arena → List Unwritten → Type 0
 AreRunsOf a runs = AllByRecursion (IsRunOf a) runs

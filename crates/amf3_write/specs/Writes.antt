@@ -4,7 +4,9 @@ use Rattle.amf_wire.specs.Style.{canonical}
 use Rattle.amf_graph.specs.declared.lack.Lack.{Lack}
 use Rattle.amf_graph.specs.declared.lack.LackKind.TheVariants.{EmptyName}
 use Rattle.amf_graph.specs.Graph.{Value, Graph, node_at, AllNamed}
+use Rattle.amf_graph.specs.Arena.{Arena}
 use Rattle.amf_graph.specs.Order.{Walks}
+use Rattle.amf_tables.specs.KnownWords.{Known, AreKnownOf}
 use Rattle.amf_tables.specs.Tables.{Tables}
 use Rattle.amf_tables.specs.ByteSpelling.{Texts, Step, StepOf, Part, Lifted, Parts, Spells}
 use Rattle.amf3_write.specs.declared.output.Output.{Output}
@@ -67,3 +69,8 @@ pub record HasFront (front : Front) (o : Output) : Type 0 where
 -- what the output began with, it still begins with
 abbrev pub Keeps : Output → Output → Type 0
 Keeps old new = (front : Front) → HasFront front old → HasFront front new
+
+-- every node that is done has a place, and what is known of the places of this graph's texts and traits is right
+pub record IsReady (a : Arena) (t : Tables) (noted : Known) : Type 0 where
+  pub placed : t.done ≡ t.nodes
+  pub known : AreKnownOf a t.words noted

@@ -14,6 +14,8 @@ impl Output {
         requires { length bytes.now < 2 ^ 28 }
         ensures ok { OnOk result (WritesSteps (spell.step (spell.number (2 * length bytes.now + 1)) ∷ spell.step (spell.raw bytes.now) ∷ []) self.old self.new) }
         ensures kept { Keeps self.old self.new }
+        ensures tables { self.new.tables ≡ self.old.tables }
+        ensures known { self.new.known ≡ self.old.known }
     {
         self.number(2 * bytes.len() as u32 + 1)?;
         self.raw(bytes)?;
@@ -24,6 +26,8 @@ impl Output {
     pub(crate) fn date(&mut self, milliseconds: Pattern) -> Result<(), Memory>
         ensures ok { OnOk result (WritesSteps (spell.step spell.unused ∷ spell.step (spell.raw (to_be_bytes w64 milliseconds.0)) ∷ []) self.old self.new) }
         ensures kept { Keeps self.old self.new }
+        ensures tables { self.new.tables ≡ self.old.tables }
+        ensures known { self.new.known ≡ self.old.known }
     {
         self.number(1)?;
         self.raw(&milliseconds.0.to_be_bytes())?;
@@ -35,6 +39,8 @@ impl Output {
         requires { count < 2 ^ 28 }
         ensures ok { OnOk result (WritesSteps (spell.step (spell.number (2 * count + 1)) ∷ spell.step (spell.flag fixed) ∷ []) self.old self.new) }
         ensures kept { Keeps self.old self.new }
+        ensures tables { self.new.tables ≡ self.old.tables }
+        ensures known { self.new.known ≡ self.old.known }
     {
         self.number(2 * count as u32 + 1)?;
         self.flag(fixed)?;
@@ -47,6 +53,8 @@ impl Output {
         requires in_range { AllByRecursion (FitsSigned w32) items.now }
         ensures ok { OnOk result (WritesSteps (spell.step (spell.number (2 * length items.now + 1)) ∷ spell.step (spell.flag fixed) ∷ spell.step (spell.raw (spell.signed_bytes items.now)) ∷ []) self.old self.new) }
         ensures kept { Keeps self.old self.new }
+        ensures tables { self.new.tables ≡ self.old.tables }
+        ensures known { self.new.known ≡ self.old.known }
     {
         self.vector(items.len(), fixed)?;
         self.int_items(items)?;
@@ -57,6 +65,8 @@ impl Output {
         requires { AllByRecursion (FitsSigned w32) items.now }
         ensures ok { OnOk result (WritesStep (spell.raw (spell.signed_bytes items.now)) self.old self.new) }
         ensures kept { Keeps self.old self.new }
+        ensures tables { self.new.tables ≡ self.old.tables }
+        ensures known { self.new.known ≡ self.old.known }
     {
         for int in items {
             self.raw(&int.to_be_bytes())?;
@@ -69,6 +79,8 @@ impl Output {
         requires { length items.now < 2 ^ 28 }
         ensures ok { OnOk result (WritesSteps (spell.step (spell.number (2 * length items.now + 1)) ∷ spell.step (spell.flag fixed) ∷ spell.step (spell.raw (spell.four_bytes items.now)) ∷ []) self.old self.new) }
         ensures kept { Keeps self.old self.new }
+        ensures tables { self.new.tables ≡ self.old.tables }
+        ensures known { self.new.known ≡ self.old.known }
     {
         self.vector(items.len(), fixed)?;
         self.uint_items(items)?;
@@ -78,6 +90,8 @@ impl Output {
     fn uint_items(&mut self, items: &[u32]) -> Result<(), Memory>
         ensures ok { OnOk result (WritesStep (spell.raw (spell.four_bytes items.now)) self.old self.new) }
         ensures kept { Keeps self.old self.new }
+        ensures tables { self.new.tables ≡ self.old.tables }
+        ensures known { self.new.known ≡ self.old.known }
     {
         for uint in items {
             self.raw(&uint.to_be_bytes())?;
@@ -90,6 +104,8 @@ impl Output {
         requires { length items.now < 2 ^ 28 }
         ensures ok { OnOk result (WritesSteps (spell.step (spell.number (2 * length (map (λ p. p.0) items.now) + 1)) ∷ spell.step (spell.flag fixed) ∷ spell.step (spell.raw (spell.eight_bytes (map (λ p. p.0) items.now))) ∷ []) self.old self.new) }
         ensures kept { Keeps self.old self.new }
+        ensures tables { self.new.tables ≡ self.old.tables }
+        ensures known { self.new.known ≡ self.old.known }
     {
         self.vector(items.len(), fixed)?;
         self.double_items(items)?;
@@ -99,6 +115,8 @@ impl Output {
     fn double_items(&mut self, items: &[Pattern]) -> Result<(), Memory>
         ensures ok { OnOk result (WritesStep (spell.raw (spell.eight_bytes (map (λ p. p.0) items.now))) self.old self.new) }
         ensures kept { Keeps self.old self.new }
+        ensures tables { self.new.tables ≡ self.old.tables }
+        ensures known { self.new.known ≡ self.old.known }
     {
         for double in items {
             self.raw(&double.0.to_be_bytes())?;

@@ -2,6 +2,7 @@
 #![tactic(auto)]
 
 mod first_lack;
+mod graph_tables;
 mod leaves;
 mod nodes;
 mod open;
@@ -15,5 +16,6 @@ mod unwritten;
 mod values;
 mod write;
 
-pub use part::{write3_part, write3_text};
+pub use graph_tables::GraphTables;
+pub use part::{write3_part, write3_part_of, write3_text, write3_text_of};
 pub use write::{write3, write3_keyed};

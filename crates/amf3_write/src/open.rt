@@ -8,12 +8,12 @@ ghost use Rattle.amf_tables.specs.ByteSpelling as spell;
 ghost use Rattle.amf_iso.specs.Contents.{values_of, pairs_of, AreValues, ArePairs};
 ghost use Rattle.amf3_write.specs.Contents.{node_parts};
 ghost use Rattle.amf3_write.specs.Unwritten.{AreRunsOf, parts_left, turns_left};
-ghost use Rattle.amf3_write.specs.Writes.{Leads, Keeps};
+ghost use Rattle.amf3_write.specs.Writes.{Leads, Keeps, IsReady};
 
 use crate::output::Output;
 use crate::unwritten::Unwritten;
 use amf_graph::{NodeId, NodeView, Rooted, TextId, TraitsId, Value};
-use amf_iso::by_name;
+use amf_iso::ids_by_name;
 use amf_wire::Memory;
 use std::alloc::Global;
 
@@ -29,10 +29,12 @@ impl Output {
     ) -> Result<(), Memory>
         requires there { node.0 < length graph.now.arena.nodes }
         requires runs { AreRunsOf graph.now.arena waiting.old.items }
+        requires ready { IsReady graph.now.arena self.old.tables self.old.known }
         ensures leads { OnOk result (Leads (content graph.now) (node_parts (node_at (content graph.now) node.0) ++ parts_left graph.now.arena waiting.old.items) (parts_left graph.now.arena waiting.new.items) self.old self.new) }
         ensures runs { OnOk result (AreRunsOf graph.now.arena waiting.new.items) }
         ensures turns { OnOk result (turns_left waiting.new.items ≤ turns_left waiting.old.items + 2 ^ 30) }
         ensures kept { Keeps self.old self.new }
+        ensures ready { OnOk result (IsReady graph.now.arena self.new.tables self.new.known) }
     {
         graph.is_finished();
         match graph.node(node) {
@@ -78,10 +80,12 @@ impl Output {
         requires few { length items.now < 2 ^ 28 }
         requires pairs { ArePairs graph.now.arena names.now }
         requires runs { AreRunsOf graph.now.arena waiting.old.items }
+        requires ready { IsReady graph.now.arena self.old.tables self.old.known }
         ensures leads { OnOk result (Leads (content graph.now) (spell.layout graph_of_values.array (by_name (pairs_of graph.now.arena names.now)) (values_of graph.now.arena items.now) ++ parts_left graph.now.arena waiting.old.items) (parts_left graph.now.arena waiting.new.items) self.old self.new) }
         ensures runs { OnOk result (AreRunsOf graph.now.arena waiting.new.items) }
         ensures turns { OnOk result (turns_left waiting.new.items ≤ turns_left waiting.old.items + (length names.now + length items.now + 2)) }
         ensures kept { Keeps self.old self.new }
+        ensures ready { OnOk result (IsReady graph.now.arena self.new.tables self.new.known) }
     {
         self.number(2 * items.len() as u32 + 1)?;
         waiting.push(Unwritten::Values(items))?;
@@ -101,14 +105,16 @@ impl Output {
         requires values { AreValues graph.now.arena sealed.now }
         requires pairs { ArePairs graph.now.arena members.now }
         requires runs { AreRunsOf graph.now.arena waiting.old.items }
+        requires ready { IsReady graph.now.arena self.old.tables self.old.known }
         ensures leads { OnOk result (Leads (content graph.now) (spell.layout (graph_of_values.object (traits_at graph.now.arena traits.0)) (by_name (pairs_of graph.now.arena members.now)) (values_of graph.now.arena sealed.now) ++ parts_left graph.now.arena waiting.old.items) (parts_left graph.now.arena waiting.new.items) self.old self.new) }
         ensures runs { OnOk result (AreRunsOf graph.now.arena waiting.new.items) }
         ensures turns { OnOk result (turns_left waiting.new.items ≤ turns_left waiting.old.items + (length members.now + length sealed.now + 2)) }
         ensures kept { Keeps self.old self.new }
+        ensures ready { OnOk result (IsReady graph.now.arena self.new.tables self.new.known) }
     {
         graph.is_finished();
         let class = graph.traits(traits);
-        self.traits(&class, graph)?;
+        self.traits(traits, graph)?;
         if class.dynamic {
             push_pairs(self.alloc, members, graph, waiting)?;
         }
@@ -129,7 +135,7 @@ fn push_pairs<'g>(
     ensures runs { AreRunsOf graph.now.arena waiting.old.items → OnOk result (AreRunsOf graph.now.arena waiting.new.items) }
     ensures turns { OnOk result (turns_left waiting.new.items ≡ turns_left waiting.old.items + (length pairs.now + 1)) }
 {
-    let mut pairs = by_name(alloc, pairs, graph)?;
+    let mut pairs = ids_by_name(alloc, pairs, graph)?;
     pairs.reverse();
     waiting.push(Unwritten::Pairs(pairs))?;
     Ok(())

@@ -1,11 +1,13 @@
 ghost use Rattle.std.specs.Prelude.{◌≡◌, ◌≢◌, ◌<◌, ◌^◌, [], length, take, true, false, OnOk, OnErr, IfOk, IfSome, IfNone};
+ghost use Rattle.amf_graph.specs.Arena.{Arena};
 ghost use Rattle.amf_wire.specs.Text.{IsText};
 ghost use Rattle.amf_tables.specs.FirstPlace.{IsFirstPlace};
 ghost use Rattle.amf_tables.specs.Words3.{IsUnnamed};
 ghost use Rattle.amf_tables.specs.ByteSpelling as spell;
-ghost use Rattle.amf3_write.specs.Writes.{WritesStep, Keeps};
+ghost use Rattle.amf3_write.specs.Writes.{WritesStep, Keeps, IsReady};
 
-use amf_tables::WriterTables;
+use crate::GraphTables;
+use amf_tables::{KnownWords, WriterTables};
 use amf_wire::{Memory, U29, write_u29};
 use std::alloc::Global;
 use std::mem;
@@ -18,6 +20,8 @@ const NAMEABLE_TEXTS: u32 = 268_435_456;
 pub(crate) struct Output {
     pub(crate) alloc: Global,
     pub(crate) tables: WriterTables,
+    /// What is known of the places of the graph's texts and traits.
+    pub(crate) known: KnownWords,
     pub(crate) bytes: Vec<u8>,
 }
 
@@ -25,17 +29,19 @@ impl Output {
     /// The tables and the bytes, taken from where they stood.
     pub(crate) fn taking(
         alloc: Global,
-        tables: &mut WriterTables,
+        tables: &mut GraphTables,
         bytes: &mut Vec<u8>,
     ) -> Result<Output, Memory>
-        ensures tables { IfOk result (λ output. output.tables ≡ tables.old) }
+        ensures tables { IfOk result (λ output. output.tables ≡ tables.old.tables) }
+        ensures known { IfOk result (λ output. output.known ≡ tables.old.known) }
         ensures bytes { IfOk result (λ output. output.bytes ≡ bytes.old) }
-        ensures kept { OnErr result ((tables.new ≡ tables.old) × (bytes.new ≡ bytes.old)) }
+        ensures kept { OnErr result ((tables.new.tables ≡ tables.old.tables) × (bytes.new ≡ bytes.old)) }
     {
         let empty = WriterTables::new(alloc)?;
         Ok(Output {
             alloc,
-            tables: mem::replace(tables, empty),
+            tables: mem::replace(&mut tables.tables, empty),
+            known: mem::replace(&mut tables.known, KnownWords::new(alloc)),
             bytes: mem::replace(bytes, Vec::new(alloc)),
         })
     }
@@ -45,23 +51,27 @@ impl Output {
         mut self,
         has_ended: bool,
         start: usize,
-        tables: &mut WriterTables,
+        tables: &mut GraphTables,
         bytes: &mut Vec<u8>,
     )
-        ensures tables { tables.new ≡ self.tables }
+        ensures tables { tables.new.tables ≡ self.tables }
+        ensures known { tables.new.known ≡ self.known }
         ensures whole { has_ended ≡ false → bytes.new ≡ self.bytes }
         ensures cut { has_ended ≡ true → bytes.new.items ≡ take start self.bytes.items }
     {
         if has_ended {
             self.bytes.truncate(start);
         }
-        *tables = self.tables;
+        tables.tables = self.tables;
+        tables.known = self.known;
         *bytes = self.bytes;
     }
 
     pub(crate) fn byte(&mut self, byte: u8) -> Result<(), Memory>
         ensures ok { OnOk result (WritesStep (spell.byte byte) self.old self.new) }
         ensures kept { Keeps self.old self.new }
+        ensures tables { self.new.tables ≡ self.old.tables }
+        ensures known { self.new.known ≡ self.old.known }
     {
         self.bytes.push(byte)?;
         Ok(())
@@ -72,6 +82,8 @@ impl Output {
         requires { number < 2 ^ 29 }
         ensures ok { OnOk result (WritesStep (spell.number number) self.old self.new) }
         ensures kept { Keeps self.old self.new }
+        ensures tables { self.new.tables ≡ self.old.tables }
+        ensures known { self.new.known ≡ self.old.known }
     {
         match U29::new(number) {
             Some(number) => self.raw_number(number),
@@ -83,6 +95,8 @@ impl Output {
     pub(crate) fn raw(&mut self, bytes: &[u8]) -> Result<(), Memory>
         ensures ok { OnOk result (WritesStep (spell.raw bytes.now) self.old self.new) }
         ensures kept { Keeps self.old self.new }
+        ensures tables { self.new.tables ≡ self.old.tables }
+        ensures known { self.new.known ≡ self.old.known }
     {
         self.bytes.extend_from_slice(bytes)?;
         Ok(())
@@ -91,6 +105,8 @@ impl Output {
     fn raw_number(&mut self, number: U29) -> Result<(), Memory>
         ensures ok { OnOk result (WritesStep (spell.number number) self.old self.new) }
         ensures kept { Keeps self.old self.new }
+        ensures tables { self.new.tables ≡ self.old.tables }
+        ensures known { self.new.known ≡ self.old.known }
     {
         let spelled = write_u29(number);
         self.bytes.extend_from_slice(spelled.as_slice())?;
@@ -101,6 +117,8 @@ impl Output {
     pub(crate) fn flag(&mut self, flag: bool) -> Result<(), Memory>
         ensures ok { OnOk result (WritesStep (spell.flag flag) self.old self.new) }
         ensures kept { Keeps self.old self.new }
+        ensures tables { self.new.tables ≡ self.old.tables }
+        ensures known { self.new.known ≡ self.old.known }
     {
         self.bytes.push(u8::from(flag))?;
         Ok(())
@@ -126,6 +144,7 @@ impl Output {
         requires short { length text.now < 2 ^ 28 }
         ensures ok { OnOk result (WritesStep (spell.word text.now) self.old self.new) }
         ensures kept { Keeps self.old self.new }
+        ensures ready { (a : Arena) → IsReady a self.old.tables self.old.known → IsReady a self.new.tables self.new.known }
     {
         if text.is_empty() {
             return self.number(1);
@@ -136,6 +155,22 @@ impl Output {
         }
     }
 
+    /// A text that stands at this place first: by its place, or inline where no header can name it.
+    pub(crate) fn text_at(&mut self, place: u32, text: &[u8]) -> Result<(), Memory>
+        requires is_text { IsText text.now }
+        requires short { length text.now < 2 ^ 28 }
+        requires not_empty { text.now ≢ [] }
+        requires first { IsFirstPlace self.old.tables.words.texts text.now place }
+        ensures ok { OnOk result (WritesStep (spell.word text.now) self.old self.new) }
+        ensures kept { Keeps self.old self.new }
+        ensures ready { (a : Arena) → IsReady a self.old.tables self.old.known → IsReady a self.new.tables self.new.known }
+    {
+        if place < NAMEABLE_TEXTS {
+            return self.number(2 * place);
+        }
+        self.text_inline(text)
+    }
+
     fn text_inline(&mut self, text: &[u8]) -> Result<(), Memory>
         requires is_text { IsText text.now }
         requires short { length text.now < 2 ^ 28 }
@@ -143,6 +178,7 @@ impl Output {
         requires unnamed { IsUnnamed NAMEABLE_TEXTS self.old.tables.words.texts text.now }
         ensures ok { OnOk result (WritesStep (spell.word text.now) self.old self.new) }
         ensures kept { Keeps self.old self.new }
+        ensures ready { (a : Arena) → IsReady a self.old.tables self.old.known → IsReady a self.new.tables self.new.known }
     {
         self.number(2 * text.len() as u32 + 1)?;
         self.raw(text)?;

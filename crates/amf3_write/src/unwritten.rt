@@ -1,14 +1,14 @@
 ghost use Rattle.std.specs.Prelude.{◌≡◌, ◌+◌, ◌*◌, ◌≤◌, ◌∷◌, [], ◌++◌, length, reverse, IfOk, OnOk};
 ghost use Rattle.amf_graph.specs.Arena.{Arena};
-ghost use Rattle.amf_graph.specs.Rooted.{RootedArena, content};
+ghost use Rattle.amf_graph.specs.Rooted.{content};
 ghost use Rattle.amf_graph.specs.Views.{flat};
 ghost use Rattle.amf_tables.specs.ByteSpelling as spell;
-ghost use Rattle.amf_iso.specs.Contents.{values_of, AreValues, named_pairs, AreNamedPairs};
-ghost use Rattle.amf3_write.specs.Unwritten.{IsRunOf, AreRunsOf, IsNextOf, run_parts, next_parts, parts_left, run_turns, turns_left};
-ghost use Rattle.amf3_write.specs.Writes.{Leads, Keeps};
+ghost use Rattle.amf_iso.specs.Contents.{values_of, pairs_of, AreValues};
+ghost use Rattle.amf3_write.specs.Unwritten.{IsRunOf, AreRunsOf, AreStoredPairs, IsNextOf, run_parts, next_parts, parts_left, run_turns, turns_left};
+ghost use Rattle.amf3_write.specs.Writes.{Leads, Keeps, IsReady};
 
 use crate::output::Output;
-use amf_graph::Value;
+use amf_graph::{Rooted, TextId, Value};
 use amf_wire::Memory;
 
 /// A run of what is still to be written, within one node.
@@ -21,7 +21,7 @@ pub(crate) enum Unwritten<'g> {
     /// The entries of a dictionary: each key, and then its value (3.16).
     Entries(&'g [(Value, Value)]),
     /// Pairs from the last to the first, ended by the empty name (3.11, 3.12).
-    Pairs(Vec<(&'g [u8], Value)>),
+    Pairs(Vec<(TextId, Value)>),
 }
 
 impl Output {
@@ -30,37 +30,43 @@ impl Output {
     pub(crate) fn next_value<'g>(
         &mut self,
         run: Unwritten<'g>,
+        graph: &'g Rooted,
         waiting: &mut Vec<Unwritten<'g>>,
     ) -> Result<Option<Value>, Memory>
-        requires { (a : Arena) × IsRunOf a run }
-        ensures leads { (g : RootedArena) → IfOk result (λ next. Leads (content g) (run_parts g.arena run.entry ++ parts_left g.arena waiting.old.items) (next_parts g.arena next ++ parts_left g.arena waiting.new.items) self.old self.new) }
-        ensures runs { (a : Arena) → IsRunOf a run.entry → AreRunsOf a waiting.old.items → IfOk result (λ next. IsNextOf a next × AreRunsOf a waiting.new.items) }
+        requires run { IsRunOf graph.now.arena run }
+        requires ready { IsReady graph.now.arena self.old.tables self.old.known }
+        ensures leads { IfOk result (λ next. Leads (content graph.now) (run_parts graph.now.arena run.entry ++ parts_left graph.now.arena waiting.old.items) (next_parts graph.now.arena next ++ parts_left graph.now.arena waiting.new.items) self.old self.new) }
+        ensures runs { AreRunsOf graph.now.arena waiting.old.items → IfOk result (λ next. IsNextOf graph.now.arena next × AreRunsOf graph.now.arena waiting.new.items) }
         ensures turns { OnOk result (turns_left waiting.new.items + 1 ≤ run_turns run.entry + turns_left waiting.old.items) }
         ensures kept { Keeps self.old self.new }
+        ensures ready { OnOk result (IsReady graph.now.arena self.new.tables self.new.known) }
     {
         match run {
             Unwritten::One(value) => Ok(Some(value)),
             Unwritten::Values(values) => next_item(values, waiting),
             Unwritten::Entries(entries) => next_key(entries, waiting),
-            Unwritten::Pairs(pairs) => self.next_pair(pairs, waiting),
+            Unwritten::Pairs(pairs) => self.next_pair(pairs, graph, waiting),
         }
     }
 
     /// Writes the next name, whose value follows, or the empty name behind all pairs.
     fn next_pair<'g>(
         &mut self,
-        mut pairs: Vec<(&'g [u8], Value)>,
+        mut pairs: Vec<(TextId, Value)>,
+        graph: &'g Rooted,
         waiting: &mut Vec<Unwritten<'g>>,
     ) -> Result<Option<Value>, Memory>
-        requires { (a : Arena) × AreNamedPairs a pairs.items }
-        ensures leads { (g : RootedArena) → IfOk result (λ next. Leads (content g) (spell.pairs_then (named_pairs g.arena (reverse pairs.entry.items)) [] ++ parts_left g.arena waiting.old.items) (next_parts g.arena next ++ parts_left g.arena waiting.new.items) self.old self.new) }
-        ensures runs { (a : Arena) → AreNamedPairs a pairs.entry.items → AreRunsOf a waiting.old.items → IfOk result (λ next. IsNextOf a next × AreRunsOf a waiting.new.items) }
-        ensures turns { OnOk result (turns_left waiting.new.items ≤ length pairs.entry.items + turns_left waiting.old.items) }
+        requires pairs { AreStoredPairs graph.now.arena pairs.items }
+        requires ready { IsReady graph.now.arena self.old.tables self.old.known }
+        ensures leads { IfOk result (λ next. Leads (content graph.now) (spell.pairs_then (pairs_of graph.now.arena (reverse pairs.items)) [] ++ parts_left graph.now.arena waiting.old.items) (next_parts graph.now.arena next ++ parts_left graph.now.arena waiting.new.items) self.old self.new) }
+        ensures runs { AreRunsOf graph.now.arena waiting.old.items → IfOk result (λ next. IsNextOf graph.now.arena next × AreRunsOf graph.now.arena waiting.new.items) }
+        ensures turns { OnOk result (turns_left waiting.new.items ≤ length pairs.items + turns_left waiting.old.items) }
         ensures kept { Keeps self.old self.new }
+        ensures ready { OnOk result (IsReady graph.now.arena self.new.tables self.new.known) }
     {
         match pairs.pop() {
             Some((name, value)) => {
-                self.text(name)?;
+                self.text_of(name, graph)?;
                 waiting.push(Unwritten::Pairs(pairs))?;
                 Ok(Some(value))
             }

@@ -1,4 +1,4 @@
-ghost use Rattle.std.specs.Prelude.{◌<◌, [], ◌∷◌, length, OnOk};
+ghost use Rattle.std.specs.Prelude.{◌≡◌, ◌<◌, [], ◌∷◌, length, OnOk};
 ghost use Rattle.std.specs.Result.{IsErrOf};
 ghost use Rattle.amf_graph.specs.declared.lack.Lack.{Lack};
 ghost use Rattle.amf_graph.specs.Arena.{Names, value_content};
@@ -8,7 +8,7 @@ ghost use Rattle.amf_graph.specs.Rooted.{content};
 ghost use Rattle.amf_wire.specs.Integer.{IsInteger};
 ghost use Rattle.amf_tables.specs.ByteSpelling as spell;
 ghost use Rattle.amf3_write.specs.Unwritten.{AreRunsOf, parts_left, turns_left, Falls};
-ghost use Rattle.amf3_write.specs.Writes.{WritesSteps, WritesValue, Leads, Keeps, Stops};
+ghost use Rattle.amf3_write.specs.Writes.{WritesSteps, WritesValue, Leads, Keeps, Stops, IsReady};
 
 use crate::nodes::{is_unnamed, marker};
 use crate::output::Output;
@@ -22,6 +22,8 @@ impl Output {
         requires { IsInteger integer }
         ensures ok { OnOk result (WritesSteps (spell.step (spell.byte 4) ∷ spell.leaf_layout (graph_of_values.integer integer)) self.old self.new) }
         ensures kept { Keeps self.old self.new }
+        ensures tables { self.new.tables ≡ self.old.tables }
+        ensures known { self.new.known ≡ self.old.known }
     {
         self.byte(0x04)?;
         match unsign29(integer) {
@@ -37,6 +39,8 @@ impl Output {
     fn double(&mut self, double: Pattern) -> Result<(), Memory>
         ensures ok { OnOk result (WritesSteps (spell.step (spell.byte 5) ∷ spell.leaf_layout (graph_of_values.double double.0)) self.old self.new) }
         ensures kept { Keeps self.old self.new }
+        ensures tables { self.new.tables ≡ self.old.tables }
+        ensures known { self.new.known ≡ self.old.known }
     {
         self.byte(0x05)?;
         self.raw(&double.0.to_be_bytes())?;
@@ -45,14 +49,16 @@ impl Output {
 
     /// A value, and all to which it leads that has not been written (3.2 to 3.16).
     pub(crate) fn value(&mut self, value: Value, graph: &Rooted) -> Result<(), WriteEnd>
-        requires { Names graph.now.arena value }
+        requires value { Names graph.now.arena value }
+        requires ready { IsReady graph.now.arena self.old.tables self.old.known }
         ensures ok { OnOk result (WritesValue (content graph.now) (value_content graph.now.arena value) self.old self.new) }
         ensures lack { (l : Lack) → IsErrOf result (WriteEnd.NoSpelling l) → Stops (content graph.now) (spell.value (value_content graph.now.arena value) ∷ []) self.old l }
         ensures kept { Keeps self.old self.new }
+        ensures ready { OnOk result (IsReady graph.now.arena self.new.tables self.new.known) }
     {
         let mut waiting = vec![in self.alloc; Unwritten::One(value)]?;
         while let Some(top) = waiting.pop() {
-            let next = self.next_value(top, &mut waiting)?;
+            let next = self.next_value(top, graph, &mut waiting)?;
             if let Some(value) = next {
                 self.begin(value, graph, &mut waiting)?;
             }
@@ -69,11 +75,13 @@ impl Output {
     ) -> Result<(), WriteEnd>
         requires value { Names graph.now.arena value }
         requires runs { AreRunsOf graph.now.arena waiting.old.items }
+        requires ready { IsReady graph.now.arena self.old.tables self.old.known }
         ensures leads { OnOk result (Leads (content graph.now) (spell.value (value_content graph.now.arena value) ∷ parts_left graph.now.arena waiting.old.items) (parts_left graph.now.arena waiting.new.items) self.old self.new) }
         ensures lack { (l : Lack) → IsErrOf result (WriteEnd.NoSpelling l) → Stops (content graph.now) (spell.value (value_content graph.now.arena value) ∷ parts_left graph.now.arena waiting.old.items) self.old l }
         ensures runs { OnOk result (AreRunsOf graph.now.arena waiting.new.items) }
         ensures falls { OnOk result (Falls (length graph.now.arena.nodes) self.old.tables.nodes self.new.tables.nodes (turns_left waiting.old.items) (turns_left waiting.new.items)) }
         ensures kept { Keeps self.old self.new }
+        ensures ready { OnOk result (IsReady graph.now.arena self.new.tables self.new.known) }
     {
         match value {
             Value::Undefined => self.byte(0x00)?,
@@ -100,14 +108,15 @@ impl Output {
     ) -> Result<(), WriteEnd>
         requires there { node.0 < length graph.now.arena.nodes }
         requires runs { AreRunsOf graph.now.arena waiting.old.items }
+        requires ready { IsReady graph.now.arena self.old.tables self.old.known }
         ensures leads { OnOk result (Leads (content graph.now) (spell.value (graph_of_values.node node.0) ∷ parts_left graph.now.arena waiting.old.items) (parts_left graph.now.arena waiting.new.items) self.old self.new) }
         ensures lack { (l : Lack) → IsErrOf result (WriteEnd.NoSpelling l) → Stops (content graph.now) (spell.value (graph_of_values.node node.0) ∷ parts_left graph.now.arena waiting.old.items) self.old l }
         ensures runs { OnOk result (AreRunsOf graph.now.arena waiting.new.items) }
         ensures falls { OnOk result (Falls (length graph.now.arena.nodes) self.old.tables.nodes self.new.tables.nodes (turns_left waiting.old.items) (turns_left waiting.new.items)) }
         ensures kept { Keeps self.old self.new }
+        ensures ready { OnOk result (IsReady graph.now.arena self.new.tables self.new.known) }
     {
         graph.is_finished();
-        self.tables.are_named();
         match self.tables.place_of_node(node) {
             Some(place) => {
                 self.byte(marker(&graph.node(node)))?;
@@ -128,14 +137,15 @@ impl Output {
         requires there { node.0 < length graph.now.arena.nodes }
         requires new { Absent self.old.tables.nodes node.0 }
         requires runs { AreRunsOf graph.now.arena waiting.old.items }
+        requires ready { IsReady graph.now.arena self.old.tables self.old.known }
         ensures leads { OnOk result (Leads (content graph.now) (spell.value (graph_of_values.node node.0) ∷ parts_left graph.now.arena waiting.old.items) (parts_left graph.now.arena waiting.new.items) self.old self.new) }
         ensures lack { (l : Lack) → IsErrOf result (WriteEnd.NoSpelling l) → Stops (content graph.now) (spell.value (graph_of_values.node node.0) ∷ parts_left graph.now.arena waiting.old.items) self.old l }
         ensures runs { OnOk result (AreRunsOf graph.now.arena waiting.new.items) }
         ensures falls { OnOk result (Falls (length graph.now.arena.nodes) self.old.tables.nodes self.new.tables.nodes (turns_left waiting.old.items) (turns_left waiting.new.items)) }
         ensures kept { Keeps self.old self.new }
+        ensures ready { OnOk result (IsReady graph.now.arena self.new.tables self.new.known) }
     {
         graph.is_finished();
-        self.tables.are_named();
         if is_unnamed(node, graph) {
             return Err(WriteEnd::NoSpelling(Lack {
                 kind: LackKind::EmptyName,

@@ -6,7 +6,7 @@ ghost use Rattle.amf_tables.specs.Lacks3.{IsLack3};
 ghost use Rattle.amf_tables.specs.Tables.{no_tables};
 ghost use Rattle.amf3_write.specs.Written.{AppendsCanonical};
 
-use crate::write3_part;
+use crate::{GraphTables, write3_part_of};
 use amf_graph::{Rooted, WriteEnd};
 use amf_tables::WriterTables;
 use amf_wire::Memory;
@@ -41,8 +41,9 @@ pub fn write3_keyed(
     ensures kept { OnErr result (out.new.items ≡ out.old.items) }
 {
     graph.is_finished();
-    let mut tables = tables_with(alloc, keys)?;
-    write3_part(alloc, graph, graph.root(), &mut tables, out)
+    let made = tables_with(alloc, keys)?;
+    let mut tables = GraphTables::of(alloc, made);
+    write3_part_of(alloc, graph, graph.root(), &mut tables, out)
 }
 
 /// Tables without entries, that are looked up by these keys.

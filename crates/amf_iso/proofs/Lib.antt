@@ -1,5 +1,6 @@
 -- Lemmas.
 mod NamedPairs
+mod NamedIds
 mod Entries
 mod MetValues
 mod Numbers

@@ -46,7 +46,7 @@ module _ {X Y : Type 0} (f : X → Y) (less : Y → Y → Bool) where
       go true e = ap (λ w. f q ∷ w) e
       go false e = refl
 
-  sort_map : (xs : List X) → map f (stable_sort (λ x y. less (f x) (f y)) xs) ≡ stable_sort less (map f xs)
+  pub sort_map : (xs : List X) → map f (stable_sort (λ x y. less (f x) (f y)) xs) ≡ stable_sort less (map f xs)
   sort_map [] = refl
   sort_map (x ∷ xs) = insert_map x (stable_sort (λ x y. less (f x) (f y)) xs) ∙ ap (λ w. insert_stable less (f x) w) (sort_map xs)
 

@@ -3,3 +3,4 @@ pub mod Contents
 pub mod Numbers
 -- Devices of the proofs: no clause of a public call needs them.
 pub mod Matches
+pub mod NamedIds

@@ -22,5 +22,5 @@ mod tests;
 pub use compare::isomorphic;
 pub use met::values_met;
 pub use numbering::Numbering;
-pub use pairs::by_name;
+pub use pairs::{by_name, ids_by_name};
 pub use relabelling::relabel;

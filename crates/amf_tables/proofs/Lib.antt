@@ -46,6 +46,8 @@ pub mod Layout3Sound
 pub mod Layout3Reads
 pub mod HashedPlaces
 pub mod NodePlaces
+pub mod KnownPlaces
+pub mod SpelledNodes
 pub mod ShownTexts
 pub mod Layout3Filled
 pub mod Layout3Format

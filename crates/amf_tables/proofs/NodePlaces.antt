@@ -10,12 +10,12 @@ use Rattle.amf_tables.specs.FirstPlace.{IsFirstPlace}
 use Rattle.amf_tables.specs.NodePlaces.{ArePlacesOf}
 use Rattle.amf_tables.specs.declared.node_table.TheConstants.{NONE, MAX_NODES}
 
-set_at : {X : Type 0} (xs : List X) (i : ℕ) (x y : X) → slice_get xs i ≡ Some x → slice_get (set xs i y) i ≡ Some y
+pub set_at : {X : Type 0} (xs : List X) (i : ℕ) (x y : X) → slice_get xs i ≡ Some x → slice_get (set xs i y) i ≡ Some y
 set_at [] i x y e = cc
 set_at (z ∷ xs) zero x y e = refl
 set_at (z ∷ xs) (suc i) x y e = set_at xs i x y e
 
-set_elsewhere : {X : Type 0} (xs : List X) (i j : ℕ) (y : X) → (j ≡ i → ⊥) → slice_get (set xs i y) j ≡ slice_get xs j
+pub set_elsewhere : {X : Type 0} (xs : List X) (i j : ℕ) (y : X) → (j ≡ i → ⊥) → slice_get (set xs i y) j ≡ slice_get xs j
 set_elsewhere [] i j y n = refl
 set_elsewhere (z ∷ xs) zero zero y n = absurd (n refl)
 set_elsewhere (z ∷ xs) zero (suc j) y n = refl
@@ -23,10 +23,10 @@ set_elsewhere (z ∷ xs) (suc i) zero y n = refl
 set_elsewhere (z ∷ xs) (suc i) (suc j) y n = set_elsewhere xs i j y (λ e. n (ap suc e))
 
 -- one more behind all
-absent_more : (xs : List ℕ) (x y : ℕ) → Absent xs x → (y ≡ x → ⊥) → Absent (xs ++ y ∷ []) x
+pub absent_more : {X : Type 0} (xs : List X) (x y : X) → Absent xs x → (y ≡ x → ⊥) → Absent (xs ++ y ∷ []) x
 absent_more xs x y none other k e = elim (at_push xs y k x e) [ inl f ↦ none k f | inr p ↦ other p.1 ]
 
-first_more : (xs : List ℕ) (x y k : ℕ) → IsFirstPlace xs x k → IsFirstPlace (xs ++ y ∷ []) x k
+pub first_more : {X : Type 0} (xs : List X) (x y : X) (k : ℕ) → IsFirstPlace xs x k → IsFirstPlace (xs ++ y ∷ []) x k
 first_more xs x y k first = (
   at_left xs (y ∷ []) k x first.0,
   λ j before e.
@@ -36,7 +36,7 @@ first_more xs x y k first = (
       ],
 )
 
-first_new : (xs : List ℕ) (x : ℕ) → Absent xs x → IsFirstPlace (xs ++ x ∷ []) x (length xs)
+pub first_new : {X : Type 0} (xs : List X) (x : X) → Absent xs x → IsFirstPlace (xs ++ x ∷ []) x (length xs)
 first_new xs x none = (
   at_end xs x,
   λ j before e.

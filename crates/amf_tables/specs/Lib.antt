@@ -6,6 +6,9 @@ pub mod Then
 pub mod Refusals3
 pub mod Words3
 pub mod FirstPlace
+pub mod SpelledAlone
+pub mod TextPlaces
+pub mod KnownWords
 pub mod ShownTraits
 pub mod Parts3
 pub mod Headers3
@@ -31,6 +34,8 @@ pub mod VerdictLaws3
 pub mod ContentHash
 pub mod HashedPlaces
 pub mod NodePlaces
+pub mod SpelledNodes
+pub mod KnownPlaces
 pub mod WrittenParts
 pub mod ByteSpelling
 pub mod Lacking3

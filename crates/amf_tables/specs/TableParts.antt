@@ -5,6 +5,7 @@ use Rattle.amf_graph.specs.declared.value.NodeId.{NodeId}
 use Rattle.amf_graph.specs.declared.value.TraitsId.{TraitsId}
 use Rattle.amf_graph.specs.declared.wrapped.Wrapped.{Wrapped}
 use Rattle.amf_tables.specs.Tables.{Entry, Tables}
+use Rattle.amf_tables.specs.SpelledNodes.{Spelled}
 use Rattle.amf_tables.specs.KeptTables.{KeptEntry, plain, external, KeptTables}
 
 -- Ids as numbers.
@@ -27,10 +28,10 @@ kept_entry_of t (Some c) = external t.0 c
 abbrev pub kept_tables : List TextId → List KeptEntry → List NodeId → KeptTables
 kept_tables texts traits nodes = record { texts = map text_number texts; traits = traits; nodes = map node_number nodes }
 
--- a writer's tables: AMF 3 can name each node that was spelled
-abbrev pub written_tables : List (List ℕ) → List Entry → List ℕ → Tables
-written_tables texts traits nodes = record {
+-- a writer's tables
+abbrev pub written_tables : List (List ℕ) → List Entry → Spelled → Tables
+written_tables texts traits spelled = record {
   words = record { texts = texts; traits = traits };
-  nodes = nodes;
-  done = nodes;
+  nodes = spelled.nodes;
+  done = spelled.done;
 }

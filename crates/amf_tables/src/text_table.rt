@@ -1,9 +1,13 @@
-ghost use Rattle.std.specs.Prelude.{◌≡◌, ◌<◌, ◌≤◌, ◌++◌, ◌∷◌, [], length, IfSome, IfNone, OnOk, OnErr};
+ghost use Rattle.std.specs.Prelude.{◌≡◌, ◌<◌, ◌≤◌, ◌++◌, ◌∷◌, [], length, map, IfOk, IfSome, IfNone, OnOk, OnErr};
 ghost use Rattle.amf_graph.specs.Order.{Absent};
+ghost use Rattle.amf_tables.specs.ContentHash.{text_hash};
 ghost use Rattle.amf_tables.specs.FirstPlace.{IsFirstPlace};
+ghost use Rattle.amf_tables.specs.HashedPlaces.{AreFirstPlaces};
+ghost use Rattle.amf_tables.specs.TextPlaces.{IsEntered};
 
 use crate::content_hash::hash_of_text;
 use crate::first_places::{MAX_ENTRIES, enter, first_with};
+use crate::text_place::TextPlace;
 use crate::written_texts::is_text;
 use amf_wire::{Memory, Name};
 use indexmap::IndexMap;
@@ -44,6 +48,21 @@ fn first_text(texts: &[Name], bytes: &[u8]) -> Option<u32>
     Some(place as u32)
 }
 
+/// The first place of a text among these, from its hash and the first places of all hashes.
+fn place_by(texts: &[Name], places: &IndexMap<u64, u32>, bytes: &[u8], hash: u64) -> Option<u32>
+    requires few { length texts.now ≤ MAX_ENTRIES }
+    requires hashed { (start : DefaultHasher) × (hash ≡ text_hash start bytes.now) × AreFirstPlaces (map (text_hash start) texts.now) places.now }
+    ensures first { IfSome result (IsFirstPlace texts.now bytes.now) }
+    ensures none { IfNone result (Absent texts.now bytes.now) }
+{
+    let place = first_with(places, hash)?;
+    if is_text(&texts[place as usize], bytes) {
+        return Some(place);
+    }
+    // Another text has the same hash.
+    first_text(texts, bytes)
+}
+
 impl TextTable {
     /// A table without entries.
     pub(crate) fn new(alloc: Global, start: DefaultHasher) -> TextTable
@@ -62,12 +81,22 @@ impl TextTable {
         ensures first { IfSome result (IsFirstPlace self.now bytes.now) }
         ensures none { IfNone result (Absent self.now bytes.now) }
     {
-        let place = first_with(&self.places, hash_of_text(self.start, bytes))?;
-        if is_text(&self.texts[place as usize], bytes) {
-            return Some(place);
+        let hash = hash_of_text(self.start, bytes);
+        place_by(&self.texts, &self.places, bytes, hash)
+    }
+
+    /// The first place of a text, which is entered where it is new. After an error nothing has changed.
+    pub(crate) fn place_or_push(&mut self, bytes: &[u8]) -> Result<TextPlace, Memory>
+        ensures ok { IfOk result (IsEntered self.old bytes.now self.new) }
+        ensures err { OnErr result (self.new ≡ self.old) }
+    {
+        let hash = hash_of_text(self.start, bytes);
+        if let Some(place) = place_by(&self.texts, &self.places, bytes, hash) {
+            return Ok(TextPlace::Old(place));
         }
-        // Another text has the same hash.
-        first_text(&self.texts, bytes)
+        let entry = Name::of_bytes(self.alloc, bytes)?;
+        enter(&mut self.texts, &mut self.places, entry, hash)?;
+        Ok(TextPlace::New((self.texts.len() - 1) as u32))
     }
 
     /// Enters a text. After an error nothing has changed.

@@ -1,11 +1,15 @@
-ghost use Rattle.std.specs.Prelude.{◌≡◌, ◌<◌, ◌≤◌, length, map, IfOk, IfNone, IfSome, OnOk, OnErr};
+ghost use Rattle.std.specs.Prelude.{◌≡◌, ◌<◌, ◌≤◌, ◌↔◌, length, map, IsTrue, IfOk, IfNone, IfSome, OnOk, OnErr};
 ghost use Rattle.amf_graph.specs.Order.{Absent};
 ghost use Rattle.amf_tables.specs.FirstPlace.{IsFirstPlace};
+ghost use Rattle.amf_tables.specs.SpelledAlone.{IsSpelledAlone};
+ghost use Rattle.amf_tables.specs.TextPlaces.{IsEntered};
 ghost use Rattle.amf_tables.specs.ShownTraits.{AreTraitsOf, shown_entry};
 ghost use Rattle.amf_tables.specs.Tables.{no_tables, with_words, external};
-ghost use Rattle.amf_tables.specs.Tables.{add_text, add_entry, add_node};
+ghost use Rattle.amf_tables.specs.Tables.{add_text, add_entry, add_node, add_done};
 
-use crate::node_table::{MAX_NODES, NodeTable};
+use crate::node_table::MAX_NODES;
+use crate::spelled_nodes::SpelledNodes;
+use crate::text_place::TextPlace;
 use crate::text_table::TextTable;
 use crate::traits_table::TraitsTable;
 use amf_graph::{NodeId, Rooted, TraitsView, Wrapped};
@@ -23,7 +27,7 @@ use std::marker::Model;
 pub struct WriterTables {
     texts: TextTable,
     traits: TraitsTable,
-    nodes: NodeTable,
+    nodes: SpelledNodes,
 }
 
 impl Model for WriterTables {
@@ -57,18 +61,18 @@ impl WriterTables {
         WriterTables {
             texts: TextTable::new(alloc, start),
             traits: TraitsTable::new(alloc, start),
-            nodes: NodeTable::new(alloc),
+            nodes: SpelledNodes::new(alloc),
         }
     }
 
-    /// What is true of all such tables: each node that was entered can be named. It does nothing.
-    pub fn are_named(&self)
-        ensures { self.now.done ≡ self.now.nodes }
+    /// Whether each node that was entered has a place.
+    pub fn are_placed(&self) -> bool
+        ensures { IsTrue result ↔ (self.now.done ≡ self.now.nodes) }
     {
-        let _ = &self.nodes;
+        self.nodes.are_placed()
     }
 
-    /// How many nodes have been entered.
+    /// How many nodes have been entered with a place.
     pub fn node_count(&self) -> u32
         ensures count { result ≡ length self.now.nodes }
         ensures within { result ≤ MAX_NODES }
@@ -76,7 +80,7 @@ impl WriterTables {
         self.nodes.count()
     }
 
-    /// The nodes that have been entered, in the order of their places.
+    /// The nodes that have been entered with a place, in the order of their places.
     pub fn nodes(&self) -> &[NodeId]
         ensures { map (λ node. node.0) result.now ≡ self.now.nodes }
     {
@@ -126,6 +130,30 @@ impl WriterTables {
         ensures err { OnErr result (self.new ≡ self.old) }
     {
         self.texts.push(bytes)
+    }
+
+    /// The first place of a text, which is entered where it is new. After an error nothing has changed.
+    pub fn place_or_add_text(&mut self, bytes: &[u8]) -> Result<TextPlace, Memory>
+        ensures ok { IfOk result (IsEntered self.old.words.texts bytes.now self.new.words.texts) }
+        ensures rest { self.new ≡ with_words self.old (record { texts = self.new.words.texts; traits = self.old.words.traits }) }
+        ensures err { OnErr result (self.new ≡ self.old) }
+    {
+        self.texts.place_or_push(bytes)
+    }
+
+    /// Whether a node was entered by `add_done`, and has no place. It takes no memory.
+    pub fn is_done(&self, node: NodeId) -> bool
+        ensures { IsTrue result ↔ IsSpelledAlone self.now node.0 }
+    {
+        self.nodes.is_alone(node)
+    }
+
+    /// Enters a node that was spelled and that no index can name: it has no place. After an error nothing has changed.
+    pub fn add_done(&mut self, node: NodeId) -> Result<(), Memory>
+        ensures ok { OnOk result (self.new ≡ add_done self.old node.0) }
+        ensures err { OnErr result (self.new ≡ self.old) }
+    {
+        self.nodes.push_alone(node)
     }
 
     /// Enters a node. After an error nothing has changed.

@@ -1,37 +1,30 @@
-use Rattle.std.proofs.Common.{length, take, sym, refl, ap, ◌∙◌, subst}
-use Rattle.std.specs.Prelude.{Err}
-use Rattle.std.proofs.lemmas.List.{length-map}
-use Rattle.amf_graph.specs.declared.lack.Lack.{Lack}
-use Rattle.amf_graph.specs.declared.write_end.WriteEnd.TheVariants.{NoSpelling}
-use Rattle.amf_graph.specs.Arena.{node_content, value_content}
+use Rattle.std.proofs.Common.{◌≡◌, ◌<◌, length, sym, subst}
+use Rattle.std.specs.List.{AllByRecursion}
+use Rattle.amf_tables.specs.Tables.{Tables}
+use Rattle.amf_graph.specs.Arena.{value_content}
 use Rattle.amf_graph.specs.Rooted.{content}
-use Rattle.amf3_write.specs.PartLacks.{HasUnnamed, IsPartLack3}
+use Rattle.amf3_write.specs.PartLacks.{IsPartLack3}
+use Rattle.amf3_write.specs.Written.{AppendsPart}
 use Rattle.amf3_write.proofs.Wrote.{on_ok}
-use Rattle.amf3_write.proofs.WroteNodes.{same_lack}
-use Rattle.amf3_write.proofs.PartNodes.{part_inside, nodes_before, ids_inside}
 use Rattle.amf3_write.proofs.part.write3_part.Goals as goal
 
-pub first_lack-requires-clause-met : goal.first_lack-requires-clause-met
-first_lack-requires-clause-met c =
-    ids_inside (take c.node_count-count.result c.nodes.result.now) (length c.args.graph.now.arena.nodes) c.args.tables.now.nodes
-    (nodes_before c.nodes.result.now c.args.tables.now.nodes c.write_value.new.tables.nodes c.node_count-count.result c.node_count-count.ensures.count c.nodes.ensures c.write_value.ensures.nodes) c.requires.nodes
+pub write3_part_of-result-requires-clause-tables : goal.write3_part_of-result-requires-clause-tables
+write3_part_of-result-requires-clause-tables c =
+    let a = c.args.graph.now.arena in record {
+      nodes = subst (λ (z : Tables). AllByRecursion (λ i. i < length a.nodes) z.nodes) (sym c.in_ok-own.ensures.tables) c.requires.nodes;
+      placed = subst (λ (z : Tables). z.done ≡ z.nodes) (sym c.in_ok-own.ensures.tables) c.requires.placed;
+      known = c.in_ok-own.ensures.known a;
+    }
 
-pub first_lack-requires-clause-lacking : goal.first_lack-requires-clause-lacking
-first_lack-requires-clause-lacking c =
-    let l = c.in-Err-NoSpelling.field-0-0 in
-    let before = nodes_before c.nodes.result.now c.args.tables.now.nodes c.write_value.new.tables.nodes c.node_count-count.result c.node_count-count.ensures.count c.nodes.ensures c.write_value.ensures.nodes in
-    subst (λ w. HasUnnamed (content c.args.graph.now) (value_content c.args.graph.now.arena c.args.value) w) (c.are_named.ensures ∙ sym before) (c.in-Err-NoSpelling.ensures.lack l (ap (λ w. Err w) c.in-Err-NoSpelling.field-0-is))
+pub returns-clause-written : goal.returns-clause-written
+returns-clause-written c =
+    on_ok c.write3_part_of-result.result (λ h. subst (λ (t : Tables). AppendsPart (content c.args.graph.now) (value_content c.args.graph.now.arena c.args.value) t c.write3_part_of-result.new.tables.tables c.args.out.now.items c.write3_part_of-result.new.out.items) c.in_ok-own.ensures.tables h) c.write3_part_of-result.ensures.written
 
-pub returns-in_ok-lack-in-Err-NoSpelling-clause-lack : goal.returns-in_ok-lack-in-Err-NoSpelling-clause-lack
-returns-in_ok-lack-in-Err-NoSpelling-clause-lack c = λ l e.
-    let g = content c.args.graph.now in
-    let v = value_content c.args.graph.now.arena c.args.value in
-    let before = nodes_before c.nodes.result.now c.args.tables.now.nodes c.write_value.new.tables.nodes c.node_count-count.result c.node_count-count.ensures.count c.nodes.ensures c.write_value.ensures.nodes in
-    subst (λ (k : Lack). IsPartLack3 g v c.args.tables.now.done k.node k.kind) (sym (same_lack (NoSpelling c.in_ok-lack-in-Err-NoSpelling.lack) l c.in_ok-lack-in-Err-NoSpelling.lack e refl))
-    (subst (λ w. IsPartLack3 g v w c.in_ok-lack-in-Err-NoSpelling.lack.node c.in_ok-lack-in-Err-NoSpelling.lack.kind) (before ∙ sym c.are_named.ensures) c.in_ok-lack-in-Err-NoSpelling.ensures)
+pub returns-clause-lack : goal.returns-clause-lack
+returns-clause-lack c = λ l e. subst (λ (t : Tables). IsPartLack3 (content c.args.graph.now) (value_content c.args.graph.now.arena c.args.value) t.done l.node l.kind) c.in_ok-own.ensures.tables (c.write3_part_of-result.ensures.lack l e)
 
-pub returns-in_default-2-clause-nodes : goal.returns-in_default-2-clause-nodes
-returns-in_default-2-clause-nodes c =
-    on_ok c.write_value.result (λ h.
-    part_inside (content c.args.graph.now) (value_content c.args.graph.now.arena c.args.value) c.args.tables.now c.write_value.new.tables c.args.out.now.items c.write_value.new.out.items (length c.args.graph.now.arena.nodes)
-    (length-map c.args.graph.now.arena.nodes (node_content c.args.graph.now.arena)) h c.requires.nodes) c.write_value.ensures.written
+pub returns-clause-nodes : goal.returns-clause-nodes
+returns-clause-nodes c = on_ok c.write3_part_of-result.result (λ h. h.nodes) c.write3_part_of-result.ensures.tables
+
+pub returns-clause-placed : goal.returns-clause-placed
+returns-clause-placed c = on_ok c.write3_part_of-result.result (λ h. h.placed) c.write3_part_of-result.ensures.tables

@@ -1,18 +1,10 @@
-use Rattle.std.proofs.Common.{◌≡◌, length, arith, ap, ◌∙◌}
+use Rattle.std.proofs.Common.{subst}
 use Rattle.amf_graph.specs.Arena.{text_at}
-use Rattle.amf3_write.proofs.Whole.{taken_back, own_front, on_ok_then, on_err_then}
-use Rattle.amf3_write.proofs.PartWritten.{text_written}
+use Rattle.amf_tables.specs.Tables.{Tables}
+use Rattle.amf3_write.specs.Written.{AppendsText}
+use Rattle.amf3_write.proofs.Wrote.{on_ok}
 use Rattle.amf3_write.proofs.part.write3_text.Goals as goal
 
 pub returns-clause-written : goal.returns-clause-written
 returns-clause-written c =
-    on_ok_then _ _ c.text_of-result.result (λ ok h.
-    text_written (text_at c.args.graph.now.arena c.args.text.0) c.in_ok-output.output c.text_of-result.new.self c.args.tables.now c.put_back.new.tables c.args.out.now.items c.put_back.new.bytes.items
-    c.in_ok-output.ensures.tables (ap (λ v. v.items) c.in_ok-output.ensures.bytes) c.put_back.ensures.tables (ap (λ v. v.items) (c.put_back.ensures.whole (c.is_err.ensures.value ∙ ok))) h) c.text_of-result.ensures.ok
-
-pub returns-clause-kept : goal.returns-clause-kept
-returns-clause-kept c =
-    let old = c.args.out.now.items in
-    let len : c.len-start.result ≡ length old = omega (arith, c.len-start.ensures, c.args.out.now.ok.0) in
-    let front = c.text_of-result.ensures.kept _ (own_front c.in_ok-output.output c.args.tables.now old c.in_ok-output.ensures.tables (ap (λ v. v.items) c.in_ok-output.ensures.bytes)) in
-    on_err_then _ c.text_of-result.result (λ ended. c.put_back.ensures.cut (c.is_err.ensures.value ∙ ended) ∙ taken_back old c.text_of-result.new.self.bytes.items c.len-start.result len front.bytes)
+    on_ok c.write_text-result.result (λ h. subst (λ (t : Tables). AppendsText (text_at c.args.graph.now.arena c.args.text.0) t c.write_text-result.new.tables.tables c.args.out.now.items c.write_text-result.new.out.items) c.in_ok-own.ensures.tables h) c.write_text-result.ensures.written

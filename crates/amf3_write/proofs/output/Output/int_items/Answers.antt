@@ -18,4 +18,6 @@ loop-int-preserved c =
       written = wrote_more_raw (signed_bytes (take i xs)) (to_be_bytes w32 (cast_unsigned w32 (get_or xs i (pos 0)))) (signed_bytes (take (i + 1) xs)) c.args.self.now c.loop-int.self c.raw.new.self (signed_more xs i (pos 0) within) c.loop-int.invariant.written
           (subst (λ x. WritesStep (raw x) c.loop-int.self c.raw.new.self) (c.to_be_bytes.ensures ∙ ap (to_be_bytes w32) bits) c.in_ok-raw.ensures.ok);
       kept = λ front h. c.in_ok-raw.ensures.kept front (c.loop-int.invariant.kept front h);
+      tables = c.raw.ensures.tables ∙ c.loop-int.invariant.tables;
+      known = c.raw.ensures.known ∙ c.loop-int.invariant.known;
     }

@@ -6,25 +6,29 @@ use Rattle.amf3_write.proofs.Leading.{leads_same}
 use Rattle.amf3_write.proofs.output.Output.next_value.Goals as goal
 
 pub returns-in-Values-clause-leads : goal.returns-in-Values-clause-leads
-returns-in-Values-clause-leads c = λ g.
-    let old = parts_left g.arena c.args.waiting.now.items in
+returns-in-Values-clause-leads c =
+    let g = content c.args.graph.now in
+    let a = c.args.graph.now.arena in
+    let old = parts_left a c.args.waiting.now.items in
     if_ok c.next_item.result (λ next e.
-    leads_same (content g) (run_parts g.arena c.args.run ++ old) (next_parts g.arena next ++ parts_left g.arena c.next_item.new.waiting.items) c.args.self.now (ap (λ run. run_parts g.arena run ++ old) c.in-Values.is ∙ sym e)) (c.next_item.ensures.left g.arena)
+    leads_same g (run_parts a c.args.run ++ old) (next_parts a next ++ parts_left a c.next_item.new.waiting.items) c.args.self.now (ap (λ run. run_parts a run ++ old) c.in-Values.is ∙ sym e)) (c.next_item.ensures.left a)
 
 pub returns-in-Values-clause-runs : goal.returns-in-Values-clause-runs
-returns-in-Values-clause-runs c = λ a h k. c.next_item.ensures.runs a (subst (λ run. IsRunOf a run) c.in-Values.is h) k
+returns-in-Values-clause-runs c = λ k. let a = c.args.graph.now.arena in c.next_item.ensures.runs a (subst (λ run. IsRunOf a run) c.in-Values.is c.requires.run) k
 
 pub returns-in-Entries-clause-leads : goal.returns-in-Entries-clause-leads
-returns-in-Entries-clause-leads c = λ g.
-    let old = parts_left g.arena c.args.waiting.now.items in
+returns-in-Entries-clause-leads c =
+    let g = content c.args.graph.now in
+    let a = c.args.graph.now.arena in
+    let old = parts_left a c.args.waiting.now.items in
     if_ok c.next_key.result (λ next e.
-    leads_same (content g) (run_parts g.arena c.args.run ++ old) (next_parts g.arena next ++ parts_left g.arena c.next_key.new.waiting.items) c.args.self.now (ap (λ run. run_parts g.arena run ++ old) c.in-Entries.is ∙ sym e)) (c.next_key.ensures.left g.arena)
+    leads_same g (run_parts a c.args.run ++ old) (next_parts a next ++ parts_left a c.next_key.new.waiting.items) c.args.self.now (ap (λ run. run_parts a run ++ old) c.in-Entries.is ∙ sym e)) (c.next_key.ensures.left a)
 
 pub returns-in-Entries-clause-runs : goal.returns-in-Entries-clause-runs
-returns-in-Entries-clause-runs c = λ a h k. c.next_key.ensures.runs a (subst (λ run. IsRunOf a run) c.in-Entries.is h) k
+returns-in-Entries-clause-runs c = λ k. let a = c.args.graph.now.arena in c.next_key.ensures.runs a (subst (λ run. IsRunOf a run) c.in-Entries.is c.requires.run) k
+
+pub next_pair-requires-clause-pairs : goal.next_pair-requires-clause-pairs
+next_pair-requires-clause-pairs c = subst (λ run. IsRunOf c.args.graph.now.arena run) c.in-Pairs.is c.requires.run
 
 pub returns-in-Pairs-clause-leads : goal.returns-in-Pairs-clause-leads
-returns-in-Pairs-clause-leads c = λ g. rw (c.in-Pairs.is) (c.next_pair.ensures.leads g)
-
-pub returns-in-Pairs-clause-runs : goal.returns-in-Pairs-clause-runs
-returns-in-Pairs-clause-runs c = λ a h k. c.next_pair.ensures.runs a (subst (λ run. IsRunOf a run) c.in-Pairs.is h) k
+returns-in-Pairs-clause-leads c = rw (c.in-Pairs.is) c.next_pair.ensures.leads

@@ -9,7 +9,7 @@ use Rattle.amf_tables.specs.ByteSpelling.{Part, step, traits, values_then, pairs
 use Rattle.amf_iso.specs.Contents.{pairs_of, values_of}
 use Rattle.amf3_write.specs.declared.unwritten.Unwritten.TheVariants.{Values}
 use Rattle.amf3_write.specs.Unwritten.{parts_left, turns_left}
-use Rattle.amf3_write.specs.Writes.{Leads}
+use Rattle.amf3_write.specs.Writes.{Leads, WritesStep}
 use Rattle.amf3_write.proofs.Leading.{leads_to, leads_step}
 use Rattle.amf3_write.proofs.Runs.{parts_pushed, turns_pushed, values_before}
 use Rattle.amf3_write.proofs.output.Output.object.Goals as goal
@@ -34,7 +34,8 @@ returns-clause-leads c =
     let left = parts_pushed a c.if-class.waiting.items c.push.new.self.items (Values c.args.sealed) c.in_ok-push.ensures.items in
     subst (λ (x : StoredTraits). Leads g (layout (object (traits_content a x)) ws vs ++ old) now c.args.self.now c.traits.new.self) (sym c.traits-class.ensures)
     (leads_to g (step (traits (plain t)) ∷ (values_then vs members ++ old)) (values_then vs members ++ old) now c.args.self.now c.traits.new.self (values_before vs members old (parts_left a c.if-class.waiting.items) now mid left)
-    (leads_step g (traits (plain t)) (values_then vs members ++ old) c.args.self.now c.traits.new.self c.in_ok-traits.ensures.ok))
+    (leads_step g (traits (plain t)) (values_then vs members ++ old) c.args.self.now c.traits.new.self
+    (subst (λ (x : StoredTraits). WritesStep (traits (plain (traits_content a x))) c.args.self.now c.traits.new.self) c.traits-class.ensures c.in_ok-traits.ensures.ok)))
 
 pub returns-clause-turns : goal.returns-clause-turns
 returns-clause-turns c =

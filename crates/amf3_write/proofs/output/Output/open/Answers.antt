@@ -150,3 +150,6 @@ pub returns-in_ok-push-in-Dictionary-clause-turns : goal.returns-in_ok-push-in-D
 returns-in_ok-push-in-Dictionary-clause-turns c =
     let w = subst (λ (n : StoredNode). NodeWithin n) c.in-Dictionary.ensures (node_within c.args.graph.now.arena c.args.node.0 c.is_finished.ensures.bounds c.requires.there) in
     omega (arith, w.together, flat_length c.in-Dictionary.entries.now, turns_pushed c.args.waiting.now.items c.push-in-Dictionary.new.self.items (Entries c.in-Dictionary.entries) c.in_ok-push-in-Dictionary.ensures.items)
+
+pub returns-in_ok-push-in-Wrapper-clause-ready : goal.returns-in_ok-push-in-Wrapper-clause-ready
+returns-in_ok-push-in-Wrapper-clause-ready c = c.wrapper.ensures.ready c.args.graph.now.arena c.requires.ready

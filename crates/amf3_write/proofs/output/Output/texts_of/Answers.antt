@@ -6,8 +6,8 @@ use Rattle.amf_tables.proofs.ShownTexts.{id_within, texts_more}
 use Rattle.amf3_write.proofs.Wrote.{wrote_more_text}
 use Rattle.amf3_write.proofs.output.Output.texts_of.Goals as goal
 
-pub text_of-requires : goal.text_of-requires
-text_of-requires c = id_within c.args.graph.now.arena c.args.texts.now c.loop-text.text-index _ c.requires (omega arith)
+pub text_of-requires-clause-id : goal.text_of-requires-clause-id
+text_of-requires-clause-id c = id_within c.args.graph.now.arena c.args.texts.now c.loop-text.text-index _ c.requires.texts (omega arith)
 
 pub loop-text-preserved : goal.loop-text-preserved
 loop-text-preserved c =
@@ -18,4 +18,5 @@ loop-text-preserved c =
       written = subst (λ xs. WritesTexts xs c.args.self.now c.text_of.new.self) (sym (texts_more a c.args.texts.now i (record { 0 = 0 }) within))
           (wrote_more_text (texts_at a (take i c.args.texts.now)) (text_at a (get_or c.args.texts.now i (record { 0 = 0 })).0) c.args.self.now c.loop-text.self c.text_of.new.self c.loop-text.invariant.written c.in_ok-text_of.ensures.ok);
       kept = λ front h. c.in_ok-text_of.ensures.kept front (c.loop-text.invariant.kept front h);
+      ready = c.in_ok-text_of.ensures.ready;
     }

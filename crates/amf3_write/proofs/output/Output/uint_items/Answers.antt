@@ -1,4 +1,4 @@
-use Rattle.std.proofs.Common.{◌+◌, ◌<◌, length, take, get_or, arith, subst}
+use Rattle.std.proofs.Common.{◌∙◌, ◌+◌, ◌<◌, length, take, get_or, arith, subst}
 use Rattle.std.specs.Int.{to_be_bytes, w32}
 use Rattle.amf_tables.specs.ByteSpelling.{raw, four_bytes}
 use Rattle.amf3_write.specs.Writes.{WritesStep}
@@ -14,4 +14,6 @@ loop-uint-preserved c =
       written = wrote_more_raw (four_bytes (take i xs)) (to_be_bytes w32 (get_or xs i 0)) (four_bytes (take (i + 1) xs)) c.args.self.now c.loop-uint.self c.raw.new.self (four_more xs i 0 within) c.loop-uint.invariant.written
           (subst (λ x. WritesStep (raw x) c.loop-uint.self c.raw.new.self) c.to_be_bytes.ensures c.in_ok-raw.ensures.ok);
       kept = λ front h. c.in_ok-raw.ensures.kept front (c.loop-uint.invariant.kept front h);
+      tables = c.raw.ensures.tables ∙ c.loop-uint.invariant.tables;
+      known = c.raw.ensures.known ∙ c.loop-uint.invariant.known;
     }

@@ -12,24 +12,22 @@ use Rattle.amf3_write.proofs.Turns.{kept_less, falls_less}
 use Rattle.amf3_write.proofs.WroteNodes.{same_end}
 use Rattle.amf3_write.proofs.output.Output.value.Goals as goal
 
-pub next_value-requires : goal.next_value-requires
-next_value-requires c =
+pub next_value-requires-clause-run : goal.next_value-requires-clause-run
+next_value-requires-clause-run c =
     let a = c.args.graph.now.arena in
-    (a, top_of (IsRunOf a) c.loop-top.waiting.items c.pop.new.self.items c.in-Some.top c.in-Some.ensures.items c.loop-top.invariant.runs)
+    top_of (IsRunOf a) c.loop-top.waiting.items c.pop.new.self.items c.in-Some.top c.in-Some.ensures.items c.loop-top.invariant.runs
 
 pub begin-requires-clause-value : goal.begin-requires-clause-value
 begin-requires-clause-value c =
     let a = c.args.graph.now.arena in
-    let top = top_of (IsRunOf a) c.loop-top.waiting.items c.pop.new.self.items c.in-Some.top c.in-Some.ensures.items c.loop-top.invariant.runs in
     let rest = rest_of (IsRunOf a) c.loop-top.waiting.items c.pop.new.self.items c.in-Some.top c.in-Some.ensures.items c.loop-top.invariant.runs in
-    subst (λ next. IsNextOf a next) c.in-Some-next.is (c.in_ok-next.ensures.runs a top rest).0
+    subst (λ next. IsNextOf a next) c.in-Some-next.is (c.in_ok-next.ensures.runs rest).0
 
 pub begin-requires-clause-runs : goal.begin-requires-clause-runs
 begin-requires-clause-runs c =
     let a = c.args.graph.now.arena in
-    let top = top_of (IsRunOf a) c.loop-top.waiting.items c.pop.new.self.items c.in-Some.top c.in-Some.ensures.items c.loop-top.invariant.runs in
     let rest = rest_of (IsRunOf a) c.loop-top.waiting.items c.pop.new.self.items c.in-Some.top c.in-Some.ensures.items c.loop-top.invariant.runs in
-    (c.in_ok-next.ensures.runs a top rest).1
+    (c.in_ok-next.ensures.runs rest).1
 
 pub returns-in_err-begin-clause-lack : goal.returns-in_err-begin-clause-lack
 returns-in_err-begin-clause-lack c = λ l e.
@@ -38,7 +36,7 @@ returns-in_err-begin-clause-lack c = λ l e.
     let whole = value (value_content a c.args.value) ∷ [] in
     let left = c.next_value.new.waiting.items in
     let now = value (value_content a c.in-Some-next.value) ∷ parts_left a left in
-    let before = turned g a whole c.pop.new.self.items c.loop-top.waiting.items left c.in-Some.top c.in_ok-next.next c.args.self.now c.loop-top.self c.next_value.new.self c.in-Some.ensures.items c.loop-top.invariant.leads (c.in_ok-next.ensures.leads c.args.graph.now) in
+    let before = turned g a whole c.pop.new.self.items c.loop-top.waiting.items left c.in-Some.top c.in_ok-next.next c.args.self.now c.loop-top.self c.next_value.new.self c.in-Some.ensures.items c.loop-top.invariant.leads c.in_ok-next.ensures.leads in
     let begun = subst (λ next. Leads g whole (next_parts a next ++ parts_left a left) c.args.self.now c.next_value.new.self) c.in-Some-next.is before in
     stops_behind g whole now c.args.self.now c.next_value.new.self l begun (c.in_err-begin.ensures.lack l (same_end c.from_residual-in_err-begin.result c.in_err-begin.field-0.0 l c.from_residual-in_err-begin.ensures.1 e))
 
@@ -49,11 +47,12 @@ loop-top-preserved-in-Continue-branch-3 c =
     let whole = value (value_content a c.args.value) ∷ [] in
     let left = c.next_value.new.waiting.items in
     let now = value (value_content a c.in-Some-next.value) ∷ parts_left a left in
-    let before = turned g a whole c.pop.new.self.items c.loop-top.waiting.items left c.in-Some.top c.in_ok-next.next c.args.self.now c.loop-top.self c.next_value.new.self c.in-Some.ensures.items c.loop-top.invariant.leads (c.in_ok-next.ensures.leads c.args.graph.now) in
+    let before = turned g a whole c.pop.new.self.items c.loop-top.waiting.items left c.in-Some.top c.in_ok-next.next c.args.self.now c.loop-top.self c.next_value.new.self c.in-Some.ensures.items c.loop-top.invariant.leads c.in_ok-next.ensures.leads in
     let begun = subst (λ next. Leads g whole (next_parts a next ++ parts_left a left) c.args.self.now c.next_value.new.self) c.in-Some-next.is before in
     record {
       leads = leads_then g whole now (parts_left a c.begin.new.waiting.items) c.args.self.now c.next_value.new.self c.begin.new.self begun c.in_ok-begin.ensures.leads;
       runs = c.in_ok-begin.ensures.runs;
+      ready = c.in_ok-begin.ensures.ready;
       kept = λ front h. c.in_ok-begin.ensures.kept front (c.in_ok-next.ensures.kept front (c.loop-top.invariant.kept front h));
     }
 
@@ -69,14 +68,14 @@ pub loop-top-preserved : goal.loop-top-preserved
 loop-top-preserved c =
     let g = content c.args.graph.now in
     let a = c.args.graph.now.arena in
-    let top = top_of (IsRunOf a) c.loop-top.waiting.items c.pop.new.self.items c.in-Some.top c.in-Some.ensures.items c.loop-top.invariant.runs in
     let rest = rest_of (IsRunOf a) c.loop-top.waiting.items c.pop.new.self.items c.in-Some.top c.in-Some.ensures.items c.loop-top.invariant.runs in
     let whole = value (value_content a c.args.value) ∷ [] in
     let left = c.next_value.new.waiting.items in
-    let before = turned g a whole c.pop.new.self.items c.loop-top.waiting.items left c.in-Some.top c.in_ok-next.next c.args.self.now c.loop-top.self c.next_value.new.self c.in-Some.ensures.items c.loop-top.invariant.leads (c.in_ok-next.ensures.leads c.args.graph.now) in
+    let before = turned g a whole c.pop.new.self.items c.loop-top.waiting.items left c.in-Some.top c.in_ok-next.next c.args.self.now c.loop-top.self c.next_value.new.self c.in-Some.ensures.items c.loop-top.invariant.leads c.in_ok-next.ensures.leads in
     record {
       leads = subst (λ next. Leads g whole (next_parts a next ++ parts_left a left) c.args.self.now c.next_value.new.self) c.in_default-next.is before;
-      runs = (c.in_ok-next.ensures.runs a top rest).1;
+      runs = (c.in_ok-next.ensures.runs rest).1;
+      ready = c.in_ok-next.ensures.ready;
       kept = λ front h. c.in_ok-next.ensures.kept front (c.loop-top.invariant.kept front h);
     }
 

@@ -5,6 +5,7 @@ use Rattle.amf_tables.specs.Tables.{external}
 use Rattle.amf_tables.specs.ByteSpelling.{word}
 use Rattle.amf_tables.proofs.Steps3.{class_text, class_short}
 use Rattle.amf3_write.specs.Writes.{WritesStep}
+use Rattle.amf3_write.proofs.Ready.{ready_same, ready_with_entry}
 use Rattle.amf3_write.proofs.Wrote.{wrote_entry, wrote_no_text, wrote_first_text}
 use Rattle.amf3_write.proofs.output.Output.wrapper_inline.Goals as goal
 
@@ -20,3 +21,16 @@ returns-clause-ok c =
     wrote_entry (external c.args.class) c.args.self.now c.number.new.self c.text.new.self _ _ c.requires (0, refl, refl) c.in_ok-number.ensures.ok
     (wrote_first_text (class_name c.args.class) [] c.number.new.self c.text.new.self c.text.new.self named (wrote_no_text c.text.new.self))
     c.in_ok-add_wrapped.ensures.ok refl
+
+pub returns-in_err-text-clause-ready : goal.returns-in_err-text-clause-ready
+returns-in_err-text-clause-ready c = λ a r. c.text.ensures.ready a (ready_same a c.args.self.now.tables c.number.new.self.tables c.args.self.now.known c.number.new.self.known r c.number.ensures.tables c.number.ensures.known)
+
+pub returns-in_err-add_wrapped-clause-ready : goal.returns-in_err-add_wrapped-clause-ready
+returns-in_err-add_wrapped-clause-ready c = λ a r.
+    let begun = ready_same a c.args.self.now.tables c.number.new.self.tables c.args.self.now.known c.number.new.self.known r c.number.ensures.tables c.number.ensures.known in
+    ready_same a c.text.new.self.tables c.add_wrapped.new.self c.text.new.self.known c.text.new.self.known (c.text.ensures.ready a begun) c.in_err-add_wrapped.ensures.err refl
+
+pub returns-clause-ready : goal.returns-clause-ready
+returns-clause-ready c = λ a r.
+    let begun = ready_same a c.args.self.now.tables c.number.new.self.tables c.args.self.now.known c.number.new.self.known r c.number.ensures.tables c.number.ensures.known in
+    ready_with_entry a c.text.new.self.tables c.add_wrapped.new.self c.text.new.self.known c.text.new.self.known _ (c.text.ensures.ready a begun) c.in_ok-add_wrapped.ensures.ok refl

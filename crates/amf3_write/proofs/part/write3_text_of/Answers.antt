@@ -1,0 +1,23 @@
+use Rattle.std.proofs.Common.{◌≡◌, length, arith, ap, ◌∙◌}
+use Rattle.amf_graph.specs.Arena.{text_at}
+use Rattle.amf3_write.proofs.Whole.{taken_back, own_front, on_ok_then, on_err_then}
+use Rattle.amf3_write.proofs.PartWritten.{text_written}
+use Rattle.amf3_write.proofs.PartTables.{on_ok_both, text_tables}
+use Rattle.amf3_write.proofs.part.write3_text_of.Goals as goal
+
+pub returns-clause-written : goal.returns-clause-written
+returns-clause-written c =
+    on_ok_then _ _ c.text_of-result.result (λ ok h.
+    text_written (text_at c.args.graph.now.arena c.args.text.0) c.in_ok-output.output c.text_of-result.new.self c.args.tables.now.tables c.put_back.new.tables.tables c.args.out.now.items c.put_back.new.bytes.items
+    c.in_ok-output.ensures.tables (ap (λ v. v.items) c.in_ok-output.ensures.bytes) c.put_back.ensures.tables (ap (λ v. v.items) (c.put_back.ensures.whole (c.is_err.ensures.value ∙ ok))) h) c.text_of-result.ensures.ok
+
+pub returns-clause-kept : goal.returns-clause-kept
+returns-clause-kept c =
+    let old = c.args.out.now.items in
+    let len : c.len-start.result ≡ length old = omega (arith, c.len-start.ensures, c.args.out.now.ok.0) in
+    let front = c.text_of-result.ensures.kept _ (own_front c.in_ok-output.output c.args.tables.now.tables old c.in_ok-output.ensures.tables (ap (λ v. v.items) c.in_ok-output.ensures.bytes)) in
+    on_err_then _ c.text_of-result.result (λ ended. c.put_back.ensures.cut (c.is_err.ensures.value ∙ ended) ∙ taken_back old c.text_of-result.new.self.bytes.items c.len-start.result len front.bytes)
+
+pub returns-clause-tables : goal.returns-clause-tables
+returns-clause-tables c =
+    on_ok_both c.text_of-result.result (λ h r. text_tables c.args.graph.now.arena _ c.in_ok-output.output c.text_of-result.new.self c.args.tables.now c.put_back.new.tables c.in_ok-output.ensures.tables c.put_back.ensures.tables c.put_back.ensures.known c.requires.tables h r) c.text_of-result.ensures.ok c.text_of-result.ensures.ready

@@ -1,0 +1,17 @@
+use Rattle.std.proofs.Common.{sym, subst}
+use Rattle.amf_tables.specs.FirstPlace.{IsFirstPlace}
+use Rattle.amf_tables.specs.KnownWords.{entry_at, AreKnownOf}
+use Rattle.amf_tables.proofs.KnownPlaces.{known_more}
+use Rattle.amf_tables.proofs.known_words.KnownWords.place_of_traits.Goals as goal
+
+pub returns-in-Some-clause-first : goal.returns-in-Some-clause-first
+returns-in-Some-clause-first c =
+    let known = subst (λ w. AreKnownOf c.args.graph.now.arena c.args.tables.now.words w) (sym c.self.view_is) c.requires.known in
+    known.traits c.args.traits.0 c.in-Some.place c.in-Some.ensures.0 c.in-Some.ensures.1
+
+pub returns-clause-known : goal.returns-clause-known
+returns-clause-known c =
+    let a = c.args.graph.now.arena in
+    let known = subst (λ w. AreKnownOf a c.args.tables.now.words w) (sym c.self.view_is) c.requires.known in
+    let first : IsFirstPlace c.args.tables.now.words.traits (entry_at a c.args.traits.0) c.in_ok-place.place = rw (c.traits.ensures) c.in_ok-place.ensures.first in
+    record { texts = known.texts; traits = known_more (entry_at a) c.args.tables.now.words.traits _ c.keep.new.self c.args.traits.0 c.in_ok-place.place known.traits first c.keep.ensures }

@@ -1,0 +1,21 @@
+-- What is known of the places of a graph's texts and traits in a writer's tables, by id.
+use Rattle.std.specs.Prelude.{ℕ, List, []}
+use Rattle.amf_graph.specs.Arena.{Arena, text_at, traits_at}
+use Rattle.amf_tables.specs.KnownPlaces.{AreKnown}
+use Rattle.amf_tables.specs.Tables.{Entry, plain, Words}
+
+pub record Known : Type 0 where
+  pub texts : List ℕ
+  pub traits : List ℕ
+
+abbrev pub nothing_known : Known
+nothing_known = record { texts = []; traits = [] }
+
+-- the traits at a place, as an entry
+abbrev pub entry_at : Arena → ℕ → Entry
+entry_at a i = plain (traits_at a i)
+
+-- each place that is known is the first one
+pub record AreKnownOf (a : Arena) (w : Words) (known : Known) : Type 0 where
+  pub texts : AreKnown (text_at a) w.texts known.texts
+  pub traits : AreKnown (entry_at a) w.traits known.traits

@@ -1,0 +1,63 @@
+ghost use Rattle.std.specs.Prelude.{◌≡◌, ◌≢◌, ℕ, [], slice_get, Some, IfSome};
+ghost use Rattle.amf_tables.specs.KnownPlaces.{Knows};
+
+use amf_wire::Memory;
+use std::alloc::Global;
+use std::marker::Model;
+
+/// What stands for an id whose place is not known.
+const UNKNOWN: u32 = 4_294_967_295;
+
+/// Places by id, as far as they are known.
+#[derive(Drop)]
+pub(crate) struct KnownPlaces {
+    places: Vec<u32>,
+}
+
+impl Model for KnownPlaces {
+    ghost use Rattle.std.specs.Prelude.{ℕ, List};
+
+    ghost Value = { List ℕ };
+
+    ghost view = { λ k. k.places.items };
+}
+
+/// Makes room for the place of an id. After an error there may be some room more.
+fn make_room(places: &mut Vec<u32>, index: usize) -> Result<(), Memory>
+    ensures { (i k : ℕ) → slice_get places.new.items i ≡ Some k → k ≢ UNKNOWN → slice_get places.old.items i ≡ Some k }
+{
+    while places.len() <= index {
+        places.push(UNKNOWN)?;
+    }
+    Ok(())
+}
+
+impl KnownPlaces {
+    /// Nothing is known.
+    pub(crate) fn new(alloc: Global) -> KnownPlaces
+        ensures { result ≡ [] }
+    {
+        KnownPlaces {
+            places: Vec::new(alloc),
+        }
+    }
+
+    /// What is known of an id.
+    pub(crate) fn place_of(&self, id: u32) -> Option<u32>
+        ensures { IfSome result (λ place. (slice_get self.now id ≡ Some place) × (place ≢ UNKNOWN)) }
+    {
+        let place = *self.places.get(id as usize)?;
+        if place == UNKNOWN { None } else { Some(place) }
+    }
+
+    /// Keeps the place of an id, where there is memory for it.
+    pub(crate) fn keep(&mut self, id: u32, place: u32)
+        ensures { Knows self.old id place self.new }
+    {
+        let index = id as usize;
+        let _ = make_room(&mut self.places, index);
+        if index < self.places.len() {
+            self.places[index] = place;
+        }
+    }
+}
