@@ -102,15 +102,19 @@ module _ (g : Graph) where
         subst (λ w. wraps g w ≡ true) back (ring v a b l e h k (a + c) (omega (arith, l, m, at))))
   ]
 
-  -- wrappers end, or never do: a chain that is longer than the number of nodes is a ring
+  -- a chain that is longer than the number of nodes never ends: it is a ring
+  pub never_ending : (v : Value) → ((n : ℕ) → n < suc (length g.nodes) → wraps g (unwrapped_times g n v) ≡ true) → (n : ℕ) → wraps g (unwrapped_times g n v) ≡ true
+  never_ending v h n =
+      let o = twice (length g.nodes) (λ n. number_of (unwrapped_times g n v)) (λ n l. wraps_within (unwrapped_times g n v) (h n l)) in
+      let a = o.0 in
+      let b = o.1 in
+      let same = same_number (unwrapped_times g a v) (unwrapped_times g b v) (h a (omega (arith, o.2, o.3))) (h b o.3) o.4 in
+      ring v a b o.2 same (λ k l. h k (omega (arith, l, o.3))) n n (omega arith)
+
+  -- wrappers end, or never do
   pub chain : (v : Value) → ((n : ℕ) × (wraps g (unwrapped_times g n v) ≡ false)) ⊎ ((n : ℕ) → wraps g (unwrapped_times g n v) ≡ true)
   chain v = step (first_false (λ n. wraps g (unwrapped_times g n v)) (suc (length g.nodes)))
     where
       step : ((n : ℕ) × (wraps g (unwrapped_times g n v) ≡ false)) ⊎ ((n : ℕ) → n < suc (length g.nodes) → wraps g (unwrapped_times g n v) ≡ true) → ((n : ℕ) × (wraps g (unwrapped_times g n v) ≡ false)) ⊎ ((n : ℕ) → wraps g (unwrapped_times g n v) ≡ true)
       step (inl r) = inl r
-      step (inr h) =
-          let o = twice (length g.nodes) (λ n. number_of (unwrapped_times g n v)) (λ n l. wraps_within (unwrapped_times g n v) (h n l)) in
-          let a = o.0 in
-          let b = o.1 in
-          let same = same_number (unwrapped_times g a v) (unwrapped_times g b v) (h a (omega (arith, o.2, o.3))) (h b o.3) o.4 in
-          inr (λ n. ring v a b o.2 same (λ k l. h k (omega (arith, l, o.3))) n n (omega arith))
+      step (inr h) = inr (never_ending v h)

@@ -14,6 +14,7 @@ pub mod LawsLack0
 pub mod WorkedRows0
 pub mod WorkedLacks0
 pub mod KeptTables0
+pub mod TableParts0
 pub mod Reads0
 pub mod VerdictLaws0
 pub mod WorkedVerdicts0

@@ -103,7 +103,7 @@ todo_nothing v m i (Entries (suc n)) is s = absurd cc
 
 -- What the node lacks.
 
-suits_name : (h : graph.Head) (n : StoredNode) (p : Parts) (x : TextId) → IsNext p next.Name → Suits h n p → WaitsFor h n (slot.Named x) p
+pub suits_name : (h : graph.Head) (n : StoredNode) (p : Parts) (x : TextId) → IsNext p next.Name → Suits h n p → WaitsFor h n (slot.Named x) p
 suits_name h n (Array k) x is s = s
 suits_name h n (Object zero true) x is s = (s, refl)
 suits_name h n (Object zero false) x is s = absurd cc
@@ -113,7 +113,7 @@ suits_name h n (Items (suc k)) x is s = absurd cc
 suits_name h n (Entries zero) x is s = absurd cc
 suits_name h n (Entries (suc k)) x is s = absurd cc
 
-suits_behind : (h : graph.Head) (n : StoredNode) (p q : Parts) → IsNext p next.Name → IsBehindPairs p q → Suits h n p → Suits h n q
+pub suits_behind : (h : graph.Head) (n : StoredNode) (p q : Parts) → IsNext p next.Name → IsBehindPairs p q → Suits h n p → Suits h n q
 suits_behind h n (Array k) q is e s = subst (Suits h n) (sym e) (inl s)
 suits_behind h n (Object zero true) q is e (t, eq, k, d, z) = subst (Suits h n) (sym e) (t, eq, k, (λ f. absurd cc), z)
 suits_behind h n (Object zero false) q is e s = absurd cc

@@ -5,13 +5,13 @@ mod NodeMarks
 mod HeaderRules
 mod MarkerRules
 mod NumbersRead
-mod LayoutBinds
-mod TextReads
-mod PartPut
-mod Stack
-mod Empties
-mod NodeStarts
-mod GoesOn
+pub mod LayoutBinds
+pub mod TextReads
+pub mod PartPut
+pub mod Stack
+pub mod Empties
+pub mod NodeStarts
+pub mod GoesOn
 mod TextsLayouts
 mod TextsReads
 mod ClassReads
@@ -20,8 +20,8 @@ mod TraitsShapes
 mod NodeBegins
 mod OpeningNodes
 mod VectorsRead
-mod OpeningReads
-mod LayoutVerdicts
+pub mod OpeningReads
+pub mod LayoutVerdicts
 mod TextLayout
 mod TextAnswers
 mod ReadAnswers

@@ -39,13 +39,13 @@ use Rattle.amf3_read.proofs.InlineReads.{parts_at, whole_continues, parts_are}
 use Rattle.amf3_read.proofs.TextReads.{odd_test}
 
 -- what leads on gives what it leads to
-answers_on : {S X Y Z : Type 0} (tells : S → Type 0) (left : S → List ℕ) (faults : S → ℕ) (view : Z → Y) (t u : Layout Y) (c d e : Cursor S Window) (x : X) (z : Z) → Goes tells left faults c d (Ok x) → Leads tells left t u c d → Answers tells left view u d e (Ok z) → Answers tells left view t c e (Ok z)
+pub answers_on : {S X Y Z : Type 0} (tells : S → Type 0) (left : S → List ℕ) (faults : S → ℕ) (view : Z → Y) (t u : Layout Y) (c d e : Cursor S Window) (x : X) (z : Z) → Goes tells left faults c d (Ok x) → Leads tells left t u c d → Answers tells left view u d e (Ok z) → Answers tells left view t c e (Ok z)
 answers_on tells left faults view t u c d e x z g l a =
     leads_answers tells left faults view t (view z) c e z refl
     (leads_on tells left faults t u (give (view z)) c d e x g l (subst (λ w. Leads tells left w (give (view z)) d e) (bind_give u) (leads_behind tells left faults view u (λ y. give y) d e z a)))
 
 -- What an empty node lacks.
-shaped_suits : (h : graph.Head) (n : StoredNode) (p : Parts) → IsEmptyNode n → IsShaped h p → Suits h n p
+pub shaped_suits : (h : graph.Head) (n : StoredNode) (p : Parts) → IsEmptyNode n → IsShaped h p → Suits h n p
 shaped_suits graph.array n (Array k) z s = refl
 shaped_suits graph.array n (Object k d) z s = absurd s
 shaped_suits graph.array n (Items k) z s = absurd s

@@ -42,7 +42,7 @@ use Rattle.amf3_read.proofs.PartPut.{part_names, part_values, more_size, there, 
 
 -- The frames below are left alone.
 
-abbrev opened_less : (b : Arena) (i left more : ℕ) → left ≤ more → IsOpened b i more → IsOpened b i left
+abbrev pub opened_less : (b : Arena) (i left more : ℕ) → left ≤ more → IsOpened b i more → IsOpened b i left
 opened_less b i left more le o = record { before = o.before; within = o.within; place = o.place; opened = o.opened; room = let r = o.room in omega arith }
 
 pub nested_less : (a : Arena) (left more : ℕ) (fs : List Frame) (b : Arena) → left ≤ more → Nested a more fs b → Nested a left fs b
@@ -63,7 +63,7 @@ slot_names a b g (slot.Named x) h = text_id_after_growth a b g x.0 h
 slot_names a b g slot.Key h = tt
 slot_names a b g (slot.Entry k) h = names_after_growth a b g k h
 
-abbrev opened_grown : (b b1 : Arena) (i left : ℕ) → Grows b b1 → IsOpened b i left → IsOpened b1 i left
+abbrev pub opened_grown : (b b1 : Arena) (i left : ℕ) → Grows b b1 → IsOpened b i left → IsOpened b1 i left
 opened_grown b b1 i left g o = record {
   before = o.before;
   within = subst (λ n. Grows (kept_node o.before n) b1) (sym (stays i left b b1 o g)) (grows_twice (kept_node o.before (stored_at b i)) b b1 o.within g);
@@ -101,7 +101,7 @@ some_part : (p r : Part) → Some p ≡ Some r → p ≡ r
 some_part p r e = cc
 
 -- and what it lacks then
-suits_more : (h : graph.Head) (m : StoredNode) (x : Slot) (q : Parts) (v : Stored) (p : Part) → IsPart x v (Some p) → WaitsFor h m x q → Suits h (with_more m (part_names p) (part_values p)) q
+pub suits_more : (h : graph.Head) (m : StoredNode) (x : Slot) (q : Parts) (v : Stored) (p : Part) → IsPart x v (Some p) → WaitsFor h m x q → Suits h (with_more m (part_names p) (part_values p)) q
 suits_more h m x q v p is w = by p x q is w
   where
     item : (p : Part) (q : Parts) → p ≡ part.Item v → WaitsFor h m slot.Item q → Suits h (with_more m (part_names p) (part_values p)) q
@@ -132,7 +132,7 @@ suits_more h m x q v p is w = by p x q is w
     by p (slot.Entry k) q is w = entry k p q (some_part p _ is) w
 
 -- the node's kind takes it
-takes : (h : graph.Head) (m : StoredNode) (x : Slot) (q : Parts) (v : Stored) (p : Part) → IsPart x v (Some p) → WaitsFor h m x q → Takes h (length m.values) p
+pub takes : (h : graph.Head) (m : StoredNode) (x : Slot) (q : Parts) (v : Stored) (p : Part) → IsPart x v (Some p) → WaitsFor h m x q → Takes h (length m.values) p
 takes h m x q v p is w = by x q is w
   where
     lacks : (n : ℕ) → LacksItems h m (suc n) → Takes h (length m.values) (part.Item v)
@@ -223,12 +223,12 @@ kept_twice a b b1 u u1 c d e h k = record {
   nodes = let x = h.nodes in let y = k.nodes in omega arith;
 }
 
-enough_less : (left more : ℕ) (u : Fuel) → left ≤ more → Enough more u → Enough left u
+pub enough_less : (left more : ℕ) (u : Fuel) → left ≤ more → Enough more u → Enough left u
 enough_less left more u le h = (let x = h.0 in omega arith, let y = h.1 in omega arith)
 
 module _ {S : Type 0} (tells : S → Type 0) (left : S → List ℕ) (faults : S → ℕ) where
   -- what leads on does so with more behind it
-  leads_bound : {X Y : Type 0} (t u : Layout X) (f : X → Layout Y) (c d : Cursor S Window) → Leads tells left t u c d → Leads tells left (bind t f) (bind u f) c d
+  pub leads_bound : {X Y : Type 0} (t u : Layout X) (f : X → Layout Y) (c d : Cursor S Window) → Leads tells left t u c d → Leads tells left (bind t f) (bind u f) c d
   leads_bound t u f c d l = record { fields = l.fields; path = path_bind t u f l.fields l.path; bytes = l.bytes; taken = l.taken; within = l.within; parts = l.parts }
 
   pub so_begin : (a : Arena) (t : KeptTables) (c : Cursor S Window) → Ready 0 a t c → StackSo tells left faults a a t t c c now.Wanted []

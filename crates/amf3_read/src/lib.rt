@@ -22,7 +22,12 @@ mod traits;
 mod value;
 mod values;
 
+pub use contents::{Contents, read_contents};
+pub use ends::{kept, refused};
+pub use field::{FieldSize, read_field};
+pub use field_bytes::FieldBytes;
 pub use laws::{pairs_have_one_verdict, texts_have_one_verdict};
-pub use text::read3_text;
-pub use value::read3;
+pub use number::read_flag;
+pub use text::{read_loose_text, read3_text};
+pub use value::{read_double, read_value, read3};
 pub use values::Values3;

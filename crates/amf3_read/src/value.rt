@@ -54,8 +54,9 @@ pub fn read3<S: Source>(
     read_value(alloc, cursor, builder, tables)
 }
 
-/// Reads one value, with the nodes that are open on a stack of its own.
-fn read_value<S: Source>(
+/// Reads one value as [`read3`] does, for readers of formats that have it within them: what was read is told by its
+/// layout. The nodes that are open are on a stack of its own.
+pub fn read_value<S: Source>(
     alloc: Global,
     cursor: &mut Cursor<'_, S>,
     builder: &mut Builder,
@@ -168,7 +169,7 @@ fn read_integer<S: Source>(cursor: &mut Cursor<'_, S>) -> Result<i32, ReadEnd>
 }
 
 /// Reads a double, by its bits (AMF 3 specification, 3.7).
-fn read_double<S: Source>(cursor: &mut Cursor<'_, S>) -> Result<Pattern, ReadEnd>
+pub fn read_double<S: Source>(cursor: &mut Cursor<'_, S>) -> Result<Pattern, ReadEnd>
     ensures goes { Goes S.tells S.left S.faults cursor.old cursor.new result }
     ensures answers { Answers S.tells S.left (λ p. p.0) eight_layout cursor.old cursor.new result }
     ensures own { IfOk result (λ p. p.0 < 2 ^ 64) }
