@@ -1,0 +1,14 @@
+mod States0
+mod Markers
+mod TextReads0
+mod Stack0
+mod GoesOn0
+mod Opened0
+mod Starts0
+mod FieldReads0
+mod NodeStarts0
+mod Closes0
+mod Fronts0
+mod FrontStarts0
+mod Costs0
+mod ReadAnswers0

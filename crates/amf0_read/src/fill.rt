@@ -1,0 +1,76 @@
+ghost use Rattle.std.specs.Prelude.{◌<◌, IfOk};
+ghost use Rattle.amf_io.specs.Cursor.{place};
+ghost use Rattle.amf_io.specs.CursorReads.{Goes};
+ghost use Rattle.amf_graph.specs.Arena.{head_content};
+ghost use Rattle.amf_graph.specs.Building.{stored_at};
+ghost use Rattle.amf0_tables.specs.Layout0.{value0_layout};
+ghost use Rattle.amf0_tables.specs.Layout0State.{state0_of};
+ghost use Rattle.amf0_tables.specs.TableParts0.{shown_tables};
+ghost use Rattle.amf3_read.specs.Filling.{IsOpened};
+ghost use Rattle.amf3_read.specs.Ready.{left_of};
+ghost use Rattle.amf3_read.specs.Frames.{Fuel, Enough};
+ghost use Rattle.amf0_read.specs.Ready0.{Ready0, Kept0};
+ghost use Rattle.amf0_read.specs.Frames0.{todo as still, Lacks, GoesOn, StepHolds, StepMoves, owed_at};
+
+use crate::frame::{Slot, Todo};
+use crate::marker::{Marker, read_marker, read_marker_or_end};
+use crate::text::read_short_text;
+use amf_graph::{Builder, NodeId};
+use amf_io::{Cursor, ReadEnd, Source};
+use amf0_tables::Tables0;
+use std::alloc::Global;
+
+/// How an open node went on.
+#[derive(Clone, Copy, Debug, PartialEq, Eq)]
+pub enum Step {
+    /// It waits for a value for this slot, whose marker was read.
+    Wait(Slot, Marker),
+    /// It is closed.
+    Closed,
+}
+
+/// Reads on in an open node, up to the marker of its next value, or its end, where it is closed.
+pub fn go_on<S: Source>(
+    alloc: Global,
+    cursor: &mut Cursor<'_, S>,
+    builder: &mut Builder,
+    tables: &Tables0,
+    node: NodeId,
+    todo: Todo,
+) -> Result<Step, ReadEnd>
+    requires ready { Ready0 0 builder.old (shown_tables tables.now) cursor.old }
+    requires opened { IsOpened builder.old node.0 (left_of cursor.old) }
+    requires lacks { Lacks (head_content builder.old (stored_at builder.old node.0).head) (stored_at builder.old node.0) todo }
+    ensures goes { Goes S.tells S.left S.faults cursor.old cursor.new result }
+    ensures answers { (fuel : Fuel) → Enough (left_of cursor.old) fuel → GoesOn S.tells S.left (still (value0_layout fuel.values) fuel.pairs node.0 todo (state0_of builder.old (shown_tables tables.now))) node.0 (state0_of builder.new (shown_tables tables.now)) cursor.old cursor.new result }
+    ensures kept { IfOk result (λ step. Kept0 (owed_at step) 0 builder.old builder.new (shown_tables tables.now) cursor.old cursor.new) }
+    ensures holds { IfOk result (StepHolds builder.old builder.new node.0) }
+    ensures moves { IfOk result (StepMoves (place cursor.old) (place cursor.new)) }
+{
+    match todo {
+        Todo::Items(0) => {
+            builder.close_node(node);
+            Ok(Step::Closed)
+        }
+        Todo::Items(more) => {
+            let marker = read_marker(cursor, tables)?;
+            Ok(Step::Wait(Slot::Item(more - 1), marker))
+        }
+        Todo::Pairs => {
+            let name = read_short_text(alloc, cursor, builder)?;
+            // What is true of every builder.
+            builder.is_built();
+            if !builder.text_of(name).is_empty() {
+                let marker = read_marker(cursor, tables)?;
+                return Ok(Step::Wait(Slot::Named(name), marker));
+            }
+            match read_marker_or_end(cursor, tables)? {
+                Some(marker) => Ok(Step::Wait(Slot::Named(name), marker)),
+                None => {
+                    builder.close_node(node);
+                    Ok(Step::Closed)
+                }
+            }
+        }
+    }
+}

@@ -1,0 +1,9 @@
+use amf_graph::Value;
+use amf0_tables::Form;
+
+/// A value of AMF 0, and in which way it uses AMF 3.
+#[derive(Clone, Copy, Debug, PartialEq, Eq)]
+pub struct Read0 {
+    pub value: Value,
+    pub form: Form,
+}

@@ -1,0 +1,63 @@
+ghost use Rattle.std.specs.Prelude.{◌≡◌};
+ghost use Rattle.amf0_read.specs.Frames0.{part_of, todo_behind};
+
+use crate::marker::Marker;
+use amf_graph::{NodeId, Part, TextId, Value};
+
+/// What is still to be read of an open node.
+#[derive(Clone, Copy, Debug, PartialEq, Eq)]
+pub enum Todo {
+    /// So many items.
+    Items(u32),
+    /// Names with their values, up to their end.
+    Pairs,
+}
+
+/// Where the value goes that is read next.
+#[derive(Clone, Copy, Debug, PartialEq, Eq)]
+pub enum Slot {
+    /// It is an item, behind which so many follow.
+    Item(u32),
+    /// It stands behind this name.
+    Named(TextId),
+}
+
+/// An open node that waits for a value.
+#[derive(Clone, Copy, Debug, PartialEq, Eq)]
+pub struct Frame {
+    pub node: NodeId,
+    pub slot: Slot,
+}
+
+/// What was read last.
+#[derive(Clone, Copy, Debug, PartialEq, Eq)]
+pub enum Now {
+    /// The marker of a value.
+    Begun(Marker),
+    /// A value.
+    Given(Value),
+    /// So much of an open node is still to be read.
+    Open(NodeId, Todo),
+}
+
+impl Slot {
+    /// The part that a value is there.
+    pub fn part_of(self, value: Value) -> Part
+        ensures { result ≡ part_of self value }
+    {
+        match self {
+            Slot::Item(_) => Part::Item(value),
+            Slot::Named(name) => Part::Named(name, value),
+        }
+    }
+
+    /// What is still to be read behind the value.
+    pub fn todo_behind(self) -> Todo
+        ensures { result ≡ todo_behind self }
+    {
+        match self {
+            Slot::Item(more) => Todo::Items(more),
+            Slot::Named(_) => Todo::Pairs,
+        }
+    }
+}

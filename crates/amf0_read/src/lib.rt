@@ -1,0 +1,17 @@
+//! Reads AMF 0 values.
+#![tactic(auto)]
+
+mod fill;
+mod formed;
+mod frame;
+mod front;
+mod leaf;
+mod marker;
+mod node;
+#[cfg(test)]
+mod tests;
+mod text;
+mod value;
+
+pub use formed::Read0;
+pub use value::read0;

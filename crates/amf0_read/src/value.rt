@@ -1,0 +1,112 @@
+ghost use Rattle.std.specs.Prelude.{◌≡◌, List, ◌-◌, reverse, OnOk};
+ghost use Rattle.amf_io.specs.Cursor.{place};
+ghost use Rattle.amf_io.specs.CursorReads.{Goes, Answers};
+ghost use Rattle.amf_io.specs.Layout.{bind};
+ghost use Rattle.amf0_tables.specs.KeptTables0.{AreTables0In};
+ghost use Rattle.amf0_tables.specs.Layout0.{read0};
+ghost use Rattle.amf0_tables.specs.Layout0State.{state0_of};
+ghost use Rattle.amf0_tables.specs.TableParts0.{shown_tables};
+ghost use Rattle.amf3_read.specs.Answer.{HasRoomFor, Raises};
+ghost use Rattle.amf3_read.specs.Ready.{left_of};
+ghost use Rattle.amf3_read.specs.Frames.{Fuel, Enough};
+ghost use Rattle.amf0_read.specs.Answer0.{Answers0};
+ghost use Rattle.amf0_read.specs.Fronts0.{form_of};
+ghost use Rattle.amf0_read.specs.Ready0.{Ready0, Kept0};
+ghost use Rattle.amf0_read.specs.Frames0.{current, rest, HaveFuel, Holds, owed};
+
+use crate::fill::{Step, go_on};
+use crate::formed::Read0;
+use crate::frame::{Frame, Now};
+use crate::front::{Front, read_front};
+use crate::node::start_value;
+use amf_graph::{Builder, Value};
+use amf_io::{Cursor, ReadEnd, Source};
+use amf0_tables::{Form, Tables0};
+use amf3_read::kept;
+use std::alloc::Global;
+
+/// Reads one value into a builder and its tables (AMF 0 specification, 2.2 to 2.18 and 3.1), however many nodes are within
+/// one another. Behind each marker that switches to AMF 3 stands a value for `read3`, with the same AMF 3 tables.
+///
+/// The tables are the builder's, and the bytes that the cursor's limit still allows are below 2^27 together with each of
+/// the builder's numbers of nodes, texts and traits.
+///
+/// The form tells whether a marker has switched to AMF 3 since the tables were new.
+///
+/// Where the input is refused, the refusal is the verdict on it: the first field that no value of AMF 0
+/// has there, or where the input or its limit ends. `Memory` comes where there is no room for what is read. After an end
+/// the builder, the tables and the cursor are only to be dropped.
+pub fn read0<S: Source>(
+    alloc: Global,
+    cursor: &mut Cursor<'_, S>,
+    builder: &mut Builder,
+    tables: &mut Tables0,
+) -> Result<Read0, ReadEnd>
+    requires tables { AreTables0In builder.old (shown_tables tables.old) }
+    requires room { HasRoomFor builder.old (left_of cursor.old) }
+    ensures goes { Goes S.tells S.left S.faults cursor.old cursor.new result }
+    ensures answers { Answers0 S.tells S.left builder.old builder.new (shown_tables tables.old) (shown_tables tables.new) cursor.old cursor.new result }
+    ensures tables { OnOk result (AreTables0In builder.new (shown_tables tables.new)) }
+    ensures raises { OnOk result (Raises builder.old builder.new (place cursor.new - place cursor.old)) }
+{
+    // What is true of every builder and every cursor.
+    builder.is_built();
+    let _start = cursor.at();
+    let Front {
+        frames,
+        now,
+        is_call,
+    } = read_front(alloc, cursor, builder, tables)?;
+    let value = read_on(alloc, cursor, builder, tables, frames, now)?;
+    let form = form_of(is_call, tables.has_switched());
+    Ok(Read0 { value, form })
+}
+
+/// The form of a value that begins as a call does, or not, and with which a marker has switched to AMF 3 by then, or not.
+fn form_of(is_call: bool, switched: bool) -> Form
+    ensures { result ≡ form_of is_call switched }
+{
+    match (is_call, switched) {
+        (true, _) => Form::Call,
+        (false, true) => Form::Amf3,
+        (false, false) => Form::Plain,
+    }
+}
+
+/// Reads on, with the nodes that are open on a stack of its own, until the outermost value is whole.
+fn read_on<S: Source>(
+    alloc: Global,
+    cursor: &mut Cursor<'_, S>,
+    builder: &mut Builder,
+    tables: &mut Tables0,
+    mut frames: Vec<Frame>,
+    mut now: Now,
+) -> Result<Value, ReadEnd>
+    requires ready { Ready0 (owed now) builder.old (shown_tables tables.old) cursor.old }
+    requires holds { Holds (left_of cursor.old) now (reverse frames.items) builder.old }
+    ensures goes { Goes S.tells S.left S.faults cursor.old cursor.new result }
+    ensures answers { (fuel : Fuel) (fuels : List Fuel) → Enough (left_of cursor.old) fuel → HaveFuel (left_of cursor.old) fuels (reverse frames.items) → Answers S.tells S.left (λ v. read0 v (state0_of builder.new (shown_tables tables.new))) (bind (current fuel now (state0_of builder.old (shown_tables tables.old))) (rest fuels (reverse frames.items))) cursor.old cursor.new result }
+    ensures kept { OnOk result (Kept0 0 (owed now) builder.old builder.new (shown_tables tables.new) cursor.old cursor.new) }
+{
+    loop {
+        match now {
+            Now::Begun(marker) => {
+                now = start_value(alloc, cursor, builder, tables, marker)?.now();
+            }
+            Now::Given(value) => {
+                let Some(frame) = frames.pop() else {
+                    return Ok(value);
+                };
+                kept(builder.put(frame.node, frame.slot.part_of(value)))?;
+                now = Now::Open(frame.node, frame.slot.todo_behind());
+            }
+            Now::Open(node, todo) => match go_on(alloc, cursor, builder, tables, node, todo)? {
+                Step::Wait(slot, marker) => {
+                    frames.push(Frame { node, slot })?;
+                    now = Now::Begun(marker);
+                }
+                Step::Closed => now = Now::Given(Value::Node(node)),
+            },
+        }
+    }
+}
