@@ -1,0 +1,80 @@
+-- Runs that are put onto a stack and taken off it, and that the turns of the writer come to an end.
+use Rattle.std.proofs.Common.{◌≡◌, ℕ, ◌+◌, ◌*◌, ◌≤◌, List, [], ◌∷◌, ◌++◌, reverse, Option, sym, refl, ap, ◌∙◌, subst, inl, inr, arith, append_assoc, append-nil, OnOk, IfOk}
+use Rattle.std.specs.Prelude.{Result, Ok, Err}
+use Rattle.std.specs.Result.{IsErrAnd, IsErrOf}
+use Rattle.std.specs.List.{AllByRecursion}
+use Rattle.std.proofs.lemmas.List.{reverse-append}
+use Rattle.amf_graph.specs.declared.value.Value.{Value as Stored}
+use Rattle.amf_graph.specs.Graph.{Graph}
+use Rattle.amf_graph.specs.Arena.{Arena, value_content}
+use Rattle.amf_graph.specs.Rooted.{RootedArena}
+use Rattle.amf_graph.proofs.Counting.{missing, missing_push}
+use Rattle.amf_graph.proofs.Walks.{each_left, each_right}
+use Rattle.amf_iso.specs.Contents.{named_pairs}
+use Rattle.amf0_write.specs.declared.output.Output.{Output}
+use Rattle.amf0_write.specs.declared.stop.Stop.{Stop}
+use Rattle.amf0_write.specs.declared.stop.Stop.TheVariants.{Lack}
+use Rattle.amf0_write.specs.declared.unwritten.Unwritten.{Unwritten}
+use Rattle.amf0_write.specs.Unwritten0.{run_parts, next_parts, parts_left, IsRunOf, AreRunsOf, run_turns, turns_left, Falls}
+use Rattle.amf0_write.specs.Writes0.{Part, name, value, pairs_then, Leads}
+use Rattle.amf0_write.proofs.Leading0.{leads_then, leads_from}
+use denote.Ref.{Bor}
+
+pub on_ok : {T E P Q : Type 0} (r : Result T E) → (P → Q) → OnOk r P → OnOk r Q
+on_ok (Ok v) f h = f h
+on_ok (Err e) f h = tt
+
+pub if_ok : {T E : Type 0} {P Q : T → Type 0} (r : Result T E) → ((v : T) → P v → Q v) → IfOk r P → IfOk r Q
+if_ok (Ok v) f h = f v h
+if_ok (Err e) f h = tt
+
+pub each_append : {X : Type 0} (P : X → Type 0) (xs ys : List X) → AllByRecursion P xs → AllByRecursion P ys → AllByRecursion P (xs ++ ys)
+each_append P [] ys h k = k
+each_append P (x ∷ xs) ys h k = (h.0, each_append P xs ys h.1 k)
+
+pub all_reverse : {X : Type 0} (P : X → Type 0) (xs : List X) → AllByRecursion P xs → AllByRecursion P (reverse xs)
+all_reverse P [] h = tt
+all_reverse P (x ∷ xs) h = rw (reverse-append (x ∷ []) xs) (each_append P (reverse xs) (x ∷ []) (all_reverse P xs h.1) (h.0, tt))
+
+pub rest_of : {X : Type 0} (P : X → Type 0) (all ws : List X) (v : X) → all ≡ ws ++ v ∷ [] → AllByRecursion P all → AllByRecursion P ws
+rest_of P all ws v e h = each_left P ws (v ∷ []) (subst (λ w. AllByRecursion P w) e h)
+
+pub top_of : {X : Type 0} (P : X → Type 0) (all ws : List X) (v : X) → all ≡ ws ++ v ∷ [] → AllByRecursion P all → P v
+top_of P all ws v e h = (each_right P ws (v ∷ []) (subst (λ w. AllByRecursion P w) e h)).0
+
+parts_push : (a : Arena) (runs : List Unwritten) (run : Unwritten) → parts_left a (runs ++ run ∷ []) ≡ run_parts a run ++ parts_left a runs
+parts_push a [] run = sym (append-nil (run_parts a run))
+parts_push a (r ∷ runs) run = ap (λ w. w ++ run_parts a r) (parts_push a runs run) ∙ append_assoc (run_parts a run) (parts_left a runs) (run_parts a r)
+
+turns_push : (runs : List Unwritten) (run : Unwritten) → turns_left (runs ++ run ∷ []) ≡ run_turns run + turns_left runs
+turns_push [] run = refl
+turns_push (r ∷ runs) run = omega (arith, turns_push runs run)
+
+pub parts_pushed : (a : Arena) (runs now : List Unwritten) (run : Unwritten) → now ≡ runs ++ run ∷ [] → parts_left a now ≡ run_parts a run ++ parts_left a runs
+parts_pushed a runs now run e = ap (parts_left a) e ∙ parts_push a runs run
+
+pub turns_pushed : (runs now : List Unwritten) (run : Unwritten) → now ≡ runs ++ run ∷ [] → turns_left now ≡ run_turns run + turns_left runs
+turns_pushed runs now run e = ap turns_left e ∙ turns_push runs run
+
+-- the last of pairs in reverse is the first
+pub pairs_popped : (a : Arena) (all rest : List (Bor (List ℕ) × Stored)) (p : Bor (List ℕ) × Stored) → all ≡ rest ++ p ∷ [] → pairs_then (named_pairs a (reverse all)) ≡ name p.0.now ∷ value (value_content a p.1) ∷ pairs_then (named_pairs a (reverse rest))
+pairs_popped a all rest p e = ap (λ w. pairs_then (named_pairs a w)) (ap reverse e ∙ reverse-append rest (p ∷ []))
+
+pub runs_pushed : (g : RootedArena) (runs now : List Unwritten) (run : Unwritten) → now ≡ runs ++ run ∷ [] → AreRunsOf g runs → IsRunOf g run → AreRunsOf g now
+runs_pushed g runs now run e h k = subst (λ w. AreRunsOf g w) (sym e) (each_append (IsRunOf g) runs (run ∷ []) h (k, tt))
+
+-- one run taken off the stack, and written up to its next value
+pub turned : (g : Graph) (a : Arena) (whole : List Part) (runs all left : List Unwritten) (top : Unwritten) (next : Option Stored) (o m n : Output) → all ≡ runs ++ top ∷ [] → Leads g whole (parts_left a all) o m
+    → Leads g (run_parts a top ++ parts_left a runs) (next_parts a next ++ parts_left a left) m n → Leads g whole (next_parts a next ++ parts_left a left) o n
+turned g a whole runs all left top next o m n e h k =
+    let behind = next_parts a next ++ parts_left a left in
+    leads_then g whole (parts_left a all) behind o m n h (leads_from g (parts_left a all) (run_parts a top ++ parts_left a runs) behind m n (parts_pushed a runs all top e) k)
+
+pub falls_less : (n : ℕ) (old new : List ℕ) (before after : ℕ) → Falls n old new before after → missing n new * 1073741824 + after ≤ missing n old * 1073741824 + before
+falls_less n old new before after (inl (e, l)) = omega (arith, ap (missing n) e, l)
+falls_less n old new before after (inr (i, l, absent, e, t)) = omega (arith, missing_push n i old l absent, ap (missing n) e, t)
+
+-- the end that is handed on is the one that came
+pub same_stop : {T : Type 0} (r : Result T Stop) (x : Stop) → IsErrAnd r (λ e. e ≡ x) → IsErrOf r Lack → IsErrOf {T = Unit {0}} (Err x) Lack
+same_stop (Ok v) x h k = absurd h
+same_stop (Err e) x h k = cc

@@ -1,0 +1,112 @@
+use Rattle.std.proofs.Common.{◌≡◌, ◌++◌, ◌∷◌, [], refl, ap, sym, ◌∙◌, subst, length, arith, List, ℕ}
+use Rattle.std.specs.Int.{to_be_bytes, w32, w64}
+use Rattle.amf_graph.specs.Arena.{node_content, traits_at, text_at, array, object, date, xml_document}
+use Rattle.amf_graph.specs.Building.{closed}
+use Rattle.amf_graph.specs.Graph as graph
+use Rattle.amf_graph.specs.Graph.{Node, Head, node_at}
+use Rattle.amf_graph.specs.Rooted.{content}
+use Rattle.amf_graph.specs.Views.{named}
+use Rattle.amf_iso.specs.Contents.{pairs_of, values_of}
+use Rattle.amf0_tables.specs.Lowered.{IsLowHead}
+use Rattle.amf0_tables.specs.Spells0.{IsOpenTraits}
+use Rattle.amf0_write.specs.Unwritten0.{parts_left}
+use Rattle.amf0_write.specs.Writes0.{Adds, Opened}
+use Rattle.amf0_write.proofs.Leading0.{adds_then}
+use Rattle.amf0_write.proofs.MetValues0.{shown, node_in, node_there, node_fits, text_in, text_within, reached_node, met_items, met_names}
+use Rattle.amf0_write.proofs.Opening0.{dated, documented, no_sealed, leads_opened, leads_loose}
+use Rattle.amf0_write.proofs.Runs0.{on_ok}
+use Rattle.amf0_write.proofs.output.Output.open.Goals as goal
+
+pub array-requires-clause-items : goal.array-requires-clause-items
+array-requires-clause-items c =
+    let a = c.args.graph.now.arena in
+    let i = c.args.node.0 in
+    let n = closed array (named c.in-Array.names.now) c.in-Array.items.now in
+    met_items c.args.graph.now i (node_content a n) c.in-Array.items.now (reached_node c.requires.met.reached) (shown a c.args.graph.now.root i n c.in-Array.ensures) refl (node_in a i n c.is_finished.ensures.finished c.requires.met.names c.in-Array.ensures).values
+
+pub array-requires-clause-names : goal.array-requires-clause-names
+array-requires-clause-names c =
+    let a = c.args.graph.now.arena in
+    let i = c.args.node.0 in
+    let n = closed array (named c.in-Array.names.now) c.in-Array.items.now in
+    met_names c.args.graph.now i (node_content a n) c.in-Array.names.now (reached_node c.requires.met.reached) (shown a c.args.graph.now.root i n c.in-Array.ensures) refl (node_in a i n c.is_finished.ensures.finished c.requires.met.names c.in-Array.ensures).names c.requires.short.1
+
+pub object-requires-clause-open : goal.object-requires-clause-open
+object-requires-clause-open c =
+    let a = c.args.graph.now.arena in
+    let i = c.args.node.0 in
+    let n = closed (object c.in-Object.traits.0) (named c.in-Object.members.now) c.in-Object.sealed.now in
+    let low = subst (λ (x : Node). IsLowHead x.head) (shown a c.args.graph.now.root i n c.in-Object.ensures) (c.requires.low.nodes i (reached_node c.requires.met.reached)) in
+    record { dynamic = low.0; unsealed = low.1 }
+
+pub object-requires-clause-names : goal.object-requires-clause-names
+object-requires-clause-names c =
+    let a = c.args.graph.now.arena in
+    let i = c.args.node.0 in
+    let n = closed (object c.in-Object.traits.0) (named c.in-Object.members.now) c.in-Object.sealed.now in
+    met_names c.args.graph.now i (node_content a n) c.in-Object.members.now (reached_node c.requires.met.reached) (shown a c.args.graph.now.root i n c.in-Object.ensures) refl (node_in a i n c.is_finished.ensures.finished c.requires.met.names c.in-Object.ensures).names c.requires.short.1
+
+pub returns-in_ok-double-in-Date-clause-leads : goal.returns-in_ok-double-in-Date-clause-leads
+returns-in_ok-double-in-Date-clause-leads c =
+    let g = content c.args.graph.now in
+    let a = c.args.graph.now.arena in
+    let i = c.args.node.0 in
+    let p = c.in-Date.milliseconds.0 in
+    let m = c.enter_loose.new.self in
+    let e = ap (λ (x : Node). x.head) (shown a c.args.graph.now.root i (closed (date p) [] []) c.in-Date.ensures) in
+    on_ok c.raw.result (λ h.
+    leads_loose g i (node_there a c.args.graph.now.root i c.requires.met.names) (node_fits a c.args.graph.now.root i c.is_finished.ensures.finished c.requires.met.names) (0x0B ∷ to_be_bytes w64 p ++ 0 ∷ 0 ∷ []) (parts_left a c.args.waiting.now.items) c.args.self.now m c.raw.new.self c.requires.new
+    c.in_ok-enter_loose-in-Date.ensures.ok c.in_ok-enter_loose-in-Date.ensures.bytes (dated p e)
+    (adds_then (0x0B ∷ []) (to_be_bytes w64 p ++ 0 ∷ 0 ∷ []) m c.byte.new.self c.raw.new.self c.in_ok-byte-in-Date.ensures.adds
+    (adds_then (to_be_bytes w64 p) (0 ∷ 0 ∷ []) c.byte.new.self c.double.new.self c.raw.new.self c.in_ok-double-in-Date.ensures.adds h))) c.raw.ensures.adds
+
+pub returns-in_ok-byte-in-XmlDocument-clause-leads : goal.returns-in_ok-byte-in-XmlDocument-clause-leads
+returns-in_ok-byte-in-XmlDocument-clause-leads c =
+    let g = content c.args.graph.now in
+    let a = c.args.graph.now.arena in
+    let i = c.args.node.0 in
+    let s = c.in-XmlDocument.ensures in
+    let x = text_at a s.0 in
+    let m = c.enter_loose-in-XmlDocument.new.self in
+    let n = closed (xml_document s.0) [] [] in
+    let e = ap (λ (x : Node). x.head) (shown a c.args.graph.now.root i n s.1) in
+    let named_there = (node_in a i n c.is_finished.ensures.finished c.requires.met.names s.1).head in
+    on_ok c.long.result (λ h.
+    leads_loose g i (node_there a c.args.graph.now.root i c.requires.met.names) (node_fits a c.args.graph.now.root i c.is_finished.ensures.finished c.requires.met.names) (0x0F ∷ to_be_bytes w32 (length x) ++ x) (parts_left a c.args.waiting.now.items) c.args.self.now m c.long.new.self c.requires.new
+    c.in_ok-enter_loose-in-XmlDocument.ensures.ok c.in_ok-enter_loose-in-XmlDocument.ensures.bytes (documented x e (text_in a s.0 c.is_finished.ensures.finished named_there) (omega (arith, text_within a s.0 c.is_finished.ensures.bounds named_there)))
+    (subst (λ (y : List ℕ). Adds (0x0F ∷ to_be_bytes w32 (length y) ++ y) m c.long.new.self) s.2
+    (adds_then (0x0F ∷ []) (to_be_bytes w32 (length c.in-XmlDocument.text.now) ++ c.in-XmlDocument.text.now) m c.byte-in-XmlDocument.new.self c.long.new.self c.in_ok-byte-in-XmlDocument.ensures.adds h))) c.long.ensures.adds
+
+pub returns-in_ok-enter-in-Array-clause-leads : goal.returns-in_ok-enter-in-Array-clause-leads
+returns-in_ok-enter-in-Array-clause-leads c =
+    let g = content c.args.graph.now in
+    let a = c.args.graph.now.arena in
+    let i = c.args.node.0 in
+    let n = closed array (named c.in-Array.names.now) c.in-Array.items.now in
+    let before = parts_left a c.args.waiting.now.items in
+    let after = parts_left a c.array.new.waiting.items in
+    let m = c.enter.new.self in
+    on_ok c.array.result (λ h.
+    leads_opened g i (node_there a c.args.graph.now.root i c.requires.met.names) (node_fits a c.args.graph.now.root i c.is_finished.ensures.finished c.requires.met.names) before after c.args.self.now m c.array.new.self c.requires.new
+    c.in_ok-enter-in-Array.ensures.ok c.in_ok-enter-in-Array.ensures.bytes (subst (λ (x : Node). Opened x before after m c.array.new.self) (sym (shown a c.args.graph.now.root i n c.in-Array.ensures)) h)) c.array.ensures.opened
+
+pub returns-in_ok-enter-in-Object-clause-leads : goal.returns-in_ok-enter-in-Object-clause-leads
+returns-in_ok-enter-in-Object-clause-leads c =
+    let g = content c.args.graph.now in
+    let a = c.args.graph.now.arena in
+    let i = c.args.node.0 in
+    let t = traits_at a c.in-Object.traits.0 in
+    let ps = pairs_of a c.in-Object.members.now in
+    let n = closed (object c.in-Object.traits.0) (named c.in-Object.members.now) c.in-Object.sealed.now in
+    let s = shown a c.args.graph.now.root i n c.in-Object.ensures in
+    let low = subst (λ (x : Node). IsLowHead x.head) s (c.requires.low.nodes i (reached_node c.requires.met.reached)) in
+    let open_traits : IsOpenTraits t = record { dynamic = low.0; unsealed = low.1 } in
+    let fits = node_fits a c.args.graph.now.root i c.is_finished.ensures.finished c.requires.met.names in
+    let none : values_of a c.in-Object.sealed.now ≡ [] = sym (ap (λ (x : Node). x.values) s) ∙ no_sealed (node_at g i) t (ap (λ (x : Node). x.head) s) open_traits fits in
+    let whole : node_at g i ≡ record { head = graph.object t; names = ps; values = [] } = s ∙ ap (λ vs. record { head = graph.object t; names = ps; values = vs }) none in
+    let before = parts_left a c.args.waiting.now.items in
+    let after = parts_left a c.object.new.waiting.items in
+    let m = c.enter-in-Object.new.self in
+    on_ok c.object.result (λ h.
+    leads_opened g i (node_there a c.args.graph.now.root i c.requires.met.names) fits before after c.args.self.now m c.object.new.self c.requires.new
+    c.in_ok-enter-in-Object.ensures.ok c.in_ok-enter-in-Object.ensures.bytes (subst (λ (x : Node). Opened x before after m c.object.new.self) (sym whole) h)) c.object.ensures.opened

@@ -1,0 +1,8 @@
+-- The definitions that contracts cite.
+pub mod Written0
+-- Devices of the proofs: no clause of a public call needs them.
+pub mod Chained
+pub mod Meetings
+pub mod PartLacks0
+pub mod Writes0
+pub mod Unwritten0

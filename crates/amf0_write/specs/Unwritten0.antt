@@ -1,0 +1,74 @@
+-- What a stack of runs stands for. A device of proofs.
+use Rattle.std.specs.Prelude.{◌≡◌, ℕ, ◌+◌, ◌<◌, ◌≤◌, ◌⊎◌, List, [], ◌∷◌, ◌++◌, length, reverse, Option, Some, None}
+use Rattle.std.specs.List.{AllByRecursion}
+use Rattle.amf_graph.specs.declared.value.TextId.{TextId}
+use Rattle.amf_graph.specs.declared.value.Value.{Value as Stored}
+use Rattle.amf_graph.specs.Arena.{Arena, Names, value_content}
+use Rattle.amf_graph.specs.Order.{Absent}
+use Rattle.amf_graph.specs.Reached.{IsReachedValue}
+use Rattle.amf_graph.specs.Rooted.{RootedArena, content}
+use Rattle.amf_iso.specs.Contents.{values_of, pairs_of, named_pairs, ArePairs, IsNamedPair}
+use Rattle.amf0_tables.specs.Lacks0.{IsShortName}
+use Rattle.amf0_write.specs.declared.unwritten.Unwritten.{Unwritten}
+use Rattle.amf0_write.specs.declared.unwritten.Unwritten.TheVariants.{One, Values, Pairs}
+use Rattle.amf0_write.specs.Writes0.{Part, value, values_then, pairs_then}
+use denote.Ref.{Bor}
+
+-- the parts of a run
+abbrev pub run_parts : Arena → Unwritten → List Part
+run_parts a (One v) = value (value_content a v) ∷ []
+run_parts a (Values vs) = values_then (values_of a vs.now)
+run_parts a (Pairs ps) = pairs_then (named_pairs a (reverse ps.items))
+
+-- the parts of a stack, those of the last run first
+abbrev pub parts_left : Arena → List Unwritten → List Part
+parts_left a [] = []
+parts_left a (run ∷ runs) = parts_left a runs ++ run_parts a run
+
+-- the part that a value is, if there is one
+abbrev pub next_parts : Arena → Option Stored → List Part
+next_parts a None = []
+next_parts a (Some v) = value (value_content a v) ∷ []
+
+-- the value is the graph's, and the root leads to it
+pub record IsMetValue (g : RootedArena) (v : Stored) : Type 0 where
+  pub names : Names g.arena v
+  pub reached : IsReachedValue (content g) (value_content g.arena v)
+
+-- the name fits its length field
+pub record IsMetPair (g : RootedArena) (p : Bor (List ℕ) × Stored) : Type 0 where
+  pub named : IsNamedPair g.arena p
+  pub short : IsShortName p.0.now
+  pub value : IsMetValue g p.1
+
+-- the same of pairs with their names' places
+pub record AreMetPairs (g : RootedArena) (ps : List (TextId × Stored)) : Type 0 where
+  pub pairs : ArePairs g.arena ps
+  pub short : AllByRecursion (λ p. IsShortName p.0) (pairs_of g.arena ps)
+  pub reached : AllByRecursion (λ p. IsReachedValue (content g) p.1) (pairs_of g.arena ps)
+
+abbrev pub IsNextOf : RootedArena → Option Stored → Type 0
+IsNextOf g None = Unit {0}
+IsNextOf g (Some v) = IsMetValue g v
+
+abbrev pub IsRunOf : RootedArena → Unwritten → Type 0
+IsRunOf g (One v) = IsMetValue g v
+IsRunOf g (Values vs) = AllByRecursion (IsMetValue g) vs.now
+IsRunOf g (Pairs ps) = AllByRecursion (IsMetPair g) ps.items
+
+abbrev pub AreRunsOf : RootedArena → List Unwritten → Type 0
+AreRunsOf g runs = AllByRecursion (IsRunOf g) runs
+
+-- how many turns a run takes at most
+abbrev pub run_turns : Unwritten → ℕ
+run_turns (One v) = 1
+run_turns (Values vs) = 1 + length vs.now
+run_turns (Pairs ps) = 1 + length ps.items
+
+abbrev pub turns_left : List Unwritten → ℕ
+turns_left [] = 0
+turns_left (run ∷ runs) = run_turns run + turns_left runs
+
+-- no more turns are left than before; or one of so many nodes is new among those written, and no more turns came than a node has
+abbrev pub Falls : ℕ → List ℕ → List ℕ → ℕ → ℕ → Type 0
+Falls count old new before after = ((new ≡ old) × (after ≤ before)) ⊎ ((i : ℕ) × (i < count) × Absent old i × (new ≡ old ++ i ∷ []) × (after ≤ before + 1073741824))

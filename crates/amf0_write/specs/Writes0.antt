@@ -1,0 +1,118 @@
+-- What each part of a writer appends, and where it stops. A device of proofs.
+use Rattle.std.specs.Prelude.{◌≡◌, ◌≢◌, ℕ, ◌<◌, ◌≤◌, ◌^◌, ◌⊎◌, Bool, true, false, List, [], ◌∷◌, ◌++◌, length, slice_get, Some}
+use Rattle.std.specs.Int.{to_be_bytes, w16, w32, w64}
+use Rattle.amf_io.specs.Field.{Field, flat}
+use Rattle.amf_wire.specs.Style.{canonical}
+use Rattle.amf_wire.specs.Text.{IsText}
+use Rattle.amf_graph.specs.declared.lack.LackKind.{LackKind}
+use Rattle.amf_graph.specs.ByName.{by_name}
+use Rattle.amf_graph.specs.Graph.{Leaf, undefined, null, boolean, integer, double, text, Value, Traits, array, object, Node, Graph}
+use Rattle.amf_tables.specs.ByteSpelling.{Then}
+use Rattle.amf0_tables.specs.Meets.{Meets, IsAgain}
+use Rattle.amf0_tables.specs.Spells0.{SpellsIn0, IsOpenTraits}
+use Rattle.amf0_tables.specs.Tables0.{Tables0}
+use Rattle.amf0_write.specs.declared.output.Output.{Output}
+use Rattle.amf0_write.specs.PartLacks0.{PlaceLacks0}
+use Rattle.amf0_write.specs.Written0.{tables0, AreTables0}
+
+-- the tables of an output
+abbrev pub tables_of : Output → Tables0
+tables_of o = tables0 o.tables
+
+abbrev pub done_of : Output → List ℕ
+done_of o = (tables_of o).amf3.done
+
+-- the node has been written
+abbrev pub IsDone : List ℕ → ℕ → Type 0
+IsDone done i = (k : ℕ) × (slice_get done k ≡ Some i)
+
+-- the bytes begin with these
+pub record BeginsWith (front bytes : List ℕ) : Type 0 where
+  pub rest : List ℕ
+  pub is : bytes ≡ front ++ rest
+
+-- what the bytes began with, they still begin with
+abbrev pub Keeps : Output → Output → Type 0
+Keeps old new = (front : List ℕ) → BeginsWith front old.bytes.items → BeginsWith front new.bytes.items
+
+-- bytes are appended, and no table changes
+pub record Adds (b : List ℕ) (old new : Output) : Type 0 where
+  pub bytes : new.bytes.items ≡ old.bytes.items ++ b
+  pub tables : tables_of new ≡ tables_of old
+
+-- bytes that are one of these spellings are appended
+abbrev pub AddsBy : (List ℕ → Type 0) → Output → Output → Type 0
+AddsBy P old new = (b : List ℕ) × P b × Adds b old new
+
+-- the bytes of the canonical case of a value that is no node
+abbrev pub IsLeafSpelled : Leaf → List ℕ → Type 0
+IsLeafSpelled undefined b = b ≡ 0x06 ∷ []
+IsLeafSpelled null b = b ≡ 0x05 ∷ []
+IsLeafSpelled (boolean false) b = b ≡ 0x01 ∷ 0 ∷ []
+IsLeafSpelled (boolean true) b = b ≡ 0x01 ∷ 1 ∷ []
+IsLeafSpelled (integer n) b = ⊥
+IsLeafSpelled (double p) b = (p < 2 ^ 64) × (b ≡ 0x00 ∷ to_be_bytes w64 p)
+IsLeafSpelled (text x) b = IsText x × (((length x < 2 ^ 16) × (b ≡ 0x02 ∷ to_be_bytes w16 (length x) ++ x)) ⊎ ((2 ^ 16 ≤ length x) × (length x < 2 ^ 32) × (b ≡ 0x0C ∷ to_be_bytes w32 (length x) ++ x)))
+
+-- what stands behind the marker and the count of a node, or behind its class
+pub data Part : Type 0 where
+  name : (x : List ℕ) → Part
+  value : (v : Value) → Part
+  ending : Part
+
+abbrev pub values_then : List Value → List Part
+values_then [] = []
+values_then (v ∷ vs) = value v ∷ values_then vs
+
+-- pairs, ended by the empty name and the marker of the end
+abbrev pub pairs_then : List (List ℕ × Value) → List Part
+pairs_then [] = name [] ∷ ending ∷ []
+pairs_then (p ∷ w) = name p.0 ∷ value p.1 ∷ pairs_then w
+
+-- the values among the parts
+abbrev pub part_values : List Part → List Value
+part_values [] = []
+part_values (name x ∷ ps) = part_values ps
+part_values (value v ∷ ps) = v ∷ part_values ps
+part_values (ending ∷ ps) = part_values ps
+
+-- the bytes of the canonical case of a value, also right behind an empty name
+abbrev pub IsCanonical : Graph → Value → Tables0 → List ℕ → Tables0 → Type 0
+IsCanonical g v t b t' = (may_end : Bool) → (height : ℕ) × (fs : List Field) × SpellsIn0 height canonical g may_end v t fs t' × (b ≡ flat fs)
+
+abbrev pub PartBy : Graph → Part → Tables0 → List ℕ → Tables0 → Type 0
+PartBy g (name x) t b t' = IsText x × (length x < 2 ^ 16) × (b ≡ to_be_bytes w16 (length x) ++ x) × (t' ≡ t)
+PartBy g (value v) t b t' = IsCanonical g v t b t'
+PartBy g ending t b t' = (b ≡ 0x09 ∷ []) × (t' ≡ t)
+
+-- parts one after the other
+abbrev pub Parts : Graph → List Part → Tables0 → List ℕ → Tables0 → Type 0
+Parts g [] t b t' = (b ≡ []) × (t' ≡ t)
+Parts g (p ∷ ps) t b t' = Then (PartBy g p) (Parts g ps) t b t'
+
+-- from parts that were to be written to those that are left: what spells those that are left spells all, behind the bytes that were appended, and what is met again over those that are left is met again over all
+pub record Leads (g : Graph) (whole left : List Part) (old new : Output) : Type 0 where
+  pub bytes : List ℕ
+  pub appended : new.bytes.items ≡ old.bytes.items ++ bytes
+  pub completes : (more : List ℕ) (t : Tables0) → Parts g left (tables_of new) more t → Parts g whole (tables_of old) (bytes ++ more) t
+  pub meets : (all again : List ℕ) → Meets g (done_of old) (part_values whole) all again → (rest : List ℕ) × Meets g (done_of new) (part_values left) all rest × ((k : ℕ) → IsAgain rest k → IsAgain again k)
+  pub later : length (done_of old) ≤ length (done_of new)
+  pub sound : AreTables0 g (tables_of old) → AreTables0 g (tables_of new)
+
+-- a writer of these parts meets something that has no canonical spelling
+abbrev pub Stops : Graph → List Part → Output → Type 0
+Stops g parts old = (before : ℕ) → before ≤ length (done_of old) → (all again : List ℕ) → Meets g (done_of old) (part_values parts) all again → (place : ℕ) × (i : ℕ) × (kind : LackKind) × (slice_get all place ≡ Some i) × PlaceLacks0 g before all again place i kind
+
+-- the first bytes of an array or an object, and the parts behind them
+pub data Opens (a : Node) : List ℕ → List Part → Type 0 where
+  plain : (c : Traits) → a.head ≡ object c → IsOpenTraits c → c.class ≡ [] → Opens a (0x03 ∷ []) (pairs_then (by_name a.names))
+  typed : (c : Traits) → a.head ≡ object c → IsOpenTraits c → c.class ≢ [] → IsText c.class → length c.class < 2 ^ 16 → Opens a (0x10 ∷ to_be_bytes w16 (length c.class) ++ c.class) (pairs_then (by_name a.names))
+  ecma : a.head ≡ array → a.values ≡ [] → a.names ≢ [] → length a.names < 2 ^ 32 → Opens a (0x08 ∷ to_be_bytes w32 (length a.names)) (pairs_then (by_name a.names))
+  strict : a.head ≡ array → a.names ≡ [] → length a.values < 2 ^ 32 → Opens a (0x0A ∷ to_be_bytes w32 (length a.values)) (values_then a.values)
+
+pub record Opened (a : Node) (before after : List Part) (old new : Output) : Type 0 where
+  pub bytes : List ℕ
+  pub parts : List Part
+  pub is : Opens a bytes parts
+  pub adds : Adds bytes old new
+  pub left : after ≡ parts ++ before

@@ -1,0 +1,28 @@
+-- What a writer of AMF 0 appends, and the tables that it is given and leaves.
+use Rattle.std.specs.Prelude.{◌≡◌, ℕ, true, false, List, [], ◌++◌, slice_get, Some}
+use Rattle.amf_io.specs.Field.{Field, flat}
+use Rattle.amf_wire.specs.Style.{canonical}
+use Rattle.amf_graph.specs.Graph.{Value, Graph, node_at}
+use Rattle.amf_graph.specs.Order.{IsDistinct}
+use Rattle.amf_tables.specs.Tables.{Tables}
+use Rattle.amf0_tables.specs.Lacks0.{enters0, is_loose0, entered}
+use Rattle.amf0_tables.specs.Spells0.{Spells0, IsSpelling0}
+use Rattle.amf0_tables.specs.Tables0.{Tables0}
+
+-- the bytes of the canonical spelling of a graph
+abbrev pub AppendsCanonical0 : Graph → List ℕ → List ℕ → Type 0
+AppendsCanonical0 g old new = (fs : List Field) × IsSpelling0 canonical g fs × (new ≡ old ++ flat fs)
+
+-- the tables of a writer, where nothing is behind the switch to AMF 3
+abbrev pub tables0 : Tables → Tables0
+tables0 t = record { amf3 = record { words = t.words; nodes = []; done = t.done }; nodes = t.nodes; switched = false }
+
+-- the bytes of the canonical case of a value of a graph, from the tables before to those behind
+abbrev pub AppendsPart0 : Graph → Value → Tables0 → Tables0 → List ℕ → List ℕ → Type 0
+AppendsPart0 g v t t' old new = (fs : List Field) × Spells0 canonical g v t fs t' × (new ≡ old ++ flat fs)
+
+-- the tables behind canonical spellings of a graph: each node that was written stands there once, an array or an object with an index, and any other is a date or an XML document
+pub record AreTables0 (g : Graph) (t : Tables0) : Type 0 where
+  pub once : IsDistinct t.amf3.done
+  pub level : t.nodes ≡ entered g t.amf3.done
+  pub loose : (k i : ℕ) → slice_get t.amf3.done k ≡ Some i → enters0 (node_at g i).head ≡ false → is_loose0 (node_at g i).head ≡ true

@@ -1,0 +1,153 @@
+ghost use Rattle.std.specs.Prelude.{◌≡◌, ◌⊎◌, ℕ, ◌+◌, ◌<◌, ◌≤◌, true, false, length, get_or, IfOk};
+ghost use Rattle.std.specs.List.{AllByRecursion};
+ghost use Rattle.amf_graph.specs.Arena.{Names, value_content};
+ghost use Rattle.amf_graph.specs.Graph as graph_of_values;
+ghost use Rattle.amf_graph.specs.Graph.{node_at};
+ghost use Rattle.amf_graph.specs.Rooted.{RootedArena, content};
+ghost use Rattle.amf_wire.specs.Integer.{IsInteger};
+ghost use Rattle.amf_wire.specs.Whole.{IsPatternOf};
+ghost use Rattle.amf0_tables.specs.Lowered.{is_wrapper, wraps, unwrapped, Low, unwrapped_times};
+ghost use Rattle.amf0_write.specs.Chained.{AreAfter, AreLow};
+
+use amf_graph::{NodeId, NodeView, Rooted, Value};
+use amf_wire::{Memory, Pattern, pattern_of};
+use std::alloc::Global;
+
+/// What a wrapper wraps; any other node itself.
+fn unwrapped(node: NodeId, graph: &Rooted) -> Value
+    requires { node.0 < length graph.now.arena.nodes }
+    ensures content { value_content graph.now.arena result ≡ unwrapped (content graph.now) (graph_of_values.node node.0) }
+    ensures names { Names graph.now.arena result }
+{
+    graph.is_finished();
+    match graph.node(node) {
+        NodeView::Wrapper { value, .. } => value,
+        _ => Value::Node(node),
+    }
+}
+
+/// Whether a node is a wrapper.
+fn is_wrapper(node: NodeId, graph: &Rooted) -> bool
+    requires { node.0 < length graph.now.arena.nodes }
+    ensures { result ≡ is_wrapper (node_at (content graph.now) node.0).head }
+{
+    graph.is_finished();
+    match graph.node(node) {
+        NodeView::Wrapper { .. } => true,
+        _ => false,
+    }
+}
+
+/// Whether a value is a wrapper.
+fn wraps(value: Value, graph: &Rooted) -> bool
+    requires { Names graph.now.arena value }
+    ensures { result ≡ wraps (content graph.now) (value_content graph.now.arena value) }
+{
+    match value {
+        Value::Node(node) => is_wrapper(node, graph),
+        _ => false,
+    }
+}
+
+/// For each node the value one step on.
+fn first_steps(alloc: Global, graph: &Rooted) -> Result<Vec<Value>, Memory>
+    ensures { IfOk result (λ ends. AreAfter graph.now 1 ends.items) }
+{
+    graph.is_finished();
+    let mut ends = Vec::new(alloc);
+    for number in 0..graph.node_count() {
+        ends.push(unwrapped(NodeId(number), graph))?;
+    }
+    Ok(ends)
+}
+
+/// The value as many steps on as the ends of the nodes are.
+fn further(value: Value, ends: &[Value]) -> Value
+    requires { (g : RootedArena) × (length ends.now ≡ length g.arena.nodes) × Names g.arena value }
+    ensures names { (g : RootedArena) (steps : ℕ) → AreAfter g steps ends.now → Names g.arena value → Names g.arena result }
+    ensures content { (g : RootedArena) (steps : ℕ) → AreAfter g steps ends.now → Names g.arena value → value_content g.arena result ≡ unwrapped_times (content g) steps (value_content g.arena value) }
+{
+    match value {
+        Value::Node(node) => ends[node.0 as usize],
+        _ => value,
+    }
+}
+
+/// For each node the value twice as many steps on.
+fn doubled(alloc: Global, ends: &[Value]) -> Result<Vec<Value>, Memory>
+    requires { (g : RootedArena) × (steps : ℕ) × AreAfter g steps ends.now }
+    ensures { (g : RootedArena) (steps : ℕ) → AreAfter g steps ends.now → IfOk result (λ doubled. AreAfter g (steps + steps) doubled.items) }
+{
+    let mut doubled = Vec::new(alloc);
+    for end in ends {
+        doubled.push(further(*end, ends))?;
+    }
+    Ok(doubled)
+}
+
+/// Whether one of the values is a wrapper.
+fn lead_on(ends: &[Value], graph: &Rooted) -> bool
+    requires { AllByRecursion (Names graph.now.arena) ends.now }
+    ensures { result ≡ false → AllByRecursion (λ v. wraps (content graph.now) (value_content graph.now.arena v) ≡ false) ends.now }
+{
+    for end in ends {
+        if wraps(*end, graph) {
+            return true;
+        }
+    }
+    false
+}
+
+/// For each node the value at which its chain of wrappers ends. Where that is a wrapper, the chain never ends: it is longer
+/// than there are nodes.
+fn chain_ends(alloc: Global, graph: &Rooted) -> Result<Vec<Value>, Memory>
+    ensures { IfOk result (λ ends. (steps : ℕ) × AreAfter graph.now steps ends.items × ((length graph.now.arena.nodes ≤ steps) ⊎ AllByRecursion (λ v. wraps (content graph.now) (value_content graph.now.arena v) ≡ false) ends.items)) }
+{
+    graph.is_finished();
+    let mut ends = first_steps(alloc, graph)?;
+    let mut steps: u32 = 1;
+    while steps < graph.node_count() && lead_on(&ends, graph) {
+        ends = doubled(alloc, &ends)?;
+        steps += steps;
+    }
+    Ok(ends)
+}
+
+/// The double that is this integer.
+fn double_of(integer: i32) -> Pattern
+    requires { IsInteger integer }
+    ensures { IsPatternOf result.0 integer }
+{
+    match pattern_of(integer as i64) {
+        Some(pattern) => pattern,
+        None => unreachable!(),
+    }
+}
+
+/// What the end of a chain is in a lowered graph.
+fn low(end: Value, graph: &Rooted) -> Value
+    requires { Names graph.now.arena end }
+    ensures names { Names graph.now.arena result }
+    ensures low { (steps : ℕ) (i : ℕ) → value_content graph.now.arena end ≡ unwrapped_times (content graph.now) steps (graph_of_values.node i) → (length graph.now.arena.nodes ≤ steps) ⊎ (wraps (content graph.now) (value_content graph.now.arena end) ≡ false) → Low (content graph.now) (graph_of_values.node i) (value_content graph.now.arena result) }
+{
+    if wraps(end, graph) {
+        return Value::Null;
+    }
+    match end {
+        Value::Integer(integer) => Value::Double(double_of(integer)),
+        _ => end,
+    }
+}
+
+/// For each node what it is in a lowered graph: itself, or for a wrapper what its chain ends in. A chain of so many wrappers
+/// takes as many turns as its length has binary digits.
+pub(crate) fn stand_ins(alloc: Global, graph: &Rooted) -> Result<Vec<Value>, Memory>
+    ensures { IfOk result (λ ins. AreLow graph.now ins.items) }
+{
+    let ends = chain_ends(alloc, graph)?;
+    let mut stand_ins = Vec::new(alloc);
+    for end in &ends {
+        stand_ins.push(low(*end, graph))?;
+    }
+    Ok(stand_ins)
+}

@@ -1,0 +1,67 @@
+ghost use Rattle.std.specs.Prelude.{◌≡◌, ◌<◌, ◌↔◌, ℕ, List, true, length, MatchOption, IfOk};
+ghost use Rattle.amf_graph.specs.Graph as graph_of_values;
+ghost use Rattle.amf_graph.specs.declared.lack.LackKind.{LackKind};
+ghost use Rattle.amf_graph.specs.Lacks.{IsFirstLack};
+ghost use Rattle.amf_graph.specs.Order.{IsOrder};
+ghost use Rattle.amf_graph.specs.Rooted.{content};
+ghost use Rattle.amf0_tables.specs.Lacks0.{IsLack0, Lacks0, NodeLacks0, place0};
+ghost use Rattle.amf0_tables.specs.Met.{all_met, IsTwice};
+ghost use Rattle.amf0_write.specs.Meetings.{AreMarked, IsFirstReason};
+
+use crate::meetings::met_again;
+use crate::nodes::{enters, has_no_form, has_short_names, is_loose};
+use crate::values::FAR;
+use amf_graph::{Lack, LackKind, NodeId, Rooted};
+use amf_iso::Numbering;
+use amf_wire::Memory;
+use std::alloc::Global;
+
+/// The first reason why a node has no canonical spelling, if there is one. `place` is its place among the nodes that an index
+/// can name, if it is one of those.
+fn reason(node: NodeId, place: u32, is_again: bool, graph: &Rooted) -> Option<LackKind>
+    requires { node.0 < length graph.now.arena.nodes }
+    ensures { (order : List ℕ) (number : ℕ) → place ≡ place0 (content graph.now) 0 order number → (is_again ≡ true) ↔ IsTwice (all_met (content graph.now) order) (graph_of_values.node node.0) → IsFirstReason (NodeLacks0 (content graph.now) 0 order number node.0) result }
+{
+    if has_no_form(node, graph) {
+        Some(LackKind::NoForm)
+    } else if !has_short_names(node, graph) {
+        Some(LackKind::LongName)
+    } else if !is_again {
+        None
+    } else if is_loose(node, graph) {
+        Some(LackKind::Shared)
+    } else if place >= FAR {
+        Some(LackKind::FarReference)
+    } else {
+        None
+    }
+}
+
+/// The first of the lacks, if there is one: of the least canonical number, and there the first reason.
+fn first_of(numbering: &Numbering, again: &[bool], graph: &Rooted) -> Option<Lack>
+    requires order { IsOrder (content graph.now) numbering.now }
+    requires again { AreMarked (length graph.now.arena.nodes) (all_met (content graph.now) numbering.now) again.now }
+    ensures { MatchOption result ((number : ℕ) (kind : LackKind) → Lacks0 (content graph.now) 0 numbering.now number kind → ⊥) (λ l. IsFirstLack (Lacks0 (content graph.now) 0 numbering.now) l.node l.kind) }
+{
+    graph.is_finished();
+    let mut place = 0;
+    for number in 0..numbering.count() {
+        let node = numbering.node_at(number);
+        if let Some(kind) = reason(node, place, again[node.0 as usize], graph) {
+            return Some(Lack { kind, node: number });
+        }
+        if enters(node, graph) {
+            place += 1;
+        }
+    }
+    None
+}
+
+/// The first lack of a graph, if it has one (2.9). It gives up where there is no memory.
+pub(crate) fn first_lack(alloc: Global, graph: &Rooted) -> Result<Option<Lack>, Memory>
+    ensures { IfOk result (λ lack. MatchOption lack ((number : ℕ) (kind : LackKind) → IsLack0 (content graph.now) number kind → ⊥) (λ l. IsLack0 (content graph.now) l.node l.kind)) }
+{
+    let numbering = Numbering::of(alloc, graph)?;
+    let again = met_again(alloc, &numbering, graph)?;
+    Ok(first_of(&numbering, &again, graph))
+}

@@ -1,0 +1,19 @@
+//! Lowers graphs to the kinds that AMF 0 has, and writes AMF 0 values canonically (Adobe, 2007).
+#![tactic(auto)]
+
+mod chains;
+mod first_lack;
+mod lowering;
+mod meetings;
+mod nodes;
+mod open;
+mod output;
+mod stop;
+#[cfg(test)]
+mod tests;
+mod unwritten;
+mod values;
+mod write;
+
+pub use lowering::lower;
+pub use write::write0;

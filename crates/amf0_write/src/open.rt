@@ -1,0 +1,151 @@
+ghost use Rattle.std.specs.Prelude.{◌≡◌, ◌≢◌, ◌+◌, ◌<◌, ◌≤◌, ◌^◌, ◌∷◌, [], ◌++◌, length, OnOk};
+ghost use Rattle.std.specs.List.{AllByRecursion};
+ghost use Rattle.amf_graph.specs.declared.value.Value.TheVariants.{Node as NodeRef};
+ghost use Rattle.amf_graph.specs.Arena.{traits_at};
+ghost use Rattle.amf_graph.specs.ByName.{by_name};
+ghost use Rattle.amf_graph.specs.Graph as graph_of_values;
+ghost use Rattle.amf_graph.specs.Graph.{node_at};
+ghost use Rattle.amf_graph.specs.Order.{Absent};
+ghost use Rattle.amf_graph.specs.Rooted.{content};
+ghost use Rattle.amf_iso.specs.Contents.{values_of, pairs_of};
+ghost use Rattle.amf0_tables.specs.Lacks0.{HasNoForm, HasShortNames, IsShortName};
+ghost use Rattle.amf0_tables.specs.Lowered.{IsLowered};
+ghost use Rattle.amf0_tables.specs.Spells0.{IsOpenTraits};
+ghost use Rattle.amf0_write.specs.Unwritten0.{IsMetValue, AreMetPairs, AreRunsOf, parts_left, turns_left, Falls};
+ghost use Rattle.amf0_write.specs.Writes0 as part;
+ghost use Rattle.amf0_write.specs.Writes0.{pairs_then, done_of, Leads, Keeps, Opened};
+
+use crate::output::Output;
+use crate::unwritten::Unwritten;
+use amf_graph::{NodeId, NodeView, Rooted, TextId, TraitsId, Value};
+use amf_iso::by_name;
+use amf_wire::Memory;
+use std::alloc::Global;
+
+/// Nodes that have a form, up to their first values.
+impl Output {
+    /// A node that has not been written, up to its first value; what is behind that goes onto the stack. An array or an object
+    /// is in the table from its marker on, a date or an XML document is not (2.9).
+    pub(crate) fn open<'g>(
+        &mut self,
+        node: NodeId,
+        graph: &'g Rooted,
+        waiting: &mut Vec<Unwritten<'g>>,
+    ) -> Result<(), Memory>
+        requires low { IsLowered (content graph.now) }
+        requires met { IsMetValue graph.now (NodeRef node) }
+        requires new { Absent (done_of self.old) node.0 }
+        requires form { HasNoForm (node_at (content graph.now) node.0) (node_at (content graph.now) node.0).head → ⊥ }
+        requires short { HasShortNames (node_at (content graph.now) node.0) }
+        requires runs { AreRunsOf graph.now waiting.old.items }
+        ensures leads { OnOk result (Leads (content graph.now) (part.value (graph_of_values.node node.0) ∷ parts_left graph.now.arena waiting.old.items) (parts_left graph.now.arena waiting.new.items) self.old self.new) }
+        ensures runs { OnOk result (AreRunsOf graph.now waiting.new.items) }
+        ensures falls { OnOk result (Falls (length graph.now.arena.nodes) (done_of self.old) (done_of self.new) (turns_left waiting.old.items) (turns_left waiting.new.items)) }
+        ensures kept { Keeps self.old self.new }
+    {
+        graph.is_finished();
+        match graph.node(node) {
+            NodeView::Date(milliseconds) => {
+                self.enter_loose(node)?;
+                self.byte(0x0B)?;
+                self.double(milliseconds)?;
+                self.raw(b"\x00\x00")
+            }
+            NodeView::XmlDocument(text) => {
+                self.enter_loose(node)?;
+                self.byte(0x0F)?;
+                self.long(text)
+            }
+            NodeView::Array { items, names } => {
+                self.enter(node)?;
+                self.array(items, names, graph, waiting)
+            }
+            NodeView::Object {
+                traits,
+                members,
+                ..
+            } => {
+                self.enter(node)?;
+                self.object(traits, members, graph, waiting)
+            }
+            _ => unreachable!(),
+        }
+    }
+
+    /// An array: by its items where it has no names, and else by its names alone (2.10, 2.12).
+    fn array<'g>(
+        &mut self,
+        items: &'g [Value],
+        names: &[(TextId, Value)],
+        graph: &'g Rooted,
+        waiting: &mut Vec<Unwritten<'g>>,
+    ) -> Result<(), Memory>
+        requires few { length items.now < 2 ^ 28 }
+        requires few_names { length names.now < 2 ^ 28 }
+        requires form { names.now ≢ [] → items.now ≡ [] }
+        requires items { AllByRecursion (IsMetValue graph.now) items.now }
+        requires names { AreMetPairs graph.now names.now }
+        ensures opened { OnOk result (Opened (record { head = graph_of_values.array; names = pairs_of graph.now.arena names.now; values = values_of graph.now.arena items.now }) (parts_left graph.now.arena waiting.old.items) (parts_left graph.now.arena waiting.new.items) self.old self.new) }
+        ensures runs { AreRunsOf graph.now waiting.old.items → OnOk result (AreRunsOf graph.now waiting.new.items) }
+        ensures turns { OnOk result (turns_left waiting.new.items ≤ turns_left waiting.old.items + 2 ^ 29) }
+        ensures kept { Keeps self.old self.new }
+    {
+        if names.is_empty() {
+            self.byte(0x0A)?;
+            self.count(items.len() as u32)?;
+            waiting.push(Unwritten::Values(items))?;
+            Ok(())
+        } else {
+            self.byte(0x08)?;
+            self.count(names.len() as u32)?;
+            push_pairs(self.alloc, names, graph, waiting)
+        }
+    }
+
+    /// An object: without a name where its class is empty (2.5, 2.18).
+    fn object<'g>(
+        &mut self,
+        traits: TraitsId,
+        members: &[(TextId, Value)],
+        graph: &'g Rooted,
+        waiting: &mut Vec<Unwritten<'g>>,
+    ) -> Result<(), Memory>
+        requires traits { traits.0 < length graph.now.arena.traits }
+        requires open { IsOpenTraits (traits_at graph.now.arena traits.0) }
+        requires class { IsShortName (traits_at graph.now.arena traits.0).class }
+        requires few_names { length members.now < 2 ^ 28 }
+        requires names { AreMetPairs graph.now members.now }
+        ensures opened { OnOk result (Opened (record { head = graph_of_values.object (traits_at graph.now.arena traits.0); names = pairs_of graph.now.arena members.now; values = [] }) (parts_left graph.now.arena waiting.old.items) (parts_left graph.now.arena waiting.new.items) self.old self.new) }
+        ensures runs { AreRunsOf graph.now waiting.old.items → OnOk result (AreRunsOf graph.now waiting.new.items) }
+        ensures turns { OnOk result (turns_left waiting.new.items ≤ turns_left waiting.old.items + 2 ^ 29) }
+        ensures kept { Keeps self.old self.new }
+    {
+        graph.is_finished();
+        let class = graph.text(graph.traits(traits).class);
+        if class.is_empty() {
+            self.byte(0x03)?;
+        } else {
+            self.byte(0x10)?;
+            self.short(class)?;
+        }
+        push_pairs(self.alloc, members, graph, waiting)
+    }
+}
+
+/// Puts pairs onto the stack, in by-name order.
+fn push_pairs<'g>(
+    alloc: Global,
+    pairs: &[(TextId, Value)],
+    graph: &'g Rooted,
+    waiting: &mut Vec<Unwritten<'g>>,
+) -> Result<(), Memory>
+    requires { AreMetPairs graph.now pairs.now }
+    ensures left { OnOk result (parts_left graph.now.arena waiting.new.items ≡ pairs_then (by_name (pairs_of graph.now.arena pairs.now)) ++ parts_left graph.now.arena waiting.old.items) }
+    ensures runs { AreRunsOf graph.now waiting.old.items → OnOk result (AreRunsOf graph.now waiting.new.items) }
+    ensures turns { OnOk result (turns_left waiting.new.items ≡ turns_left waiting.old.items + (length pairs.now + 1)) }
+{
+    let mut pairs = by_name(alloc, pairs, graph)?;
+    pairs.reverse();
+    waiting.push(Unwritten::Pairs(pairs))?;
+    Ok(())
+}

@@ -1,0 +1,189 @@
+ghost use Rattle.std.specs.Prelude.{◌≡◌, ◌≢◌, ◌<◌, ◌≤◌, ◌^◌, ◌∷◌, [], length, OnOk};
+ghost use Rattle.std.specs.Int.{to_be_bytes, w16};
+ghost use Rattle.std.specs.Result.{IsErrOf};
+ghost use Rattle.amf_graph.specs.declared.value.NodeId.{NodeId};
+ghost use Rattle.amf_graph.specs.declared.value.Value.TheVariants.{Node as NodeRef};
+ghost use Rattle.amf_graph.specs.Arena.{value_content};
+ghost use Rattle.amf_graph.specs.Graph as graph_of_values;
+ghost use Rattle.amf_graph.specs.Order.{Absent};
+ghost use Rattle.amf_graph.specs.Rooted.{content};
+ghost use Rattle.amf_wire.specs.Text.{IsText};
+ghost use Rattle.amf0_tables.specs.Lowered.{IsLowered};
+ghost use Rattle.amf0_write.specs.declared.stop.Stop.TheVariants.{Lack};
+ghost use Rattle.amf0_write.specs.Unwritten0.{IsMetValue, AreRunsOf, parts_left, turns_left, Falls};
+ghost use Rattle.amf0_write.specs.Writes0 as part;
+ghost use Rattle.amf0_write.specs.Writes0.{tables_of, done_of, IsLeafSpelled, Adds, AddsBy, Leads, Keeps, Stops};
+ghost use Rattle.amf0_write.specs.Written0.{AreTables0};
+
+use crate::nodes::{has_no_form, has_short_names};
+use crate::output::Output;
+use crate::stop::Stop;
+use crate::unwritten::Unwritten;
+use amf_graph::{NodeId, Rooted, Value};
+use amf_wire::Memory;
+
+/// The longest text behind a length of 16 bits (1.3.1).
+pub(crate) const MAX_SHORT: usize = 65_535;
+
+/// The least place that no index can say (2.9).
+pub(crate) const FAR: u32 = 65_536;
+
+impl Output {
+    /// A value of a lowered graph, and all to which it leads that has not been written (2.2 to 2.18).
+    pub(crate) fn value(&mut self, value: Value, graph: &Rooted) -> Result<(), Stop>
+        requires low { IsLowered (content graph.now) }
+        requires met { IsMetValue graph.now value }
+        requires tables { AreTables0 (content graph.now) (tables_of self.old) }
+        ensures leads { OnOk result (Leads (content graph.now) (part.value (value_content graph.now.arena value) ∷ []) [] self.old self.new) }
+        ensures lack { IsErrOf result Lack → Stops (content graph.now) (part.value (value_content graph.now.arena value) ∷ []) self.old }
+        ensures kept { Keeps self.old self.new }
+    {
+        let mut waiting = vec![in self.alloc; Unwritten::One(value)]?;
+        while let Some(top) = waiting.pop() {
+            let next = self.next_value(top, &mut waiting)?;
+            if let Some(value) = next {
+                self.begin(value, graph, &mut waiting)?;
+            }
+        }
+        Ok(())
+    }
+
+    /// A value that is no node, or the start of a node, whose values go onto the stack.
+    fn begin<'g>(
+        &mut self,
+        value: Value,
+        graph: &'g Rooted,
+        waiting: &mut Vec<Unwritten<'g>>,
+    ) -> Result<(), Stop>
+        requires low { IsLowered (content graph.now) }
+        requires met { IsMetValue graph.now value }
+        requires tables { AreTables0 (content graph.now) (tables_of self.old) }
+        requires runs { AreRunsOf graph.now waiting.old.items }
+        ensures leads { OnOk result (Leads (content graph.now) (part.value (value_content graph.now.arena value) ∷ parts_left graph.now.arena waiting.old.items) (parts_left graph.now.arena waiting.new.items) self.old self.new) }
+        ensures lack { IsErrOf result Lack → Stops (content graph.now) (part.value (value_content graph.now.arena value) ∷ parts_left graph.now.arena waiting.old.items) self.old }
+        ensures runs { OnOk result (AreRunsOf graph.now waiting.new.items) }
+        ensures falls { OnOk result (Falls (length graph.now.arena.nodes) (done_of self.old) (done_of self.new) (turns_left waiting.old.items) (turns_left waiting.new.items)) }
+        ensures kept { Keeps self.old self.new }
+    {
+        match value {
+            Value::Node(node) => self.node(node, graph, waiting),
+            _ => {
+                self.plain(value, graph)?;
+                Ok(())
+            }
+        }
+    }
+
+    /// A value that is no node.
+    fn plain(&mut self, value: Value, graph: &Rooted) -> Result<(), Memory>
+        requires low { IsLowered (content graph.now) }
+        requires met { IsMetValue graph.now value }
+        requires leaf { (n : NodeId) → value ≢ NodeRef n }
+        ensures adds { (x : graph_of_values.Leaf) → value_content graph.now.arena value ≡ graph_of_values.leaf x → OnOk result (AddsBy (IsLeafSpelled x) self.old self.new) }
+        ensures kept { Keeps self.old self.new }
+    {
+        match value {
+            Value::Undefined => self.byte(0x06),
+            Value::Null => self.byte(0x05),
+            Value::Bool(flag) => self.raw(&[0x01, u8::from(flag)]),
+            Value::Double(double) => {
+                self.byte(0x00)?;
+                self.double(double)
+            }
+            Value::Text(text) => {
+                graph.is_finished();
+                self.text(graph.text(text))
+            }
+            Value::Integer(_) => unreachable!(),
+            Value::Node(_) => unreachable!(),
+        }
+    }
+
+    /// A text, by the shorter length where it fits (2.4, 2.14).
+    fn text(&mut self, text: &[u8]) -> Result<(), Memory>
+        requires is_text { IsText text.now }
+        requires fits { length text.now < 2 ^ 32 }
+        ensures adds { OnOk result (AddsBy (IsLeafSpelled (graph_of_values.text text.now)) self.old self.new) }
+        ensures kept { Keeps self.old self.new }
+    {
+        if text.len() <= MAX_SHORT {
+            self.byte(0x02)?;
+            self.short(text)
+        } else {
+            self.byte(0x0C)?;
+            self.long(text)
+        }
+    }
+
+    /// A node: by its index, or up to its first value where it has not been written (2.9). It stops where no index can say
+    /// the place.
+    fn node<'g>(
+        &mut self,
+        node: NodeId,
+        graph: &'g Rooted,
+        waiting: &mut Vec<Unwritten<'g>>,
+    ) -> Result<(), Stop>
+        requires low { IsLowered (content graph.now) }
+        requires met { IsMetValue graph.now (NodeRef node) }
+        requires tables { AreTables0 (content graph.now) (tables_of self.old) }
+        requires runs { AreRunsOf graph.now waiting.old.items }
+        ensures leads { OnOk result (Leads (content graph.now) (part.value (graph_of_values.node node.0) ∷ parts_left graph.now.arena waiting.old.items) (parts_left graph.now.arena waiting.new.items) self.old self.new) }
+        ensures lack { IsErrOf result Lack → Stops (content graph.now) (part.value (graph_of_values.node node.0) ∷ parts_left graph.now.arena waiting.old.items) self.old }
+        ensures runs { OnOk result (AreRunsOf graph.now waiting.new.items) }
+        ensures falls { OnOk result (Falls (length graph.now.arena.nodes) (done_of self.old) (done_of self.new) (turns_left waiting.old.items) (turns_left waiting.new.items)) }
+        ensures kept { Keeps self.old self.new }
+    {
+        match self.tables.place_of_node(node) {
+            Some(place) => self.index(place),
+            None => {
+                if self.tables.is_done(node) {
+                    return Err(Stop::Lack);
+                }
+                self.new_node(node, graph, waiting)
+            }
+        }
+    }
+
+    /// An index (2.9). It stops where 16 bits do not say it.
+    fn index(&mut self, place: u32) -> Result<(), Stop>
+        ensures adds { OnOk result ((place < 2 ^ 16) × Adds (0x07 ∷ to_be_bytes w16 place) self.old self.new) }
+        ensures lack { IsErrOf result Lack → 2 ^ 16 ≤ place }
+        ensures kept { Keeps self.old self.new }
+    {
+        if place >= FAR {
+            return Err(Stop::Lack);
+        }
+        self.byte(0x07)?;
+        self.raw(&(place as u16).to_be_bytes())?;
+        Ok(())
+    }
+
+    /// A node that has not been written, up to its first value. It stops where the node has no form, or a name that is too
+    /// long.
+    fn new_node<'g>(
+        &mut self,
+        node: NodeId,
+        graph: &'g Rooted,
+        waiting: &mut Vec<Unwritten<'g>>,
+    ) -> Result<(), Stop>
+        requires low { IsLowered (content graph.now) }
+        requires met { IsMetValue graph.now (NodeRef node) }
+        requires new { Absent (done_of self.old) node.0 }
+        requires runs { AreRunsOf graph.now waiting.old.items }
+        ensures leads { OnOk result (Leads (content graph.now) (part.value (graph_of_values.node node.0) ∷ parts_left graph.now.arena waiting.old.items) (parts_left graph.now.arena waiting.new.items) self.old self.new) }
+        ensures lack { IsErrOf result Lack → Stops (content graph.now) (part.value (graph_of_values.node node.0) ∷ parts_left graph.now.arena waiting.old.items) self.old }
+        ensures runs { OnOk result (AreRunsOf graph.now waiting.new.items) }
+        ensures falls { OnOk result (Falls (length graph.now.arena.nodes) (done_of self.old) (done_of self.new) (turns_left waiting.old.items) (turns_left waiting.new.items)) }
+        ensures kept { Keeps self.old self.new }
+    {
+        graph.is_finished();
+        if has_no_form(node, graph) {
+            return Err(Stop::Lack);
+        }
+        if !has_short_names(node, graph) {
+            return Err(Stop::Lack);
+        }
+        self.open(node, graph, waiting)?;
+        Ok(())
+    }
+}
