@@ -1,0 +1,13 @@
+//! Graphs that are made of a seed, as large inputs.
+#![tactic(auto)]
+
+mod facts;
+mod maker;
+mod numbers;
+#[cfg(test)]
+mod tests;
+mod vector;
+
+pub use facts::made_rows;
+pub use maker::{MAX_SIZE, make};
+pub use vector::{Vector, vectors};
