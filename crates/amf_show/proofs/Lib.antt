@@ -1,0 +1,6 @@
+-- The lemmas that several proofs share.
+pub mod Joined
+pub mod Held
+pub mod Viewed
+pub mod Alike
+pub mod Rows

@@ -1,0 +1,8 @@
+use Rattle.std.proofs.Common.{◌≡◌, ◌++◌, take, map}
+use Rattle.amf_show.specs.Shown.{joined}
+use Rattle.amf_show.specs.Listing.{shown_pair}
+use Rattle.amf_show.proofs.Joined.{sealed_parts}
+use Rattle.amf_show.proofs.lister.Lister.push_each_sealed.Given as goal
+
+abbrev pub invariant-loop-place : goal.invariant-loop-place
+invariant-loop-place l = l.out.items ≡ l.fn.out.items ++ joined (map (shown_pair l.self.numbering.now) (sealed_parts l.self.graph.now.arena (take l.place l.names) (take l.place l.values)))

@@ -1,0 +1,131 @@
+ghost use Rattle.std.specs.Prelude.{◌≡◌, ◌<◌, ◌++◌, [], codes, cond, length, map, OnOk};
+ghost use Rattle.std.specs.List.{flat_map};
+ghost use Rattle.amf_graph.specs.Arena.{Names, IsTextId, text_at, traits_at, value_content};
+ghost use Rattle.amf_graph.specs.ByName.{by_name};
+ghost use Rattle.amf_graph.specs.Graph.{class_name};
+ghost use Rattle.amf_iso.specs.Contents.{values_of, AreValues, pairs_of, ArePairs};
+ghost use Rattle.amf_show.specs.Listing.{shown_value, shown_values, shown_pairs, shown_object};
+ghost use Rattle.amf_show.specs.Shown.{hex_byte, shown_text, shown_double, shown_fixed};
+
+use crate::lister::Lister;
+use crate::numbers::{push_double, push_word};
+use crate::text::{push_hex, push_text};
+use crate::vectors::fixed_word;
+use amf_graph::{TextId, TraitsId, Value, Wrapped};
+use amf_wire::{Memory, Pattern};
+
+/// Appends a word, and a text behind it.
+pub(crate) fn push_worded(word: &[u8], text: &[u8], out: &mut Vec<u8>) -> Result<(), Memory>
+    ensures { OnOk result (out.new.items ≡ out.old.items ++ (word.now ++ shown_text text.now)) }
+{
+    push_word(word, out)?;
+    push_text(text, out)
+}
+
+/// Appends a date: the milliseconds since 1970 as a double.
+pub(crate) fn push_date(milliseconds: Pattern, out: &mut Vec<u8>) -> Result<(), Memory>
+    ensures { OnOk result (out.new.items ≡ out.old.items ++ (codes "date " ++ shown_double milliseconds.0)) }
+{
+    push_word(b"date ", out)?;
+    push_double(milliseconds, out)
+}
+
+/// Appends a byte array.
+pub(crate) fn push_byte_array(bytes: &[u8], out: &mut Vec<u8>) -> Result<(), Memory>
+    ensures { OnOk result (out.new.items ≡ out.old.items ++ (codes "bytes x" ++ flat_map hex_byte bytes.now)) }
+{
+    push_word(b"bytes x", out)?;
+    push_hex(bytes, out)
+}
+
+impl Lister<'_> {
+    /// Appends an array: its items, and its names in by-name order.
+    pub(crate) fn push_array(
+        &self,
+        items: &[Value],
+        names: &[(TextId, Value)],
+        out: &mut Vec<u8>,
+    ) -> Result<(), Memory>
+        requires items { AreValues self.now.graph.now.arena items.now }
+        requires names { ArePairs self.now.graph.now.arena names.now }
+        ensures { OnOk result (out.new.items ≡ out.old.items ++ (codes "array " ++ shown_values self.now.numbering.now (values_of self.now.graph.now.arena items.now) ++ codes " " ++ shown_pairs self.now.numbering.now (by_name (pairs_of self.now.graph.now.arena names.now)))) }
+    {
+        push_word(b"array ", out)?;
+        self.push_values(items, out)?;
+        push_word(b" ", out)?;
+        self.push_by_name(names, out)
+    }
+
+    /// Appends an object: its class, its sealed members, and, where its class takes them, its dynamic ones in by-name order.
+    pub(crate) fn push_object(
+        &self,
+        traits: TraitsId,
+        sealed: &[Value],
+        members: &[(TextId, Value)],
+        out: &mut Vec<u8>,
+    ) -> Result<(), Memory>
+        requires traits { traits.0 < length self.now.graph.now.arena.traits }
+        requires sealed { AreValues self.now.graph.now.arena sealed.now }
+        requires each { length sealed.now ≡ length (traits_at self.now.graph.now.arena traits.0).sealed }
+        requires members { ArePairs self.now.graph.now.arena members.now }
+        ensures { OnOk result (out.new.items ≡ out.old.items ++ shown_object self.now.numbering.now (traits_at self.now.graph.now.arena traits.0) (pairs_of self.now.graph.now.arena members.now) (values_of self.now.graph.now.arena sealed.now)) }
+    {
+        self.graph.is_finished();
+        let class = self.graph.traits(traits);
+        push_worded(b"object ", self.graph.text(class.class), out)?;
+        push_word(b" sealed ", out)?;
+        self.push_sealed(class.sealed, sealed, out)?;
+        self.push_members(class.dynamic, members, out)
+    }
+
+    /// Appends the dynamic members of an object whose class takes them.
+    fn push_members(
+        &self,
+        dynamic: bool,
+        members: &[(TextId, Value)],
+        out: &mut Vec<u8>,
+    ) -> Result<(), Memory>
+        requires { ArePairs self.now.graph.now.arena members.now }
+        ensures { OnOk result (out.new.items ≡ out.old.items ++ cond dynamic (codes " dynamic " ++ shown_pairs self.now.numbering.now (by_name (pairs_of self.now.graph.now.arena members.now))) []) }
+    {
+        if !dynamic {
+            return Ok(());
+        }
+        push_word(b" dynamic ", out)?;
+        self.push_by_name(members, out)
+    }
+
+    /// Appends a wrapper: its class, and the value that it holds.
+    pub(crate) fn push_wrapper(
+        &self,
+        class: Wrapped,
+        value: Value,
+        out: &mut Vec<u8>,
+    ) -> Result<(), Memory>
+        requires { Names self.now.graph.now.arena value }
+        ensures { OnOk result (out.new.items ≡ out.old.items ++ (codes "wrapper " ++ shown_text (class_name class) ++ codes " " ++ shown_value self.now.numbering.now (value_content self.now.graph.now.arena value))) }
+    {
+        push_worded(b"wrapper ", class.class_name(), out)?;
+        push_word(b" ", out)?;
+        self.push_value(value, out)
+    }
+
+    /// Appends a vector of values.
+    pub(crate) fn push_vector(
+        &self,
+        fixed: bool,
+        of: TextId,
+        items: &[Value],
+        out: &mut Vec<u8>,
+    ) -> Result<(), Memory>
+        requires of { IsTextId self.now.graph.now.arena of.0 }
+        requires items { AreValues self.now.graph.now.arena items.now }
+        ensures { OnOk result (out.new.items ≡ out.old.items ++ (codes "values " ++ shown_text (text_at self.now.graph.now.arena of.0) ++ codes " " ++ shown_fixed fixed ++ codes " " ++ shown_values self.now.numbering.now (values_of self.now.graph.now.arena items.now))) }
+    {
+        push_worded(b"values ", self.graph.text(of), out)?;
+        push_word(b" ", out)?;
+        push_word(fixed_word(fixed), out)?;
+        push_word(b" ", out)?;
+        self.push_values(items, out)
+    }
+}

@@ -1,0 +1,20 @@
+//! Lists graphs as text: a line for the root, and a line for each node to which it leads, in canonical order.
+#![tactic(auto)]
+
+mod contents;
+mod entries;
+mod facts;
+mod lister;
+mod listing;
+mod node;
+mod numbers;
+mod pairs;
+#[cfg(test)]
+mod tests;
+mod text;
+mod value;
+mod vectors;
+
+pub use facts::{listing_laws, listing_rows};
+pub use listing::show;
+pub use text::show_text;

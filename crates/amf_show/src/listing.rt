@@ -1,0 +1,56 @@
+ghost use Rattle.std.specs.Prelude.{◌≡◌, ◌++◌, OnOk, OnErr};
+ghost use Rattle.std.specs.List.{flat_map};
+ghost use Rattle.amf_graph.specs.Order.{IsOrder};
+ghost use Rattle.amf_graph.specs.Rooted.{content};
+ghost use Rattle.amf_show.specs.Listing.{shown_node, shown_graph, AppendsListing};
+
+use crate::lister::Lister;
+use amf_graph::Rooted;
+use amf_iso::Numbering;
+use amf_wire::Memory;
+use std::alloc::Global;
+
+/// Appends the listing of a graph: a line for the root, and a line for each node to which it leads, in canonical order. A
+/// node is named by its place in that order.
+///
+/// After an end `out` is as before. It gives up where there is no memory.
+pub fn show(alloc: Global, graph: &Rooted, out: &mut Vec<u8>) -> Result<(), Memory>
+    ensures shown { OnOk result (AppendsListing (content graph.now) out.old.items out.new.items) }
+    ensures kept { OnErr result (out.new.items ≡ out.old.items) }
+{
+    let numbering = Numbering::of(alloc, graph)?;
+    let lister = Lister {
+        alloc,
+        graph,
+        numbering: &numbering,
+    };
+    let mut listing = Vec::new(alloc);
+    lister.push_graph(&mut listing)?;
+    out.extend_from_slice(&listing)?;
+    Ok(())
+}
+
+impl Lister<'_> {
+    /// Appends the lines of the graph.
+    fn push_graph(&self, out: &mut Vec<u8>) -> Result<(), Memory>
+        requires { IsOrder (content self.now.graph.now) self.now.numbering.now }
+        ensures { OnOk result (out.new.items ≡ out.old.items ++ shown_graph (content self.now.graph.now) self.now.numbering.now) }
+    {
+        self.graph.is_finished();
+        out.extend_from_slice(b"root ")?;
+        self.push_value(self.graph.root(), out)?;
+        out.push(b'\n')?;
+        self.push_nodes(out)
+    }
+
+    /// Appends a line for each node that has a number.
+    fn push_nodes(&self, out: &mut Vec<u8>) -> Result<(), Memory>
+        requires { IsOrder (content self.now.graph.now) self.now.numbering.now }
+        ensures { OnOk result (out.new.items ≡ out.old.items ++ flat_map (shown_node (content self.now.graph.now) self.now.numbering.now) self.now.numbering.now) }
+    {
+        for number in 0..self.numbering.count() {
+            self.push_node(self.numbering.node_at(number), out)?;
+        }
+        Ok(())
+    }
+}

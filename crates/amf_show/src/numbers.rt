@@ -1,0 +1,54 @@
+ghost use Rattle.std.specs.Prelude.{◌≡◌, ◌++◌, codes, decimal, OnOk};
+ghost use Rattle.std.specs.Fmt.{signed_decimal};
+ghost use Rattle.amf_show.specs.Joining.{separator_before};
+ghost use Rattle.amf_show.specs.Shown.{shown_double};
+
+use crate::text::push_hex;
+use amf_wire::{Memory, Pattern};
+use itoa::Buffer;
+
+/// Appends a word.
+pub(crate) fn push_word(word: &[u8], out: &mut Vec<u8>) -> Result<(), Memory>
+    ensures { OnOk result (out.new.items ≡ out.old.items ++ word.now) }
+{
+    out.extend_from_slice(word)?;
+    Ok(())
+}
+
+/// Appends the comma and the space before each part but the first.
+#[tactic(auto, using(crate::proofs::Joined::separator_none, crate::proofs::Joined::separator_some))]
+pub(crate) fn push_separator(place: usize, out: &mut Vec<u8>) -> Result<(), Memory>
+    ensures { OnOk result (out.new.items ≡ out.old.items ++ separator_before place) }
+{
+    if place == 0 {
+        return Ok(());
+    }
+    push_word(b", ", out)
+}
+
+/// Appends an integer in decimal digits.
+pub(crate) fn push_int(int: i32, out: &mut Vec<u8>) -> Result<(), Memory>
+    ensures { OnOk result (out.new.items ≡ out.old.items ++ signed_decimal int) }
+{
+    let mut digits = Buffer::new();
+    out.extend_from_slice(digits.format(int).as_bytes())?;
+    Ok(())
+}
+
+/// Appends a number in decimal digits.
+pub(crate) fn push_uint(uint: u32, out: &mut Vec<u8>) -> Result<(), Memory>
+    ensures { OnOk result (out.new.items ≡ out.old.items ++ decimal uint) }
+{
+    let mut digits = Buffer::new();
+    out.extend_from_slice(digits.format(uint).as_bytes())?;
+    Ok(())
+}
+
+/// Appends the sixteen hexadecimal digits of a double's bits behind a `d`.
+#[tactic(auto, unfolding(crate::specs::Shown::shown_double))]
+pub(crate) fn push_double(double: Pattern, out: &mut Vec<u8>) -> Result<(), Memory>
+    ensures { OnOk result (out.new.items ≡ out.old.items ++ shown_double double.0) }
+{
+    out.extend_from_slice(b"d")?;
+    push_hex(&double.0.to_be_bytes(), out)
+}
