@@ -1,0 +1,24 @@
+//! The messages of a Flex client, and the answers to them.
+#![tactic(auto)]
+
+mod class;
+mod facts;
+mod lookup;
+mod not_a_message;
+mod number;
+mod replies;
+mod reply;
+mod request;
+mod stored;
+#[cfg(test)]
+mod tests;
+mod viewing;
+mod writing;
+
+pub use facts::{acknowledge_law, flex_rows, join_law, published_law, view_law, whole_numbers};
+pub use not_a_message::NotAMessage;
+pub use replies::{acknowledge, error, invalidate, sync};
+pub use reply::{FaultText, Reply};
+pub use request::{Common, Member, Request};
+pub use stored::{delivered, is_stored, published};
+pub use viewing::{view, view_value};
