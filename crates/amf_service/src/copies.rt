@@ -1,0 +1,47 @@
+ghost use Rattle.std.specs.Prelude.{◌≡◌, ◌≤◌, false, Ok, IfOk, IsErrOf};
+ghost use Rattle.std.specs.List.{AllByRecursion};
+ghost use Rattle.amf_graph.specs.Arena.{Names, value_content};
+ghost use Rattle.amf_graph.specs.Bounds.{weight};
+ghost use Rattle.amf_graph.specs.Isomorphic.{Isomorphic};
+ghost use Rattle.amf_graph.specs.Rooted.{content};
+ghost use Rattle.amf_graph.specs.Roots.{rooted_at};
+
+use amf_graph::{BuildEnd, Builder, Rooted, Value};
+use amf_wire::Memory;
+use std::alloc::Global;
+
+/// What a builder kept that has room for it.
+pub(crate) fn kept<T: Drop>(answer: Result<T, BuildEnd>) -> Result<T, Memory>
+    requires { IsErrOf answer BuildEnd.Full → ⊥ }
+    ensures { IfOk result (λ x. answer ≡ Ok x) }
+{
+    match answer {
+        Ok(kept) => Ok(kept),
+        Err(BuildEnd::Memory) => Err(Memory),
+        Err(BuildEnd::Full) => unreachable!(),
+    }
+}
+
+/// The graph with this root, of which all nodes are closed.
+pub fn whole(builder: Builder, root: Value) -> Rooted
+    requires names { Names builder root }
+    requires closed { AllByRecursion (λ n. n.is_open ≡ false) builder.nodes }
+    ensures { result ≡ record { arena = builder; root = root } }
+{
+    match builder.finish(root) {
+        Ok(graph) => graph,
+        Err(_) => unreachable!(),
+    }
+}
+
+/// A copy of what a value of the graph reaches, with the copy of the value as its root. It gives up where there is no memory.
+pub fn copied(alloc: Global, graph: &Rooted, value: Value) -> Result<Rooted, Memory>
+    requires { Names graph.now.arena value }
+    ensures same { IfOk result (λ copy. Isomorphic (rooted_at (content graph.now) (value_content graph.now.arena value)) (content copy)) }
+    ensures light { IfOk result (λ copy. weight copy.arena ≤ weight graph.now.arena) }
+{
+    graph.is_finished();
+    let mut builder = Builder::new(alloc)?;
+    let copies = kept(builder.graft_values(graph, &[value]))?;
+    Ok(whole(builder, copies[0]))
+}

@@ -1,0 +1,15 @@
+ghost use Rattle.amf_service.specs.Made.{FaultsWith};
+
+use crate::ServiceEnd;
+use amf_wire::Name;
+use std::alloc::Global;
+
+/// The fault with this text, or `Memory` where there is no room for it.
+pub fn fault(alloc: Global, text: &[u8]) -> ServiceEnd
+    ensures { FaultsWith text.now result }
+{
+    match Name::of_bytes(alloc, text) {
+        Ok(text) => ServiceEnd::Fault(text),
+        Err(_) => ServiceEnd::Memory,
+    }
+}
