@@ -1,0 +1,5 @@
+pub mod Shapes
+pub mod Walks
+pub mod Readings
+pub mod Clap
+pub mod OneValue

@@ -1,0 +1,10 @@
+//! Reads options out of the words of a command line, and knows no command.
+#![tactic(auto)]
+
+mod laws;
+mod options;
+#[cfg(test)]
+mod tests;
+
+pub use laws::options_have_one_value;
+pub use options::options_of;
