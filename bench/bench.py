@@ -4,7 +4,7 @@
     bench/bench.py [MB [NAME..]]
 
 Makes inputs of MB million bytes (16 where none is said), the same in each run, or those of the names alone. `canon` reads
-one value, and `same` two of half the size. Each is run five times, in turn with md5sum, and the best run is printed: the status,
+one value, and `same` two of half the size; some are converted between AMF 3 and AMF 0. Each is run five times, in turn with md5sum, and the best run is printed: the status,
 the processor time, the speed, the most memory held (never less than this script's own 15 MB), and the ratio of the time to
 that of md5sum. A run that takes longer than a minute is ended, which is then its status, and not repeated.
 """
@@ -64,6 +64,26 @@ def array_of(item, size):
         items.append(item(len(items)))
         room -= len(items[-1])
     return array(items[:-1] if room < 0 else items)
+
+
+# The parts of AMF 0.
+
+def short(content):
+    return struct.pack(">H", len(content)) + content
+
+
+def number0(number):
+    return b"\x00" + struct.pack(">d", number)
+
+
+def array0_of(item, size):
+    """A strict array of items, each made from its place, until it has so many bytes."""
+    items, room = [], size - 5
+    while room > 0:
+        items.append(item(len(items)))
+        room -= len(items[-1])
+    items = items[:-1] if room < 0 else items
+    return b"\x0A" + struct.pack(">I", len(items)) + b"".join(items)
 
 
 # The inputs: each is one value of about so many bytes.
@@ -141,9 +161,24 @@ def long_text(size, dice):
     return array([text(b"a" * (size // 2))] + [b"\x06\x00"] * (size // 4 - 6))
 
 
+def records0(size, dice):
+    """Anonymous objects of AMF 0, each with a number, a text and an array of three numbers."""
+    def item(place):
+        tags = b"\x0A\x00\x00\x00\x03" + b"".join(number0(dice.randrange(100)) for _ in range(3))
+        values = [number0(place % 100_000), b"\x02" + short(b"user%d" % dice.randrange(10**6)), tags]
+        pairs = zip([b"id", b"name", b"tags"], values)
+        return b"\x03" + b"".join(short(n) + v for n, v in pairs) + b"\x00\x00\x09"
+    return array0_of(item, size)
+
+
 INPUTS = [
     integers, repeated_texts, distinct_texts, objects, dynamic_objects, vectors_and_dictionaries,
     empty_arrays, byte_array, nested_arrays, graph, long_text,
+]
+
+# The inputs that are converted, with the formats.
+CONVERTED = [
+    (records0, "amf0", "amf3"), (records0, "amf0", "amf0"), (objects, "amf3", "amf0"), (dynamic_objects, "amf3", "amf0"),
 ]
 
 
@@ -188,30 +223,35 @@ def write_input(make, size, copies, path):
     os.waitpid(child, 0)
 
 
-def show(command, make, path):
-    (status, seconds, memory), sums = best([PROGRAM, command], path)
+def show(words, make, path):
+    (status, seconds, memory), sums = best([PROGRAM, *words], path)
     mega = path.stat().st_size / 1e6
     ending = status if status >= 0 else "ended"
-    print(f"{command:6}{make.__name__:25}{mega:6.2f}{ending:>8}{seconds:11.3f}{mega / seconds:8.1f}", end="")
+    command = "".join(word.replace("--from=", " ").replace("--to=", " to ") for word in words)
+    print(f"{command:20}{make.__name__:25}{mega:6.2f}{ending:>8}{seconds:11.3f}{mega / seconds:8.1f}", end="")
     print(f"{memory / 1e6:11.0f}{seconds / sums:10.2f}", flush=True)
 
 
 def main():
     size = int(float(sys.argv[1] if len(sys.argv) > 1 else 16) * 1e6)
-    chosen = sys.argv[2:] or [make.__name__ for make in INPUTS]
+    chosen = sys.argv[2:] or [make.__name__ for make in INPUTS + [records0]]
     subprocess.run([ROOT / "amf"], stderr=subprocess.DEVNULL)  # Builds the program, where it is not new.
     if not PROGRAM.exists():
         sys.exit("the program could not be built")
     signal.signal(signal.SIGALRM, give_up)
-    print(f"{'':31}{'MB':>6}{'status':>8}{'seconds':>11}{'MB/s':>8}{'memory MB':>11}{'x md5sum':>10}")
+    print(f"{'':45}{'MB':>6}{'status':>8}{'seconds':>11}{'MB/s':>8}{'memory MB':>11}{'x md5sum':>10}")
     with tempfile.TemporaryDirectory() as folder:
         path = Path(folder) / "input"
         for make in INPUTS:
             if make.__name__ in chosen:
                 write_input(make, size, 1, path)
-                show("canon", make, path)
+                show(["canon"], make, path)
                 write_input(make, size // 2, 2, path)
-                show("same", make, path)
+                show(["same"], make, path)
+        for make, source, target in CONVERTED:
+            if make.__name__ in chosen:
+                write_input(make, size, 1, path)
+                show(["canon", f"--from={source}", f"--to={target}"], make, path)
 
 
 main()

@@ -1,5 +1,7 @@
 mod Fronts
+mod Asked
+mod LoweredAgain
+mod Formats
 mod Spelled
 mod Inputs
-mod OneWord
 mod Statuses

@@ -1,5 +1,5 @@
 -- An input that a command accepts: it is not refused, and what is written of it holds of all graphs that it spells.
-use Rattle.std.proofs.Common.{◌≡◌, inl, inr, ℕ, ◌+◌, ◌-◌, ◌<◌, ◌≤◌, List, [], ◌++◌, length, length-append, take, refl, sym, ap, ◌∙◌, subst, arith}
+use Rattle.std.proofs.Common.{◌≡◌, inl, inr, false, ℕ, ◌+◌, ◌-◌, ◌<◌, ◌≤◌, List, [], ◌++◌, length, length-append, take, refl, sym, ap, ◌∙◌, subst, arith}
 use Rattle.std.proofs.lemmas.List.{append-nil, take_all, take_at}
 use Rattle.amf_io.specs.declared.reason.Reason.{Reason}
 use Rattle.amf_io.specs.Field.{Field, flat}
@@ -12,37 +12,52 @@ use Rattle.amf_io.proofs.Unique.{fault_run}
 use Rattle.amf_io.proofs.Verdicts.{accepts, short_run}
 use Rattle.amf_wire.specs.Style.{free}
 use Rattle.amf_graph.specs.declared.lack.Lack.{Lack}
-use Rattle.amf_graph.specs.declared.lack.LackKind.{LackKind}
 use Rattle.amf_graph.specs.Graph.{Graph}
 use Rattle.amf_graph.specs.Isomorphic.{Isomorphic}
 use Rattle.amf_graph.proofs.Isomorphisms.{isomorphic_sym, isomorphic_trans}
 use Rattle.amf_tables.specs.Tables.{no_tables}
 use Rattle.amf_tables.specs.Lacks3.{IsLack3}
 use Rattle.amf_tables.specs.Reads3.{IsValue3}
-use Rattle.amf_tables.specs.Spells3.{Spelled3, IsSpelling3}
+use Rattle.amf_tables.specs.Spells3.{IsSpelling3}
 use Rattle.amf_tables.specs.Layout3State.{no_state}
 use Rattle.amf_tables.specs.Layout3.{ValueRead, value_layout}
-use Rattle.amf_tables.proofs.Decides3.{canonical_decides, same_bytes_isomorphic}
+use Rattle.amf_tables.proofs.Decides3.{same_bytes_isomorphic}
 use Rattle.amf_tables.proofs.FirstLack3.{nothing_lacks}
 use Rattle.amf_tables.proofs.Layout3Parts.{Found}
 use Rattle.amf_tables.proofs.Layout3Complete.{spelled_read}
 use Rattle.amf_tables.proofs.Values3Layout.{values3_is_layout}
+use Rattle.amf_graph.specs.Building.{no_arena}
+use Rattle.amf0_tables.specs.KeptTables0.{no_kept_tables0}
+use Rattle.amf0_tables.specs.Layout0.{Read0, value0_layout}
+use Rattle.amf0_tables.specs.Layout0State.{state0_of}
+use Rattle.amf0_tables.specs.Reads0.{IsValue0}
+use Rattle.amf0_tables.specs.Tables0.{no_tables0}
+use Rattle.amf0_tables.proofs.Layout0Complete.{Found0, spelled_read0}
+use Rattle.amf0_tables.proofs.Layout0Format.{values0_is_layout}
 use Rattle.amf_cli.specs.declared.command.Command.{Command}
 use Rattle.amf_cli.specs.declared.command.Command.TheVariants.{Canon, Same}
 use Rattle.amf3_read.specs.Pairs.{Pair}
 use Rattle.amf3_read.proofs.PairLayouts.{pair_layout, pairs_are_layouts}
-use Rattle.amf_cli.specs.Run.{most, Accepts, IsInputOf, ArePairIn, Says, Makes, Decides, Lacks}
+use Rattle.amf_cli.specs.declared.format.Format.{Format}
+use Rattle.amf_cli.specs.declared.format.Format.TheVariants.{Amf3, Amf0}
+use Rattle.amf_cli.specs.Formats.{IsValue, IsSpelling, Spelled, IsWritten, IsUnwritten}
+use Rattle.amf_cli.specs.Run.{most, Accepts, IsInputOf, ArePairIn, Says, Makes, Decides, Lacks, LacksEver, MayLack, IsOutputOf}
+use Rattle.amf_cli.proofs.Formats.{decides_alike, lacks_too, not_both_alike, same_bytes, written_again}
 
 abbrev pub layouts : ℕ → Layout ValueRead
 layouts n = value_layout n no_state
 
+abbrev pub layouts0 : ℕ → Layout Read0
+layouts0 n = value0_layout n false (state0_of no_arena no_kept_tables0)
+
 -- an input has one verdict
 pub once : (c : Command) (input : List ℕ) → IsInputAccepted (Accepts c) most input → (reason : Reason) (at : ℕ) → IsInputRefused (Accepts c) most input reason at → ⊥
-once Canon input = (judged_once layouts IsValue3 values3_is_layout most input).not_both
+once (Canon Amf3 to) input = (judged_once layouts IsValue3 values3_is_layout most input).not_both
+once (Canon Amf0 to) input = (judged_once layouts0 IsValue0 values0_is_layout most input).not_both
 once Same input = (judged_once pair_layout (Pair IsValue3) pairs_are_layouts most input).not_both
 
 -- an input within the most that is read to its end is not refused
-module _ (t : ℕ → Layout ValueRead) (P : List Field → Type 0) (g : IsLayout t P) (input : List ℕ) (within : length input ≤ most) (done : (m : ℕ) → length input < m → (x : ValueRead) × (run (t m) 0 input ≡ Done x (length input) [])) where
+module _ {X : Type 0} (t : ℕ → Layout X) (P : List Field → Type 0) (g : IsLayout t P) (input : List ℕ) (within : length input ≤ most) (done : (m : ℕ) → length input < m → (x : X) × (run (t m) 0 input ≡ Done x (length input) [])) where
   not_faulty : (reason : Reason) (at : ℕ) → IsFault P 0 input reason at → ⊥
   not_faulty reason at f =
       let s = fault_run t P g 0 at reason input f in
@@ -76,13 +91,22 @@ found : (g : Graph) (fs : List Field) (m : ℕ) (s : IsSpelling3 free g fs) → 
 found g fs m s lt = spelled_read g m g.root no_tables fs s.0 no_state (record { words = refl; marks = refl }) lt s.1
 
 -- what spells a graph is read to its end
-spelled_done : (g : Graph) (input : List ℕ) → IsInputOf g input → (m : ℕ) → length input < m → (x : ValueRead) × (run (layouts m) 0 input ≡ Done x (length input) [])
+spelled_done : (g : Graph) (input : List ℕ) → IsInputOf Amf3 g input → (m : ℕ) → length input < m → (x : ValueRead) × (run (layouts m) 0 input ≡ Done x (length input) [])
 spelled_done g input i m lt =
     let n : length input ≡ length (flat i.fields) = ap length i.parts in
     let f = found g i.fields m i.spelled (omega arith) in
     let e : input ≡ flat i.fields ++ [] = i.parts ∙ sym (append-nil (flat i.fields)) in
     let place : 0 + length (flat i.fields) ≡ length input = omega (arith, n) in
     (f.result, ap (run (layouts m) 0) e ∙ runs_run (layouts m) i.fields f.result 0 [] f.runs ∙ ap (λ k. Done f.result k []) place)
+
+spelled_done0 : (g : Graph) (input : List ℕ) → IsInputOf Amf0 g input → (m : ℕ) → length input < m → (x : Read0) × (run (layouts0 m) 0 input ≡ Done x (length input) [])
+spelled_done0 g input i m lt =
+    let n : length input ≡ length (flat i.fields) = ap length i.parts in
+    let s = i.spelled in
+    let f : Found0 g (layouts0 m) i.fields s.0 = spelled_read0 g m g.root no_tables0 i.fields s.0 (state0_of no_arena no_kept_tables0) (record { amf3 = record { words = refl; marks = refl }; size = refl }) (omega arith) s.1 in
+    let e : input ≡ flat i.fields ++ [] = i.parts ∙ sym (append-nil (flat i.fields)) in
+    let place : 0 + length (flat i.fields) ≡ length input = omega (arith, n) in
+    (f.result, ap (run (layouts0 m) 0) e ∙ runs_run (layouts0 m) i.fields f.result 0 [] f.runs ∙ ap (λ k. Done f.result k []) place)
 
 -- and so is what spells two
 pair_done : (g h : Graph) (input : List ℕ) → ArePairIn g h input → (m : ℕ) → length input < m → (x : ValueRead) × (run (pair_layout m) 0 input ≡ Done x (length input) [])
@@ -98,27 +122,51 @@ pair_done g h input p m lt =
     (b.result, ap (run (pair_layout m) 0) e ∙ runs_run (pair_layout m) fs b.result 0 [] r ∙ ap (λ k. Done b.result k []) place)
 
 -- what spells a graph is not refused
-pub never_refused : (g : Graph) (input : List ℕ) (reason : Reason) (at : ℕ) → IsInputOf g input → IsInputRefused IsValue3 most input reason at → ⊥
-never_refused g input reason at i q = whole_not_refused layouts IsValue3 values3_is_layout input i.within (spelled_done g input i) reason at q
+pub never_refused : (f : Format) (g : Graph) (input : List ℕ) (reason : Reason) (at : ℕ) → IsInputOf f g input → IsInputRefused (IsValue f) most input reason at → ⊥
+never_refused Amf3 g input reason at i q = whole_not_refused layouts IsValue3 values3_is_layout input i.within (spelled_done g input i) reason at q
+never_refused Amf0 g input reason at i q = whole_not_refused layouts0 IsValue0 values0_is_layout input i.within (spelled_done0 g input i) reason at q
 
 pair_never_refused : (g h : Graph) (input : List ℕ) (reason : Reason) (at : ℕ) → ArePairIn g h input → IsInputRefused (Pair IsValue3) most input reason at → ⊥
 pair_never_refused g h input reason at p q = whole_not_refused pair_layout (Pair IsValue3) pairs_are_layouts input p.within (pair_done g h input p) reason at q
 
 -- what an output is made of is not refused
 pub made_not_refused : (c : Command) (input bytes : List ℕ) (reason : Reason) (at : ℕ) → Makes c input bytes → IsInputRefused (Accepts c) most input reason at → ⊥
-made_not_refused Canon input bytes reason at (g, i, s) q = never_refused g input reason at i q
+made_not_refused (Canon from to) input bytes reason at (g, i, s) q = never_refused from g input reason at i q
 made_not_refused Same input bytes reason at (g, h, p, s) q = pair_never_refused g h input reason at p q
 
-spells_free : (g : Graph) (input : List ℕ) → IsInputOf g input → Spelled3 free g input
-spells_free g input i = (i.fields, i.spelled, i.parts)
+-- and so is what lacks an output
+pub lacking_not_refused : (c : Command) (input : List ℕ) (l : Lack) (reason : Reason) (at : ℕ) → Lacks c input l → IsInputRefused (Accepts c) most input reason at → ⊥
+lacking_not_refused (Canon from to) input l reason at (g, i, k) q = never_refused from g input reason at i q
+lacking_not_refused Same input l reason at k q = k
 
--- no graph that an input spells lacks a canonical spelling
-pub never_lacks : (g : Graph) (input : List ℕ) (number : ℕ) (kind : LackKind) → IsInputOf g input → IsLack3 g number kind → ⊥
-never_lacks g input number kind i l = (nothing_lacks free g i.fields i.spelled).1 number kind l
+pub spells_free : (f : Format) (g : Graph) (input : List ℕ) → IsInputOf f g input → Spelled f free g input
+spells_free Amf3 g input i = (i.fields, i.spelled, i.parts)
+spells_free Amf0 g input i = (i.fields, i.spelled, i.parts)
 
-pub none_lacks : (c : Command) (input : List ℕ) (l : Lack) → Lacks c input l → ⊥
-none_lacks Canon input l (g, i, k) = never_lacks g input l.node l.kind i k
-none_lacks Same input l k = k
+same_input : (f : Format) (g h : Graph) (input : List ℕ) → IsInputOf f g input → IsInputOf f h input → Isomorphic g h
+same_input f g h input i j = same_bytes f g h input (spells_free f g input i) (spells_free f h input j)
+
+-- an input has an output or a lack, and not both
+pub made_not_lacking : (c : Command) (input bytes : List ℕ) (l : Lack) → Makes c input bytes → Lacks c input l → ⊥
+made_not_lacking (Canon from to) input bytes l (g, i, (fit, d, s)) (h, j, (other, e, k)) = not_both_alike to g h fit other (same_input from g h input i j) d e bytes l s k
+made_not_lacking Same input bytes l m k = k
+
+-- and whatever it spells has this lack
+pub lacks_ever : (c : Command) (input : List ℕ) (l : Lack) → Lacks c input l → LacksEver c input l
+lacks_ever (Canon from to) input l (g, i, (fit, d, k)) = λ h other j e. lacks_too to g h fit other (same_input from g h input i j) d e l k
+lacks_ever Same input l k = k
+
+-- a command whose output may lack
+pub may_lack : (from to : Format) (g : Graph) (fs : List Field) (l : Lack) → IsSpelling from free g fs → IsUnwritten to g l → MayLack (Canon from to)
+may_lack Amf3 Amf0 g fs l p u = tt
+may_lack Amf0 to g fs l p u = tt
+may_lack Amf3 Amf3 g fs l p (fit, d, k) = (nothing_lacks free g fs p).1 l.node l.kind (subst (λ (x : Graph). IsLack3 x l.node l.kind) d k)
+
+-- output that is read again gives itself
+pub made_again : (c : Command) (input bytes : List ℕ) → Makes c input bytes → IsOutputOf c input → bytes ≡ input
+made_again (Canon from to) input bytes (h, i, w) (same, g, s) =
+    written_again from g h input bytes (subst (λ (f : Format). IsWritten f g input) (sym same) s) (spells_free from h input i) (subst (λ (f : Format). IsWritten f h bytes) (sym same) w)
+made_again Same input bytes m o = absurd o
 
 -- Two graphs that an input spells have the same fronts and backs as two others.
 
@@ -148,7 +196,7 @@ said P Q line go back (inl (p, e)) = inl (go p, e)
 said P Q line go back (inr (n, e)) = inr (λ q. n (back q), e)
 
 pub decides : (c : Command) (input bytes : List ℕ) → Makes c input bytes → Decides c input bytes
-decides Canon input bytes (r, j, (fs, p, e)) = λ g h i. canonical_decides.headline input bytes r (spells_free r input j) (fs, p, e) g (spells_free g input i) h
+decides (Canon from to) input bytes (r, j, (fit, e, s)) = λ g other h i d. decides_alike to r g fit other (same_input from r g input j i) e d bytes s h
 decides Same input bytes (g, h, p, s) = λ f e q.
     let a = cut_alike g h f e input p q in
     said (Isomorphic g h) (Isomorphic f e) bytes

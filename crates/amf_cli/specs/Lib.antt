@@ -1,4 +1,6 @@
 -- The definitions that contracts cite.
+pub mod Commands
+pub mod Formats
 pub mod Lines
 pub mod Written
 pub mod Run

@@ -10,8 +10,6 @@ use Rattle.amf_graph.specs.declared.lack.LackKind.{LackKind}
 use Rattle.amf_graph.specs.declared.lack.LackKind.TheVariants as lacking
 use Rattle.amf_graph.specs.declared.write_end.WriteEnd.{WriteEnd}
 use Rattle.amf_graph.specs.declared.write_end.WriteEnd.TheVariants as writer
-use Rattle.amf_wire.specs.declared.name.NameEnd.{NameEnd}
-use Rattle.amf_wire.specs.declared.name.NameEnd.TheVariants as name
 use Rattle.amf_cli.specs.declared.run_end.RunEnd.{RunEnd}
 use Rattle.amf_cli.specs.declared.run_end.RunEnd.TheVariants.{Refused, Usage, ReadFault, WriteFault, NoMemory, NoForm}
 
@@ -25,11 +23,6 @@ end_of reader.Memory = NoMemory
 abbrev pub end_of_writer : WriteEnd → RunEnd
 end_of_writer (writer.NoSpelling l) = NoForm l
 end_of_writer writer.Memory = NoMemory
-
--- a word that is no text has no reading
-abbrev pub end_of_name : NameEnd → RunEnd
-end_of_name (name.BadText at) = Usage
-end_of_name name.Memory = NoMemory
 
 -- a reason is written by its name
 abbrev pub reason_name : Reason → List ℕ

@@ -6,18 +6,18 @@ use Rattle.amf_io.specs.declared.ends.ReadEnd.{ReadEnd}
 use Rattle.amf_io.specs.declared.ends.ReadEnd.TheVariants.{Refused, ReadFault, Memory}
 use Rattle.amf_graph.specs.Graph.{Graph}
 use Rattle.amf_graph.specs.Rooted.{RootedArena, content}
-use Rattle.amf_tables.specs.Reads3.{IsValue3}
-use Rattle.amf_tables.specs.Spells3.{IsSpelling3}
 use Rattle.amf3_read.specs.Answer.{IsTaken, AnswersOf}
+use Rattle.amf_cli.specs.declared.format.Format.{Format}
+use Rattle.amf_cli.specs.Formats.{IsValue, IsSpelling}
 use Rattle.amf_cli.specs.Run.{most}
 
 -- a graph was read from nothing, by fields which are the front of what was left where the source tells
-abbrev pub IsReadOne : Type 0 → Graph → List ℕ → List ℕ → ℕ → ℕ → Type 0
-IsReadOne told g input rest at place = IsTaken told (IsSpelling3 free g) IsValue3 input rest at place most
+abbrev pub IsReadOne : Format → Type 0 → Graph → List ℕ → List ℕ → ℕ → ℕ → Type 0
+IsReadOne f told g input rest at place = IsTaken told (IsSpelling f free g) (IsValue f) input rest at place most
 
 -- how the reader of one value ends
-abbrev pub AnswersOne : Type 0 → List ℕ → List ℕ → ℕ → ℕ → Result RootedArena ReadEnd → Type 0
-AnswersOne told input rest at place result = AnswersOf (λ g. IsSpelling3 free (content g)) IsValue3 told input rest at place most result
+abbrev pub AnswersOne : Format → Type 0 → List ℕ → List ℕ → ℕ → ℕ → Result RootedArena ReadEnd → Type 0
+AnswersOne f told input rest at place result = AnswersOf (λ g. IsSpelling f free (content g)) (IsValue f) told input rest at place most result
 
 -- how the test for the end of the input ends
 abbrev pub AnswersEnd : {T : Type 0} → List ℕ → List ℕ → ℕ → Result T ReadEnd → Type 0

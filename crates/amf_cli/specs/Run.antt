@@ -1,5 +1,5 @@
 -- What a run answers: its statuses, and what they say of the input and the output.
-use Rattle.std.specs.Prelude.{◌≡◌, ℕ, zero, suc, ◌≤◌, ◌⊎◌, ◌↔◌, List, [], ◌∷◌, ◌++◌, length, codes, Result, Ok, Err}
+use Rattle.std.specs.Prelude.{◌≡◌, ℕ, zero, suc, ◌≤◌, ◌⊎◌, ◌↔◌, List, [], ◌++◌, length, codes, Result, Ok, Err}
 use Rattle.amf_wire.specs.Style.{free, canonical}
 use Rattle.amf_io.specs.Outside.{Rose}
 use Rattle.amf_io.specs.Field.{Field, flat}
@@ -8,12 +8,12 @@ use Rattle.amf_io.specs.declared.ends.Refusal.{Refusal}
 use Rattle.amf_graph.specs.declared.lack.Lack.{Lack}
 use Rattle.amf_graph.specs.Graph.{Graph}
 use Rattle.amf_graph.specs.Isomorphic.{Isomorphic}
-use Rattle.amf_tables.specs.Lacks3.{IsLack3}
-use Rattle.amf_tables.specs.Reads3.{IsValue3}
-use Rattle.amf_tables.specs.Spells3.{IsSpelling3, Spelled3}
 use Rattle.amf3_read.specs.Pairs.{Pair}
 use Rattle.amf_cli.specs.declared.command.Command.{Command}
 use Rattle.amf_cli.specs.declared.command.Command.TheVariants.{Canon, Same}
+use Rattle.amf_cli.specs.declared.format.Format.{Format}
+use Rattle.amf_cli.specs.declared.format.Format.TheVariants.{Amf3, Amf0}
+use Rattle.amf_cli.specs.Formats.{IsValue, IsSpelling, Spelled, IsFitted, IsLackIn, IsWritten, IsUnwritten}
 use Rattle.amf_cli.specs.declared.run_end.RunEnd.{RunEnd}
 use Rattle.amf_cli.specs.declared.run_end.RunEnd.TheVariants.{Refused, Usage, ReadFault, WriteFault, NoMemory, NoForm}
 use Rattle.amf_cli.specs.Lines.{refusal_line, no_form_line, line_of, status_of}
@@ -23,23 +23,15 @@ use Rattle.amf_cli.specs.Written.{WritesFront}
 abbrev pub most : ℕ
 most = 67108864
 
--- what the words ask for
-abbrev pub Reads : List (List ℕ) → Command → Type 0
-Reads words Canon = words ≡ codes "canon" ∷ []
-Reads words Same = words ≡ codes "same" ∷ []
-
-abbrev pub HasReading : List (List ℕ) → Type 0
-HasReading words = (c : Command) × Reads words c
-
--- the lists of fields that a command accepts: `same` takes two values
+-- the lists of fields that a command accepts: `same` takes two values of AMF 3
 abbrev pub Accepts : Command → List Field → Type 0
-Accepts Canon = IsValue3
-Accepts Same = Pair IsValue3
+Accepts (Canon from to) = IsValue from
+Accepts Same = Pair (IsValue Amf3)
 
 -- the whole input is one spelling of the graph
-pub record IsInputOf (g : Graph) (input : List ℕ) : Type 0 where
+pub record IsInputOf (f : Format) (g : Graph) (input : List ℕ) : Type 0 where
   pub fields : List Field
-  pub spelled : IsSpelling3 free g fields
+  pub spelled : IsSpelling f free g fields
   pub parts : input ≡ flat fields
   pub within : length input ≤ most
 
@@ -47,14 +39,14 @@ pub record IsInputOf (g : Graph) (input : List ℕ) : Type 0 where
 pub record ArePairIn (g h : Graph) (input : List ℕ) : Type 0 where
   pub front : List Field
   pub back : List Field
-  pub first : IsSpelling3 free g front
-  pub second : IsSpelling3 free h back
+  pub first : IsSpelling Amf3 free g front
+  pub second : IsSpelling Amf3 free h back
   pub parts : input ≡ flat front ++ flat back
   pub within : length input ≤ most
 
--- the bytes are the canonical spelling of a graph that the input is a spelling of
-abbrev pub IsConverted : List ℕ → List ℕ → Type 0
-IsConverted input bytes = (g : Graph) × IsInputOf g input × Spelled3 canonical g bytes
+-- the bytes are the canonical spelling, in the one format, of a graph that the input is a spelling of in the other
+abbrev pub IsConverted : Format → Format → List ℕ → List ℕ → Type 0
+IsConverted from to input bytes = (g : Graph) × IsInputOf from g input × IsWritten to g bytes
 
 -- the line says whether P is so
 abbrev pub Says : Type 0 → List ℕ → Type 0
@@ -66,38 +58,59 @@ IsCompared input line = (g : Graph) × (h : Graph) × ArePairIn g h input × Say
 
 -- the output of a command
 abbrev pub Makes : Command → List ℕ → List ℕ → Type 0
-Makes Canon input bytes = IsConverted input bytes
+Makes (Canon from to) input bytes = IsConverted from to input bytes
 Makes Same input bytes = IsCompared input bytes
 
--- it holds of whatever the input spells: canonical bytes are so for exactly the graphs that are isomorphic to it, and the line is the answer for each two graphs
+-- it holds of whatever the input spells: canonical bytes are so for exactly the graphs that are isomorphic to it, in the kinds that the format has, and the line is the answer for each two graphs
 abbrev pub Decides : Command → List ℕ → List ℕ → Type 0
-Decides Canon input bytes = (g h : Graph) → IsInputOf g input → Isomorphic h g ↔ Spelled3 canonical h bytes
+Decides (Canon from to) input bytes = (g fit h : Graph) → IsInputOf from g input → IsFitted to g fit → Isomorphic h fit ↔ Spelled to canonical h bytes
 Decides Same input bytes = (g h : Graph) → ArePairIn g h input → Says (Isomorphic g h) bytes
 
--- the input is a spelling of a graph whose first lack this is
-abbrev pub IsLacking : List ℕ → Lack → Type 0
-IsLacking input l = (g : Graph) × IsInputOf g input × IsLack3 g l.node l.kind
+-- the input is a spelling of a graph that has no canonical spelling in the format
+abbrev pub IsUnconverted : Format → Format → List ℕ → Lack → Type 0
+IsUnconverted from to input l = (g : Graph) × IsInputOf from g input × IsUnwritten to g l
 
--- why the input has no output: `same` writes for each that it accepts
+-- why an input that is accepted has no output: `same` writes for each
 abbrev pub Lacks : Command → List ℕ → Lack → Type 0
-Lacks Canon input l = IsLacking input l
+Lacks (Canon from to) input l = IsUnconverted from to input l
 Lacks Same input l = ⊥
 
--- the bytes that came before a read failed fix no verdict
-pub record IsHidden (c : Command) (input rest : List ℕ) : Type 0 where
+-- whichever graph it is of those that the input spells
+abbrev pub LacksEver : Command → List ℕ → Lack → Type 0
+LacksEver (Canon from to) input l = (g fit : Graph) → IsInputOf from g input → IsFitted to g fit → IsLackIn to fit l
+LacksEver Same input l = ⊥
+
+-- whether an input that is accepted can have no output: what AMF 3 spells has a canonical spelling in it
+abbrev pub MayLack : Command → Type 0
+MayLack (Canon Amf3 Amf3) = ⊥
+MayLack (Canon Amf3 Amf0) = Unit {0}
+MayLack (Canon Amf0 to) = Unit {0}
+MayLack Same = ⊥
+
+-- the input is canonical in the format in which the command reads and writes
+abbrev pub IsOutputOf : Command → List ℕ → Type 0
+IsOutputOf (Canon from to) input = (from ≡ to) × (g : Graph) × IsWritten to g input
+IsOutputOf Same input = ⊥
+
+-- the bytes that came before a read failed fix no verdict, where these lists are accepted
+pub record IsHidden (A : List Field → Type 0) (input rest : List ℕ) : Type 0 where
   pub given : List ℕ
   pub parts : input ≡ given ++ rest
-  pub unsettled : IsUnsettled (Accepts c) most given
+  pub unsettled : IsUnsettled A most given
 
--- how a reader of the whole input ends, where P tells what it makes of an accepted one
-abbrev pub ReadsInput : {X : Type 0} → Command → (X → Type 0) → List ℕ → List ℕ → Result X RunEnd → Type 0
-ReadsInput c P input rest (Ok x) = P x × (rest ≡ [])
-ReadsInput c P input rest (Err (Refused f)) = IsInputRefused (Accepts c) most input f.reason f.at
-ReadsInput c P input rest (Err ReadFault) = IsHidden c input rest
-ReadsInput c P input rest (Err Usage) = ⊥
-ReadsInput c P input rest (Err WriteFault) = ⊥
-ReadsInput c P input rest (Err NoMemory) = Unit {0}
-ReadsInput c P input rest (Err (NoForm l)) = Lacks c input l × (rest ≡ [])
+-- how a reader of the whole input ends, where P tells what it makes of an accepted one, and L why it makes nothing
+abbrev pub ReadsInput : {X : Type 0} → (List Field → Type 0) → (Lack → Type 0) → (X → Type 0) → List ℕ → List ℕ → Result X RunEnd → Type 0
+ReadsInput A L P input rest (Ok x) = P x × (rest ≡ [])
+ReadsInput A L P input rest (Err (Refused f)) = IsInputRefused A most input f.reason f.at
+ReadsInput A L P input rest (Err ReadFault) = IsHidden A input rest
+ReadsInput A L P input rest (Err Usage) = ⊥
+ReadsInput A L P input rest (Err WriteFault) = ⊥
+ReadsInput A L P input rest (Err NoMemory) = Unit {0}
+ReadsInput A L P input rest (Err (NoForm l)) = L l × (rest ≡ [])
+
+-- no reader ends so
+abbrev pub NeverLacks : Lack → Type 0
+NeverLacks l = ⊥
 
 -- a read fault is counted, and without one the count stays
 abbrev pub CountsReads : {T : Type 0} → ℕ → ℕ → Result T RunEnd → Type 0
@@ -129,7 +142,7 @@ IsReadEnd (Err WriteFault) = ⊥
 IsReadEnd (Err NoMemory) = Unit {0}
 IsReadEnd (Err (NoForm l)) = ⊥
 
--- an end that the making of an output has: one without form is of `canon` alone
+-- an end that the making of an output has
 abbrev pub IsOutputEnd : {T : Type 0} → Command → Result T RunEnd → Type 0
 IsOutputEnd c (Ok x) = Unit {0}
 IsOutputEnd c (Err (Refused f)) = Unit {0}
@@ -137,7 +150,7 @@ IsOutputEnd c (Err ReadFault) = Unit {0}
 IsOutputEnd c (Err Usage) = ⊥
 IsOutputEnd c (Err WriteFault) = ⊥
 IsOutputEnd c (Err NoMemory) = Unit {0}
-IsOutputEnd c (Err (NoForm l)) = c ≡ Canon
+IsOutputEnd c (Err (NoForm l)) = MayLack c
 
 -- nothing was asked of the output, but where it was written to
 abbrev pub IsUntouched : {S T : Type 0} → S → S → Result T RunEnd → Type 0
@@ -169,7 +182,7 @@ pub record WritesSome (c : Command) (input rest : List ℕ) (told : Type 0) (hel
 abbrev pub RunsTo : {T : Type 0} → Command → List ℕ → List ℕ → Type 0 → List ℕ → List ℕ → Result T RunEnd → Type 0
 RunsTo c input rest told held now (Ok x) = WritesAll c input rest told held now
 RunsTo c input rest told held now (Err (Refused f)) = IsInputRefused (Accepts c) most input f.reason f.at
-RunsTo c input rest told held now (Err ReadFault) = IsHidden c input rest
+RunsTo c input rest told held now (Err ReadFault) = IsHidden (Accepts c) input rest
 RunsTo c input rest told held now (Err Usage) = Unit {0}
 RunsTo c input rest told held now (Err WriteFault) = WritesSome c input rest told held now
 RunsTo c input rest told held now (Err NoMemory) = Unit {0}
@@ -185,8 +198,7 @@ pub record IsRefusedWith (c : Command) (input : List ℕ) (told : Type 0) (held 
 pub record HasNoForm (c : Command) (input rest : List ℕ) (told : Type 0) (held now : List ℕ) : Type 0 where
   pub lack : Lack
   pub lacking : Lacks c input lack
-  -- whichever graph it is of those that the input spells
-  pub every : (g : Graph) → IsInputOf g input → IsLack3 g lack.node lack.kind
+  pub every : LacksEver c input lack
   pub all_read : rest ≡ []
   pub line : told → now ≡ held ++ no_form_line lack
 

@@ -1,39 +1,53 @@
-ghost use Rattle.std.specs.Prelude.{◌≡◌, ◌∷◌, [], ◌↔◌, IsTrue, IfSome, IfNone};
-ghost use Rattle.amf_cli.specs.Run.{Reads, HasReading};
+ghost use Rattle.std.specs.Prelude.{IfOk, IfSome, IfNone};
+ghost use Rattle.amf_words.specs.Words.{texts};
+ghost use Rattle.amf_cli.specs.Commands.{Asks, Reads, HasReading};
 
-use amf_wire::Name;
+use crate::format::Format;
+use crate::kind::Kind;
+use amf_wire::{Memory, Name};
+use amf_words::options_of;
+use std::alloc::{AllocError, Global};
+use std::str;
 
 /// What the words of a command line ask for.
 #[derive(Clone, Copy, Debug, PartialEq, Eq)]
 pub enum Command {
-    /// `canon`: the canonical spelling of one value.
-    Canon,
-    /// `same`: whether two values, one after the other, are the same graph.
+    /// `canon`: the canonical spelling of one value, in the same format or another.
+    Canon { from: Format, to: Format },
+    /// `same`: whether two values of AMF 3, one after the other, are the same graph.
     Same,
 }
 
 impl Command {
-    /// What the words ask for, if they have a reading.
-    pub fn of(words: &[Name]) -> Option<Command>
-        ensures read { IfSome result (λ command. Reads words.now command) }
-        ensures none { IfNone result (HasReading words.now → ⊥) }
+    /// What the words ask for, if they have a reading: each has to be UTF-8.
+    pub fn of(alloc: Global, words: &[Name]) -> Result<Option<Command>, Memory>
+        ensures reads { IfOk result (λ r. IfSome r (Reads words.now)) }
+        ensures none { IfOk result (λ r. IfNone r (HasReading words.now → ⊥)) }
     {
-        if is_word(words, b"canon") {
-            Some(Command::Canon)
-        } else if is_word(words, b"same") {
-            Some(Command::Same)
-        } else {
-            None
+        let mut seen = Vec::new(alloc);
+        for word in words {
+            match str::from_utf8(word.as_bytes()) {
+                Ok(text) => seen.push(text)?,
+                Err(_) => return Ok(None),
+            }
         }
+        Ok(asked(alloc, seen.as_slice())?)
     }
 }
 
-/// Whether the words are this one word.
-fn is_word(words: &[Name], name: &[u8]) -> bool
-    ensures { IsTrue result ↔ words.now ≡ name.now ∷ [] }
+/// What the words ask for, if anything.
+fn asked<'a>(alloc: Global, words: &'a [&'a str]) -> Result<Option<Command>, AllocError>
+    ensures reads { IfOk result (λ r. IfSome r (λ c. Asks (texts words.now) c)) }
+    ensures none { IfOk result (λ r. IfNone r ((c : Command) → Asks (texts words.now) c → ⊥)) }
 {
-    match words {
-        [word] => word.as_bytes() == name,
-        _ => false,
+    let Some((name, rest)) = words.split_first() else {
+        return Ok(None);
+    };
+    let Some(kind) = Kind::of(name) else {
+        return Ok(None);
+    };
+    match options_of(alloc, name, kind.options(), rest)? {
+        Some(matches) => Ok(kind.command(&matches)),
+        None => Ok(None),
     }
 }

@@ -1,31 +1,38 @@
-//! The program `amf`: writes the canonical spelling of any AMF 3 value, and tells whether two are the same graph.
+//! The program `amf`: writes the canonical spelling of any value of AMF 3 or AMF 0, in either, and tells whether two are the same graph.
 #![tactic(auto)]
 
+#[cfg(test)]
+mod amf0_tests;
+mod arguments;
 mod command;
+mod format;
+mod kind;
 #[cfg(test)]
 mod large_tests;
 mod reading;
 mod report;
 mod run;
 mod run_end;
+mod spelling;
+mod start;
+#[cfg(test)]
+mod start_tests;
 #[cfg(test)]
 mod tests;
-mod words;
 mod writing;
 
+use crate::arguments::Environment;
+use crate::start::start;
 use amf_io::{StandardError, StandardInput, StandardOutput};
 use std::process::ExitCode;
 
 fn main(rt: HostRuntime) -> ExitCode {
-    let mut input = StandardInput::new(rt.stdin());
-    let mut out = StandardOutput::new(rt.stdout());
-    let mut err = StandardError::new(rt.stderr());
-    let status = match words::words_of(&rt) {
-        Ok(words) => run::run(&rt, rt.alloc(), &words, &mut input, &mut out, &mut err),
-        Err(end) => {
-            let _ = report::report(end, &mut err);
-            end.status()
-        }
-    };
-    ExitCode::from(status)
+    start(
+        &rt,
+        rt.alloc(),
+        &Environment::new(&rt),
+        &mut StandardInput::new(rt.stdin()),
+        &mut StandardOutput::new(rt.stdout()),
+        &mut StandardError::new(rt.stderr()),
+    )
 }

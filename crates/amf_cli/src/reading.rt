@@ -1,36 +1,44 @@
-ghost use Rattle.std.specs.Prelude.{◌≡◌, ◌+◌, ◌≤◌, OnOk, length, false};
+ghost use Rattle.std.specs.Prelude.{◌≡◌, ◌+◌, ◌≤◌, List, OnOk, IfOk, length, false};
 ghost use Rattle.std.specs.List.{AllByRecursion};
 ghost use Rattle.amf_io.specs.Cursor.{source_of, place, bound, unread};
 ghost use Rattle.amf_io.specs.CursorReads.{Goes};
+ghost use Rattle.amf_io.specs.Field.{Field};
+ghost use Rattle.amf_wire.specs.Style.{free};
 ghost use Rattle.amf_graph.specs.Arena.{Names};
 ghost use Rattle.amf_graph.specs.Rooted.{content};
-ghost use Rattle.amf_cli.specs.declared.command.Command.TheVariants.{Canon, Same};
+ghost use Rattle.amf3_read.specs.Pairs.{Pair};
+ghost use Rattle.amf_cli.specs.declared.format.Format.TheVariants.{Amf3, Amf0};
+ghost use Rattle.amf_cli.specs.Formats.{IsSpelling, IsValue};
 ghost use Rattle.amf_cli.specs.Reading.{AnswersOne, AnswersEnd};
-ghost use Rattle.amf_cli.specs.Run.{most, IsInputOf, ArePairIn, CountsReads, IsReadEnd, ReadsInput};
+ghost use Rattle.amf_cli.specs.Run.{most, IsInputOf, ArePairIn, CountsReads, IsReadEnd, ReadsInput, NeverLacks};
 
+use crate::format::Format;
 use crate::run::LIMIT;
 use crate::run_end::RunEnd;
 use amf_graph::{Builder, Rooted, Value};
 use amf_io::{Cursor, ReadEnd, Reason, Refusal, Source, Window};
 use amf_tables::Tables3;
+use amf0_read::read0;
+use amf0_tables::Tables0;
 use amf3_read::read3;
 use std::alloc::Global;
 
-/// The graph that the input spells.
-pub fn read_graph<I: Source>(alloc: Global, input: &mut I) -> Result<Rooted, RunEnd>
-    ensures reads { I.tells input.old → ReadsInput Canon (λ g. IsInputOf (content g) (I.left input.old)) (I.left input.old) (I.left input.new) result }
+/// The graph that the input spells in a format.
+pub fn read_graph<I: Source>(alloc: Global, from: Format, input: &mut I) -> Result<Rooted, RunEnd>
+    ensures reads { I.tells input.old → ReadsInput (IsValue from) NeverLacks (λ g. IsInputOf from (content g) (I.left input.old)) (I.left input.old) (I.left input.new) result }
+    ensures spelled { IfOk result (λ g. (fs : List Field) × IsSpelling from free (content g) fs) }
     ensures taken { I.tells input.old → length (I.left input.old) ≤ length (I.left input.new) + (most + 1) }
     ensures counts { CountsReads (I.faults input.old) (I.faults input.new) result }
     ensures ends { IsReadEnd result }
 {
     let window = Window::new(alloc, LIMIT)?;
     let mut cursor = Cursor::over(input, window);
-    read_whole(alloc, &mut cursor)
+    read_whole(alloc, from, &mut cursor)
 }
 
 /// The two graphs that the input spells, one after the other.
 pub fn read_graphs<I: Source>(alloc: Global, input: &mut I) -> Result<(Rooted, Rooted), RunEnd>
-    ensures reads { I.tells input.old → ReadsInput Same (λ p. ArePairIn (content p.0) (content p.1) (I.left input.old)) (I.left input.old) (I.left input.new) result }
+    ensures reads { I.tells input.old → ReadsInput (Pair (IsValue Amf3)) NeverLacks (λ p. ArePairIn (content p.0) (content p.1) (I.left input.old)) (I.left input.old) (I.left input.new) result }
     ensures taken { I.tells input.old → length (I.left input.old) ≤ length (I.left input.new) + (most + 1) }
     ensures counts { CountsReads (I.faults input.old) (I.faults input.new) result }
     ensures ends { IsReadEnd result }
@@ -40,17 +48,22 @@ pub fn read_graphs<I: Source>(alloc: Global, input: &mut I) -> Result<(Rooted, R
     read_pair(alloc, &mut cursor)
 }
 
-/// The graph that all the bytes of a cursor spell.
-fn read_whole<S: Source>(alloc: Global, cursor: &mut Cursor<'_, S>) -> Result<Rooted, RunEnd>
+/// The graph that all the bytes of a cursor spell in a format.
+fn read_whole<S: Source>(
+    alloc: Global,
+    from: Format,
+    cursor: &mut Cursor<'_, S>,
+) -> Result<Rooted, RunEnd>
     requires at_start { place cursor.old ≡ 0 }
     requires limit { bound cursor.old ≡ most }
     ensures same_reference { (source_of cursor.new).ghost_name ≡ (source_of cursor.old).ghost_name }
-    ensures reads { S.tells (source_of cursor.old).now → ReadsInput Canon (λ g. IsInputOf (content g) (unread S.left cursor.old)) (unread S.left cursor.old) (S.left (source_of cursor.new).now) result }
+    ensures reads { S.tells (source_of cursor.old).now → ReadsInput (IsValue from) NeverLacks (λ g. IsInputOf from (content g) (unread S.left cursor.old)) (unread S.left cursor.old) (S.left (source_of cursor.new).now) result }
+    ensures spelled { IfOk result (λ g. (fs : List Field) × IsSpelling from free (content g) fs) }
     ensures taken { S.tells (source_of cursor.old).now → length (unread S.left cursor.old) ≤ length (S.left (source_of cursor.new).now) + (most + 1) }
     ensures counts { CountsReads (S.faults (source_of cursor.old).now) (S.faults (source_of cursor.new).now) result }
     ensures ends { IsReadEnd result }
 {
-    let graph = read_one(alloc, cursor)?;
+    let graph = read_one(alloc, from, cursor)?;
     expect_end(cursor)?;
     Ok(graph)
 }
@@ -63,22 +76,50 @@ fn read_pair<S: Source>(
     requires at_start { place cursor.old ≡ 0 }
     requires limit { bound cursor.old ≡ most }
     ensures same_reference { (source_of cursor.new).ghost_name ≡ (source_of cursor.old).ghost_name }
-    ensures reads { S.tells (source_of cursor.old).now → ReadsInput Same (λ p. ArePairIn (content p.0) (content p.1) (unread S.left cursor.old)) (unread S.left cursor.old) (S.left (source_of cursor.new).now) result }
+    ensures reads { S.tells (source_of cursor.old).now → ReadsInput (Pair (IsValue Amf3)) NeverLacks (λ p. ArePairIn (content p.0) (content p.1) (unread S.left cursor.old)) (unread S.left cursor.old) (S.left (source_of cursor.new).now) result }
     ensures taken { S.tells (source_of cursor.old).now → length (unread S.left cursor.old) ≤ length (S.left (source_of cursor.new).now) + (most + 1) }
     ensures counts { CountsReads (S.faults (source_of cursor.old).now) (S.faults (source_of cursor.new).now) result }
     ensures ends { IsReadEnd result }
 {
-    let left = read_one(alloc, cursor)?;
-    let right = read_one(alloc, cursor)?;
+    let left = read_one3(alloc, cursor)?;
+    let right = read_one3(alloc, cursor)?;
     expect_end(cursor)?;
     Ok((left, right))
 }
 
-/// The graph that the next bytes of a cursor spell, from empty tables.
-fn read_one<S: Source>(alloc: Global, cursor: &mut Cursor<'_, S>) -> Result<Rooted, ReadEnd>
+/// The graph that the next bytes of a cursor spell in a format, from empty tables.
+fn read_one<S: Source>(
+    alloc: Global,
+    from: Format,
+    cursor: &mut Cursor<'_, S>,
+) -> Result<Rooted, ReadEnd>
     requires limit { bound cursor.old ≡ most }
     ensures goes { Goes S.tells S.left S.faults cursor.old cursor.new result }
-    ensures answers { AnswersOne (S.tells (source_of cursor.old).now) (unread S.left cursor.old) (unread S.left cursor.new) (place cursor.old) (place cursor.new) result }
+    ensures answers { AnswersOne from (S.tells (source_of cursor.old).now) (unread S.left cursor.old) (unread S.left cursor.new) (place cursor.old) (place cursor.new) result }
+{
+    match from {
+        Format::Amf3 => read_one3(alloc, cursor),
+        Format::Amf0 => read_one0(alloc, cursor),
+    }
+}
+
+/// The graph that the next bytes of a cursor spell in AMF 0, from empty tables.
+fn read_one0<S: Source>(alloc: Global, cursor: &mut Cursor<'_, S>) -> Result<Rooted, ReadEnd>
+    requires limit { bound cursor.old ≡ most }
+    ensures goes { Goes S.tells S.left S.faults cursor.old cursor.new result }
+    ensures answers { AnswersOne Amf0 (S.tells (source_of cursor.old).now) (unread S.left cursor.old) (unread S.left cursor.new) (place cursor.old) (place cursor.new) result }
+{
+    let mut builder = Builder::new(alloc)?;
+    let mut tables = Tables0::new(alloc)?;
+    let read = read0(alloc, cursor, &mut builder, &mut tables)?;
+    Ok(whole(builder, read.value))
+}
+
+/// The graph that the next bytes of a cursor spell in AMF 3, from empty tables.
+fn read_one3<S: Source>(alloc: Global, cursor: &mut Cursor<'_, S>) -> Result<Rooted, ReadEnd>
+    requires limit { bound cursor.old ≡ most }
+    ensures goes { Goes S.tells S.left S.faults cursor.old cursor.new result }
+    ensures answers { AnswersOne Amf3 (S.tells (source_of cursor.old).now) (unread S.left cursor.old) (unread S.left cursor.new) (place cursor.old) (place cursor.new) result }
 {
     let mut builder = Builder::new(alloc)?;
     let mut tables = Tables3::new(alloc)?;

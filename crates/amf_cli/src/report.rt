@@ -1,6 +1,6 @@
-ghost use Rattle.std.specs.Prelude.{◌≡◌, ◌++◌, OnOk};
-ghost use Rattle.amf_io.specs.Outside.{HasCause};
-ghost use Rattle.amf_cli.specs.Lines.{line_of, refusal_line, reason_name, no_form_line, kind_name};
+ghost use Rattle.std.specs.Prelude.{◌≡◌, ◌≤◌, ◌++◌, OnOk};
+ghost use Rattle.amf_io.specs.Outside.{HasCause, Steady};
+ghost use Rattle.amf_cli.specs.Lines.{status_of, line_of, refusal_line, reason_name, no_form_line, kind_name};
 
 use crate::run_end::RunEnd;
 use crate::writing::write_all;
@@ -8,9 +8,19 @@ use amf_graph::{Lack, LackKind};
 use amf_io::{Failed, Reason, Refusal, Sink};
 use itoa::Buffer;
 
+/// Writes the error line of an end, and gives its status, whatever becomes of the line.
+pub fn end_with<E: Sink>(end: RunEnd, err: &mut E) -> u8
+    ensures status { result ≡ status_of end }
+    ensures line { E.tells err.new → Steady (E.faults err.old) (E.faults err.new) → E.held err.new ≡ E.held err.old ++ line_of end }
+    ensures counted { E.faults err.old ≤ E.faults err.new }
+{
+    let _ = report(end, err);
+    end.status()
+}
+
 /// Writes the error line of an end.
 #[tactic(auto, unfolding(crate::specs::Lines::line_of))]
-pub fn report<E: Sink>(end: RunEnd, err: &mut E) -> Result<(), Failed>
+fn report<E: Sink>(end: RunEnd, err: &mut E) -> Result<(), Failed>
     ensures tells { E.tells err.new → E.tells err.old }
     ensures line { E.tells err.new → OnOk result (E.held err.new ≡ E.held err.old ++ line_of end) }
     ensures cause { HasCause (E.faults err.old) (E.faults err.new) result }

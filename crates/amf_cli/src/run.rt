@@ -1,25 +1,27 @@
-ghost use Rattle.std.specs.Prelude.{◌≡◌, ℕ, ◌≢◌, ◌+◌, ◌<◌, ◌≤◌, ◌⊎◌, ◌↔◌, List, length};
+ghost use Rattle.std.specs.Prelude.{◌≡◌, ℕ, ◌≢◌, ◌+◌, ◌≤◌, ◌⊎◌, ◌++◌, List, length};
 ghost use Rattle.amf_io.specs.Outside.{Rose, Steady};
 ghost use Rattle.amf_io.specs.declared.reason.Reason.{Reason};
 ghost use Rattle.amf_io.specs.Verdict.{IsInputAccepted, IsInputRefused};
 ghost use Rattle.amf_graph.specs.declared.lack.Lack.{Lack};
-ghost use Rattle.amf_graph.specs.declared.lack.LackKind.{LackKind};
-ghost use Rattle.amf_graph.specs.Graph.{Graph};
-ghost use Rattle.amf_tables.specs.Lacks3.{IsLack3};
+ghost use Rattle.amf3_read.specs.Pairs.{Pair};
 ghost use Rattle.amf_cli.specs.declared.command.Command.{Command};
-ghost use Rattle.amf_cli.specs.declared.command.Command.TheVariants.{Canon, Same};
-ghost use Rattle.amf_cli.specs.Lines.{line_of};
-ghost use Rattle.amf_cli.specs.Run.{most, Reads, HasReading, Accepts, Makes, IsConverted, IsCompared, IsInputOf, ReadsInput, CountsReads, CountsWrites, IsUntouched, IsReadEnd, IsOutputEnd, RunsTo, WritesAll, WritesSome, IsRefusedWith, IsHidden, HasNoForm, Reports};
+ghost use Rattle.amf_cli.specs.declared.command.Command.TheVariants.{Canon};
+ghost use Rattle.amf_cli.specs.declared.format.Format.TheVariants.{Amf3};
+ghost use Rattle.amf_cli.specs.Formats.{IsValue};
+ghost use Rattle.amf_cli.specs.Commands.{Reads, HasReading};
+ghost use Rattle.amf_cli.specs.Run.{most, Accepts, Makes, Lacks, MayLack, IsOutputOf, IsConverted, IsUnconverted, IsCompared, ReadsInput, NeverLacks, CountsReads, CountsWrites, IsUntouched, IsReadEnd, IsOutputEnd, RunsTo, WritesAll, WritesSome, IsRefusedWith, IsHidden, HasNoForm, Reports};
 
 use crate::command::Command;
+use crate::format::Format;
 use crate::reading::{read_graph, read_graphs};
-use crate::report::report;
+use crate::report::end_with;
 use crate::run_end::RunEnd;
+use crate::spelling::spell;
 use crate::writing::write_whole;
+use amf_graph::WriteEnd;
 use amf_io::{Sink, Source};
 use amf_iso::isomorphic;
 use amf_wire::Name;
-use amf3_write::write3_keyed;
 use std::alloc::Global;
 use std::hash::RandomState;
 use std::random::RandomSource;
@@ -29,9 +31,11 @@ pub const LIMIT: u32 = 67_108_864;
 
 /// Does what the words say, and gives the status of the program.
 ///
-/// `words` are those after the program's name, and two lists of words have a reading. With the one word `canon`
-/// the input is one AMF 3 value, and the output its canonical spelling. With the one word `same` the input is two
-/// AMF 3 values, one after the other, and the output is the line `same` or `different`.
+/// `words` are those after the program's name. The first is the command, and the others are its options, each at most once, in
+/// any order, as `--x v` or `--x=v`. With `canon` the input is one value in the format that `--from` names, and the output is its
+/// canonical spelling in the format that `--to` names. The formats are `amf3` and `amf0`; without `--from` it is `amf3`, and without
+/// `--to` the one of the input. With `same`, which has no options, the input is two AMF 3 values, one after the other, and the output is
+/// the line `same` or `different`.
 ///
 /// The runtime gives the keys by which the writer looks texts up, so that no input can be made that takes long; where it
 /// gives none, they are fixed.
@@ -45,18 +49,24 @@ pub fn run<R: RandomSource, I: Source, O: Sink, E: Sink>(
 ) -> u8
     ensures statuses { (result ≤ 5) ⊎ (result ≡ 7) }
 
-    // 2 comes exactly where the words have no reading.
-    ensures usage { (result ≡ 2) ↔ (HasReading words.now → ⊥) }
+    // 2 comes exactly where the words have no reading, but for want of memory; and where they have none, nothing is asked of the input.
+    ensures usage { result ≡ 2 → HasReading words.now → ⊥ }
+    ensures no_reading { (HasReading words.now → ⊥) → (result ≡ 2) ⊎ (result ≡ 5) }
+    ensures read { result ≢ 2 → result ≢ 5 → HasReading words.now }
+    ensures unread { (HasReading words.now → ⊥) → input.new ≡ input.old }
 
-    // 0: the output was written whole, and the input read to its end. What `canon` writes is canonical for exactly the graphs
-    // that are isomorphic to what the input spells, and `same` says whether the two graphs are.
+    // 0: the input was read to its end, the output was written whole, and it holds of whatever the input spells.
     ensures done { (c : Command) → Reads words.now c → result ≡ 0 → I.tells input.old → WritesAll c (I.left input.old) (I.left input.new)
         (O.tells out.new) (O.held out.old) (O.held out.new) }
-    ensures read { result ≢ 2 → HasReading words.now }
 
-    // But for 3 the count of the input stays, and but for 4 that of the output.
+    // Output that is read again gives itself.
+    ensures again { (c : Command) → Reads words.now c → result ≡ 0 → I.tells input.old → O.tells out.new → IsOutputOf c (I.left input.old)
+        → O.held out.new ≡ O.held out.old ++ I.left input.old }
+
+    // But for 3 the count of the input stays, and but for 4 that of the output. That of the error line never falls.
     ensures no_read_fault { result ≢ 3 → I.faults input.new ≡ I.faults input.old }
     ensures no_write_fault { result ≢ 4 → O.faults out.new ≡ O.faults out.old }
+    ensures counted { E.faults err.old ≤ E.faults err.new }
 
     // 1: the verdict, with its reason and place on the error line.
     ensures refused { (c : Command) → Reads words.now c → result ≡ 1 → I.tells input.old → IsRefusedWith c (I.left input.old)
@@ -64,48 +74,43 @@ pub fn run<R: RandomSource, I: Source, O: Sink, E: Sink>(
 
     // 3 and 4 come only where a count rose, and 3 only where what came before fixes no verdict.
     ensures read_fault { result ≡ 3 → Rose (I.faults input.old) (I.faults input.new) }
-    ensures hidden { (c : Command) → Reads words.now c → result ≡ 3 → I.tells input.old → IsHidden c (I.left input.old) (I.left input.new) }
+    ensures hidden { (c : Command) → Reads words.now c → result ≡ 3 → I.tells input.old → IsHidden (Accepts c) (I.left input.old) (I.left input.new) }
     ensures write_fault { result ≡ 4 → Rose (O.faults out.old) (O.faults out.new) }
     ensures front { (c : Command) → Reads words.now c → result ≡ 4 → I.tells input.old → WritesSome c (I.left input.old) (I.left input.new)
         (O.tells out.new) (O.held out.old) (O.held out.new) }
 
-    // What is accepted is not refused, and what is refused is not accepted. No spelling of AMF 3 has an empty name among its
-    // pairs, so what is accepted has a canonical spelling.
+    // What is accepted is not refused, and what is refused is not accepted.
     ensures accepted { (c : Command) → Reads words.now c → I.tells input.old → IsInputAccepted (Accepts c) most (I.left input.old)
-        → (result ≡ 0) ⊎ (result ≡ 3) ⊎ (result ≡ 4) ⊎ (result ≡ 5) }
+        → (result ≡ 0) ⊎ (result ≡ 3) ⊎ (result ≡ 4) ⊎ (result ≡ 5) ⊎ (result ≡ 7) }
     ensures not_accepted { (c : Command) → Reads words.now c → I.tells input.old → (reason : Reason) (at : ℕ)
         → IsInputRefused (Accepts c) most (I.left input.old) reason at
         → (result ≡ 1) ⊎ (result ≡ 3) ⊎ (result ≡ 5) }
 
-    // 7 comes only where `canon` accepts the input, and each graph that it spells has this first lack.
+    // 7: the input is accepted, and whatever it spells has this first lack. It comes only of commands that may lack an output,
+    // and where the input has one, or a lack, the status is that of this.
     ensures no_form { (c : Command) → Reads words.now c → result ≡ 7 → I.tells input.old → HasNoForm c (I.left input.old) (I.left input.new)
         (E.tells err.new × Steady (E.faults err.old) (E.faults err.new)) (E.held err.old) (E.held err.new) }
-    ensures alone { result ≡ 7 → Reads words.now Canon }
+    ensures alone { (c : Command) → Reads words.now c → result ≡ 7 → MayLack c }
     ensures formed { (c : Command) → Reads words.now c → I.tells input.old → (bytes : List ℕ) → Makes c (I.left input.old) bytes
         → (result ≡ 0) ⊎ (result ≡ 3) ⊎ (result ≡ 4) ⊎ (result ≡ 5) }
-    ensures lacking { Reads words.now Canon → I.tells input.old → (g : Graph) → IsInputOf g (I.left input.old)
-        → (number : ℕ) (kind : LackKind) → IsLack3 g number kind
+    ensures lacking { (c : Command) → Reads words.now c → I.tells input.old → (l : Lack) → Lacks c (I.left input.old) l
         → (result ≡ 3) ⊎ (result ≡ 5) ⊎ (result ≡ 7) }
 
-    // With any other status than 0 and 4 nothing is asked of the output, and with 2 nothing of the input.
+    // With any other status than 0 and 4 nothing is asked of the output.
     ensures untouched { (result ≡ 1) ⊎ (result ≡ 2) ⊎ (result ≡ 3) ⊎ (result ≡ 5) ⊎ (result ≡ 7) → out.new ≡ out.old }
-    ensures unread { result ≡ 2 → input.new ≡ input.old }
 
     // No byte of the input past the most is taken but the one that shows that there is more.
     ensures taken { I.tells input.old → length (I.left input.old) ≤ length (I.left input.new) + (most + 1) }
 
-    // A fault of the error line changes no status.
+    // The error line is that of the status.
     ensures line { E.tells err.new → Steady (E.faults err.old) (E.faults err.new)
         → Reports result (E.held err.old) (E.held err.new) }
 {
     let keys = RandomState::new(rt).ok();
     match execute(alloc, keys, words, input, out) {
         Ok(()) => 0,
-        Err(end) => {
-            // The status is decided: a failure of the error line does not change it.
-            let _ = report(end, err);
-            end.status()
-        }
+        // The status is decided: a failure of the error line does not change it.
+        Err(end) => end_with(end, err),
     }
 }
 
@@ -117,10 +122,11 @@ fn execute<I: Source, O: Sink>(
     input: &mut I,
     out: &mut O,
 ) -> Result<(), RunEnd>
-    ensures usage { (result ≡ Err RunEnd.Usage) ↔ (HasReading words.now → ⊥) }
-    ensures read { result ≢ Err RunEnd.Usage → HasReading words.now }
-    ensures alone { (l : Lack) → result ≡ Err (RunEnd.NoForm l) → Reads words.now Canon }
-    ensures unread { result ≡ Err RunEnd.Usage → input.new ≡ input.old }
+    ensures usage { result ≡ Err RunEnd.Usage → HasReading words.now → ⊥ }
+    ensures no_reading { (HasReading words.now → ⊥) → (result ≡ Err RunEnd.Usage) ⊎ (result ≡ Err RunEnd.NoMemory) }
+    ensures read { result ≢ Err RunEnd.Usage → result ≢ Err RunEnd.NoMemory → HasReading words.now }
+    ensures unread { (HasReading words.now → ⊥) → input.new ≡ input.old }
+    ensures alone { (c : Command) → Reads words.now c → (l : Lack) → result ≡ Err (RunEnd.NoForm l) → MayLack c }
     ensures taken { I.tells input.old → length (I.left input.old) ≤ length (I.left input.new) + (most + 1) }
     ensures tells { O.tells out.new → O.tells out.old }
     ensures runs { (c : Command) → Reads words.now c → I.tells input.old → RunsTo c (I.left input.old) (I.left input.new) (O.tells out.new) (O.held out.old) (O.held out.new) result }
@@ -128,7 +134,7 @@ fn execute<I: Source, O: Sink>(
     ensures reads { CountsReads (I.faults input.old) (I.faults input.new) result }
     ensures writes { CountsWrites (O.faults out.old) (O.faults out.new) result }
 {
-    match Command::of(words) {
+    match Command::of(alloc, words)? {
         Some(command) => perform(alloc, keys, command, input, out),
         None => Err(RunEnd::Usage),
     }
@@ -143,7 +149,7 @@ fn perform<I: Source, O: Sink>(
     out: &mut O,
 ) -> Result<(), RunEnd>
     ensures no_usage { result ≢ Err RunEnd.Usage }
-    ensures alone { (l : Lack) → result ≡ Err (RunEnd.NoForm l) → command ≡ Canon }
+    ensures alone { (l : Lack) → result ≡ Err (RunEnd.NoForm l) → MayLack command }
     ensures tells { O.tells out.new → O.tells out.old }
     ensures runs { I.tells input.old → RunsTo command (I.left input.old) (I.left input.new) (O.tells out.new) (O.held out.old) (O.held out.new) result }
     ensures taken { I.tells input.old → length (I.left input.old) ≤ length (I.left input.new) + (most + 1) }
@@ -165,37 +171,44 @@ fn output_of<I: Source>(
     command: Command,
     input: &mut I,
 ) -> Result<Vec<u8>, RunEnd>
-    ensures reads { I.tells input.old → ReadsInput command (λ bytes. Makes command (I.left input.old) bytes.items) (I.left input.old) (I.left input.new) result }
+    ensures reads { I.tells input.old → ReadsInput (Accepts command) (Lacks command (I.left input.old)) (λ bytes. Makes command (I.left input.old) bytes.items) (I.left input.old) (I.left input.new) result }
     ensures taken { I.tells input.old → length (I.left input.old) ≤ length (I.left input.new) + (most + 1) }
     ensures counts { CountsReads (I.faults input.old) (I.faults input.new) result }
     ensures ends { IsOutputEnd command result }
 {
     match command {
-        Command::Canon => canonical_bytes(alloc, keys, input),
+        Command::Canon { from, to } => converted(alloc, keys, from, to, input),
         Command::Same => comparison(alloc, input),
     }
 }
 
-/// The canonical spelling of the one value that the input is.
-fn canonical_bytes<I: Source>(
+/// The canonical spelling, in one format, of the one value that the input is in another.
+fn converted<I: Source>(
     alloc: Global,
     keys: Option<RandomState>,
+    from: Format,
+    to: Format,
     input: &mut I,
 ) -> Result<Vec<u8>, RunEnd>
-    ensures reads { I.tells input.old → ReadsInput Canon (λ bytes. IsConverted (I.left input.old) bytes.items) (I.left input.old) (I.left input.new) result }
+    ensures reads { I.tells input.old → ReadsInput (IsValue from) (IsUnconverted from to (I.left input.old)) (λ bytes. IsConverted from to (I.left input.old) bytes.items) (I.left input.old) (I.left input.new) result }
     ensures taken { I.tells input.old → length (I.left input.old) ≤ length (I.left input.new) + (most + 1) }
     ensures counts { CountsReads (I.faults input.old) (I.faults input.new) result }
-    ensures ends { IsOutputEnd Canon result }
+    ensures ends { IsOutputEnd (Canon from to) result }
 {
-    let graph = read_graph(alloc, input)?;
-    let mut bytes = Vec::new(alloc);
-    write3_keyed(alloc, keys, &graph, &mut bytes)?;
-    Ok(bytes)
+    let graph = match read_graph(alloc, from, input) {
+        Ok(graph) => graph,
+        Err(end) => return Err(end),
+    };
+    match spell(alloc, keys, to, &graph) {
+        Ok(bytes) => Ok(bytes),
+        Err(WriteEnd::NoSpelling(lack)) => Err(RunEnd::NoForm(lack)),
+        Err(WriteEnd::Memory) => Err(RunEnd::NoMemory),
+    }
 }
 
 /// The line that says whether the two values that the input is are the same graph.
 fn comparison<I: Source>(alloc: Global, input: &mut I) -> Result<Vec<u8>, RunEnd>
-    ensures reads { I.tells input.old → ReadsInput Same (λ line. IsCompared (I.left input.old) line.items) (I.left input.old) (I.left input.new) result }
+    ensures reads { I.tells input.old → ReadsInput (Pair (IsValue Amf3)) NeverLacks (λ line. IsCompared (I.left input.old) line.items) (I.left input.old) (I.left input.new) result }
     ensures taken { I.tells input.old → length (I.left input.old) ≤ length (I.left input.new) + (most + 1) }
     ensures counts { CountsReads (I.faults input.old) (I.faults input.new) result }
     ensures ends { IsReadEnd result }

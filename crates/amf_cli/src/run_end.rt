@@ -3,7 +3,7 @@ ghost use Rattle.amf_cli.specs.declared.run_end.RunEnd.TheVariants.{NoMemory};
 
 use amf_graph::{Lack, WriteEnd};
 use amf_io::{ReadEnd, Refusal};
-use amf_wire::{Memory, NameEnd};
+use amf_wire::Memory;
 use std::alloc::{AllocError, AllocFailed};
 
 /// Why a run wrote no whole output.
@@ -88,19 +88,6 @@ impl From<WriteEnd> for RunEnd {
         match end {
             WriteEnd::NoSpelling(lack) => RunEnd::NoForm(lack),
             WriteEnd::Memory => RunEnd::NoMemory,
-        }
-    }
-}
-
-impl From<NameEnd> for RunEnd {
-    ghost use Rattle.amf_cli.specs.Lines.{end_of_name};
-
-    ghost from_gives = { λ end e. e ≡ end_of_name end };
-
-    fn from(end: NameEnd) -> RunEnd {
-        match end {
-            NameEnd::BadText(_) => RunEnd::Usage,
-            NameEnd::Memory => RunEnd::NoMemory,
         }
     }
 }

@@ -7,10 +7,14 @@ use std::process::Abort;
 use std::random::RandomSource;
 use std::test::Fail;
 
-/// An input of a command, with the status, the output and the error line.
+static CANON: [&str; 1] = ["canon"];
+
+static SAME: [&str; 1] = ["same"];
+
+/// Words and an input, with the status, the output and the error line.
 #[derive(Drop)]
 pub(crate) struct Case {
-    pub command: &'static str,
+    pub words: &'static [&'static str],
     pub input: &'static [u8],
     pub status: u8,
     pub output: &'static [u8],
@@ -20,7 +24,7 @@ pub(crate) struct Case {
 /// An input of which `output` is the canonical spelling.
 fn accepted(input: &'static [u8], output: &'static [u8]) -> Case {
     Case {
-        command: "canon",
+        words: CANON.as_slice(),
         input,
         status: 0,
         output,
@@ -35,7 +39,7 @@ fn itself(input: &'static [u8]) -> Case {
 
 pub(crate) fn refused(input: &'static [u8], line: &'static [u8]) -> Case {
     Case {
-        command: "canon",
+        words: CANON.as_slice(),
         input,
         status: 1,
         output: b"",
@@ -46,7 +50,7 @@ pub(crate) fn refused(input: &'static [u8], line: &'static [u8]) -> Case {
 /// Two values, one after the other, of which `same` says this.
 fn compared(input: &'static [u8], output: &'static [u8]) -> Case {
     Case {
-        command: "same",
+        words: SAME.as_slice(),
         input,
         status: 0,
         output,
@@ -57,7 +61,7 @@ fn compared(input: &'static [u8], output: &'static [u8]) -> Case {
 /// An input that `same` refuses.
 fn not_compared(input: &'static [u8], line: &'static [u8]) -> Case {
     Case {
-        command: "same",
+        words: SAME.as_slice(),
         input,
         status: 1,
         output: b"",
@@ -136,7 +140,7 @@ pub(crate) fn check(
     pieces: (usize, usize),
     want: &Case,
 ) {
-    let ran = run_over(rt, alloc, &[want.command], bytes, pieces, &[], &[]);
+    let ran = run_over(rt, alloc, want.words, bytes, pieces, &[], &[]);
     let input = want.input;
     assert_eq!(rt; ran.status, want.status, "at {input:?} by {pieces:?}");
     assert_eq!(rt;
@@ -152,7 +156,7 @@ pub(crate) fn check(
 }
 
 /// Runs over each row all at once, a byte at a time, and split at each place.
-fn check_rows(rt: &impl Abort, alloc: Global, cases: &[Case]) {
+pub(crate) fn check_rows(rt: &impl Abort, alloc: Global, cases: &[Case]) {
     for case in cases {
         for pieces in pieces_of(alloc, case.input.len()).expect(rt, "pieces") {
             check(rt, alloc, case.input, pieces, case);
@@ -286,6 +290,10 @@ fn other_statuses(rt: HostRuntime) {
         &["cannon"],
         &["canon", "canon"],
         &["same", "canon"],
+        &["same", "--"],
+        &["canon", "--from", "amf3", "--from=amf3"],
+        &["canon", "--from", "amf"],
+        &["canon", "--to="],
     ] {
         let ran = run_over(&rt, rt.alloc(), words, &[0x01], (100, 0), &[], &[]);
         assert_eq!(rt; ran.status, 2);
@@ -339,6 +347,20 @@ fn other_statuses(rt: HostRuntime) {
     );
     assert_eq!(rt; front.status, 4);
     assert_eq!(rt; front.output.as_bytes(), [0x04, 0xC0].as_slice());
+}
+
+/// Words that say the same as the one word `canon`.
+#[test]
+fn words_for_amf_3(rt: HostRuntime) {
+    for words in [
+        ["canon"].as_slice(),
+        &["canon", "--from", "amf3"],
+        &["canon", "--to=amf3", "--from=amf3"],
+    ] {
+        let ran = run_over(&rt, rt.alloc(), words, &[0x01], (100, 0), &[], &[]);
+        assert_eq!(rt; ran.status, 0);
+        assert_eq!(rt; ran.output.as_bytes(), b"\x01".as_slice());
+    }
 }
 
 /// Streams that never fail.

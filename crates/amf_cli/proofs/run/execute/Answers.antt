@@ -1,10 +1,18 @@
-use Rattle.std.proofs.Common.{subst}
+use Rattle.std.proofs.Common.{Option, subst}
+use Rattle.std.specs.Prelude.{IfSome}
 use Rattle.amf_cli.specs.declared.command.Command.{Command}
-use Rattle.amf_cli.specs.Run.{RunsTo}
-use Rattle.amf_cli.proofs.OneWord.{one_reading}
+use Rattle.amf_cli.specs.Commands.{Reads}
+use Rattle.amf_cli.specs.Run.{RunsTo, MayLack}
+use Rattle.amf_cli.proofs.Asked.{one_reading}
 use Rattle.amf_cli.proofs.run.execute.Goals as goal
 
 pub returns-in-Some-clause-runs : goal.returns-in-Some-clause-runs
 returns-in-Some-clause-runs g c = λ d w told.
+    let read : Reads c.args.words.now c.in-Some.command = subst (λ (o : Option Command). IfSome o (Reads c.args.words.now)) c.in-Some.is c.in_ok-command.ensures.reads in
     subst (λ (x : Command). RunsTo x (g.I.Source.left c.args.input.now) (g.I.Source.left c.perform.new.input) (g.O.Sink.tells c.perform.new.out) (g.O.Sink.held c.args.out.now) (g.O.Sink.held c.perform.new.out) c.perform.result)
-    (one_reading c.args.words.now c.in-Some.command d c.in-Some.ensures.read w) (c.perform.ensures.runs told)
+    (one_reading c.args.words.now c.in-Some.command d read w) (c.perform.ensures.runs told)
+
+pub returns-in-Some-clause-alone : goal.returns-in-Some-clause-alone
+returns-in-Some-clause-alone g c = λ d w l is.
+    let read : Reads c.args.words.now c.in-Some.command = subst (λ (o : Option Command). IfSome o (Reads c.args.words.now)) c.in-Some.is c.in_ok-command.ensures.reads in
+    subst MayLack (one_reading c.args.words.now c.in-Some.command d read w) (c.perform.ensures.alone l is)

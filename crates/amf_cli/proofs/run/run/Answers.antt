@@ -1,65 +1,83 @@
-use Rattle.std.proofs.Common.{◌≡◌, ◌⊎◌, sym, subst, ◌∙◌}
+use Rattle.std.proofs.Common.{◌≡◌, ◌⊎◌, ◌++◌, inl, inr, sym, ap, subst, ◌∙◌}
 use Rattle.amf_io.specs.Outside.{Steady}
-use Rattle.amf_cli.specs.declared.command.Command.TheVariants.{Canon}
 use Rattle.amf_cli.specs.Run.{Reports}
-use Rattle.amf_cli.proofs.Spelled.{never_lacks}
-use Rattle.amf_cli.proofs.Statuses.{refused_says, no_form_says, accepted_says, not_accepted_says, formed_says, lacking_says, done_not_refused, line_says, line_written, usage_status, form_status, reads_steady, writes_steady}
+use Rattle.amf_cli.proofs.Spelled.{made_again, made_not_lacking}
+use Rattle.amf_cli.proofs.Statuses.{refused_says, hidden_says, front_says, no_form_says, accepted_says, not_accepted_says, formed_says, lacking_says, done_not_refused, line_says, usage_status, usage_end, memory_status, form_status, reads_steady, writes_steady}
 use Rattle.amf_cli.proofs.run.run.Goals as goal
 
 pub returns-in-Ok-clause-not_accepted : goal.returns-in-Ok-clause-not_accepted
 returns-in-Ok-clause-not_accepted g c = λ d w told reason at q. absurd (done_not_refused d _ _ _ _ _ (c.in-Ok.ensures.runs d w told) reason at q)
 
 pub returns-in-Ok-clause-lacking : goal.returns-in-Ok-clause-lacking
-returns-in-Ok-clause-lacking g c = λ w told h i number kind l. absurd (never_lacks h _ number kind i l)
+returns-in-Ok-clause-lacking g c = λ d w told l k. let r = c.in-Ok.ensures.runs d w told in absurd (made_not_lacking d _ r.bytes l r.made k)
+
+pub returns-in-Ok-clause-again : goal.returns-in-Ok-clause-again
+returns-in-Ok-clause-again g c = λ d w zero told out own.
+    let r = c.in-Ok.ensures.runs d w told in
+    r.written out ∙ ap (λ b. g.O.Sink.held c.args.out.now ++ b) (made_again d (g.I.Source.left c.args.input.now) r.bytes r.made own)
+
+pub returns-in-Err-clause-usage : goal.returns-in-Err-clause-usage
+returns-in-Err-clause-usage g c = λ two. c.in-Err.ensures.usage (usage_end c.in-Err.end (sym c.end_with.ensures.status ∙ two))
+
+pub returns-in-Err-clause-no_reading : goal.returns-in-Err-clause-no_reading
+returns-in-Err-clause-no_reading g c = λ none. elim (c.in-Err.ensures.no_reading none) [
+  | inl h ↦ inl (c.end_with.ensures.status ∙ usage_status c.in-Err.end h)
+  | inr h ↦ inr (c.end_with.ensures.status ∙ memory_status c.in-Err.end h)
+]
 
 pub returns-in-Err-clause-read : goal.returns-in-Err-clause-read
-returns-in-Err-clause-read g c = λ two. c.in-Err.ensures.read (λ e. two (c.status.ensures ∙ usage_status c.in-Err.end e))
+returns-in-Err-clause-read g c = λ two five. c.in-Err.ensures.read (λ e. two (c.end_with.ensures.status ∙ usage_status c.in-Err.end e)) (λ e. five (c.end_with.ensures.status ∙ memory_status c.in-Err.end e))
 
 pub returns-in-Err-clause-no_read_fault : goal.returns-in-Err-clause-no_read_fault
-returns-in-Err-clause-no_read_fault g c = λ read. reads_steady c.in-Err.end _ _ c.in-Err.ensures.reads (λ e. read (c.status.ensures ∙ e))
+returns-in-Err-clause-no_read_fault g c = λ read. reads_steady c.in-Err.end _ _ c.in-Err.ensures.reads (λ e. read (c.end_with.ensures.status ∙ e))
 
 pub returns-in-Err-clause-no_write_fault : goal.returns-in-Err-clause-no_write_fault
-returns-in-Err-clause-no_write_fault g c = λ write. writes_steady c.in-Err.end _ _ c.in-Err.ensures.writes (λ e. write (c.status.ensures ∙ e))
+returns-in-Err-clause-no_write_fault g c = λ write. writes_steady c.in-Err.end _ _ c.in-Err.ensures.writes (λ e. write (c.end_with.ensures.status ∙ e))
 
 pub returns-in-Err-clause-refused : goal.returns-in-Err-clause-refused
 returns-in-Err-clause-refused g c = λ d w one told.
-    refused_says d c.in-Err.end (g.I.Source.left c.args.input.now) (g.I.Source.left c.execute.new.input) (g.O.Sink.tells c.execute.new.out) (g.E.Sink.tells c.report.new.err × Steady (g.E.Sink.faults c.args.err.now) (g.E.Sink.faults c.report.new.err))
-    (g.O.Sink.held c.args.out.now) (g.O.Sink.held c.execute.new.out) (g.E.Sink.held c.args.err.now) (g.E.Sink.held c.report.new.err)
-    (sym c.status.ensures ∙ one) (c.in-Err.ensures.runs d w told)
-    (λ s. line_written c.report.result (g.E.Sink.faults c.args.err.now) (g.E.Sink.faults c.report.new.err) c.report.ensures.cause s.1 (c.report.ensures.line s.0))
+    refused_says d c.in-Err.end (g.I.Source.left c.args.input.now) (g.I.Source.left c.execute.new.input) (g.O.Sink.tells c.execute.new.out) (g.E.Sink.tells c.end_with.new.err × Steady (g.E.Sink.faults c.args.err.now) (g.E.Sink.faults c.end_with.new.err))
+    (g.O.Sink.held c.args.out.now) (g.O.Sink.held c.execute.new.out) (g.E.Sink.held c.args.err.now) (g.E.Sink.held c.end_with.new.err)
+    (sym c.end_with.ensures.status ∙ one) (c.in-Err.ensures.runs d w told)
+    (λ s. c.end_with.ensures.line s.0 s.1)
 
 pub returns-in-Err-clause-accepted : goal.returns-in-Err-clause-accepted
 returns-in-Err-clause-accepted g c = λ d w told a.
-    subst (λ n. (n ≡ 0) ⊎ (n ≡ 3) ⊎ (n ≡ 4) ⊎ (n ≡ 5)) (sym c.status.ensures)
-    (accepted_says d c.in-Err.end _ _ _ _ _ (λ h. c.in-Err.ensures.usage.0 h (d, w)) (c.in-Err.ensures.runs d w told) a)
+    subst (λ n. (n ≡ 0) ⊎ (n ≡ 3) ⊎ (n ≡ 4) ⊎ (n ≡ 5) ⊎ (n ≡ 7)) (sym c.end_with.ensures.status)
+    (accepted_says d c.in-Err.end _ _ _ _ _ (λ h. c.in-Err.ensures.usage h (d, w)) (c.in-Err.ensures.runs d w told) a)
 
 pub returns-in-Err-clause-not_accepted : goal.returns-in-Err-clause-not_accepted
 returns-in-Err-clause-not_accepted g c = λ d w told reason at q.
-    subst (λ n. (n ≡ 1) ⊎ (n ≡ 3) ⊎ (n ≡ 5)) (sym c.status.ensures)
-    (not_accepted_says d c.in-Err.end _ _ _ _ _ (λ h. c.in-Err.ensures.usage.0 h (d, w)) (c.in-Err.ensures.runs d w told) reason at q)
+    subst (λ n. (n ≡ 1) ⊎ (n ≡ 3) ⊎ (n ≡ 5)) (sym c.end_with.ensures.status)
+    (not_accepted_says d c.in-Err.end _ _ _ _ _ (λ h. c.in-Err.ensures.usage h (d, w)) (c.in-Err.ensures.runs d w told) reason at q)
 
 pub returns-in-Err-clause-no_form : goal.returns-in-Err-clause-no_form
 returns-in-Err-clause-no_form g c = λ d w seven told.
-    no_form_says d c.in-Err.end (g.I.Source.left c.args.input.now) (g.I.Source.left c.execute.new.input) (g.O.Sink.tells c.execute.new.out) (g.E.Sink.tells c.report.new.err × Steady (g.E.Sink.faults c.args.err.now) (g.E.Sink.faults c.report.new.err))
-    (g.O.Sink.held c.args.out.now) (g.O.Sink.held c.execute.new.out) (g.E.Sink.held c.args.err.now) (g.E.Sink.held c.report.new.err)
-    (sym c.status.ensures ∙ seven) (c.in-Err.ensures.runs d w told)
-    (λ s. line_written c.report.result (g.E.Sink.faults c.args.err.now) (g.E.Sink.faults c.report.new.err) c.report.ensures.cause s.1 (c.report.ensures.line s.0))
+    no_form_says d c.in-Err.end (g.I.Source.left c.args.input.now) (g.I.Source.left c.execute.new.input) (g.O.Sink.tells c.execute.new.out) (g.E.Sink.tells c.end_with.new.err × Steady (g.E.Sink.faults c.args.err.now) (g.E.Sink.faults c.end_with.new.err))
+    (g.O.Sink.held c.args.out.now) (g.O.Sink.held c.execute.new.out) (g.E.Sink.held c.args.err.now) (g.E.Sink.held c.end_with.new.err)
+    (sym c.end_with.ensures.status ∙ seven) (c.in-Err.ensures.runs d w told)
+    (λ s. c.end_with.ensures.line s.0 s.1)
 
 pub returns-in-Err-clause-alone : goal.returns-in-Err-clause-alone
-returns-in-Err-clause-alone g c = λ seven. let f = form_status c.in-Err.end (sym c.status.ensures ∙ seven) in c.in-Err.ensures.alone f.0 f.1
+returns-in-Err-clause-alone g c = λ d w seven. let f = form_status c.in-Err.end (sym c.end_with.ensures.status ∙ seven) in c.in-Err.ensures.alone d w f.0 f.1
 
 pub returns-in-Err-clause-formed : goal.returns-in-Err-clause-formed
 returns-in-Err-clause-formed g c = λ d w told bytes b.
-    subst (λ n. (n ≡ 0) ⊎ (n ≡ 3) ⊎ (n ≡ 4) ⊎ (n ≡ 5)) (sym c.status.ensures)
-    (formed_says d c.in-Err.end _ _ _ _ _ bytes (λ h. c.in-Err.ensures.usage.0 h (d, w)) (c.in-Err.ensures.runs d w told) b)
+    subst (λ n. (n ≡ 0) ⊎ (n ≡ 3) ⊎ (n ≡ 4) ⊎ (n ≡ 5)) (sym c.end_with.ensures.status)
+    (formed_says d c.in-Err.end _ _ _ _ _ bytes (λ h. c.in-Err.ensures.usage h (d, w)) (c.in-Err.ensures.runs d w told) b)
 
 pub returns-in-Err-clause-lacking : goal.returns-in-Err-clause-lacking
-returns-in-Err-clause-lacking g c = λ w told h i number kind l.
-    subst (λ n. (n ≡ 3) ⊎ (n ≡ 5) ⊎ (n ≡ 7)) (sym c.status.ensures)
-    (lacking_says c.in-Err.end _ _ _ _ _ (λ u. c.in-Err.ensures.usage.0 u (Canon, w)) (c.in-Err.ensures.runs Canon w told) h i number kind l)
+returns-in-Err-clause-lacking g c = λ d w told l k.
+    subst (λ n. (n ≡ 3) ⊎ (n ≡ 5) ⊎ (n ≡ 7)) (sym c.end_with.ensures.status)
+    (lacking_says d c.in-Err.end _ _ _ _ _ l (λ u. c.in-Err.ensures.usage u (d, w)) (c.in-Err.ensures.runs d w told) k)
 
 pub returns-in-Err-clause-line : goal.returns-in-Err-clause-line
 returns-in-Err-clause-line g c = λ told s.
-    subst (λ n. Reports n (g.E.Sink.held c.args.err.now) (g.E.Sink.held c.report.new.err)) (sym c.status.ensures)
-    (line_says c.in-Err.end (g.E.Sink.held c.args.err.now) (g.E.Sink.held c.report.new.err)
-    (line_written c.report.result (g.E.Sink.faults c.args.err.now) (g.E.Sink.faults c.report.new.err) c.report.ensures.cause s (c.report.ensures.line told)))
+    subst (λ n. Reports n (g.E.Sink.held c.args.err.now) (g.E.Sink.held c.end_with.new.err)) (sym c.end_with.ensures.status)
+    (line_says c.in-Err.end (g.E.Sink.held c.args.err.now) (g.E.Sink.held c.end_with.new.err) (c.end_with.ensures.line told s))
+
+pub returns-in-Err-clause-hidden : goal.returns-in-Err-clause-hidden
+returns-in-Err-clause-hidden g c = λ d w three told. hidden_says d c.in-Err.end _ _ _ _ _ (sym c.end_with.ensures.status ∙ three) (c.in-Err.ensures.runs d w told)
+
+pub returns-in-Err-clause-front : goal.returns-in-Err-clause-front
+returns-in-Err-clause-front g c = λ d w four told. front_says d c.in-Err.end _ _ _ _ _ (sym c.end_with.ensures.status ∙ four) (c.in-Err.ensures.runs d w told)

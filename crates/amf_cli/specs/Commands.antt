@@ -1,0 +1,52 @@
+-- What the words of a command line ask for: which commands there are, which options each has, and what their values say.
+use Rattle.std.specs.Prelude.{◌≡◌, List, [], ◌∷◌, codes, Option, Some, None, if◌then◌else◌}
+use Rattle.std.specs.List.{AllByRecursion}
+use Rattle.std.specs.Str.{bytes_eq, IsUtf8}
+use Rattle.amf_words.specs.Words.{Text, Given, HasOptions, value_of}
+use Rattle.amf_cli.specs.declared.command.Command.{Command}
+use Rattle.amf_cli.specs.declared.command.Command.TheVariants as command
+use Rattle.amf_cli.specs.declared.format.Format.{Format}
+use Rattle.amf_cli.specs.declared.format.Format.TheVariants.{Amf3, Amf0}
+use Rattle.amf_cli.specs.declared.kind.Kind.{Kind}
+use Rattle.amf_cli.specs.declared.kind.Kind.TheVariants as kind
+
+abbrev pub name_of : Kind → Text
+name_of kind.Canon = codes "canon"
+name_of kind.Same = codes "same"
+
+abbrev pub options_for : Kind → List Text
+options_for kind.Canon = codes "from" ∷ codes "to" ∷ []
+options_for kind.Same = []
+
+abbrev pub format_named : Text → Option Format
+format_named text = if bytes_eq text (codes "amf3") then Some Amf3 else (if bytes_eq text (codes "amf0") then Some Amf0 else None)
+
+-- the format that a value names; without a value this one
+abbrev pub format_or : Format → Option Text → Option Format
+format_or default None = Some default
+format_or default (Some text) = format_named text
+
+abbrev pub canon_to : Format → Option Format → Option Command
+canon_to from None = None
+canon_to from (Some to) = Some (command.Canon from to)
+
+-- without `--to` the format stays
+abbrev pub canon_from : Option Format → Option Text → Option Command
+canon_from None to = None
+canon_from (Some from) to = canon_to from (format_or from to)
+
+-- what the values of its options make of a command
+abbrev pub command_for : Kind → (Text → Option Text) → Option Command
+command_for kind.Canon value = canon_from (format_or Amf3 (value (codes "from"))) (value (codes "to"))
+command_for kind.Same value = Some command.Same
+
+-- the words ask for this command: its name comes first, and the rest gives it options with these values
+abbrev pub Asks : List Text → Command → Type 0
+Asks words c = (k : Kind) × (rest : List Text) × (given : Given) × (words ≡ name_of k ∷ rest) × HasOptions (options_for k) rest given × (command_for k (value_of given) ≡ Some c)
+
+-- and each of them is UTF-8
+abbrev pub Reads : List Text → Command → Type 0
+Reads words c = AllByRecursion IsUtf8 words × Asks words c
+
+abbrev pub HasReading : List Text → Type 0
+HasReading words = (c : Command) × Reads words c
