@@ -16,7 +16,7 @@ use Rattle.amf0_read.specs.declared.fill.Step.{Step}
 use Rattle.amf_graph.specs.Graph as graph
 use Rattle.amf_graph.specs.Arena.{Arena, StoredNode, IsBuilt, head_content}
 use Rattle.amf_graph.specs.Building.{changed as changed_arena, shut, stored_at, kept_node, FitsNow}
-use Rattle.amf_tables.proofs.Reader3Tables.{grows_itself, grows_twice}
+use Rattle.amf3_layout.proofs.Reader3Tables.{grows_itself, grows_twice}
 use Rattle.amf0_tables.specs.KeptTables0.{KeptTables0}
 use Rattle.amf3_read.specs.declared.opening.Parts.{Parts}
 use Rattle.amf3_read.specs.declared.opening.Parts.TheVariants as parts

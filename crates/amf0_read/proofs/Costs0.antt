@@ -12,11 +12,11 @@ use Rattle.amf_graph.specs.Arena.{Arena, StoredHead, StoredNode}
 use Rattle.amf_graph.specs.Arena as arena
 use Rattle.amf_graph.specs.Bounds.{bytes_of, weight}
 use Rattle.amf_graph.specs.Building.{stored_at, more_value, more_name, shut}
-use Rattle.amf_tables.specs.Layout3Words.{chunk}
-use Rattle.amf_tables.specs.Layout3.{ValueRead, value_layout}
-use Rattle.amf_tables.proofs.Reader3Weight.{weight_text, weight_traits, weight_begun, weight_more_value, weight_more_name, weight_shut}
-use Rattle.amf_tables.proofs.Reader3OpeningCosts.{Costs, costs_give, costs_stuck, costs_want, costs_bind, costs_more, costs_within}
-use Rattle.amf_tables.proofs.Reader3Costs.{value_costs}
+use Rattle.amf3_layout.specs.Layout3Words.{chunk}
+use Rattle.amf3_layout.specs.Layout3.{ValueRead, value_layout}
+use Rattle.amf3_layout.proofs.Reader3Weight.{weight_text, weight_traits, weight_begun, weight_more_value, weight_more_name, weight_shut}
+use Rattle.amf3_layout.proofs.Reader3OpeningCosts.{Costs, costs_give, costs_stuck, costs_want, costs_bind, costs_more, costs_within}
+use Rattle.amf3_layout.proofs.Reader3Costs.{value_costs}
 use Rattle.amf0_tables.specs.Parts0.{is_empty}
 use Rattle.amf0_tables.specs.Refusals0.{marker0_kind, index0_kind}
 use Rattle.amf0_tables.specs.Layout0State.{State0, with_class, class_head, with_node0, changed0, switched}

@@ -12,7 +12,7 @@ use Rattle.amf_io.specs.CursorReads.{Goes, Answers, Leads}
 use Rattle.amf_io.proofs.Whole.{whole_fixed}
 use Rattle.amf_io.proofs.Paths.{path_join, path_bind, flat-append}
 use Rattle.amf_io.proofs.Ables.{bytes_flat}
-use Rattle.amf_tables.proofs.Layout3SoundOpenings.{all_below}
+use Rattle.amf3_layout.proofs.Layout3SoundOpenings.{all_below}
 use Rattle.amf0_tables.specs.Form.{call_front}
 use Rattle.amf0_tables.specs.Layout0.{Form0, form0_of}
 use Rattle.amf0_tables.proofs.Layout0Forms.{code0, code0_of, marker0_below}

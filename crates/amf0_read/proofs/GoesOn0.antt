@@ -11,8 +11,8 @@ use Rattle.amf_graph.specs.declared.value.TextId.{TextId}
 use Rattle.amf_graph.specs.declared.value.Value.TheVariants as value
 use Rattle.amf_graph.specs.Arena.{Arena, text_at}
 use Rattle.amf_graph.specs.Building.{changed as changed_arena, shut, more_value, more_name}
-use Rattle.amf_tables.specs.Layout3State.{state_of}
-use Rattle.amf_tables.proofs.Reader3States.{shut_state}
+use Rattle.amf3_layout.specs.Layout3State.{state_of}
+use Rattle.amf3_layout.proofs.Reader3States.{shut_state}
 use Rattle.amf0_tables.specs.KeptTables0.{KeptTables0}
 use Rattle.amf0_tables.specs.Parts0.{is_empty}
 use Rattle.amf0_tables.specs.Layout0State.{State0, state0_of, changed0}

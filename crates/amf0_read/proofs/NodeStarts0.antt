@@ -10,14 +10,14 @@ use Rattle.amf_graph.specs.declared.value.Value.TheVariants as value
 use Rattle.amf_graph.specs.Graph as graph
 use Rattle.amf_graph.specs.Arena.{Arena, StoredHead, StoredNode, IsBuilt, Names, array, object, head_content}
 use Rattle.amf_graph.specs.Building.{kept_traits, begun, closed}
-use Rattle.amf_tables.specs.Reads3.{Grows}
-use Rattle.amf_tables.specs.Layout3State.{state_of, takes_parts}
-use Rattle.amf_tables.specs.Layout3.{read, value_layout}
-use Rattle.amf_tables.proofs.Layout3Reads.{reads}
-use Rattle.amf_tables.proofs.Layout3Contents.{all_more}
-use Rattle.amf_tables.proofs.Reader3Tables.{grows_itself, grows_twice, grows_traits, grows_node, tables_after_node, tables_after_traits}
+use Rattle.amf3_spelling.specs.Reads3.{Grows}
+use Rattle.amf3_layout.specs.Layout3State.{state_of, takes_parts}
+use Rattle.amf3_layout.specs.Layout3.{read, value_layout}
+use Rattle.amf3_layout.proofs.Layout3Reads.{reads}
+use Rattle.amf3_layout.proofs.Layout3Contents.{all_more}
+use Rattle.amf3_layout.proofs.Reader3Tables.{grows_itself, grows_twice, grows_traits, grows_node, tables_after_node, tables_after_traits}
 use Rattle.amf_graph.proofs.Built.{built_traits}
-use Rattle.amf_tables.specs.KeptTables.{KeptTables, AreTablesIn}
+use Rattle.amf3_spelling.specs.KeptTables.{KeptTables, AreTablesIn}
 use Rattle.amf0_tables.specs.KeptTables0.{KeptTables0, AreTables0In}
 use Rattle.amf0_tables.specs.Layout0State.{state0_of, switched, with_done0}
 use Rattle.amf0_tables.specs.Layout0.{read0, Reader0, with_pairs, with_items, with_members, whole0}

@@ -9,10 +9,10 @@ use Rattle.amf_graph.specs.Arena.{Arena, StoredNode, IsBuilt, HeadNames, head_co
 use Rattle.amf_graph.specs.Building.{kept_node, stored_at, begun, shape_head, size_of}
 use Rattle.amf_graph.proofs.Built.{built_node}
 use Rattle.amf_graph.proofs.Begun.{begun_in}
-use Rattle.amf_tables.specs.Reads3.{Grows}
-use Rattle.amf_tables.proofs.Layout3Contents.{Larger, head_kept, all_append, all_more, distinct_more}
-use Rattle.amf_tables.proofs.Reader3Tables.{larger_node, open_there, tables_after_node}
-use Rattle.amf_tables.proofs.Reader3Calls.{node_opened}
+use Rattle.amf3_spelling.specs.Reads3.{Grows}
+use Rattle.amf3_layout.proofs.Layout3Contents.{Larger, head_kept, all_append, all_more, distinct_more}
+use Rattle.amf3_layout.proofs.Reader3Tables.{larger_node, open_there, tables_after_node}
+use Rattle.amf3_layout.proofs.Reader3Calls.{node_opened}
 use Rattle.amf0_tables.specs.KeptTables0.{KeptTables0, AreTables0In}
 use Rattle.amf0_tables.specs.TableParts0.{kept_node0}
 use Rattle.amf3_read.specs.Filling.{IsOpened}

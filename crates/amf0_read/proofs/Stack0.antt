@@ -15,10 +15,10 @@ use Rattle.amf_graph.specs.declared.part.Part.TheVariants as part
 use Rattle.amf_graph.specs.Graph as graph
 use Rattle.amf_graph.specs.Arena.{Arena, StoredNode, IsBuilt, Names, head_content}
 use Rattle.amf_graph.specs.Building.{stored_at, changed as changed_arena, more_part, PartNames, Takes, HasRoom, size_of}
-use Rattle.amf_tables.specs.Reads3.{Grows}
-use Rattle.amf_tables.specs.Layout3State.{State3, state_of}
-use Rattle.amf_tables.proofs.Reader3Tables.{grows_itself, text_id_after_growth}
-use Rattle.amf_tables.proofs.Reader3States.{more_value_state, more_name_state}
+use Rattle.amf3_spelling.specs.Reads3.{Grows}
+use Rattle.amf3_layout.specs.Layout3State.{State3, state_of}
+use Rattle.amf3_layout.proofs.Reader3Tables.{grows_itself, text_id_after_growth}
+use Rattle.amf3_layout.proofs.Reader3States.{more_value_state, more_name_state}
 use Rattle.amf0_tables.specs.KeptTables0.{KeptTables0, AreTables0In}
 use Rattle.amf0_tables.specs.Layout0State.{State0, state0_of}
 use Rattle.amf0_tables.specs.Layout0.{Read0, read0, Reader0, behind0, value0_layout}

@@ -3,11 +3,11 @@ use Rattle.std.proofs.Common.{◌≡◌, ℕ, true, false, List, [], ◌∷◌, 
 use Rattle.amf_graph.specs.Arena.{StoredTraits, StoredHead, StoredNode, Arena, IsBuilt, text_at}
 use Rattle.amf_graph.specs.Arena as arena
 use Rattle.amf_graph.specs.Building.{kept_text, kept_traits, kept_node, begun}
-use Rattle.amf_tables.specs.KeptTables.{KeptTables, AreTablesIn, tables_of}
-use Rattle.amf_tables.specs.Layout3State.{State3, state_of, with_nodes, takes_parts}
-use Rattle.amf_tables.proofs.Layout3Contents.{marks_of, marks_more, words_kept}
-use Rattle.amf_tables.proofs.Reader3Tables.{larger_traits, tables_after_traits}
-use Rattle.amf_tables.proofs.Reader3States.{contents_state}
+use Rattle.amf3_spelling.specs.KeptTables.{KeptTables, AreTablesIn, tables_of}
+use Rattle.amf3_layout.specs.Layout3State.{State3, state_of, with_nodes, takes_parts}
+use Rattle.amf3_layout.proofs.Layout3Contents.{marks_of, marks_more, words_kept}
+use Rattle.amf3_layout.proofs.Reader3Tables.{larger_traits, tables_after_traits}
+use Rattle.amf3_layout.proofs.Reader3States.{contents_state}
 use Rattle.amf0_tables.specs.KeptTables0.{KeptTables0}
 use Rattle.amf0_tables.specs.TableParts0.{kept_node0}
 use Rattle.amf0_tables.specs.Layout0State.{State0, state0_of, with_text0, with_traits, with_done0, with_node0, with_class, class_head}

@@ -12,11 +12,11 @@ use Rattle.amf_graph.specs.declared.value.TextId.{TextId}
 use Rattle.amf_graph.specs.Graph as graph
 use Rattle.amf_graph.specs.Arena.{Arena, StoredNode, IsBuilt, IsTextId, text_at, head_content}
 use Rattle.amf_graph.specs.Building.{kept_text, stored_at}
-use Rattle.amf_tables.specs.Reads3.{Grows}
-use Rattle.amf_tables.proofs.Reader3Tables.{tables_after_text, grows_text}
-use Rattle.amf_tables.proofs.Reader3Calls.{tables_are, grows_are}
-use Rattle.amf_tables.specs.KeptTables.{AreTablesIn}
-use Rattle.amf_tables.specs.Layout3Words.{chunk}
+use Rattle.amf3_spelling.specs.Reads3.{Grows}
+use Rattle.amf3_layout.proofs.Reader3Tables.{tables_after_text, grows_text}
+use Rattle.amf3_layout.proofs.Reader3Calls.{tables_are, grows_are}
+use Rattle.amf3_spelling.specs.KeptTables.{AreTablesIn}
+use Rattle.amf3_layout.specs.Layout3Words.{chunk}
 use Rattle.amf0_tables.specs.KeptTables0.{KeptTables0, AreTables0In}
 use Rattle.amf0_tables.specs.Layout0.{TextRead0, new_text0}
 use Rattle.amf0_tables.specs.Layout0State.{State0, state0_of}

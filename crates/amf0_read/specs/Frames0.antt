@@ -12,7 +12,7 @@ use Rattle.amf_graph.specs.declared.part.Part.TheVariants as part
 use Rattle.amf_graph.specs.Graph as graph
 use Rattle.amf_graph.specs.Arena.{Arena, StoredNode, IsBuilt, IsTextId, Names, head_content}
 use Rattle.amf_graph.specs.Building.{kept_node, stored_at, more_value, more_name}
-use Rattle.amf_tables.specs.Reads3.{Grows}
+use Rattle.amf3_spelling.specs.Reads3.{Grows}
 use Rattle.amf0_tables.specs.KeptTables0.{KeptTables0}
 use Rattle.amf0_tables.specs.Layout0State.{State0, state0_of, changed0}
 use Rattle.amf0_tables.specs.Layout0.{Read0, read0, Reader0, items0, pairs0, shut0, behind0, value0_layout}

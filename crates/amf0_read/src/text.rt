@@ -2,7 +2,7 @@ ghost use Rattle.std.specs.Prelude.{◌≡◌, ◌+◌, ◌<◌, ◌≤◌, ◌^
 ghost use Rattle.amf_graph.specs.Arena.{IsBuilt, text_at};
 ghost use Rattle.amf_io.specs.CursorReads.{IsPlaced, Goes, Answers};
 ghost use Rattle.amf_io.specs.Cursor.{place};
-ghost use Rattle.amf_tables.specs.KeptTables.{AreTablesIn};
+ghost use Rattle.amf3_spelling.specs.KeptTables.{AreTablesIn};
 ghost use Rattle.amf0_tables.specs.KeptTables0.{KeptTables0};
 ghost use Rattle.amf0_tables.specs.Layout0.{short_layout, long_layout};
 ghost use Rattle.amf0_tables.specs.Layout0State.{state0_of};

@@ -12,12 +12,12 @@ use Rattle.amf_graph.specs.ByName.{by_name}
 use Rattle.amf_graph.specs.Isomorphic.{ValuesMatch, PairsMatch, NodesMatch}
 use Rattle.amf_graph.proofs.Lists.{cons_same, entry, at_left, at_end, at_push, length_pushed}
 use Rattle.amf_graph.proofs.Matching.{Implies, values_more, nodes_more, by_name_match}
-use Rattle.amf_tables.specs.Tables.{Tables}
-use Rattle.amf_tables.specs.Then.{Spelling, Then, Plain}
-use Rattle.amf_tables.specs.Parts3.{IsFlag}
-use Rattle.amf_tables.specs.Spells3.{Spells3}
-use Rattle.amf_tables.proofs.Alike3.{Paired as Paired3, Tied as Tied3, After as After3, alike}
-use Rattle.amf_tables.proofs.BytesOf.{to_spells}
+use Rattle.amf3_spelling.specs.Tables.{Tables}
+use Rattle.amf3_spelling.specs.Then.{Spelling, Then, Plain}
+use Rattle.amf3_spelling.specs.Parts3.{IsFlag}
+use Rattle.amf3_spelling.specs.Spells3.{Spells3}
+use Rattle.amf3_spelling.proofs.Alike3.{Paired as Paired3, Tied as Tied3, After as After3, alike}
+use Rattle.amf3_spelling.proofs.BytesOf.{to_spells}
 use Rattle.amf0_tables.specs.Tables0.{Tables0, add_node0, add_done0, switched_to}
 use Rattle.amf0_tables.specs.Parts0.{Short, Marked0, LeafBy0, Values0, Pairs0, Count0, PairsBy0, is_empty}
 use Rattle.amf0_tables.specs.Spells0.{IsOpenTraits, NodeBy0, Named0, Begun0, Switched, InlineIn0, SpellsIn0, Spells0}

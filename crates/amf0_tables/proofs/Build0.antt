@@ -6,9 +6,9 @@ use Rattle.amf_wire.specs.Style.{Style, free}
 use Rattle.amf_wire.specs.Text.{IsText}
 use Rattle.amf_graph.specs.Graph.{Leaf, null, double, Value, leaf, node, Fits, Graph, node_at}
 use Rattle.amf_graph.specs.Order.{Absent}
-use Rattle.amf_tables.specs.Then.{Spelling, Then, Plain}
-use Rattle.amf_tables.specs.Spells3.{Spells3}
-use Rattle.amf_tables.proofs.Build.{Built, both}
+use Rattle.amf3_spelling.specs.Then.{Spelling, Then, Plain}
+use Rattle.amf3_spelling.specs.Spells3.{Spells3}
+use Rattle.amf3_spelling.proofs.Build.{Built, both}
 use Rattle.amf0_tables.specs.Tables0.{Tables0, no_tables0, switched_to}
 use Rattle.amf0_tables.specs.Refusals0.{index0_kind}
 use Rattle.amf0_tables.specs.Parts0.{marker0_field, Short, Marked0, LeafBy0, Values0, Pairs0, is_empty}

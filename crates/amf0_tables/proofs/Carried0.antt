@@ -12,8 +12,8 @@ use Rattle.amf_graph.specs.Isomorphic.{ValuesMatch, PairsMatch, NodesMatch, Isom
 use Rattle.amf_graph.proofs.Lists.{entry, no_entry}
 use Rattle.amf_graph.proofs.NameOrder.{by_name_again, by_name_length}
 use Rattle.amf_graph.proofs.Places.{Along, along_push}
-use Rattle.amf_tables.specs.Then.{Spelling, Then, Plain}
-use Rattle.amf_tables.proofs.BytesOf.{fits_too}
+use Rattle.amf3_spelling.specs.Then.{Spelling, Then, Plain}
+use Rattle.amf3_spelling.proofs.BytesOf.{fits_too}
 use Rattle.amf0_tables.specs.Tables0.{Tables0, no_tables0, add_node0, add_done0}
 use Rattle.amf0_tables.specs.Refusals0.{marker0_kind, index0_kind}
 use Rattle.amf0_tables.specs.Parts0.{marker0_field, Short, Long, Marked0, LeafBy0, Values0, Pairs0, Count0, PairsBy0, is_empty}

@@ -6,8 +6,8 @@ use Rattle.amf_io.specs.declared.reason.Reason.TheVariants.{BadMarker, BadRefere
 use Rattle.amf_io.specs.Field.{Field, IsClean, text_kind}
 use Rattle.amf_wire.specs.Style.{Style, free}
 use Rattle.amf_graph.specs.Graph.{Leaf, undefined, null, boolean, integer, double, text, Value, leaf, node, Head, xml_document, date, array, object, wrapper, xml, bytes, ints, uints, doubles, values, dictionary, Graph, node_at}
-use Rattle.amf_tables.specs.Then.{Spelling, Then, Plain}
-use Rattle.amf_tables.proofs.Clean.{AllClean, Cleans, clean_append, clean_as, clean_then, contents_clean, raw_field, text_field, below_length, clean3}
+use Rattle.amf3_spelling.specs.Then.{Spelling, Then, Plain}
+use Rattle.amf3_spelling.proofs.Clean.{AllClean, Cleans, clean_append, clean_as, clean_then, contents_clean, raw_field, text_field, below_length, clean3}
 use Rattle.amf0_tables.specs.Tables0.{Tables0, add_node0}
 use Rattle.amf0_tables.specs.Refusals0.{is_no_marker0, marker0_refusal, index0_refusal}
 use Rattle.amf0_tables.specs.Parts0.{marker0_field, Short, Long, Marked0, LeafBy0, Values0, Pairs0, Count0, PairsBy0, is_empty}

@@ -4,7 +4,7 @@ use Rattle.amf_wire.specs.Style.{free, canonical}
 use Rattle.amf_graph.specs.Graph.{Graph}
 use Rattle.amf_graph.specs.Isomorphic.{Isomorphic}
 use Rattle.amf_graph.proofs.Isomorphisms.{isomorphic_sym}
-use Rattle.amf_tables.proofs.Decides3.{same_canonical, same_bytes_isomorphic, canonical_decides}
+use Rattle.amf3_spelling.proofs.Decides3.{same_canonical, same_bytes_isomorphic, canonical_decides}
 use Rattle.amf0_tables.specs.Spells0.{Spelled0}
 use Rattle.amf0_tables.specs.Lowered.{IsLoweringOf}
 use Rattle.amf0_tables.specs.LawsCanonical0.{CanonicalIsAlone0, IsomorphicHaveSameCanonical0, SameBytesAreIsomorphic0, CanonicalDecides0, Decides, CanonicalConverts}

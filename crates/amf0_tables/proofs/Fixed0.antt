@@ -5,8 +5,8 @@ use Rattle.amf_io.specs.Field.{Field, flat, field, u32_kind, no_refusal, raw_kin
 use Rattle.amf_wire.specs.Style.{canonical}
 use Rattle.amf_graph.specs.Graph.{Leaf, undefined, null, boolean, integer, double, text, Value, leaf, node, Head, xml_document, date, array, object, wrapper, xml, bytes, ints, uints, doubles, values, dictionary, Graph, node_at}
 use Rattle.amf_graph.specs.Order.{Absent}
-use Rattle.amf_tables.specs.Then.{Spelling, Then, Plain}
-use Rattle.amf_tables.specs.Parts3.{IsFlag}
+use Rattle.amf3_spelling.specs.Then.{Spelling, Then, Plain}
+use Rattle.amf3_spelling.specs.Parts3.{IsFlag}
 use Rattle.amf0_tables.specs.Tables0.{Tables0, no_tables0, add_node0}
 use Rattle.amf0_tables.specs.Parts0.{marker0_field, Short, Long, Marked0, LeafBy0, Values0, Pairs0, Count0, PairsBy0, is_empty}
 use Rattle.amf0_tables.specs.Spells0.{NodeBy0, Named0, Begun0, InlineIn0, SpellsIn0, Spells0, IsSpelling0, Spelled0}

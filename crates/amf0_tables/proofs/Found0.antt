@@ -14,7 +14,7 @@ use Rattle.amf_graph.specs.Order.{Absent, seconds, values_met}
 use Rattle.amf_graph.proofs.Lists.{at_left}
 use Rattle.amf_graph.proofs.NameOrder.{by_name_again, by_name_all}
 use Rattle.amf_graph.proofs.Counting.{missing, missing_push, missing_less}
-use Rattle.amf_tables.specs.Then.{Spelling, Then, Plain}
+use Rattle.amf3_spelling.specs.Then.{Spelling, Then, Plain}
 use Rattle.amf0_tables.specs.Tables0.{Tables0, no_tables0, add_node0, add_done0}
 use Rattle.amf0_tables.specs.Lowered.{IsLowHead}
 use Rattle.amf0_tables.specs.Lacks0.{HasNoForm, HasShortNames, IsShortName, enters0, entered, place0}

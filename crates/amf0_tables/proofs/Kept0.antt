@@ -6,12 +6,12 @@ use Rattle.amf_graph.specs.Graph.{Leaf, undefined, null, boolean, integer, doubl
 use Rattle.amf_graph.specs.Order.{Absent, IsDistinct}
 use Rattle.amf_graph.proofs.Lists.{at_left, at_end, at_push, length_pushed, no_entry}
 use Rattle.amf_graph.proofs.Walks.{distinct_push}
-use Rattle.amf_tables.specs.Tables.{Tables, add_done}
-use Rattle.amf_tables.specs.Then.{Spelling, Then, Plain}
-use Rattle.amf_tables.specs.Spells3.{Spells3}
-use Rattle.amf_tables.proofs.BytesOf.{to_spells}
-use Rattle.amf_tables.proofs.Fixed3.{proper_none as proper_none3}
-use Rattle.amf_tables.proofs.Kept3.{Listed, Proper as Proper3, Kept as Kept3, keeps_spells}
+use Rattle.amf3_spelling.specs.Tables.{Tables, add_done}
+use Rattle.amf3_spelling.specs.Then.{Spelling, Then, Plain}
+use Rattle.amf3_spelling.specs.Spells3.{Spells3}
+use Rattle.amf3_spelling.proofs.BytesOf.{to_spells}
+use Rattle.amf3_spelling.proofs.Fixed3.{proper_none as proper_none3}
+use Rattle.amf3_spelling.proofs.Kept3.{Listed, Proper as Proper3, Kept as Kept3, keeps_spells}
 use Rattle.amf0_tables.specs.Tables0.{Tables0, no_tables0, add_node0, add_done0}
 use Rattle.amf0_tables.specs.Parts0.{Short, Marked0, LeafBy0, Values0, Pairs0, PairsBy0, is_empty}
 use Rattle.amf0_tables.specs.Spells0.{NodeBy0, Switched, ValueBy0, InlineIn0, SpellsIn0}

@@ -12,9 +12,9 @@ use Rattle.amf_graph.specs.Graph.{null, Value, leaf, node, bytes, no_node, Node,
 use Rattle.amf_graph.specs.Lacks.{rank}
 use Rattle.amf_graph.specs.Order as order
 use Rattle.amf_graph.specs.Order.{Absent, values_met}
-use Rattle.amf_tables.specs.Lacks3.{IsLack3}
-use Rattle.amf_tables.specs.WorkedRows3.{items}
-use Rattle.amf_tables.proofs.Build.{Built, absent_nil, absent_cons}
+use Rattle.amf3_spelling.specs.Lacks3.{IsLack3}
+use Rattle.amf3_spelling.specs.WorkedRows3.{items}
+use Rattle.amf3_spelling.proofs.Build.{Built, absent_nil, absent_cons}
 use Rattle.amf0_tables.specs.Lacks0.{enters0, is_loose0, entered, place0, NodeLacks0, Lacks0, IsLack0}
 use Rattle.amf0_tables.specs.LacksMet.{NodeLacksMet}
 use Rattle.amf0_tables.specs.Meets.{Meets, over, again, first, IsMet, IsAgain}

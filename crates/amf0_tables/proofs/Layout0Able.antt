@@ -11,10 +11,10 @@ use Rattle.amf_graph.specs.declared.value.Value.TheVariants.{Undefined, Null, Bo
 use Rattle.amf_graph.specs.Arena.{StoredHead}
 use Rattle.amf_graph.specs.Arena as arena
 use Rattle.amf_graph.specs.Building.{more_value, more_name}
-use Rattle.amf_tables.specs.Layout3Words.{chunk}
-use Rattle.amf_tables.specs.Layout3.{ValueRead, value_layout}
-use Rattle.amf_tables.proofs.Layout3Able.{value_able}
-use Rattle.amf_tables.proofs.Layout3Fills.{Filled, text_filled, raw_filled, able_field, able_chunk}
+use Rattle.amf3_layout.specs.Layout3Words.{chunk}
+use Rattle.amf3_layout.specs.Layout3.{ValueRead, value_layout}
+use Rattle.amf3_layout.proofs.Layout3Able.{value_able}
+use Rattle.amf3_layout.proofs.Layout3Fills.{Filled, text_filled, raw_filled, able_field, able_chunk}
 use Rattle.amf0_tables.specs.Parts0.{is_empty}
 use Rattle.amf0_tables.specs.Refusals0.{marker0_kind, marker0_refusal, index0_kind}
 use Rattle.amf0_tables.specs.Layout0State.{State0, switched, with_text0, with_class, class_head, with_node0, changed0}

@@ -14,14 +14,14 @@ use Rattle.amf_graph.specs.Arena.{StoredHead}
 use Rattle.amf_graph.specs.Arena as arena
 use Rattle.amf_graph.specs.Building.{more_value, more_name, shut}
 use Rattle.amf_graph.proofs.Lists.{length_pushed}
-use Rattle.amf_tables.specs.Then.{Spelling}
-use Rattle.amf_tables.specs.Layout3Words.{chunk}
-use Rattle.amf_tables.specs.Layout3.{value_layout}
-use Rattle.amf_tables.proofs.BytesOf.{flat_contents}
-use Rattle.amf_tables.proofs.Clean.{AllClean}
-use Rattle.amf_tables.proofs.Layout3Texts.{clean_parts, takes, path_if}
-use Rattle.amf_tables.proofs.Layout3Parts.{Like, parts_length, chunk_runs}
-use Rattle.amf_tables.proofs.Layout3Complete.{spelled_read}
+use Rattle.amf3_spelling.specs.Then.{Spelling}
+use Rattle.amf3_layout.specs.Layout3Words.{chunk}
+use Rattle.amf3_layout.specs.Layout3.{value_layout}
+use Rattle.amf3_spelling.proofs.BytesOf.{flat_contents}
+use Rattle.amf3_spelling.proofs.Clean.{AllClean}
+use Rattle.amf3_layout.proofs.Layout3Texts.{clean_parts, takes, path_if}
+use Rattle.amf3_layout.proofs.Layout3Parts.{Like, parts_length, chunk_runs}
+use Rattle.amf3_layout.proofs.Layout3Complete.{spelled_read}
 use Rattle.amf0_tables.specs.Tables0.{Tables0, add_node0, add_done0, switched_to}
 use Rattle.amf0_tables.specs.Refusals0.{marker0_kind, index0_kind}
 use Rattle.amf0_tables.specs.Parts0.{marker0_field, Short, Long, LeafBy0, Values0, Pairs0, PairsBy0, is_empty}

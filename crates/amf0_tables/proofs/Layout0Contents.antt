@@ -8,11 +8,11 @@ use Rattle.amf_graph.specs.Order.{IsDistinct}
 use Rattle.amf_graph.specs.Arena.{StoredTraits, StoredHead, StoredNode, head_content, HeadNames, IsTextId, IsTraitsIn}
 use Rattle.amf_graph.specs.Building.{kept_traits}
 use Rattle.amf_graph.proofs.Lists.{length_pushed}
-use Rattle.amf_tables.specs.KeptTables.{below}
-use Rattle.amf_tables.specs.Tables.{Tables}
-use Rattle.amf_tables.specs.Layout3State.{State3, begun}
-use Rattle.amf_tables.proofs.Layout3Contents.{all_append, all_more, Larger, larger_itself, traits_in, node_more, KeptNode, Good, words_kept, tables_more, good_contents, marks_more, distinct_more}
-use Rattle.amf_tables.proofs.Layout3SoundParts.{table, table_changed}
+use Rattle.amf3_spelling.specs.KeptTables.{below}
+use Rattle.amf3_spelling.specs.Tables.{Tables}
+use Rattle.amf3_layout.specs.Layout3State.{State3, begun}
+use Rattle.amf3_layout.proofs.Layout3Contents.{all_append, all_more, Larger, larger_itself, traits_in, node_more, KeptNode, Good, words_kept, tables_more, good_contents, marks_more, distinct_more}
+use Rattle.amf3_layout.proofs.Layout3SoundParts.{table, table_changed}
 use Rattle.amf0_tables.specs.Tables0.{Tables0, add_node0, add_done0}
 use Rattle.amf0_tables.specs.Layout0State.{State0, with_text0, with_traits, with_loose, with_done0, with_node0, changed0, with_class}
 

@@ -7,13 +7,13 @@ use Rattle.amf_graph.specs.Graph.{Graph}
 use Rattle.amf_graph.specs.Arena.{Arena, IsBuilt, graph_of, value_content}
 use Rattle.amf_graph.specs.Building.{no_arena}
 use Rattle.amf_graph.proofs.Lists.{no_entry}
-use Rattle.amf_tables.specs.KeptTables.{below}
-use Rattle.amf_tables.specs.Tables.{Words}
-use Rattle.amf_tables.proofs.Layout3Contents.{names_more}
-use Rattle.amf_tables.proofs.Layout3Filled.{filling}
-use Rattle.amf_tables.proofs.Layout3Marks.{marks_kept}
-use Rattle.amf_tables.proofs.Layout3Reads.{good_start, grown_built}
-use Rattle.amf_tables.proofs.Values3Layout.{no_arena_built, no_tables_in}
+use Rattle.amf3_spelling.specs.KeptTables.{below}
+use Rattle.amf3_spelling.specs.Tables.{Words}
+use Rattle.amf3_layout.proofs.Layout3Contents.{names_more}
+use Rattle.amf3_layout.proofs.Layout3Filled.{filling}
+use Rattle.amf3_layout.proofs.Layout3Marks.{marks_kept}
+use Rattle.amf3_layout.proofs.Layout3Reads.{good_start, grown_built}
+use Rattle.amf3_layout.proofs.Values3Layout.{no_arena_built, no_tables_in}
 use Rattle.amf0_tables.specs.Tables0.{Tables0, no_tables0}
 use Rattle.amf0_tables.specs.KeptTables0.{KeptTables0, no_kept_tables0, tables0_of, AreTables0In}
 use Rattle.amf0_tables.specs.Reads0.{IsReading0, IsValue0}

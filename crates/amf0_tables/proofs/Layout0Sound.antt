@@ -21,13 +21,13 @@ use Rattle.amf_graph.specs.declared.value.Value.{Value as Stored}
 use Rattle.amf_graph.specs.declared.value.Value.TheVariants.{Undefined, Null, Bool as Flag, Double, Text as TextRef, Node as NodeRef}
 use Rattle.amf_graph.specs.Arena.{Arena, text_at, value_content, graph_of, Names, Completes}
 use Rattle.amf_graph.specs.Arena as arena
-use Rattle.amf_tables.specs.Layout3.{ValueRead, value_layout}
-use Rattle.amf_tables.specs.Parts3.{IsFlag}
-use Rattle.amf_tables.proofs.Layout3Contents.{Larger, larger_itself, larger_twice, all_place, text_larger}
-use Rattle.amf_tables.proofs.Layout3Sound.{one_byte, value_sound}
-use Rattle.amf_tables.proofs.Layout3SoundOpenings.{all_below, eight_is}
-use Rattle.amf_tables.proofs.Layout3SoundParts.{table, pairs_content}
-use Rattle.amf_tables.proofs.Layout3SoundTexts.{taken, give_is}
+use Rattle.amf3_layout.specs.Layout3.{ValueRead, value_layout}
+use Rattle.amf3_spelling.specs.Parts3.{IsFlag}
+use Rattle.amf3_layout.proofs.Layout3Contents.{Larger, larger_itself, larger_twice, all_place, text_larger}
+use Rattle.amf3_layout.proofs.Layout3Sound.{one_byte, value_sound}
+use Rattle.amf3_layout.proofs.Layout3SoundOpenings.{all_below, eight_is}
+use Rattle.amf3_layout.proofs.Layout3SoundParts.{table, pairs_content}
+use Rattle.amf3_layout.proofs.Layout3SoundTexts.{taken, give_is}
 use Rattle.amf0_tables.specs.Refusals0.{marker0_kind, marker0_refusal, index0_kind, index0_refusal}
 use Rattle.amf0_tables.specs.Parts0.{marker0_field, Short, Long, LeafBy0}
 use Rattle.amf0_tables.specs.Spells0.{Switched, SpellsIn0}

@@ -13,12 +13,12 @@ use Rattle.amf_graph.specs.Graph as graph
 use Rattle.amf_graph.specs.declared.value.Value.{Value as Stored}
 use Rattle.amf_graph.specs.Arena.{Arena, StoredHead, StoredTraits, StoredNode, traits_content, no_traits, value_content, head_content, node_content, graph_of, HeadNames, IsTextId, NodesComplete, Completes}
 use Rattle.amf_graph.specs.Building.{stored_at, shut}
-use Rattle.amf_tables.specs.Then.{Spelling}
-use Rattle.amf_tables.specs.Layout3State.{begun, takes_parts}
-use Rattle.amf_tables.proofs.Layout3Contents.{Larger, larger_itself, larger_twice, head_kept, text_larger, KeptNode, good_changed}
-use Rattle.amf_tables.proofs.Layout3SoundInline.{closed_at, shut_completes, content_at, absent_below}
-use Rattle.amf_tables.proofs.Layout3SoundParts.{grown, spot, kept_spot, spot_changed, nodes_changed, completes_before, pairs_content}
-use Rattle.amf_tables.proofs.Layout3SoundTexts.{give_is}
+use Rattle.amf3_spelling.specs.Then.{Spelling}
+use Rattle.amf3_layout.specs.Layout3State.{begun, takes_parts}
+use Rattle.amf3_layout.proofs.Layout3Contents.{Larger, larger_itself, larger_twice, head_kept, text_larger, KeptNode, good_changed}
+use Rattle.amf3_layout.proofs.Layout3SoundInline.{closed_at, shut_completes, content_at, absent_below}
+use Rattle.amf3_layout.proofs.Layout3SoundParts.{grown, spot, kept_spot, spot_changed, nodes_changed, completes_before, pairs_content}
+use Rattle.amf3_layout.proofs.Layout3SoundTexts.{give_is}
 use Rattle.amf0_tables.specs.Tables0.{Tables0, add_node0, add_done0}
 use Rattle.amf0_tables.specs.Parts0.{marker0_field, Pairs0, PairsBy0}
 use Rattle.amf0_tables.specs.Spells0.{NodeBy0, SpellsIn0}

@@ -17,11 +17,11 @@ use Rattle.amf_graph.specs.declared.value.Value.{Value as Stored}
 use Rattle.std.specs.List.{AllByRecursion}
 use Rattle.amf_graph.specs.Arena.{Arena, StoredNode, text_at, value_content, IsTextId, Names, NodesComplete, Completes}
 use Rattle.amf_graph.specs.Building.{stored_at, more_value, more_name}
-use Rattle.amf_tables.specs.Then.{Spelling, Then}
-use Rattle.amf_tables.proofs.Layout3Contents.{Larger, larger_twice, text_id, text_larger, text_kept}
-use Rattle.amf_tables.proofs.Layout3SoundTexts.{taken, give_is, texts_are}
-use Rattle.amf_tables.proofs.Layout3SoundOpenings.{all_below, Chunk, chunk_taken}
-use Rattle.amf_tables.proofs.Layout3SoundParts.{AllClosed, nodes_append, completes_before, completes_larger, nodes_longer, grown, Adds, same_node, adds_nothing, adds_more, good_more, here, to_changed, mid_completes, pairs_content}
+use Rattle.amf3_spelling.specs.Then.{Spelling, Then}
+use Rattle.amf3_layout.proofs.Layout3Contents.{Larger, larger_twice, text_id, text_larger, text_kept}
+use Rattle.amf3_layout.proofs.Layout3SoundTexts.{taken, give_is, texts_are}
+use Rattle.amf3_layout.proofs.Layout3SoundOpenings.{all_below, Chunk, chunk_taken}
+use Rattle.amf3_layout.proofs.Layout3SoundParts.{AllClosed, nodes_append, completes_before, completes_larger, nodes_longer, grown, Adds, same_node, adds_nothing, adds_more, good_more, here, to_changed, mid_completes, pairs_content}
 use Rattle.amf0_tables.specs.Tables0.{Tables0}
 use Rattle.amf0_tables.specs.Parts0.{marker0_field, Short, Long, Values0, Pairs0, is_empty}
 use Rattle.amf0_tables.specs.Layout0State.{State0, with_text0, changed0}

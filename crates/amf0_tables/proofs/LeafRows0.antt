@@ -6,12 +6,12 @@ use Rattle.amf_wire.specs.Style.{Style, free, canonical}
 use Rattle.amf_wire.specs.Text.{IsText}
 use Rattle.amf_wire.proofs.TextTest.{is_text-is}
 use Rattle.amf_graph.specs.Graph.{Leaf, undefined, null, boolean, integer, double, text, leaf, Graph}
-use Rattle.amf_tables.specs.Spells3.{InlineIn, SpellsIn}
-use Rattle.amf_tables.specs.Tables.{no_tables}
-use Rattle.amf_tables.specs.WorkedRows3.{alone}
-use Rattle.amf_tables.proofs.Amf3Rows.{spelled_by}
-use Rattle.amf_tables.proofs.Build.{Built, a_leaf, an_integer}
-use Rattle.amf_tables.proofs.BytesOf.{flat_contents}
+use Rattle.amf3_spelling.specs.Spells3.{InlineIn, SpellsIn}
+use Rattle.amf3_spelling.specs.Tables.{no_tables}
+use Rattle.amf3_spelling.specs.WorkedRows3.{alone}
+use Rattle.amf3_spelling.proofs.Amf3Rows.{spelled_by}
+use Rattle.amf3_spelling.proofs.Build.{Built, a_leaf, an_integer}
+use Rattle.amf3_spelling.proofs.BytesOf.{flat_contents}
 use Rattle.amf0_tables.specs.Tables0.{no_tables0}
 use Rattle.amf0_tables.specs.Parts0.{marker0_field, LeafBy0}
 use Rattle.amf0_tables.specs.Spells0.{SpellsIn0, Spelled0, Switched}

@@ -9,7 +9,7 @@ use Rattle.amf_graph.specs.Small.{IsSmall, IsSmallValue, IsSmallHead, IsFew, IsS
 use Rattle.amf0_tables.specs.Lowered.{is_wrapper, first_of_values, unwrapped, unwrapped_times, LowPlain, Low, ends, never_ends, low_head, sealed_names, unsealed_values, LowNode, IsLoweringOf}
 use Rattle.amf_graph.proofs.Alls.{all_append, each_from}
 use Rattle.amf_graph.proofs.Lists.{no_entry}
-use Rattle.amf_tables.proofs.BytesOf.{fits_too}
+use Rattle.amf3_spelling.proofs.BytesOf.{fits_too}
 use Rattle.amf0_tables.specs.LawsLowering.{HasRoom, IsReadyLowering}
 use Rattle.amf0_tables.proofs.Zips.{zip_length}
 use Rattle.amf0_tables.proofs.SameReached.{reached_node}

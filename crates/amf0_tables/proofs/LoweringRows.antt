@@ -3,12 +3,12 @@ use Rattle.std.proofs.Common.{◌≡◌, ℕ, zero, suc, true, false, [], ◌∷
 use Rattle.amf_wire.specs.Style.{free, canonical}
 use Rattle.amf_wire.specs.Whole.{IsPatternOf}
 use Rattle.amf_graph.specs.Graph.{integer, double, leaf, node, Graph}
-use Rattle.amf_tables.specs.Spells3.{InlineIn, SpellsIn, Spelled3}
-use Rattle.amf_tables.specs.Tables.{plain, Words, no_words, add_entry, Tables, no_tables, with_words, add_node}
-use Rattle.amf_tables.specs.Words3.{Text}
-use Rattle.amf_tables.proofs.Amf3Rows.{spelled_by}
-use Rattle.amf_tables.proofs.Build.{Built, no_text, an_integer, absent_nil}
-use Rattle.amf_tables.proofs.Forget.{forget_spelled3}
+use Rattle.amf3_spelling.specs.Spells3.{InlineIn, SpellsIn, Spelled3}
+use Rattle.amf3_spelling.specs.Tables.{plain, Words, no_words, add_entry, Tables, no_tables, with_words, add_node}
+use Rattle.amf3_spelling.specs.Words3.{Text}
+use Rattle.amf3_spelling.proofs.Amf3Rows.{spelled_by}
+use Rattle.amf3_spelling.proofs.Build.{Built, no_text, an_integer, absent_nil}
+use Rattle.amf3_spelling.proofs.Forget.{forget_spelled3}
 use Rattle.amf0_tables.specs.Lowered.{wraps, unwrapped_times, ends, never_ends}
 use Rattle.amf0_tables.specs.Tables0.{Tables0, no_tables0, add_node0}
 use Rattle.amf0_tables.specs.Spells0.{Switched, SpellsIn0, Spelled0}

@@ -12,7 +12,7 @@ use Rattle.amf_graph.specs.ByName.{by_name}
 use Rattle.amf_graph.specs.Order.{seconds, values_met, IsDistinct}
 use Rattle.amf_graph.proofs.Lists.{entry, at_left, at_end, length_pushed}
 use Rattle.amf_graph.proofs.NameOrder.{by_name_all_back}
-use Rattle.amf_tables.specs.Then.{Spelling, Then, Plain}
+use Rattle.amf3_spelling.specs.Then.{Spelling, Then, Plain}
 use Rattle.amf0_tables.specs.Tables0.{Tables0, no_tables0, add_node0, add_done0}
 use Rattle.amf0_tables.specs.Lacks0.{IsShortName, enters0, entered}
 use Rattle.amf0_tables.specs.Parts0.{Short, Marked0, Values0, Pairs0, Count0, PairsBy0, is_empty}

@@ -8,15 +8,15 @@ use Rattle.amf_wire.proofs.TextTest.{is_text-is}
 use Rattle.amf_graph.specs.Graph.{null, Value, leaf, node, date, xml_document, object, Fits, Node, Graph, node_at}
 use Rattle.amf_graph.specs.Order.{Absent}
 use Rattle.amf_graph.proofs.Lists.{cons_same}
-use Rattle.amf_tables.specs.Headers3.{HeaderBy}
-use Rattle.amf_tables.specs.Parts3.{Lifted, word, value}
-use Rattle.amf_tables.specs.Spells3.{InlineIn, SpellsIn, Spelled3}
-use Rattle.amf_tables.specs.Tables.{plain, Words, no_words, add_entry, Tables, no_tables, with_words, add_node}
-use Rattle.amf_tables.specs.Then.{Spelling, Then, Plain}
-use Rattle.amf_tables.specs.Words3.{Text, given}
-use Rattle.amf_tables.specs.WorkedRows3.{items}
-use Rattle.amf_tables.proofs.Amf3Rows.{spelled_by, an_empty_array}
-use Rattle.amf_tables.proofs.Build.{Built, both, lifted, no_text, new_text, a_null, a_reference, a_node, no_parts, word_part, value_part, absent_nil, absent_cons, unnamed}
+use Rattle.amf3_spelling.specs.Headers3.{HeaderBy}
+use Rattle.amf3_spelling.specs.Parts3.{Lifted, word, value}
+use Rattle.amf3_spelling.specs.Spells3.{InlineIn, SpellsIn, Spelled3}
+use Rattle.amf3_spelling.specs.Tables.{plain, Words, no_words, add_entry, Tables, no_tables, with_words, add_node}
+use Rattle.amf3_spelling.specs.Then.{Spelling, Then, Plain}
+use Rattle.amf3_spelling.specs.Words3.{Text, given}
+use Rattle.amf3_spelling.specs.WorkedRows3.{items}
+use Rattle.amf3_spelling.proofs.Amf3Rows.{spelled_by, an_empty_array}
+use Rattle.amf3_spelling.proofs.Build.{Built, both, lifted, no_text, new_text, a_null, a_reference, a_node, no_parts, word_part, value_part, absent_nil, absent_cons, unnamed}
 use Rattle.amf0_tables.specs.Tables0.{Tables0, no_tables0, add_node0, add_done0, switched_to}
 use Rattle.amf0_tables.specs.Parts0.{marker0_field, Short, Values0, Pairs0, Count0, PairsBy0, is_empty}
 use Rattle.amf0_tables.specs.Spells0.{NodeBy0, Switched, SpellsIn0, Spelled0}

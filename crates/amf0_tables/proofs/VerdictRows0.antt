@@ -4,7 +4,7 @@ use Rattle.std.proofs.lemmas.List.{length-take}
 use Rattle.amf_io.specs.Reading.{Decides, read}
 use Rattle.amf_io.proofs.Inputs.{outcome_decides}
 use Rattle.amf_graph.specs.Building.{no_arena}
-use Rattle.amf_tables.proofs.VerdictRows.{all_bytes, both_hold, are_bytes, is_short}
+use Rattle.amf3_layout.proofs.VerdictRows.{all_bytes, both_hold, are_bytes, is_short}
 use Rattle.amf0_tables.specs.KeptTables0.{no_kept_tables0}
 use Rattle.amf0_tables.specs.Reads0.{IsValue0}
 use Rattle.amf0_tables.specs.Layout0State.{State0, state0_of}

@@ -4,8 +4,8 @@ use Rattle.amf_io.specs.Layout.{Layout}
 use Rattle.amf_io.proofs.Inputs.{judged, judged_once, fault_is_first}
 use Rattle.amf_io.proofs.NextKind.{fixes_next}
 use Rattle.amf_graph.specs.Arena.{Arena}
-use Rattle.amf_tables.proofs.MiddleVerdicts.{ends_somewhere, read_once}
-use Rattle.amf_tables.proofs.OneCut.{has_one_cut}
+use Rattle.amf3_layout.proofs.MiddleVerdicts.{ends_somewhere, read_once}
+use Rattle.amf3_layout.proofs.OneCut.{has_one_cut}
 use Rattle.amf0_tables.specs.KeptTables0.{KeptTables0}
 use Rattle.amf0_tables.specs.Reads0.{IsReading0}
 use Rattle.amf0_tables.specs.Layout0State.{state0_of}

@@ -3,7 +3,7 @@ use Rattle.std.specs.Prelude.{ℕ, ◌<◌, Bool, false, List, [], length}
 use Rattle.std.specs.List.{AllByRecursion}
 use Rattle.amf_graph.specs.Arena.{Arena}
 use Rattle.amf_graph.specs.Order.{IsDistinct}
-use Rattle.amf_tables.specs.KeptTables.{KeptTables, no_kept_tables, tables_of, AreTablesIn}
+use Rattle.amf3_spelling.specs.KeptTables.{KeptTables, no_kept_tables, tables_of, AreTablesIn}
 use Rattle.amf0_tables.specs.Tables0.{Tables0}
 
 -- the tables of AMF 3, the nodes that AMF 0 can name, and whether a marker has switched to AMF 3 so far

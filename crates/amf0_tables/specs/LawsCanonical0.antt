@@ -4,7 +4,7 @@ use Rattle.amf_io.specs.Field.{Field}
 use Rattle.amf_wire.specs.Style.{free, canonical}
 use Rattle.amf_graph.specs.Graph.{Graph}
 use Rattle.amf_graph.specs.Isomorphic.{Isomorphic}
-use Rattle.amf_tables.specs.Spells3.{Spelled3}
+use Rattle.amf3_spelling.specs.Spells3.{Spelled3}
 use Rattle.amf0_tables.specs.Spells0.{IsSpelling0, Spelled0}
 use Rattle.amf0_tables.specs.Lowered.{IsLoweringOf}
 

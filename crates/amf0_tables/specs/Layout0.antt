@@ -8,8 +8,8 @@ use Rattle.amf_graph.specs.declared.value.Value.TheVariants.{Undefined, Null, Bo
 use Rattle.amf_graph.specs.Arena.{StoredHead}
 use Rattle.amf_graph.specs.Arena as arena
 use Rattle.amf_graph.specs.Building.{more_value, more_name, shut}
-use Rattle.amf_tables.specs.Layout3Words.{chunk}
-use Rattle.amf_tables.specs.Layout3.{value_layout}
+use Rattle.amf3_layout.specs.Layout3Words.{chunk}
+use Rattle.amf3_layout.specs.Layout3.{value_layout}
 use Rattle.amf0_tables.specs.Parts0.{is_empty}
 use Rattle.amf0_tables.specs.Refusals0.{marker0_kind, index0_kind}
 use Rattle.amf0_tables.specs.Layout0State.{State0, switched, with_text0, with_class, class_head, with_done0, with_node0, changed0}

@@ -2,7 +2,7 @@
 use Rattle.std.specs.Prelude.{ℕ, Bool, true, List, [], ◌∷◌, ◌++◌, length}
 use Rattle.amf_graph.specs.Arena.{StoredTraits, StoredHead, object, StoredNode, Arena}
 use Rattle.amf_graph.specs.Building.{kept_traits}
-use Rattle.amf_tables.specs.Layout3State.{State3, state_of, with_contents, begun, with_nodes, changed}
+use Rattle.amf3_layout.specs.Layout3State.{State3, state_of, with_contents, begun, with_nodes, changed}
 use Rattle.amf0_tables.specs.KeptTables0.{KeptTables0}
 
 pub record State0 : Type 0 where

@@ -6,8 +6,8 @@ use Rattle.amf_wire.specs.Style.{Style, Only}
 use Rattle.amf_wire.specs.Text.{IsText}
 use Rattle.amf_graph.specs.Graph.{Leaf, undefined, null, boolean, integer, double, text, Value}
 use Rattle.amf_graph.specs.ByName.{by_name}
-use Rattle.amf_tables.specs.Parts3.{IsFlag}
-use Rattle.amf_tables.specs.Then.{Spelling, Then, Nothing, Plain}
+use Rattle.amf3_spelling.specs.Parts3.{IsFlag}
+use Rattle.amf3_spelling.specs.Then.{Spelling, Then, Nothing, Plain}
 use Rattle.amf0_tables.specs.Refusals0.{marker0_kind}
 use Rattle.amf0_tables.specs.Tables0.{Tables0}
 

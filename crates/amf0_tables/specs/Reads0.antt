@@ -5,7 +5,7 @@ use Rattle.amf_wire.specs.Style.{free}
 use Rattle.amf_graph.specs.declared.value.Value.{Value as Stored}
 use Rattle.amf_graph.specs.Arena.{Arena, value_content, graph_of, Names, IsBuilt, Completes}
 use Rattle.amf_graph.specs.Building.{no_arena}
-use Rattle.amf_tables.specs.Reads3.{Grows}
+use Rattle.amf3_spelling.specs.Reads3.{Grows}
 use Rattle.amf0_tables.specs.KeptTables0.{KeptTables0, no_kept_tables0, tables0_of, AreTables0In}
 use Rattle.amf0_tables.specs.Spells0.{Spells0}
 use Rattle.amf0_tables.specs.Tables0.{Tables0}

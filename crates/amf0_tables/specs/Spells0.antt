@@ -5,9 +5,9 @@ use Rattle.amf_io.specs.Field.{Field, flat, field, raw_kind, u32_kind, no_refusa
 use Rattle.amf_wire.specs.Style.{Style, free, Only}
 use Rattle.amf_graph.specs.Graph.{Value, leaf, node, Traits, Head, xml_document, date, array, object, Fits, Graph, node_at}
 use Rattle.amf_graph.specs.Order.{Absent}
-use Rattle.amf_tables.specs.Spells3.{Spells3}
-use Rattle.amf_tables.specs.Tables.{Tables}
-use Rattle.amf_tables.specs.Then.{Spelling, Then, Plain}
+use Rattle.amf3_spelling.specs.Spells3.{Spells3}
+use Rattle.amf3_spelling.specs.Tables.{Tables}
+use Rattle.amf3_spelling.specs.Then.{Spelling, Then, Plain}
 use Rattle.amf0_tables.specs.Parts0.{marker0_field, Short, Long, LeafBy0, Values0, Count0, PairsBy0}
 use Rattle.amf0_tables.specs.Refusals0.{index0_kind}
 use Rattle.amf0_tables.specs.Tables0.{Tables0, no_tables0, add_node0, add_done0, switched_to}

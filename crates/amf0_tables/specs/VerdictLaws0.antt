@@ -4,7 +4,7 @@ use Rattle.amf_io.specs.declared.reason.Reason.{Reason}
 use Rattle.amf_io.specs.Field.{Field, AreBytes}
 use Rattle.amf_io.specs.Verdict.{FixesNext, IsFault, IsFirstFault, IsJudged, IsJudgedOnce}
 use Rattle.amf_graph.specs.Arena.{Arena, IsBuilt}
-use Rattle.amf_tables.specs.VerdictLaws3.{HasOneCut, IsReadOnce, EndsSomewhere}
+use Rattle.amf3_layout.specs.VerdictLaws3.{HasOneCut, IsReadOnce, EndsSomewhere}
 use Rattle.amf0_tables.specs.KeptTables0.{KeptTables0, AreTables0In}
 use Rattle.amf0_tables.specs.Reads0.{IsReading0}
 

@@ -5,8 +5,8 @@ use Rattle.amf_wire.specs.Text.{IsText}
 use Rattle.amf_io.specs.Field.{Field}
 use Rattle.amf_graph.specs.declared.lack.LackKind.TheVariants.{EmptyName, NoForm, LongName, Shared, FarReference}
 use Rattle.amf_graph.specs.Graph.{null, Value, leaf, node, date, bytes, array, Graph}
-use Rattle.amf_tables.specs.Lacks3.{IsLack3}
-use Rattle.amf_tables.specs.WorkedRows3.{items}
+use Rattle.amf3_spelling.specs.Lacks3.{IsLack3}
+use Rattle.amf3_spelling.specs.WorkedRows3.{items}
 use Rattle.amf0_tables.specs.Lacks0.{IsLack0}
 use Rattle.amf0_tables.specs.Spells0.{IsSpelling0}
 use Rattle.amf0_tables.specs.WorkedRows0.{member, only}

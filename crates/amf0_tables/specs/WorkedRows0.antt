@@ -5,8 +5,8 @@ use Rattle.amf_wire.specs.Style.{free, canonical}
 use Rattle.amf_wire.specs.Text.{IsText}
 use Rattle.amf_graph.specs.declared.wrapped.Wrapped.TheVariants.{ArrayCollection, ObjectProxy}
 use Rattle.amf_graph.specs.Graph.{undefined, null, boolean, integer, double, text, Value, leaf, node, Traits, xml_document, date, array, object, wrapper, Head, Node, Graph}
-use Rattle.amf_tables.specs.Spells3.{Spelled3}
-use Rattle.amf_tables.specs.WorkedRows3.{alone, items}
+use Rattle.amf3_spelling.specs.Spells3.{Spelled3}
+use Rattle.amf3_spelling.specs.WorkedRows3.{alone, items}
 use Rattle.amf0_tables.specs.Spells0.{Spelled0}
 use Rattle.amf0_tables.specs.Lowered.{IsLoweringOf}
 

@@ -6,7 +6,7 @@ use Rattle.amf_io.proofs.Paths.{flat-append}
 use Rattle.amf_wire.specs.Style.{canonical}
 use Rattle.amf_wire.specs.Text.{IsText}
 use Rattle.amf_graph.specs.Graph.{Value, Graph}
-use Rattle.amf_tables.specs.Then.{Spelling, Then}
+use Rattle.amf3_spelling.specs.Then.{Spelling, Then}
 use Rattle.amf0_tables.specs.Tables0.{Tables0}
 use Rattle.amf0_tables.specs.Parts0.{marker0_field, Short, Values0, Pairs0, is_empty}
 use Rattle.amf0_tables.specs.Spells0.{SpellsIn0}

@@ -14,7 +14,7 @@ use Rattle.amf_graph.specs.Rooted.{RootedArena, content}
 use Rattle.amf_graph.proofs.Finished.{finished}
 use Rattle.amf_graph.proofs.Lists.{no_entry}
 use Rattle.amf_graph.proofs.OrderExists.{order_exists}
-use Rattle.amf_tables.specs.Tables.{Tables, no_tables}
+use Rattle.amf3_spelling.specs.Tables.{Tables, no_tables}
 use Rattle.amf0_tables.specs.Lacks0.{IsLack0}
 use Rattle.amf0_tables.specs.LacksMet.{LacksMet}
 use Rattle.amf0_tables.specs.Spells0.{Spells0}

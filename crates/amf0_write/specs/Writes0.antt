@@ -7,7 +7,7 @@ use Rattle.amf_wire.specs.Text.{IsText}
 use Rattle.amf_graph.specs.declared.lack.LackKind.{LackKind}
 use Rattle.amf_graph.specs.ByName.{by_name}
 use Rattle.amf_graph.specs.Graph.{Leaf, undefined, null, boolean, integer, double, text, Value, Traits, array, object, Node, Graph}
-use Rattle.amf_tables.specs.ByteSpelling.{Then}
+use Rattle.amf3_spelling.specs.ByteSpelling.{Then}
 use Rattle.amf0_tables.specs.Meets.{Meets, IsAgain}
 use Rattle.amf0_tables.specs.Spells0.{SpellsIn0, IsOpenTraits}
 use Rattle.amf0_tables.specs.Tables0.{Tables0}

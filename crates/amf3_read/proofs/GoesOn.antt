@@ -16,13 +16,13 @@ use Rattle.amf_graph.specs.Arena.{Arena, StoredNode, IsBuilt, IsTextId, head_con
 use Rattle.amf_graph.specs.Building.{stored_at, changed as changed_arena, shut, more_value, more_name, more_entry, FitsNow}
 use Rattle.amf_graph.proofs.Built.{built_changed, stands}
 use Rattle.amf_graph.proofs.Begun.{shut_in}
-use Rattle.amf_tables.specs.KeptTables.{KeptTables, AreTablesIn}
-use Rattle.amf_tables.specs.Layout3State.{State3, state_of, changed}
-use Rattle.amf_tables.specs.Layout3Words.{TextRead, text_layout}
-use Rattle.amf_tables.specs.Layout3.{ValueRead, read, is_empty, pairs, items, entries}
-use Rattle.amf_tables.proofs.Reader3Tables.{grows_itself, tables_after_change}
-use Rattle.amf_tables.proofs.Reader3Calls.{node_closed}
-use Rattle.amf_tables.proofs.Reader3States.{shut_state}
+use Rattle.amf3_spelling.specs.KeptTables.{KeptTables, AreTablesIn}
+use Rattle.amf3_layout.specs.Layout3State.{State3, state_of, changed}
+use Rattle.amf3_layout.specs.Layout3Words.{TextRead, text_layout}
+use Rattle.amf3_layout.specs.Layout3.{ValueRead, read, is_empty, pairs, items, entries}
+use Rattle.amf3_layout.proofs.Reader3Tables.{grows_itself, tables_after_change}
+use Rattle.amf3_layout.proofs.Reader3Calls.{node_closed}
+use Rattle.amf3_layout.proofs.Reader3States.{shut_state}
 use Rattle.amf3_read.specs.declared.opening.Parts.{Parts}
 use Rattle.amf3_read.specs.declared.opening.Parts.TheVariants.{Array, Object, Items, Entries}
 use Rattle.amf3_read.specs.declared.frame.Slot.{Slot}

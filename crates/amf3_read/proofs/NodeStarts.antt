@@ -15,13 +15,13 @@ use Rattle.amf_graph.specs.declared.value.Value.TheVariants as value
 use Rattle.amf_graph.specs.Graph as graph
 use Rattle.amf_graph.specs.Arena.{Arena, StoredNode, head_content}
 use Rattle.amf_graph.specs.Building.{kept_node, stored_at}
-use Rattle.amf_tables.specs.KeptTables.{KeptTables}
-use Rattle.amf_tables.specs.Reads3.{Grows}
-use Rattle.amf_tables.specs.Refusals3.{header_refusal, header_kind}
-use Rattle.amf_tables.specs.Layout3State.{State3, state_of, begun}
-use Rattle.amf_tables.specs.Layout3Words as layout
-use Rattle.amf_tables.specs.Layout3.{NodeForm, node_marker, Form, ValueRead, read, known_node, opening, parts, inline_node, node_layout, behind_marker, value_layout}
-use Rattle.amf_tables.proofs.Reader3Tables.{grows_itself, open_there, open_place}
+use Rattle.amf3_spelling.specs.KeptTables.{KeptTables}
+use Rattle.amf3_spelling.specs.Reads3.{Grows}
+use Rattle.amf3_spelling.specs.Refusals3.{header_refusal, header_kind}
+use Rattle.amf3_layout.specs.Layout3State.{State3, state_of, begun}
+use Rattle.amf3_layout.specs.Layout3Words as layout
+use Rattle.amf3_layout.specs.Layout3.{NodeForm, node_marker, Form, ValueRead, read, known_node, opening, parts, inline_node, node_layout, behind_marker, value_layout}
+use Rattle.amf3_layout.proofs.Reader3Tables.{grows_itself, open_there, open_place}
 use Rattle.amf3_read.specs.declared.opening.Parts.{Parts}
 use Rattle.amf3_read.specs.declared.opening.Parts.TheVariants.{Array, Object, Items, Entries}
 use Rattle.amf3_read.specs.declared.node.Begun.{Begun}

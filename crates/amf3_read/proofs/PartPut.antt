@@ -9,11 +9,11 @@ use Rattle.amf_graph.specs.Bounds.{parts_of}
 use Rattle.amf_graph.specs.Building.{kept_node, no_stored, stored_at, changed, more_part, PartNames, HasRoom, size_of}
 use Rattle.amf_graph.proofs.Built.{built_changed, stands}
 use Rattle.amf_graph.proofs.Begun.{part_in}
-use Rattle.amf_tables.specs.KeptTables.{KeptTables, AreTablesIn}
-use Rattle.amf_tables.specs.Reads3.{Grows}
-use Rattle.amf_tables.proofs.Layout3Contents.{Larger, larger_twice, head_kept}
-use Rattle.amf_tables.proofs.Reader3Tables.{grows_twice, grows_larger, grows_stays, tables_after_change, larger_changed, open_place}
-use Rattle.amf_tables.proofs.Reader3Calls.{part_put}
+use Rattle.amf3_spelling.specs.KeptTables.{KeptTables, AreTablesIn}
+use Rattle.amf3_spelling.specs.Reads3.{Grows}
+use Rattle.amf3_layout.proofs.Layout3Contents.{Larger, larger_twice, head_kept}
+use Rattle.amf3_layout.proofs.Reader3Tables.{grows_twice, grows_larger, grows_stays, tables_after_change, larger_changed, open_place}
+use Rattle.amf3_layout.proofs.Reader3Calls.{part_put}
 use Rattle.amf3_read.specs.Filling.{with_more, IsOpened}
 
 -- the names and the values that a part is

@@ -19,12 +19,12 @@ use Rattle.amf_graph.specs.declared.part.Part.TheVariants as part
 use Rattle.amf_graph.specs.Graph as graph
 use Rattle.amf_graph.specs.Arena.{Arena, StoredNode, IsBuilt, head_content}
 use Rattle.amf_graph.specs.Building.{kept_node, stored_at, changed as changed_arena, more_part, PartNames, Takes, HasRoom, size_of}
-use Rattle.amf_tables.specs.KeptTables.{KeptTables}
-use Rattle.amf_tables.specs.Reads3.{Grows}
-use Rattle.amf_tables.specs.Layout3State.{State3, state_of}
-use Rattle.amf_tables.specs.Layout3.{ValueRead, read, value_layout}
-use Rattle.amf_tables.proofs.Reader3Tables.{grows_itself, grows_twice, names_after_growth, text_id_after_growth}
-use Rattle.amf_tables.proofs.Reader3States.{more_value_state, more_name_state, more_entry_state}
+use Rattle.amf3_spelling.specs.KeptTables.{KeptTables}
+use Rattle.amf3_spelling.specs.Reads3.{Grows}
+use Rattle.amf3_layout.specs.Layout3State.{State3, state_of}
+use Rattle.amf3_layout.specs.Layout3.{ValueRead, read, value_layout}
+use Rattle.amf3_layout.proofs.Reader3Tables.{grows_itself, grows_twice, names_after_growth, text_id_after_growth}
+use Rattle.amf3_layout.proofs.Reader3States.{more_value_state, more_name_state, more_entry_state}
 use Rattle.amf3_read.specs.declared.opening.Parts.{Parts}
 use Rattle.amf3_read.specs.declared.opening.Parts.TheVariants.{Array, Object, Items, Entries}
 use Rattle.amf3_read.specs.declared.frame.Slot.{Slot}

@@ -7,11 +7,11 @@ use Rattle.amf_io.specs.LayoutAnswer.{DoneBy}
 use Rattle.amf_graph.specs.Arena.{Arena, IsBuilt, head_content}
 use Rattle.amf_graph.specs.Graph as graph
 use Rattle.amf_graph.specs.Building.{stored_at}
-use Rattle.amf_tables.specs.KeptTables.{KeptTables}
-use Rattle.amf_tables.specs.Reads3.{Grows}
-use Rattle.amf_tables.specs.Layout3State.{state_of, with_node, takes_parts}
-use Rattle.amf_tables.specs.Layout3Words as layout
-use Rattle.amf_tables.specs.Layout3.{NodeForm, opening, whole_node}
+use Rattle.amf3_spelling.specs.KeptTables.{KeptTables}
+use Rattle.amf3_spelling.specs.Reads3.{Grows}
+use Rattle.amf3_layout.specs.Layout3State.{state_of, with_node, takes_parts}
+use Rattle.amf3_layout.specs.Layout3Words as layout
+use Rattle.amf3_layout.specs.Layout3.{NodeForm, opening, whole_node}
 use Rattle.amf3_read.specs.declared.opening.Parts.{Parts}
 use Rattle.amf3_read.specs.declared.opening.Parts.TheVariants.{Array, Object, Items, Entries}
 use Rattle.amf3_read.specs.declared.node.Begun.{Begun}

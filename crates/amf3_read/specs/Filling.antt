@@ -3,7 +3,7 @@ use Rattle.std.specs.Prelude.{◌≡◌, ℕ, ◌+◌, ◌<◌, true, List, [], 
 use Rattle.amf_graph.specs.declared.value.Value.{Value as Stored}
 use Rattle.amf_graph.specs.Arena.{Arena, StoredNode}
 use Rattle.amf_graph.specs.Building.{kept_node, stored_at, size_of}
-use Rattle.amf_tables.specs.Reads3.{Grows}
+use Rattle.amf3_spelling.specs.Reads3.{Grows}
 
 -- a node with further names and values
 abbrev pub with_more : StoredNode → List (ℕ × Stored) → List Stored → StoredNode

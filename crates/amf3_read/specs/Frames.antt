@@ -11,10 +11,10 @@ use Rattle.amf_graph.specs.declared.value.Value.TheVariants as value
 use Rattle.amf_graph.specs.Graph as graph
 use Rattle.amf_graph.specs.Arena.{Arena, StoredNode, IsBuilt, IsTextId, Names, head_content}
 use Rattle.amf_graph.specs.Building.{stored_at, kept_node, shut, more_value, more_name, more_entry}
-use Rattle.amf_tables.specs.KeptTables.{KeptTables, AreTablesIn}
-use Rattle.amf_tables.specs.Reads3.{Grows}
-use Rattle.amf_tables.specs.Layout3State.{State3, state_of, changed}
-use Rattle.amf_tables.specs.Layout3.{ValueRead, read, items, entries, pairs, pairs_if, value_layout}
+use Rattle.amf3_spelling.specs.KeptTables.{KeptTables, AreTablesIn}
+use Rattle.amf3_spelling.specs.Reads3.{Grows}
+use Rattle.amf3_layout.specs.Layout3State.{State3, state_of, changed}
+use Rattle.amf3_layout.specs.Layout3.{ValueRead, read, items, entries, pairs, pairs_if, value_layout}
 use Rattle.amf3_read.specs.declared.opening.Parts.{Parts}
 use Rattle.amf3_read.specs.declared.opening.Parts.TheVariants.{Array, Object, Items, Entries}
 use Rattle.amf3_read.specs.declared.frame.Slot.{Slot}

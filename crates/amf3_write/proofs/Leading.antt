@@ -9,12 +9,12 @@ use Rattle.amf_graph.specs.ByName.{by_name}
 use Rattle.amf_graph.specs.Order.{Absent, values_met, Walks, over, past, again, first}
 use Rattle.amf_graph.proofs.Lists.{at_left, at_end, length_pushed}
 use Rattle.amf_graph.proofs.NameOrder.{by_name_again, by_name_all, by_name_length}
-use Rattle.amf_tables.specs.Tables.{Tables, with_words, add_node}
-use Rattle.amf_tables.specs.Refusals3.{marker, leaf_marker}
-use Rattle.amf_tables.specs.ByteSpelling.{Then, Step, byte, number, Part, step, value, leaf_layout, layout, Parts, Placed, Begun, ValueBy, NodeIn, Spells}
-use Rattle.amf_tables.proofs.BytesOf.{fits_too}
-use Rattle.amf_tables.proofs.Ordered3.{layout_met}
-use Rattle.amf_tables.proofs.Ordered3 as ordered
+use Rattle.amf3_spelling.specs.Tables.{Tables, with_words, add_node}
+use Rattle.amf3_spelling.specs.Refusals3.{marker, leaf_marker}
+use Rattle.amf3_spelling.specs.ByteSpelling.{Then, Step, byte, number, Part, step, value, leaf_layout, layout, Parts, Placed, Begun, ValueBy, NodeIn, Spells}
+use Rattle.amf3_spelling.proofs.BytesOf.{fits_too}
+use Rattle.amf3_spelling.proofs.Ordered3.{layout_met}
+use Rattle.amf3_spelling.proofs.Ordered3 as ordered
 use Rattle.amf3_write.specs.declared.output.Output.{Output}
 use Rattle.amf3_write.specs.Contents.{node_parts, part_values}
 use Rattle.amf3_write.specs.Writes.{Writes, WritesStep, WritesSteps, WritesValue, IsCanonical, Leads, Stops}

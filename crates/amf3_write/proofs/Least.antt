@@ -7,7 +7,7 @@ use Rattle.amf_graph.specs.declared.lack.LackKind.TheVariants.{EmptyName}
 use Rattle.amf_graph.specs.Graph.{AllNamed, Graph, node_at}
 use Rattle.amf_graph.specs.Lacks.{rank, IsFirstLack}
 use Rattle.amf_graph.proofs.Lists.{at_left, at_end, at_push}
-use Rattle.amf_tables.specs.Lacks3.{NodeLacks3}
+use Rattle.amf3_spelling.specs.Lacks3.{NodeLacks3}
 use Rattle.amf3_write.specs.Found.{IsLeast, IsBefore}
 use Rattle.amf3_write.specs.PartLacks.{PartLacks3}
 

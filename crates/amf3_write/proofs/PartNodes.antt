@@ -5,9 +5,9 @@ use Rattle.std.proofs.lemmas.List.{take_at}
 use Rattle.amf_wire.specs.Style.{canonical}
 use Rattle.amf_graph.specs.declared.value.NodeId.{NodeId}
 use Rattle.amf_graph.specs.Graph.{Value, leaf, node, Graph, node_at}
-use Rattle.amf_tables.specs.Tables.{Tables, add_node}
-use Rattle.amf_tables.specs.Refusals3.{leaf_marker}
-use Rattle.amf_tables.specs.ByteSpelling.{Spelling, Part, step, value, byte, layout, leaf_layout, Parts, ValueBy, NodeIn, Spells}
+use Rattle.amf3_spelling.specs.Tables.{Tables, add_node}
+use Rattle.amf3_spelling.specs.Refusals3.{leaf_marker}
+use Rattle.amf3_spelling.specs.ByteSpelling.{Spelling, Part, step, value, byte, layout, leaf_layout, Parts, ValueBy, NodeIn, Spells}
 use Rattle.amf3_write.specs.declared.output.Output.{Output}
 use Rattle.amf3_write.specs.Writes.{BeginsWith, WritesValue}
 use Rattle.amf3_write.proofs.NamedPairs.{all_push}

@@ -10,7 +10,7 @@ use Rattle.amf_graph.specs.Order.{values_met, Walks, over, past, again, first, I
 use Rattle.amf_graph.specs.Reached.{IsReachedValue}
 use Rattle.amf_graph.proofs.Lists.{at_end, length_pushed}
 use Rattle.amf_graph.proofs.Walks.{In, walks_fixed, walk_closed}
-use Rattle.amf_tables.specs.Lacks3.{Lacks3, IsLack3}
+use Rattle.amf3_spelling.specs.Lacks3.{Lacks3, IsLack3}
 use Rattle.amf_graph.proofs.Reaching.{held_stands, reached_stands}
 use Rattle.amf3_write.specs.PartLacks.{PartLacks3, IsPartLack3, HasUnnamed}
 use Rattle.amf3_write.proofs.Wrote.{each_append}

@@ -5,8 +5,8 @@ use Rattle.std.specs.List.{AllByRecursion}
 use Rattle.amf_graph.specs.Arena.{Arena}
 use Rattle.amf_graph.specs.Graph.{Value, Graph}
 use Rattle.amf_tables.specs.KnownWords.{AreKnownOf}
-use Rattle.amf_tables.specs.Tables.{Tables, no_tables}
-use Rattle.amf_tables.specs.ByteSpelling.{word}
+use Rattle.amf3_spelling.specs.Tables.{Tables, no_tables}
+use Rattle.amf3_spelling.specs.ByteSpelling.{word}
 use Rattle.amf3_write.specs.declared.output.Output.{Output}
 use Rattle.amf3_write.specs.declared.graph_tables.GraphTables.{GraphTables}
 use Rattle.amf3_write.specs.PartTables.{AreTablesOf}

@@ -3,13 +3,13 @@ use Rattle.std.proofs.Common.{◌≡◌, ℕ, List, [], ◌∷◌, ◌++◌, len
 use Rattle.amf_io.specs.Field.{Field, flat, field, text_kind}
 use Rattle.amf_wire.specs.Style.{canonical}
 use Rattle.amf_graph.specs.Graph.{Value, Graph}
-use Rattle.amf_tables.specs.Tables.{Words, Tables}
-use Rattle.amf_tables.specs.Refusals3.{text_header_kind}
-use Rattle.amf_tables.specs.Spells3.{Spells3}
-use Rattle.amf_tables.specs.Words3.{Text as FieldText, empty as empty_text, whole as whole_text, named as named_text}
-use Rattle.amf_tables.specs.Parts3.{Lifted}
-use Rattle.amf_tables.specs.ByteSpelling.{Text, empty, whole, placed, word}
-use Rattle.amf_tables.proofs.FieldsOf.{from_spells}
+use Rattle.amf3_spelling.specs.Tables.{Words, Tables}
+use Rattle.amf3_spelling.specs.Refusals3.{text_header_kind}
+use Rattle.amf3_spelling.specs.Spells3.{Spells3}
+use Rattle.amf3_spelling.specs.Words3.{Text as FieldText, empty as empty_text, whole as whole_text, named as named_text}
+use Rattle.amf3_spelling.specs.Parts3.{Lifted}
+use Rattle.amf3_spelling.specs.ByteSpelling.{Text, empty, whole, placed, word}
+use Rattle.amf3_spelling.proofs.FieldsOf.{from_spells}
 use Rattle.amf3_write.specs.declared.output.Output.{Output}
 use Rattle.amf3_write.specs.Written.{AppendsPart, AppendsText}
 use Rattle.amf3_write.specs.Writes.{WritesStep, WritesValue}

@@ -6,12 +6,12 @@ use Rattle.amf_graph.specs.Arena.{Arena}
 use Rattle.amf_graph.specs.Order.{Absent}
 use Rattle.amf_tables.specs.FirstPlace.{IsFirstPlace}
 use Rattle.amf_tables.specs.KnownWords.{Known, AreKnownOf}
-use Rattle.amf_tables.specs.Tables.{Entry, Words, Tables, with_words, add_text, add_entry, add_node}
+use Rattle.amf3_spelling.specs.Tables.{Entry, Words, Tables, with_words, add_text, add_entry, add_node}
 use Rattle.amf_tables.specs.TextPlaces.{IsEntered}
-use Rattle.amf_tables.specs.Words3.{IsUnnamed}
+use Rattle.amf3_spelling.specs.Words3.{IsUnnamed}
 use Rattle.amf_tables.specs.declared.text_place.TextPlace.{TextPlace}
 use Rattle.amf_tables.specs.declared.text_place.TextPlace.TheVariants.{Old, New}
-use Rattle.amf_tables.specs.ByteSpelling.{Spelling, whole, number, raw, word, step}
+use Rattle.amf3_spelling.specs.ByteSpelling.{Spelling, whole, number, raw, word, step}
 use Rattle.amf_tables.proofs.KnownPlaces.{known_with_text, known_with_entry}
 use Rattle.amf3_write.specs.declared.output.Output.{Output}
 use Rattle.amf3_write.specs.Writes.{Writes, WritesStep, WritesSteps, IsReady}

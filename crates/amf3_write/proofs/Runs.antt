@@ -6,7 +6,7 @@ use Rattle.amf_graph.specs.Graph.{Value, Graph}
 use Rattle.amf_graph.specs.declared.value.TextId.{TextId}
 use Rattle.amf_graph.specs.Arena.{Arena, text_at, value_content}
 use Rattle.amf_graph.specs.Views.{flat}
-use Rattle.amf_tables.specs.ByteSpelling.{Part, step, value, word, values_then, pairs_then}
+use Rattle.amf3_spelling.specs.ByteSpelling.{Part, step, value, word, values_then, pairs_then}
 use Rattle.amf_iso.specs.Contents.{values_of, pairs_of, ArePairs}
 use Rattle.amf3_write.specs.declared.unwritten.Unwritten.{Unwritten}
 use Rattle.amf3_write.specs.Unwritten.{run_parts, next_parts, parts_left, IsRunOf, AreRunsOf, AreStoredPairs, run_turns, turns_left}

@@ -3,7 +3,7 @@ use Rattle.std.proofs.Common.{◌≡◌, ℕ, ◌+◌, ◌*◌, ◌<◌, ◌≤�
 use Rattle.amf_graph.specs.Order.{Absent}
 use Rattle.amf_graph.proofs.Counting.{missing, missing_less, missing_push}
 use Rattle.amf_graph.proofs.Lists.{at_left}
-use Rattle.amf_tables.specs.Tables.{Tables, add_node}
+use Rattle.amf3_spelling.specs.Tables.{Tables, add_node}
 use Rattle.amf3_write.specs.declared.output.Output.{Output}
 use Rattle.amf3_write.specs.Unwritten.{Falls}
 use Rattle.amf3_write.specs.Writes.{BeginsWith, Front, HasFront, Keeps}

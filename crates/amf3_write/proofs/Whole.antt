@@ -4,8 +4,8 @@ use Rattle.std.specs.Prelude.{Result, Ok, Err, OnErr, is_err}
 use Rattle.std.proofs.lemmas.List.{take_at}
 use Rattle.amf_graph.specs.declared.lack.Lack.{Lack}
 use Rattle.amf_graph.specs.Graph.{Value, Graph}
-use Rattle.amf_tables.specs.Tables.{Tables, no_tables}
-use Rattle.amf_tables.specs.ByteSpelling.{value}
+use Rattle.amf3_spelling.specs.Tables.{Tables, no_tables}
+use Rattle.amf3_spelling.specs.ByteSpelling.{value}
 use Rattle.amf3_write.specs.declared.output.Output.{Output}
 use Rattle.amf3_write.specs.Written.{AppendsCanonical, AppendsPart}
 use Rattle.amf3_write.specs.PartLacks.{HasUnnamed}

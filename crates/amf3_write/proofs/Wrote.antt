@@ -9,11 +9,11 @@ use Rattle.amf_wire.specs.Text.{IsText}
 use Rattle.amf_graph.specs.declared.value.TextId.{TextId}
 use Rattle.amf_graph.specs.Arena.{Arena, IsFinished, text_at}
 use Rattle.amf_graph.specs.Bounds.{IsWithinBounds}
-use Rattle.amf_tables.specs.Tables.{Entry, Words, Tables, with_words, add_text, add_entry}
-use Rattle.amf_tables.specs.Words3.{IsUnnamed, EntryNumber}
+use Rattle.amf3_spelling.specs.Tables.{Entry, Words, Tables, with_words, add_text, add_entry}
+use Rattle.amf3_spelling.specs.Words3.{IsUnnamed, EntryNumber}
 use Rattle.amf_tables.specs.FirstPlace.{IsFirstPlace}
 use Rattle.amf_tables.specs.ShownTraits.{texts_at}
-use Rattle.amf_tables.specs.ByteSpelling.{Text, whole, placed, Texts, entry_texts, given, indexed, number, raw, word, traits}
+use Rattle.amf3_spelling.specs.ByteSpelling.{Text, whole, placed, Texts, entry_texts, given, indexed, number, raw, word, traits}
 use Rattle.amf3_write.specs.declared.output.Output.{Output}
 use Rattle.amf3_write.specs.Writes.{WritesStep, WritesTexts}
 

@@ -20,13 +20,13 @@ use Rattle.amf_graph.specs.Bounds.{NodeWithin, IsWithinBounds}
 use Rattle.amf_graph.specs.Building.{stored_at, no_stored}
 use Rattle.amf_graph.specs.Views.{flat}
 use Rattle.amf_graph.proofs.NameOrder.{by_name_again, by_name_all, by_name_length}
-use Rattle.amf_tables.specs.Tables.{plain, with_words, add_node}
-use Rattle.amf_tables.specs.Refusals3.{marker}
+use Rattle.amf3_spelling.specs.Tables.{plain, with_words, add_node}
+use Rattle.amf3_spelling.specs.Refusals3.{marker}
 use Rattle.amf_tables.specs.FirstPlace.{IsFirstPlace}
-use Rattle.amf_tables.specs.ByteSpelling.{byte, number, word, traits, step, values_then, pairs_then, layout, Placed, Begun, NodeIn, Parts, Spells}
-use Rattle.amf_tables.proofs.BytesOf.{fits_too}
-use Rattle.amf_tables.proofs.FirstLack3.{named_or_not}
-use Rattle.amf_tables.proofs.Ordered3.{part_values}
+use Rattle.amf3_spelling.specs.ByteSpelling.{byte, number, word, traits, step, values_then, pairs_then, layout, Placed, Begun, NodeIn, Parts, Spells}
+use Rattle.amf3_spelling.proofs.BytesOf.{fits_too}
+use Rattle.amf3_spelling.proofs.FirstLack3.{named_or_not}
+use Rattle.amf3_spelling.proofs.Ordered3.{part_values}
 use Rattle.amf3_write.specs.declared.output.Output.{Output}
 use Rattle.amf3_write.proofs.Wrote.{each_there}
 

@@ -2,7 +2,7 @@
 use Rattle.std.specs.Prelude.{List, [], ◌∷◌}
 use Rattle.amf_graph.specs.Graph as graph
 use Rattle.amf_graph.specs.ByName.{by_name}
-use Rattle.amf_tables.specs.ByteSpelling.{Part, step, value, layout}
+use Rattle.amf3_spelling.specs.ByteSpelling.{Part, step, value, layout}
 
 -- its parts, canonically
 abbrev pub node_parts : graph.Node → List Part

@@ -4,7 +4,7 @@ use Rattle.amf_graph.specs.declared.lack.LackKind.{LackKind}
 use Rattle.amf_graph.specs.Graph.{Value, Graph, node_at, AllNamed}
 use Rattle.amf_graph.specs.Order.{IsOrder, Walks}
 use Rattle.amf_graph.specs.Lacks.{IsFirstLack}
-use Rattle.amf_tables.specs.Lacks3.{NodeLacks3}
+use Rattle.amf3_spelling.specs.Lacks3.{NodeLacks3}
 
 -- the reason applies to the node of this canonical number, which is one of those found
 abbrev pub PartLacks3 : Graph → List ℕ → List ℕ → ℕ → LackKind → Type 0

@@ -6,7 +6,7 @@ use Rattle.amf_graph.specs.declared.value.TextId.{TextId}
 use Rattle.amf_graph.specs.Arena.{Arena, Names, IsTextId, value_content}
 use Rattle.amf_graph.specs.Order.{Absent}
 use Rattle.amf_graph.specs.Views.{flat}
-use Rattle.amf_tables.specs.ByteSpelling.{Part, value, values_then, pairs_then}
+use Rattle.amf3_spelling.specs.ByteSpelling.{Part, value, values_then, pairs_then}
 use Rattle.amf_iso.specs.Contents.{values_of, pairs_of, AreValues}
 use Rattle.amf3_write.specs.declared.unwritten.Unwritten.{Unwritten}
 use Rattle.amf3_write.specs.declared.unwritten.Unwritten.TheVariants.{One, Values, Entries, Pairs}

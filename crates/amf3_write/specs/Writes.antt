@@ -7,8 +7,8 @@ use Rattle.amf_graph.specs.Graph.{Value, Graph, node_at, AllNamed}
 use Rattle.amf_graph.specs.Arena.{Arena}
 use Rattle.amf_graph.specs.Order.{Walks}
 use Rattle.amf_tables.specs.KnownWords.{Known, AreKnownOf}
-use Rattle.amf_tables.specs.Tables.{Tables}
-use Rattle.amf_tables.specs.ByteSpelling.{Texts, Step, StepOf, Part, Lifted, Parts, Spells}
+use Rattle.amf3_spelling.specs.Tables.{Tables}
+use Rattle.amf3_spelling.specs.ByteSpelling.{Texts, Step, StepOf, Part, Lifted, Parts, Spells}
 use Rattle.amf3_write.specs.declared.output.Output.{Output}
 use Rattle.amf3_write.specs.Contents.{part_values}
 

@@ -3,10 +3,10 @@ use Rattle.std.specs.Prelude.{◌≡◌, ℕ, List, ◌++◌}
 use Rattle.amf_io.specs.Field.{Field, flat}
 use Rattle.amf_wire.specs.Style.{canonical}
 use Rattle.amf_graph.specs.Graph.{Graph, Value}
-use Rattle.amf_tables.specs.Parts3.{Lifted}
-use Rattle.amf_tables.specs.Spells3.{Spells3, IsSpelling3}
-use Rattle.amf_tables.specs.Tables.{Tables}
-use Rattle.amf_tables.specs.Words3.{Text}
+use Rattle.amf3_spelling.specs.Parts3.{Lifted}
+use Rattle.amf3_spelling.specs.Spells3.{Spells3, IsSpelling3}
+use Rattle.amf3_spelling.specs.Tables.{Tables}
+use Rattle.amf3_spelling.specs.Words3.{Text}
 
 -- the bytes of the canonical spelling of a graph
 abbrev pub AppendsCanonical : Graph → List ℕ → List ℕ → Type 0

@@ -3,7 +3,7 @@ ghost use Rattle.amf_graph.specs.Arena.{Arena, StoredNode, head_content};
 ghost use Rattle.amf_graph.specs.Graph.{AllNamed, node_at};
 ghost use Rattle.amf_graph.specs.Rooted.{content};
 ghost use Rattle.amf_graph.specs.Views.{Shows};
-ghost use Rattle.amf_tables.specs.Refusals3.{marker};
+ghost use Rattle.amf3_spelling.specs.Refusals3.{marker};
 
 use crate::pairs::has_empty_name;
 use amf_graph::{NodeId, NodeView, Rooted};

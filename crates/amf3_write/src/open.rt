@@ -4,7 +4,7 @@ ghost use Rattle.amf_graph.specs.ByName.{by_name};
 ghost use Rattle.amf_graph.specs.Graph as graph_of_values;
 ghost use Rattle.amf_graph.specs.Graph.{node_at};
 ghost use Rattle.amf_graph.specs.Rooted.{content};
-ghost use Rattle.amf_tables.specs.ByteSpelling as spell;
+ghost use Rattle.amf3_spelling.specs.ByteSpelling as spell;
 ghost use Rattle.amf_iso.specs.Contents.{values_of, pairs_of, AreValues, ArePairs};
 ghost use Rattle.amf3_write.specs.Contents.{node_parts};
 ghost use Rattle.amf3_write.specs.Unwritten.{AreRunsOf, parts_left, turns_left};

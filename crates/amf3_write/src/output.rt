@@ -2,8 +2,8 @@ ghost use Rattle.std.specs.Prelude.{◌≡◌, ◌≢◌, ◌<◌, ◌^◌, [], 
 ghost use Rattle.amf_graph.specs.Arena.{Arena};
 ghost use Rattle.amf_wire.specs.Text.{IsText};
 ghost use Rattle.amf_tables.specs.FirstPlace.{IsFirstPlace};
-ghost use Rattle.amf_tables.specs.Words3.{IsUnnamed};
-ghost use Rattle.amf_tables.specs.ByteSpelling as spell;
+ghost use Rattle.amf3_spelling.specs.Words3.{IsUnnamed};
+ghost use Rattle.amf3_spelling.specs.ByteSpelling as spell;
 ghost use Rattle.amf3_write.specs.Writes.{WritesStep, Keeps, IsReady};
 
 use crate::GraphTables;

@@ -4,10 +4,10 @@ ghost use Rattle.amf_graph.specs.Arena.{Arena, IsTextId, text_at};
 ghost use Rattle.amf_tables.specs.FirstPlace.{IsFirstPlace};
 ghost use Rattle.amf_tables.specs.ShownTraits.{AreTextIds, AreTraitsOf, shown_entry, texts_at};
 ghost use Rattle.amf_tables.specs.KnownWords.{entry_at};
-ghost use Rattle.amf_tables.specs.Tables.{with_words, external};
+ghost use Rattle.amf3_spelling.specs.Tables.{with_words, external};
 ghost use Rattle.amf_tables.specs.TextPlaces.{IsEntered};
-ghost use Rattle.amf_tables.specs.Words3.{IsUnnamed};
-ghost use Rattle.amf_tables.specs.ByteSpelling as spell;
+ghost use Rattle.amf3_spelling.specs.Words3.{IsUnnamed};
+ghost use Rattle.amf3_spelling.specs.ByteSpelling as spell;
 ghost use Rattle.amf3_write.specs.Writes.{WritesStep, WritesTexts, Keeps, IsReady};
 
 use crate::output::Output;

@@ -2,7 +2,7 @@ ghost use Rattle.std.specs.Prelude.{◌≡◌, ◌+◌, ◌*◌, ◌≤◌, ◌�
 ghost use Rattle.amf_graph.specs.Arena.{Arena};
 ghost use Rattle.amf_graph.specs.Rooted.{content};
 ghost use Rattle.amf_graph.specs.Views.{flat};
-ghost use Rattle.amf_tables.specs.ByteSpelling as spell;
+ghost use Rattle.amf3_spelling.specs.ByteSpelling as spell;
 ghost use Rattle.amf_iso.specs.Contents.{values_of, pairs_of, AreValues};
 ghost use Rattle.amf3_write.specs.Unwritten.{IsRunOf, AreRunsOf, AreStoredPairs, IsNextOf, run_parts, next_parts, parts_left, run_turns, turns_left};
 ghost use Rattle.amf3_write.specs.Writes.{Leads, Keeps, IsReady};

@@ -6,7 +6,7 @@ ghost use Rattle.amf_graph.specs.Graph as graph_of_values;
 ghost use Rattle.amf_graph.specs.Order.{Absent};
 ghost use Rattle.amf_graph.specs.Rooted.{content};
 ghost use Rattle.amf_wire.specs.Integer.{IsInteger};
-ghost use Rattle.amf_tables.specs.ByteSpelling as spell;
+ghost use Rattle.amf3_spelling.specs.ByteSpelling as spell;
 ghost use Rattle.amf3_write.specs.Unwritten.{AreRunsOf, parts_left, turns_left, Falls};
 ghost use Rattle.amf3_write.specs.Writes.{WritesSteps, WritesValue, Leads, Keeps, Stops, IsReady};
 

@@ -2,8 +2,8 @@ ghost use Rattle.std.specs.Prelude.{◌≡◌, OnOk, OnErr, IfOk};
 ghost use Rattle.std.specs.Result.{IsErrOf};
 ghost use Rattle.amf_graph.specs.declared.lack.Lack.{Lack};
 ghost use Rattle.amf_graph.specs.Rooted.{content};
-ghost use Rattle.amf_tables.specs.Lacks3.{IsLack3};
-ghost use Rattle.amf_tables.specs.Tables.{no_tables};
+ghost use Rattle.amf3_spelling.specs.Lacks3.{IsLack3};
+ghost use Rattle.amf3_spelling.specs.Tables.{no_tables};
 ghost use Rattle.amf3_write.specs.Written.{AppendsCanonical};
 
 use crate::{GraphTables, write3_part_of};

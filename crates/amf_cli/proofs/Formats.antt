@@ -6,11 +6,11 @@ use Rattle.amf_graph.specs.declared.lack.Lack.{Lack}
 use Rattle.amf_graph.specs.Graph.{Graph}
 use Rattle.amf_graph.specs.Isomorphic.{Isomorphic}
 use Rattle.amf_graph.proofs.Isomorphisms.{isomorphic_sym, isomorphic_trans}
-use Rattle.amf_tables.specs.Lacks3.{IsLack3}
-use Rattle.amf_tables.specs.Spells3.{Spelled3}
-use Rattle.amf_tables.proofs.Decides3.{canonical_decides, canonical_is_alone, same_bytes_isomorphic}
-use Rattle.amf_tables.proofs.Forget.{forget3}
-use Rattle.amf_tables.proofs.FirstLack3.{spelling_or_lack}
+use Rattle.amf3_spelling.specs.Lacks3.{IsLack3}
+use Rattle.amf3_spelling.specs.Spells3.{Spelled3}
+use Rattle.amf3_spelling.proofs.Decides3.{canonical_decides, canonical_is_alone, same_bytes_isomorphic}
+use Rattle.amf3_spelling.proofs.Forget.{forget3}
+use Rattle.amf3_spelling.proofs.FirstLack3.{spelling_or_lack}
 use Rattle.amf0_tables.proofs.Decides0.{alone0, canonical_decides0, same_bytes_isomorphic0}
 use Rattle.amf0_tables.proofs.Forget0.{forget_spelled0}
 use Rattle.amf0_tables.proofs.LackTwice0.{spelling_or_lack0}

@@ -18,11 +18,11 @@ use Rattle.amf_graph.specs.Graph.{Graph}
 use Rattle.amf_graph.specs.Arena.{Arena, graph_of, IsFinished}
 use Rattle.amf_graph.proofs.FinishedSmall.{completes_itself}
 use Rattle.amf_graph.specs.Building.{no_arena}
-use Rattle.amf_tables.specs.KeptTables.{KeptTables, no_kept_tables, tables_of}
-use Rattle.amf_tables.specs.Reads3.{Grows, IsRead3, IsReading3, IsValue3}
-use Rattle.amf_tables.proofs.Values3Layout.{no_arena_built, values3_is_layout}
-use Rattle.amf_tables.specs.Layout3State.{no_state}
-use Rattle.amf_tables.specs.Layout3.{value_layout}
+use Rattle.amf3_spelling.specs.KeptTables.{KeptTables, no_kept_tables, tables_of}
+use Rattle.amf3_spelling.specs.Reads3.{Grows, IsRead3, IsReading3, IsValue3}
+use Rattle.amf3_layout.proofs.Values3Layout.{no_arena_built, values3_is_layout}
+use Rattle.amf3_layout.specs.Layout3State.{no_state}
+use Rattle.amf3_layout.specs.Layout3.{value_layout}
 use Rattle.amf3_read.specs.Answer.{IsTaken, AnswersAs, AnswersOf}
 use Rattle.amf0_tables.specs.KeptTables0.{KeptTables0, no_kept_tables0, tables0_of}
 use Rattle.amf0_tables.specs.Reads0.{IsReading0}

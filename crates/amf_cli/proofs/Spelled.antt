@@ -15,17 +15,17 @@ use Rattle.amf_graph.specs.declared.lack.Lack.{Lack}
 use Rattle.amf_graph.specs.Graph.{Graph}
 use Rattle.amf_graph.specs.Isomorphic.{Isomorphic}
 use Rattle.amf_graph.proofs.Isomorphisms.{isomorphic_sym, isomorphic_trans}
-use Rattle.amf_tables.specs.Tables.{no_tables}
-use Rattle.amf_tables.specs.Lacks3.{IsLack3}
-use Rattle.amf_tables.specs.Reads3.{IsValue3}
-use Rattle.amf_tables.specs.Spells3.{IsSpelling3}
-use Rattle.amf_tables.specs.Layout3State.{no_state}
-use Rattle.amf_tables.specs.Layout3.{ValueRead, value_layout}
-use Rattle.amf_tables.proofs.Decides3.{same_bytes_isomorphic}
-use Rattle.amf_tables.proofs.FirstLack3.{nothing_lacks}
-use Rattle.amf_tables.proofs.Layout3Parts.{Found}
-use Rattle.amf_tables.proofs.Layout3Complete.{spelled_read}
-use Rattle.amf_tables.proofs.Values3Layout.{values3_is_layout}
+use Rattle.amf3_spelling.specs.Tables.{no_tables}
+use Rattle.amf3_spelling.specs.Lacks3.{IsLack3}
+use Rattle.amf3_spelling.specs.Reads3.{IsValue3}
+use Rattle.amf3_spelling.specs.Spells3.{IsSpelling3}
+use Rattle.amf3_layout.specs.Layout3State.{no_state}
+use Rattle.amf3_layout.specs.Layout3.{ValueRead, value_layout}
+use Rattle.amf3_spelling.proofs.Decides3.{same_bytes_isomorphic}
+use Rattle.amf3_spelling.proofs.FirstLack3.{nothing_lacks}
+use Rattle.amf3_layout.proofs.Layout3Parts.{Found}
+use Rattle.amf3_layout.proofs.Layout3Complete.{spelled_read}
+use Rattle.amf3_layout.proofs.Values3Layout.{values3_is_layout}
 use Rattle.amf_graph.specs.Building.{no_arena}
 use Rattle.amf0_tables.specs.KeptTables0.{no_kept_tables0}
 use Rattle.amf0_tables.specs.Layout0.{Read0, value0_layout}

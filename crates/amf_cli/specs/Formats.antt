@@ -4,9 +4,9 @@ use Rattle.amf_io.specs.Field.{Field}
 use Rattle.amf_wire.specs.Style.{Style, canonical}
 use Rattle.amf_graph.specs.declared.lack.Lack.{Lack}
 use Rattle.amf_graph.specs.Graph.{Graph}
-use Rattle.amf_tables.specs.Lacks3.{IsLack3}
-use Rattle.amf_tables.specs.Reads3.{IsValue3}
-use Rattle.amf_tables.specs.Spells3.{IsSpelling3, Spelled3}
+use Rattle.amf3_spelling.specs.Lacks3.{IsLack3}
+use Rattle.amf3_spelling.specs.Reads3.{IsValue3}
+use Rattle.amf3_spelling.specs.Spells3.{IsSpelling3, Spelled3}
 use Rattle.amf0_tables.specs.Lacks0.{IsLack0}
 use Rattle.amf0_tables.specs.Lowered.{IsLoweringOf}
 use Rattle.amf0_tables.specs.Reads0.{IsValue0}

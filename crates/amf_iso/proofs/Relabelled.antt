@@ -19,7 +19,7 @@ use Rattle.amf_graph.proofs.Lists.{at_left, at_end, entry, length_pushed, no_ent
 use Rattle.amf_graph.proofs.Matching.{Implies, values_more, nodes_more, by_name_match}
 use Rattle.amf_graph.proofs.PlaceOf.{place_there}
 use Rattle.amf_graph.proofs.Places.{SamePlace, Along, walk_along, from_places}
-use Rattle.amf_tables.specs.KeptTables.{below}
+use Rattle.amf3_spelling.specs.KeptTables.{below}
 use Rattle.amf_iso.proofs.MetValues.{shown}
 use Rattle.amf_iso.proofs.OrderParts.{order_is_part}
 

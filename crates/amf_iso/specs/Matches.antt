@@ -4,7 +4,7 @@ use Rattle.std.specs.List.{AllZip}
 use Rattle.amf_graph.specs.declared.value.Value.{Value as Stored}
 use Rattle.amf_graph.specs.Isomorphic.{ValuesMatch, PairsMatch}
 use Rattle.amf_graph.specs.Arena.{value_content}
-use Rattle.amf_tables.specs.LawsOrder.{SamePlace}
+use Rattle.amf3_spelling.specs.LawsOrder.{SamePlace}
 use Rattle.amf_iso.specs.declared.numbered.Numbered.{Numbered}
 use Rattle.amf_iso.specs.Contents.{values_of, named_pairs}
 use denote.Ref.{Bor}

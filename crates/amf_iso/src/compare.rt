@@ -3,7 +3,7 @@ ghost use Rattle.amf_graph.specs.Graph.{node_at};
 ghost use Rattle.amf_graph.specs.Isomorphic.{NodesMatch, Isomorphic};
 ghost use Rattle.amf_graph.specs.Order.{IsOrder};
 ghost use Rattle.amf_graph.specs.Rooted.{content};
-ghost use Rattle.amf_tables.specs.LawsOrder.{NumberedAlike};
+ghost use Rattle.amf3_spelling.specs.LawsOrder.{NumberedAlike};
 ghost use Rattle.amf_iso.specs.Matches.{SameNumber};
 
 use crate::Numbering;
@@ -12,7 +12,7 @@ use crate::matches::{all_match, all_pairs_match, values_match};
 use crate::numbered::Numbered;
 use crate::parts::{items_of, names_of};
 use amf_graph::{NodeId, Rooted};
-use amf_tables::order_decides;
+use amf3_spelling::order_decides;
 use amf_wire::Memory;
 use std::alloc::Global;
 

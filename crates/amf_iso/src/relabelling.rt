@@ -3,7 +3,7 @@ ghost use Rattle.amf_graph.specs.Isomorphic.{Isomorphic};
 ghost use Rattle.amf_graph.specs.Order.{IsOrder};
 ghost use Rattle.amf_graph.specs.Renumbered.{renumbered};
 ghost use Rattle.amf_graph.specs.Rooted.{content};
-ghost use Rattle.amf_tables.specs.KeptTables.{below};
+ghost use Rattle.amf3_spelling.specs.KeptTables.{below};
 
 use crate::Numbering;
 use amf_graph::Rooted;

@@ -4,8 +4,8 @@ use Rattle.std.specs.Prelude.{codes}
 use Rattle.std.specs.Fmt.{digits}
 use Rattle.amf_graph.specs.Graph.{date, leaf, text}
 use Rattle.amf_graph.specs.Order.{over, past, first}
-use Rattle.amf_tables.specs.WorkedRows3.{members, collection}
-use Rattle.amf_tables.proofs.Build.{absent_nil, absent_cons}
+use Rattle.amf3_spelling.specs.WorkedRows3.{members, collection}
+use Rattle.amf3_spelling.proofs.Build.{absent_nil, absent_cons}
 use Rattle.amf_show.specs.Shown.{hex_byte, shown_byte, shown_text, shown_double}
 use Rattle.amf_show.specs.Listing.{shown_number, shown_contents, shown_node, IsListing}
 use Rattle.amf_show.specs.WorkedListings.{line, second_node}

@@ -1,7 +1,7 @@
 -- Worked listings.
 use Rattle.std.specs.Prelude.{◌≡◌, true, false, [], ◌∷◌, ◌++◌, codes, List, ℕ, pos, negsuc}
 use Rattle.amf_graph.specs.Graph.{null, boolean, integer, double, text, leaf, node, Traits, xml_document, date, array, object, xml, bytes, ints, uints, doubles, values, dictionary, Head, Value, Graph}
-use Rattle.amf_tables.specs.WorkedRows3.{members, collection}
+use Rattle.amf3_spelling.specs.WorkedRows3.{members, collection}
 use Rattle.amf_show.specs.Shown.{shown_text, line_feed}
 use Rattle.amf_show.specs.Listing.{contents_of, IsListing}
 

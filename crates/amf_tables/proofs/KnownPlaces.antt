@@ -8,7 +8,7 @@ use Rattle.amf_graph.proofs.Lists.{at_push}
 use Rattle.amf_tables.specs.FirstPlace.{IsFirstPlace}
 use Rattle.amf_tables.specs.KnownPlaces.{AreKnown, Knows}
 use Rattle.amf_tables.specs.KnownWords.{Known, entry_at, AreKnownOf, nothing_known}
-use Rattle.amf_tables.specs.Tables.{Entry, Words, add_text, add_entry}
+use Rattle.amf3_spelling.specs.Tables.{Entry, Words, add_text, add_entry}
 use Rattle.amf_tables.specs.TextPlaces.{IsEntered}
 use Rattle.amf_tables.specs.declared.text_place.TextPlace.{TextPlace}
 use Rattle.amf_tables.specs.declared.text_place.TextPlace.TheVariants.{Old, New}

@@ -5,7 +5,7 @@ use Rattle.std.specs.Hash.DefaultHasher.{write, finish}
 use Rattle.std.specs.declared.hash.DefaultHasher.{DefaultHasher}
 use Rattle.amf_graph.specs.declared.wrapped.Wrapped.{Wrapped}
 use Rattle.amf_graph.specs.declared.wrapped.Wrapped.TheVariants.{ArrayCollection, ArrayList, ObjectProxy}
-use Rattle.amf_tables.specs.Tables.{Entry, plain, external}
+use Rattle.amf3_spelling.specs.Tables.{Entry, plain, external}
 
 abbrev pub text_hash : DefaultHasher → List ℕ → ℕ
 text_hash start x = finish (write start x)

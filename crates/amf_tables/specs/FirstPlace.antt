@@ -1,6 +1,6 @@
 -- Where something stands first in a table.
 use Rattle.std.specs.Prelude.{◌≡◌, ℕ, List, slice_get, Some}
-use Rattle.amf_tables.specs.Words3.{IsUnnamed}
+use Rattle.amf3_spelling.specs.Words3.{IsUnnamed}
 
 -- x stands at the place k, and at none before it
 abbrev pub IsFirstPlace : {X : Type 0} → List X → X → ℕ → Type 0

@@ -1,4 +1,4 @@
--- Places by id, as far as they are known. A device of proofs.
+-- Places by id, as far as they are known.
 use Rattle.std.specs.Prelude.{◌≡◌, ◌≢◌, ℕ, ◌⊎◌, List, slice_get, Some}
 use Rattle.amf_tables.specs.FirstPlace.{IsFirstPlace}
 use Rattle.amf_tables.specs.declared.known_places.TheConstants.{UNKNOWN}

@@ -2,7 +2,7 @@
 use Rattle.std.specs.Prelude.{ℕ, List, []}
 use Rattle.amf_graph.specs.Arena.{Arena, text_at, traits_at}
 use Rattle.amf_tables.specs.KnownPlaces.{AreKnown}
-use Rattle.amf_tables.specs.Tables.{Entry, plain, Words}
+use Rattle.amf3_spelling.specs.Tables.{Entry, plain, Words}
 
 pub record Known : Type 0 where
   pub texts : List ℕ

@@ -5,7 +5,7 @@ use Rattle.amf_graph.specs.declared.value.TextId.{TextId}
 use Rattle.amf_graph.specs.declared.views.TraitsView.{TraitsView}
 use Rattle.amf_graph.specs.Arena.{Arena, IsTextId, IsTraitsIn, text_at, traits_content}
 use Rattle.amf_graph.specs.Building.{stored_traits}
-use Rattle.amf_tables.specs.Tables.{Entry, plain}
+use Rattle.amf3_spelling.specs.Tables.{Entry, plain}
 use Rattle.amf_tables.specs.TableParts.{text_number}
 
 -- each of them is a text's

@@ -4,9 +4,9 @@ use Rattle.amf_graph.specs.declared.value.TextId.{TextId}
 use Rattle.amf_graph.specs.declared.value.NodeId.{NodeId}
 use Rattle.amf_graph.specs.declared.value.TraitsId.{TraitsId}
 use Rattle.amf_graph.specs.declared.wrapped.Wrapped.{Wrapped}
-use Rattle.amf_tables.specs.Tables.{Entry, Tables}
+use Rattle.amf3_spelling.specs.Tables.{Entry, Tables}
 use Rattle.amf_tables.specs.SpelledNodes.{Spelled}
-use Rattle.amf_tables.specs.KeptTables.{KeptEntry, plain, external, KeptTables}
+use Rattle.amf3_spelling.specs.KeptTables.{KeptEntry, plain, external, KeptTables}
 
 -- Ids as numbers.
 

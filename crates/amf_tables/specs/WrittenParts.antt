@@ -1,5 +1,5 @@
 -- What a writer's tables hold, by content. A device of proofs.
-use Rattle.amf_tables.specs.Tables.{Entry, plain, external}
+use Rattle.amf3_spelling.specs.Tables.{Entry, plain, external}
 use Rattle.amf_tables.specs.declared.written_entry.Content.{Content}
 use Rattle.amf_tables.specs.declared.written_entry.Content.TheVariants.{Plain, External}
 

@@ -2,7 +2,7 @@ ghost use Rattle.std.specs.Prelude.{◌≡◌};
 ghost use Rattle.std.specs.List.{fold};
 ghost use Rattle.amf_tables.specs.ContentHash.{text_hash, entry_hash, write_text};
 ghost use Rattle.amf_tables.specs.ShownTraits.{AreTextIds, AreTraitsOf, shown_entry, texts_at};
-ghost use Rattle.amf_tables.specs.Tables.{external};
+ghost use Rattle.amf3_spelling.specs.Tables.{external};
 
 use amf_graph::{Rooted, TextId, TraitsView, Wrapped};
 use std::hash::{DefaultHasher, Hasher};

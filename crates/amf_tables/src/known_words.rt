@@ -3,7 +3,7 @@ ghost use Rattle.amf_graph.specs.Arena.{IsTextId, text_at};
 ghost use Rattle.amf_graph.specs.Order.{Absent};
 ghost use Rattle.amf_tables.specs.FirstPlace.{IsFirstPlace};
 ghost use Rattle.amf_tables.specs.KnownWords.{nothing_known, entry_at, AreKnownOf};
-ghost use Rattle.amf_tables.specs.Tables.{with_words};
+ghost use Rattle.amf3_spelling.specs.Tables.{with_words};
 ghost use Rattle.amf_tables.specs.TextPlaces.{IsEntered};
 
 use crate::known_places::KnownPlaces;

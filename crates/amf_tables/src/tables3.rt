@@ -1,8 +1,8 @@
 ghost use Rattle.std.specs.Prelude.{◌≡◌, IfOk, OnOk, OnErr, map, slice_get};
 ghost use Rattle.std.specs.Option.{option_map, option_and_then};
 ghost use Rattle.amf_tables.specs.TableParts.{text_number, node_number, traits_number};
-ghost use Rattle.amf_tables.specs.KeptTables.{no_kept_tables, kept_text_place, kept_entry, kept_node_place};
-ghost use Rattle.amf_tables.specs.KeptTables.{plain, external, traits_place, external_class};
+ghost use Rattle.amf3_spelling.specs.KeptTables.{no_kept_tables, kept_text_place, kept_entry, kept_node_place};
+ghost use Rattle.amf3_spelling.specs.KeptTables.{plain, external, traits_place, external_class};
 
 use crate::traits_entry::TraitsEntry;
 use amf_graph::{NodeId, TextId, TraitsId, Wrapped};
@@ -20,7 +20,7 @@ pub struct Tables3 {
 }
 
 impl Model for Tables3 {
-    ghost use Rattle.amf_tables.specs.KeptTables.{KeptTables};
+    ghost use Rattle.amf3_spelling.specs.KeptTables.{KeptTables};
 
     ghost Value = { KeptTables };
 

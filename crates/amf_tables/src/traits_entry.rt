@@ -1,5 +1,5 @@
 ghost use Rattle.std.specs.Prelude.{◌≡◌, None, Some};
-ghost use Rattle.amf_tables.specs.KeptTables.{plain, external, external_class, traits_place};
+ghost use Rattle.amf3_spelling.specs.KeptTables.{plain, external, external_class, traits_place};
 
 use amf_graph::{TraitsId, Wrapped};
 use std::marker::Model;
@@ -12,7 +12,7 @@ pub(crate) struct TraitsEntry {
 }
 
 impl Model for TraitsEntry {
-    ghost use Rattle.amf_tables.specs.KeptTables.{KeptEntry};
+    ghost use Rattle.amf3_spelling.specs.KeptTables.{KeptEntry};
 
     ghost Value = { KeptEntry };
 

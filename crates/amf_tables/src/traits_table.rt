@@ -2,7 +2,7 @@ ghost use Rattle.std.specs.Prelude.{◌≡◌, ◌<◌, ◌≤◌, ◌++◌, ◌
 ghost use Rattle.amf_graph.specs.Order.{Absent};
 ghost use Rattle.amf_tables.specs.FirstPlace.{IsFirstPlace};
 ghost use Rattle.amf_tables.specs.ShownTraits.{AreTraitsOf, shown_entry};
-ghost use Rattle.amf_tables.specs.Tables.{external};
+ghost use Rattle.amf3_spelling.specs.Tables.{external};
 
 use crate::content_hash::{hash_of_class, hash_of_traits};
 use crate::first_places::{MAX_ENTRIES, enter, first_with};
@@ -27,7 +27,7 @@ impl Model for TraitsTable {
     ghost use Rattle.std.specs.Prelude.{◌≤◌, List, map, length};
     ghost use Rattle.amf_tables.specs.ContentHash.{entry_hash};
     ghost use Rattle.amf_tables.specs.HashedPlaces.{AreFirstPlaces};
-    ghost use Rattle.amf_tables.specs.Tables.{Entry};
+    ghost use Rattle.amf3_spelling.specs.Tables.{Entry};
     ghost use Rattle.amf_tables.specs.declared.first_places.TheConstants.{MAX_ENTRIES};
 
     ghost Value = { List Entry };

@@ -4,8 +4,8 @@ ghost use Rattle.amf_tables.specs.FirstPlace.{IsFirstPlace};
 ghost use Rattle.amf_tables.specs.SpelledAlone.{IsSpelledAlone};
 ghost use Rattle.amf_tables.specs.TextPlaces.{IsEntered};
 ghost use Rattle.amf_tables.specs.ShownTraits.{AreTraitsOf, shown_entry};
-ghost use Rattle.amf_tables.specs.Tables.{no_tables, with_words, external};
-ghost use Rattle.amf_tables.specs.Tables.{add_text, add_entry, add_node, add_done};
+ghost use Rattle.amf3_spelling.specs.Tables.{no_tables, with_words, external};
+ghost use Rattle.amf3_spelling.specs.Tables.{add_text, add_entry, add_node, add_done};
 
 use crate::node_table::MAX_NODES;
 use crate::spelled_nodes::SpelledNodes;
@@ -31,7 +31,7 @@ pub struct WriterTables {
 }
 
 impl Model for WriterTables {
-    ghost use Rattle.amf_tables.specs.Tables.{Tables};
+    ghost use Rattle.amf3_spelling.specs.Tables.{Tables};
 
     ghost Value = { Tables };
 

@@ -1,6 +1,6 @@
 ghost use Rattle.std.specs.Prelude.{◌≡◌, ◌↔◌, IfOk, IsTrue};
 ghost use Rattle.amf_tables.specs.ShownTraits.{AreTraitsOf, shown_entry};
-ghost use Rattle.amf_tables.specs.Tables.{external};
+ghost use Rattle.amf3_spelling.specs.Tables.{external};
 
 use crate::written_texts::{are_texts, copies_of, is_text};
 use amf_graph::{Rooted, TraitsView, Wrapped};
@@ -28,7 +28,7 @@ pub(crate) struct WrittenEntry {
 }
 
 impl Model for WrittenEntry {
-    ghost use Rattle.amf_tables.specs.Tables.{Entry};
+    ghost use Rattle.amf3_spelling.specs.Tables.{Entry};
 
     ghost Value = { Entry };
 

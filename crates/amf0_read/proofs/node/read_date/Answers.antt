@@ -2,7 +2,7 @@ use Rattle.std.proofs.Common.{refl, arith}
 use Rattle.amf_wire.specs.declared.pattern.Pattern.{Pattern}
 use Rattle.amf_graph.specs.declared.value.Value.TheVariants as value
 use Rattle.amf_graph.specs.Arena.{date}
-use Rattle.amf_tables.proofs.Reader3Tables.{grows_itself}
+use Rattle.amf3_layout.proofs.Reader3Tables.{grows_itself}
 use Rattle.amf0_tables.specs.TableParts0.{shown_tables}
 use Rattle.amf0_tables.specs.Layout0.{whole0}
 use Rattle.amf0_tables.specs.Layout0State.{state0_of}

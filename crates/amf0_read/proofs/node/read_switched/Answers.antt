@@ -1,7 +1,7 @@
 use Rattle.std.proofs.Common.{suc, arith}
 use Rattle.amf_graph.specs.declared.value.Value.{Value as Stored}
-use Rattle.amf_tables.specs.Layout3State.{state_of}
-use Rattle.amf_tables.specs.Layout3.{read, value_layout}
+use Rattle.amf3_layout.specs.Layout3State.{state_of}
+use Rattle.amf3_layout.specs.Layout3.{read, value_layout}
 use Rattle.amf_io.specs.Layout.{give}
 use Rattle.amf3_read.specs.Ready.{left_of}
 use Rattle.amf0_tables.specs.TableParts0.{shown_tables}

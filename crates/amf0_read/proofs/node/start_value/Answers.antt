@@ -7,9 +7,9 @@ use Rattle.amf_graph.specs.declared.value.NodeId.{NodeId}
 use Rattle.amf_graph.specs.declared.value.TextId.{TextId}
 use Rattle.amf_graph.specs.declared.value.Value.TheVariants as value
 use Rattle.amf_graph.specs.Arena.{text_at}
-use Rattle.amf_tables.specs.Layout3.{flag_layout, eight_layout}
-use Rattle.amf_tables.proofs.Layout3Contents.{all_place}
-use Rattle.amf_tables.proofs.Reader3Tables.{grows_itself}
+use Rattle.amf3_layout.specs.Layout3.{flag_layout, eight_layout}
+use Rattle.amf3_layout.proofs.Layout3Contents.{all_place}
+use Rattle.amf3_layout.proofs.Reader3Tables.{grows_itself}
 use Rattle.amf0_tables.specs.TableParts0.{shown_tables}
 use Rattle.amf0_tables.specs.Layout0.{TextRead0, new_text0, read0, short_layout, long_layout, with_members}
 use Rattle.amf0_tables.specs.Layout0State.{State0, state0_of}

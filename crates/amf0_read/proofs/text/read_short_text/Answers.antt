@@ -4,7 +4,7 @@ use Rattle.amf_io.specs.Field.{text_kind, u16_kind, no_refusal}
 use Rattle.amf_io.specs.Layout.{give}
 use Rattle.amf_io.specs.CursorReads.{Answers}
 use Rattle.amf_io.proofs.CursorReads.{field_reads, field_ended}
-use Rattle.amf_tables.specs.Layout3Words.{chunk}
+use Rattle.amf3_layout.specs.Layout3Words.{chunk}
 use Rattle.amf0_tables.specs.Layout0.{new_text0}
 use Rattle.amf0_tables.specs.Layout0State.{state0_of}
 use Rattle.amf3_read.proofs.LayoutBinds.{passed_on}

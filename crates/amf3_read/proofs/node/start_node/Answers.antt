@@ -1,10 +1,10 @@
 use Rattle.std.proofs.Common.{◌∙◌, ◌/◌, ◌<◌, length}
-use Rattle.amf_tables.proofs.Layout3Contents.{all_place}
-use Rattle.amf_tables.proofs.Reader3Tables.{grows_itself}
+use Rattle.amf3_layout.proofs.Layout3Contents.{all_place}
+use Rattle.amf3_layout.proofs.Reader3Tables.{grows_itself}
 use Rattle.amf_graph.specs.declared.value.Value.{Value as Stored}
 use Rattle.amf_graph.specs.declared.value.Value.TheVariants as value
-use Rattle.amf_tables.specs.Layout3State.{State3, state_of}
-use Rattle.amf_tables.specs.Layout3.{read, node_layout}
+use Rattle.amf3_layout.specs.Layout3State.{State3, state_of}
+use Rattle.amf3_layout.specs.Layout3.{read, node_layout}
 use Rattle.amf3_read.specs.Forms.{node_form}
 use Rattle.amf3_read.specs.Headers.{IsHeader}
 use Rattle.amf3_read.specs.declared.header.Header.TheVariants.{Known, Inline}

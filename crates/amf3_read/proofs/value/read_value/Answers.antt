@@ -1,11 +1,11 @@
 use Rattle.std.proofs.Common.{◌≡◌, List, ◌∷◌, reverse, sym, ap, ◌∙◌, subst, arith}
-use Rattle.amf_tables.specs.Layout3State.{state_of}
+use Rattle.amf3_layout.specs.Layout3State.{state_of}
 use Rattle.amf3_read.specs.declared.frame.Frame.{Frame}
 use Rattle.amf3_read.specs.declared.frame.Now.{Now}
 use Rattle.amf3_read.specs.declared.frame.Now.TheVariants as now
 use Rattle.amf3_read.specs.declared.frame.Slot.TheVariants as slot
 use Rattle.amf3_read.specs.Slots.{IsPart}
-use Rattle.amf_tables.specs.Layout3.{value_layout}
+use Rattle.amf3_layout.specs.Layout3.{value_layout}
 use Rattle.amf3_read.specs.Frames.{StackSo}
 use Rattle.amf3_read.proofs.LayoutBinds.{passed_on}
 use Rattle.amf3_read.proofs.Stack.{so_begin, so_end, so_value, so_open, go_end, go_wait, go_open, go_closed, so_done, so_key, so_put, popped, popped_none, pushed, key_of, done}

@@ -11,11 +11,11 @@ use Rattle.amf_io.proofs.CursorReads.{gives}
 use Rattle.amf_graph.specs.declared.value.TextId.{TextId}
 use Rattle.amf_graph.specs.declared.value.Value.{Value as Stored}
 use Rattle.amf_graph.specs.declared.value.Value.TheVariants as value
-use Rattle.amf_tables.specs.Layout3State.{State3, state_of}
-use Rattle.amf_tables.specs.Layout3Words.{TextRead, text_layout}
-use Rattle.amf_tables.specs.Layout3.{read, eight_layout, node_layout, ValueRead, value_layout}
-use Rattle.amf_tables.specs.Layout3 as layout
-use Rattle.amf_tables.proofs.Reader3Tables.{grows_itself}
+use Rattle.amf3_layout.specs.Layout3State.{State3, state_of}
+use Rattle.amf3_layout.specs.Layout3Words.{TextRead, text_layout}
+use Rattle.amf3_layout.specs.Layout3.{read, eight_layout, node_layout, ValueRead, value_layout}
+use Rattle.amf3_layout.specs.Layout3 as layout
+use Rattle.amf3_layout.proofs.Reader3Tables.{grows_itself}
 use Rattle.amf3_read.specs.declared.node.Start.TheVariants as start
 use Rattle.amf3_read.specs.Forms.{form, node_form}
 use Rattle.amf3_read.specs.Ready.{text_read}

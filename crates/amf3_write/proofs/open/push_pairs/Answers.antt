@@ -2,7 +2,7 @@ use Rattle.std.proofs.Common.{◌≡◌, ◌++◌, [], ap, sym, ◌∙◌, subst
 use Rattle.std.proofs.lemmas.List.{reverse-reverse, length-map}
 use Rattle.amf_graph.specs.Views.{named}
 use Rattle.amf_graph.proofs.NameOrder.{by_name_length}
-use Rattle.amf_tables.specs.ByteSpelling.{pairs_then}
+use Rattle.amf3_spelling.specs.ByteSpelling.{pairs_then}
 use Rattle.amf_iso.specs.Contents.{pairs_of}
 use Rattle.amf3_write.specs.declared.unwritten.Unwritten.TheVariants.{Pairs}
 use Rattle.amf3_write.specs.Unwritten.{parts_left, IsStoredPair, AreStoredPairs}

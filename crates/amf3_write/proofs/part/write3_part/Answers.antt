@@ -1,6 +1,6 @@
 use Rattle.std.proofs.Common.{◌≡◌, ◌<◌, length, sym, subst}
 use Rattle.std.specs.List.{AllByRecursion}
-use Rattle.amf_tables.specs.Tables.{Tables}
+use Rattle.amf3_spelling.specs.Tables.{Tables}
 use Rattle.amf_graph.specs.Arena.{value_content}
 use Rattle.amf_graph.specs.Rooted.{content}
 use Rattle.amf3_write.specs.PartLacks.{IsPartLack3}

@@ -1,6 +1,6 @@
 use Rattle.std.proofs.Common.{subst}
 use Rattle.amf_graph.specs.Arena.{text_at}
-use Rattle.amf_tables.specs.Tables.{Tables}
+use Rattle.amf3_spelling.specs.Tables.{Tables}
 use Rattle.amf3_write.specs.Written.{AppendsText}
 use Rattle.amf3_write.proofs.Wrote.{on_ok}
 use Rattle.amf3_write.proofs.part.write3_text.Goals as goal

@@ -1,6 +1,6 @@
 use Rattle.std.proofs.Common.{◌≡◌, length, arith, ap, ◌∙◌, subst}
 use Rattle.amf_graph.specs.Arena.{text_at}
-use Rattle.amf_tables.specs.ByteSpelling.{word}
+use Rattle.amf3_spelling.specs.ByteSpelling.{word}
 use Rattle.amf3_write.specs.Writes.{WritesStep}
 use Rattle.amf3_write.proofs.Whole.{taken_back, own_front, on_ok_then, on_err_then}
 use Rattle.amf3_write.proofs.PartWritten.{text_written}

@@ -1,7 +1,7 @@
 use Rattle.std.proofs.Common.{◌≡◌, ◌∷◌, [], length, arith, sym, ap, ◌∙◌, subst}
 use Rattle.amf_graph.specs.Arena.{node_content, value_content}
 use Rattle.amf_graph.specs.Rooted.{content}
-use Rattle.amf_tables.specs.Tables.{Tables}
+use Rattle.amf3_spelling.specs.Tables.{Tables}
 use Rattle.amf3_write.specs.Writes.{BeginsWith}
 use Rattle.amf3_write.proofs.Whole.{taken_back, own_front, stops_at, on_ok_then, on_err_then}
 use Rattle.amf3_write.proofs.PartWritten.{part_written}

@@ -1,6 +1,6 @@
 use Rattle.std.proofs.Common.{◌++◌, ◌∷◌, [], ap, sym, ◌∙◌, arith}
 use Rattle.amf_graph.specs.Arena.{value_content}
-use Rattle.amf_tables.specs.ByteSpelling.{value, values_then}
+use Rattle.amf3_spelling.specs.ByteSpelling.{value, values_then}
 use Rattle.amf_iso.specs.Contents.{values_of}
 use Rattle.amf3_write.specs.declared.unwritten.Unwritten.TheVariants.{Values}
 use Rattle.amf3_write.specs.Unwritten.{parts_left}

@@ -1,6 +1,6 @@
 use Rattle.amf_graph.specs.Isomorphic.{Isomorphic}
 use Rattle.amf_graph.specs.Rooted.{content}
-use Rattle.amf_tables.specs.LawsOrder.{NumberedAlike}
+use Rattle.amf3_spelling.specs.LawsOrder.{NumberedAlike}
 use Rattle.amf_iso.proofs.Orders.{decided}
 use Rattle.amf_iso.proofs.compare.isomorphic.Goals as goal
 

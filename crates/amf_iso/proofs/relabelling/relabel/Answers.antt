@@ -4,7 +4,7 @@ use Rattle.amf_graph.specs.Isomorphic.{Isomorphic}
 use Rattle.amf_graph.specs.Order.{IsOrder}
 use Rattle.amf_graph.specs.Rooted.{RootedArena, content}
 use Rattle.amf_graph.specs.Renumbered.{numbers_of, renumbered, IsPart}
-use Rattle.amf_tables.specs.KeptTables.{below}
+use Rattle.amf3_spelling.specs.KeptTables.{below}
 use Rattle.amf_iso.proofs.OrderParts.{order_is_part}
 use Rattle.amf_iso.proofs.Orders.{ok_implies}
 use Rattle.amf_iso.proofs.Relabelled.{relabelled_count, relabelled_order, relabelled_isomorphic}

@@ -3,7 +3,7 @@ use Rattle.std.proofs.lemmas.List.{length-map}
 use Rattle.amf_graph.specs.Arena.{value_content}
 use Rattle.amf_graph.specs.ByName.{by_name}
 use Rattle.amf_graph.specs.Rooted.{content}
-use Rattle.amf_tables.specs.ByteSpelling.{Part, step, number, values_then, pairs_then}
+use Rattle.amf3_spelling.specs.ByteSpelling.{Part, step, number, values_then, pairs_then}
 use Rattle.amf_iso.specs.Contents.{pairs_of, values_of}
 use Rattle.amf3_write.specs.declared.unwritten.Unwritten.TheVariants.{Values}
 use Rattle.amf3_write.specs.Unwritten.{parts_left}

@@ -4,7 +4,7 @@ use Rattle.amf_wire.specs.Integer.{IsInteger, integer_bits}
 use Rattle.amf_graph.specs.Arena.{Names, text_at, value_content}
 use Rattle.amf_graph.specs.Graph.{integer, double, text}
 use Rattle.amf_graph.specs.Rooted.{content}
-use Rattle.amf_tables.specs.ByteSpelling.{step, value, byte, number, word}
+use Rattle.amf3_spelling.specs.ByteSpelling.{step, value, byte, number, word}
 use Rattle.amf3_write.specs.Unwritten.{parts_left}
 use Rattle.amf3_write.specs.Writes.{Leads, WritesSteps}
 use Rattle.amf3_write.proofs.Leading.{leads_leaf}

@@ -1,5 +1,5 @@
 use Rattle.std.proofs.Common.{◌+◌, ◌*◌, length}
-use Rattle.amf_tables.specs.ByteSpelling.{number, raw}
+use Rattle.amf3_spelling.specs.ByteSpelling.{number, raw}
 use Rattle.amf3_write.proofs.WroteParts.{wrote_two}
 use Rattle.amf3_write.proofs.output.Output.counted.Goals as goal
 

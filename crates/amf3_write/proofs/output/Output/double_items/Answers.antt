@@ -1,7 +1,7 @@
 use Rattle.std.proofs.Common.{◌∙◌, ◌+◌, ◌<◌, length, take, get_or, arith, subst}
 use Rattle.std.specs.Int.{to_be_bytes, w64}
 use Rattle.amf_wire.specs.declared.pattern.Pattern.{Pattern}
-use Rattle.amf_tables.specs.ByteSpelling.{raw, eight_bytes}
+use Rattle.amf3_spelling.specs.ByteSpelling.{raw, eight_bytes}
 use Rattle.amf3_write.specs.Writes.{WritesStep}
 use Rattle.amf3_write.proofs.WroteParts.{wrote_more_raw, eight_more, bits}
 use Rattle.amf3_write.proofs.output.Output.double_items.Goals as goal

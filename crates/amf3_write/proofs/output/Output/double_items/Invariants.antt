@@ -1,5 +1,5 @@
 use Rattle.std.proofs.Common.{◌≡◌, take, map}
-use Rattle.amf_tables.specs.ByteSpelling.{raw, eight_bytes}
+use Rattle.amf3_spelling.specs.ByteSpelling.{raw, eight_bytes}
 use Rattle.amf3_write.specs.Writes.{WritesStep, Keeps}
 use Rattle.amf3_write.proofs.output.Output.double_items.Given as goal
 

@@ -1,7 +1,7 @@
 use Rattle.std.proofs.Common.{◌+◌, ◌<◌, length, take, get_or, arith, subst, ap, ◌∙◌, pos, ◌≡◌, FitsSigned, to_z}
 use Rattle.std.proofs.lemmas.Int.{to_z-of_z}
 use Rattle.std.specs.Int.{to_be_bytes, w32, cast_unsigned}
-use Rattle.amf_tables.specs.ByteSpelling.{raw, signed_bytes}
+use Rattle.amf3_spelling.specs.ByteSpelling.{raw, signed_bytes}
 use Rattle.amf3_write.specs.Writes.{WritesStep}
 use Rattle.amf3_write.proofs.Wrote.{each_there}
 use Rattle.amf3_write.proofs.WroteParts.{wrote_more_raw, signed_more}

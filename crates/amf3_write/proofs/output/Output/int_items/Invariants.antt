@@ -1,5 +1,5 @@
 use Rattle.std.proofs.Common.{◌≡◌, take}
-use Rattle.amf_tables.specs.ByteSpelling.{raw, signed_bytes}
+use Rattle.amf3_spelling.specs.ByteSpelling.{raw, signed_bytes}
 use Rattle.amf3_write.specs.Writes.{WritesStep, Keeps}
 use Rattle.amf3_write.proofs.output.Output.int_items.Given as goal
 

@@ -5,9 +5,9 @@ use Rattle.amf_graph.specs.Graph.{Node, node, node_at}
 use Rattle.amf_graph.specs.Rooted.{content}
 use Rattle.amf_graph.specs.declared.lack.LackKind.TheVariants.{EmptyName}
 use Rattle.amf_graph.specs.declared.write_end.WriteEnd.TheVariants.{NoSpelling}
-use Rattle.amf_tables.specs.Refusals3.{marker}
-use Rattle.amf_tables.specs.ByteSpelling.{value}
-use Rattle.amf_tables.specs.Tables.{Tables, with_words, add_node}
+use Rattle.amf3_spelling.specs.Refusals3.{marker}
+use Rattle.amf3_spelling.specs.ByteSpelling.{value}
+use Rattle.amf3_spelling.specs.Tables.{Tables, with_words, add_node}
 use Rattle.std.proofs.lemmas.List.{length-map}
 use Rattle.amf3_write.specs.declared.output.Output.{Output}
 use Rattle.amf3_write.specs.Contents.{node_parts}

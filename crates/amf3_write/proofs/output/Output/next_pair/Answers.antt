@@ -2,7 +2,7 @@ use Rattle.std.proofs.Common.{◌≡◌, ◌++◌, ◌∷◌, [], ap, sym, rever
 use Rattle.amf_graph.specs.Arena.{text_at, value_content}
 use Rattle.amf_graph.specs.Rooted.{content}
 use Rattle.amf_graph.proofs.Lists.{length_pushed}
-use Rattle.amf_tables.specs.ByteSpelling.{Part, step, value, word, pairs_then}
+use Rattle.amf3_spelling.specs.ByteSpelling.{Part, step, value, word, pairs_then}
 use Rattle.amf_iso.specs.Contents.{pairs_of}
 use Rattle.amf3_write.specs.declared.unwritten.Unwritten.TheVariants.{Pairs}
 use Rattle.amf3_write.specs.Unwritten.{IsStoredPair, parts_left}

@@ -2,7 +2,7 @@ use Rattle.std.proofs.Common.{refl, ap, sym, ◌∙◌}
 use Rattle.amf_graph.specs.Building.{stored_at}
 use Rattle.amf_graph.specs.Graph.{Node}
 use Rattle.amf_graph.specs.Rooted.{content}
-use Rattle.amf_tables.specs.Refusals3.{marker}
+use Rattle.amf3_spelling.specs.Refusals3.{marker}
 use Rattle.amf3_write.specs.Unwritten.{parts_left}
 use Rattle.amf3_write.proofs.Leading.{leads_placed}
 use Rattle.amf3_write.proofs.WroteNodes.{node_shown}

@@ -4,8 +4,8 @@ use Rattle.amf_graph.specs.Building.{stored_traits}
 use Rattle.amf_graph.specs.ByName.{by_name}
 use Rattle.amf_graph.specs.Graph.{object}
 use Rattle.amf_graph.specs.Rooted.{content}
-use Rattle.amf_tables.specs.Tables.{plain}
-use Rattle.amf_tables.specs.ByteSpelling.{Part, step, traits, values_then, pairs_then, layout}
+use Rattle.amf3_spelling.specs.Tables.{plain}
+use Rattle.amf3_spelling.specs.ByteSpelling.{Part, step, traits, values_then, pairs_then, layout}
 use Rattle.amf_iso.specs.Contents.{pairs_of, values_of}
 use Rattle.amf3_write.specs.declared.unwritten.Unwritten.TheVariants.{Values}
 use Rattle.amf3_write.specs.Unwritten.{parts_left, turns_left}

@@ -1,5 +1,5 @@
 use Rattle.std.proofs.Common.{◌≡◌, sym, ap, subst}
-use Rattle.amf_tables.specs.Tables.{Tables}
+use Rattle.amf3_spelling.specs.Tables.{Tables}
 use Rattle.amf3_write.proofs.output.Output.place_or_add_text.Goals as goal
 
 pub returns-clause-ready : goal.returns-clause-ready

@@ -1,5 +1,5 @@
 use Rattle.std.proofs.Common.{◌≡◌, refl, ap, sym, subst, ◌∙◌}
-use Rattle.amf_tables.specs.Tables.{Tables, with_words, add_text}
+use Rattle.amf3_spelling.specs.Tables.{Tables, with_words, add_text}
 use Rattle.amf3_write.proofs.Ready.{ready_with_text}
 use Rattle.amf3_write.proofs.Wrote.{wrote_text}
 use Rattle.amf3_write.proofs.output.Output.text_inline.Goals as goal

@@ -1,9 +1,9 @@
 use Rattle.std.proofs.Common.{◌≡◌, ◌≢◌, [], rules, refl, sym, ap, ◌∙◌, subst}
 use Rattle.amf_wire.specs.Text.{IsText}
 use Rattle.amf_graph.specs.Arena.{text_at}
-use Rattle.amf_tables.specs.ByteSpelling.{word}
+use Rattle.amf3_spelling.specs.ByteSpelling.{word}
 use Rattle.amf_tables.specs.FirstPlace.{IsFirstPlace}
-use Rattle.amf_tables.specs.Tables.{Tables}
+use Rattle.amf3_spelling.specs.Tables.{Tables}
 use Rattle.amf3_write.specs.Writes.{WritesStep}
 use Rattle.amf3_write.proofs.Ready.{old_tables, new_tables, wrote_new, writes_from}
 use Rattle.amf3_write.proofs.Wrote.{on_ok, each_there}

@@ -1,9 +1,9 @@
 use Rattle.std.proofs.Common.{◌≡◌, refl, sym, ap, subst}
 use Rattle.amf_graph.specs.Arena.{StoredTraits, traits_content}
-use Rattle.amf_tables.specs.ByteSpelling.{traits}
-use Rattle.amf_tables.specs.Tables.{Tables, plain}
+use Rattle.amf3_spelling.specs.ByteSpelling.{traits}
+use Rattle.amf3_spelling.specs.Tables.{Tables, plain}
 use Rattle.amf_tables.specs.ShownTraits.{shown_entry}
-use Rattle.amf_tables.specs.Words3.{IsUnnamed}
+use Rattle.amf3_spelling.specs.Words3.{IsUnnamed}
 use Rattle.amf3_write.specs.Writes.{WritesStep}
 use Rattle.amf3_write.proofs.Ready.{writes_from}
 use Rattle.amf3_write.proofs.Wrote.{on_ok, wrote_entry_place}

@@ -1,6 +1,6 @@
 use Rattle.std.proofs.Common.{◌∙◌, ◌+◌, ◌<◌, length, take, get_or, arith, subst}
 use Rattle.std.specs.Int.{to_be_bytes, w32}
-use Rattle.amf_tables.specs.ByteSpelling.{raw, four_bytes}
+use Rattle.amf3_spelling.specs.ByteSpelling.{raw, four_bytes}
 use Rattle.amf3_write.specs.Writes.{WritesStep}
 use Rattle.amf3_write.proofs.WroteParts.{wrote_more_raw, four_more}
 use Rattle.amf3_write.proofs.output.Output.uint_items.Goals as goal

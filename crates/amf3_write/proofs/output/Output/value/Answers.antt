@@ -2,7 +2,7 @@ use Rattle.std.proofs.Common.{◌≡◌, [], ◌∷◌, ◌++◌, length, sym, a
 use Rattle.std.proofs.lemmas.List.{append-nil, nil_from_length}
 use Rattle.amf_graph.specs.Arena.{value_content}
 use Rattle.amf_graph.specs.Rooted.{content}
-use Rattle.amf_tables.specs.ByteSpelling.{value}
+use Rattle.amf3_spelling.specs.ByteSpelling.{value}
 use Rattle.amf3_write.specs.Unwritten.{IsRunOf, IsNextOf, next_parts, parts_left}
 use Rattle.amf3_write.specs.Writes.{Leads}
 use Rattle.amf3_write.proofs.FoundSteps.{rest_of, top_of}

@@ -2,7 +2,7 @@ use Rattle.std.proofs.Common.{◌+◌, ◌*◌, [], ◌∷◌, length}
 use Rattle.amf_graph.specs.Arena.{value_content}
 use Rattle.amf_graph.specs.Rooted.{content}
 use Rattle.amf_graph.proofs.Counting.{missing}
-use Rattle.amf_tables.specs.ByteSpelling.{value}
+use Rattle.amf3_spelling.specs.ByteSpelling.{value}
 use Rattle.amf3_write.specs.Unwritten.{AreRunsOf, parts_left, turns_left}
 use Rattle.amf3_write.specs.Writes.{Leads, Keeps, IsReady}
 use Rattle.amf3_write.proofs.output.Output.value.Given as goal

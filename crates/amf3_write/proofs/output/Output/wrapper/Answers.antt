@@ -1,5 +1,5 @@
 use Rattle.std.proofs.Common.{refl}
-use Rattle.amf_tables.specs.Tables.{external}
+use Rattle.amf3_spelling.specs.Tables.{external}
 use Rattle.amf3_write.proofs.Wrote.{on_ok, wrote_entry_place}
 use Rattle.amf3_write.proofs.output.Output.wrapper.Goals as goal
 

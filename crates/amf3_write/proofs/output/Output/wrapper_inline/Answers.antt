@@ -1,9 +1,9 @@
 use Rattle.std.proofs.Common.{ℕ, ◌<◌, List, [], length, refl, sym, subst}
 use Rattle.amf_wire.specs.Text.{IsText}
 use Rattle.amf_graph.specs.Graph.{class_name}
-use Rattle.amf_tables.specs.Tables.{external}
-use Rattle.amf_tables.specs.ByteSpelling.{word}
-use Rattle.amf_tables.proofs.Steps3.{class_text, class_short}
+use Rattle.amf3_spelling.specs.Tables.{external}
+use Rattle.amf3_spelling.specs.ByteSpelling.{word}
+use Rattle.amf3_spelling.proofs.Steps3.{class_text, class_short}
 use Rattle.amf3_write.specs.Writes.{WritesStep}
 use Rattle.amf3_write.proofs.Ready.{ready_same, ready_with_entry}
 use Rattle.amf3_write.proofs.Wrote.{wrote_entry, wrote_no_text, wrote_first_text}

@@ -1,6 +1,6 @@
 use Rattle.std.proofs.Common.{refl, ap, sym, subst}
 use Rattle.amf_tables.specs.KnownWords.{AreKnownOf}
-use Rattle.amf_tables.specs.Tables.{Tables}
+use Rattle.amf3_spelling.specs.Tables.{Tables}
 use Rattle.amf_tables.proofs.KnownPlaces.{known_old, known_new}
 use Rattle.amf_tables.proofs.known_words.KnownWords.place_or_add_text.Goals as goal
 

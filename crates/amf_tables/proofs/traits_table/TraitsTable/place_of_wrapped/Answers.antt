@@ -1,7 +1,7 @@
 use Rattle.std.proofs.Common.{◌≡◌, ◌<◌, length, slice_get, map, Some, refl, sym, ap, ◌∙◌, subst}
 use Rattle.std.proofs.lemmas.Option.{slice_get_read}
 use Rattle.amf_tables.specs.ContentHash.{entry_hash}
-use Rattle.amf_tables.specs.Tables.{external}
+use Rattle.amf3_spelling.specs.Tables.{external}
 use Rattle.amf_tables.proofs.HashedPlaces.{absent_by_hash, first_by_hash, within_by_hash}
 use Rattle.amf_tables.proofs.traits_table.TraitsTable.place_of_wrapped.Goals as goal
 

@@ -1,6 +1,0 @@
--- A graph within bounds has a canonical spelling.
-use Rattle.amf_tables.proofs.Decides3.{canonical_exist}
-use Rattle.amf_tables.proofs.laws.canonical_exists.Goals as goal
-
-pub returns : goal.returns
-returns c = canonical_exist

@@ -1,6 +1,0 @@
--- No graph has two canonical spellings.
-use Rattle.amf_tables.proofs.Decides3.{canonical_is_alone}
-use Rattle.amf_tables.proofs.laws.canonical_is_alone.Goals as goal
-
-pub returns : goal.returns
-returns c = canonical_is_alone

@@ -1,6 +1,0 @@
--- More height spells the same.
-use Rattle.amf_tables.proofs.Heights.{more_height}
-use Rattle.amf_tables.proofs.laws.more_height_spells.Goals as goal
-
-pub returns : goal.returns
-returns c = more_height

@@ -1,6 +1,0 @@
--- What is spelled lacks nothing.
-use Rattle.amf_tables.proofs.FirstLack3.{nothing_lacks}
-use Rattle.amf_tables.proofs.laws.spelled_lacks_nothing.Goals as goal
-
-pub returns : goal.returns
-returns c = nothing_lacks
