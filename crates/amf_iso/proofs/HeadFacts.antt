@@ -1,7 +1,7 @@
 -- Heads of nodes, by content.
 use Rattle.std.proofs.Common.{◌≡◌, ℕ, ◌<◌, Bool, true, false, List, [], ◌∷◌, length, map, get_or, sym, refl, ap, ◌∙◌, subst}
 use Rattle.std.specs.List.{AllByRecursion}
-use Rattle.std.specs.Prelude.{IsTrue, ◌↔◌, ℤ, nat_eq}
+use Rattle.std.specs.Prelude.{ℤ, nat_eq}
 use Rattle.std.specs.Bool.{Decides}
 use Rattle.std.proofs.Math.Bool.{beq}
 use Rattle.std.specs.Cmp.Lexicographic.{told_text, pointwise}
@@ -14,7 +14,7 @@ use Rattle.amf_graph.specs.declared.value.TextId.{TextId}
 use Rattle.amf_graph.specs.declared.views.TraitsView.{TraitsView}
 use Rattle.amf_graph.specs.Arena.{Arena, StoredNode, graph_of, head_content, IsTextId, IsTraitsIn, IsFinished, traits_at, text_at, traits_content, no_traits}
 use Rattle.amf_graph.specs.Building.{stored_at}
-use Rattle.amf_graph.specs.Graph.{Traits, Head, Node, node_at}
+use Rattle.amf_graph.specs.Graph.{Head, Node, node_at}
 use Rattle.amf_graph.specs.Views.{ShowsTraits}
 use Rattle.amf_tables.specs.ShownTraits.{AreTextIds, texts_at}
 use Rattle.amf_iso.proofs.MetValues.{each_there, shown}
@@ -41,10 +41,6 @@ sealed_in a t v f l s = (subst (λ w. IsTraitsIn a w) s (each_there (IsTraitsIn 
 -- the traits that a view shows, by content
 pub traits_shown : (a : Arena) (t : ℕ) (v : TraitsView) → ShowsTraits (get_or a.traits t no_traits) v → traits_at a t ≡ record { class = text_at a v.class.0; dynamic = v.dynamic; sealed = texts_at a v.sealed.now }
 traits_shown a t v s = ap (traits_content a) s
-
-pub traits_same : (t u : Traits) (c d : List ℕ) (x y : Bool) (xs ys : List (List ℕ)) → t ≡ record { class = c; dynamic = x; sealed = xs } → u ≡ record { class = d; dynamic = y; sealed = ys } → c ≡ d → x ≡ y → (r : Bool) → IsTrue r ↔ (xs ≡ ys) → IsTrue r ↔ (t ≡ u)
-traits_same t u c d x y xs ys e f p q r h =
-    (λ k. let s : xs ≡ ys = h.0 k in e ∙ ap (λ (w : List ℕ). record { class = w; dynamic = x; sealed = xs }) p ∙ ap (λ (w : Bool). record { class = d; dynamic = w; sealed = xs }) q ∙ ap (λ (w : List (List ℕ)). record { class = d; dynamic = y; sealed = w }) s ∙ sym f, λ k. h.1 (ap (λ (w : Traits). w.sealed) (sym e ∙ k ∙ f)))
 
 pub head_shown : (a : Arena) (root : Stored) (i : ℕ) (n : StoredNode) → stored_at a i ≡ n → (node_at (graph_of a root) i).head ≡ head_content a n.head
 head_shown a root i n e = ap (λ (m : Node). m.head) (shown a root i n e)

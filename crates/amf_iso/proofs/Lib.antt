@@ -10,3 +10,5 @@ pub mod HeadFacts
 mod Orders
 mod OrderParts
 mod Relabelled
+pub mod PairsRemain
+pub mod Joins

@@ -1,6 +1,5 @@
 -- Pairs by id in the order of their names.
-use Rattle.std.proofs.Common.{◌≡◌, ℕ, ◌+◌, ◌<◌, Bool, List, [], ◌∷◌, ◌++◌, length, map, take, get_or, sym, refl, ap, ◌∙◌, subst, arith, add-one}
-use Rattle.std.specs.List.{AllByRecursion}
+use Rattle.std.proofs.Common.{◌≡◌, ℕ, ◌+◌, ◌<◌, Bool, List, [], ◌∷◌, ◌++◌, length, map, take, get_or, sym, refl, ap, ◌∙◌, subst, add-one}
 use Rattle.std.specs.List.Sorted.{IsSortedBy, IsStableBy}
 use Rattle.std.specs.Cmp.{IsStrictWeakOrder}
 use Rattle.std.proofs.Math.Seq.{take-suc}
@@ -10,10 +9,10 @@ use Rattle.amf_graph.specs.declared.value.Value.{Value as Stored}
 use Rattle.amf_graph.specs.declared.value.TextId.{TextId}
 use Rattle.amf_graph.specs.Graph as graph
 use Rattle.amf_graph.specs.Arena.{Arena, text_at, value_content}
-use Rattle.amf_graph.specs.ByName.{stable_sort, before, by_name}
+use Rattle.amf_graph.specs.ByName.{before, by_name}
 use Rattle.amf_graph.proofs.StableSort.{stable_sort_is, sort_all}
 use Rattle.amf_iso.specs.Contents.{pairs_of, ArePairs}
-use Rattle.amf_iso.specs.NamedIds.{NamedId, stored_pair, IsNamedId, AreNamedIds}
+use Rattle.amf_iso.specs.NamedIds.{NamedId, stored_pair, AreNamedIds}
 use Rattle.amf_iso.proofs.NamedPairs.{sort_map}
 
 -- one pair more of a front

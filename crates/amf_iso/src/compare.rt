@@ -4,16 +4,18 @@ ghost use Rattle.amf_graph.specs.Isomorphic.{NodesMatch, Isomorphic};
 ghost use Rattle.amf_graph.specs.Order.{IsOrder};
 ghost use Rattle.amf_graph.specs.Rooted.{content};
 ghost use Rattle.amf3_spelling.specs.LawsOrder.{NumberedAlike};
+ghost use Rattle.amf_iso.specs.Joined.{AreJoined};
 ghost use Rattle.amf_iso.specs.Matches.{SameNumber};
 
 use crate::Numbering;
+use crate::equal_texts::EqualTexts;
 use crate::heads::heads_match;
 use crate::matches::{all_match, all_pairs_match, values_match};
 use crate::numbered::Numbered;
 use crate::parts::{items_of, names_of};
 use amf_graph::{NodeId, Rooted};
-use amf3_spelling::order_decides;
 use amf_wire::Memory;
+use amf3_spelling::order_decides;
 use std::alloc::Global;
 
 /// Whether two nodes are alike: heads by content, and names and values place by place.
@@ -23,22 +25,25 @@ fn nodes_match(
     j: NodeId,
     left: &Numbered<'_>,
     right: &Numbered<'_>,
+    texts: &mut EqualTexts,
 ) -> Result<bool, Memory>
     requires left { i.0 < length left.now.graph.now.arena.nodes }
     requires right { j.0 < length right.now.graph.now.arena.nodes }
-    ensures { IfOk result (λ same. IsTrue same ↔ NodesMatch (SameNumber left.now right.now) (node_at (content left.now.graph.now) i.0) (node_at (content right.now.graph.now) j.0)) }
+    requires known { AreJoined left.now.graph.now.arena right.now.graph.now.arena texts.old }
+    ensures known { AreJoined left.now.graph.now.arena right.now.graph.now.arena texts.new }
+    ensures same { IfOk result (λ same. IsTrue same ↔ NodesMatch (SameNumber left.now right.now) (node_at (content left.now.graph.now) i.0) (node_at (content right.now.graph.now) j.0)) }
 {
-    if !heads_match(i, j, left.graph, right.graph) {
+    if !heads_match(i, j, left.graph, right.graph, texts) {
         return Ok(false);
     }
     let ps = names_of(alloc, i, left.graph)?;
     let qs = names_of(alloc, j, right.graph)?;
-    if !all_pairs_match(&ps, &qs, left, right) {
+    if !all_pairs_match(&ps, &qs, left, right, texts) {
         return Ok(false);
     }
     let vs = items_of(alloc, i, left.graph)?;
     let ws = items_of(alloc, j, right.graph)?;
-    Ok(all_match(&vs, &ws, left, right))
+    Ok(all_match(&vs, &ws, left, right, texts))
 }
 
 /// Whether two numbered graphs read alike, number by number.
@@ -49,16 +54,23 @@ fn numbered_alike(alloc: Global, left: &Numbered<'_>, right: &Numbered<'_>) -> R
 {
     left.graph.is_finished();
     right.graph.is_finished();
+    let mut texts = EqualTexts::new(alloc);
     if left.numbering.count() != right.numbering.count() {
         return Ok(false);
     }
-    if !values_match(left.graph.root(), right.graph.root(), left, right) {
+    if !values_match(
+        left.graph.root(),
+        right.graph.root(),
+        left,
+        right,
+        &mut texts,
+    ) {
         return Ok(false);
     }
     for number in 0..left.numbering.count() {
         let i = left.numbering.node_at(number);
         let j = right.numbering.node_at(number);
-        if !nodes_match(alloc, i, j, left, right)? {
+        if !nodes_match(alloc, i, j, left, right, &mut texts)? {
             return Ok(false);
         }
     }

@@ -2,22 +2,32 @@ ghost use Rattle.std.specs.Prelude.{◌≡◌, ◌<◌, ◌↔◌, length, IsTru
 ghost use Rattle.amf_graph.specs.Arena.{traits_at};
 ghost use Rattle.amf_graph.specs.Graph.{node_at};
 ghost use Rattle.amf_graph.specs.Rooted.{content};
+ghost use Rattle.amf_iso.specs.Joined.{AreJoined};
 ghost use Rattle.amf_tables.specs.ShownTraits.{AreTextIds, texts_at};
 
+use crate::equal_texts::EqualTexts;
 use amf_graph::{NodeId, NodeView, Rooted, TextId, TraitsId};
 
 /// Whether texts are the same, place by place.
 #[tactic(auto, using(crate::proofs::Remaining::compared))]
-fn texts_match(xs: &[TextId], ys: &[TextId], left: &Rooted, right: &Rooted) -> bool
+fn texts_match(
+    xs: &[TextId],
+    ys: &[TextId],
+    left: &Rooted,
+    right: &Rooted,
+    texts: &mut EqualTexts,
+) -> bool
     requires left { AreTextIds left.now.arena xs.now }
     requires right { AreTextIds right.now.arena ys.now }
-    ensures { IsTrue result ↔ texts_at left.now.arena xs.now ≡ texts_at right.now.arena ys.now }
+    requires known { AreJoined left.now.arena right.now.arena texts.old }
+    ensures known { AreJoined left.now.arena right.now.arena texts.new }
+    ensures same { IsTrue result ↔ texts_at left.now.arena xs.now ≡ texts_at right.now.arena ys.now }
 {
     if xs.len() != ys.len() {
         return false;
     }
     for (x, y) in xs.iter().zip(ys) {
-        if left.text(*x) != right.text(*y) {
+        if !texts.are_equal(*x, *y, left, right) {
             return false;
         }
     }
@@ -25,25 +35,45 @@ fn texts_match(xs: &[TextId], ys: &[TextId], left: &Rooted, right: &Rooted) -> b
 }
 
 /// Whether traits are the same by content: class, flag and sealed names.
-fn traits_match(t: TraitsId, u: TraitsId, left: &Rooted, right: &Rooted) -> bool
+fn traits_match(
+    t: TraitsId,
+    u: TraitsId,
+    left: &Rooted,
+    right: &Rooted,
+    texts: &mut EqualTexts,
+) -> bool
     requires left { t.0 < length left.now.arena.traits }
     requires right { u.0 < length right.now.arena.traits }
-    ensures { IsTrue result ↔ traits_at left.now.arena t.0 ≡ traits_at right.now.arena u.0 }
+    requires known { AreJoined left.now.arena right.now.arena texts.old }
+    ensures known { AreJoined left.now.arena right.now.arena texts.new }
+    ensures same { IsTrue result ↔ traits_at left.now.arena t.0 ≡ traits_at right.now.arena u.0 }
 {
     left.is_finished();
     right.is_finished();
     let t = left.traits(t);
     let u = right.traits(u);
-    left.text(t.class) == right.text(u.class)
-        && t.dynamic == u.dynamic
-        && texts_match(t.sealed, u.sealed, left, right)
+    if t.dynamic != u.dynamic {
+        return false;
+    }
+    if !texts.are_equal(t.class, u.class, left, right) {
+        return false;
+    }
+    texts_match(t.sealed, u.sealed, left, right, texts)
 }
 
 /// Whether what two nodes have beside their values is the same by content: kind, flags, traits, class, type name and contents.
-pub(crate) fn heads_match(i: NodeId, j: NodeId, left: &Rooted, right: &Rooted) -> bool
+pub(crate) fn heads_match(
+    i: NodeId,
+    j: NodeId,
+    left: &Rooted,
+    right: &Rooted,
+    texts: &mut EqualTexts,
+) -> bool
     requires left { i.0 < length left.now.arena.nodes }
     requires right { j.0 < length right.now.arena.nodes }
-    ensures { IsTrue result ↔ (node_at (content left.now) i.0).head ≡ (node_at (content right.now) j.0).head }
+    requires known { AreJoined left.now.arena right.now.arena texts.old }
+    ensures known { AreJoined left.now.arena right.now.arena texts.new }
+    ensures same { IsTrue result ↔ (node_at (content left.now) i.0).head ≡ (node_at (content right.now) j.0).head }
 {
     left.is_finished();
     right.is_finished();
@@ -84,7 +114,7 @@ pub(crate) fn heads_match(i: NodeId, j: NodeId, left: &Rooted, right: &Rooted) -
         ) => x == y && ns == ms,
         (NodeView::Array { .. }, NodeView::Array { .. }) => true,
         (NodeView::Object { traits: t, .. }, NodeView::Object { traits: u, .. }) => {
-            traits_match(t, u, left, right)
+            traits_match(t, u, left, right, texts)
         }
         (NodeView::Wrapper { class: c, .. }, NodeView::Wrapper { class: d, .. }) => c == d,
         (
@@ -98,7 +128,7 @@ pub(crate) fn heads_match(i: NodeId, j: NodeId, left: &Rooted, right: &Rooted) -
                 of: u,
                 ..
             },
-        ) => x == y && left.text(t) == right.text(u),
+        ) => x == y && texts.are_equal(t, u, left, right),
         (NodeView::Dictionary { weak: x, .. }, NodeView::Dictionary { weak: y, .. }) => x == y,
         _ => false,
     }

@@ -4,6 +4,7 @@
 #![tactic(auto)]
 
 mod compare;
+mod equal_texts;
 #[cfg(test)]
 mod graph_tests;
 mod heads;

@@ -2,28 +2,28 @@ ghost use Rattle.std.specs.Prelude.{◌≡◌, ◌<◌, length, IfOk};
 ghost use Rattle.amf_graph.specs.ByName.{by_name};
 ghost use Rattle.amf_graph.specs.Graph.{node_at};
 ghost use Rattle.amf_graph.specs.Rooted.{content};
-ghost use Rattle.amf_iso.specs.Contents.{values_of, AreValues, named_pairs, AreNamedPairs};
+ghost use Rattle.amf_iso.specs.Contents.{values_of, AreValues, pairs_of, ArePairs};
 
 use crate::met::push_entries;
-use crate::pairs::by_name;
-use amf_graph::{NodeId, NodeView, Rooted, Value};
+use crate::pairs::ids_by_name;
+use amf_graph::{NodeId, NodeView, Rooted, TextId, Value};
 use amf_wire::Memory;
 use std::alloc::Global;
 
 /// The named pairs of a node, in by-name order.
-pub(crate) fn names_of<'g>(
+pub(crate) fn names_of(
     alloc: Global,
     node: NodeId,
-    graph: &'g Rooted,
-) -> Result<Vec<(&'g [u8], Value)>, Memory>
+    graph: &Rooted,
+) -> Result<Vec<(TextId, Value)>, Memory>
     requires { node.0 < length graph.now.arena.nodes }
-    ensures content { IfOk result (λ ps. named_pairs graph.now.arena ps.items ≡ by_name (node_at (content graph.now) node.0).names) }
-    ensures names { IfOk result (λ ps. AreNamedPairs graph.now.arena ps.items) }
+    ensures content { IfOk result (λ ps. pairs_of graph.now.arena ps.items ≡ by_name (node_at (content graph.now) node.0).names) }
+    ensures names { IfOk result (λ ps. ArePairs graph.now.arena ps.items) }
 {
     graph.is_finished();
     match graph.node(node) {
-        NodeView::Array { names, .. } => by_name(alloc, names, graph),
-        NodeView::Object { members, .. } => by_name(alloc, members, graph),
+        NodeView::Array { names, .. } => ids_by_name(alloc, names, graph),
+        NodeView::Object { members, .. } => ids_by_name(alloc, members, graph),
         _ => Ok(Vec::new(alloc)),
     }
 }

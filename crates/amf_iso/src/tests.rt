@@ -2,7 +2,7 @@ ghost use Rattle.std.specs.Prelude.{◌≡◌, length, IfOk, OnOk};
 ghost use Rattle.amf_graph.specs.Arena.{Names};
 ghost use Rattle.amf_graph.specs.Building.{kept_text};
 
-use crate::{Numbering, by_name, isomorphic, relabel, values_met};
+use crate::{Numbering, by_name, ids_by_name, isomorphic, relabel, values_met};
 use amf_graph::{Builder, NodeId, Part, Rooted, Shape, TextId, Value};
 use amf_wire::is_amf_text;
 use std::alloc::Global;
@@ -169,6 +169,11 @@ fn sorts_pairs_by_name(rt: HostRuntime) -> Result<(), Fail> {
     assert_eq!(rt;
         sorted.as_slice(),
         [(b"a".as_slice(), Value::Null), (b"b", Value::Null)].as_slice()
+    );
+    let ids = ids_by_name(rt.alloc(), &[(b, Value::Null), (a, Value::Null)], &graph)?;
+    assert_eq!(rt;
+        ids.as_slice(),
+        [(a, Value::Null), (b, Value::Null)].as_slice()
     );
     Ok(())
 }

@@ -14,11 +14,14 @@ pub returns : goal.returns
 returns c =
     let l = c.args.left.now in
     let r = c.args.right.now in
-    let root = c.values_match.ensures.0 c.if-not-values_match.false in (
+    let root = c.values_match.ensures.same.0 c.if-not-values_match.false in (
       λ t. record {
         size = omega (arith, c.if-count.false, c.count.ensures, c.count-2.ensures);
         root = subst (λ v. StoredMatch l r v r.graph.now.root) c.root.ensures (subst (λ w. StoredMatch l r c.root.result w) c.root-2.ensures root);
-        nodes = λ k i j e f. let within = slice_get_within l.numbering.now k i e in c.loop-number.invariant k i j (omega (arith, within, c.count-number-end.ensures, c.loop-number-test.false)) e f;
+        nodes = λ k i j e f. let within = slice_get_within l.numbering.now k i e in c.loop-number.invariant.alike k i j (omega (arith, within, c.count-number-end.ensures, c.loop-number-test.false)) e f;
       },
       λ n. refl,
     )
+
+pub values_match-requires-clause-known : goal.values_match-requires-clause-known
+values_match-requires-clause-known c = c.new-texts.ensures c.args.left.now.graph.now.arena c.args.right.now.graph.now.arena

@@ -8,5 +8,8 @@ pub loop-v-init : goal.loop-v-init
 loop-v-init c =
     let l = c.args.left.now in
     let r = c.args.right.now in
-    rw (c.into_iter-v-iterator.ensures.into_iter_gives, c.zip-v-items.ensures.first, c.iter.ensures.rest, c.zip-v-items.ensures.second.0)
-    (remains_zip (Names l.graph.now.arena) (Names r.graph.now.arena) (ValuesMatch (SameNumber l r)) (value_content l.graph.now.arena) (value_content r.graph.now.arena) c.args.vs.now c.args.ws.now c.if-vs-ws.false c.requires.left c.requires.right)
+    record {
+      known = c.requires.known;
+      remains = rw (c.into_iter-v-iterator.ensures.into_iter_gives, c.zip-v-items.ensures.first, c.iter.ensures.rest, c.zip-v-items.ensures.second.0)
+          (remains_zip (Names l.graph.now.arena) (Names r.graph.now.arena) (ValuesMatch (SameNumber l r)) (value_content l.graph.now.arena) (value_content r.graph.now.arena) c.args.vs.now c.args.ws.now c.if-vs-ws.false c.requires.left c.requires.right);
+    }

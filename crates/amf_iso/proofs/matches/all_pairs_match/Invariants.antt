@@ -1,8 +1,10 @@
-use Rattle.amf_graph.specs.Isomorphic.{PairsMatch}
-use Rattle.amf_iso.specs.Contents.{pair_content, IsNamedPair}
-use Rattle.amf_iso.specs.Matches.{SameNumber, AllPairsMatch}
+use Rattle.amf_iso.specs.Joined.{AreJoined}
+use Rattle.amf_iso.specs.Matches.{IsPair, PairMatches, AllPairsMatch}
 use Rattle.amf_iso.proofs.Remaining.{Remains}
 use Rattle.amf_iso.proofs.matches.all_pairs_match.Given as goal
 
 abbrev pub invariant-loop-p : goal.invariant-loop-p
-invariant-loop-p l = Remains (IsNamedPair l.left.graph.now.arena) (IsNamedPair l.right.graph.now.arena) (λ p q. PairsMatch (SameNumber l.left l.right) (pair_content l.left.graph.now.arena p) (pair_content l.right.graph.now.arena q)) (AllPairsMatch l.left l.right l.ps l.qs) l.p-iterator.a.rest.now l.p-iterator.b.rest.now
+invariant-loop-p l = record {
+  known : AreJoined l.left.graph.now.arena l.right.graph.now.arena l.texts;
+  remains : Remains (IsPair l.left.graph.now.arena) (IsPair l.right.graph.now.arena) (PairMatches l.left l.right) (AllPairsMatch l.left l.right l.ps l.qs) l.p-iterator.a.rest.now l.p-iterator.b.rest.now;
+}
