@@ -18,7 +18,7 @@ use Rattle.flex_msgs.specs.declared.reply.Reply.{Reply}
 use Rattle.flex_msgs.specs.Built.{Adds}
 use Rattle.flex_msgs.specs.Messages.{acknowledge_nodes, client_value}
 use Rattle.flex_msgs.specs.Answers.{rooted_behind}
-use Rattle.flex_msgs.specs.FlexLaws.{AreBefore, AcknowledgeLaw}
+use Rattle.flex_msgs.specs.FlexLaws.{AreBefore, IsAt, AcknowledgeLaw}
 
 -- Pairs of numbers from two on, so many.
 
@@ -114,28 +114,38 @@ module _ (g h : Graph) (vs ws : List Value) (s : SameFrom g h vs ws) (start : �
   new_node : (k : ℕ) → node_at (whole 0) (length g.nodes + k) ≡ get_or more k no_node
   new_node k = get_or-append-add g.nodes more k no_node
 
-  pub behind_alike : AllZip (NodesMatch Q) more others → (last : ℕ) → last < length more → (root : Value) → root ≡ node (start + last) → Isomorphic (whole last) (record { nodes = h.nodes; root = root })
-  behind_alike m last some root at = record {
-    pairs = all_pairs;
-    left = λ i j k p q. left_of i j k (split i j p) (split i k q);
-    right = λ i j k p q. right_of i j k (split i k p) (split j k q);
+  pub behind_at : (from : ℕ) → ((i j : ℕ) → Old i j → from ≤ j) → from ≤ start → AllZip (NodesMatch Q) more others → (last : ℕ) → last < length more → (root : Value) → root ≡ node (start + last) → IsAt (whole last) (record { nodes = h.nodes; root = root }) from (start + length others)
+  behind_at from low least m last some root at = record {
+    order = omega (arith, least);
+    same = record {
+      pairs = all_pairs;
+      left = λ i j k p q. left_of i j k (split i j p) (split i k q);
+      right = λ i j k p q. right_of i j k (split i k p) (split j k q);
+      within = λ i j p. elim (split i j p) [
+        | inl q ↦ let w = s.within i j q in (omega (arith, w.0, length-append g.nodes more), w.1)
+        | inr q ↦ (omega (arith, q.1, q.2, length-append g.nodes more), omega (arith, q.1, q.3, size, room))
+      ];
+      root = subst (λ v. ValuesMatch Q (node (length g.nodes + last)) v) (sym at) (new_pair last some);
+      nodes = λ i j p. elim (split i j p) [
+        | inl q ↦ subst (λ a. NodesMatch Q a (node_at h j)) (sym (old_node i (s.within i j q).0)) (nodes_more Old Q kept (node_at g i) (node_at h j) (s.nodes i j q))
+        | inr q ↦
+            subst (λ n. NodesMatch Q (node_at (whole 0) n) (node_at h j)) (sym q.2)
+            (subst (λ a. NodesMatch Q a (node_at h j)) (sym (new_node q.0))
+            (subst (λ n. NodesMatch Q (get_or more q.0 no_node) (node_at h n)) (sym q.3)
+            (subst (λ b. NodesMatch Q (get_or more q.0 no_node) b) (sym (shown q.0 (omega (arith, q.1, size)))) (zip_at (NodesMatch Q) more others q.0 no_node m q.1))))
+      ];
+    };
     within = λ i j p. elim (split i j p) [
-      | inl q ↦ let w = s.within i j q in (omega (arith, w.0, length-append g.nodes more), w.1)
-      | inr q ↦ (omega (arith, q.1, q.2, length-append g.nodes more), omega (arith, q.1, q.3, size, room))
-    ];
-    root = subst (λ v. ValuesMatch Q (node (length g.nodes + last)) v) (sym at) (new_pair last some);
-    nodes = λ i j p. elim (split i j p) [
-      | inl q ↦ subst (λ a. NodesMatch Q a (node_at h j)) (sym (old_node i (s.within i j q).0)) (nodes_more Old Q kept (node_at g i) (node_at h j) (s.nodes i j q))
-      | inr q ↦
-          subst (λ n. NodesMatch Q (node_at (whole 0) n) (node_at h j)) (sym q.2)
-          (subst (λ a. NodesMatch Q a (node_at h j)) (sym (new_node q.0))
-          (subst (λ n. NodesMatch Q (get_or more q.0 no_node) (node_at h n)) (sym q.3)
-          (subst (λ b. NodesMatch Q (get_or more q.0 no_node) b) (sym (shown q.0 (omega (arith, q.1, size)))) (zip_at (NodesMatch Q) more others q.0 no_node m q.1))))
+      | inl q ↦ (low i j q, omega (arith, before i j q))
+      | inr q ↦ (omega (arith, q.3, least), omega (arith, q.1, q.3, size))
     ];
   }
     where
       size : length more ≡ length others
       size = zip_length (NodesMatch Q) more others m
+
+  pub behind_alike : AllZip (NodesMatch Q) more others → (last : ℕ) → last < length more → (root : Value) → root ≡ node (start + last) → Isomorphic (whole last) (record { nodes = h.nodes; root = root })
+  behind_alike m last some root at = (behind_at 0 (λ i j q. omega arith) (omega arith) m last some root at).same
 
 -- What a call added stands in each graph that completes the builder.
 
@@ -167,11 +177,11 @@ module _ (old new h : Arena) (u : Stored) (written : Arena → List Node) (a : A
       go zero e l = absurd (omega arith)
       go (suc c) e l = let o = (one c (omega (arith, e, count))).0 in omega (arith, o, length-map h.nodes (node_content h))
 
-client_same : (P : ℕ → ℕ → Type 0) (x : List ℕ) → ValuesMatch P (client_value x) (client_value x)
+pub client_same : (P : ℕ → ℕ → Type 0) (x : List ℕ) → ValuesMatch P (client_value x) (client_value x)
 client_same P [] = refl
 client_same P (b ∷ x) = refl
 
-acknowledge_match : (P : ℕ → ℕ → Type 0) (r : Reply) (v w : Value) (m n : ℕ) → ValuesMatch P v w → P m n → AllZip (NodesMatch P) (acknowledge_nodes r v m) (acknowledge_nodes r w n)
+pub acknowledge_match : (P : ℕ → ℕ → Type 0) (r : Reply) (v w : Value) (m n : ℕ) → ValuesMatch P v w → P m n → AllZip (NodesMatch P) (acknowledge_nodes r v m) (acknowledge_nodes r w n)
 acknowledge_match P r v w m n b hd = (
   record { head = refl; names = ((refl, refl), tt); values = tt },
   (record { head = refl; names = tt; values = (b, (client_same P r.client, (refl, (hd, (refl, (refl, (refl, (refl, tt)))))))) }, tt),

@@ -3,8 +3,8 @@ use Rattle.std.proofs.Common.{◌≡◌, ℕ, ◌+◌, ◌-◌, ◌<◌, false, 
 use Rattle.std.specs.List.{AllByRecursion}
 use Rattle.std.proofs.lemmas.List.{length-map}
 use Rattle.amf_graph.specs.declared.value.Value.{Value as Stored}
-use Rattle.amf_graph.specs.Graph.{Head, Traits, object, Node, Value, Fits}
-use Rattle.amf_graph.specs.Arena.{Arena, StoredNode, IsNodeIn, Names, object as object_at, head_content, node_content, traits_at, value_content}
+use Rattle.amf_graph.specs.Graph.{Head, Traits, object, Fits}
+use Rattle.amf_graph.specs.Arena.{Arena, IsNodeIn, Names, head_content, node_content, value_content}
 use Rattle.amf_graph.specs.Building.{stored_at}
 use Rattle.amf_graph.proofs.Lists.{cons_same}
 use Rattle.flex_msgs.specs.Built.{IsStoredAt}

@@ -31,16 +31,16 @@ at_moved n [] k l j e = cc
 at_moved n (p ∷ ps) zero l j e = let q = same_Some p (l, j) e in ap (λ (w : ℕ × ℕ). Some (n + w.0, w.1)) q
 at_moved n (p ∷ ps) (suc k) l j e = at_moved n ps k l j e
 
-at_right : {X : Type 0} (xs ys : List X) (k : ℕ) (y : X) → slice_get ys k ≡ Some y → (m : ℕ) × (slice_get (xs ++ ys) m ≡ Some y)
+pub at_right : {X : Type 0} (xs ys : List X) (k : ℕ) (y : X) → slice_get ys k ≡ Some y → (m : ℕ) × (slice_get (xs ++ ys) m ≡ Some y)
 at_right [] ys k y e = (k, e)
 at_right (x ∷ xs) ys k y e = let r = at_right xs ys k y e in (suc r.0, r.1)
 
-at_either : {X : Type 0} (xs ys : List X) (k : ℕ) (y : X) → slice_get (xs ++ ys) k ≡ Some y → (slice_get xs k ≡ Some y) ⊎ ((m : ℕ) × (slice_get ys m ≡ Some y))
+pub at_either : {X : Type 0} (xs ys : List X) (k : ℕ) (y : X) → slice_get (xs ++ ys) k ≡ Some y → (slice_get xs k ≡ Some y) ⊎ ((m : ℕ) × (slice_get ys m ≡ Some y))
 at_either [] ys k y e = inr (k, e)
 at_either (x ∷ xs) ys zero y e = inl e
 at_either (x ∷ xs) ys (suc k) y e = at_either xs ys k y e
 
-zip_append : {A : Type 0} (R : A → A → Type 0) (xs ys us ws : List A) → AllZip R xs ys → AllZip R us ws → AllZip R (xs ++ us) (ys ++ ws)
+pub zip_append : {A : Type 0} (R : A → A → Type 0) (xs ys us ws : List A) → AllZip R xs ys → AllZip R us ws → AllZip R (xs ++ us) (ys ++ ws)
 zip_append R [] [] us ws m n = n
 zip_append R [] (y ∷ ys) us ws m n = elim m [ ]
 zip_append R (x ∷ xs) [] us ws m n = elim m [ ]
@@ -66,7 +66,7 @@ module _ (n : ℕ) where
       go true e = ap (λ w. shifted_pair q ∷ w) e
       go false e = refl
 
-  sorted_shifted : (ps : List (List ℕ × Value)) → by_name (map shifted_pair ps) ≡ map shifted_pair (by_name ps)
+  pub sorted_shifted : (ps : List (List ℕ × Value)) → by_name (map shifted_pair ps) ≡ map shifted_pair (by_name ps)
   sorted_shifted [] = refl
   sorted_shifted (p ∷ ps) = ap (insert_stable before (shifted_pair p)) (sorted_shifted ps) ∙ insert_shifted p (by_name ps)
 
@@ -131,21 +131,30 @@ module _ (g k h : Graph) (vs ws us xs : List Value) (s : SameFrom g h vs ws) (t 
   at_new : (l : ℕ) → node_at (joined g k) (n + l) ≡ shifted_node n (node_at k l)
   at_new l = get_or-append-add g.nodes (shifted_nodes n k.nodes) l no_node ∙ listn.get_or-map (shifted_node n) k.nodes l no_node
 
+  pub joined_where : (R : ℕ → Type 0) → ((i j : ℕ) → StandIn s.pairs i j → R j) → ((i j : ℕ) → StandIn t.pairs i j → R j) → (all : SameFrom (joined g k) h (vs ++ map (shifted_value n) us) (ws ++ xs)) × ((i j : ℕ) → StandIn all.pairs i j → R j)
+  joined_where R first second = (
+    record {
+      pairs = all_pairs;
+      left = λ i j m p q. left_of i j m (split i j p) (split i m q);
+      right = λ i j m p q. right_of i j m (split i m p) (split j m q);
+      within = λ i j p. elim (split i j p) [
+        | inl q ↦ let w = s.within i j q in (omega (arith, w.0, count), w.1)
+        | inr q ↦ let w = t.within q.0 j q.1 in (omega (arith, w.0, q.2, count), w.1)
+      ];
+      roots = zip_append (ValuesMatch Q) vs ws (map (shifted_value n) us) xs (zip_more (ValuesMatch (StandIn s.pairs)) (ValuesMatch Q) (values_more (StandIn s.pairs) Q kept) vs ws s.roots) (zip_mapped (ValuesMatch (StandIn t.pairs)) (ValuesMatch Q) (shifted_value n) value_shifted us xs t.roots);
+      nodes = λ i j p. elim (split i j p) [
+        | inl q ↦ subst (λ a. NodesMatch Q a (node_at h j)) (sym (at_old i (s.within i j q).0)) (nodes_more (StandIn s.pairs) Q kept (node_at g i) (node_at h j) (s.nodes i j q))
+        | inr q ↦ subst (λ m. NodesMatch Q (node_at (joined g k) m) (node_at h j)) (sym q.2) (subst (λ a. NodesMatch Q a (node_at h j)) (sym (at_new q.0)) (node_shifted (node_at k q.0) (node_at h j) (t.nodes q.0 j q.1)))
+      ];
+    },
+    λ i j p. elim (split i j p) [
+      | inl q ↦ first i j q
+      | inr q ↦ second q.0 j q.1
+    ],
+  )
+
   pub same_joined : SameFrom (joined g k) h (vs ++ map (shifted_value n) us) (ws ++ xs)
-  same_joined = record {
-    pairs = all_pairs;
-    left = λ i j m p q. left_of i j m (split i j p) (split i m q);
-    right = λ i j m p q. right_of i j m (split i m p) (split j m q);
-    within = λ i j p. elim (split i j p) [
-      | inl q ↦ let w = s.within i j q in (omega (arith, w.0, count), w.1)
-      | inr q ↦ let w = t.within q.0 j q.1 in (omega (arith, w.0, q.2, count), w.1)
-    ];
-    roots = zip_append (ValuesMatch Q) vs ws (map (shifted_value n) us) xs (zip_more (ValuesMatch (StandIn s.pairs)) (ValuesMatch Q) (values_more (StandIn s.pairs) Q kept) vs ws s.roots) (zip_mapped (ValuesMatch (StandIn t.pairs)) (ValuesMatch Q) (shifted_value n) value_shifted us xs t.roots);
-    nodes = λ i j p. elim (split i j p) [
-      | inl q ↦ subst (λ a. NodesMatch Q a (node_at h j)) (sym (at_old i (s.within i j q).0)) (nodes_more (StandIn s.pairs) Q kept (node_at g i) (node_at h j) (s.nodes i j q))
-      | inr q ↦ subst (λ m. NodesMatch Q (node_at (joined g k) m) (node_at h j)) (sym q.2) (subst (λ a. NodesMatch Q a (node_at h j)) (sym (at_new q.0)) (node_shifted (node_at k q.0) (node_at h j) (t.nodes q.0 j q.1)))
-    ];
-  }
+  same_joined = (joined_where (λ j. Unit {0}) (λ i j p. tt) (λ i j p. tt)).0
 
 pub join_law : JoinLaw
 join_law g k h vs ws us xs s t apart = same_joined g k h vs ws us xs s t apart

@@ -3,7 +3,10 @@ pub mod ViewedAlike
 pub mod BuiltAlike
 pub mod Partly
 pub mod PublishedAlike
+pub mod AnsweredAlike
 pub mod Joined
+pub mod Batched
+pub mod GraphsAlike
 pub mod WholeNumbers
 pub mod ClassTexts
 pub mod Looking

@@ -3,11 +3,10 @@ use Rattle.std.proofs.Common.{◌≡◌, ℕ, zero, suc, ◌+◌, ◌<◌, ◌�
 use Rattle.std.proofs.Math.ListN as listn
 use Rattle.std.specs.Prelude.{bytes_eq}
 use Rattle.std.specs.List.{AllByRecursion}
-use Rattle.std.proofs.Math.Seq.{take-suc}
 use Rattle.std.proofs.lemmas.List.{map-append, length-map}
 use Rattle.amf_graph.specs.declared.value.Value.{Value as Stored}
 use Rattle.amf_graph.specs.declared.value.TextId.{TextId}
-use Rattle.amf_graph.specs.Graph.{Value, leaf, node, null, Traits, Head, Node, node_at}
+use Rattle.amf_graph.specs.Graph.{Value, leaf, node, null, Head, node_at}
 use Rattle.amf_graph.specs.Arena.{Arena, StoredTraits, StoredNode, IsTextId, Names, IsTraitsIn, IsNodeIn, text_at, value_content, traits_content, node_content, head_content, traits_at, graph_of, no_traits, object}
 use Rattle.amf_graph.specs.Building.{closed, stored_at, no_stored}
 use Rattle.amf_graph.specs.Views.{named}

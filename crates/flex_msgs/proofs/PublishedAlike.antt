@@ -14,7 +14,7 @@ use Rattle.flex_msgs.specs.Messages.{published_node}
 use Rattle.flex_msgs.specs.FlexLaws.{AreBefore, PublishedLaw}
 use Rattle.flex_msgs.proofs.BuiltAlike.{all_pairs, kept, behind_alike, added_shown, added_room}
 
-nodes_front : (ns more gs : List StoredNode) → NodesComplete (ns ++ more) gs → NodesComplete ns gs
+pub nodes_front : (ns more gs : List StoredNode) → NodesComplete (ns ++ more) gs → NodesComplete ns gs
 nodes_front [] more gs h = tt
 nodes_front (n ∷ ns) more [] h = absurd h
 nodes_front (n ∷ ns) more (g ∷ gs) h = (h.0, nodes_front ns more gs h.1)
@@ -30,7 +30,7 @@ completes_earlier old new h u written a done = record {
   nodes = nodes_front old.nodes a.more_nodes h.nodes (subst (λ ns. NodesComplete ns h.nodes) a.nodes done.nodes);
 }
 
-published_match : (P : ℕ → ℕ → Type 0) (m d c : List ℕ) (moment : ℕ) (v w x y : Value) → ValuesMatch P v w → ValuesMatch P x y → AllZip (NodesMatch P) (published_node m d c moment v x ∷ []) (published_node m d c moment w y ∷ [])
+pub published_match : (P : ℕ → ℕ → Type 0) (m d c : List ℕ) (moment : ℕ) (v w x y : Value) → ValuesMatch P v w → ValuesMatch P x y → AllZip (NodesMatch P) (published_node m d c moment v x ∷ []) (published_node m d c moment w y ∷ [])
 published_match P m d c moment v w x y b hd = (record { head = refl; names = tt; values = (b, (refl, (refl, (hd, (refl, (refl, (refl, (refl, tt)))))))) }, tt)
 
 pub published_law : PublishedLaw

@@ -1,5 +1,5 @@
 -- Whole numbers and their doubles as functions are those that the relation names.
-use Rattle.std.proofs.Common.{◌≡◌, ◌≢◌, ℕ, zero, suc, ◌+◌, ◌-◌, ◌*◌, ◌/◌, ◌%◌, ◌^◌, ◌<◌, ◌≤◌, ◌⊎◌, nat_lt, Bool, true, false, if◌then◌else◌, ℤ, pos, negsuc, Option, Some, None, refl, ap, sym, ◌∙◌, subst, inl, inr, arith}
+use Rattle.std.proofs.Common.{◌≡◌, ◌≢◌, ℕ, zero, suc, ◌+◌, ◌-◌, ◌/◌, ◌%◌, ◌^◌, ◌<◌, ◌≤◌, nat_lt, Bool, true, false, if◌then◌else◌, ℤ, pos, negsuc, Option, Some, None, refl, ap, sym, ◌∙◌, subst, inl, inr, arith}
 use Rattle.std.specs.Prelude.{nat_le, ◌==◌, ◌&&◌, ◌↔◌, IfSome, IsSome, IsNone, unwrap_or}
 use Rattle.amf_wire.specs.declared.pattern.Pattern.{Pattern}
 use Rattle.std.proofs.Math.Nat.{mul-mod_left}

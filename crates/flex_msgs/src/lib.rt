@@ -15,7 +15,10 @@ mod tests;
 mod viewing;
 mod writing;
 
-pub use facts::{acknowledge_law, flex_rows, join_law, published_law, view_law, whole_numbers};
+pub use facts::{
+    acknowledge_law, answers_alike, batch_law, delivered_law, error_law, flex_rows, invalidate_law,
+    join_law, published_law, sync_law, view_law, whole_numbers,
+};
 pub use not_a_message::NotAMessage;
 pub use replies::{acknowledge, error, invalidate, sync};
 pub use reply::{FaultText, Reply};

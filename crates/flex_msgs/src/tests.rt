@@ -261,6 +261,19 @@ fn delivered_to(alloc: Global, stored: &Rooted, client: &str) -> Result<Rooted, 
     finished(builder, root)
 }
 
+/// A sync whose batch is this stored message.
+fn synced_with(alloc: Global, stored: &Rooted, texts: [&str; 4]) -> Result<Rooted, Fail> {
+    if !is_stored(stored) {
+        return Err("no stored message")?;
+    }
+    let mut builder = Builder::new(alloc)?;
+    let reply = told(alloc, texts)?;
+    let message = delivered(alloc, &mut builder, stored, &reply.client)?;
+    let batch = [message].to_vec(alloc)?;
+    let root = sync(alloc, &mut builder, &reply, batch)?;
+    finished(builder, root)
+}
+
 /// The client of an AsyncMessage.
 fn client_of(alloc: Global, graph: &Rooted) -> Result<Name, Fail> {
     match view(alloc, graph)? {
@@ -277,7 +290,8 @@ fn stored_messages_are_delivered(rt: HostRuntime) -> Result<(), Fail> {
     let stored = stored_of(alloc, &graph)?;
     let client = client_of(alloc, &delivered_to(alloc, &stored, "9")?)?;
     assert_eq!(rt; client.as_bytes(), b"9".as_slice());
-    Ok(())
+    let texts = ["7", "chat", "1", "m"];
+    shows_command(&rt, alloc, synced_with(alloc, &stored, texts)?, 4, texts)
 }
 
 #[test]
