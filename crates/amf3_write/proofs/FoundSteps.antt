@@ -87,15 +87,6 @@ seen_push met seen i s l = record {
   ];
 }
 
-pub none_seen : (n : ℕ) → AreSeen [] (replicate n false)
-none_seen n = record { marked = λ k i e. cc; among = λ i e. absurd (none n i e) }
-  where
-    none : (n i : ℕ) → slice_get (replicate n false) i ≡ Some true → ⊥
-    none n i e =
-        let within : i < n = subst (λ w. i < w) (length-replicate n false) (slice_get_within (replicate n false) i true e) in
-        let same : false ≡ true = sym (get_or-replicate n i false true within) ∙ get_or_from_slice_get (replicate n false) i true true e in
-        cc
-
 -- What the stack keeps.
 
 pub rest_of : {X : Type 0} (P : X → Type 0) (all ws : List X) (v : X) → all ≡ ws ++ v ∷ [] → AllByRecursion P all → AllByRecursion P ws

@@ -3,6 +3,7 @@ pub mod Wrote
 pub mod WroteParts
 pub mod Ready
 pub mod NamedPairs
+pub mod InOrder
 pub mod Runs
 pub mod Leading
 pub mod WroteNodes

@@ -9,7 +9,7 @@ use Rattle.amf_graph.specs.Views.{flat}
 use Rattle.amf3_spelling.specs.ByteSpelling.{Part, value, values_then, pairs_then}
 use Rattle.amf_iso.specs.Contents.{values_of, pairs_of, AreValues}
 use Rattle.amf3_write.specs.declared.unwritten.Unwritten.{Unwritten}
-use Rattle.amf3_write.specs.declared.unwritten.Unwritten.TheVariants.{One, Values, Entries, Pairs}
+use Rattle.amf3_write.specs.declared.unwritten.Unwritten.TheVariants.{One, Values, Entries, Pairs, Sorted}
 use Rattle.amf3_write.specs.Writes.{BeginsWith}
 
 -- the parts of a run
@@ -17,7 +17,8 @@ abbrev pub run_parts : Arena → Unwritten → List Part
 run_parts a (One v) = value (value_content a v) ∷ []
 run_parts a (Values vs) = values_then (values_of a vs.now) []
 run_parts a (Entries es) = values_then (values_of a (flat es.now)) []
-run_parts a (Pairs ps) = pairs_then (pairs_of a (reverse ps.items)) []
+run_parts a (Pairs ps) = pairs_then (pairs_of a ps.now) []
+run_parts a (Sorted ps) = pairs_then (pairs_of a (reverse ps.items)) []
 
 -- the parts of a stack, those of the last run first
 abbrev pub parts_left : Arena → List Unwritten → List Part
@@ -44,7 +45,8 @@ abbrev pub IsRunOf : Arena → Unwritten → Type 0
 IsRunOf a (One v) = Names a v
 IsRunOf a (Values vs) = AreValues a vs.now
 IsRunOf a (Entries es) = AreValues a (flat es.now)
-IsRunOf a (Pairs ps) = AreStoredPairs a ps.items
+IsRunOf a (Pairs ps) = AreStoredPairs a ps.now
+IsRunOf a (Sorted ps) = AreStoredPairs a ps.items
 
 abbrev pub AreRunsOf : Arena → List Unwritten → Type 0
 AreRunsOf a runs = AllByRecursion (IsRunOf a) runs
@@ -54,7 +56,8 @@ abbrev pub run_turns : Unwritten → ℕ
 run_turns (One v) = 1
 run_turns (Values vs) = 1 + length vs.now
 run_turns (Entries es) = 1 + 2 * length es.now
-run_turns (Pairs ps) = 1 + length ps.items
+run_turns (Pairs ps) = 1 + length ps.now
+run_turns (Sorted ps) = 1 + length ps.items
 
 abbrev pub turns_left : List Unwritten → ℕ
 turns_left [] = 0

@@ -11,6 +11,7 @@ ghost use Rattle.amf3_write.specs.Unwritten.{AreRunsOf, parts_left, turns_left};
 ghost use Rattle.amf3_write.specs.Writes.{Leads, Keeps, IsReady};
 
 use crate::output::Output;
+use crate::pairs::are_by_name;
 use crate::unwritten::Unwritten;
 use amf_graph::{NodeId, NodeView, Rooted, TextId, TraitsId, Value};
 use amf_iso::ids_by_name;
@@ -72,7 +73,7 @@ impl Output {
     fn array<'g>(
         &mut self,
         items: &'g [Value],
-        names: &[(TextId, Value)],
+        names: &'g [(TextId, Value)],
         graph: &'g Rooted,
         waiting: &mut Vec<Unwritten<'g>>,
     ) -> Result<(), Memory>
@@ -97,7 +98,7 @@ impl Output {
         &mut self,
         traits: TraitsId,
         sealed: &'g [Value],
-        members: &[(TextId, Value)],
+        members: &'g [(TextId, Value)],
         graph: &'g Rooted,
         waiting: &mut Vec<Unwritten<'g>>,
     ) -> Result<(), Memory>
@@ -123,10 +124,10 @@ impl Output {
     }
 }
 
-/// Puts pairs onto the stack, in by-name order.
+/// Puts pairs onto the stack, in by-name order: as they stand, if they stand in it.
 fn push_pairs<'g>(
     alloc: Global,
-    pairs: &[(TextId, Value)],
+    pairs: &'g [(TextId, Value)],
     graph: &'g Rooted,
     waiting: &mut Vec<Unwritten<'g>>,
 ) -> Result<(), Memory>
@@ -135,8 +136,12 @@ fn push_pairs<'g>(
     ensures runs { AreRunsOf graph.now.arena waiting.old.items → OnOk result (AreRunsOf graph.now.arena waiting.new.items) }
     ensures turns { OnOk result (turns_left waiting.new.items ≡ turns_left waiting.old.items + (length pairs.now + 1)) }
 {
-    let mut pairs = ids_by_name(alloc, pairs, graph)?;
-    pairs.reverse();
-    waiting.push(Unwritten::Pairs(pairs))?;
+    if are_by_name(pairs, graph) {
+        waiting.push(Unwritten::Pairs(pairs))?;
+        return Ok(());
+    }
+    let mut sorted = ids_by_name(alloc, pairs, graph)?;
+    sorted.reverse();
+    waiting.push(Unwritten::Sorted(sorted))?;
     Ok(())
 }

@@ -109,7 +109,10 @@ impl Output {
         ensures known { self.new.known ≡ self.old.known }
     {
         let spelled = write_u29(number);
-        self.bytes.extend_from_slice(spelled.as_slice())?;
+        match spelled.as_slice() {
+            [byte] => self.bytes.push(*byte)?,
+            bytes => self.bytes.extend_from_slice(bytes)?,
+        }
         Ok(())
     }
 

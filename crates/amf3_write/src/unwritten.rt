@@ -20,8 +20,10 @@ pub(crate) enum Unwritten<'g> {
     Values(&'g [Value]),
     /// The entries of a dictionary: each key, and then its value (3.16).
     Entries(&'g [(Value, Value)]),
-    /// Pairs from the last to the first, ended by the empty name (3.11, 3.12).
-    Pairs(Vec<(TextId, Value)>),
+    /// Pairs as they stand, ended by the empty name (3.11, 3.12).
+    Pairs(&'g [(TextId, Value)]),
+    /// Pairs that were sorted, from the last to the first, ended by the empty name.
+    Sorted(Vec<(TextId, Value)>),
 }
 
 impl Output {
@@ -46,11 +48,41 @@ impl Output {
             Unwritten::Values(values) => next_item(values, waiting),
             Unwritten::Entries(entries) => next_key(entries, waiting),
             Unwritten::Pairs(pairs) => self.next_pair(pairs, graph, waiting),
+            Unwritten::Sorted(pairs) => self.next_sorted(pairs, graph, waiting),
         }
     }
 
-    /// Writes the next name, whose value follows, or the empty name behind all pairs.
+    /// Writes the first name, whose value follows, or the empty name behind all pairs.
     fn next_pair<'g>(
+        &mut self,
+        pairs: &'g [(TextId, Value)],
+        graph: &'g Rooted,
+        waiting: &mut Vec<Unwritten<'g>>,
+    ) -> Result<Option<Value>, Memory>
+        requires pairs { AreStoredPairs graph.now.arena pairs.now }
+        requires ready { IsReady graph.now.arena self.old.tables self.old.known }
+        ensures leads { IfOk result (λ next. Leads (content graph.now) (spell.pairs_then (pairs_of graph.now.arena pairs.now) [] ++ parts_left graph.now.arena waiting.old.items) (next_parts graph.now.arena next ++ parts_left graph.now.arena waiting.new.items) self.old self.new) }
+        ensures runs { AreRunsOf graph.now.arena waiting.old.items → IfOk result (λ next. IsNextOf graph.now.arena next × AreRunsOf graph.now.arena waiting.new.items) }
+        ensures turns { OnOk result (turns_left waiting.new.items ≤ length pairs.now + turns_left waiting.old.items) }
+        ensures kept { Keeps self.old self.new }
+        ensures ready { OnOk result (IsReady graph.now.arena self.new.tables self.new.known) }
+    {
+        match pairs.split_first() {
+            Some((pair, rest)) => {
+                let (name, value) = *pair;
+                self.text_of(name, graph)?;
+                waiting.push(Unwritten::Pairs(rest))?;
+                Ok(Some(value))
+            }
+            None => {
+                self.text(b"")?;
+                Ok(None)
+            }
+        }
+    }
+
+    /// Writes the last name, whose value follows, or the empty name behind all pairs.
+    fn next_sorted<'g>(
         &mut self,
         mut pairs: Vec<(TextId, Value)>,
         graph: &'g Rooted,
@@ -67,7 +99,7 @@ impl Output {
         match pairs.pop() {
             Some((name, value)) => {
                 self.text_of(name, graph)?;
-                waiting.push(Unwritten::Pairs(pairs))?;
+                waiting.push(Unwritten::Sorted(pairs))?;
                 Ok(Some(value))
             }
             None => {

@@ -32,3 +32,9 @@ next_pair-requires-clause-pairs c = subst (λ run. IsRunOf c.args.graph.now.aren
 
 pub returns-in-Pairs-clause-leads : goal.returns-in-Pairs-clause-leads
 returns-in-Pairs-clause-leads c = rw (c.in-Pairs.is) c.next_pair.ensures.leads
+
+pub next_sorted-requires-clause-pairs : goal.next_sorted-requires-clause-pairs
+next_sorted-requires-clause-pairs c = subst (λ run. IsRunOf c.args.graph.now.arena run) c.in-Sorted.is c.requires.run
+
+pub returns-in-Sorted-clause-leads : goal.returns-in-Sorted-clause-leads
+returns-in-Sorted-clause-leads c = rw (c.in-Sorted.is) c.next_sorted.ensures.leads
