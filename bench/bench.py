@@ -4,9 +4,11 @@
     bench/bench.py [MB [NAME..]]
 
 Makes inputs of MB million bytes (16 where none is said), the same in each run, or those of the names alone. `canon` reads
-one value, and `same` two of half the size; some are converted between AMF 3 and AMF 0. Each is run five times, in turn with md5sum, and the best run is printed: the status,
-the processor time, the speed, the most memory held (never less than this script's own 15 MB), and the ratio of the time to
-that of md5sum. A run that takes longer than a minute is ended, which is then its status, and not repeated.
+one value, and `same` two of half the size; some are converted between AMF 3 and AMF 0, and the objects are checked and
+listed. `gen` makes a graph of a million nodes, and its line stands below that of `canon` on the value that it makes. Each is
+run five times, in turn with md5sum, and the best run is printed: the status, the processor time, the speed, the most memory
+held (never less than this script's own 15 MB), and the ratio of the time to that of md5sum. A run that takes longer than a
+minute is ended, which is then its status, and not repeated.
 """
 import os
 import random
@@ -171,6 +173,22 @@ def records0(size, dice):
     return array0_of(item, size)
 
 
+def made(nodes):
+    """The value that `gen --seed 1` makes: an array of objects that name each other, by a linear congruential generator."""
+    number, items = 1, []
+    for place in range(1, nodes):
+        number = (1103515245 * number + 12345) % 2**31
+        front = b"\x0A\x01" if place > 1 else b"\x0A\x0B\x01"
+        key, partner = (u29(0), u29(2)) if place > 1 else (name(b"k"), name(b"p"))
+        reference = b"\x09\x00" if number % (place + 1) == 0 else b"\x0A" + u29(2 * (number % (place + 1)))
+        items.append(front + key + integer(number // 65536) + partner + reference + b"\x01")
+    return array(items)
+
+
+def million_nodes(size, dice):
+    return made(1_000_000)
+
+
 INPUTS = [
     integers, repeated_texts, distinct_texts, objects, dynamic_objects, vectors_and_dictionaries,
     empty_arrays, byte_array, nested_arrays, graph, long_text,
@@ -180,6 +198,9 @@ INPUTS = [
 CONVERTED = [
     (records0, "amf0", "amf3"), (records0, "amf0", "amf0"), (objects, "amf3", "amf0"), (dynamic_objects, "amf3", "amf0"),
 ]
+
+# What is done with the objects beside.
+OTHERS = [["check"], ["show"]]
 
 
 # Running.
@@ -227,14 +248,14 @@ def show(words, make, path):
     (status, seconds, memory), sums = best([PROGRAM, *words], path)
     mega = path.stat().st_size / 1e6
     ending = status if status >= 0 else "ended"
-    command = "".join(word.replace("--from=", " ").replace("--to=", " to ") for word in words)
+    command = "".join(word.replace("--from=", " ").replace("--to=", " to ") for word in words if not word.startswith("--s"))
     print(f"{command:20}{make.__name__:25}{mega:6.2f}{ending:>8}{seconds:11.3f}{mega / seconds:8.1f}", end="")
     print(f"{memory / 1e6:11.0f}{seconds / sums:10.2f}", flush=True)
 
 
 def main():
     size = int(float(sys.argv[1] if len(sys.argv) > 1 else 16) * 1e6)
-    chosen = sys.argv[2:] or [make.__name__ for make in INPUTS + [records0]]
+    chosen = sys.argv[2:] or [make.__name__ for make in INPUTS + [records0, million_nodes]]
     subprocess.run([ROOT / "amf"], stderr=subprocess.DEVNULL)  # Builds the program, where it is not new.
     if not PROGRAM.exists():
         sys.exit("the program could not be built")
@@ -252,6 +273,14 @@ def main():
             if make.__name__ in chosen:
                 write_input(make, size, 1, path)
                 show(["canon", f"--from={source}", f"--to={target}"], make, path)
+        if objects.__name__ in chosen:
+            write_input(objects, size, 1, path)
+            for words in OTHERS:
+                show(words, objects, path)
+        if million_nodes.__name__ in chosen:
+            write_input(million_nodes, size, 1, path)
+            show(["canon"], million_nodes, path)
+            show(["gen", "--seed=1", "--size=1000000"], million_nodes, path)
 
 
 main()

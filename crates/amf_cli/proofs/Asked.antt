@@ -1,26 +1,42 @@
 -- What words ask for: they ask for one command at most, and each is UTF-8.
-use Rattle.std.proofs.Common.{◌≡◌, ◌∙◌, ◌++◌, ◌<◌, ℕ, zero, suc, refl, sym, ap, ap₂, subst, true, List, [], ◌∷◌, length, Some, None, Option, arith}
-use Rattle.std.specs.Prelude.{codes, if◌then◌else◌, unwrap_or, IfSome, IfNone}
+use Rattle.std.proofs.Common.{◌≡◌, ◌∙◌, ◌++◌, ◌<◌, ◌≤◌, ℕ, Bool, false, zero, suc, refl, sym, ap, ap₂, subst, true, List, [], ◌∷◌, length, Some, None, Option, arith}
+use Rattle.std.specs.Prelude.{codes, ◌&&◌, nat_le, if◌then◌else◌, option_map, unwrap_or, IfSome, IfNone}
+use Rattle.std.specs.Str.Parse.{digits_value}
+use Rattle.std.proofs.lemmas.Bool.{leb-true}
+use Rattle.std.proofs.lemmas.Option.{same_Some}
 use Rattle.std.specs.List.{AllByRecursion, list_all, slice_index_or}
 use Rattle.std.specs.Str.{bytes_eq, IsUtf8}
 use Rattle.amf_words.specs.Words.{Text, HasOptions, is_name, value_of}
 use Rattle.amf_words.proofs.OneValue.{one_value}
 use Rattle.amf_cli.specs.declared.command.Command.{Command}
+use Rattle.amf_cli.specs.declared.command.Command.TheVariants as command
+use Rattle.amf_cli.specs.declared.format.Format.{Format}
+use Rattle.amf_cli.specs.declared.format.Format.TheVariants.{Amf3}
 use Rattle.amf_cli.specs.declared.kind.Kind.{Kind}
 use Rattle.amf_cli.specs.declared.kind.Kind.TheVariants as kind
-use Rattle.amf_cli.specs.Commands.{Asks, HasReading, Reads, command_for, name_of, options_for}
+use Rattle.amf_cli.specs.Commands.{Asks, HasReading, Reads, canon_from, canon_to, command_for, format_or, gen_of, is_numeral, name_of, number_at, options_for}
+use Rattle.amf_cli.specs.Sized.{IsSized}
 
 named : Text → Kind
-named t = if bytes_eq t (codes "canon") then kind.Canon else kind.Same
+named t = if bytes_eq t (codes "canon") then kind.Canon
+    else (if bytes_eq t (codes "check") then kind.Check
+    else (if bytes_eq t (codes "show") then kind.Show
+    else (if bytes_eq t (codes "same") then kind.Same else kind.Gen)))
 
 named_is : (k : Kind) → named (name_of k) ≡ k
 unfolding named
 named_is kind.Canon = refl
+named_is kind.Check = refl
+named_is kind.Show = refl
 named_is kind.Same = refl
+named_is kind.Gen = refl
 
 good : (k : Kind) → list_all is_name (options_for k) ≡ true
 good kind.Canon = refl
+good kind.Check = refl
+good kind.Show = refl
 good kind.Same = refl
+good kind.Gen = refl
 
 head_or : List Text → Text
 head_or [] = []
@@ -47,6 +63,48 @@ one_asked words c d (k, rest, g, is, has, gives) (l, rest2, h, is2, has2, gives2
     let values : value_of g ≡ value_of h = λ i x. one_value (options_for k) rest g h (good k) has has3 x i in
     let some : Some c ≡ Some d = sym gives ∙ ap₂ command_for kinds values ∙ gives2 in
     ap (λ o. unwrap_or o c) some
+
+-- a graph is asked for by a size that there is
+
+named_within : (numeral least most : Bool) (v n : ℕ) → (if numeral && (least && most) then Some v else None) ≡ Some n → (least ≡ true) × (most ≡ true) × (v ≡ n)
+named_within true true true v n e = (refl, refl, same_Some v n e)
+named_within true true false v n e = cc
+named_within true false most v n e = cc
+named_within false least most v n e = cc
+
+number_within : (least most : ℕ) (o : Option Text) (n : ℕ) → number_at least most o ≡ Some n → (least ≤ n) × (n ≤ most)
+number_within least most None n e = cc
+number_within least most (Some text) n e =
+    let value = digits_value 10 text in
+    let w = named_within (is_numeral text) (nat_le least value) (nat_le value most) value n e in
+    (subst (λ k. least ≤ k) w.2 (leb-true least value w.0), subst (λ k. k ≤ most) w.2 (leb-true value most w.1))
+
+gen_sized : (seed size : Option ℕ) (c : Command) → ((n : ℕ) → size ≡ Some n → (1 ≤ n) × (n ≤ 1000000)) → gen_of seed size ≡ Some c → IsSized c
+gen_sized None size c h e = cc
+gen_sized (Some a) None c h e = cc
+gen_sized (Some a) (Some n) c h e = subst IsSized (same_Some (command.Gen a n) c e) (h n refl)
+
+canon_sized : (from : Option Format) (to : Option Text) (c : Command) → canon_from from to ≡ Some c → IsSized c
+canon_sized None to c e = cc
+canon_sized (Some from) to c e = step (format_or from to) e
+  where
+    step : (o : Option Format) → canon_to from o ≡ Some c → IsSized c
+    step None e = cc
+    step (Some f) e = subst IsSized (same_Some (command.Canon from f) c e) tt
+
+mapped_sized : (make : Format → Command) (all : (f : Format) → IsSized (make f)) (o : Option Format) (c : Command) → option_map make o ≡ Some c → IsSized c
+mapped_sized make all None c e = cc
+mapped_sized make all (Some f) c e = subst IsSized (same_Some (make f) c e) (all f)
+
+command_sized : (k : Kind) (value : Text → Option Text) (c : Command) → command_for k value ≡ Some c → IsSized c
+command_sized kind.Canon value c e = canon_sized (format_or Amf3 (value (codes "from"))) (value (codes "to")) c e
+command_sized kind.Check value c e = mapped_sized command.Check (λ f. tt) (format_or Amf3 (value (codes "from"))) c e
+command_sized kind.Show value c e = mapped_sized command.Show (λ f. tt) (format_or Amf3 (value (codes "from"))) c e
+command_sized kind.Same value c e = subst IsSized (same_Some command.Same c e) tt
+command_sized kind.Gen value c e = gen_sized (number_at 0 4294967295 (value (codes "seed"))) (number_at 1 1000000 (value (codes "size"))) c (number_within 1 1000000 (value (codes "size"))) e
+
+pub read_sized : (words : List Text) (c : Command) → Reads words c → IsSized c
+read_sized words c (utf8, (k, rest, given, is, has, gives)) = command_sized k (value_of given) c gives
 
 pub one_reading : (words : List Text) (c d : Command) → Reads words c → Reads words d → c ≡ d
 one_reading words c d a b = one_asked words c d a.1 b.1

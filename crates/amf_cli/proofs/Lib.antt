@@ -5,3 +5,5 @@ mod Formats
 mod Spelled
 mod Inputs
 mod Statuses
+mod MadeAgain
+mod RunRows

@@ -15,6 +15,10 @@ use Rattle.amf_graph.specs.declared.lack.Lack.{Lack}
 use Rattle.amf_graph.specs.Graph.{Graph}
 use Rattle.amf_graph.specs.Isomorphic.{Isomorphic}
 use Rattle.amf_graph.proofs.Isomorphisms.{isomorphic_sym, isomorphic_trans}
+use Rattle.amf_graph.proofs.Places.{order_along, to_places}
+use Rattle.amf_show.specs.Listing.{IsListing, shown_graph}
+use Rattle.amf_show.proofs.Alike.{same_listing}
+use Rattle.amf_vectors.specs.Made.{made}
 use Rattle.amf3_spelling.specs.Tables.{no_tables}
 use Rattle.amf3_spelling.specs.Lacks3.{IsLack3}
 use Rattle.amf3_spelling.specs.Reads3.{IsValue3}
@@ -35,14 +39,15 @@ use Rattle.amf0_tables.specs.Tables0.{no_tables0}
 use Rattle.amf0_tables.proofs.Layout0Complete.{Found0, spelled_read0}
 use Rattle.amf0_tables.proofs.Layout0Format.{values0_is_layout}
 use Rattle.amf_cli.specs.declared.command.Command.{Command}
-use Rattle.amf_cli.specs.declared.command.Command.TheVariants.{Canon, Same}
+use Rattle.amf_cli.specs.declared.command.Command.TheVariants.{Canon, Check, Show, Same, Gen}
 use Rattle.amf3_read.specs.Pairs.{Pair}
 use Rattle.amf3_read.proofs.PairLayouts.{pair_layout, pairs_are_layouts}
 use Rattle.amf_cli.specs.declared.format.Format.{Format}
 use Rattle.amf_cli.specs.declared.format.Format.TheVariants.{Amf3, Amf0}
 use Rattle.amf_cli.specs.Formats.{IsValue, IsSpelling, Spelled, IsWritten, IsUnwritten}
-use Rattle.amf_cli.specs.Run.{most, Accepts, IsInputOf, ArePairIn, Says, Makes, Decides, Lacks, LacksEver, MayLack, IsOutputOf}
-use Rattle.amf_cli.proofs.Formats.{decides_alike, lacks_too, not_both_alike, same_bytes, written_again}
+use Rattle.amf_cli.specs.Run.{most, Accepts, IsInputOf, ArePairIn, Says, Makes, Decides, Lacks, LacksEver, MayLack, IsOutputOf, IsCounted}
+use Rattle.amf_cli.specs.Lines.{count_line, measure_line}
+use Rattle.amf_cli.proofs.Formats.{alone, decides_alike, lacks_too, not_both_alike, same_bytes, written_again}
 
 abbrev pub layouts : ℕ → Layout ValueRead
 layouts n = value_layout n no_state
@@ -54,6 +59,11 @@ layouts0 n = value0_layout n false (state0_of no_arena no_kept_tables0)
 pub once : (c : Command) (input : List ℕ) → IsInputAccepted (Accepts c) most input → (reason : Reason) (at : ℕ) → IsInputRefused (Accepts c) most input reason at → ⊥
 once (Canon Amf3 to) input = (judged_once layouts IsValue3 values3_is_layout most input).not_both
 once (Canon Amf0 to) input = (judged_once layouts0 IsValue0 values0_is_layout most input).not_both
+once (Check Amf3) input = (judged_once layouts IsValue3 values3_is_layout most input).not_both
+once (Check Amf0) input = (judged_once layouts0 IsValue0 values0_is_layout most input).not_both
+once (Show Amf3) input = (judged_once layouts IsValue3 values3_is_layout most input).not_both
+once (Show Amf0) input = (judged_once layouts0 IsValue0 values0_is_layout most input).not_both
+once (Gen seed size) input = λ a reason at q. absurd a.accepted
 once Same input = (judged_once pair_layout (Pair IsValue3) pairs_are_layouts most input).not_both
 
 -- an input within the most that is read to its end is not refused
@@ -129,32 +139,51 @@ never_refused Amf0 g input reason at i q = whole_not_refused layouts0 IsValue0 v
 pair_never_refused : (g h : Graph) (input : List ℕ) (reason : Reason) (at : ℕ) → ArePairIn g h input → IsInputRefused (Pair IsValue3) most input reason at → ⊥
 pair_never_refused g h input reason at p q = whole_not_refused pair_layout (Pair IsValue3) pairs_are_layouts input p.within (pair_done g h input p) reason at q
 
+-- where nothing is accepted nothing is refused
+none_refused : (input : List ℕ) (reason : Reason) (at : ℕ) → IsInputRefused (λ fields. ⊥) most input reason at → ⊥
+none_refused input reason at (refused (faulty f)) = f.follows.accepted
+none_refused input reason at (refused (truncated why t)) = t.cut_off.follows.accepted
+none_refused input reason at (refused (too_large why t)) = t.cut_off.follows.accepted
+none_refused input reason at (trailing why rest some a) = a.accepted
+
 -- what an output is made of is not refused
 pub made_not_refused : (c : Command) (input bytes : List ℕ) (reason : Reason) (at : ℕ) → Makes c input bytes → IsInputRefused (Accepts c) most input reason at → ⊥
 made_not_refused (Canon from to) input bytes reason at (g, i, s) q = never_refused from g input reason at i q
+made_not_refused (Check from) input bytes reason at (g, i, s) q = never_refused from g input reason at i q
+made_not_refused (Show from) input bytes reason at (g, i, s) q = never_refused from g input reason at i q
 made_not_refused Same input bytes reason at (g, h, p, s) q = pair_never_refused g h input reason at p q
+made_not_refused (Gen seed size) input bytes reason at m q = none_refused input reason at q
 
 -- and so is what lacks an output
 pub lacking_not_refused : (c : Command) (input : List ℕ) (l : Lack) (reason : Reason) (at : ℕ) → Lacks c input l → IsInputRefused (Accepts c) most input reason at → ⊥
 lacking_not_refused (Canon from to) input l reason at (g, i, k) q = never_refused from g input reason at i q
+lacking_not_refused (Check from) input l reason at k q = k
+lacking_not_refused (Show from) input l reason at k q = k
 lacking_not_refused Same input l reason at k q = k
+lacking_not_refused (Gen seed size) input l reason at k q = k
 
 pub spells_free : (f : Format) (g : Graph) (input : List ℕ) → IsInputOf f g input → Spelled f free g input
 spells_free Amf3 g input i = (i.fields, i.spelled, i.parts)
 spells_free Amf0 g input i = (i.fields, i.spelled, i.parts)
 
-same_input : (f : Format) (g h : Graph) (input : List ℕ) → IsInputOf f g input → IsInputOf f h input → Isomorphic g h
+pub same_input : (f : Format) (g h : Graph) (input : List ℕ) → IsInputOf f g input → IsInputOf f h input → Isomorphic g h
 same_input f g h input i j = same_bytes f g h input (spells_free f g input i) (spells_free f h input j)
 
 -- an input has an output or a lack, and not both
 pub made_not_lacking : (c : Command) (input bytes : List ℕ) (l : Lack) → Makes c input bytes → Lacks c input l → ⊥
 made_not_lacking (Canon from to) input bytes l (g, i, (fit, d, s)) (h, j, (other, e, k)) = not_both_alike to g h fit other (same_input from g h input i j) d e bytes l s k
+made_not_lacking (Check from) input bytes l m k = k
+made_not_lacking (Show from) input bytes l m k = k
 made_not_lacking Same input bytes l m k = k
+made_not_lacking (Gen seed size) input bytes l m k = k
 
 -- and whatever it spells has this lack
 pub lacks_ever : (c : Command) (input : List ℕ) (l : Lack) → Lacks c input l → LacksEver c input l
 lacks_ever (Canon from to) input l (g, i, (fit, d, k)) = λ h other j e. lacks_too to g h fit other (same_input from g h input i j) d e l k
+lacks_ever (Check from) input l k = k
+lacks_ever (Show from) input l k = k
 lacks_ever Same input l k = k
+lacks_ever (Gen seed size) input l k = k
 
 -- a command whose output may lack
 pub may_lack : (from to : Format) (g : Graph) (fs : List Field) (l : Lack) → IsSpelling from free g fs → IsUnwritten to g l → MayLack (Canon from to)
@@ -166,7 +195,10 @@ may_lack Amf3 Amf3 g fs l p (fit, d, k) = (nothing_lacks free g fs p).1 l.node l
 pub made_again : (c : Command) (input bytes : List ℕ) → Makes c input bytes → IsOutputOf c input → bytes ≡ input
 made_again (Canon from to) input bytes (h, i, w) (same, g, s) =
     written_again from g h input bytes (subst (λ (f : Format). IsWritten f g input) (sym same) s) (spells_free from h input i) (subst (λ (f : Format). IsWritten f h bytes) (sym same) w)
+made_again (Check from) input bytes m o = absurd o
+made_again (Show from) input bytes m o = absurd o
 made_again Same input bytes m o = absurd o
+made_again (Gen seed size) input bytes m o = absurd o
 
 -- Two graphs that an input spells have the same fronts and backs as two others.
 
@@ -195,8 +227,23 @@ said : (P Q : Type 0) (line : List ℕ) → (P → Q) → (Q → P) → Says P l
 said P Q line go back (inl (p, e)) = inl (go p, e)
 said P Q line go back (inr (n, e)) = inr (λ q. n (back q), e)
 
+-- isomorphic graphs have as many nodes to which the root leads
+counted_alike : (g h : Graph) (line : List ℕ) → Isomorphic g h → IsCounted g line → IsCounted h line
+counted_alike g h line i (order, o, is) =
+    let p = order_along g h order o i in
+    (p.0, p.1, is ∙ ap count_line (to_places g h order p.0 o p.1 i).size)
+
+-- and one listing
+listed_alike : (g h : Graph) (bytes : List ℕ) → Isomorphic g h → IsListing g bytes → IsListing h bytes
+listed_alike g h bytes i l =
+    let p = order_along g h l.0 l.1 i in
+    (p.0, p.1, same_listing g h bytes (shown_graph h p.0) i l (p.0, p.1, refl))
+
 pub decides : (c : Command) (input bytes : List ℕ) → Makes c input bytes → Decides c input bytes
 decides (Canon from to) input bytes (r, j, (fit, e, s)) = λ g other h i d. decides_alike to r g fit other (same_input from r g input j i) e d bytes s h
+decides (Check from) input bytes (r, j, s) = λ g i. counted_alike r g bytes (same_input from r g input j i) s
+decides (Show from) input bytes (r, j, s) = λ g i. listed_alike r g bytes (same_input from r g input j i) s
+decides (Gen seed size) input bytes (spelled, s, is) = λ other o. is ∙ ap (measure_line (length (made seed size).nodes)) (alone Amf3 (made seed size) spelled other s o)
 decides Same input bytes (g, h, p, s) = λ f e q.
     let a = cut_alike g h f e input p q in
     said (Isomorphic g h) (Isomorphic f e) bytes

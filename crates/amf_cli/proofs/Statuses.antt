@@ -7,7 +7,7 @@ use Rattle.amf_cli.specs.declared.command.Command.{Command}
 use Rattle.amf_cli.specs.declared.run_end.RunEnd.{RunEnd}
 use Rattle.amf_cli.specs.declared.run_end.RunEnd.TheVariants.{Refused, Usage, ReadFault, WriteFault, NoMemory, NoForm}
 use Rattle.amf_cli.specs.Lines.{status_of, line_of}
-use Rattle.amf_cli.specs.Run.{most, CountsReads, CountsWrites, Accepts, Makes, Lacks, RunsTo, WritesAll, WritesSome, IsHidden, IsRefusedWith, HasNoForm, Reports}
+use Rattle.amf_cli.specs.Run.{most, TakesInput, IsReading, CountsReads, CountsWrites, Accepts, Makes, Lacks, RunsTo, WritesAll, WritesSome, IsHidden, IsRefusedWith, HasNoForm, Reports}
 use Rattle.amf_cli.proofs.Spelled.{once, made_not_refused, lacking_not_refused, made_not_lacking, lacks_ever}
 
 abbrev Done : RunEnd → Result (Unit {0}) RunEnd
@@ -135,6 +135,14 @@ memory_status ReadFault h = absurd cc
 memory_status WriteFault h = absurd cc
 memory_status NoMemory h = refl
 memory_status (NoForm l) h = absurd cc
+
+pub reading_says : (c : Command) (e : RunEnd) → (status_of e ≡ 1) ⊎ (status_of e ≡ 3) → IsReading c (Done e) → TakesInput c
+reading_says c (Refused f) h r = r
+reading_says c Usage h r = elim h [ inl e ↦ absurd (omega (arith, e)) | inr e ↦ absurd (omega (arith, e)) ]
+reading_says c ReadFault h r = r
+reading_says c WriteFault h r = elim h [ inl e ↦ absurd (omega (arith, e)) | inr e ↦ absurd (omega (arith, e)) ]
+reading_says c NoMemory h r = elim h [ inl e ↦ absurd (omega (arith, e)) | inr e ↦ absurd (omega (arith, e)) ]
+reading_says c (NoForm l) h r = elim h [ inl e ↦ absurd (omega (arith, e)) | inr e ↦ absurd (omega (arith, e)) ]
 
 pub usage_end : (e : RunEnd) → status_of e ≡ 2 → Done e ≡ Err Usage
 usage_end (Refused f) h = absurd (omega arith)

@@ -1,7 +1,8 @@
 -- What the words of a command line ask for: which commands there are, which options each has, and what their values say.
-use Rattle.std.specs.Prelude.{◌≡◌, List, [], ◌∷◌, codes, Option, Some, None, if◌then◌else◌}
-use Rattle.std.specs.List.{AllByRecursion}
+use Rattle.std.specs.Prelude.{◌≡◌, ◌&&◌, ℕ, Bool, List, [], ◌∷◌, length, codes, Option, Some, None, option_map, option_and_then, nat_le, nat_lt, if◌then◌else◌}
+use Rattle.std.specs.List.{list_all, AllByRecursion}
 use Rattle.std.specs.Str.{bytes_eq, IsUtf8}
+use Rattle.std.specs.Str.Parse.{digits_value}
 use Rattle.amf_words.specs.Words.{Text, Given, HasOptions, value_of}
 use Rattle.amf_cli.specs.declared.command.Command.{Command}
 use Rattle.amf_cli.specs.declared.command.Command.TheVariants as command
@@ -12,11 +13,19 @@ use Rattle.amf_cli.specs.declared.kind.Kind.TheVariants as kind
 
 abbrev pub name_of : Kind → Text
 name_of kind.Canon = codes "canon"
+name_of kind.Check = codes "check"
+name_of kind.Show = codes "show"
 name_of kind.Same = codes "same"
+name_of kind.Gen = codes "gen"
 
 abbrev pub options_for : Kind → List Text
 options_for kind.Canon = codes "from" ∷ codes "to" ∷ []
+options_for kind.Check = codes "from" ∷ []
+options_for kind.Show = codes "from" ∷ []
 options_for kind.Same = []
+options_for kind.Gen = codes "seed" ∷ codes "size" ∷ []
+
+-- What a value says.
 
 abbrev pub format_named : Text → Option Format
 format_named text = if bytes_eq text (codes "amf3") then Some Amf3 else (if bytes_eq text (codes "amf0") then Some Amf0 else None)
@@ -25,6 +34,23 @@ format_named text = if bytes_eq text (codes "amf3") then Some Amf3 else (if byte
 abbrev pub format_or : Format → Option Text → Option Format
 format_or default None = Some default
 format_or default (Some text) = format_named text
+
+abbrev pub is_digit : ℕ → Bool
+is_digit b = nat_le 48 b && nat_le b 57
+
+-- 1 to 10 decimal digits
+abbrev pub is_numeral : Text → Bool
+is_numeral text = nat_lt 0 (length text) && (nat_le (length text) 10 && list_all is_digit text)
+
+-- the number of a numeral, where it is from `least` to `most`
+abbrev pub number_named : ℕ → ℕ → Text → Option ℕ
+number_named least most text =
+    if is_numeral text && (nat_le least (digits_value 10 text) && nat_le (digits_value 10 text) most) then Some (digits_value 10 text) else None
+
+abbrev pub number_at : ℕ → ℕ → Option Text → Option ℕ
+number_at least most = option_and_then (number_named least most)
+
+-- What the values make of a command.
 
 abbrev pub canon_to : Format → Option Format → Option Command
 canon_to from None = None
@@ -35,10 +61,18 @@ abbrev pub canon_from : Option Format → Option Text → Option Command
 canon_from None to = None
 canon_from (Some from) to = canon_to from (format_or from to)
 
+-- both numbers are given
+abbrev pub gen_of : Option ℕ → Option ℕ → Option Command
+gen_of (Some seed) (Some size) = Some (command.Gen seed size)
+gen_of seed size = None
+
 -- what the values of its options make of a command
 abbrev pub command_for : Kind → (Text → Option Text) → Option Command
 command_for kind.Canon value = canon_from (format_or Amf3 (value (codes "from"))) (value (codes "to"))
+command_for kind.Check value = option_map command.Check (format_or Amf3 (value (codes "from")))
+command_for kind.Show value = option_map command.Show (format_or Amf3 (value (codes "from")))
 command_for kind.Same value = Some command.Same
+command_for kind.Gen value = gen_of (number_at 0 4294967295 (value (codes "seed"))) (number_at 1 1000000 (value (codes "size")))
 
 -- the words ask for this command: its name comes first, and the rest gives it options with these values
 abbrev pub Asks : List Text → Command → Type 0

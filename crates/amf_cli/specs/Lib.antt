@@ -4,5 +4,7 @@ pub mod Formats
 pub mod Lines
 pub mod Written
 pub mod Run
+pub mod WorkedRuns
 -- Devices of the proofs: no clause of a public call needs them.
 pub mod Reading
+pub mod Sized

@@ -1,5 +1,6 @@
--- The error lines.
-use Rattle.std.specs.Prelude.{ℕ, List, [], ◌∷◌, ◌++◌, codes, decimal}
+-- The error lines, and the lines that `check` and `gen` write.
+use Rattle.std.specs.Prelude.{ℕ, List, [], ◌∷◌, ◌++◌, length, codes, decimal}
+use Rattle.std.specs.List.{sum}
 use Rattle.amf_io.specs.declared.ends.Refusal.{Refusal}
 use Rattle.amf_io.specs.declared.ends.ReadEnd.{ReadEnd}
 use Rattle.amf_io.specs.declared.ends.ReadEnd.TheVariants as reader
@@ -76,3 +77,11 @@ status_of ReadFault = 3
 status_of WriteFault = 4
 status_of NoMemory = 5
 status_of (NoForm l) = 7
+
+-- how many nodes there are
+abbrev pub count_line : ℕ → List ℕ
+count_line nodes = codes "ok nodes " ++ decimal nodes ++ line_feed
+
+-- how many nodes there are, how many bytes, and the sum of these
+abbrev pub measure_line : ℕ → List ℕ → List ℕ
+measure_line nodes bytes = codes "nodes " ++ decimal nodes ++ codes " bytes " ++ decimal (length bytes) ++ codes " sum " ++ decimal (sum bytes) ++ line_feed

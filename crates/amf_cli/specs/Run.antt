@@ -8,25 +8,39 @@ use Rattle.amf_io.specs.declared.ends.Refusal.{Refusal}
 use Rattle.amf_graph.specs.declared.lack.Lack.{Lack}
 use Rattle.amf_graph.specs.Graph.{Graph}
 use Rattle.amf_graph.specs.Isomorphic.{Isomorphic}
+use Rattle.amf_graph.specs.Order.{IsOrder}
 use Rattle.amf3_read.specs.Pairs.{Pair}
+use Rattle.amf_show.specs.Listing.{IsListing}
+use Rattle.amf_vectors.specs.Made.{made}
 use Rattle.amf_cli.specs.declared.command.Command.{Command}
-use Rattle.amf_cli.specs.declared.command.Command.TheVariants.{Canon, Same}
+use Rattle.amf_cli.specs.declared.command.Command.TheVariants.{Canon, Check, Show, Same, Gen}
 use Rattle.amf_cli.specs.declared.format.Format.{Format}
 use Rattle.amf_cli.specs.declared.format.Format.TheVariants.{Amf3, Amf0}
 use Rattle.amf_cli.specs.Formats.{IsValue, IsSpelling, Spelled, IsFitted, IsLackIn, IsWritten, IsUnwritten}
 use Rattle.amf_cli.specs.declared.run_end.RunEnd.{RunEnd}
 use Rattle.amf_cli.specs.declared.run_end.RunEnd.TheVariants.{Refused, Usage, ReadFault, WriteFault, NoMemory, NoForm}
-use Rattle.amf_cli.specs.Lines.{refusal_line, no_form_line, line_of, status_of}
+use Rattle.amf_cli.specs.Lines.{refusal_line, no_form_line, line_of, status_of, count_line, measure_line}
 use Rattle.amf_cli.specs.Written.{WritesFront}
 
 -- the most bytes of an input
 abbrev pub most : ℕ
 most = 67108864
 
+-- whether a command has an input: `gen` has none
+abbrev pub TakesInput : Command → Type 0
+TakesInput (Canon from to) = Unit {0}
+TakesInput (Check from) = Unit {0}
+TakesInput (Show from) = Unit {0}
+TakesInput Same = Unit {0}
+TakesInput (Gen seed size) = ⊥
+
 -- the lists of fields that a command accepts: `same` takes two values of AMF 3
 abbrev pub Accepts : Command → List Field → Type 0
 Accepts (Canon from to) = IsValue from
+Accepts (Check from) = IsValue from
+Accepts (Show from) = IsValue from
 Accepts Same = Pair (IsValue Amf3)
+Accepts (Gen seed size) = λ fields. ⊥
 
 -- the whole input is one spelling of the graph
 pub record IsInputOf (f : Format) (g : Graph) (input : List ℕ) : Type 0 where
@@ -44,9 +58,25 @@ pub record ArePairIn (g h : Graph) (input : List ℕ) : Type 0 where
   pub parts : input ≡ flat front ++ flat back
   pub within : length input ≤ most
 
+-- the line has the number of the nodes to which the root of a graph leads
+abbrev pub IsCounted : Graph → List ℕ → Type 0
+IsCounted g line = (order : List ℕ) × IsOrder g order × (line ≡ count_line (length order))
+
+-- the line measures a graph by its canonical spelling
+abbrev pub IsMeasured : Graph → List ℕ → Type 0
+IsMeasured g line = (bytes : List ℕ) × Spelled Amf3 canonical g bytes × (line ≡ measure_line (length g.nodes) bytes)
+
 -- the bytes are the canonical spelling, in the one format, of a graph that the input is a spelling of in the other
 abbrev pub IsConverted : Format → Format → List ℕ → List ℕ → Type 0
 IsConverted from to input bytes = (g : Graph) × IsInputOf from g input × IsWritten to g bytes
+
+-- the line counts a graph that the input is a spelling of
+abbrev pub IsChecked : Format → List ℕ → List ℕ → Type 0
+IsChecked from input line = (g : Graph) × IsInputOf from g input × IsCounted g line
+
+-- the bytes are the listing of a graph that the input is a spelling of
+abbrev pub IsShown : Format → List ℕ → List ℕ → Type 0
+IsShown from input bytes = (g : Graph) × IsInputOf from g input × IsListing g bytes
 
 -- the line says whether P is so
 abbrev pub Says : Type 0 → List ℕ → Type 0
@@ -59,38 +89,56 @@ IsCompared input line = (g : Graph) × (h : Graph) × ArePairIn g h input × Say
 -- the output of a command
 abbrev pub Makes : Command → List ℕ → List ℕ → Type 0
 Makes (Canon from to) input bytes = IsConverted from to input bytes
+Makes (Check from) input bytes = IsChecked from input bytes
+Makes (Show from) input bytes = IsShown from input bytes
 Makes Same input bytes = IsCompared input bytes
+Makes (Gen seed size) input bytes = IsMeasured (made seed size) bytes
 
--- it holds of whatever the input spells: canonical bytes are so for exactly the graphs that are isomorphic to it, in the kinds that the format has, and the line is the answer for each two graphs
+-- it holds of whatever the input spells: canonical bytes are so for exactly the graphs that are isomorphic to it, in the kinds that the format has; the count and the listing are those of each graph; the line is the answer for each two graphs; and it measures whatever canonical bytes the graph that is made has
 abbrev pub Decides : Command → List ℕ → List ℕ → Type 0
 Decides (Canon from to) input bytes = (g fit h : Graph) → IsInputOf from g input → IsFitted to g fit → Isomorphic h fit ↔ Spelled to canonical h bytes
+Decides (Check from) input bytes = (g : Graph) → IsInputOf from g input → IsCounted g bytes
+Decides (Show from) input bytes = (g : Graph) → IsInputOf from g input → IsListing g bytes
 Decides Same input bytes = (g h : Graph) → ArePairIn g h input → Says (Isomorphic g h) bytes
+Decides (Gen seed size) input bytes = (spelled : List ℕ) → Spelled Amf3 canonical (made seed size) spelled → bytes ≡ measure_line (length (made seed size).nodes) spelled
 
 -- the input is a spelling of a graph that has no canonical spelling in the format
 abbrev pub IsUnconverted : Format → Format → List ℕ → Lack → Type 0
 IsUnconverted from to input l = (g : Graph) × IsInputOf from g input × IsUnwritten to g l
 
--- why an input that is accepted has no output: `same` writes for each
+-- why an input that is accepted has no output: only `canon` may have none
 abbrev pub Lacks : Command → List ℕ → Lack → Type 0
 Lacks (Canon from to) input l = IsUnconverted from to input l
+Lacks (Check from) input l = ⊥
+Lacks (Show from) input l = ⊥
 Lacks Same input l = ⊥
+Lacks (Gen seed size) input l = ⊥
 
 -- whichever graph it is of those that the input spells
 abbrev pub LacksEver : Command → List ℕ → Lack → Type 0
 LacksEver (Canon from to) input l = (g fit : Graph) → IsInputOf from g input → IsFitted to g fit → IsLackIn to fit l
+LacksEver (Check from) input l = ⊥
+LacksEver (Show from) input l = ⊥
 LacksEver Same input l = ⊥
+LacksEver (Gen seed size) input l = ⊥
 
 -- whether an input that is accepted can have no output: what AMF 3 spells has a canonical spelling in it
 abbrev pub MayLack : Command → Type 0
 MayLack (Canon Amf3 Amf3) = ⊥
 MayLack (Canon Amf3 Amf0) = Unit {0}
 MayLack (Canon Amf0 to) = Unit {0}
+MayLack (Check from) = ⊥
+MayLack (Show from) = ⊥
 MayLack Same = ⊥
+MayLack (Gen seed size) = ⊥
 
 -- the input is canonical in the format in which the command reads and writes
 abbrev pub IsOutputOf : Command → List ℕ → Type 0
 IsOutputOf (Canon from to) input = (from ≡ to) × (g : Graph) × IsWritten to g input
+IsOutputOf (Check from) input = ⊥
+IsOutputOf (Show from) input = ⊥
 IsOutputOf Same input = ⊥
+IsOutputOf (Gen seed size) input = ⊥
 
 -- the bytes that came before a read failed fix no verdict, where these lists are accepted
 pub record IsHidden (A : List Field → Type 0) (input rest : List ℕ) : Type 0 where
@@ -107,6 +155,11 @@ ReadsInput A L P input rest (Err Usage) = ⊥
 ReadsInput A L P input rest (Err WriteFault) = ⊥
 ReadsInput A L P input rest (Err NoMemory) = Unit {0}
 ReadsInput A L P input rest (Err (NoForm l)) = L l × (rest ≡ [])
+
+-- how the making of an output ends: where a command has an input, this is read
+abbrev pub OutputEnds : {X : Type 0} → Command → (X → Type 0) → List ℕ → List ℕ → Result X RunEnd → Type 0
+OutputEnds c P input rest (Ok x) = P x × (TakesInput c → rest ≡ [])
+OutputEnds c P input rest (Err e) = ReadsInput (Accepts c) (Lacks c input) P input rest (Err e)
 
 -- no reader ends so
 abbrev pub NeverLacks : Lack → Type 0
@@ -145,12 +198,18 @@ IsReadEnd (Err (NoForm l)) = ⊥
 -- an end that the making of an output has
 abbrev pub IsOutputEnd : {T : Type 0} → Command → Result T RunEnd → Type 0
 IsOutputEnd c (Ok x) = Unit {0}
-IsOutputEnd c (Err (Refused f)) = Unit {0}
-IsOutputEnd c (Err ReadFault) = Unit {0}
+IsOutputEnd c (Err (Refused f)) = TakesInput c
+IsOutputEnd c (Err ReadFault) = TakesInput c
 IsOutputEnd c (Err Usage) = ⊥
 IsOutputEnd c (Err WriteFault) = ⊥
 IsOutputEnd c (Err NoMemory) = Unit {0}
 IsOutputEnd c (Err (NoForm l)) = MayLack c
+
+-- what comes of an input comes only of a command that has one
+abbrev pub IsReading : {T : Type 0} → Command → Result T RunEnd → Type 0
+IsReading c (Err (Refused f)) = TakesInput c
+IsReading c (Err ReadFault) = TakesInput c
+IsReading c _ = Unit {0}
 
 -- nothing was asked of the output, but where it was written to
 abbrev pub IsUntouched : {S T : Type 0} → S → S → Result T RunEnd → Type 0
@@ -167,7 +226,7 @@ pub record WritesAll (c : Command) (input rest : List ℕ) (told : Type 0) (held
   pub bytes : List ℕ
   pub made : Makes c input bytes
   pub decides : Decides c input bytes
-  pub all_read : rest ≡ []
+  pub all_read : TakesInput c → rest ≡ []
   pub written : told → now ≡ held ++ bytes
 
 -- some front of it was written
@@ -175,7 +234,7 @@ pub record WritesSome (c : Command) (input rest : List ℕ) (told : Type 0) (hel
   pub bytes : List ℕ
   pub made : Makes c input bytes
   pub decides : Decides c input bytes
-  pub all_read : rest ≡ []
+  pub all_read : TakesInput c → rest ≡ []
   pub written : told → WritesFront held now bytes
 
 -- how a command ends, by the bytes of the input and those that it left, and by what the output held before and holds now

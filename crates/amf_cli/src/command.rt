@@ -14,8 +14,14 @@ use std::str;
 pub enum Command {
     /// `canon`: the canonical spelling of one value, in the same format or another.
     Canon { from: Format, to: Format },
+    /// `check`: how many nodes the graph of one value has to which its root leads.
+    Check { from: Format },
+    /// `show`: the listing of one value.
+    Show { from: Format },
     /// `same`: whether two values of AMF 3, one after the other, are the same graph.
     Same,
+    /// `gen`: the nodes, the number of bytes and the sum of the bytes of the graph that is made of a seed, of 1 to 1,000,000 nodes.
+    Gen { seed: u32, size: u32 },
 }
 
 impl Command {

@@ -1,12 +1,13 @@
 ghost use Rattle.std.specs.Prelude.{◌≡◌, IfSome, IfNone, codes};
 ghost use Rattle.clap.specs.Matches.{first_value, found_of};
 ghost use Rattle.amf_words.specs.Words.{texts};
-ghost use Rattle.amf_cli.specs.Commands.{command_for, format_or, name_of, options_for};
+ghost use Rattle.amf_cli.specs.Commands.{command_for, format_or, name_of, number_at, options_for};
 ghost use Rattle.amf_cli.specs.declared.format.Format.TheVariants.{Amf3};
 ghost use Rattle.amf_cli.specs.declared.kind.Kind.TheVariants as kind;
 
 use crate::command::Command;
 use crate::format::Format;
+use crate::number::number_in;
 use clap::ArgMatches;
 
 /// The name of a command.
@@ -14,13 +15,23 @@ use clap::ArgMatches;
 pub enum Kind {
     /// `canon`.
     Canon,
+    /// `check`.
+    Check,
+    /// `show`.
+    Show,
     /// `same`.
     Same,
+    /// `gen`.
+    Gen,
 }
 
 static CANON: [&str; 2] = ["from", "to"];
 
+static FROM: [&str; 1] = ["from"];
+
 static SAME: [&str; 0] = [];
+
+static GEN: [&str; 2] = ["seed", "size"];
 
 impl Kind {
     /// The command of this name.
@@ -30,7 +41,10 @@ impl Kind {
     {
         match name {
             "canon" => Some(Kind::Canon),
+            "check" => Some(Kind::Check),
+            "show" => Some(Kind::Show),
             "same" => Some(Kind::Same),
+            "gen" => Some(Kind::Gen),
             _ => None,
         }
     }
@@ -41,7 +55,9 @@ impl Kind {
     {
         match self {
             Kind::Canon => CANON.as_slice(),
+            Kind::Check | Kind::Show => FROM.as_slice(),
             Kind::Same => SAME.as_slice(),
+            Kind::Gen => GEN.as_slice(),
         }
     }
 
@@ -51,7 +67,16 @@ impl Kind {
     {
         match self {
             Kind::Canon => canon(matches),
+            Kind::Check => match from(matches) {
+                Some(from) => Some(Command::Check { from }),
+                None => None,
+            },
+            Kind::Show => match from(matches) {
+                Some(from) => Some(Command::Show { from }),
+                None => None,
+            },
             Kind::Same => Some(Command::Same),
+            Kind::Gen => generate(matches),
         }
     }
 }
@@ -75,4 +100,22 @@ fn canon(matches: &ArgMatches<'_>) -> Option<Command>
         None => from,
     };
     Some(Command::Canon { from, to })
+}
+
+fn generate(matches: &ArgMatches<'_>) -> Option<Command>
+    ensures { result ≡ command_for kind.Gen (first_value (found_of matches.now)) }
+{
+    let seed = number(matches, "seed", 0, u32::MAX)?;
+    let size = number(matches, "size", 1, 1_000_000)?;
+    Some(Command::Gen { seed, size })
+}
+
+/// The number that an option has, if it is one from `least` to `most`.
+fn number(matches: &ArgMatches<'_>, option: &str, least: u32, most: u32) -> Option<u32>
+    ensures { result ≡ number_at least most (first_value (found_of matches.now) option.now) }
+{
+    match matches.get_str(option) {
+        Some(text) => number_in(text, least, most),
+        None => None,
+    }
 }

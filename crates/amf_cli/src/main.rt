@@ -1,14 +1,22 @@
-//! The program `amf`: writes the canonical spelling of any value of AMF 3 or AMF 0, in either, and tells whether two are the same graph.
+//! The program `amf`: writes the canonical spelling of any value of AMF 3 or AMF 0, in either, checks it, lists it, and tells whether two are
+//! the same graph.
 #![tactic(auto)]
 
 #[cfg(test)]
 mod amf0_tests;
 mod arguments;
 mod command;
+#[cfg(test)]
+mod command_tests;
+mod facts;
 mod format;
 mod kind;
 #[cfg(test)]
 mod large_tests;
+mod lines;
+mod making;
+mod number;
+mod output;
 mod reading;
 mod report;
 mod run;

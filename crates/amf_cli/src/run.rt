@@ -3,24 +3,17 @@ ghost use Rattle.amf_io.specs.Outside.{Rose, Steady};
 ghost use Rattle.amf_io.specs.declared.reason.Reason.{Reason};
 ghost use Rattle.amf_io.specs.Verdict.{IsInputAccepted, IsInputRefused};
 ghost use Rattle.amf_graph.specs.declared.lack.Lack.{Lack};
-ghost use Rattle.amf3_read.specs.Pairs.{Pair};
 ghost use Rattle.amf_cli.specs.declared.command.Command.{Command};
-ghost use Rattle.amf_cli.specs.declared.command.Command.TheVariants.{Canon};
-ghost use Rattle.amf_cli.specs.declared.format.Format.TheVariants.{Amf3};
-ghost use Rattle.amf_cli.specs.Formats.{IsValue};
 ghost use Rattle.amf_cli.specs.Commands.{Reads, HasReading};
-ghost use Rattle.amf_cli.specs.Run.{most, Accepts, Makes, Lacks, MayLack, IsOutputOf, IsConverted, IsUnconverted, IsCompared, ReadsInput, NeverLacks, CountsReads, CountsWrites, IsUntouched, IsReadEnd, IsOutputEnd, RunsTo, WritesAll, WritesSome, IsRefusedWith, IsHidden, HasNoForm, Reports};
+ghost use Rattle.amf_cli.specs.Run.{most, TakesInput, Accepts, Makes, Lacks, MayLack, IsOutputOf, CountsReads, CountsWrites, IsReading, IsUntouched, RunsTo, WritesAll, WritesSome, IsRefusedWith, IsHidden, HasNoForm, Reports};
+ghost use Rattle.amf_cli.specs.Sized.{IsSized};
 
 use crate::command::Command;
-use crate::format::Format;
-use crate::reading::{read_graph, read_graphs};
+use crate::output::output_of;
 use crate::report::end_with;
 use crate::run_end::RunEnd;
-use crate::spelling::spell;
 use crate::writing::write_whole;
-use amf_graph::WriteEnd;
 use amf_io::{Sink, Source};
-use amf_iso::isomorphic;
 use amf_wire::Name;
 use std::alloc::Global;
 use std::hash::RandomState;
@@ -32,10 +25,15 @@ pub const LIMIT: u32 = 67_108_864;
 /// Does what the words say, and gives the status of the program.
 ///
 /// `words` are those after the program's name. The first is the command, and the others are its options, each at most once, in
-/// any order, as `--x v` or `--x=v`. With `canon` the input is one value in the format that `--from` names, and the output is its
-/// canonical spelling in the format that `--to` names. The formats are `amf3` and `amf0`; without `--from` it is `amf3`, and without
-/// `--to` the one of the input. With `same`, which has no options, the input is two AMF 3 values, one after the other, and the output is
-/// the line `same` or `different`.
+/// any order, as `--x v` or `--x=v`. The formats are `amf3` and `amf0`; without `--from` it is `amf3`, and without `--to` the one of
+/// the input.
+///
+/// With `canon` the input is one value in the format that `--from` names, and the output is its canonical spelling in the format
+/// that `--to` names. With `check` and `show` the input is so too; the output is the line `ok nodes N`, where N is how many nodes
+/// the root of the value leads to, and its listing. With `same`, which has no options, the input is two AMF 3 values, one after the
+/// other, and the output is the line `same` or `different`. With `gen` nothing is read: the output is the line `nodes N bytes B sum S`
+/// for the graph that is made of the numbers of `--seed`, 0 to 4,294,967,295, and `--size`, 1 to 1,000,000, and its canonical spelling
+/// in AMF 3. A number is 1 to 10 decimal digits.
 ///
 /// The runtime gives the keys by which the writer looks texts up, so that no input can be made that takes long; where it
 /// gives none, they are fixed.
@@ -55,7 +53,7 @@ pub fn run<R: RandomSource, I: Source, O: Sink, E: Sink>(
     ensures read { result ≢ 2 → result ≢ 5 → HasReading words.now }
     ensures unread { (HasReading words.now → ⊥) → input.new ≡ input.old }
 
-    // 0: the input was read to its end, the output was written whole, and it holds of whatever the input spells.
+    // 0: the input, where there is one, was read to its end, the output was written whole, and it holds of whatever the input spells.
     ensures done { (c : Command) → Reads words.now c → result ≡ 0 → I.tells input.old → WritesAll c (I.left input.old) (I.left input.new)
         (O.tells out.new) (O.held out.old) (O.held out.new) }
 
@@ -96,6 +94,10 @@ pub fn run<R: RandomSource, I: Source, O: Sink, E: Sink>(
     ensures lacking { (c : Command) → Reads words.now c → I.tells input.old → (l : Lack) → Lacks c (I.left input.old) l
         → (result ≡ 3) ⊎ (result ≡ 5) ⊎ (result ≡ 7) }
 
+    // A command without an input leaves it as it is, and has no status that comes of one.
+    ensures untaken { (c : Command) → Reads words.now c → (TakesInput c → ⊥) → input.new ≡ input.old }
+    ensures reading { (c : Command) → Reads words.now c → (result ≡ 1) ⊎ (result ≡ 3) → TakesInput c }
+
     // With any other status than 0 and 4 nothing is asked of the output.
     ensures untouched { (result ≡ 1) ⊎ (result ≡ 2) ⊎ (result ≡ 3) ⊎ (result ≡ 5) ⊎ (result ≡ 7) → out.new ≡ out.old }
 
@@ -127,6 +129,8 @@ fn execute<I: Source, O: Sink>(
     ensures read { result ≢ Err RunEnd.Usage → result ≢ Err RunEnd.NoMemory → HasReading words.now }
     ensures unread { (HasReading words.now → ⊥) → input.new ≡ input.old }
     ensures alone { (c : Command) → Reads words.now c → (l : Lack) → result ≡ Err (RunEnd.NoForm l) → MayLack c }
+    ensures reading { (c : Command) → Reads words.now c → IsReading c result }
+    ensures untaken { (c : Command) → Reads words.now c → (TakesInput c → ⊥) → input.new ≡ input.old }
     ensures taken { I.tells input.old → length (I.left input.old) ≤ length (I.left input.new) + (most + 1) }
     ensures tells { O.tells out.new → O.tells out.old }
     ensures runs { (c : Command) → Reads words.now c → I.tells input.old → RunsTo c (I.left input.old) (I.left input.new) (O.tells out.new) (O.held out.old) (O.held out.new) result }
@@ -148,8 +152,11 @@ fn perform<I: Source, O: Sink>(
     input: &mut I,
     out: &mut O,
 ) -> Result<(), RunEnd>
+    requires { IsSized command }
     ensures no_usage { result ≢ Err RunEnd.Usage }
     ensures alone { (l : Lack) → result ≡ Err (RunEnd.NoForm l) → MayLack command }
+    ensures reading { IsReading command result }
+    ensures untaken { (TakesInput command → ⊥) → input.new ≡ input.old }
     ensures tells { O.tells out.new → O.tells out.old }
     ensures runs { I.tells input.old → RunsTo command (I.left input.old) (I.left input.new) (O.tells out.new) (O.held out.old) (O.held out.new) result }
     ensures taken { I.tells input.old → length (I.left input.old) ≤ length (I.left input.new) + (most + 1) }
@@ -162,62 +169,4 @@ fn perform<I: Source, O: Sink>(
         Ok(()) => Ok(()),
         Err(_) => Err(RunEnd::WriteFault),
     }
-}
-
-/// The output of a command.
-fn output_of<I: Source>(
-    alloc: Global,
-    keys: Option<RandomState>,
-    command: Command,
-    input: &mut I,
-) -> Result<Vec<u8>, RunEnd>
-    ensures reads { I.tells input.old → ReadsInput (Accepts command) (Lacks command (I.left input.old)) (λ bytes. Makes command (I.left input.old) bytes.items) (I.left input.old) (I.left input.new) result }
-    ensures taken { I.tells input.old → length (I.left input.old) ≤ length (I.left input.new) + (most + 1) }
-    ensures counts { CountsReads (I.faults input.old) (I.faults input.new) result }
-    ensures ends { IsOutputEnd command result }
-{
-    match command {
-        Command::Canon { from, to } => converted(alloc, keys, from, to, input),
-        Command::Same => comparison(alloc, input),
-    }
-}
-
-/// The canonical spelling, in one format, of the one value that the input is in another.
-fn converted<I: Source>(
-    alloc: Global,
-    keys: Option<RandomState>,
-    from: Format,
-    to: Format,
-    input: &mut I,
-) -> Result<Vec<u8>, RunEnd>
-    ensures reads { I.tells input.old → ReadsInput (IsValue from) (IsUnconverted from to (I.left input.old)) (λ bytes. IsConverted from to (I.left input.old) bytes.items) (I.left input.old) (I.left input.new) result }
-    ensures taken { I.tells input.old → length (I.left input.old) ≤ length (I.left input.new) + (most + 1) }
-    ensures counts { CountsReads (I.faults input.old) (I.faults input.new) result }
-    ensures ends { IsOutputEnd (Canon from to) result }
-{
-    let graph = match read_graph(alloc, from, input) {
-        Ok(graph) => graph,
-        Err(end) => return Err(end),
-    };
-    match spell(alloc, keys, to, &graph) {
-        Ok(bytes) => Ok(bytes),
-        Err(WriteEnd::NoSpelling(lack)) => Err(RunEnd::NoForm(lack)),
-        Err(WriteEnd::Memory) => Err(RunEnd::NoMemory),
-    }
-}
-
-/// The line that says whether the two values that the input is are the same graph.
-fn comparison<I: Source>(alloc: Global, input: &mut I) -> Result<Vec<u8>, RunEnd>
-    ensures reads { I.tells input.old → ReadsInput (Pair (IsValue Amf3)) NeverLacks (λ line. IsCompared (I.left input.old) line.items) (I.left input.old) (I.left input.new) result }
-    ensures taken { I.tells input.old → length (I.left input.old) ≤ length (I.left input.new) + (most + 1) }
-    ensures counts { CountsReads (I.faults input.old) (I.faults input.new) result }
-    ensures ends { IsReadEnd result }
-{
-    let (left, right) = read_graphs(alloc, input)?;
-    let line = if isomorphic(alloc, &left, &right)? {
-        b"same\n".as_slice()
-    } else {
-        b"different\n"
-    };
-    Ok(line.to_vec(alloc)?)
 }

@@ -51,7 +51,7 @@ fn spell0(alloc: Global, graph: &Rooted) -> Result<Vec<u8>, WriteEnd>
 }
 
 /// The canonical spelling of a graph in AMF 3.
-fn spell3(alloc: Global, keys: Option<RandomState>, graph: &Rooted) -> Result<Vec<u8>, WriteEnd>
+pub fn spell3(alloc: Global, keys: Option<RandomState>, graph: &Rooted) -> Result<Vec<u8>, WriteEnd>
     ensures written { IfOk result (λ bytes. Spelled3 canonical (content graph.now) bytes.items) }
     ensures lack { (l : Lack) → IsErrOf result (WriteEnd.NoSpelling l) → IsLack3 (content graph.now) l.node l.kind }
 {

@@ -1,8 +1,8 @@
-use Rattle.std.proofs.Common.{Option, subst}
+use Rattle.std.proofs.Common.{Option, sym, subst}
 use Rattle.std.specs.Prelude.{IfSome}
 use Rattle.amf_cli.specs.declared.command.Command.{Command}
 use Rattle.amf_cli.specs.Commands.{Reads}
-use Rattle.amf_cli.specs.Run.{RunsTo, MayLack}
+use Rattle.amf_cli.specs.Run.{RunsTo, MayLack, IsReading, TakesInput}
 use Rattle.amf_cli.proofs.Asked.{one_reading}
 use Rattle.amf_cli.proofs.run.execute.Goals as goal
 
@@ -16,3 +16,13 @@ pub returns-in-Some-clause-alone : goal.returns-in-Some-clause-alone
 returns-in-Some-clause-alone g c = λ d w l is.
     let read : Reads c.args.words.now c.in-Some.command = subst (λ (o : Option Command). IfSome o (Reads c.args.words.now)) c.in-Some.is c.in_ok-command.ensures.reads in
     subst MayLack (one_reading c.args.words.now c.in-Some.command d read w) (c.perform.ensures.alone l is)
+
+pub returns-in-Some-clause-reading : goal.returns-in-Some-clause-reading
+returns-in-Some-clause-reading g c = λ d w.
+    let read : Reads c.args.words.now c.in-Some.command = subst (λ (o : Option Command). IfSome o (Reads c.args.words.now)) c.in-Some.is c.in_ok-command.ensures.reads in
+    subst (λ (x : Command). IsReading x c.perform.result) (one_reading c.args.words.now c.in-Some.command d read w) c.perform.ensures.reading
+
+pub returns-in-Some-clause-untaken : goal.returns-in-Some-clause-untaken
+returns-in-Some-clause-untaken g c = λ d w none.
+    let read : Reads c.args.words.now c.in-Some.command = subst (λ (o : Option Command). IfSome o (Reads c.args.words.now)) c.in-Some.is c.in_ok-command.ensures.reads in
+    c.perform.ensures.untaken (subst (λ (x : Command). TakesInput x → ⊥) (sym (one_reading c.args.words.now c.in-Some.command d read w)) none)

@@ -2,7 +2,7 @@ use Rattle.std.proofs.Common.{◌≡◌, ◌⊎◌, ◌++◌, inl, inr, sym, ap,
 use Rattle.amf_io.specs.Outside.{Steady}
 use Rattle.amf_cli.specs.Run.{Reports}
 use Rattle.amf_cli.proofs.Spelled.{made_again, made_not_lacking}
-use Rattle.amf_cli.proofs.Statuses.{refused_says, hidden_says, front_says, no_form_says, accepted_says, not_accepted_says, formed_says, lacking_says, done_not_refused, line_says, usage_status, usage_end, memory_status, form_status, reads_steady, writes_steady}
+use Rattle.amf_cli.proofs.Statuses.{refused_says, hidden_says, front_says, no_form_says, accepted_says, not_accepted_says, formed_says, lacking_says, done_not_refused, line_says, usage_status, usage_end, memory_status, form_status, reading_says, reads_steady, writes_steady}
 use Rattle.amf_cli.proofs.run.run.Goals as goal
 
 pub returns-in-Ok-clause-not_accepted : goal.returns-in-Ok-clause-not_accepted
@@ -81,3 +81,6 @@ returns-in-Err-clause-hidden g c = λ d w three told. hidden_says d c.in-Err.end
 
 pub returns-in-Err-clause-front : goal.returns-in-Err-clause-front
 returns-in-Err-clause-front g c = λ d w four told. front_says d c.in-Err.end _ _ _ _ _ (sym c.end_with.ensures.status ∙ four) (c.in-Err.ensures.runs d w told)
+
+pub returns-in-Err-clause-reading : goal.returns-in-Err-clause-reading
+returns-in-Err-clause-reading g c = λ d w h. reading_says d c.in-Err.end (subst (λ n. (n ≡ 1) ⊎ (n ≡ 3)) c.end_with.ensures.status h) (c.in-Err.ensures.reading d w)

@@ -1,7 +1,7 @@
 use Rattle.std.proofs.Common.{ap, Err}
 use Rattle.amf_graph.specs.Rooted.{content}
 use Rattle.amf_cli.proofs.Spelled.{may_lack}
-use Rattle.amf_cli.proofs.run.converted.Goals as goal
+use Rattle.amf_cli.proofs.output.converted.Goals as goal
 
 pub returns-in-Err-NoSpelling-clause-ends : goal.returns-in-Err-NoSpelling-clause-ends
 returns-in-Err-NoSpelling-clause-ends g c =
