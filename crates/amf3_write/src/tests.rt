@@ -1,11 +1,14 @@
 ghost use Rattle.std.specs.Prelude.{◌≡◌, IfOk, IfSome};
-ghost use Rattle.amf_graph.specs.Arena.{Names, value_content};
+ghost use Rattle.amf_graph.specs.Arena.{HeadNames, IsTextId, Names, value_content};
+ghost use Rattle.amf_graph.specs.Building.{leaf_head, no_arena};
 ghost use Rattle.amf_graph.specs.Reached.{IsReachedValue};
 ghost use Rattle.amf_graph.specs.Rooted.{content};
 
-use crate::{write3, write3_part, write3_text};
+use crate::{
+    GraphTables, write3, write3_keyed, write3_part, write3_part_of, write3_text, write3_text_of,
+};
 use amf_graph::{
-    Builder, Lack, LackKind, Leaf, NodeView, Part, Rooted, Shape, Value, Wrapped, WriteEnd,
+    Builder, Lack, LackKind, Leaf, NodeId, NodeView, Part, Rooted, Shape, TextId, Value, WriteEnd,
 };
 use amf_tables::WriterTables;
 use amf_wire::{Pattern, is_amf_text};
@@ -18,7 +21,7 @@ const ONE: Pattern = Pattern(0x3FF0_0000_0000_0000);
 /// What is written of a graph, behind a byte that was there.
 fn written(alloc: Global, graph: &Rooted) -> Result<Vec<u8>, WriteEnd> {
     let mut out = vec![in alloc; 0xAA]?;
-    write3(alloc, graph, &mut out)?;
+    write3_keyed(alloc, None, graph, &mut out)?;
     Ok(out)
 }
 
@@ -52,190 +55,83 @@ fn values_without_nodes(rt: HostRuntime) -> Result<(), Fail> {
     Ok(())
 }
 
+/// What is written of a node without parts and texts.
+fn leaf_written(alloc: Global, leaf: Leaf) -> Result<Vec<u8>, Fail>
+    requires { HeadNames no_arena (leaf_head leaf) }
+{
+    let mut builder = Builder::new(alloc)?;
+    let node = builder.leaf(leaf)?;
+    let graph = finished(builder, Value::Node(node))?;
+    Ok(written(alloc, &graph)?)
+}
+
 #[test]
 fn nodes_without_parts(rt: HostRuntime) -> Result<(), Fail> {
     let alloc = rt.alloc();
-    let mut builder = Builder::new(alloc)?;
-    let date = builder.leaf(Leaf::Date(ONE))?;
-    let bytes = builder.leaf(Leaf::Bytes(vec![in alloc; 1, 2]?))?;
-    let ints = builder.leaf(Leaf::Ints(true, vec![in alloc; -2]?))?;
-    let uints = builder.leaf(Leaf::Uints(false, vec![in alloc; 258]?))?;
-    let doubles = builder.leaf(Leaf::Doubles(false, vec![in alloc; ONE]?))?;
-    let root = builder.open_node(Shape::Array)?;
-    builder.put(root, Part::Item(Value::Node(date)))?;
-    builder.put(root, Part::Item(Value::Node(bytes)))?;
-    builder.put(root, Part::Item(Value::Node(ints)))?;
-    builder.put(root, Part::Item(Value::Node(uints)))?;
-    builder.put(root, Part::Item(Value::Node(doubles)))?;
-    builder.close_node(root);
-    let graph = finished(builder, Value::Node(root))?;
-    let bytes =
-        b"\xAA\x09\x0B\x01\x08\x01\x3F\xF0\x00\x00\x00\x00\x00\x00\x0C\x05\x01\x02\x0D\x03\x01\xFF\xFF\xFF\xFE\x0E\x03\x00\x00\x00\x01\x02\x0F\x03\x00\x3F\xF0\x00\x00\x00\x00\x00\x00".as_slice();
-    assert_eq!(rt; written(alloc, &graph)?.as_slice(), bytes);
+    let date = leaf_written(alloc, Leaf::Date(ONE))?;
+    let bytes = leaf_written(alloc, Leaf::Bytes(vec![in alloc; 1, 2]?))?;
+    let ints = leaf_written(alloc, Leaf::Ints(true, vec![in alloc; -2]?))?;
+    let uints = leaf_written(alloc, Leaf::Uints(false, vec![in alloc; 258]?))?;
+    let doubles = leaf_written(alloc, Leaf::Doubles(false, vec![in alloc; ONE]?))?;
+    for (leaf, expected) in [
+        (
+            &date,
+            b"\xAA\x08\x01\x3F\xF0\x00\x00\x00\x00\x00\x00".as_slice(),
+        ),
+        (&bytes, b"\xAA\x0C\x05\x01\x02"),
+        (&ints, b"\xAA\x0D\x03\x01\xFF\xFF\xFF\xFE"),
+        (&uints, b"\xAA\x0E\x03\x00\x00\x00\x01\x02"),
+        (
+            &doubles,
+            b"\xAA\x0F\x03\x00\x3F\xF0\x00\x00\x00\x00\x00\x00",
+        ),
+    ] {
+        assert_eq!(rt; leaf.as_slice(), expected);
+    }
     Ok(())
 }
 
-#[test]
-fn xml_and_texts(rt: HostRuntime) -> Result<(), Fail> {
-    let mut builder = Builder::new(rt.alloc())?;
-    assert!(rt; is_amf_text(b"a") && is_amf_text(b""));
-    let (a, empty) = (builder.text(b"a")?, builder.text(b"")?);
-    let document = builder.leaf(Leaf::XmlDocument(a))?;
-    let xml = builder.leaf(Leaf::Xml(a))?;
+/// An array of two XML documents of one text.
+fn documents(alloc: Global) -> Result<Rooted, Fail> {
+    let mut builder = Builder::new(alloc)?;
+    if !is_amf_text(b"a") {
+        return Err("no text".into());
+    }
+    let text = builder.text(b"a")?;
+    let document = builder.leaf(Leaf::XmlDocument(text))?;
+    let xml = builder.leaf(Leaf::Xml(text))?;
     let root = builder.open_node(Shape::Array)?;
     builder.put(root, Part::Item(Value::Node(document)))?;
     builder.put(root, Part::Item(Value::Node(xml)))?;
-    builder.put(root, Part::Item(Value::Text(a)))?;
-    builder.put(root, Part::Item(Value::Text(a)))?;
-    builder.put(root, Part::Item(Value::Text(empty)))?;
     builder.close_node(root);
-    let graph = finished(builder, Value::Node(root))?;
-    let bytes = b"\xAA\x09\x0B\x01\x07\x03a\x0B\x03a\x06\x03a\x06\x00\x06\x01".as_slice();
+    finished(builder, Value::Node(root))
+}
+
+#[test]
+fn xml_documents(rt: HostRuntime) -> Result<(), Fail> {
+    let graph = documents(rt.alloc())?;
+    let bytes = b"\xAA\x09\x05\x01\x07\x03a\x0B\x03a".as_slice();
     assert_eq!(rt; written(rt.alloc(), &graph)?.as_slice(), bytes);
     Ok(())
 }
 
-#[test]
-fn a_shared_node_and_a_ring(rt: HostRuntime) -> Result<(), Fail> {
-    let mut builder = Builder::new(rt.alloc())?;
-    let root = builder.open_node(Shape::Array)?;
-    let inner = builder.open_node(Shape::Array)?;
-    builder.put(root, Part::Item(Value::Node(inner)))?;
-    builder.put(root, Part::Item(Value::Node(inner)))?;
-    builder.put(inner, Part::Item(Value::Node(root)))?;
-    builder.close_node(inner);
-    builder.close_node(root);
-    let graph = finished(builder, Value::Node(root))?;
-    let bytes = b"\xAA\x09\x05\x01\x09\x03\x01\x09\x00\x09\x02".as_slice();
-    assert_eq!(rt; written(rt.alloc(), &graph)?.as_slice(), bytes);
-    Ok(())
-}
-
-#[test]
-fn names_in_order(rt: HostRuntime) -> Result<(), Fail> {
-    let mut builder = Builder::new(rt.alloc())?;
-    assert!(rt; is_amf_text(b"a") && is_amf_text(b"b"));
-    let (a, b) = (builder.text(b"a")?, builder.text(b"b")?);
-    let root = builder.open_node(Shape::Array)?;
-    builder.put(root, Part::Named(b, Value::Integer(1)))?;
-    builder.put(root, Part::Named(a, Value::Integer(2)))?;
-    builder.put(root, Part::Named(b, Value::Integer(3)))?;
-    builder.put(root, Part::Item(Value::Null))?;
-    builder.close_node(root);
-    let graph = finished(builder, Value::Node(root))?;
-    let bytes = b"\xAA\x09\x03\x03a\x04\x02\x03b\x04\x01\x02\x04\x03\x01\x01".as_slice();
-    assert_eq!(rt; written(rt.alloc(), &graph)?.as_slice(), bytes);
-    Ok(())
-}
-
-#[test]
-fn objects_of_one_class(rt: HostRuntime) -> Result<(), Fail> {
-    let mut builder = Builder::new(rt.alloc())?;
-    assert!(rt; is_amf_text(b"C") && is_amf_text(b"s") && is_amf_text(b"m"));
-    let (class, name, member) = (
-        builder.text(b"C")?,
-        builder.text(b"s")?,
-        builder.text(b"m")?,
-    );
-    let traits = builder.traits(class, true, &[name])?;
-    let inner = builder.open_node(Shape::Object(traits))?;
-    builder.put(inner, Part::Item(Value::Null))?;
-    builder.close_node(inner);
-    let root = builder.open_node(Shape::Object(traits))?;
-    builder.put(root, Part::Item(Value::Integer(1)))?;
-    builder.put(root, Part::Named(member, Value::Node(inner)))?;
-    builder.close_node(root);
-    let graph = finished(builder, Value::Node(root))?;
-    let bytes = b"\xAA\x0A\x1B\x03C\x03s\x04\x01\x03m\x0A\x01\x01\x01\x01".as_slice();
-    assert_eq!(rt; written(rt.alloc(), &graph)?.as_slice(), bytes);
-    Ok(())
-}
-
-#[test]
-fn a_wrapper_in_a_dictionary(rt: HostRuntime) -> Result<(), Fail> {
-    let mut builder = Builder::new(rt.alloc())?;
-    let wrapper = builder.open_node(Shape::Wrapper(Wrapped::ArrayList))?;
-    builder.put(wrapper, Part::Item(Value::Null))?;
-    builder.close_node(wrapper);
-    let root = builder.open_node(Shape::Dictionary(true))?;
-    builder.put(root, Part::Entry(Value::Node(wrapper), Value::Bool(true)))?;
-    builder.close_node(root);
-    let graph = finished(builder, Value::Node(root))?;
-    let bytes = b"\xAA\x11\x03\x01\x0A\x07\x37flex.messaging.io.ArrayList\x01\x03".as_slice();
-    assert_eq!(rt; written(rt.alloc(), &graph)?.as_slice(), bytes);
-    Ok(())
-}
-
-#[test]
-fn a_vector_of_values(rt: HostRuntime) -> Result<(), Fail> {
-    let mut builder = Builder::new(rt.alloc())?;
-    assert!(rt; is_amf_text(b"T"));
-    let of = builder.text(b"T")?;
-    let root = builder.open_node(Shape::Values(true, of))?;
-    builder.put(root, Part::Item(Value::Text(of)))?;
-    builder.close_node(root);
-    let graph = finished(builder, Value::Node(root))?;
-    let bytes = b"\xAA\x10\x03\x01\x03T\x06\x00".as_slice();
-    assert_eq!(rt; written(rt.alloc(), &graph)?.as_slice(), bytes);
-    Ok(())
-}
-
-#[test]
-fn an_empty_name(rt: HostRuntime) -> Result<(), Fail> {
-    let mut builder = Builder::new(rt.alloc())?;
-    assert!(rt; is_amf_text(b""));
-    let empty = builder.text(b"")?;
-    let inner = builder.open_node(Shape::Array)?;
-    builder.put(inner, Part::Named(empty, Value::Null))?;
-    builder.close_node(inner);
-    let root = builder.open_node(Shape::Array)?;
-    builder.put(root, Part::Item(Value::Node(inner)))?;
-    builder.close_node(root);
-    let graph = finished(builder, Value::Node(root))?;
-    let lack = Lack {
-        kind: LackKind::EmptyName,
-        node: 1,
-    };
-    let mut out = vec![in rt.alloc(); 7]?;
-    let end = write3(rt.alloc(), &graph, &mut out);
-    assert_eq!(rt; end, Err(WriteEnd::NoSpelling(lack)));
-    assert_eq!(rt; out.as_slice(), [7].as_slice());
-    Ok(())
-}
-
-#[test]
-fn arrays_within_one_another(rt: HostRuntime) -> Result<(), Fail> {
-    let alloc = rt.alloc();
+/// An array of one inner array twice, which holds a text.
+fn shared(alloc: Global) -> Result<(Rooted, TextId), Fail>
+    ensures { IfOk result (λ made. IsTextId made.0.arena made.1.0) }
+{
     let mut builder = Builder::new(alloc)?;
-    let mut root = builder.open_node(Shape::Array)?;
-    builder.close_node(root);
-    let mut bytes = vec![in alloc; 0xAA]?;
-    for _ in 0..2000 {
-        let outer = builder.open_node(Shape::Array)?;
-        builder.put(outer, Part::Item(Value::Node(root)))?;
-        builder.close_node(outer);
-        root = outer;
-        bytes.extend_from_slice(b"\x09\x03\x01")?;
+    if !is_amf_text(b"a") {
+        return Err("no text".into());
     }
-    bytes.extend_from_slice(b"\x09\x01\x01")?;
-    let graph = finished(builder, Value::Node(root))?;
-    assert_eq!(rt; written(alloc, &graph)?.as_slice(), bytes.as_slice());
-    Ok(())
-}
-
-#[test]
-fn a_text_twice(rt: HostRuntime) -> Result<(), Fail> {
-    let alloc = rt.alloc();
-    let mut builder = Builder::new(alloc)?;
-    assert!(rt; is_amf_text(b"a"));
     let text = builder.text(b"a")?;
-    let graph = finished(builder, Value::Null)?;
-    let mut tables = WriterTables::new(alloc)?;
-    let mut out = vec![in alloc; 0xAA]?;
-    write3_text(alloc, &graph, text, &mut tables, &mut out)?;
-    write3_text(alloc, &graph, text, &mut tables, &mut out)?;
-    assert_eq!(rt; out.as_slice(), b"\xAA\x03a\x00".as_slice());
-    Ok(())
+    let inner = builder.open_node(Shape::Array)?;
+    builder.put(inner, Part::Item(Value::Text(text)))?;
+    builder.close_node(inner);
+    let root = builder.open_node(Shape::Array)?;
+    builder.put(root, Part::Item(Value::Node(inner)))?;
+    builder.put(root, Part::Item(Value::Node(inner)))?;
+    builder.close_node(root);
+    Ok((finished(builder, Value::Node(root))?, text))
 }
 
 /// An item of the array that is the root.
@@ -254,93 +150,98 @@ fn item(graph: &Rooted, place: usize) -> Option<Value>
 }
 
 #[test]
-fn a_part_behind_another(rt: HostRuntime) -> Result<(), Fail> {
+fn parts_by_the_tables_of_a_graph(rt: HostRuntime) -> Result<(), Fail> {
     let alloc = rt.alloc();
-    let mut builder = Builder::new(alloc)?;
-    let root = builder.open_node(Shape::Array)?;
-    let first = builder.open_node(Shape::Array)?;
-    let second = builder.open_node(Shape::Array)?;
-    builder.put(root, Part::Item(Value::Node(first)))?;
-    builder.put(root, Part::Item(Value::Node(second)))?;
-    builder.put(second, Part::Item(Value::Node(first)))?;
-    builder.close_node(first);
-    builder.close_node(second);
-    builder.close_node(root);
-    let graph = finished(builder, Value::Node(root))?;
-    let (first, second) = (
-        item(&graph, 0).ok_or("no item")?,
-        item(&graph, 1).ok_or("no item")?,
-    );
-    let mut tables = WriterTables::new(alloc)?;
+    let (graph, text) = shared(alloc)?;
+    let part = item(&graph, 0).ok_or("no item")?;
+    let again = item(&graph, 1).ok_or("no item")?;
+    let mut tables = GraphTables::of(alloc, WriterTables::new(alloc)?);
     let mut out = vec![in alloc; 0xAA]?;
-    write3_part(alloc, &graph, first, &mut tables, &mut out)?;
-    write3_part(alloc, &graph, second, &mut tables, &mut out)?;
-    let bytes = b"\xAA\x09\x01\x01\x09\x03\x01\x09\x00".as_slice();
-    assert_eq!(rt; out.as_slice(), bytes);
+    write3_part_of(alloc, &graph, part, &mut tables, &mut out)?;
+    write3_text_of(alloc, &graph, text, &mut tables, &mut out)?;
+    write3_part_of(alloc, &graph, again, &mut tables, &mut out)?;
+    assert_eq!(rt;
+        out.as_slice(),
+        b"\xAA\x09\x03\x01\x06\x03a\x00\x09\x00".as_slice()
+    );
     Ok(())
 }
 
 #[test]
-fn the_least_lack_of_a_part(rt: HostRuntime) -> Result<(), Fail> {
+fn parts_by_given_tables(rt: HostRuntime) -> Result<(), Fail> {
     let alloc = rt.alloc();
-    let mut builder = Builder::new(alloc)?;
-    assert!(rt; is_amf_text(b""));
-    let empty = builder.text(b"")?;
-    let root = builder.open_node(Shape::Array)?;
-    let first = builder.open_node(Shape::Array)?;
-    let outer = builder.open_node(Shape::Array)?;
-    let second = builder.open_node(Shape::Array)?;
-    builder.put(root, Part::Item(Value::Node(first)))?;
-    builder.put(root, Part::Item(Value::Node(outer)))?;
-    builder.put(outer, Part::Item(Value::Node(second)))?;
-    builder.put(outer, Part::Item(Value::Node(first)))?;
-    builder.put(first, Part::Named(empty, Value::Null))?;
-    builder.put(second, Part::Named(empty, Value::Null))?;
-    builder.close_node(first);
-    builder.close_node(second);
-    builder.close_node(outer);
-    builder.close_node(root);
-    let graph = finished(builder, Value::Node(root))?;
-    let part = item(&graph, 1).ok_or("no item")?;
+    let (graph, text) = shared(alloc)?;
+    let part = item(&graph, 0).ok_or("no item")?;
+    let again = item(&graph, 1).ok_or("no item")?;
     let mut tables = WriterTables::new(alloc)?;
     let mut out = vec![in alloc; 0xAA]?;
-    let end = write3_part(alloc, &graph, part, &mut tables, &mut out);
-    let lack = Lack {
+    write3_text(alloc, &graph, text, &mut tables, &mut out)?;
+    write3_part(alloc, &graph, part, &mut tables, &mut out)?;
+    write3_part(alloc, &graph, again, &mut tables, &mut out)?;
+    assert_eq!(rt;
+        out.as_slice(),
+        b"\xAA\x03a\x09\x03\x01\x06\x00\x09\x00".as_slice()
+    );
+    Ok(())
+}
+
+/// An array of two nodes that have an empty name, of which the second leads to the first.
+fn unnamed(alloc: Global) -> Result<Rooted, Fail> {
+    let mut builder = Builder::new(alloc)?;
+    if !is_amf_text(b"") {
+        return Err("no text".into());
+    }
+    let empty = builder.text(b"")?;
+    let first = builder.open_node(Shape::Array)?;
+    builder.put(first, Part::Named(empty, Value::Null))?;
+    builder.close_node(first);
+    let second = builder.open_node(Shape::Array)?;
+    builder.put(second, Part::Named(empty, Value::Node(first)))?;
+    builder.close_node(second);
+    let root = builder.open_node(Shape::Array)?;
+    builder.put(root, Part::Item(Value::Node(first)))?;
+    builder.put(root, Part::Item(Value::Node(second)))?;
+    builder.close_node(root);
+    finished(builder, Value::Node(root))
+}
+
+/// How the writing of an item of the root ends, by tables of its own, and what there is then behind a byte.
+fn part_end(
+    alloc: Global,
+    graph: &Rooted,
+    place: usize,
+) -> Result<(Result<(), WriteEnd>, Vec<u8>), Fail> {
+    let part = item(graph, place).ok_or("no item")?;
+    let mut tables = WriterTables::new(alloc)?;
+    let mut out = vec![in alloc; 0xAA]?;
+    let end = write3_part(alloc, graph, part, &mut tables, &mut out);
+    Ok((end, out))
+}
+
+#[test]
+fn empty_names(rt: HostRuntime) -> Result<(), Fail> {
+    let alloc = rt.alloc();
+    let graph = unnamed(alloc)?;
+    let lack = WriteEnd::NoSpelling(Lack {
         kind: LackKind::EmptyName,
         node: 1,
-    };
-    assert_eq!(rt; end, Err(WriteEnd::NoSpelling(lack)));
+    });
+    for place in 0..2 {
+        let (end, out) = part_end(alloc, &graph, place)?;
+        assert_eq!(rt; end, Err(lack), "{place}");
+        assert_eq!(rt; out.as_slice(), [0xAA].as_slice(), "{place}");
+    }
+    let mut out = vec![in alloc; 0xAA]?;
+    assert_eq!(rt; write3(alloc, &graph, &mut out), Err(lack));
     assert_eq!(rt; out.as_slice(), [0xAA].as_slice());
     Ok(())
 }
 
 #[test]
-fn a_lack_behind_the_part(rt: HostRuntime) -> Result<(), Fail> {
-    let alloc = rt.alloc();
-    let mut builder = Builder::new(alloc)?;
-    assert!(rt; is_amf_text(b""));
-    let empty = builder.text(b"")?;
-    let root = builder.open_node(Shape::Array)?;
-    let first = builder.open_node(Shape::Array)?;
-    let second = builder.open_node(Shape::Array)?;
-    let inner = builder.open_node(Shape::Array)?;
-    builder.put(root, Part::Item(Value::Node(first)))?;
-    builder.put(root, Part::Item(Value::Node(second)))?;
-    builder.put(second, Part::Item(Value::Node(inner)))?;
-    builder.put(inner, Part::Named(empty, Value::Null))?;
-    builder.close_node(first);
-    builder.close_node(inner);
-    builder.close_node(second);
-    builder.close_node(root);
-    let graph = finished(builder, Value::Node(root))?;
-    let part = item(&graph, 1).ok_or("no item")?;
-    let mut tables = WriterTables::new(alloc)?;
-    let mut out = Vec::new(alloc);
-    let end = write3_part(alloc, &graph, part, &mut tables, &mut out);
-    let lack = Lack {
-        kind: LackKind::EmptyName,
-        node: 3,
-    };
-    assert_eq!(rt; end, Err(WriteEnd::NoSpelling(lack)));
+fn nodes_without_places(rt: HostRuntime) -> Result<(), Fail> {
+    let mut tables = WriterTables::new(rt.alloc())?;
+    assert!(rt; tables.are_placed());
+    tables.add_done(NodeId(3))?;
+    assert!(rt; !tables.are_placed() && tables.is_done(NodeId(3)) && !tables.is_done(NodeId(0)));
     Ok(())
 }
