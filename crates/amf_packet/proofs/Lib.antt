@@ -1,0 +1,23 @@
+-- The lemmas that several proofs share.
+pub mod PacketRows
+pub mod Lighter
+pub mod Bytes0
+pub mod VerdictLayouts
+pub mod CallItems
+pub mod PacketLayout
+pub mod PacketVerdicts
+pub mod Taken
+pub mod PartReads
+pub mod CallRoots
+pub mod FieldReads
+pub mod ReadValues
+pub mod ValueReads
+pub mod WriteJoins
+pub mod WriteFields
+pub mod WriteBodies
+pub mod WriteLacks
+pub mod WriteLists
+pub mod WriteTexts
+pub mod WriteTold
+pub mod WritePackets
+pub mod Spelled

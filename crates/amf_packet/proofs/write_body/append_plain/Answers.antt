@@ -1,0 +1,5 @@
+use Rattle.amf_graph.specs.Rooted.{content}
+use Rattle.amf_packet.proofs.write_body.append_plain.Goals as goal
+
+pub write0-requires : goal.write0-requires
+write0-requires c = c.lowering_is_kept.ensures.lowered (content c.args.graph.now) (content c.in_ok-low.low) c.in_ok-low.ensures

@@ -1,0 +1,14 @@
+-- The definitions that contracts cite.
+pub mod Packet
+pub mod PacketLacks
+pub mod Content
+pub mod PacketAnswer
+pub mod WrittenPacket
+pub mod WorkedPackets
+pub mod VerdictLaws
+pub mod WorkedVerdicts
+-- Devices of the proofs: no clause of a public call needs them.
+pub mod LayoutPacket
+pub mod ReadParts
+pub mod Items
+pub mod WriteParts

@@ -1,0 +1,23 @@
+//! AMF packets (AMF 0, 4.1 to 4.3): a version, headers and messages, each with a value of AMF 0.
+#![tactic(auto)]
+
+mod body;
+mod facts;
+mod packet;
+mod packet_end;
+mod read;
+mod read_body;
+mod read_field;
+#[cfg(test)]
+mod tests;
+mod write;
+mod write_body;
+mod write_parts;
+mod write_texts;
+
+pub use body::Body;
+pub use facts::{packet_rows, packet_verdict_rows, packets_have_one_verdict};
+pub use packet::{Header, Headers, Message, Messages, Packet};
+pub use packet_end::PacketEnd;
+pub use read::read_packet;
+pub use write::write_packet;
