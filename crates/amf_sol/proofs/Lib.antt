@@ -1,0 +1,13 @@
+pub mod SharedPaths
+pub mod Repeats
+pub mod TreeVerdicts
+pub mod RepeatedVerdicts
+pub mod Holders
+pub mod FileRows
+pub mod FilePairs
+pub mod FileAble
+pub mod FileFound
+pub mod FileSound
+pub mod FileRepeats
+pub mod FileVerdicts
+pub mod Unheld

@@ -1,0 +1,13 @@
+-- Whether a value is a node. A device of proofs.
+use Rattle.std.specs.Prelude.{ℕ, Bool, false, ◌==◌}
+use Rattle.amf_graph.specs.Graph.{Value, leaf, node}
+use Rattle.amf_graph.specs.declared.value.Value.{Value as Stored}
+use Rattle.amf_graph.specs.declared.value.Value.TheVariants.{Node as NodeRef}
+
+abbrev pub is_node : ℕ → Value → Bool
+is_node i (leaf x) = false
+is_node i (node j) = j == i
+
+abbrev pub is_stored_node : ℕ → Stored → Bool
+is_stored_node i (NodeRef n) = n.0 == i
+is_stored_node i _ = false

@@ -1,0 +1,11 @@
+-- The definitions that contracts cite.
+pub mod SharedObject
+pub mod FileVerdict
+pub mod FileLaws
+pub mod FileLacks
+pub mod StoredFile
+pub mod WorkedFiles
+-- Devices of the proofs: no clause of a public call needs them.
+pub mod HolderTest
+pub mod Repeated
+pub mod FileLayout

@@ -1,0 +1,21 @@
+//! Laws of the verdict on a shared object file.
+
+ghost use Rattle.amf_sol.specs.FileLaws.{FilesJudged, FilesJudgedOnce, FilesFixNext, FileFaultsAreFirst};
+
+/// An input of bytes has a verdict, and no input has two: it is a shared object file of the length that it gives, or it is
+/// refused for one reason at one offset.
+pub fn files_have_one_verdict()
+    ensures judged { FilesJudged }
+    ensures once { FilesJudgedOnce }
+{}
+
+/// What kind of field of a file comes next follows from the bytes before it.
+pub fn files_fix_next_kind()
+    ensures { FilesFixNext }
+{}
+
+/// A faulty field of a file is the first that is wrong: the bytes before it can be completed to a file, with any length, and
+/// no file begins with the bytes up to its end.
+pub fn file_faults_are_first()
+    ensures { FileFaultsAreFirst }
+{}
