@@ -169,3 +169,24 @@ fn tells_which_value_is_not_written(rt: HostRuntime) -> Result<(), Fail> {
     assert_eq!(rt; out.as_slice(), b"\xAA".as_slice());
     Ok(())
 }
+
+#[test]
+fn says_why_nothing_was_written(rt: HostRuntime) -> Result<(), Fail> {
+    let lack = Lack {
+        kind: LackKind::EmptyName,
+        node: 2,
+    };
+    for (end, words) in [
+        (PacketEnd::TooMany, "too many headers or messages"),
+        (PacketEnd::LongText(3), "a long text with value 3"),
+        (
+            PacketEnd::NoSpelling { value: 1, lack },
+            "no spelling of value 1 from node 2",
+        ),
+        (PacketEnd::Memory, "no memory"),
+    ] {
+        let said = format!(in rt.alloc(); "{end}")?;
+        assert_eq!(rt; said.as_str(), words);
+    }
+    Ok(())
+}
