@@ -13,12 +13,12 @@ use Rattle.amf_io.proofs.Bytes.{bytes_front, bytes_back}
 use Rattle.amf_io.proofs.Combine.{headed}
 use Rattle.amf_io.proofs.Paths.{bind_runs}
 use Rattle.amf_wire.specs.Style.{free}
-use Rattle.amf_graph.specs.Graph.{Value, object, node_at}
+use Rattle.amf_graph.specs.Graph.{object, node_at}
 use Rattle.amf_graph.specs.Graph as graph
 use Rattle.amf_graph.specs.ByName.{by_name}
 use Rattle.amf_graph.specs.declared.value.Value.{Value as Stored}
 use Rattle.amf_graph.specs.declared.value.Value.TheVariants.{Node as NodeRef}
-use Rattle.amf_graph.specs.Arena.{Arena, StoredNode, value_content, head_content, node_content, graph_of, IsTraitsIn, IsNodeIn, IsBuilt, IsFinished, NodesComplete, Completes}
+use Rattle.amf_graph.specs.Arena.{Arena, StoredNode, value_content, head_content, node_content, graph_of, IsNodeIn, IsBuilt, IsFinished, NodesComplete, Completes}
 use Rattle.amf_graph.specs.Arena as arena
 use Rattle.amf_graph.specs.Building.{no_stored, stored_at, shut}
 use Rattle.amf_graph.proofs.Lists.{no_entry}
@@ -35,7 +35,7 @@ use Rattle.amf0_tables.proofs.Layout0Contents.{Good0}
 use Rattle.amf0_tables.proofs.Layout0SoundParts.{short_sound, u32_is}
 use Rattle.amf_sol.specs.declared.sol_version.SolVersion.{SolVersion}
 use Rattle.amf_sol.specs.declared.sol_version.SolVersion.TheVariants.{Amf0, Amf3}
-use Rattle.amf_sol.specs.SharedObject.{Shared, IsPairHolder, signature, length_field, second_signature, padding, version_kind, version_field, PairsBy, PairsOf, SpellsFile}
+use Rattle.amf_sol.specs.SharedObject.{IsPairHolder, signature, length_field, second_signature, padding, version_kind, version_field, PairsBy, PairsOf, SpellsFile}
 use Rattle.amf_sol.specs.FileLayout.{FileState, file, holder_arena, no_pairs, version_of, behind_name, head_layout, pair_layout, HasPairs}
 use Rattle.amf_sol.specs.Repeated.{steps, after_head}
 use Rattle.amf_sol.proofs.FilePairs.{exact_is, Ways, Many, ways0, ways3, many0, many3}

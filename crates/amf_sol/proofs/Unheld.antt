@@ -1,5 +1,5 @@
 -- What the pairs of a file spell leads nowhere to their holder: it counts as spelled from the start, and no index names it.
-use Rattle.std.proofs.Common.{◌≡◌, ◌≢◌, ◌⊎◌, ℕ, zero, suc, Bool, true, false, cond, List, [], ◌∷◌, ◌++◌, length, slice_get, Some, ℤ, refl, sym, ap, ◌∙◌, subst, inl, inr, arith}
+use Rattle.std.proofs.Common.{◌≡◌, ◌⊎◌, ℕ, zero, suc, Bool, true, false, cond, List, [], ◌∷◌, ◌++◌, length, slice_get, Some, refl, sym, ap, ◌∙◌, subst, inl, inr, arith}
 use Rattle.std.specs.List.{AllByRecursion}
 use Rattle.amf_io.specs.Field.{Field}
 use Rattle.amf_wire.specs.Style.{Style, free}
@@ -10,20 +10,20 @@ use Rattle.amf_graph.specs.Reached.{Reached, at_root, inside, Holds}
 use Rattle.amf_graph.proofs.Alls.{each_at}
 use Rattle.amf_graph.proofs.Lists.{at_push, at_left, at_end, no_entry}
 use Rattle.amf_graph.proofs.NameOrder.{by_name_all, by_name_all_back}
-use Rattle.amf3_spelling.specs.Tables.{Words, Tables, with_words, add_node}
+use Rattle.amf3_spelling.specs.Tables.{Words, Tables, add_node}
 use Rattle.amf3_spelling.specs.Then.{Spelling, Then, Plain}
 use Rattle.amf3_spelling.specs.Refusals3.{leaf_marker}
 use Rattle.amf3_spelling.specs.Words3.{Text}
 use Rattle.amf3_spelling.specs.Headers3.{HeaderBy, marker_field}
 use Rattle.amf3_spelling.specs.Parts3.{Part, flag, four, eight, raw, chars, word, value, Fixed, Lifted, Parts, values_then, pairs_then, layout}
-use Rattle.amf3_spelling.specs.Nodes3.{Named, Begun}
-use Rattle.amf3_spelling.specs.Spells3.{Marked, LeafBy, ValueBy, InlineIn, SpellsIn, Spells3}
-use Rattle.amf0_tables.specs.Parts0.{Short, Long, Count0, Marked0, LeafBy0, Values0, Pairs0, PairsBy0, is_empty}
-use Rattle.amf0_tables.specs.Spells0.{NodeBy0, Named0, Begun0, Switched, ValueBy0, InlineIn0, SpellsIn0, Spells0}
+use Rattle.amf3_spelling.specs.Nodes3.{Begun}
+use Rattle.amf3_spelling.specs.Spells3.{LeafBy, ValueBy, InlineIn, Spells3}
+use Rattle.amf0_tables.specs.Parts0.{Short, Count0, Marked0, LeafBy0, Values0, Pairs0, PairsBy0, is_empty}
+use Rattle.amf0_tables.specs.Spells0.{NodeBy0, Named0, Begun0, Switched, ValueBy0, InlineIn0, Spells0}
 use Rattle.amf0_tables.specs.Tables0.{Tables0, add_node0, add_done0}
 use Rattle.amf_sol.specs.declared.sol_version.SolVersion.{SolVersion}
 use Rattle.amf_sol.specs.declared.sol_version.SolVersion.TheVariants.{Amf0, Amf3}
-use Rattle.amf_sol.specs.SharedObject.{PairsBy, PairsOf, IsHolder, HasHolder, file_tables, file_tables0}
+use Rattle.amf_sol.specs.SharedObject.{Shared, PairsBy, PairsOf, HasHolder, SpellsFile, file_tables, file_tables0}
 
 -- it stands in the list
 abbrev In : List ℕ → ℕ → Type 0
@@ -430,3 +430,6 @@ has_holder Amf0 g fs p =
     (λ x t fs t' z o. let k = kept0_same h g t t' z.1 o in (k.ok, k.grow))
     (λ v t fs t' z o. let k = keeps0 h g free v t fs t' z o in (k.0.ok, k.0.grow, k.1)) p.pairs (file_tables0 h) fs p.spelled.0 p.spelled.1 (record { amf3 = ok_start h; amf0 = ok_start h }) in
     (h, record { pairs = i; unheld = never_held h g p.spelled.0.amf3.done i.root a.0 (no_values h g p.spelled.0.amf3.done (node_at g h).values i.unsealed, fine_order h p.spelled.0.amf3.done p.pairs (node_at g h).names p.same_names a.1) })
+
+pub file_holder : (o : Shared) (fs : List Field) → SpellsFile free o fs → HasHolder o.holder
+file_holder o fs s = let held : PairsOf free o.version o.holder s.behind.pairs = s.behind.held in has_holder o.version o.holder s.behind.pairs held

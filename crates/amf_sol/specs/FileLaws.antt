@@ -1,9 +1,10 @@
 -- The laws of the verdict on a shared object file.
 use Rattle.std.specs.Prelude.{◌≡◌, ◌⊎◌, ℕ, ◌≤◌, List}
 use Rattle.amf_io.specs.declared.reason.Reason.{Reason}
-use Rattle.amf_io.specs.Field.{AreBytes}
+use Rattle.amf_io.specs.Field.{Field, AreBytes}
 use Rattle.amf_io.specs.Verdict.{FixesNext, IsFault, IsFirstFault}
-use Rattle.amf_sol.specs.SharedObject.{IsFileReading}
+use Rattle.amf_wire.specs.Style.{free}
+use Rattle.amf_sol.specs.SharedObject.{Shared, HasHolder, SpellsFile, IsFileReading}
 use Rattle.amf_sol.specs.FileVerdict.{IsFileAccepted, IsFileRefused}
 
 -- an input of bytes is accepted, or it is refused for a reason at an offset
@@ -25,3 +26,7 @@ FilesFixNext = FixesNext IsFileReading
 -- a faulty field is the first that is wrong
 abbrev pub FileFaultsAreFirst : Type 0
 FileFaultsAreFirst = (base at : ℕ) (input : List ℕ) (reason : Reason) → IsFault IsFileReading base input reason at → IsFirstFault IsFileReading base input at
+
+-- the root of a file's graph is a holder, and nothing that it reaches holds it
+abbrev pub FilesHaveHolders : Type 0
+FilesHaveHolders = (o : Shared) (fs : List Field) → SpellsFile free o fs → HasHolder o.holder

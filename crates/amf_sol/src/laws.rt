@@ -1,6 +1,6 @@
 //! Laws of the verdict on a shared object file.
 
-ghost use Rattle.amf_sol.specs.FileLaws.{FilesJudged, FilesJudgedOnce, FilesFixNext, FileFaultsAreFirst};
+ghost use Rattle.amf_sol.specs.FileLaws.{FilesJudged, FilesJudgedOnce, FilesFixNext, FileFaultsAreFirst, FilesHaveHolders};
 
 /// An input of bytes has a verdict, and no input has two: it is a shared object file of the length that it gives, or it is
 /// refused for one reason at one offset.
@@ -18,4 +18,10 @@ pub fn files_fix_next_kind()
 /// no file begins with the bytes up to its end.
 pub fn file_faults_are_first()
     ensures { FileFaultsAreFirst }
+{}
+
+/// The root of the graph that a file spells is a dynamic object without class and sealed names, and nothing that it reaches
+/// holds it.
+pub fn files_have_holders()
+    ensures { FilesHaveHolders }
 {}

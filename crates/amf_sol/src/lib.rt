@@ -12,7 +12,9 @@ mod sol_version;
 mod tests;
 
 pub use facts::worked_files;
-pub use laws::{file_faults_are_first, files_fix_next_kind, files_have_one_verdict};
+pub use laws::{
+    file_faults_are_first, files_fix_next_kind, files_have_holders, files_have_one_verdict,
+};
 pub use shared_object::SharedObject;
 pub use sol_end::SolEnd;
 pub use sol_version::SolVersion;

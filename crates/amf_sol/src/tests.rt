@@ -1,6 +1,6 @@
 use crate::{
     SharedObject, SolEnd, SolVersion, file_faults_are_first, files_fix_next_kind,
-    files_have_one_verdict, worked_files,
+    files_have_holders, files_have_one_verdict, worked_files,
 };
 use amf_graph::{Builder, Part, Rooted, Shape, Value};
 use amf_wire::{Name, is_amf_text};
@@ -13,6 +13,7 @@ fn facts_and_laws_stand(_rt: HostRuntime) {
     files_have_one_verdict();
     files_fix_next_kind();
     file_faults_are_first();
+    files_have_holders();
 }
 
 /// An object without sealed names that has one member, an array. Where `held`, the array holds the object.
