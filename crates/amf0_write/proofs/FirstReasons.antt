@@ -10,31 +10,32 @@ use Rattle.amf_graph.specs.Order.{IsOrder}
 use Rattle.amf_graph.proofs.Walks.{walks_fixed}
 use Rattle.amf_graph.specs.Graph.{Graph, node_at}
 use Rattle.amf_graph.specs.Lacks.{rank, IsFirstLack}
-use Rattle.amf0_tables.specs.Lacks0.{NodeLacks0, Lacks0, IsLack0, enters0, entered}
+use Rattle.amf0_tables.specs.Lacks0.{NodeLacks0, Lacks0, enters0, entered}
+use Rattle.amf0_write.specs.PartLacks0.{LacksOutside, IsLackOutside}
 use Rattle.amf0_tables.proofs.Entered.{entered_push}
 use Rattle.amf0_write.specs.Meetings.{IsFirstReason}
 
 -- no number below this one has a lack
-abbrev pub NoneBelow : Graph → List ℕ → ℕ → Type 0
-NoneBelow g order number = (n : ℕ) (k : LackKind) → n < number → Lacks0 g 0 order n k → ⊥
+abbrev pub NoneBelow : Graph → ℕ → List ℕ → ℕ → Type 0
+NoneBelow g outside order number = (n : ℕ) (k : LackKind) → n < number → Lacks0 g outside order n k → ⊥
 
-module _ (g : Graph) (order : List ℕ) (number i : ℕ) (there : slice_get order number ≡ Some i) where
+module _ (g : Graph) (outside : ℕ) (order : List ℕ) (number i : ℕ) (there : slice_get order number ≡ Some i) where
   at_number : (n j : ℕ) → n ≡ number → slice_get order n ≡ Some j → j ≡ i
   at_number n j e f = same_Some j i (sym f ∙ ap (slice_get order) e ∙ there)
 
-  pub found : (kind : LackKind) → NoneBelow g order number → NodeLacks0 g 0 order number i kind → ((k : LackKind) → NodeLacks0 g 0 order number i k → rank kind ≤ rank k) → IsFirstLack (Lacks0 g 0 order) number kind
+  pub found : (kind : LackKind) → NoneBelow g outside order number → NodeLacks0 g outside order number i kind → ((k : LackKind) → NodeLacks0 g outside order number i k → rank kind ≤ rank k) → IsFirstLack (Lacks0 g outside order) number kind
   found kind none here first = record {
     lacks = (i, there, here);
     least = λ n k l. elim (cases_lt n number) [ inl below ↦ absurd (none n k below l) | inr above ↦ above ];
-    first = λ k l. first k (subst (λ j. NodeLacks0 g 0 order number j k) (at_number number l.0 refl l.1) l.2);
+    first = λ k l. first k (subst (λ j. NodeLacks0 g outside order number j k) (at_number number l.0 refl l.1) l.2);
   }
 
-  pub none_more : NoneBelow g order number → ((k : LackKind) → NodeLacks0 g 0 order number i k → ⊥) → NoneBelow g order (number + 1)
+  pub none_more : NoneBelow g outside order number → ((k : LackKind) → NodeLacks0 g outside order number i k → ⊥) → NoneBelow g outside order (number + 1)
   none_more none here n k below l = elim (cases_lt n number) [
     | inl less ↦ none n k less l
     | inr above ↦ (
         let at : n ≡ number = omega (arith, below, above) in
-        here k (subst (λ j. NodeLacks0 g 0 order number j k) (at_number n l.0 at l.1) (subst (λ m. NodeLacks0 g 0 order m l.0 k) at l.2)))
+        here k (subst (λ j. NodeLacks0 g outside order number j k) (at_number n l.0 at l.1) (subst (λ m. NodeLacks0 g outside order m l.0 k) at l.2)))
   ]
 
 -- where no reason is told, none applies
@@ -56,6 +57,6 @@ module _ (g : Graph) (order : List ℕ) (number i : ℕ) (there : slice_get orde
   enters_same place p e = omega (arith, p, entered_by false e)
 
 -- of the one order
-pub lack_of : (g : Graph) (order : List ℕ) → IsOrder g order → (o : Option Lack) → MatchOption o ((n : ℕ) (k : LackKind) → Lacks0 g 0 order n k → ⊥) (λ l. IsFirstLack (Lacks0 g 0 order) l.node l.kind) → MatchOption o ((n : ℕ) (k : LackKind) → IsLack0 g n k → ⊥) (λ l. IsLack0 g l.node l.kind)
-lack_of g order w None h = λ n k l. h n k (subst (λ xs. Lacks0 g 0 xs n k) (walks_fixed l.1 w) l.2.lacks)
-lack_of g order w (Some l) h = (order, w, h)
+pub lack_of : (g : Graph) (outside : ℕ) (order : List ℕ) → IsOrder g order → (o : Option Lack) → MatchOption o ((n : ℕ) (k : LackKind) → Lacks0 g outside order n k → ⊥) (λ l. IsFirstLack (Lacks0 g outside order) l.node l.kind) → MatchOption o ((n : ℕ) (k : LackKind) → LacksOutside g outside n k → ⊥) (λ l. IsLackOutside g outside l.node l.kind)
+lack_of g outside order w None h = λ n k l. h n k (subst (λ xs. Lacks0 g outside xs n k) (walks_fixed l.1 w) l.2)
+lack_of g outside order w (Some l) h = (order, w, h)

@@ -1,6 +1,7 @@
 -- From parts that were to be written to those that are left, step by step, and where a writer stops.
-use Rattle.std.proofs.Common.{◌≡◌, ℕ, zero, suc, ◌<◌, ◌≤◌, ◌^◌, Bool, true, false, cond, List, [], ◌∷◌, ◌++◌, length, take, slice_get, Some, sym, refl, ap, ◌∙◌, subst, inl, inr, arith, append_assoc, append-nil}
+use Rattle.std.proofs.Common.{◌≡◌, ℕ, suc, ◌+◌, ◌-◌, ◌<◌, ◌≤◌, ◌^◌, Bool, true, false, cond, List, [], ◌∷◌, ◌++◌, length, take, slice_get, Some, sym, refl, ap, ◌∙◌, subst, inl, inr, arith, append_assoc, append-nil}
 use Rattle.std.specs.Int.{to_be_bytes, w16, w32, w64}
+use Rattle.std.proofs.lemmas.Bool.{cases_lt}
 use Rattle.std.proofs.lemmas.Option.{slice_get_within}
 use Rattle.amf_io.specs.Field.{Field, flat, field, contents, u32_kind, raw_kind, text_kind, no_refusal}
 use Rattle.amf_wire.specs.Style.{canonical}
@@ -13,7 +14,7 @@ use Rattle.amf_graph.specs.declared.value.Value.TheVariants.{Undefined, Null, Bo
 use Rattle.amf_graph.specs.Arena.{Arena, value_content, text_at}
 use Rattle.amf_graph.specs.Graph.{Leaf, undefined, null, boolean, integer, double, text, Value, leaf, node, Graph, node_at}
 use Rattle.amf_graph.specs.Order.{Absent, values_met}
-use Rattle.amf_graph.proofs.Lists.{at_push, no_entry}
+use Rattle.amf_graph.proofs.Lists.{at_push}
 use Rattle.amf_graph.proofs.Walks.{distinct_push}
 use Rattle.amf_tables.specs.FirstPlace.{IsFirstPlace}
 use Rattle.amf0_tables.specs.Lacks0.{HasNoForm, HasShortNames, enters0, is_loose0, entered}
@@ -22,13 +23,14 @@ use Rattle.amf0_tables.specs.Parts0.{marker0_field, Long}
 use Rattle.amf0_tables.specs.Refusals0.{index0_kind}
 use Rattle.amf0_tables.specs.Spells0.{Spells0}
 use Rattle.amf0_tables.specs.Tables0.{Tables0, add_node0, add_done0}
-use Rattle.amf0_tables.proofs.Entered.{entered_push, entered_at, entered_enters, take_front}
+use Rattle.amf0_tables.proofs.Entered.{entered_push, entered_at, entered_enters, take_front, at_right, right_at}
 use Rattle.amf0_tables.proofs.Meeting.{meets_prefix, meets_stays, meets_first}
 use Rattle.amf0_write.specs.declared.output.Output.{Output}
-use Rattle.amf0_write.specs.PartLacks0.{PlaceLacks0}
+use Rattle.amf0_write.specs.PartLacks0.{outside_of, HasNoIndex, PlaceLacks0}
 use Rattle.amf0_write.specs.Written0.{AreTables0}
 use Rattle.amf0_write.specs.Writes0.{tables_of, done_of, IsDone, Adds, AddsBy, Part, name, value, ending, part_values, IsLeafSpelled, IsCanonical, Parts, Leads, Stops}
 use Rattle.amf0_write.proofs.Closing0.{contents_flat, name_fields}
+use Rattle.amf0_write.proofs.Grown0.{grown_still, grown_then, same_outside, count_outside, rank_is, entered_in}
 
 -- Values that are no nodes.
 
@@ -69,22 +71,14 @@ values_append (ending ∷ ps) qs = values_append ps qs
 
 -- Tables.
 
-entered_in : (g : Graph) (xs : List ℕ) (k i : ℕ) → slice_get (entered g xs) k ≡ Some i → (l : ℕ) × (slice_get xs l ≡ Some i)
-entered_in g [] k i e = absurd (no_entry k i e)
-entered_in g (x ∷ xs) k i e = go (enters0 (node_at g x).head) (entered_in g xs) k e
-  where
-    go : (b : Bool) → ((k i : ℕ) → slice_get (entered g xs) k ≡ Some i → (l : ℕ) × (slice_get xs l ≡ Some i)) → (k : ℕ) → slice_get (cond b (x ∷ entered g xs) (entered g xs)) k ≡ Some i → (l : ℕ) × (slice_get (x ∷ xs) l ≡ Some i)
-    go true r zero e = (0, e)
-    go true r (suc k) e = let o = r k i e in (suc o.0, o.1)
-    go false r k e = let o = r k i e in (suc o.0, o.1)
-
 pub named_done : (g : Graph) (t : Tables0) (place i : ℕ) → AreTables0 g t → slice_get t.nodes place ≡ Some i → IsDone t.amf3.done i
-named_done g t place i h e = entered_in g t.amf3.done place i (subst (λ w. slice_get w place ≡ Some i) h.level e)
+named_done g t place i h e = entered_in g t.amf3.done (length h.outside + place) i (subst (λ w. slice_get w (length h.outside + place) ≡ Some i) h.level (right_at h.outside t.nodes place i e))
 
 pub sound_node : (g : Graph) (t : Tables0) (i : ℕ) → enters0 (node_at g i).head ≡ true → Absent t.amf3.done i → AreTables0 g t → AreTables0 g (add_node0 t i)
 sound_node g t i enters new h = record {
   once = distinct_push t.amf3.done i new h.once;
-  level = ap (λ w. w ++ i ∷ []) h.level ∙ ap (λ b. entered g t.amf3.done ++ cond b (i ∷ []) []) (sym enters) ∙ sym (entered_push g t.amf3.done i);
+  outside = h.outside;
+  level = sym (append_assoc h.outside t.nodes (i ∷ [])) ∙ ap (λ w. w ++ i ∷ []) h.level ∙ ap (λ b. entered g t.amf3.done ++ cond b (i ∷ []) []) (sym enters) ∙ sym (entered_push g t.amf3.done i);
   loose = λ k j e f. elim (at_push t.amf3.done i k j e) [
     | inl o ↦ h.loose k j o f
     | inr o ↦ (let z : true ≡ false = sym enters ∙ ap (λ w. enters0 (node_at g w).head) o.1 ∙ f in cc)
@@ -94,6 +88,7 @@ sound_node g t i enters new h = record {
 pub sound_done : (g : Graph) (t : Tables0) (i : ℕ) → enters0 (node_at g i).head ≡ false → is_loose0 (node_at g i).head ≡ true → Absent t.amf3.done i → AreTables0 g t → AreTables0 g (add_done0 t i)
 sound_done g t i enters loose new h = record {
   once = distinct_push t.amf3.done i new h.once;
+  outside = h.outside;
   level = h.level ∙ sym (append-nil (entered g t.amf3.done)) ∙ ap (λ b. entered g t.amf3.done ++ cond b (i ∷ []) []) (sym enters) ∙ sym (entered_push g t.amf3.done i);
   loose = λ k j e f. elim (at_push t.amf3.done i k j e) [
     | inl o ↦ h.loose k j o f
@@ -115,7 +110,7 @@ plain_done a (Text t) o m n f = same_done o m (f (text (text_at a t.0)) refl).2.
 plain_done a (NodeRef i) o m n f = absurd (n i refl)
 
 pub adds_then : (b c : List ℕ) (o m n : Output) → Adds b o m → Adds c m n → Adds (b ++ c) o n
-adds_then b c o m n h k = record { bytes = k.bytes ∙ ap (λ w. w ++ c) h.bytes ∙ append_assoc o.bytes.items b c; tables = k.tables ∙ h.tables }
+adds_then b c o m n h k = record { bytes = k.bytes ∙ ap (λ w. w ++ c) h.bytes ∙ append_assoc o.bytes.items b c; tables = k.tables ∙ h.tables; loose = k.loose ∙ h.loose }
 
 -- What leads from parts to parts.
 
@@ -127,6 +122,7 @@ module _ (g : Graph) where
     completes = λ more t h. subst (λ w. Parts g w (tables_of o) more t) (sym e) h;
     meets = λ all ks w. (ks, subst (λ z. Meets g (done_of o) (part_values z) all ks) e w, λ k a. a);
     later = omega arith;
+    grown = grown_still g o o (refl, refl);
     sound = λ h. h;
   }
 
@@ -137,6 +133,7 @@ module _ (g : Graph) where
     completes = λ more t d. subst (λ w. Parts g ps (tables_of o) w t) (sym (append_assoc h.bytes k.bytes more)) (h.completes (k.bytes ++ more) t (k.completes more t d));
     meets = λ all ks w. let x = h.meets all ks w in let y = k.meets all x.0 x.1 in (y.0, y.1, λ j a. x.2 j (y.2 j a));
     later = omega (arith, h.later, k.later);
+    grown = grown_then g o m n h.grown k.grown;
     sound = λ s. k.sound (h.sound s);
   }
 
@@ -154,6 +151,7 @@ module _ (g : Graph) where
     completes = λ more t d. subst (λ u. Parts g (p ∷ ps) u (b ++ more) t) h.tables (whole more (tables_of m) t d);
     meets = λ all ks w. (ks, subst (λ z. Meets g z (part_values ps) all ks) (sym (same_done o m h.tables)) (pass all ks w), λ k a. a);
     later = omega (arith, ap length (same_done o m h.tables));
+    grown = grown_still g o m (h.tables, h.loose);
     sound = λ s. subst (AreTables0 g) (sym h.tables) s;
   }
 
@@ -191,6 +189,7 @@ module _ (g : Graph) where
         completes = λ more u d. record { front = 0x07 ∷ to_be_bytes w16 place; back = more; mid = tables_of m; joined = refl; first = spelled; second = d };
         meets = λ all ks w. let x = met_again k.0 k.1 w in (x.1, subst (λ z. Meets g z (part_values ps) all x.1) (sym (same_done o m h.tables)) x.3, again_more x.0 x.1 ks x.4);
         later = omega (arith, ap length (same_done o m h.tables));
+        grown = grown_still g o m (h.tables, h.loose);
         sound = λ q. subst (AreTables0 g) (sym h.tables) q;
       }
 
@@ -204,19 +203,19 @@ module _ (g : Graph) where
 
   -- Where a writer stops.
 
-  more_again : (before : ℕ) (all rest ks : List ℕ) → ((k : ℕ) → IsAgain rest k → IsAgain ks k) → (place i : ℕ) (kind : LackKind) → PlaceLacks0 g before all rest place i kind → PlaceLacks0 g before all ks place i kind
-  more_again before all rest ks f place i EmptyName z = z
-  more_again before all rest ks f place i NoForm z = z
-  more_again before all rest ks f place i LongName z = z
-  more_again before all rest ks f place i Shared z = (z.0, f place z.1)
-  more_again before all rest ks f place i FarReference z = (z.0, z.1, f place z.2)
-  more_again before all rest ks f place i LongFile z = z
+  more_again : (outside before : ℕ) (all rest ks : List ℕ) → ((k : ℕ) → IsAgain rest k → IsAgain ks k) → (place i : ℕ) (kind : LackKind) → PlaceLacks0 g outside before all rest place i kind → PlaceLacks0 g outside before all ks place i kind
+  more_again outside before all rest ks f place i EmptyName z = z
+  more_again outside before all rest ks f place i NoForm z = z
+  more_again outside before all rest ks f place i LongName z = z
+  more_again outside before all rest ks f place i Shared z = (z.0, f place z.1)
+  more_again outside before all rest ks f place i FarReference z = (z.0, z.1, f place z.2)
+  more_again outside before all rest ks f place i LongFile z = z
 
   pub stops_behind : (ps qs : List Part) (o m : Output) → Leads g ps qs o m → Stops g qs m → Stops g ps o
   stops_behind ps qs o m h s before l all ks w =
       let x = h.meets all ks w in
       let z = s before (omega (arith, l, h.later)) all x.0 x.1 in
-      (z.0, z.1, z.2, z.3, more_again before all x.0 ks x.2 z.0 z.1 z.2 z.4)
+      (z.0, z.1, z.2, z.3, subst (λ outside. PlaceLacks0 g outside before all ks z.0 z.1 z.2) (same_outside g o m h.grown) (more_again (outside_of g (tables_of m)) before all x.0 ks x.2 z.0 z.1 z.2 z.4))
 
   pub stops_form : (i : ℕ) (ps : List Part) (o : Output) → Absent (done_of o) i → HasNoForm (node_at g i) (node_at g i).head → Stops g (value (node i) ∷ ps) o
   stops_form i ps o new h before l all ks w = (length (done_of o), i, NoForm, meets_first (done_of o) i (met_first new w), (l, h))
@@ -224,30 +223,34 @@ module _ (g : Graph) where
   pub stops_name : (i : ℕ) (ps : List Part) (o : Output) → Absent (done_of o) i → (HasShortNames (node_at g i) → ⊥) → Stops g (value (node i) ∷ ps) o
   stops_name i ps o new h before l all ks w = (length (done_of o), i, LongName, meets_first (done_of o) i (met_first new w), (l, h))
 
+  -- how many of those that can be named come before a node that was done
+  rank_then : {all ks : List ℕ} {vs : List Value} (d : List ℕ) (k i : ℕ) → slice_get d k ≡ Some i → Meets g d vs all ks → length (entered g (take k all)) ≡ length (entered g (take k d))
+  rank_then d k i e w =
+      let pre = meets_prefix w in
+      let within = slice_get_within d k i e in
+      ap (λ z. length (entered g z)) (ap (λ z. take k z) pre.1 ∙ take_front d pre.0 k (omega (arith, within)))
+
   pub stops_loose : (i : ℕ) (ps : List Part) (o : Output) → AreTables0 g (tables_of o) → IsDone (done_of o) i → Absent (tables_of o).nodes i → Stops g (value (node i) ∷ ps) o
   stops_loose i ps o s (k, e) none before l all ks w =
       let x = met_again k e w in
-      let loose : is_loose0 (node_at g i).head ≡ true = go (enters0 (node_at g i).head) refl in
-      (x.0, i, Shared, meets_stays x.3 x.0 i x.2, (loose, (0, ap (λ z. slice_get z 0) x.4)))
+      (x.0, i, Shared, meets_stays x.3 x.0 i x.2, (go (enters0 (node_at g i).head) refl x.0 x.2 (rank_then (done_of o) x.0 i x.2 x.3), (0, ap (λ z. slice_get z 0) x.4)))
     where
-      go : (b : Bool) → enters0 (node_at g i).head ≡ b → is_loose0 (node_at g i).head ≡ true
-      go false f = s.loose k i e f
-      go true f = absurd (none (length (entered g (take k (done_of o)))) (subst (λ z. slice_get z (length (entered g (take k (done_of o)))) ≡ Some i) (sym s.level) (entered_at g (done_of o) k i e f)))
+      go : (b : Bool) → enters0 (node_at g i).head ≡ b → (n : ℕ) → slice_get (done_of o) n ≡ Some i → length (entered g (take n all)) ≡ length (entered g (take n (done_of o))) → HasNoIndex g (outside_of g (tables_of o)) all n i
+      go false f n at same = inl (s.loose n i at f)
+      go true f n at same = elim (cases_lt (length (entered g (take n all))) (outside_of g (tables_of o))) [
+        | inl below ↦ inr (f, below)
+        | inr above ↦ (
+            let q = length (entered g (take n (done_of o))) - length s.outside in
+            let p : length (entered g (take n (done_of o))) ≡ length s.outside + q = omega (arith, above, same, count_outside g (tables_of o) s) in
+            absurd (none q (at_right s.outside (tables_of o).nodes (length (entered g (take n (done_of o)))) q i p (subst (λ z. slice_get z (length (entered g (take n (done_of o)))) ≡ Some i) (sym s.level) (entered_at g (done_of o) n i at f)))))
+      ]
 
   pub stops_far : (i place : ℕ) (ps : List Part) (o : Output) → AreTables0 g (tables_of o) → IsFirstPlace (tables_of o).nodes i place → 2 ^ 16 ≤ place → Stops g (value (node i) ∷ ps) o
   stops_far i place ps o s at far before l all ks w =
       let d = done_of o in
-      let enters = entered_enters g d place i (subst (λ z. slice_get z place ≡ Some i) s.level at.0) in
       let done = named_done g (tables_of o) place i s at.0 in
       let x = met_again done.0 done.1 w in
-      let pre = meets_prefix x.3 in
-      let within = slice_get_within d x.0 i x.2 in
-      let same : length (entered g (take x.0 all)) ≡ length (entered g (take x.0 d)) = ap (λ z. length (entered g z)) (ap (λ z. take x.0 z) pre.1 ∙ take_front d pre.0 x.0 (omega (arith, within))) in
-      let there : slice_get (tables_of o).nodes (length (entered g (take x.0 d))) ≡ Some i = subst (λ z. slice_get z (length (entered g (take x.0 d))) ≡ Some i) (sym s.level) (entered_at g d x.0 i x.2 enters) in
-      let past : place ≤ length (entered g (take x.0 d)) = not_before place (length (entered g (take x.0 d))) (λ m. at.1 (length (entered g (take x.0 d))) m there) in
-      (x.0, i, FarReference, meets_stays x.3 x.0 i x.2, (enters, omega (arith, same, past, far), (0, ap (λ z. slice_get z 0) x.4)))
-    where
-      not_before : (p q : ℕ) → (q < p → ⊥) → p ≤ q
-      not_before zero q n = omega arith
-      not_before (suc p) zero n = absurd (n (omega arith))
-      not_before (suc p) (suc q) n = let r = not_before p q (λ l. n (omega (arith, l))) in omega (arith, r)
+      let enters = entered_enters g d (length s.outside + place) i (subst (λ z. slice_get z (length s.outside + place) ≡ Some i) s.level (right_at s.outside (tables_of o).nodes place i at.0)) in
+      let same = rank_then d x.0 i x.2 x.3 in
+      let rank = rank_is g (tables_of o) s place x.0 i at.0 x.2 in
+      (x.0, i, FarReference, meets_stays x.3 x.0 i x.2, (enters, omega (arith, same, rank, far, count_outside g (tables_of o) s), (0, ap (λ z. slice_get z 0) x.4)))

@@ -7,8 +7,15 @@ pub mod FirstReasons
 pub mod ShortNames
 pub mod Heights0
 pub mod Closing0
+pub mod Grown0
 pub mod Leading0
 pub mod Opening0
 pub mod Runs0
 pub mod MetValues0
 pub mod Whole0
+pub mod MetBefore
+pub mod LeastMore
+pub mod SearchSteps
+pub mod PartEnds
+pub mod SearchStack
+pub mod FileLacks

@@ -6,6 +6,7 @@ use Rattle.amf_io.specs.Field.{Field, flat, field, u32_kind, raw_kind, no_refusa
 use Rattle.amf_io.proofs.Paths.{flat-append}
 use Rattle.amf_wire.specs.Style.{canonical}
 use Rattle.amf_wire.specs.Text.{IsText}
+use Rattle.amf_graph.specs.declared.value.NodeId.{NodeId}
 use Rattle.amf_graph.specs.Graph.{Value, node, Traits, Head, date, xml_document, array, object, Fits, Node, Graph, node_at}
 use Rattle.amf_graph.specs.ByName.{by_name}
 use Rattle.amf_graph.specs.Order.{Absent, seconds, values_met}
@@ -19,6 +20,7 @@ use Rattle.amf0_tables.specs.Tables0.{Tables0, add_node0, add_done0}
 use Rattle.amf0_write.specs.declared.output.Output.{Output}
 use Rattle.amf0_write.specs.Written0.{AreTables0}
 use Rattle.amf0_write.specs.Writes0.{tables_of, done_of, Adds, Part, value, values_then, pairs_then, part_values, IsCanonical, Parts, Leads, Opens, plain, typed, ecma, strict, Opened}
+use Rattle.amf0_write.proofs.Grown0.{grown_node, grown_loose}
 use Rattle.amf0_write.proofs.Closing0.{name_fields, values_closed, pairs_closed, parts_split}
 use Rattle.amf0_write.proofs.Leading0.{long_fields, met_first, values_append, sound_node, sound_done}
 
@@ -162,8 +164,8 @@ module _ (g : Graph) (i : ℕ) (there : i < length g.nodes) (fits : Fits (node_a
   )
 
   -- an array or an object that begins: its parts are left
-  pub leads_opened : (before after : List Part) (o p n : Output) → Absent (done_of o) i → tables_of p ≡ add_node0 (tables_of o) i → p.bytes ≡ o.bytes → Opened (node_at g i) before after p n → Leads g (value (node i) ∷ before) after o n
-  leads_opened before after o p n new e b x =
+  pub leads_opened : (before after : List Part) (o p n : Output) → Absent (done_of o) i → tables_of p ≡ add_node0 (tables_of o) i → p.loose ≡ o.loose → p.bytes ≡ o.bytes → Opened (node_at g i) before after p n → Leads g (value (node i) ∷ before) after o n
+  leads_opened before after o p n new e q b x =
       let same : tables_of n ≡ add_node0 (tables_of o) i = x.adds.tables ∙ e in
       let done : done_of n ≡ done_of o ++ i ∷ [] = ap (λ (t : Tables0). t.amf3.done) same in
       let met : part_values after ≡ values_met (node_at g i) ++ part_values before = ap part_values x.left ∙ values_append x.parts before ∙ ap (λ w. w ++ part_values before) (opens_values (node_at g i) x.bytes x.parts x.is fits) in record {
@@ -180,12 +182,13 @@ module _ (g : Graph) (i : ℕ) (there : i < length g.nodes) (fits : Fits (node_a
             };
         meets = λ all ks w. (ks, subst (λ z. Meets g z (part_values after) all ks) (sym done) (subst (λ z. Meets g (done_of o ++ i ∷ []) z all ks) (sym met) (met_first new w)), λ k a. a);
         later = omega (arith, ap length done, length_pushed (done_of o) i);
+        grown = grown_node g i o n (opens_enters (node_at g i) x.bytes x.parts x.is) same (x.adds.loose ∙ ap (λ w. w.items) q);
         sound = λ s. subst (AreTables0 g) (sym same) (sound_node g (tables_of o) i (opens_enters (node_at g i) x.bytes x.parts x.is) new s);
       }
 
   -- a date or an XML document
-  pub leads_loose : (b : List ℕ) (before : List Part) (o p n : Output) → Absent (done_of o) i → tables_of p ≡ add_done0 (tables_of o) i → p.bytes ≡ o.bytes → Loose (node_at g i) b → Adds b p n → Leads g (value (node i) ∷ before) before o n
-  leads_loose b before o p n new e same_bytes x h =
+  pub leads_loose : (b : List ℕ) (before : List Part) (o p n : Output) (id : NodeId) → id.0 ≡ i → Absent (done_of o) i → tables_of p ≡ add_done0 (tables_of o) i → p.loose.items ≡ o.loose.items ++ id ∷ [] → p.bytes ≡ o.bytes → Loose (node_at g i) b → Adds b p n → Leads g (value (node i) ∷ before) before o n
+  leads_loose b before o p n id k new e q same_bytes x h =
       let same : tables_of n ≡ add_done0 (tables_of o) i = h.tables ∙ e in
       let done : done_of n ≡ done_of o ++ i ∷ [] = ap (λ (t : Tables0). t.amf3.done) same in
       let met : part_values before ≡ values_met (node_at g i) ++ part_values before = ap (λ w. w ++ part_values before) (sym (loose_values (node_at g i) b x fits)) in record {
@@ -194,5 +197,6 @@ module _ (g : Graph) (i : ℕ) (there : i < length g.nodes) (fits : Fits (node_a
         completes = λ more t d. record { front = b; back = more; mid = tables_of n; joined = refl; first = subst (λ u. IsCanonical g (node i) (tables_of o) b u) (sym same) (begun (tables_of o) b (add_done0 (tables_of o) i) new (loose_behind g i (node_at g i) b (tables_of o) x)); second = d };
         meets = λ all ks w. (ks, subst (λ z. Meets g z (part_values before) all ks) (sym done) (subst (λ z. Meets g (done_of o ++ i ∷ []) z all ks) (sym met) (met_first new w)), λ k a. a);
         later = omega (arith, ap length done, length_pushed (done_of o) i);
+        grown = grown_loose g i o n id k (loose_enters (node_at g i) b x) same (h.loose ∙ q);
         sound = λ s. subst (AreTables0 g) (sym same) (sound_done g (tables_of o) i (loose_enters (node_at g i) b x) (loose_is (node_at g i) b x) new s);
       }

@@ -1,28 +1,17 @@
 -- What was taken out and put back, and a graph as the part that its root is.
-use Rattle.std.proofs.Common.{◌≡◌, ℕ, true, false, List, [], ◌∷◌, ◌++◌, length, take, slice_get, Some, OnOk, append-nil, sym, refl, ap, ◌∙◌, subst, inl, inr, arith}
-use Rattle.std.specs.Prelude.{Result, Ok, Err, OnErr, is_err, Option, None, MatchOption}
+use Rattle.std.proofs.Common.{◌≡◌, ℕ, true, false, List, [], ◌∷◌, ◌++◌, length, take, OnOk, append-nil, sym, refl, ap, ◌∙◌, subst, inl, arith}
+use Rattle.std.specs.Prelude.{Result, Ok, Err, OnErr, is_err}
 use Rattle.std.proofs.lemmas.List.{take_at}
 use Rattle.amf_io.specs.Field.{flat}
 use Rattle.amf_wire.specs.Style.{canonical}
-use Rattle.amf_graph.specs.declared.lack.Lack.{Lack}
-use Rattle.amf_graph.specs.declared.lack.LackKind.{LackKind}
-use Rattle.amf_graph.specs.declared.lack.LackKind.TheVariants.{EmptyName, NoForm, LongName, Shared, FarReference, LongFile}
-use Rattle.amf_graph.specs.declared.value.Value.{Value as Stored}
-use Rattle.amf_graph.specs.Arena.{value_content, Names, IsFinished}
+use Rattle.amf_graph.specs.Arena.{Names}
 use Rattle.amf_graph.specs.Graph.{Value, Graph}
-use Rattle.amf_graph.specs.Rooted.{RootedArena, content}
-use Rattle.amf_graph.proofs.Finished.{finished}
+use Rattle.amf_graph.specs.Rooted.{RootedArena}
 use Rattle.amf_graph.proofs.Lists.{no_entry}
-use Rattle.amf_graph.proofs.OrderExists.{order_exists}
 use Rattle.amf3_spelling.specs.Tables.{Tables, no_tables}
-use Rattle.amf0_tables.specs.Lacks0.{IsLack0}
-use Rattle.amf0_tables.specs.LacksMet.{LacksMet}
 use Rattle.amf0_tables.specs.Spells0.{Spells0}
-use Rattle.amf0_tables.proofs.Lack0.{first_lack}
-use Rattle.amf0_tables.proofs.LackTwice0.{met_again_is_twice}
-use Rattle.amf0_tables.proofs.Meeting.{walk_meets}
 use Rattle.amf0_write.specs.declared.output.Output.{Output}
-use Rattle.amf0_write.specs.PartLacks0.{PlaceLacks0, HasPartLack0}
+use Rattle.amf0_write.specs.Searched.{HasPartLack0}
 use Rattle.amf0_write.specs.Unwritten0.{IsMetValue}
 use Rattle.amf0_write.specs.Written0.{tables0, AreTables0, AppendsCanonical0, AppendsPart0}
 use Rattle.amf0_write.specs.Writes0.{BeginsWith, value, Leads, Stops}
@@ -50,8 +39,8 @@ part_written g v o n t t' old new e b f c h =
 pub part_sound : (g : Graph) (v : Value) (o n : Output) (t t' : Tables) → o.tables ≡ t → t' ≡ n.tables → AreTables0 g (tables0 t) → Leads g (value v ∷ []) [] o n → AreTables0 g (tables0 t')
 part_sound g v o n t t' e f s h = subst (λ (u : Tables). AreTables0 g (tables0 u)) (sym f) (h.sound (subst (λ (u : Tables). AreTables0 g (tables0 u)) (sym e) s))
 
-pub part_lacks : (g : Graph) (v : Value) (o : Output) (t : Tables) → o.tables ≡ t → Stops g (value v ∷ []) o → HasPartLack0 g v t.done
-part_lacks g v o t e s = subst (λ (u : Tables). HasPartLack0 g v u.done) e (λ all again w. s (length o.tables.done) (omega arith) all again w)
+pub part_lacks : (g : Graph) (v : Value) (o : Output) (t : Tables) → o.tables ≡ t → Stops g (value v ∷ []) o → HasPartLack0 g v (tables0 t)
+part_lacks g v o t e s = subst (λ (u : Tables). HasPartLack0 g v (tables0 u)) e (λ all again w. s (length o.tables.done) (omega arith) all again w)
 
 -- A graph as a part.
 
@@ -59,36 +48,9 @@ pub root_met : (g : RootedArena) → Names g.arena g.root → IsMetValue g g.roo
 root_met g n = record { names = n; reached = inl refl }
 
 pub none_written : (g : Graph) (t : Tables) → t ≡ no_tables → AreTables0 g (tables0 t)
-none_written g t e = subst (λ (u : Tables). AreTables0 g (tables0 u)) (sym e) (record { once = λ j k i f h. absurd (no_entry j i f); level = refl; loose = λ k i f h. absurd (no_entry k i f) })
+none_written g t e = subst (λ (u : Tables). AreTables0 g (tables0 u)) (sym e) (record { once = λ j k i f h. absurd (no_entry j i f); outside = []; level = refl; loose = λ k i f h. absurd (no_entry k i f) })
 
 pub written_whole : (g : Graph) (v : Value) (t t' : Tables) (old new : List ℕ) → t ≡ no_tables → v ≡ g.root → AppendsPart0 g v (tables0 t) (tables0 t') old new → AppendsCanonical0 g old new
 written_whole g v t t' old new e r h =
     let k : AppendsPart0 g g.root (tables0 no_tables) (tables0 t') old new = subst (λ w. AppendsPart0 g w (tables0 no_tables) (tables0 t') old new) r (subst (λ (w : Tables). AppendsPart0 g v (tables0 w) (tables0 t') old new) e h) in
     (k.0, (tables0 t', k.1), k.2)
-
-place_lacks : (g : Graph) (order again : List ℕ) (place i : ℕ) (kind : LackKind) → slice_get order place ≡ Some i → PlaceLacks0 g 0 order again place i kind → LacksMet g 0 order again place kind
-place_lacks g order again place i EmptyName e z = absurd z
-place_lacks g order again place i NoForm e z = (i, e, z.1)
-place_lacks g order again place i LongName e z = (i, e, z.1)
-place_lacks g order again place i Shared e z = (i, e, z)
-place_lacks g order again place i FarReference e z = (i, e, z)
-place_lacks g order again place i LongFile e z = absurd z
-
--- where a graph has a lack, it has a first one
-pub has_first : (g : RootedArena) → IsFinished g.arena → Names g.arena g.root → HasPartLack0 (content g) (content g).root [] → ((n : ℕ) (k : LackKind) → IsLack0 (content g) n k → ⊥) → ⊥
-has_first g f n lacking none =
-    let c = content g in
-    let o = order_exists c (finished g.arena g.root f n).there in
-    let w = walk_meets o.1 in
-    let x = lacking o.0 w.0 w.1 in
-    elim (first_lack c 0 o.0 w.0) [
-      | inl y ↦ none y.0 y.1 ((met_again_is_twice.first c y.0 y.1).0 (o.0, w.0, w.1, y.2))
-      | inr rest ↦ rest x.0 x.2 (place_lacks c o.0 w.0 x.0 x.1 x.2 x.3 x.4)
-    ]
-
-pub root_lacks : (g : RootedArena) (v : Stored) (t : Tables) → t ≡ no_tables → v ≡ g.root → HasPartLack0 (content g) (value_content g.arena v) t.done → HasPartLack0 (content g) (content g).root []
-root_lacks g v t e r h = subst (λ (u : Tables). HasPartLack0 (content g) (content g).root u.done) e (subst (λ u. HasPartLack0 (content g) (value_content g.arena u) t.done) r h)
-
-pub none_lacks : (g : Graph) (o : Option Lack) → o ≡ None → MatchOption o ((number : ℕ) (kind : LackKind) → IsLack0 g number kind → ⊥) (λ l. IsLack0 g l.node l.kind) → (n : ℕ) (k : LackKind) → IsLack0 g n k → ⊥
-none_lacks g None e h = h
-none_lacks g (Some l) e h = cc

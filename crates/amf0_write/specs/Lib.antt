@@ -1,8 +1,9 @@
 -- The definitions that contracts cite.
 pub mod Written0
+pub mod PartLacks0
 -- Devices of the proofs: no clause of a public call needs them.
 pub mod Chained
 pub mod Meetings
-pub mod PartLacks0
+pub mod Searched
 pub mod Writes0
 pub mod Unwritten0

@@ -1,18 +1,20 @@
 -- What each part of a writer appends, and where it stops. A device of proofs.
-use Rattle.std.specs.Prelude.{◌≡◌, ◌≢◌, ℕ, ◌<◌, ◌≤◌, ◌^◌, ◌⊎◌, Bool, true, false, List, [], ◌∷◌, ◌++◌, length, slice_get, Some}
+use Rattle.std.specs.Prelude.{◌≡◌, ◌≢◌, ℕ, ◌<◌, ◌≤◌, ◌^◌, ◌⊎◌, Bool, true, false, cond, List, [], ◌∷◌, ◌++◌, length, slice_get, Some}
 use Rattle.std.specs.Int.{to_be_bytes, w16, w32, w64}
 use Rattle.amf_io.specs.Field.{Field, flat}
 use Rattle.amf_wire.specs.Style.{canonical}
 use Rattle.amf_wire.specs.Text.{IsText}
 use Rattle.amf_graph.specs.declared.lack.LackKind.{LackKind}
 use Rattle.amf_graph.specs.ByName.{by_name}
-use Rattle.amf_graph.specs.Graph.{Leaf, undefined, null, boolean, integer, double, text, Value, Traits, array, object, Node, Graph}
+use Rattle.amf_graph.specs.Graph.{Leaf, undefined, null, boolean, integer, double, text, Value, Traits, array, object, Node, Graph, node_at}
+use Rattle.amf_graph.specs.Renumbered.{numbers_of}
 use Rattle.amf3_spelling.specs.ByteSpelling.{Then}
+use Rattle.amf0_tables.specs.Lacks0.{enters0, entered}
 use Rattle.amf0_tables.specs.Meets.{Meets, IsAgain}
 use Rattle.amf0_tables.specs.Spells0.{SpellsIn0, IsOpenTraits}
 use Rattle.amf0_tables.specs.Tables0.{Tables0}
 use Rattle.amf0_write.specs.declared.output.Output.{Output}
-use Rattle.amf0_write.specs.PartLacks0.{PlaceLacks0}
+use Rattle.amf0_write.specs.PartLacks0.{outside_of, PlaceLacks0}
 use Rattle.amf0_write.specs.Written0.{tables0, AreTables0}
 
 -- the tables of an output
@@ -39,6 +41,23 @@ Keeps old new = (front : List ℕ) → BeginsWith front old.bytes.items → Begi
 pub record Adds (b : List ℕ) (old new : Output) : Type 0 where
   pub bytes : new.bytes.items ≡ old.bytes.items ++ b
   pub tables : tables_of new ≡ tables_of old
+  pub loose : new.loose.items ≡ old.loose.items
+
+-- no node is entered
+abbrev pub Still : Output → Output → Type 0
+Still old new = (tables_of new ≡ tables_of old) × (new.loose.items ≡ old.loose.items)
+
+-- the nodes that no index can name, in order
+abbrev pub unentered : Graph → List ℕ → List ℕ
+unentered g [] = []
+unentered g (i ∷ xs) = cond (enters0 (node_at g i).head) (unentered g xs) (i ∷ unentered g xs)
+
+-- nodes are entered, those with a place and those without one
+pub record Grown (g : Graph) (old new : Output) : Type 0 where
+  pub more : List ℕ
+  pub done : done_of new ≡ done_of old ++ more
+  pub nodes : (tables_of new).nodes ≡ (tables_of old).nodes ++ entered g more
+  pub loose : numbers_of new.loose.items ≡ numbers_of old.loose.items ++ unentered g more
 
 -- bytes that are one of these spellings are appended
 abbrev pub AddsBy : (List ℕ → Type 0) → Output → Output → Type 0
@@ -97,11 +116,12 @@ pub record Leads (g : Graph) (whole left : List Part) (old new : Output) : Type 
   pub completes : (more : List ℕ) (t : Tables0) → Parts g left (tables_of new) more t → Parts g whole (tables_of old) (bytes ++ more) t
   pub meets : (all again : List ℕ) → Meets g (done_of old) (part_values whole) all again → (rest : List ℕ) × Meets g (done_of new) (part_values left) all rest × ((k : ℕ) → IsAgain rest k → IsAgain again k)
   pub later : length (done_of old) ≤ length (done_of new)
+  pub grown : Grown g old new
   pub sound : AreTables0 g (tables_of old) → AreTables0 g (tables_of new)
 
 -- a writer of these parts meets something that has no canonical spelling
 abbrev pub Stops : Graph → List Part → Output → Type 0
-Stops g parts old = (before : ℕ) → before ≤ length (done_of old) → (all again : List ℕ) → Meets g (done_of old) (part_values parts) all again → (place : ℕ) × (i : ℕ) × (kind : LackKind) × (slice_get all place ≡ Some i) × PlaceLacks0 g before all again place i kind
+Stops g parts old = (before : ℕ) → before ≤ length (done_of old) → (all again : List ℕ) → Meets g (done_of old) (part_values parts) all again → (place : ℕ) × (i : ℕ) × (kind : LackKind) × (slice_get all place ≡ Some i) × PlaceLacks0 g (outside_of g (tables_of old)) before all again place i kind
 
 -- the first bytes of an array or an object, and the parts behind them
 pub data Opens (a : Node) : List ℕ → List Part → Type 0 where

@@ -21,8 +21,9 @@ tables0 t = record { amf3 = record { words = t.words; nodes = []; done = t.done 
 abbrev pub AppendsPart0 : Graph → Value → Tables0 → Tables0 → List ℕ → List ℕ → Type 0
 AppendsPart0 g v t t' old new = (fs : List Field) × Spells0 canonical g v t fs t' × (new ≡ old ++ flat fs)
 
--- the tables behind canonical spellings of a graph: each node that was written stands there once, an array or an object with an index, and any other is a date or an XML document
+-- the tables behind canonical spellings of a graph: each node that was written stands there once, an array or an object with an index, and any other is a date or an XML document; of the arrays and objects some first ones may be in no table
 pub record AreTables0 (g : Graph) (t : Tables0) : Type 0 where
   pub once : IsDistinct t.amf3.done
-  pub level : t.nodes ≡ entered g t.amf3.done
+  pub outside : List ℕ
+  pub level : outside ++ t.nodes ≡ entered g t.amf3.done
   pub loose : (k i : ℕ) → slice_get t.amf3.done k ≡ Some i → enters0 (node_at g i).head ≡ false → is_loose0 (node_at g i).head ≡ true

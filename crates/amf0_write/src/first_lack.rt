@@ -4,8 +4,9 @@ ghost use Rattle.amf_graph.specs.declared.lack.LackKind.{LackKind};
 ghost use Rattle.amf_graph.specs.Lacks.{IsFirstLack};
 ghost use Rattle.amf_graph.specs.Order.{IsOrder};
 ghost use Rattle.amf_graph.specs.Rooted.{content};
-ghost use Rattle.amf0_tables.specs.Lacks0.{IsLack0, Lacks0, NodeLacks0, place0};
+ghost use Rattle.amf0_tables.specs.Lacks0.{Lacks0, NodeLacks0, place0};
 ghost use Rattle.amf0_tables.specs.Met.{all_met, IsTwice};
+ghost use Rattle.amf0_write.specs.PartLacks0.{LacksOutside, IsLackOutside};
 ghost use Rattle.amf0_write.specs.Meetings.{AreMarked, IsFirstReason};
 
 use crate::meetings::met_again;
@@ -20,7 +21,7 @@ use std::alloc::Global;
 /// can name, if it is one of those.
 fn reason(node: NodeId, place: u32, is_again: bool, graph: &Rooted) -> Option<LackKind>
     requires { node.0 < length graph.now.arena.nodes }
-    ensures { (order : List ℕ) (number : ℕ) → place ≡ place0 (content graph.now) 0 order number → (is_again ≡ true) ↔ IsTwice (all_met (content graph.now) order) (graph_of_values.node node.0) → IsFirstReason (NodeLacks0 (content graph.now) 0 order number node.0) result }
+    ensures { (outside : ℕ) (order : List ℕ) (number : ℕ) → place ≡ place0 (content graph.now) outside order number → (is_again ≡ true) ↔ IsTwice (all_met (content graph.now) order) (graph_of_values.node node.0) → IsFirstReason (NodeLacks0 (content graph.now) outside order number node.0) result }
 {
     if has_no_form(node, graph) {
         Some(LackKind::NoForm)
@@ -38,30 +39,33 @@ fn reason(node: NodeId, place: u32, is_again: bool, graph: &Rooted) -> Option<La
 }
 
 /// The first of the lacks, if there is one: of the least canonical number, and there the first reason.
-fn first_of(numbering: &Numbering, again: &[bool], graph: &Rooted) -> Option<Lack>
+fn first_of(numbering: &Numbering, again: &[bool], outside: u32, graph: &Rooted) -> Option<Lack>
     requires order { IsOrder (content graph.now) numbering.now }
     requires again { AreMarked (length graph.now.arena.nodes) (all_met (content graph.now) numbering.now) again.now }
-    ensures { MatchOption result ((number : ℕ) (kind : LackKind) → Lacks0 (content graph.now) 0 numbering.now number kind → ⊥) (λ l. IsFirstLack (Lacks0 (content graph.now) 0 numbering.now) l.node l.kind) }
+    ensures { MatchOption result ((number : ℕ) (kind : LackKind) → Lacks0 (content graph.now) outside numbering.now number kind → ⊥) (λ l. IsFirstLack (Lacks0 (content graph.now) outside numbering.now) l.node l.kind) }
 {
     graph.is_finished();
-    let mut place = 0;
+    let mut entered: u32 = 0;
     for number in 0..numbering.count() {
         let node = numbering.node_at(number);
+        let place = entered.saturating_sub(outside);
         if let Some(kind) = reason(node, place, again[node.0 as usize], graph) {
             return Some(Lack { kind, node: number });
         }
         if enters(node, graph) {
-            place += 1;
+            entered += 1;
         }
     }
     None
 }
 
-/// The first lack of a graph, if it has one (2.9). It gives up where there is no memory.
-pub(crate) fn first_lack(alloc: Global, graph: &Rooted) -> Result<Option<Lack>, Memory>
-    ensures { IfOk result (λ lack. MatchOption lack ((number : ℕ) (kind : LackKind) → IsLack0 (content graph.now) number kind → ⊥) (λ l. IsLack0 (content graph.now) l.node l.kind)) }
+/// The first lack of a lowered graph, if it has one (1.3.1, 2.9), where of the arrays and objects the first so many in
+/// canonical order are in no table: none of them in a message, and one in a file, whose pairs are the members of an object
+/// that is not written itself. It gives up where there is no memory.
+pub fn first_lack0(alloc: Global, graph: &Rooted, outside: u32) -> Result<Option<Lack>, Memory>
+    ensures { IfOk result (λ lack. MatchOption lack ((number : ℕ) (kind : LackKind) → LacksOutside (content graph.now) outside number kind → ⊥) (λ l. IsLackOutside (content graph.now) outside l.node l.kind)) }
 {
     let numbering = Numbering::of(alloc, graph)?;
     let again = met_again(alloc, &numbering, graph)?;
-    Ok(first_of(&numbering, &again, graph))
+    Ok(first_of(&numbering, &again, outside, graph))
 }

@@ -4,10 +4,12 @@
 mod chains;
 mod first_lack;
 mod lowering;
+mod meeting;
 mod meetings;
 mod nodes;
 mod open;
 mod output;
+mod part_lack;
 mod stop;
 #[cfg(test)]
 mod tests;
@@ -15,5 +17,6 @@ mod unwritten;
 mod values;
 mod write;
 
+pub use first_lack::first_lack0;
 pub use lowering::lower;
-pub use write::write0;
+pub use write::{write0, write0_part};

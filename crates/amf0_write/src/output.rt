@@ -9,11 +9,13 @@ use amf_wire::{Memory, Pattern};
 use std::alloc::Global;
 use std::mem;
 
-/// What has been written: the tables that it leads to, and the bytes.
+/// What has been written: the tables that it leads to, the nodes that were entered without a place since the tables were
+/// taken, and the bytes.
 #[derive(Drop)]
 pub(crate) struct Output {
     pub(crate) alloc: Global,
     pub(crate) tables: WriterTables,
+    pub(crate) loose: Vec<NodeId>,
     pub(crate) bytes: Vec<u8>,
 }
 
@@ -25,6 +27,7 @@ impl Output {
         bytes: &mut Vec<u8>,
     ) -> Result<Output, Memory>
         ensures tables { IfOk result (λ output. output.tables ≡ tables.old) }
+        ensures loose { IfOk result (λ output. output.loose.items ≡ []) }
         ensures bytes { IfOk result (λ output. output.bytes ≡ bytes.old) }
         ensures kept { OnErr result ((tables.new ≡ tables.old) × (bytes.new ≡ bytes.old)) }
     {
@@ -32,19 +35,22 @@ impl Output {
         Ok(Output {
             alloc,
             tables: mem::replace(tables, empty),
+            loose: Vec::new(alloc),
             bytes: mem::replace(bytes, Vec::new(alloc)),
         })
     }
 
-    /// The tables and the bytes, back to where they stood: after an end the first bytes alone, so many as there were.
+    /// The tables and the bytes, back to where they stood: after an end the first bytes alone, so many as there were. It gives
+    /// the nodes that were entered without a place.
     pub(crate) fn put_back(
         mut self,
         has_ended: bool,
         start: usize,
         tables: &mut WriterTables,
         bytes: &mut Vec<u8>,
-    )
+    ) -> Vec<NodeId>
         ensures tables { tables.new ≡ self.tables }
+        ensures loose { result ≡ self.loose }
         ensures whole { has_ended ≡ false → bytes.new ≡ self.bytes }
         ensures cut { has_ended ≡ true → bytes.new.items ≡ take start self.bytes.items }
     {
@@ -53,11 +59,13 @@ impl Output {
         }
         *tables = self.tables;
         *bytes = self.bytes;
+        self.loose
     }
 
     /// Enters a node that an index can name.
     pub(crate) fn enter(&mut self, node: NodeId) -> Result<(), Memory>
         ensures ok { OnOk result (tables_of self.new ≡ add_node0 (tables_of self.old) node.0) }
+        ensures loose { self.new.loose ≡ self.old.loose }
         ensures bytes { self.new.bytes ≡ self.old.bytes }
     {
         self.tables.add_node(node)
@@ -66,9 +74,12 @@ impl Output {
     /// Enters a node that no index can name.
     pub(crate) fn enter_loose(&mut self, node: NodeId) -> Result<(), Memory>
         ensures ok { OnOk result (tables_of self.new ≡ add_done0 (tables_of self.old) node.0) }
+        ensures loose { OnOk result (self.new.loose.items ≡ self.old.loose.items ++ node ∷ []) }
         ensures bytes { self.new.bytes ≡ self.old.bytes }
     {
-        self.tables.add_done(node)
+        self.tables.add_done(node)?;
+        self.loose.push(node)?;
+        Ok(())
     }
 
     pub(crate) fn byte(&mut self, byte: u8) -> Result<(), Memory>

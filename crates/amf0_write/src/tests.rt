@@ -1,8 +1,9 @@
 ghost use Rattle.std.specs.Prelude.{◌≡◌, IfOk};
 ghost use Rattle.amf_graph.specs.Arena.{Names};
 
-use crate::{lower, write0};
+use crate::{first_lack0, lower, write0, write0_part};
 use amf_graph::{Builder, Lack, LackKind, Leaf, Part, Rooted, Shape, Value, Wrapped, WriteEnd};
+use amf_tables::WriterTables;
 use amf_wire::{Pattern, is_amf_text};
 use amf0_tables::lowering_is_kept;
 use std::alloc::Global;
@@ -28,6 +29,18 @@ fn lack(alloc: Global, graph: &Rooted) -> Option<Lack> {
         Err(WriteEnd::NoSpelling(lack)) => Some(lack),
         _ => None,
     }
+}
+
+/// What is written of the lowered graph's root as two parts, one after the other, behind a byte that was there.
+fn twice(alloc: Global, graph: &Rooted) -> Result<Vec<u8>, WriteEnd> {
+    lowering_is_kept();
+    let low = lower(alloc, graph)?;
+    low.is_finished();
+    let mut tables = WriterTables::new(alloc)?;
+    let mut out = vec![in alloc; 0xAA]?;
+    write0_part(alloc, &low, low.root(), &mut tables, &mut out)?;
+    write0_part(alloc, &low, low.root(), &mut tables, &mut out)?;
+    Ok(out)
 }
 
 /// The graph with this root, of nodes that are all complete.
@@ -196,23 +209,31 @@ fn the_least_lack(rt: HostRuntime) -> Result<(), Fail> {
 }
 
 #[test]
-fn an_array_with_items_and_names(rt: HostRuntime) -> Result<(), Fail> {
+fn parts_one_after_another(rt: HostRuntime) -> Result<(), Fail> {
     let mut builder = Builder::new(rt.alloc())?;
-    assert!(rt; is_amf_text(b"a"));
-    let a = builder.text(b"a")?;
-    let inner = builder.open_node(Shape::Array)?;
-    builder.put(inner, Part::Item(Value::Null))?;
-    builder.put(inner, Part::Named(a, Value::Null))?;
-    builder.close_node(inner);
     let root = builder.open_node(Shape::Array)?;
-    builder.put(root, Part::Item(Value::Node(inner)))?;
+    builder.put(root, Part::Item(Value::Null))?;
     builder.close_node(root);
     let graph = finished(builder, Value::Node(root))?;
-    let no_form = Lack {
-        kind: LackKind::NoForm,
-        node: 1,
+    let bytes = b"\xAA\x0A\x00\x00\x00\x01\x05\x07\x00\x00".as_slice();
+    assert_eq!(rt; twice(rt.alloc(), &graph)?.as_slice(), bytes);
+    assert_eq!(rt; first_lack0(rt.alloc(), &graph, 1)?, None);
+    Ok(())
+}
+
+#[test]
+fn a_date_of_two_parts(rt: HostRuntime) -> Result<(), Fail> {
+    let mut builder = Builder::new(rt.alloc())?;
+    let date = builder.leaf(Leaf::Date(ONE))?;
+    let graph = finished(builder, Value::Node(date))?;
+    let shared = Lack {
+        kind: LackKind::Shared,
+        node: 0,
     };
-    assert_eq!(rt; lack(rt.alloc(), &graph), Some(no_form));
+    assert_eq!(rt;
+        twice(rt.alloc(), &graph),
+        Err(WriteEnd::NoSpelling(shared))
+    );
     Ok(())
 }
 

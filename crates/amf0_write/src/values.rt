@@ -12,7 +12,7 @@ ghost use Rattle.amf0_tables.specs.Lowered.{IsLowered};
 ghost use Rattle.amf0_write.specs.declared.stop.Stop.TheVariants.{Lack};
 ghost use Rattle.amf0_write.specs.Unwritten0.{IsMetValue, AreRunsOf, parts_left, turns_left, Falls};
 ghost use Rattle.amf0_write.specs.Writes0 as part;
-ghost use Rattle.amf0_write.specs.Writes0.{tables_of, done_of, IsLeafSpelled, Adds, AddsBy, Leads, Keeps, Stops};
+ghost use Rattle.amf0_write.specs.Writes0.{tables_of, done_of, IsLeafSpelled, Adds, AddsBy, Still, Grown, Leads, Keeps, Stops};
 ghost use Rattle.amf0_write.specs.Written0.{AreTables0};
 
 use crate::nodes::{has_no_form, has_short_names};
@@ -36,6 +36,7 @@ impl Output {
         requires tables { AreTables0 (content graph.now) (tables_of self.old) }
         ensures leads { OnOk result (Leads (content graph.now) (part.value (value_content graph.now.arena value) ∷ []) [] self.old self.new) }
         ensures lack { IsErrOf result Lack → Stops (content graph.now) (part.value (value_content graph.now.arena value) ∷ []) self.old }
+        ensures grown { IsErrOf result Lack → Grown (content graph.now) self.old self.new × AreTables0 (content graph.now) (tables_of self.new) }
         ensures kept { Keeps self.old self.new }
     {
         let mut waiting = vec![in self.alloc; Unwritten::One(value)]?;
@@ -61,6 +62,7 @@ impl Output {
         requires runs { AreRunsOf graph.now waiting.old.items }
         ensures leads { OnOk result (Leads (content graph.now) (part.value (value_content graph.now.arena value) ∷ parts_left graph.now.arena waiting.old.items) (parts_left graph.now.arena waiting.new.items) self.old self.new) }
         ensures lack { IsErrOf result Lack → Stops (content graph.now) (part.value (value_content graph.now.arena value) ∷ parts_left graph.now.arena waiting.old.items) self.old }
+        ensures still { IsErrOf result Lack → Still self.old self.new }
         ensures runs { OnOk result (AreRunsOf graph.now waiting.new.items) }
         ensures falls { OnOk result (Falls (length graph.now.arena.nodes) (done_of self.old) (done_of self.new) (turns_left waiting.old.items) (turns_left waiting.new.items)) }
         ensures kept { Keeps self.old self.new }
@@ -129,6 +131,7 @@ impl Output {
         requires runs { AreRunsOf graph.now waiting.old.items }
         ensures leads { OnOk result (Leads (content graph.now) (part.value (graph_of_values.node node.0) ∷ parts_left graph.now.arena waiting.old.items) (parts_left graph.now.arena waiting.new.items) self.old self.new) }
         ensures lack { IsErrOf result Lack → Stops (content graph.now) (part.value (graph_of_values.node node.0) ∷ parts_left graph.now.arena waiting.old.items) self.old }
+        ensures still { IsErrOf result Lack → Still self.old self.new }
         ensures runs { OnOk result (AreRunsOf graph.now waiting.new.items) }
         ensures falls { OnOk result (Falls (length graph.now.arena.nodes) (done_of self.old) (done_of self.new) (turns_left waiting.old.items) (turns_left waiting.new.items)) }
         ensures kept { Keeps self.old self.new }
@@ -147,7 +150,7 @@ impl Output {
     /// An index (2.9). It stops where 16 bits do not say it.
     fn index(&mut self, place: u32) -> Result<(), Stop>
         ensures adds { OnOk result ((place < 2 ^ 16) × Adds (0x07 ∷ to_be_bytes w16 place) self.old self.new) }
-        ensures lack { IsErrOf result Lack → 2 ^ 16 ≤ place }
+        ensures lack { IsErrOf result Lack → (2 ^ 16 ≤ place) × Still self.old self.new }
         ensures kept { Keeps self.old self.new }
     {
         if place >= FAR {
@@ -172,6 +175,7 @@ impl Output {
         requires runs { AreRunsOf graph.now waiting.old.items }
         ensures leads { OnOk result (Leads (content graph.now) (part.value (graph_of_values.node node.0) ∷ parts_left graph.now.arena waiting.old.items) (parts_left graph.now.arena waiting.new.items) self.old self.new) }
         ensures lack { IsErrOf result Lack → Stops (content graph.now) (part.value (graph_of_values.node node.0) ∷ parts_left graph.now.arena waiting.old.items) self.old }
+        ensures still { IsErrOf result Lack → Still self.old self.new }
         ensures runs { OnOk result (AreRunsOf graph.now waiting.new.items) }
         ensures falls { OnOk result (Falls (length graph.now.arena.nodes) (done_of self.old) (done_of self.new) (turns_left waiting.old.items) (turns_left waiting.new.items)) }
         ensures kept { Keeps self.old self.new }

@@ -1,30 +1,35 @@
-ghost use Rattle.std.specs.Prelude.{◌≡◌, [], OnOk, OnErr, IfOk};
+ghost use Rattle.std.specs.Prelude.{◌≡◌, ◌≤◌, ◌^◌, length, OnOk, OnErr, IfOk};
 ghost use Rattle.std.specs.Result.{IsErrOf};
 ghost use Rattle.amf_graph.specs.declared.lack.Lack.{Lack};
-ghost use Rattle.amf_graph.specs.Arena.{value_content};
+ghost use Rattle.amf_graph.specs.Arena.{Names, value_content};
+ghost use Rattle.amf_graph.specs.Reached.{IsReachedValue};
 ghost use Rattle.amf_graph.specs.Rooted.{content};
 ghost use Rattle.amf0_tables.specs.Lacks0.{IsLack0};
 ghost use Rattle.amf0_tables.specs.Lowered.{IsLowered};
+ghost use Rattle.amf3_spelling.specs.Tables.{Tables};
 ghost use Rattle.amf0_write.specs.declared.stop.Stop.TheVariants.{Lack as Stopped};
-ghost use Rattle.amf0_write.specs.PartLacks0.{HasPartLack0};
+ghost use Rattle.amf0_write.specs.PartLacks0.{IsPartLack0};
+ghost use Rattle.amf0_write.specs.Searched.{HasPartLack0, AreGrownTables};
 ghost use Rattle.amf0_write.specs.Unwritten0.{IsMetValue};
 ghost use Rattle.amf0_write.specs.Written0.{tables0, AreTables0, AppendsCanonical0, AppendsPart0};
 
-use crate::first_lack::first_lack;
+use crate::meeting::meetings_before;
 use crate::output::Output;
+use crate::part_lack::part_lack;
 use crate::stop::Stop;
-use amf_graph::{Lack, Rooted, Value, WriteEnd};
+use amf_graph::{Lack, NodeId, Rooted, Value, WriteEnd};
 use amf_tables::WriterTables;
 use amf_wire::Memory;
 use std::alloc::Global;
 
-/// Appends the canonical case of a value, from the tables of what is written before it. After an end `out` is as before. It
-/// stops where the value leads to a lack.
-pub(crate) fn write_value(
+/// Appends the canonical case of a value, from the tables of what is written before it, and tells the nodes that were entered
+/// without a place. After an end `out` is as before. It stops where the value leads to a lack.
+fn write_value(
     alloc: Global,
     graph: &Rooted,
     value: Value,
     tables: &mut WriterTables,
+    loose: &mut Vec<NodeId>,
     out: &mut Vec<u8>,
 ) -> Result<(), Stop>
     requires low { IsLowered (content graph.now) }
@@ -32,25 +37,69 @@ pub(crate) fn write_value(
     requires tables { AreTables0 (content graph.now) (tables0 tables.old) }
     ensures written { OnOk result (AppendsPart0 (content graph.now) (value_content graph.now.arena value) (tables0 tables.old) (tables0 tables.new) out.old.items out.new.items) }
     ensures tables { OnOk result (AreTables0 (content graph.now) (tables0 tables.new)) }
-    ensures lack { IsErrOf result Stopped → HasPartLack0 (content graph.now) (value_content graph.now.arena value) tables.old.done }
+    ensures lack { IsErrOf result Stopped → HasPartLack0 (content graph.now) (value_content graph.now.arena value) (tables0 tables.old) }
+    ensures grown { IsErrOf result Stopped → AreGrownTables (content graph.now) (tables0 tables.old) (tables0 tables.new) loose.new.items }
     ensures kept { OnErr result (out.new.items ≡ out.old.items) }
 {
     let start = out.len();
     let mut output = Output::taking(alloc, tables, out)?;
     let result = output.value(value, graph);
-    output.put_back(result.is_err(), start, tables, out);
+    *loose = output.put_back(result.is_err(), start, tables, out);
     result
 }
 
-/// The first lack of a graph that has one. It gives up where there is no memory.
-fn lack_of(alloc: Global, graph: &Rooted) -> Result<Lack, Memory>
-    requires { HasPartLack0 (content graph.now) (content graph.now).root [] }
-    ensures { IfOk result (λ l. IsLack0 (content graph.now) l.node l.kind) }
+/// The first lack of a part that has one, where these are the tables that a writer left, with so many places before, and the
+/// nodes that it entered without one. It gives up where there is no memory.
+fn lack_of(
+    alloc: Global,
+    graph: &Rooted,
+    value: Value,
+    tables: &WriterTables,
+    count: u32,
+    loose: &[NodeId],
+) -> Result<Lack, Memory>
+    requires met { IsMetValue graph.now value }
+    requires few { count ≤ 2 ^ 28 }
+    requires lacking { (t : Tables) × HasPartLack0 (content graph.now) (value_content graph.now.arena value) (tables0 t) × AreGrownTables (content graph.now) (tables0 t) (tables0 tables.now) loose.now × (count ≡ length t.nodes) }
+    ensures { (t : Tables) → AreGrownTables (content graph.now) (tables0 t) (tables0 tables.now) loose.now → count ≡ length t.nodes → IfOk result (λ l. IsPartLack0 (content graph.now) (value_content graph.now.arena value) (tables0 t) l.node l.kind) }
 {
     graph.is_finished();
-    match first_lack(alloc, graph)? {
-        Some(lack) => Ok(lack),
-        None => unreachable!(),
+    let meetings = meetings_before(alloc, tables, count, loose, graph)?;
+    part_lack(alloc, value, meetings, count, graph)
+}
+
+/// Appends the canonical case of a value of a lowered graph, from the tables of what is written before it (AMF 0, 2.2 to
+/// 2.18). The value is one of the graph that is reached from its root, and the tables are those of canonical spellings of
+/// this graph: new ones, those that a call before left, or either after `add_done` of arrays or objects that take no place.
+///
+/// After an end `out` is as before, and the tables are only to be dropped. `NoSpelling` tells the first lack of the nodes that
+/// the value meets, by the canonical numbers of the whole graph; `Memory` comes where there is no room for the tables or the
+/// bytes.
+pub fn write0_part(
+    alloc: Global,
+    graph: &Rooted,
+    value: Value,
+    tables: &mut WriterTables,
+    out: &mut Vec<u8>,
+) -> Result<(), WriteEnd>
+    requires low { IsLowered (content graph.now) }
+    requires value { Names graph.now.arena value }
+    requires reached { IsReachedValue (content graph.now) (value_content graph.now.arena value) }
+    requires tables { AreTables0 (content graph.now) (tables0 tables.old) }
+    ensures written { OnOk result (AppendsPart0 (content graph.now) (value_content graph.now.arena value) (tables0 tables.old) (tables0 tables.new) out.old.items out.new.items) }
+    ensures tables { OnOk result (AreTables0 (content graph.now) (tables0 tables.new)) }
+    ensures lack { (l : Lack) → IsErrOf result (WriteEnd.NoSpelling l) → IsPartLack0 (content graph.now) (value_content graph.now.arena value) (tables0 tables.old) l.node l.kind }
+    ensures kept { OnErr result (out.new.items ≡ out.old.items) }
+{
+    let count = tables.node_count();
+    let mut loose = Vec::new(alloc);
+    match write_value(alloc, graph, value, tables, &mut loose, out) {
+        Ok(()) => Ok(()),
+        Err(Stop::Memory) => Err(WriteEnd::Memory),
+        Err(Stop::Lack) => {
+            let lack = lack_of(alloc, graph, value, tables, count, &loose)?;
+            Err(WriteEnd::NoSpelling(lack))
+        }
     }
 }
 
@@ -66,12 +115,5 @@ pub fn write0(alloc: Global, graph: &Rooted, out: &mut Vec<u8>) -> Result<(), Wr
 {
     graph.is_finished();
     let mut tables = WriterTables::new(alloc)?;
-    match write_value(alloc, graph, graph.root(), &mut tables, out) {
-        Ok(()) => Ok(()),
-        Err(Stop::Memory) => Err(WriteEnd::Memory),
-        Err(Stop::Lack) => {
-            let lack = lack_of(alloc, graph)?;
-            Err(WriteEnd::NoSpelling(lack))
-        }
-    }
+    write0_part(alloc, graph, graph.root(), &mut tables, out)
 }

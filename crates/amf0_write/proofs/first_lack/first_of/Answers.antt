@@ -36,10 +36,10 @@ returns-in-Some c =
     let there = in_order c.args.graph.now.arena c.args.graph.now.root order number i c.is_finished.ensures.finished c.is_finished.ensures.names c.requires.order c.node_at-node.ensures in
     let within : i < length again = omega (arith, there, c.requires.again.all) in
     let marked = c.requires.again.marked i there in
-    let place : c.loop-number.place ≡ length (entered g (take number order)) - 0 = omega (arith, inv.place) in
+    let place : c.saturating_sub-place.result ≡ length (entered g (take number order)) - c.args.outside = omega (arith, inv.place, c.saturating_sub-place.ensures) in
     let twice : (get_or again i false ≡ true) ↔ IsTwice (all_met g order) (node i) = (λ e. marked.0 (slice_get-get_or again i false within ∙ ap (λ b. Some b) e), λ t. get_or_from_slice_get again i true false (marked.1 t)) in
-    let told : IsFirstReason (NodeLacks0 g 0 order number i) (Some c.in-Some.kind) = subst (IsFirstReason (NodeLacks0 g 0 order number i)) c.in-Some.is (c.reason.ensures order number place twice) in
-    found g order number i c.node_at-node.ensures c.in-Some.kind inv.none told.0 told.1
+    let told : IsFirstReason (NodeLacks0 g c.args.outside order number i) (Some c.in-Some.kind) = subst (IsFirstReason (NodeLacks0 g c.args.outside order number i)) c.in-Some.is (c.reason.ensures c.args.outside order number place twice) in
+    found g c.args.outside order number i c.node_at-node.ensures c.in-Some.kind inv.none told.0 told.1
 
 pub loop-number-preserved : goal.loop-number-preserved
 loop-number-preserved c =
@@ -52,13 +52,13 @@ loop-number-preserved c =
     let there = in_order c.args.graph.now.arena c.args.graph.now.root order number i c.is_finished.ensures.finished c.is_finished.ensures.names c.requires.order c.node_at-node.ensures in
     let within : i < length again = omega (arith, there, c.requires.again.all) in
     let marked = c.requires.again.marked i there in
-    let place : c.loop-number.place ≡ length (entered g (take number order)) - 0 = omega (arith, inv.place) in
+    let place : c.saturating_sub-place.result ≡ length (entered g (take number order)) - c.args.outside = omega (arith, inv.place, c.saturating_sub-place.ensures) in
     let twice : (get_or again i false ≡ true) ↔ IsTwice (all_met g order) (node i) = (λ e. marked.0 (slice_get-get_or again i false within ∙ ap (λ b. Some b) e), λ t. get_or_from_slice_get again i true false (marked.1 t)) in
     record {
-      none = none_more g order number i c.node_at-node.ensures inv.none (no_reason (NodeLacks0 g 0 order number i) c.reason.result c.in_default.not-Some (c.reason.ensures order number place twice));
+      none = none_more g c.args.outside order number i c.node_at-node.ensures inv.none (no_reason (NodeLacks0 g c.args.outside order number i) c.reason.result c.in_default.not-Some (c.reason.ensures c.args.outside order number place twice));
       place = elim c.if-enters.branch [
-        | then-enters w ↦ subst (λ p. p ≡ length (entered g (take (number + 1) order))) (sym w.place-is) (enters_more g order number i c.node_at-node.ensures c.loop-number.place inv.place (sym c.enters.ensures ∙ w.if-enters.true))
-        | else-enters w ↦ subst (λ p. p ≡ length (entered g (take (number + 1) order))) (sym w.place-is) (enters_same g order number i c.node_at-node.ensures c.loop-number.place inv.place (sym c.enters.ensures ∙ w.if-enters.false))
+        | then-enters w ↦ subst (λ p. p ≡ length (entered g (take (number + 1) order))) (sym w.entered-is) (enters_more g order number i c.node_at-node.ensures c.loop-number.entered inv.place (sym c.enters.ensures ∙ w.if-enters.true))
+        | else-enters w ↦ subst (λ p. p ≡ length (entered g (take (number + 1) order))) (sym w.entered-is) (enters_same g order number i c.node_at-node.ensures c.loop-number.entered inv.place (sym c.enters.ensures ∙ w.if-enters.false))
       ];
       few = elim c.if-enters.branch [ then-enters w ↦ omega (arith, inv.few) | else-enters w ↦ omega (arith, inv.few) ];
     }

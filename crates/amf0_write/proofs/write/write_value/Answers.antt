@@ -2,6 +2,7 @@ use Rattle.std.proofs.Common.{◌≡◌, length, arith, ap, ◌∙◌}
 use Rattle.amf_graph.specs.Arena.{value_content}
 use Rattle.amf_graph.specs.Rooted.{content}
 use Rattle.amf0_write.proofs.Whole0.{taken_back, begins_itself, on_ok_then, on_err_then, part_written, part_sound, part_lacks}
+use Rattle.amf0_write.proofs.MetBefore.{grown_tables}
 use Rattle.amf0_write.proofs.write.write_value.Goals as goal
 
 pub returns-clause-written : goal.returns-clause-written
@@ -17,6 +18,10 @@ returns-clause-tables c =
 
 pub returns-clause-lack : goal.returns-clause-lack
 returns-clause-lack c = λ e. part_lacks (content c.args.graph.now) (value_content c.args.graph.now.arena c.args.value) c.in_ok-output.output c.args.tables.now c.in_ok-output.ensures.tables (c.value-result.ensures.lack e)
+
+pub returns-clause-grown : goal.returns-clause-grown
+returns-clause-grown c = λ e.
+    grown_tables (content c.args.graph.now) c.in_ok-output.output c.value-result.new.self c.args.tables.now c.put_back.new.tables c.put_back.result.items c.in_ok-output.ensures.tables c.in_ok-output.ensures.loose c.put_back.ensures.tables (ap (λ v. v.items) c.put_back.ensures.loose) c.requires.tables (c.value-result.ensures.grown e)
 
 pub returns-clause-kept : goal.returns-clause-kept
 returns-clause-kept c =

@@ -1,5 +1,7 @@
-use Rattle.std.proofs.Common.{◌++◌, ap, sym, ◌∙◌, subst}
+use Rattle.std.proofs.Common.{◌∷◌, ◌++◌, ap, sym, ◌∙◌, subst}
+use Rattle.amf_graph.specs.Arena.{value_content}
 use Rattle.amf_graph.specs.Rooted.{content}
+use Rattle.amf0_write.specs.Writes0.{value}
 use Rattle.amf0_write.specs.Unwritten0.{IsRunOf, run_parts, next_parts, parts_left}
 use Rattle.amf0_write.proofs.Leading0.{leads_same}
 use Rattle.amf0_write.proofs.Runs0.{if_ok}
@@ -19,3 +21,8 @@ returns-in-Pairs-clause-leads c = λ g h. rw (c.in-Pairs.is) (c.next_pair.ensure
 
 pub returns-in-Pairs-clause-runs : goal.returns-in-Pairs-clause-runs
 returns-in-Pairs-clause-runs c = λ g h k. c.next_pair.ensures.runs g (subst (λ run. IsRunOf g run) c.in-Pairs.is h) k
+
+pub returns-in-One-clause-leads : goal.returns-in-One-clause-leads
+returns-in-One-clause-leads c = λ g h.
+    let old = parts_left g.arena c.args.waiting.now.items in
+    leads_same (content g) (run_parts g.arena c.args.run ++ old) (value (value_content g.arena c.in-One.value) ∷ old) c.args.self.now (ap (λ run. run_parts g.arena run ++ old) c.in-One.is)

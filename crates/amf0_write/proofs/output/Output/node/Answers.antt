@@ -12,7 +12,7 @@ returns-in-Some-clause-leads c =
 
 pub returns-in-Some-clause-lack : goal.returns-in-Some-clause-lack
 returns-in-Some-clause-lack c = λ e.
-    stops_far (content c.args.graph.now) c.args.node.0 c.in-Some.place (parts_left c.args.graph.now.arena c.args.waiting.now.items) c.args.self.now c.requires.tables c.in-Some.ensures.first (c.index.ensures.lack e)
+    stops_far (content c.args.graph.now) c.args.node.0 c.in-Some.place (parts_left c.args.graph.now.arena c.args.waiting.now.items) c.args.self.now c.requires.tables c.in-Some.ensures.first (c.index.ensures.lack e).0
 
 pub returns-in-Some-clause-falls : goal.returns-in-Some-clause-falls
 returns-in-Some-clause-falls c = on_ok c.index.result (λ h. inl (same_done c.args.self.now c.index.new.self h.1.tables, omega arith)) c.index.ensures.adds

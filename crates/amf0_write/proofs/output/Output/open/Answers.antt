@@ -55,8 +55,8 @@ returns-in_ok-double-in-Date-clause-leads c =
     let m = c.enter_loose.new.self in
     let e = ap (λ (x : Node). x.head) (shown a c.args.graph.now.root i (closed (date p) [] []) c.in-Date.ensures) in
     on_ok c.raw.result (λ h.
-    leads_loose g i (node_there a c.args.graph.now.root i c.requires.met.names) (node_fits a c.args.graph.now.root i c.is_finished.ensures.finished c.requires.met.names) (0x0B ∷ to_be_bytes w64 p ++ 0 ∷ 0 ∷ []) (parts_left a c.args.waiting.now.items) c.args.self.now m c.raw.new.self c.requires.new
-    c.in_ok-enter_loose-in-Date.ensures.ok c.in_ok-enter_loose-in-Date.ensures.bytes (dated p e)
+    leads_loose g i (node_there a c.args.graph.now.root i c.requires.met.names) (node_fits a c.args.graph.now.root i c.is_finished.ensures.finished c.requires.met.names) (0x0B ∷ to_be_bytes w64 p ++ 0 ∷ 0 ∷ []) (parts_left a c.args.waiting.now.items) c.args.self.now m c.raw.new.self c.args.node refl c.requires.new
+    c.in_ok-enter_loose-in-Date.ensures.ok c.in_ok-enter_loose-in-Date.ensures.loose c.in_ok-enter_loose-in-Date.ensures.bytes (dated p e)
     (adds_then (0x0B ∷ []) (to_be_bytes w64 p ++ 0 ∷ 0 ∷ []) m c.byte.new.self c.raw.new.self c.in_ok-byte-in-Date.ensures.adds
     (adds_then (to_be_bytes w64 p) (0 ∷ 0 ∷ []) c.byte.new.self c.double.new.self c.raw.new.self c.in_ok-double-in-Date.ensures.adds h))) c.raw.ensures.adds
 
@@ -72,8 +72,8 @@ returns-in_ok-byte-in-XmlDocument-clause-leads c =
     let e = ap (λ (x : Node). x.head) (shown a c.args.graph.now.root i n s.1) in
     let named_there = (node_in a i n c.is_finished.ensures.finished c.requires.met.names s.1).head in
     on_ok c.long.result (λ h.
-    leads_loose g i (node_there a c.args.graph.now.root i c.requires.met.names) (node_fits a c.args.graph.now.root i c.is_finished.ensures.finished c.requires.met.names) (0x0F ∷ to_be_bytes w32 (length x) ++ x) (parts_left a c.args.waiting.now.items) c.args.self.now m c.long.new.self c.requires.new
-    c.in_ok-enter_loose-in-XmlDocument.ensures.ok c.in_ok-enter_loose-in-XmlDocument.ensures.bytes (documented x e (text_in a s.0 c.is_finished.ensures.finished named_there) (omega (arith, text_within a s.0 c.is_finished.ensures.bounds named_there)))
+    leads_loose g i (node_there a c.args.graph.now.root i c.requires.met.names) (node_fits a c.args.graph.now.root i c.is_finished.ensures.finished c.requires.met.names) (0x0F ∷ to_be_bytes w32 (length x) ++ x) (parts_left a c.args.waiting.now.items) c.args.self.now m c.long.new.self c.args.node refl c.requires.new
+    c.in_ok-enter_loose-in-XmlDocument.ensures.ok c.in_ok-enter_loose-in-XmlDocument.ensures.loose c.in_ok-enter_loose-in-XmlDocument.ensures.bytes (documented x e (text_in a s.0 c.is_finished.ensures.finished named_there) (omega (arith, text_within a s.0 c.is_finished.ensures.bounds named_there)))
     (subst (λ (y : List ℕ). Adds (0x0F ∷ to_be_bytes w32 (length y) ++ y) m c.long.new.self) s.2
     (adds_then (0x0F ∷ []) (to_be_bytes w32 (length c.in-XmlDocument.text.now) ++ c.in-XmlDocument.text.now) m c.byte-in-XmlDocument.new.self c.long.new.self c.in_ok-byte-in-XmlDocument.ensures.adds h))) c.long.ensures.adds
 
@@ -88,7 +88,7 @@ returns-in_ok-enter-in-Array-clause-leads c =
     let m = c.enter.new.self in
     on_ok c.array.result (λ h.
     leads_opened g i (node_there a c.args.graph.now.root i c.requires.met.names) (node_fits a c.args.graph.now.root i c.is_finished.ensures.finished c.requires.met.names) before after c.args.self.now m c.array.new.self c.requires.new
-    c.in_ok-enter-in-Array.ensures.ok c.in_ok-enter-in-Array.ensures.bytes (subst (λ (x : Node). Opened x before after m c.array.new.self) (sym (shown a c.args.graph.now.root i n c.in-Array.ensures)) h)) c.array.ensures.opened
+    c.in_ok-enter-in-Array.ensures.ok c.in_ok-enter-in-Array.ensures.loose c.in_ok-enter-in-Array.ensures.bytes (subst (λ (x : Node). Opened x before after m c.array.new.self) (sym (shown a c.args.graph.now.root i n c.in-Array.ensures)) h)) c.array.ensures.opened
 
 pub returns-in_ok-enter-in-Object-clause-leads : goal.returns-in_ok-enter-in-Object-clause-leads
 returns-in_ok-enter-in-Object-clause-leads c =
@@ -109,4 +109,4 @@ returns-in_ok-enter-in-Object-clause-leads c =
     let m = c.enter-in-Object.new.self in
     on_ok c.object.result (λ h.
     leads_opened g i (node_there a c.args.graph.now.root i c.requires.met.names) fits before after c.args.self.now m c.object.new.self c.requires.new
-    c.in_ok-enter-in-Object.ensures.ok c.in_ok-enter-in-Object.ensures.bytes (subst (λ (x : Node). Opened x before after m c.object.new.self) (sym whole) h)) c.object.ensures.opened
+    c.in_ok-enter-in-Object.ensures.ok c.in_ok-enter-in-Object.ensures.loose c.in_ok-enter-in-Object.ensures.bytes (subst (λ (x : Node). Opened x before after m c.object.new.self) (sym whole) h)) c.object.ensures.opened

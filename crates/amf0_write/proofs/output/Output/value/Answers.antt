@@ -6,6 +6,7 @@ use Rattle.amf_graph.specs.Rooted.{content}
 use Rattle.amf0_write.specs.Unwritten0.{AreRunsOf, IsRunOf, IsNextOf, next_parts, parts_left}
 use Rattle.amf0_write.specs.Written0.{AreTables0}
 use Rattle.amf0_write.specs.Writes0.{value, done_of, Leads}
+use Rattle.amf0_write.proofs.Grown0.{grown_still, grown_then}
 use Rattle.amf0_write.proofs.Leading0.{leads_same, leads_then, leads_to, stops_behind, same_done}
 use Rattle.amf0_write.proofs.Runs0.{rest_of, top_of, turns_pushed, turned, falls_less, same_stop}
 use Rattle.amf0_write.proofs.output.Output.value.Goals as goal
@@ -51,6 +52,19 @@ returns-in_err-begin-clause-lack c = λ e.
     let before = turned g a whole c.pop.new.self.items c.loop-top.waiting.items left c.in-Some.top c.in_ok-next.next c.args.self.now c.loop-top.self c.next_value.new.self c.in-Some.ensures.items c.loop-top.invariant.leads (c.in_ok-next.ensures.leads c.args.graph.now top) in
     let begun = subst (λ next. Leads g whole (next_parts a next ++ parts_left a left) c.args.self.now c.next_value.new.self) c.in-Some-next.is before in
     stops_behind g whole now c.args.self.now c.next_value.new.self begun (c.in_err-begin.ensures.lack (same_stop c.from_residual-in_err-begin.result c.in_err-begin.field-0.0 c.from_residual-in_err-begin.ensures.1 e))
+
+pub returns-in_err-begin-clause-grown : goal.returns-in_err-begin-clause-grown
+returns-in_err-begin-clause-grown c = λ e.
+    let g = content c.args.graph.now in
+    let a = c.args.graph.now.arena in
+    let whole = value (value_content a c.args.value) ∷ [] in
+    let left = c.next_value.new.waiting.items in
+    let top = top_of (IsRunOf c.args.graph.now) c.loop-top.waiting.items c.pop.new.self.items c.in-Some.top c.in-Some.ensures.items c.loop-top.invariant.runs in
+    let before = turned g a whole c.pop.new.self.items c.loop-top.waiting.items left c.in-Some.top c.in_ok-next.next c.args.self.now c.loop-top.self c.next_value.new.self c.in-Some.ensures.items c.loop-top.invariant.leads (c.in_ok-next.ensures.leads c.args.graph.now top) in
+    let still = c.in_err-begin.ensures.still (same_stop c.from_residual-in_err-begin.result c.in_err-begin.field-0.0 c.from_residual-in_err-begin.ensures.1 e) in (
+      grown_then g c.args.self.now c.next_value.new.self c.begin.new.self before.grown (grown_still g c.next_value.new.self c.begin.new.self still),
+      subst (AreTables0 g) (sym still.0) (before.sound c.requires.tables),
+    )
 
 pub loop-top-preserved-in-Continue-branch-3 : goal.loop-top-preserved-in-Continue-branch-3
 loop-top-preserved-in-Continue-branch-3 c =
