@@ -1,5 +1,6 @@
 -- The lemmas that several proofs share.
 pub mod ViewedAlike
+pub mod CallBodies
 pub mod BuiltAlike
 pub mod Partly
 pub mod PublishedAlike

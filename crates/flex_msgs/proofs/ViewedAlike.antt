@@ -61,14 +61,14 @@ append_last : (x : List ℕ) (v : Value) (ps qs : List (List ℕ × Value)) → 
 append_last x v [] qs = refl
 append_last x v (p ∷ ps) qs = append_last x (pick x p v) ps qs
 
-abbrev BothOr : {X : Type 0} → (X → X → Type 0) → Option X → Option X → Type 0
+abbrev pub BothOr : {X : Type 0} → (X → X → Type 0) → Option X → Option X → Type 0
 BothOr R None None = Unit {0}
 BothOr R (Some x) (Some y) = R x y
 BothOr R _ _ = ⊥
 
 module _ (P : ℕ → ℕ → Type 0) where
   -- what is looked up in the two lists matches, whatever stands for an absent member
-  abbrev Alike : List (List ℕ × Value) → List (List ℕ × Value) → Type 0
+  abbrev pub Alike : List (List ℕ × Value) → List (List ℕ × Value) → Type 0
   Alike ps qs = (x : List ℕ) (v w : Value) → ValuesMatch P v w → ValuesMatch P (last_or v x ps) (last_or w x qs)
 
   pick_match : (x : List ℕ) (p q : List ℕ × Value) (v w : Value) → PairsMatch P p q → ValuesMatch P v w → ValuesMatch P (pick x p v) (pick x q w)
@@ -104,7 +104,7 @@ module _ (P : ℕ → ℕ → Type 0) where
       subst (λ z. ValuesMatch P z (last_or w x (members_of t b))) (sym (append_last x v (sealed_pairs t.sealed a.values) a.names))
       (subst (λ z. ValuesMatch P (last_or (last_or v x (sealed_pairs t.sealed a.values)) x a.names) z) (sym (append_last x w (sealed_pairs t.sealed b.values) b.names)) r)
 
-  found : (ps qs : List (List ℕ × Value)) → Alike ps qs → (x : List ℕ) → ValuesMatch P (value_named x ps) (value_named x qs)
+  pub found : (ps qs : List (List ℕ × Value)) → Alike ps qs → (x : List ℕ) → ValuesMatch P (value_named x ps) (value_named x qs)
   found ps qs h x = h x (leaf null) (leaf null) refl
 
   kind_alike : (d : Head) (a b : Node) → NodesMatch P a b → BothOr Alike (pairs_by_kind d a) (pairs_by_kind d b)
@@ -152,7 +152,7 @@ module _ (g h : Graph) (i : Isomorphic g h) where
   abbrev P : ℕ → ℕ → Type 0
   P = StandIn i.pairs
 
-  headers_alike : (v w : Value) → ValuesMatch P v w → BothOr (Alike P) (pairs_of g v) (pairs_of h w)
+  pub headers_alike : (v w : Value) → ValuesMatch P v w → BothOr (Alike P) (pairs_of g v) (pairs_of h w)
   headers_alike (leaf x) (leaf y) m = subst (λ z. BothOr (Alike P) (pairs_of g (leaf x)) (pairs_of h (leaf z))) m (go x)
     where
       go : (x : Leaf) → BothOr (Alike P) (pairs_of g (leaf x)) (pairs_of h (leaf x))

@@ -1,0 +1,57 @@
+-- The laws of the crates below on which the laws of what is answered stand.
+use Rattle.std.proofs.Common.{◌≡◌, ℕ, ◌+◌, ◌<◌, ◌⊎◌, Bool, List, length}
+use Rattle.std.specs.List.{AllZip}
+use Rattle.amf_graph.specs.Graph.{Value, leaf, null, Node, Graph}
+use Rattle.amf_graph.specs.Isomorphic.{ValuesMatch, NodesMatch, StandIn, Isomorphic}
+use Rattle.amf_graph.specs.Reached.{IsReachedValue}
+use Rattle.amf_graph.specs.Roots.{SameFrom}
+use Rattle.amf3_spelling.specs.LawsCanonical3.{CanonicalIsAlone, IsomorphicHaveSameCanonical, SameBytesAreIsomorphic}
+use Rattle.amf0_tables.specs.LawsCanonical0.{CanonicalIsAlone0, IsomorphicHaveSameCanonical0}
+use Rattle.amf0_tables.specs.Lowered.{IsLoweringOf}
+use Rattle.amf_http.specs.Request.{BeginsWithRequest, IsRefused}
+use Rattle.flex_msgs.specs.Answers.{rooted_behind}
+use Rattle.flex_msgs.specs.Asked.{Told, remoting, request}
+use Rattle.flex_msgs.specs.FlexLaws.{ViewLaw, AnswersAlike}
+use Rattle.flex_msgs.specs.Lookup.{pairs_of}
+use Rattle.flex_msgs.specs.Viewing.{value_view}
+use Rattle.amf_service.specs.ServiceLaws.{ServiceLaws}
+use Rattle.amf_gateway.specs.Commands.{named_in}
+use Rattle.amf_gateway.specs.RespondLaws.{SamePackets}
+
+-- further nodes behind two graphs in which some values are the same
+abbrev pub BehindAlike : Type 1
+BehindAlike =
+    (g h : Graph) (vs ws : List Value) (s : SameFrom g h vs ws) (more others : List Node) (last : ℕ) → last < length more → length more ≡ length others →
+    ((P : ℕ → ℕ → Type 0) → AllZip (ValuesMatch P) vs ws → ((m : ℕ) → m < length more → P (length g.nodes + m) (length h.nodes + m)) → AllZip (NodesMatch P) more others) →
+    Isomorphic (rooted_behind last g.nodes (λ n. more)) (rooted_behind last h.nodes (λ n. others))
+
+-- what a header's name is looked up to is the same in two graphs that are
+abbrev pub HeadersAlike : Type 0
+HeadersAlike =
+    (g h : Graph) (i : Isomorphic g h) (v w : Value) → ValuesMatch (StandIn i.pairs) v w → (x : List ℕ) →
+    ValuesMatch (StandIn i.pairs) (named_in x (pairs_of g v)) (named_in x (pairs_of h w))
+
+-- the body of a call is null or a value that is reached, where the message is
+abbrev pub BodyIsReached : Type 0
+BodyIsReached =
+    (g : Graph) (v : Value) (t : Told) (operation : List ℕ) → IsReachedValue g v → value_view g v ≡ request (remoting t operation) →
+    (t.body ≡ leaf null) ⊎ IsReachedValue g t.body
+
+pub record Laws : Type 0 where
+  pub alone3 : CanonicalIsAlone
+  pub alike3 : IsomorphicHaveSameCanonical
+  pub bytes3 : SameBytesAreIsomorphic
+  pub back : (g h : Graph) → Isomorphic g h → Isomorphic h g
+  pub across : (g h k : Graph) → Isomorphic g h → Isomorphic h k → Isomorphic g k
+  pub alone0 : CanonicalIsAlone0
+  pub alike0 : IsomorphicHaveSameCanonical0
+  pub lowered_alike : (g h low other : Graph) → Isomorphic g h → IsLoweringOf g low → IsLoweringOf h other → Isomorphic low other
+  pub one_request : (bytes body other : List ℕ) (close also : Bool) (rest more : List ℕ) → BeginsWithRequest bytes body close rest → BeginsWithRequest bytes other also more → (body ≡ other) × (close ≡ also) × (rest ≡ more)
+  pub one_status : (bytes : List ℕ) (status other : ℕ) → IsRefused bytes status → IsRefused bytes other → status ≡ other
+  pub not_both : (bytes body : List ℕ) (close : Bool) (rest : List ℕ) (status : ℕ) → BeginsWithRequest bytes body close rest → IsRefused bytes status → ⊥
+  pub packets : SamePackets
+  pub view : ViewLaw
+  pub answers : AnswersAlike
+  pub services : ServiceLaws
+  pub headers : HeadersAlike
+  pub body : BodyIsReached

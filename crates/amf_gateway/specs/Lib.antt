@@ -1,0 +1,26 @@
+-- The definitions that contracts cite.
+pub mod Plan
+pub mod Numbers
+pub mod Causes
+pub mod Replies
+pub mod Batches
+pub mod Remoting
+pub mod Commands
+pub mod Flex
+pub mod PlainCalls
+pub mod Packets
+pub mod Links
+pub mod Alike
+pub mod Runs
+pub mod Begun
+pub mod Respond
+pub mod RespondLaws
+pub mod Serving
+pub mod Tried
+pub mod WorkedTexts
+pub mod WorkedClient
+pub mod WorkedBytes
+pub mod WorkedOrder
+pub mod WorkedPlain
+pub mod WorkedRemoting
+pub mod WorkedLinks
