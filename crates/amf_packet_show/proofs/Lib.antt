@@ -1,0 +1,12 @@
+pub mod Fronts
+pub mod Lacks
+pub mod Laws
+pub mod Listed
+pub mod LoweredAgain
+pub mod Lowerings
+pub mod Matched
+pub mod ReadPackets
+pub mod Rows
+pub mod Steps
+pub mod Switches
+pub mod Turns

@@ -1,0 +1,51 @@
+ghost use Rattle.std.specs.Prelude.{◌≡◌, ◌*◌, ◌≤◌, length, map, IfOk};
+ghost use Rattle.amf_graph.specs.Rooted.{content};
+ghost use Rattle.amf_packet.specs.Content.{header_of, message_of, packet_of};
+ghost use Rattle.amf_packet.specs.WriteParts.{header_bodies, message_bodies};
+ghost use Rattle.amf_packet_show.specs.PacketNodes.{HasNodes, HaveNodes, PacketHasNodes};
+
+use crate::body::graph;
+use amf_graph::Rooted;
+use amf_iso::Numbering;
+use amf_packet::{Header, Message, Packet};
+use amf_wire::Memory;
+use std::alloc::Global;
+
+/// How many nodes the root of a graph leads to. It gives up where there is no memory.
+pub fn count_nodes(alloc: Global, graph: &Rooted) -> Result<u32, Memory>
+    ensures { IfOk result (λ nodes. HasNodes (content graph.now) nodes) }
+{
+    let numbering = Numbering::of(alloc, graph)?;
+    Ok(numbering.count())
+}
+
+/// How many nodes the roots of a packet's values lead to, added over the values. It gives up where there is no memory.
+pub fn count_packet_nodes(alloc: Global, packet: &Packet) -> Result<u128, Memory>
+    ensures { IfOk result (λ nodes. PacketHasNodes (packet_of packet.now) nodes) }
+{
+    let headers = count_headers(alloc, packet.headers.as_slice())?;
+    let messages = count_messages(alloc, packet.messages.as_slice())?;
+    Ok(headers + messages)
+}
+
+fn count_headers(alloc: Global, headers: &[Header]) -> Result<u128, Memory>
+    ensures nodes { IfOk result (λ nodes. HaveNodes (header_bodies (map header_of headers.now)) nodes) }
+    ensures few { IfOk result (λ nodes. nodes ≤ 4294967296 * length headers.now) }
+{
+    let mut nodes = 0u128;
+    for header in headers {
+        nodes += u128::from(count_nodes(alloc, graph(&header.body))?);
+    }
+    Ok(nodes)
+}
+
+fn count_messages(alloc: Global, messages: &[Message]) -> Result<u128, Memory>
+    ensures nodes { IfOk result (λ nodes. HaveNodes (message_bodies (map message_of messages.now)) nodes) }
+    ensures few { IfOk result (λ nodes. nodes ≤ 4294967296 * length messages.now) }
+{
+    let mut nodes = 0u128;
+    for message in messages {
+        nodes += u128::from(count_nodes(alloc, graph(&message.body))?);
+    }
+    Ok(nodes)
+}
