@@ -14,8 +14,8 @@ use Rattle.amf_cli.specs.declared.format.Format.{Format}
 use Rattle.amf_cli.specs.declared.format.Format.TheVariants.{Amf3}
 use Rattle.amf_cli.specs.declared.kind.Kind.{Kind}
 use Rattle.amf_cli.specs.declared.kind.Kind.TheVariants as kind
-use Rattle.amf_cli.specs.Commands.{Asks, HasReading, Reads, canon_from, canon_to, command_for, format_or, gen_of, is_numeral, name_of, number_at, options_for}
-use Rattle.amf_cli.specs.Sized.{IsSized}
+use Rattle.amf_cli.specs.Commands.{Asks, HasReading, Reads, canon_from, canon_to, command_for, format_or, gen_of, goes_to, is_numeral, name_of, number_at, options_for}
+use Rattle.amf_cli.specs.Askable.{IsAskable}
 
 named : Text → Kind
 named t = if bytes_eq t (codes "canon") then kind.Canon
@@ -79,31 +79,35 @@ number_within least most (Some text) n e =
     let w = named_within (is_numeral text) (nat_le least value) (nat_le value most) value n e in
     (subst (λ k. least ≤ k) w.2 (leb-true least value w.0), subst (λ k. k ≤ most) w.2 (leb-true value most w.1))
 
-gen_sized : (seed size : Option ℕ) (c : Command) → ((n : ℕ) → size ≡ Some n → (1 ≤ n) × (n ≤ 1000000)) → gen_of seed size ≡ Some c → IsSized c
+gen_sized : (seed size : Option ℕ) (c : Command) → ((n : ℕ) → size ≡ Some n → (1 ≤ n) × (n ≤ 1000000)) → gen_of seed size ≡ Some c → IsAskable c
 gen_sized None size c h e = cc
 gen_sized (Some a) None c h e = cc
-gen_sized (Some a) (Some n) c h e = subst IsSized (same_Some (command.Gen a n) c e) (h n refl)
+gen_sized (Some a) (Some n) c h e = subst IsAskable (same_Some (command.Gen a n) c e) (h n refl)
 
-canon_sized : (from : Option Format) (to : Option Text) (c : Command) → canon_from from to ≡ Some c → IsSized c
+goes_sized : (from to : Format) (c : Command) (b : Bool) → goes_to from to ≡ b → (if b then Some (command.Canon from to) else None) ≡ Some c → IsAskable c
+goes_sized from to c true goes e = subst IsAskable (same_Some (command.Canon from to) c e) goes
+goes_sized from to c false goes e = cc
+
+canon_sized : (from : Option Format) (to : Option Text) (c : Command) → canon_from from to ≡ Some c → IsAskable c
 canon_sized None to c e = cc
 canon_sized (Some from) to c e = step (format_or from to) e
   where
-    step : (o : Option Format) → canon_to from o ≡ Some c → IsSized c
+    step : (o : Option Format) → canon_to from o ≡ Some c → IsAskable c
     step None e = cc
-    step (Some f) e = subst IsSized (same_Some (command.Canon from f) c e) tt
+    step (Some f) e = goes_sized from f c (goes_to from f) refl e
 
-mapped_sized : (make : Format → Command) (all : (f : Format) → IsSized (make f)) (o : Option Format) (c : Command) → option_map make o ≡ Some c → IsSized c
+mapped_sized : (make : Format → Command) (all : (f : Format) → IsAskable (make f)) (o : Option Format) (c : Command) → option_map make o ≡ Some c → IsAskable c
 mapped_sized make all None c e = cc
-mapped_sized make all (Some f) c e = subst IsSized (same_Some (make f) c e) (all f)
+mapped_sized make all (Some f) c e = subst IsAskable (same_Some (make f) c e) (all f)
 
-command_sized : (k : Kind) (value : Text → Option Text) (c : Command) → command_for k value ≡ Some c → IsSized c
+command_sized : (k : Kind) (value : Text → Option Text) (c : Command) → command_for k value ≡ Some c → IsAskable c
 command_sized kind.Canon value c e = canon_sized (format_or Amf3 (value (codes "from"))) (value (codes "to")) c e
 command_sized kind.Check value c e = mapped_sized command.Check (λ f. tt) (format_or Amf3 (value (codes "from"))) c e
 command_sized kind.Show value c e = mapped_sized command.Show (λ f. tt) (format_or Amf3 (value (codes "from"))) c e
-command_sized kind.Same value c e = subst IsSized (same_Some command.Same c e) tt
+command_sized kind.Same value c e = subst IsAskable (same_Some command.Same c e) tt
 command_sized kind.Gen value c e = gen_sized (number_at 0 4294967295 (value (codes "seed"))) (number_at 1 1000000 (value (codes "size"))) c (number_within 1 1000000 (value (codes "size"))) e
 
-pub read_sized : (words : List Text) (c : Command) → Reads words c → IsSized c
+pub read_sized : (words : List Text) (c : Command) → Reads words c → IsAskable c
 read_sized words c (utf8, (k, rest, given, is, has, gives)) = command_sized k (value_of given) c gives
 
 pub one_reading : (words : List Text) (c d : Command) → Reads words c → Reads words d → c ≡ d

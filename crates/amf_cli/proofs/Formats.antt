@@ -15,81 +15,211 @@ use Rattle.amf0_tables.proofs.Decides0.{alone0, canonical_decides0, same_bytes_i
 use Rattle.amf0_tables.proofs.Forget0.{forget_spelled0}
 use Rattle.amf0_tables.proofs.LackTwice0.{spelling_or_lack0}
 use Rattle.amf0_tables.proofs.Low.{kept}
-use Rattle.amf_cli.proofs.LoweredAgain.{lowered_again}
+use Rattle.amf_packet_show.specs.SamePacket.{SamePacket}
+use Rattle.amf_packet_show.proofs.Laws.{packet_laws}
+use Rattle.amf_packet_show.proofs.Lowerings.{same_sym, same_trans}
+use Rattle.amf_packet_show.proofs.LoweredAgain.{lowered_again}
 use Rattle.amf_cli.specs.declared.format.Format.{Format}
-use Rattle.amf_cli.specs.declared.format.Format.TheVariants.{Amf3, Amf0}
-use Rattle.amf_cli.specs.Formats.{Spelled, IsFitted, IsLackIn, IsWritten, IsUnwritten}
+use Rattle.amf_cli.specs.declared.format.Format.TheVariants.{Amf3, Amf0, Packet}
+use Rattle.amf_cli.specs.Content.{Content, value, packet}
+use Rattle.amf_cli.specs.Formats.{Spelled, IsFitted, IsAlike, IsLackIn, IsWritten, IsUnwritten}
 
--- a canonical spelling is a spelling
-pub forgotten : (f : Format) (g : Graph) (b : List ℕ) → Spelled f canonical g b → Spelled f free g b
-forgotten Amf3 g b (fs, (t, z), e) = (fs, (t, forget3 canonical g g.root _ fs t z), e)
-forgotten Amf0 g b s = forget_spelled0 canonical g b s
+-- the same content but for the numbers of its nodes
+abbrev pub SameContent : Content → Content → Type 0
+SameContent (value g) (value h) = Isomorphic g h
+SameContent (packet p) (packet q) = SamePacket p q
+SameContent _ _ = ⊥
 
--- two graphs that the same bytes spell are isomorphic
-pub same_bytes : (f : Format) (g h : Graph) (b : List ℕ) → Spelled f free g b → Spelled f free h b → Isomorphic g h
-same_bytes Amf3 = same_bytes_isomorphic
-same_bytes Amf0 = same_bytes_isomorphic0
+pub content_sym : (c d : Content) → SameContent c d → SameContent d c
+content_sym (value g) (value h) i = isomorphic_sym g h i
+content_sym (value g) (packet q) i = absurd i
+content_sym (packet p) (value h) i = absurd i
+content_sym (packet p) (packet q) i = same_sym p q i
 
--- no graph has two canonical spellings
-pub alone : (f : Format) (g : Graph) (b c : List ℕ) → Spelled f canonical g b → Spelled f canonical g c → b ≡ c
-alone Amf3 = canonical_is_alone
-alone Amf0 = alone0.bytes
+-- what is fitted is so already
+fits_again : (f : Format) (c fit : Content) → IsFitted f c fit → IsFitted f fit fit
+fits_again Amf3 (value g) (value x) d = refl
+fits_again Amf3 (value g) (packet x) d = absurd d
+fits_again Amf3 (packet p) (value x) d = absurd d
+fits_again Amf3 (packet p) (packet x) d = absurd d
+fits_again Amf0 (value g) (value x) d = lowered_again g x d
+fits_again Amf0 (value g) (packet x) d = absurd d
+fits_again Amf0 (packet p) (value x) d = absurd d
+fits_again Amf0 (packet p) (packet x) d = absurd d
+fits_again Packet (value g) (value x) d = absurd d
+fits_again Packet (value g) (packet x) d = absurd d
+fits_again Packet (packet p) (value x) d = absurd d
+fits_again Packet (packet p) (packet x) d = packet_laws.again p x d
 
--- canonical bytes are so for exactly the graphs that are isomorphic to theirs
-pub every : (f : Format) (g : Graph) (b : List ℕ) → Spelled f canonical g b → (h : Graph) → Isomorphic h g ↔ Spelled f canonical h b
-every Amf3 = canonical_decides.every
-every Amf0 = canonical_decides0.every
+-- a canonical spelling of what is fitted is a spelling
+pub forgotten : (f : Format) (c : Content) (b : List ℕ) → IsFitted f c c → Spelled f canonical c b → Spelled f free c b
+forgotten Amf3 (value g) b d (fs, (t, z), e) = (fs, (t, forget3 canonical g g.root _ fs t z), e)
+forgotten Amf3 (packet p) b d s = absurd d
+forgotten Amf0 (value g) b d s = forget_spelled0 canonical g b s
+forgotten Amf0 (packet p) b d s = absurd d
+forgotten Packet (value g) b d s = absurd d
+forgotten Packet (packet p) b d s = packet_laws.forget p p b s d
 
--- isomorphic graphs are isomorphic in the kinds that a format has
-pub fits_alike : (f : Format) (g h fit other : Graph) → Isomorphic g h → IsFitted f g fit → IsFitted f h other → Isomorphic fit other
-fits_alike Amf3 g h fit other i d e = subst (λ (x : Graph). Isomorphic x other) (sym d) (subst (λ (x : Graph). Isomorphic g x) (sym e) i)
-fits_alike Amf0 g h fit other i d e = kept g h fit other i d e
+-- two contents that the same bytes spell are the same
+pub same_bytes : (f : Format) (c d : Content) (b : List ℕ) → Spelled f free c b → Spelled f free d b → SameContent c d
+same_bytes Amf3 (value g) (value h) b s r = same_bytes_isomorphic g h b s r
+same_bytes Amf3 (value g) (packet q) b s r = absurd r.1
+same_bytes Amf3 (packet p) d b s r = absurd s.1
+same_bytes Amf0 (value g) (value h) b s r = same_bytes_isomorphic0 g h b s r
+same_bytes Amf0 (value g) (packet q) b s r = absurd r.1
+same_bytes Amf0 (packet p) d b s r = absurd s.1
+same_bytes Packet (packet p) (packet q) b s r = packet_laws.same_bytes p q b s r
+same_bytes Packet (packet p) (value h) b s r = absurd r.1
+same_bytes Packet (value g) d b s r = absurd s.1
 
--- a graph that is isomorphic to one in the kinds of a format is in these kinds already
-pub fits_still : (f : Format) (g fit h other : Graph) → IsFitted f g fit → Isomorphic fit h → IsFitted f h other → Isomorphic fit other
-fits_still Amf3 g fit h other d i e = subst (λ (x : Graph). Isomorphic fit x) (sym e) i
-fits_still Amf0 g fit h other d i e = kept fit h fit other i (lowered_again g fit d) e
+-- no content has two canonical spellings
+pub alone : (f : Format) (c : Content) (b d : List ℕ) → Spelled f canonical c b → Spelled f canonical c d → b ≡ d
+alone Amf3 (value g) b d s r = canonical_is_alone g b d s r
+alone Amf3 (packet p) b d s r = absurd s.1
+alone Amf0 (value g) b d s r = alone0.bytes g b d s r
+alone Amf0 (packet p) b d s r = absurd s.1
+alone Packet (value g) b d s r = absurd s.1
+alone Packet (packet p) b d s r = packet_laws.alone p b d s r
 
--- a graph has a canonical spelling or a lack, and not both
-pub not_both : (f : Format) (g : Graph) (b : List ℕ) (l : Lack) → Spelled f canonical g b → IsLackIn f g l → ⊥
-not_both Amf3 g b l (fs, p, e) k = spelling_or_lack.not_both g fs l.node l.kind p k
-not_both Amf0 g b l (fs, p, e) k = spelling_or_lack0.not_both g fs l.node l.kind p k
+-- canonical bytes of what is fitted are so for exactly the contents that are alike
+pub every : (f : Format) (c : Content) (b : List ℕ) → IsFitted f c c → Spelled f canonical c b → (other : Content) → IsAlike f other c ↔ Spelled f canonical other b
+every Amf3 (value g) b d s (value h) = canonical_decides.every g b s h
+every Amf3 (value g) b d s (packet q) = ((λ i. absurd i), (λ t. absurd t.1))
+every Amf3 (packet p) b d s other = absurd d
+every Amf0 (value g) b d s (value h) = canonical_decides0.every g b s h
+every Amf0 (value g) b d s (packet q) = ((λ i. absurd i), (λ t. absurd t.1))
+every Amf0 (packet p) b d s other = absurd d
+every Packet (value g) b d s other = absurd d
+every Packet (packet p) b d s (value h) = ((λ i. absurd i), (λ t. absurd t.1))
+every Packet (packet p) b d s (packet q) = packet_laws.every p p b s d q
 
--- isomorphic graphs have the same lack
-pub lacks_alike : (f : Format) (g h : Graph) → Isomorphic g h → (l : Lack) → IsLackIn f g l → IsLackIn f h l
-lacks_alike Amf3 g h i l k = spelling_or_lack.alike g h i l.node l.kind k
-lacks_alike Amf0 g h i l k = spelling_or_lack0.alike g h i l.node l.kind k
+-- the same contents are the same in the kinds that a format has
+pub fits_alike : (f : Format) (c d fit other : Content) → SameContent c d → IsFitted f c fit → IsFitted f d other → SameContent fit other
+fits_alike Amf3 (value g) (value h) (value x) (value y) i d e = subst (λ (w : Graph). Isomorphic w y) (sym d) (subst (λ (w : Graph). Isomorphic g w) (sym e) i)
+fits_alike Amf3 (value g) (value h) (value x) (packet y) i d e = absurd e
+fits_alike Amf3 (value g) (value h) (packet x) other i d e = absurd d
+fits_alike Amf3 (value g) (packet q) fit other i d e = absurd i
+fits_alike Amf3 (packet p) (value h) fit other i d e = absurd i
+fits_alike Amf3 (packet p) (packet q) (value x) other i d e = absurd d
+fits_alike Amf3 (packet p) (packet q) (packet x) other i d e = absurd d
+fits_alike Amf0 (value g) (value h) (value x) (value y) i d e = kept g h x y i d e
+fits_alike Amf0 (value g) (value h) (value x) (packet y) i d e = absurd e
+fits_alike Amf0 (value g) (value h) (packet x) other i d e = absurd d
+fits_alike Amf0 (value g) (packet q) fit other i d e = absurd i
+fits_alike Amf0 (packet p) (value h) fit other i d e = absurd i
+fits_alike Amf0 (packet p) (packet q) (value x) other i d e = absurd d
+fits_alike Amf0 (packet p) (packet q) (packet x) other i d e = absurd d
+fits_alike Packet (value g) (value h) (value x) other i d e = absurd d
+fits_alike Packet (value g) (value h) (packet x) other i d e = absurd d
+fits_alike Packet (value g) (packet q) fit other i d e = absurd i
+fits_alike Packet (packet p) (value h) fit other i d e = absurd i
+fits_alike Packet (packet p) (packet q) (value x) other i d e = absurd d
+fits_alike Packet (packet p) (packet q) (packet x) (value y) i d e = absurd e
+fits_alike Packet (packet p) (packet q) (packet x) (packet y) i d e = packet_laws.kept p q x y i d e
 
--- what the bytes are of one graph they are of each that the same input spells
-module _ (f : Format) (g h fit other : Graph) (same : Isomorphic g h) (is : IsFitted f g fit) (also : IsFitted f h other) where
-  alike : Isomorphic fit other
-  alike = fits_alike f g h fit other same is also
+-- what is alike to the one is alike to the other
+alike_over : (f : Format) (fit other k : Content) → SameContent other fit → IsAlike f k other → IsAlike f k fit
+alike_over Amf3 (value g) (value h) (value k) i a = isomorphic_trans k h g a i
+alike_over Amf3 (value g) (value h) (packet k) i a = absurd a
+alike_over Amf3 (value g) (packet h) k i a = absurd i
+alike_over Amf3 (packet g) (value h) k i a = absurd i
+alike_over Amf3 (packet g) (packet h) (value k) i a = absurd a
+alike_over Amf3 (packet g) (packet h) (packet k) i a = absurd a
+alike_over Amf0 (value g) (value h) (value k) i a = isomorphic_trans k h g a i
+alike_over Amf0 (value g) (value h) (packet k) i a = absurd a
+alike_over Amf0 (value g) (packet h) k i a = absurd i
+alike_over Amf0 (packet g) (value h) k i a = absurd i
+alike_over Amf0 (packet g) (packet h) (value k) i a = absurd a
+alike_over Amf0 (packet g) (packet h) (packet k) i a = absurd a
+alike_over Packet (value g) (value h) (value k) i a = absurd a
+alike_over Packet (value g) (value h) (packet k) i a = absurd a
+alike_over Packet (value g) (packet h) k i a = absurd i
+alike_over Packet (packet g) (value h) k i a = absurd i
+alike_over Packet (packet g) (packet h) (value k) i a = absurd a
+alike_over Packet (packet g) (packet h) (packet k) i (low, is, same) = (low, is, same_trans low h g same i)
 
-  pub decides_alike : (b : List ℕ) → Spelled f canonical fit b → (k : Graph) → Isomorphic k other ↔ Spelled f canonical k b
-  decides_alike b s k = (
-    λ i. (every f fit b s k).0 (isomorphic_trans k other fit i (isomorphic_sym fit other alike)),
-    λ c. isomorphic_trans k fit other ((every f fit b s k).1 c) alike,
-  )
+-- a fitted content that is the same is alike
+fitted_alike : (f : Format) (d other fit : Content) → IsFitted f d other → SameContent other fit → IsAlike f other fit
+fitted_alike Amf3 d (value h) (value g) e i = i
+fitted_alike Amf3 d (value h) (packet g) e i = absurd i
+fitted_alike Amf3 d (packet h) (value g) e i = absurd i
+fitted_alike Amf3 (value d) (packet h) (packet g) e i = absurd e
+fitted_alike Amf3 (packet d) (packet h) (packet g) e i = absurd e
+fitted_alike Amf0 d (value h) (value g) e i = i
+fitted_alike Amf0 d (value h) (packet g) e i = absurd i
+fitted_alike Amf0 d (packet h) (value g) e i = absurd i
+fitted_alike Amf0 (value d) (packet h) (packet g) e i = absurd e
+fitted_alike Amf0 (packet d) (packet h) (packet g) e i = absurd e
+fitted_alike Packet (value d) (value h) fit e i = absurd e
+fitted_alike Packet (packet d) (value h) fit e i = absurd e
+fitted_alike Packet d (packet h) (value g) e i = absurd i
+fitted_alike Packet (value d) (packet h) (packet g) e i = absurd e
+fitted_alike Packet (packet d) (packet h) (packet g) e i = (h, packet_laws.again d h e, i)
 
-  pub not_both_alike : (b : List ℕ) (l : Lack) → Spelled f canonical fit b → IsLackIn f other l → ⊥
-  not_both_alike b l s k = not_both f fit b l s (lacks_alike f other fit (isomorphic_sym fit other alike) l k)
+-- a content has a canonical spelling or a lack, and not both
+not_both : (f : Format) (c : Content) (b : List ℕ) (number : ℕ) (l : Lack) → Spelled f canonical c b → IsLackIn f c number l → ⊥
+not_both Amf3 (value g) b number l (fs, p, e) k = spelling_or_lack.not_both g fs l.node l.kind p k.1
+not_both Amf3 (packet p) b number l s k = absurd k
+not_both Amf0 (value g) b number l (fs, p, e) k = spelling_or_lack0.not_both g fs l.node l.kind p k.1
+not_both Amf0 (packet p) b number l s k = absurd k
+not_both Packet (value g) b number l s k = absurd k
+not_both Packet (packet p) b number l s k = packet_laws.not_both p b number l.node l.kind s k
 
-  pub lacks_too : (l : Lack) → IsLackIn f fit l → IsLackIn f other l
-  lacks_too l k = lacks_alike f fit other alike l k
+-- the same contents have the same lack
+pub lacks_too : (f : Format) (c d fit other : Content) → SameContent c d → IsFitted f c fit → IsFitted f d other → (number : ℕ) (l : Lack) → IsLackIn f fit number l → IsLackIn f other number l
+lacks_too Amf3 (value g) (value h) (value x) (value y) i d e number l k = (k.0, spelling_or_lack.alike x y (fits_alike Amf3 (value g) (value h) (value x) (value y) i d e) l.node l.kind k.1)
+lacks_too Amf3 (value g) (value h) (value x) (packet y) i d e number l k = absurd e
+lacks_too Amf3 (value g) (value h) (packet x) other i d e number l k = absurd d
+lacks_too Amf3 (value g) (packet q) fit other i d e number l k = absurd i
+lacks_too Amf3 (packet p) (value h) fit other i d e number l k = absurd i
+lacks_too Amf3 (packet p) (packet q) (value x) other i d e number l k = absurd d
+lacks_too Amf3 (packet p) (packet q) (packet x) other i d e number l k = absurd d
+lacks_too Amf0 (value g) (value h) (value x) (value y) i d e number l k = (k.0, spelling_or_lack0.alike x y (kept g h x y i d e) l.node l.kind k.1)
+lacks_too Amf0 (value g) (value h) (value x) (packet y) i d e number l k = absurd e
+lacks_too Amf0 (value g) (value h) (packet x) other i d e number l k = absurd d
+lacks_too Amf0 (value g) (packet q) fit other i d e number l k = absurd i
+lacks_too Amf0 (packet p) (value h) fit other i d e number l k = absurd i
+lacks_too Amf0 (packet p) (packet q) (value x) other i d e number l k = absurd d
+lacks_too Amf0 (packet p) (packet q) (packet x) other i d e number l k = absurd d
+lacks_too Packet (value g) (value h) (value x) other i d e number l k = absurd d
+lacks_too Packet (value g) (value h) (packet x) other i d e number l k = absurd d
+lacks_too Packet (value g) (packet q) fit other i d e number l k = absurd i
+lacks_too Packet (packet p) (value h) fit other i d e number l k = absurd i
+lacks_too Packet (packet p) (packet q) (value x) other i d e number l k = absurd d
+lacks_too Packet (packet p) (packet q) (packet x) (value y) i d e number l k = absurd e
+lacks_too Packet (packet p) (packet q) (packet x) (packet y) i d e number l k = packet_laws.lacks_alike p q x y i d e number l.node l.kind k
 
--- canonical bytes are the canonical spelling of each graph that they spell
-pub written_again : (f : Format) (g h : Graph) (b c : List ℕ) → IsWritten f g b → Spelled f free h b → IsWritten f h c → c ≡ b
-written_again f g h b c (fit, d, s) r (other, e, t) =
-    let here : Isomorphic fit h = same_bytes f fit h b (forgotten f fit b s) r in
-    let still : Isomorphic fit other = fits_still f g fit h other d here e in
-    alone f other c b t ((every f fit b s other).0 (isomorphic_sym fit other still))
+-- what the bytes are of one content they are of each that the same input spells
+module _ (f : Format) (c d fit other : Content) (same : SameContent c d) (is : IsFitted f c fit) (also : IsFitted f d other) where
+  alike : SameContent fit other
+  alike = fits_alike f c d fit other same is also
+
+  pub decides_alike : (b : List ℕ) → Spelled f canonical fit b → (k : Content) → IsAlike f k other ↔ Spelled f canonical k b
+  decides_alike b s k =
+      let e = every f fit b (fits_again f c fit is) s k in (
+        λ i. e.0 (alike_over f fit other k (content_sym fit other alike) i),
+        λ t. alike_over f other fit k alike (e.1 t),
+      )
+
+  pub not_both_alike : (b : List ℕ) (number : ℕ) (l : Lack) → Spelled f canonical fit b → IsLackIn f other number l → ⊥
+  not_both_alike b number l s k = not_both f fit b number l s (lacks_too f d c other fit (content_sym c d same) also is number l k)
+
+-- canonical bytes are the canonical spelling of each content that they spell
+pub written_again : (f : Format) (c d : Content) (b out : List ℕ) → IsWritten f c b → Spelled f free d b → IsWritten f d out → out ≡ b
+written_again f c d b out (fit, is, s) r (other, also, t) =
+    let again = fits_again f c fit is in
+    let here : SameContent fit d = same_bytes f fit d b (forgotten f fit b again s) r in
+    let still : SameContent fit other = fits_alike f fit d fit other here again also in
+    alone f other out b t ((every f fit b again s other).0 (fitted_alike f d other fit also (content_sym fit other still)))
 
 -- AMF 3 has all kinds
-pub as_written : {X E : Type 0} (items : X → List ℕ) (f : Format) (g : Graph) (r : Result X E) → f ≡ Amf3 → IfOk r (λ v. Spelled3 canonical g (items v)) → IfOk r (λ v. IsWritten f g (items v))
+pub as_written : {X E : Type 0} (items : X → List ℕ) (f : Format) (g : Graph) (r : Result X E) → f ≡ Amf3 → IfOk r (λ v. Spelled3 canonical g (items v)) → IfOk r (λ v. IsWritten f (value g) (items v))
 as_written items f g (Err e) is h = tt
-as_written items Amf3 g (Ok v) is h = (g, refl, h)
+as_written items Amf3 g (Ok v) is h = (value g, refl, h)
 as_written items Amf0 g (Ok v) is h = absurd cc
+as_written items Packet g (Ok v) is h = absurd cc
 
-pub as_unwritten : (f : Format) (g : Graph) (l : Lack) → f ≡ Amf3 → IsLack3 g l.node l.kind → IsUnwritten f g l
-as_unwritten Amf3 g l is h = (g, refl, h)
+pub as_unwritten : (f : Format) (g : Graph) (l : Lack) → f ≡ Amf3 → IsLack3 g l.node l.kind → IsUnwritten f (value g) 0 l
+as_unwritten Amf3 g l is h = (value g, refl, (refl, h))
 as_unwritten Amf0 g l is h = absurd cc
+as_unwritten Packet g l is h = absurd cc

@@ -37,3 +37,14 @@ five_written (Ok done) held one two three four now a b c d e h i j k w =
     let third = k ∙ joined held three (a ++ b ++ c) d second in
     w ∙ joined held four (a ++ b ++ c ++ d) e third
 five_written (Err f) held one two three four now a b c d e h i j k w = tt
+
+-- seven pieces
+pub seven_written : (r : Result (Unit {0}) Failed) (held one two three four five six now a b c d e f g : List ℕ) → one ≡ held ++ a → two ≡ one ++ b → three ≡ two ++ c → four ≡ three ++ d → five ≡ four ++ e → six ≡ five ++ f → Writes six now g r → OnOk r (now ≡ held ++ (a ++ b ++ c ++ d ++ e ++ f ++ g))
+seven_written (Ok done) held one two three four five six now a b c d e f g h i j k l m w =
+    let first = i ∙ joined held one a b h in
+    let second = j ∙ joined held two (a ++ b) c first in
+    let third = k ∙ joined held three (a ++ b ++ c) d second in
+    let fourth = l ∙ joined held four (a ++ b ++ c ++ d) e third in
+    let fifth = m ∙ joined held five (a ++ b ++ c ++ d ++ e) f fourth in
+    w ∙ joined held six (a ++ b ++ c ++ d ++ e ++ f) g fifth
+seven_written (Err x) held one two three four five six now a b c d e f g h i j k l m w = tt

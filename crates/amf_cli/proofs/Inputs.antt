@@ -9,13 +9,14 @@ use Rattle.amf_io.specs.Cursor as cursors
 use Rattle.amf_io.specs.CursorReads.{Goes}
 use Rattle.amf_io.specs.ReadEnds.{IsFaultedEnd}
 use Rattle.amf_io.specs.Field.{Field, flat}
-use Rattle.amf_io.specs.Verdict.{IsRefused, IsCutOff, IsInputRefused, refused, trailing}
+use Rattle.amf_io.specs.Verdict.{IsRefused, IsCutOff, refused, trailing}
 use Rattle.amf_io.proofs.Paths.{flat-append}
 use Rattle.amf_io.specs.declared.ends.ReadEnd.{ReadEnd}
 use Rattle.amf_io.specs.declared.ends.ReadEnd.TheVariants.{Refused, ReadFault, Memory}
 use Rattle.amf_graph.specs.declared.value.Value.{Value}
 use Rattle.amf_graph.specs.Graph.{Graph}
 use Rattle.amf_graph.specs.Arena.{Arena, graph_of, IsFinished}
+use Rattle.amf_graph.specs.Rooted.{RootedArena, content}
 use Rattle.amf_graph.proofs.FinishedSmall.{completes_itself}
 use Rattle.amf_graph.specs.Building.{no_arena}
 use Rattle.amf3_spelling.specs.KeptTables.{KeptTables, no_kept_tables, tables_of}
@@ -23,30 +24,40 @@ use Rattle.amf3_spelling.specs.Reads3.{Grows, IsRead3, IsReading3, IsValue3}
 use Rattle.amf3_layout.proofs.Values3Layout.{no_arena_built, values3_is_layout}
 use Rattle.amf3_layout.specs.Layout3State.{no_state}
 use Rattle.amf3_layout.specs.Layout3.{value_layout}
-use Rattle.amf3_read.specs.Answer.{IsTaken, AnswersAs, AnswersOf}
+use Rattle.amf3_read.specs.Answer.{IsTaken, IsInterrupted, AnswersAs, AnswersOf}
 use Rattle.amf0_tables.specs.KeptTables0.{KeptTables0, no_kept_tables0, tables0_of}
 use Rattle.amf0_tables.specs.Reads0.{IsReading0}
 use Rattle.amf0_read.specs.Answer0.{IsReadWith}
 use Rattle.amf0_read.specs.declared.formed.Read0.{Read0}
+use Rattle.amf_wire.specs.Style.{free}
+use Rattle.amf_packet.specs.declared.packet.Packet.{Packet as KeptPacket}
+use Rattle.amf_packet.specs.Content.{packet_of}
+use Rattle.amf_packet.specs.Packet.{SpellsPacket, IsPacketReading}
 use Rattle.amf_graph.specs.declared.lack.Lack.{Lack}
 use Rattle.amf_cli.specs.declared.run_end.RunEnd.{RunEnd}
 use Rattle.amf_cli.specs.declared.run_end.RunEnd.TheVariants as run
 use Rattle.amf3_read.specs.Pairs.{Pair}
 use Rattle.amf_cli.specs.declared.format.Format.{Format}
-use Rattle.amf_cli.specs.declared.format.Format.TheVariants.{Amf3, Amf0}
-use Rattle.amf_cli.specs.Formats.{IsValue}
-use Rattle.amf_cli.specs.Run.{most, IsInputOf, ArePairIn, IsHidden, NeverLacks, ReadsInput}
-use Rattle.amf_cli.specs.Reading.{IsReadOne, AnswersOne, AnswersEnd}
+use Rattle.amf_cli.specs.declared.format.Format.TheVariants.{Amf3, Amf0, Packet}
+use Rattle.amf_cli.specs.declared.content.Content.{Content as KeptContent}
+use Rattle.amf_cli.specs.Content.{Content, value, packet, content_of}
+use Rattle.amf_cli.specs.Formats.{IsContent}
+use Rattle.amf_cli.specs.Input.{most, Input, one, two, IsRefusedAs}
+use Rattle.amf_cli.specs.Run.{IsInputOf, ArePairIn, IsHidden, NeverLacks, ReadsInput}
+use Rattle.amf_cli.specs.Reading.{IsReadOne, AnswersOne, AnswersEnd, mapped}
 use Rattle.amf_cli.specs.Lines.{end_of}
 use Rattle.amf3_read.proofs.Pairs.{first_refused, first_cut, second_refused, second_cut}
 use Rattle.amf_cli.proofs.Spelled.{layouts}
 
+abbrev pub of_value : RootedArena → Content
+of_value g = value (content g)
+
 -- how the reader of a whole input ends, where P tells what it makes of an accepted one
-abbrev pub AnswersInput : {X : Type 0} → (List Field → Type 0) → (X → Type 0) → List ℕ → List ℕ → Result X ReadEnd → Type 0
-AnswersInput A P input rest (Ok x) = P x × (rest ≡ [])
-AnswersInput A P input rest (Err (Refused f)) = IsInputRefused A most input f.reason f.at
-AnswersInput A P input rest (Err ReadFault) = IsHidden A input rest
-AnswersInput A P input rest (Err Memory) = Unit {0}
+abbrev pub AnswersInput : {X : Type 0} → Input → (X → Type 0) → List ℕ → List ℕ → Result X ReadEnd → Type 0
+AnswersInput i P input rest (Ok x) = P x × (rest ≡ [])
+AnswersInput i P input rest (Err (Refused f)) = IsRefusedAs i input f.reason f.at
+AnswersInput i P input rest (Err ReadFault) = IsHidden i input rest
+AnswersInput i P input rest (Err Memory) = Unit {0}
 
 -- where nothing is read ahead, what is unread is what the source has left
 pub none_unread : {S : Type 0} (left : S → List ℕ) (c : Cursor S Window) → ahead c ≡ 0 → unread left c ≡ left (source_of c).now
@@ -84,12 +95,12 @@ from_nothing told a b t u input rest at place limit r e h m w =
 pub all_closed : (b : Arena) → Grows no_arena b → AllByRecursion (λ n. n.is_open ≡ false) b.nodes
 all_closed b g = subst (λ ns. AllByRecursion (λ n. n.is_open ≡ false) ns) (sym g.nodes) g.closed
 
-pub one_read : (told : Type 0) (b : Arena) (u : KeptTables) (v : Value) (input rest : List ℕ) (at place : ℕ) → IsTaken told (λ fs. IsRead3 no_arena no_kept_tables fs b u v) (IsReading3 no_arena no_kept_tables) input rest at place most → IsReadOne Amf3 told (graph_of b v) input rest at place
+pub one_read : (told : Type 0) (b : Arena) (u : KeptTables) (v : Value) (input rest : List ℕ) (at place : ℕ) → IsTaken told (λ fs. IsRead3 no_arena no_kept_tables fs b u v) (IsReading3 no_arena no_kept_tables) input rest at place most → IsReadOne Amf3 told (value (graph_of b v)) input rest at place
 one_read told b u v input rest at place r =
     let finished : IsFinished b = record { built = r.read.built no_arena_built; closed = all_closed b r.read.grows } in
     record { fields = r.fields; read = (tables_of b u, r.read.spelled b (completes_itself b finished)); accepted = r.accepted; parts = r.parts; taken = r.taken; within = r.within }
 
-pub one_ends : (told : Type 0) (b : Arena) (u : KeptTables) (input rest : List ℕ) (at place : ℕ) (e : ReadEnd) → AnswersAs told no_arena b no_kept_tables u input rest at place most (Err e) → AnswersOne Amf3 told input rest at place (Err e)
+pub one_ends : (told : Type 0) (b : Arena) (u : KeptTables) (input rest : List ℕ) (at place : ℕ) (e : ReadEnd) → AnswersAs told no_arena b no_kept_tables u input rest at place most (Err e) → AnswersOne of_value Amf3 told input rest at place (Err e)
 one_ends told b u input rest at place (Refused f) h = h
 one_ends told b u input rest at place ReadFault h = h
 one_ends told b u input rest at place Memory h = tt
@@ -102,29 +113,29 @@ from_nothing0 told a b t u input rest at place limit r e h m w =
     (subst (λ x. AnswersOf (λ y fs. IsReadWith a x fs b u y) (IsReading0 a x) told input rest at place most r) h
     (subst (λ x. AnswersOf (λ y fs. IsReadWith a t fs b u y) (IsReading0 a t) told input rest at place x r) m w))
 
-pub one_read0 : (told : Type 0) (b : Arena) (u : KeptTables0) (x : Read0) (input rest : List ℕ) (at place : ℕ) → IsTaken told (λ fs. IsReadWith no_arena no_kept_tables0 fs b u x) (IsReading0 no_arena no_kept_tables0) input rest at place most → IsReadOne Amf0 told (graph_of b x.value) input rest at place
+pub one_read0 : (told : Type 0) (b : Arena) (u : KeptTables0) (x : Read0) (input rest : List ℕ) (at place : ℕ) → IsTaken told (λ fs. IsReadWith no_arena no_kept_tables0 fs b u x) (IsReading0 no_arena no_kept_tables0) input rest at place most → IsReadOne Amf0 told (value (graph_of b x.value)) input rest at place
 one_read0 told b u x input rest at place r =
     let read = r.read.read in
     let finished : IsFinished b = record { built = read.built no_arena_built; closed = all_closed b read.grows } in
     record { fields = r.fields; read = (tables0_of b u, read.spelled b (completes_itself b finished)); accepted = r.accepted; parts = r.parts; taken = r.taken; within = r.within }
 
-pub one_ends0 : (told : Type 0) (b : Arena) (u : KeptTables0) (input rest : List ℕ) (at place : ℕ) (e : ReadEnd) → AnswersOf (λ x fs. IsReadWith no_arena no_kept_tables0 fs b u x) (IsReading0 no_arena no_kept_tables0) told input rest at place most (Err e) → AnswersOne Amf0 told input rest at place (Err e)
+pub one_ends0 : (told : Type 0) (b : Arena) (u : KeptTables0) (input rest : List ℕ) (at place : ℕ) (e : ReadEnd) → AnswersOf (λ x fs. IsReadWith no_arena no_kept_tables0 fs b u x) (IsReading0 no_arena no_kept_tables0) told input rest at place most (Err e) → AnswersOne of_value Amf0 told input rest at place (Err e)
 one_ends0 told b u input rest at place (Refused f) h = h
 one_ends0 told b u input rest at place ReadFault h = h
 one_ends0 told b u input rest at place Memory h = tt
 
 -- where a source tells at the start, what a later reader says where it tells then holds
-pub read_told : {more : Type 0} (f : Format) (told : Type 0) (g : Graph) (input rest : List ℕ) (at place : ℕ) → (told → more) → IsReadOne f more g input rest at place → IsReadOne f told g input rest at place
+pub read_told : {more : Type 0} (f : Format) (told : Type 0) (g : Content) (input rest : List ℕ) (at place : ℕ) → (told → more) → IsReadOne f more g input rest at place → IsReadOne f told g input rest at place
 read_told f told g input rest at place go r = record { fields = r.fields; read = r.read; accepted = r.accepted; parts = λ t. r.parts (go t); taken = r.taken; within = r.within }
 
-pub ends_told : {more : Type 0} (f : Format) (told : Type 0) (input rest : List ℕ) (at place : ℕ) (e : ReadEnd) → (told → more) → AnswersOne f more input rest at place (Err e) → AnswersOne f told input rest at place (Err e)
+pub ends_told : {more : Type 0} (f : Format) (told : Type 0) (input rest : List ℕ) (at place : ℕ) (e : ReadEnd) → (told → more) → AnswersOne of_value f more input rest at place (Err e) → AnswersOne of_value f told input rest at place (Err e)
 ends_told f told input rest at place (Refused e) go h = λ t. h (go t)
 ends_told f told input rest at place ReadFault go h = λ t. h (go t)
 ends_told f told input rest at place Memory go h = tt
 
--- The one value of an input.
+-- The one content of an input.
 
-pub whole_ends : {X : Type 0} (f : Format) (Q : X → Type 0) (told : Type 0) (input rest : List ℕ) (place : ℕ) (e : ReadEnd) → told → AnswersOne f told input rest 0 place (Err e) → AnswersInput (IsValue f) Q input rest (Err e)
+pub whole_ends : {X : Type 0} (f : Format) (Q : X → Type 0) (told : Type 0) (input rest : List ℕ) (place : ℕ) (e : ReadEnd) → told → AnswersOne content_of f told input rest 0 place (Err e) → AnswersInput (one f) Q input rest (Err e)
 whole_ends f Q told input rest place (Refused e) y h = refused (h y)
 whole_ends f Q told input rest place ReadFault y h =
     let i = h y in
@@ -133,13 +144,13 @@ whole_ends f Q told input rest place ReadFault y h =
 whole_ends f Q told input rest place Memory y h = tt
 
 -- nothing follows it
-pub whole_read : (f : Format) (told : Type 0) (g : Graph) (input mid : List ℕ) (place : ℕ) → told → mid ≡ [] → IsReadOne f told g input mid 0 place → IsInputOf f g input
+pub whole_read : (f : Format) (told : Type 0) (g : Content) (input mid : List ℕ) (place : ℕ) → told → mid ≡ [] → IsReadOne f told g input mid 0 place → IsInputOf f g input
 whole_read f told g input mid place y e r =
     let all : input ≡ flat r.fields = r.parts y ∙ ap (λ m. flat r.fields ++ m) e ∙ append-nil (flat r.fields) in
     record { fields = r.fields; spelled = r.read; parts = all; within = let t = r.taken in let w = r.within in let n : length input ≡ length (flat r.fields) = ap length all in omega arith }
 
 -- it ends, or bytes follow it, or a read fails behind it
-pub whole_end_ends : {X : Type 0} (f : Format) (Q : X → Type 0) (told : Type 0) (g : Graph) (input mid rest : List ℕ) (place : ℕ) (e : ReadEnd) → told → IsReadOne f told g input mid 0 place → AnswersEnd {T = Unit {0}} mid rest place (Err e) → AnswersInput (IsValue f) Q input rest (Err e)
+pub whole_end_ends : {X : Type 0} (f : Format) (Q : X → Type 0) (told : Type 0) (g : Content) (input mid rest : List ℕ) (place : ℕ) (e : ReadEnd) → told → IsReadOne f told g input mid 0 place → AnswersEnd {T = Unit {0}} mid rest place (Err e) → AnswersInput (one f) Q input rest (Err e)
 whole_end_ends f Q told g input mid rest place (Refused e) y r (why, at, more) =
     trailing why mid more (record { fields = r.fields; accepted = r.accepted; parts = r.parts y; place = at ∙ r.taken; within = let w = r.within in omega arith })
 whole_end_ends f Q told g input mid rest place ReadFault y r same =
@@ -163,7 +174,7 @@ null_fields =
     let a = r.able 1 [] (value_layout 1 no_state) refl (omega arith) in
     (a.more, r.sound 1 a.more a.value a.bytes a.runs)
 
-pub pair_first_ends : {X : Type 0} (Q : X → Type 0) (told : Type 0) (input rest : List ℕ) (place : ℕ) (e : ReadEnd) → told → AnswersOne Amf3 told input rest 0 place (Err e) → AnswersInput (Pair IsValue3) Q input rest (Err e)
+pub pair_first_ends : {X : Type 0} (Q : X → Type 0) (told : Type 0) (input rest : List ℕ) (place : ℕ) (e : ReadEnd) → told → AnswersOne of_value Amf3 told input rest 0 place (Err e) → AnswersInput two Q input rest (Err e)
 pair_first_ends Q told input rest place (Refused f) y h = refused (first_refused layouts IsValue3 values3_is_layout most f.at f.reason input null_fields.0 null_fields.1 (h y))
 pair_first_ends Q told input rest place ReadFault y h =
     let i = h y in
@@ -171,7 +182,7 @@ pair_first_ends Q told input rest place ReadFault y h =
     record { given = i.given; parts = i.parts; unsettled = record { within = omega arith; waits = inl (i.stop, first_cut layouts IsValue3 values3_is_layout i.stop i.given null_fields.0 null_fields.1 i.cut_off) } }
 pair_first_ends Q told input rest place Memory y h = tt
 
-pub pair_second_ends : {X : Type 0} (Q : X → Type 0) (told : Type 0) (g : Graph) (input mid rest : List ℕ) (between place : ℕ) (e : ReadEnd) → told → IsReadOne Amf3 told g input mid 0 between → AnswersOne Amf3 told mid rest between place (Err e) → AnswersInput (Pair IsValue3) Q input rest (Err e)
+pub pair_second_ends : {X : Type 0} (Q : X → Type 0) (told : Type 0) (g : Graph) (input mid rest : List ℕ) (between place : ℕ) (e : ReadEnd) → told → IsReadOne Amf3 told (value g) input mid 0 between → AnswersOne of_value Amf3 told mid rest between place (Err e) → AnswersInput two Q input rest (Err e)
 pair_second_ends Q told g input mid rest between place (Refused f) y r h =
     let fs = r.fields in
     let w = r.within in
@@ -200,7 +211,7 @@ both_parts fs gs input mid last e d = e ∙ ap (λ l. flat fs ++ l) d ∙ sym (a
 both_length : (fs gs : List Field) → length (flat (fs ++ gs)) ≡ length (flat fs) + length (flat gs)
 both_length fs gs = ap length (flat-append fs gs) ∙ length-append (flat fs) (flat gs)
 
-pub pair_read : (told : Type 0) (g h : Graph) (input mid rest : List ℕ) (between place : ℕ) → told → rest ≡ [] → IsReadOne Amf3 told g input mid 0 between → IsReadOne Amf3 told h mid rest between place → ArePairIn g h input
+pub pair_read : (told : Type 0) (g h : Graph) (input mid rest : List ℕ) (between place : ℕ) → told → rest ≡ [] → IsReadOne Amf3 told (value g) input mid 0 between → IsReadOne Amf3 told (value h) mid rest between place → ArePairIn g h input
 pair_read told g h input mid rest between place y e r s =
     let all : input ≡ flat r.fields ++ flat s.fields = r.parts y ∙ ap (λ l. flat r.fields ++ l) (s.parts y ∙ ap (λ m. flat s.fields ++ m) e ∙ append-nil (flat s.fields)) in
     record {
@@ -212,8 +223,8 @@ pair_read told g h input mid rest between place y e r s =
       within = let t = r.taken in let u = s.taken in let w = s.within in omega (arith, ap length all, length-append (flat r.fields) (flat s.fields));
     }
 
-pub pair_end_ends : {X : Type 0} (Q : X → Type 0) (told : Type 0) (g h : Graph) (input mid last rest : List ℕ) (between place : ℕ) (e : ReadEnd) → told → IsReadOne Amf3 told g input mid 0 between → IsReadOne Amf3 told h mid last between place
-    → AnswersEnd {T = Unit {0}} last rest place (Err e) → AnswersInput (Pair IsValue3) Q input rest (Err e)
+pub pair_end_ends : {X : Type 0} (Q : X → Type 0) (told : Type 0) (g h : Graph) (input mid last rest : List ℕ) (between place : ℕ) (e : ReadEnd) → told → IsReadOne Amf3 told (value g) input mid 0 between → IsReadOne Amf3 told (value h) mid last between place
+    → AnswersEnd {T = Unit {0}} last rest place (Err e) → AnswersInput two Q input rest (Err e)
 pair_end_ends Q told g h input mid last rest between place (Refused f) y r s (why, at, more) =
     trailing why last more (record {
       fields = r.fields ++ s.fields;
@@ -267,16 +278,34 @@ pub nothing_left : {S : Type 0} (left : S → List ℕ) (c : Cursor S Window) �
 nothing_left left c e = none_left (take (ahead c) (drop c.window.start c.window.buffer.items)) (left (source_of c).now) e
 
 -- an end of the reader is that of the run
-pub end_of_input : {X Y : Type 0} (A : List Field → Type 0) (P : X → Type 0) (Q : Y → Type 0) (input rest left : List ℕ) (e : ReadEnd) → AnswersInput A P input rest (Err e) → (e ≡ ReadFault → rest ≡ left) → ReadsInput A NeverLacks Q input left (Err (end_of e))
-end_of_input A P Q input rest left (Refused f) h k = h
-end_of_input A P Q input rest left ReadFault h k = subst (λ s. IsHidden A input s) (k refl) h
-end_of_input A P Q input rest left Memory h k = tt
+pub end_of_input : {X Y : Type 0} (i : Input) (P : X → Type 0) (Q : Y → Type 0) (input rest left : List ℕ) (e : ReadEnd) → AnswersInput i P input rest (Err e) → (e ≡ ReadFault → rest ≡ left) → ReadsInput i NeverLacks Q input left (Err (end_of e))
+end_of_input i P Q input rest left (Refused f) h k = h
+end_of_input i P Q input rest left ReadFault h k = subst (λ s. IsHidden i input s) (k refl) h
+end_of_input i P Q input rest left Memory h k = tt
 
 -- and that of what is made of the input
-pub end_goes_on : {X Y : Type 0} (A : List Field → Type 0) (L : Lack → Type 0) (P : X → Type 0) (Q : Y → Type 0) (input left : List ℕ) (e : RunEnd) → ReadsInput A NeverLacks P input left (Err e) → ReadsInput A L Q input left (Err e)
-end_goes_on A L P Q input left (run.Refused f) h = h
-end_goes_on A L P Q input left run.ReadFault h = h
-end_goes_on A L P Q input left run.Usage h = h
-end_goes_on A L P Q input left run.WriteFault h = h
-end_goes_on A L P Q input left run.NoMemory h = tt
-end_goes_on A L P Q input left (run.NoForm l) h = absurd h.0
+pub end_goes_on : {X Y : Type 0} (i : Input) (L : ℕ → Lack → Type 0) (P : X → Type 0) (Q : Y → Type 0) (input left : List ℕ) (e : RunEnd) → ReadsInput i NeverLacks P input left (Err e) → ReadsInput i L Q input left (Err e)
+end_goes_on i L P Q input left (run.Refused f) h = h
+end_goes_on i L P Q input left run.ReadFault h = h
+end_goes_on i L P Q input left run.Usage h = h
+end_goes_on i L P Q input left run.WriteFault h = h
+end_goes_on i L P Q input left run.NoMemory h = tt
+end_goes_on i L P Q input left (run.NoForm v l) h = absurd h.0
+
+-- what was read is so as a content
+pub answers_mapped : {X : Type 0} (f g : Format) (view : X → KeptContent) (look : X → Content) (told : Type 0) (input rest : List ℕ) (at place : ℕ) (r : Result X ReadEnd) → f ≡ g → ((x : X) → content_of (view x) ≡ look x) → AnswersOne look g told input rest at place r → AnswersOne content_of f told input rest at place (mapped view r)
+answers_mapped f g view look told input rest at place (Ok x) e same h = subst (λ k. IsReadOne k told (content_of (view x)) input rest at place) (sym e) (subst (λ c. IsReadOne g told c input rest at place) (sym (same x)) h)
+answers_mapped f g view look told input rest at place (Err (Refused r)) e same h = subst (λ k. told → IsRefused (IsContent k) at most input r.reason r.at) (sym e) h
+answers_mapped f g view look told input rest at place (Err ReadFault) e same h = subst (λ k. told → IsInterrupted (IsContent k) input rest at most) (sym e) h
+answers_mapped f g view look told input rest at place (Err Memory) e same h = tt
+
+pub goes_mapped : {S X : Type 0} (view : X → KeptContent) (tells : S → Type 0) (left : S → List ℕ) (faults : S → ℕ) (old new : Cursor S Window) (r : Result X ReadEnd) → Goes tells left faults old new r → Goes tells left faults old new (mapped view r)
+goes_mapped view tells left faults old new (Ok x) g = record { told = g.told; same_source = g.same_source; same_bound = g.same_bound; one_past = g.one_past; cause = g.cause; none_ahead = g.none_ahead; total = g.total }
+goes_mapped view tells left faults old new (Err e) g = record { told = g.told; same_source = g.same_source; same_bound = g.same_bound; one_past = g.one_past; cause = g.cause; none_ahead = g.none_ahead; total = g.total }
+
+-- a packet, up to the most
+pub packet_answers : (told : Type 0) (input rest : List ℕ) (at place limit : ℕ) (r : Result KeptPacket ReadEnd) → limit ≡ most → AnswersOf (λ p fs. SpellsPacket free (packet_of p) fs) IsPacketReading told input rest at place limit r → AnswersOne (λ p. packet (packet_of p)) Packet told input rest at place r
+packet_answers told input rest at place limit (Ok x) m h = subst (λ n. IsTaken told (SpellsPacket free (packet_of x)) IsPacketReading input rest at place n) m h
+packet_answers told input rest at place limit (Err (Refused f)) m h = subst (λ n. told → IsRefused IsPacketReading at n input f.reason f.at) m h
+packet_answers told input rest at place limit (Err ReadFault) m h = subst (λ n. told → IsInterrupted IsPacketReading input rest at n) m h
+packet_answers told input rest at place limit (Err Memory) m h = tt

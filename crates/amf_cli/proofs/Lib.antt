@@ -1,7 +1,7 @@
 mod Fronts
 mod Asked
-mod LoweredAgain
 mod Formats
+mod Goes
 mod Spelled
 mod Inputs
 mod Statuses

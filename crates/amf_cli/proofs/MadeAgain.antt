@@ -19,9 +19,10 @@ use Rattle.amf_vectors.specs.Made.{each, made_object, made}
 use Rattle.amf_cli.specs.declared.format.Format.TheVariants.{Amf3}
 use Rattle.amf_cli.specs.declared.run_end.RunEnd.{RunEnd}
 use Rattle.amf_cli.specs.declared.run_end.RunEnd.TheVariants as run
-use Rattle.amf_cli.specs.Formats.{IsValue}
+use Rattle.amf_cli.specs.Content.{value}
+use Rattle.amf_cli.specs.Input.{most, one}
 use Rattle.amf_cli.specs.Lines.{measure_line}
-use Rattle.amf_cli.specs.Run.{most, IsInputOf, IsMeasured, CountsReads, NeverLacks, ReadsInput}
+use Rattle.amf_cli.specs.Run.{IsInputOf, IsMeasured, CountsReads, NeverLacks, ReadsInput}
 use Rattle.amf_cli.proofs.Formats.{forgotten}
 use Rattle.amf_cli.proofs.Spelled.{never_refused, same_input}
 
@@ -56,21 +57,21 @@ never_lacks g named n kind (order, walk, f) =
     node_named g l.0 kind (named l.0 ((order_reached g order walk l.0).1 (n, l.1))) l.2
 
 -- canonical bytes that are an input
-as_input : (g : Graph) (bytes : List ℕ) → Spelled3 canonical g bytes → length bytes ≤ most → IsInputOf Amf3 g bytes
-as_input g bytes s w = let f = forgotten Amf3 g bytes s in record { fields = f.0; spelled = f.1; parts = f.2; within = w }
+as_input : (g : Graph) (bytes : List ℕ) → Spelled3 canonical g bytes → length bytes ≤ most → IsInputOf Amf3 (value g) bytes
+as_input g bytes s w = let f = forgotten Amf3 (value g) bytes refl s in record { fields = f.0; spelled = f.1; parts = f.2; within = w }
 
 -- are read where there is memory
-pub no_other_end : {X : Type 0} (Q : X → Type 0) (g : Graph) (bytes rest : List ℕ) (e : RunEnd) → Spelled3 canonical g bytes → length bytes ≤ most → ReadsInput (IsValue Amf3) NeverLacks Q bytes rest (Err e) → CountsReads {T = X} 0 0 (Err e) → e ≡ run.NoMemory
-no_other_end Q g bytes rest (run.Refused f) s w r c = absurd (never_refused Amf3 g bytes f.reason f.at (as_input g bytes s w) r)
+pub no_other_end : {X : Type 0} (Q : X → Type 0) (g : Graph) (bytes rest : List ℕ) (e : RunEnd) → Spelled3 canonical g bytes → length bytes ≤ most → ReadsInput (one Amf3) NeverLacks Q bytes rest (Err e) → CountsReads {T = X} 0 0 (Err e) → e ≡ run.NoMemory
+no_other_end Q g bytes rest (run.Refused f) s w r c = absurd (never_refused Amf3 (value g) bytes f.reason f.at (as_input g bytes s w) r)
 no_other_end Q g bytes rest run.Usage s w r c = absurd r
 no_other_end Q g bytes rest run.ReadFault s w r c = absurd (omega (arith, c.1))
 no_other_end Q g bytes rest run.WriteFault s w r c = absurd r
 no_other_end Q g bytes rest run.NoMemory s w r c = refl
-no_other_end Q g bytes rest (run.NoForm l) s w r c = absurd r.0
+no_other_end Q g bytes rest (run.NoForm v l) s w r c = absurd r.0
 
 -- and give the graph back
-pub gives_back : (g h : Graph) (bytes : List ℕ) → Spelled3 canonical g bytes → length bytes ≤ most → IsInputOf Amf3 h bytes → Isomorphic g h
-gives_back g h bytes s w i = same_input Amf3 g h bytes (as_input g bytes s w) i
+pub gives_back : (g h : Graph) (bytes : List ℕ) → Spelled3 canonical g bytes → length bytes ≤ most → IsInputOf Amf3 (value h) bytes → Isomorphic g h
+gives_back g h bytes s w i = same_input Amf3 (value g) (value h) bytes (as_input g bytes s w) i
 
 -- what was made is measured
 pub measures : (g : RootedArena) (m : Graph) (bytes line : List ℕ) (n : ℕ) → content g ≡ m → Spelled3 canonical (content g) bytes → n ≡ length g.arena.nodes → line ≡ measure_line n bytes → IsMeasured m line

@@ -11,7 +11,11 @@ use Rattle.amf3_layout.proofs.Values3Layout.{values3_is_layout}
 use Rattle.amf3_layout.proofs.VerdictRows.{all_bytes, both_hold, are_bytes, is_short}
 use Rattle.amf3_read.specs.Pairs.{Pair}
 use Rattle.amf3_read.proofs.PairLayouts.{pair_layout, pairs_are_layouts}
-use Rattle.amf_cli.specs.Run.{most}
+use Rattle.amf_packet.specs.LayoutPacket.{packet_layout}
+use Rattle.amf_packet.specs.Packet.{IsPacketReading}
+use Rattle.amf_packet.proofs.PacketLayout.{packet_is_layout}
+use Rattle.amf_packet_show.proofs.Rows.{called_counted}
+use Rattle.amf_cli.specs.Input.{most}
 use Rattle.amf_cli.specs.WorkedRuns.{RunRows}
 use Rattle.amf_cli.proofs.Spelled.{layouts}
 
@@ -29,6 +33,12 @@ two input e =
     let less = s.0 in
     outcome_decides pair_layout (Pair IsValue3) pairs_are_layouts 64 most input (omega (arith, length-take most input)) (are_bytes input s.1)
 
+packets : (input : List ℕ) → is_short input ≡ true → Decides IsPacketReading most input (read most (packet_layout 64) 0 input)
+packets input e =
+    let s = both_hold (length input) 64 (nat_lt (length input) 64) (all_bytes input) refl e in
+    let less = s.0 in
+    outcome_decides packet_layout IsPacketReading packet_is_layout 64 most input (omega (arith, length-take most input)) (are_bytes input s.1)
+
 waits : (given : List ℕ) → is_short given ≡ true → Waits IsValue3 most given (run (layouts 64) 0 given)
 waits given e =
     let s = both_hold (length given) 64 (nat_lt (length given) 64) (all_bytes given) refl e in
@@ -45,6 +55,10 @@ run_rows = record {
   past_the_most = refl;
   the_most = refl;
   check_alone = refl;
+  packet_alone = refl;
+  packet_to_value = refl;
+  value_to_packet = refl;
+  value_to_value = refl;
   gen_alone = refl;
   too_large = one 2 (0x04 ∷ 0x80 ∷ 0x05 ∷ []) refl;
   as_large_as_the_limit = one 3 (0x04 ∷ 0x80 ∷ 0x05 ∷ []) refl;
@@ -56,7 +70,11 @@ run_rows = record {
   a_third = two (0x01 ∷ 0x02 ∷ 0x03 ∷ []) refl;
   second_has_no_marker = two (0x01 ∷ 0x12 ∷ []) refl;
   own_tables = two (0x06 ∷ 0x03 ∷ 0x61 ∷ 0x06 ∷ 0x00 ∷ []) refl;
-  one_counted = (1 ∷ [], first 1 (omega arith) (absent_nil 1) over, refl);
+  bad_version = packets (0x00 ∷ 0x02 ∷ []) refl;
+  no_counts = packets (0x00 ∷ 0x03 ∷ []) refl;
+  one_counted = (1, (1 ∷ [], first 1 (omega arith) (absent_nil 1) over, refl), refl);
+  packet_counted = (2, called_counted, refl);
+  lacking_line = refl;
   counted_line = refl;
   measured_line = refl;
 }

@@ -15,9 +15,10 @@ use Rattle.amf_graph.specs.declared.lack.Lack.{Lack}
 use Rattle.amf_graph.specs.Graph.{Graph}
 use Rattle.amf_graph.specs.Isomorphic.{Isomorphic}
 use Rattle.amf_graph.proofs.Isomorphisms.{isomorphic_sym, isomorphic_trans}
-use Rattle.amf_graph.proofs.Places.{order_along, to_places}
-use Rattle.amf_show.specs.Listing.{IsListing, shown_graph}
-use Rattle.amf_show.proofs.Alike.{same_listing}
+use Rattle.amf_packet.specs.Packet.{IsPacketReading}
+use Rattle.amf_packet.proofs.PacketVerdicts.{packet_verdicts}
+use Rattle.amf_packet_show.proofs.Laws.{packet_laws}
+use Rattle.amf_packet_show.proofs.Listed.{counted_alike, listed_alike}
 use Rattle.amf_vectors.specs.Made.{made}
 use Rattle.amf3_spelling.specs.Tables.{no_tables}
 use Rattle.amf3_spelling.specs.Lacks3.{IsLack3}
@@ -25,7 +26,7 @@ use Rattle.amf3_spelling.specs.Reads3.{IsValue3}
 use Rattle.amf3_spelling.specs.Spells3.{IsSpelling3}
 use Rattle.amf3_layout.specs.Layout3State.{no_state}
 use Rattle.amf3_layout.specs.Layout3.{ValueRead, value_layout}
-use Rattle.amf3_spelling.proofs.Decides3.{same_bytes_isomorphic}
+use Rattle.amf3_spelling.proofs.Decides3.{canonical_is_alone, same_bytes_isomorphic}
 use Rattle.amf3_spelling.proofs.FirstLack3.{nothing_lacks}
 use Rattle.amf3_layout.proofs.Layout3Parts.{Found}
 use Rattle.amf3_layout.proofs.Layout3Complete.{spelled_read}
@@ -43,11 +44,13 @@ use Rattle.amf_cli.specs.declared.command.Command.TheVariants.{Canon, Check, Sho
 use Rattle.amf3_read.specs.Pairs.{Pair}
 use Rattle.amf3_read.proofs.PairLayouts.{pair_layout, pairs_are_layouts}
 use Rattle.amf_cli.specs.declared.format.Format.{Format}
-use Rattle.amf_cli.specs.declared.format.Format.TheVariants.{Amf3, Amf0}
-use Rattle.amf_cli.specs.Formats.{IsValue, IsSpelling, Spelled, IsWritten, IsUnwritten}
-use Rattle.amf_cli.specs.Run.{most, Accepts, IsInputOf, ArePairIn, Says, Makes, Decides, Lacks, LacksEver, MayLack, IsOutputOf, IsCounted}
-use Rattle.amf_cli.specs.Lines.{count_line, measure_line}
-use Rattle.amf_cli.proofs.Formats.{alone, decides_alike, lacks_too, not_both_alike, same_bytes, written_again}
+use Rattle.amf_cli.specs.declared.format.Format.TheVariants.{Amf3, Amf0, Packet}
+use Rattle.amf_cli.specs.Content.{Content, value, packet, HasNodes, IsListed}
+use Rattle.amf_cli.specs.Formats.{IsSpelling, Spelled, IsWritten, IsUnwritten}
+use Rattle.amf_cli.specs.Input.{most, Input, nothing, one, two, input_of, IsAcceptedAs, IsRefusedAs}
+use Rattle.amf_cli.specs.Run.{IsInputOf, ArePairIn, Says, Makes, Decides, Lacks, LacksEver, MayLack, IsOutputOf}
+use Rattle.amf_cli.specs.Lines.{measure_line}
+use Rattle.amf_cli.proofs.Formats.{SameContent, decides_alike, lacks_too, not_both_alike, same_bytes, written_again}
 
 abbrev pub layouts : ℕ → Layout ValueRead
 layouts n = value_layout n no_state
@@ -56,15 +59,15 @@ abbrev pub layouts0 : ℕ → Layout Read0
 layouts0 n = value0_layout n false (state0_of no_arena no_kept_tables0)
 
 -- an input has one verdict
-pub once : (c : Command) (input : List ℕ) → IsInputAccepted (Accepts c) most input → (reason : Reason) (at : ℕ) → IsInputRefused (Accepts c) most input reason at → ⊥
-once (Canon Amf3 to) input = (judged_once layouts IsValue3 values3_is_layout most input).not_both
-once (Canon Amf0 to) input = (judged_once layouts0 IsValue0 values0_is_layout most input).not_both
-once (Check Amf3) input = (judged_once layouts IsValue3 values3_is_layout most input).not_both
-once (Check Amf0) input = (judged_once layouts0 IsValue0 values0_is_layout most input).not_both
-once (Show Amf3) input = (judged_once layouts IsValue3 values3_is_layout most input).not_both
-once (Show Amf0) input = (judged_once layouts0 IsValue0 values0_is_layout most input).not_both
-once (Gen seed size) input = λ a reason at q. absurd a.accepted
-once Same input = (judged_once pair_layout (Pair IsValue3) pairs_are_layouts most input).not_both
+once_as : (i : Input) (input : List ℕ) → IsAcceptedAs i input → (reason : Reason) (at : ℕ) → IsRefusedAs i input reason at → ⊥
+once_as nothing input = λ a reason at q. absurd a.accepted
+once_as (one Amf3) input = (judged_once layouts IsValue3 values3_is_layout most input).not_both
+once_as (one Amf0) input = (judged_once layouts0 IsValue0 values0_is_layout most input).not_both
+once_as (one Packet) input = (packet_verdicts.judged_once most input).not_both
+once_as two input = (judged_once pair_layout (Pair IsValue3) pairs_are_layouts most input).not_both
+
+pub once : (c : Command) (input : List ℕ) → IsAcceptedAs (input_of c) input → (reason : Reason) (at : ℕ) → IsRefusedAs (input_of c) input reason at → ⊥
+once c input = once_as (input_of c) input
 
 -- an input within the most that is read to its end is not refused
 module _ {X : Type 0} (t : ℕ → Layout X) (P : List Field → Type 0) (g : IsLayout t P) (input : List ℕ) (within : length input ≤ most) (done : (m : ℕ) → length input < m → (x : X) × (run (t m) 0 input ≡ Done x (length input) [])) where
@@ -101,7 +104,7 @@ found : (g : Graph) (fs : List Field) (m : ℕ) (s : IsSpelling3 free g fs) → 
 found g fs m s lt = spelled_read g m g.root no_tables fs s.0 no_state (record { words = refl; marks = refl }) lt s.1
 
 -- what spells a graph is read to its end
-spelled_done : (g : Graph) (input : List ℕ) → IsInputOf Amf3 g input → (m : ℕ) → length input < m → (x : ValueRead) × (run (layouts m) 0 input ≡ Done x (length input) [])
+spelled_done : (g : Graph) (input : List ℕ) → IsInputOf Amf3 (value g) input → (m : ℕ) → length input < m → (x : ValueRead) × (run (layouts m) 0 input ≡ Done x (length input) [])
 spelled_done g input i m lt =
     let n : length input ≡ length (flat i.fields) = ap length i.parts in
     let f = found g i.fields m i.spelled (omega arith) in
@@ -109,7 +112,7 @@ spelled_done g input i m lt =
     let place : 0 + length (flat i.fields) ≡ length input = omega (arith, n) in
     (f.result, ap (run (layouts m) 0) e ∙ runs_run (layouts m) i.fields f.result 0 [] f.runs ∙ ap (λ k. Done f.result k []) place)
 
-spelled_done0 : (g : Graph) (input : List ℕ) → IsInputOf Amf0 g input → (m : ℕ) → length input < m → (x : Read0) × (run (layouts0 m) 0 input ≡ Done x (length input) [])
+spelled_done0 : (g : Graph) (input : List ℕ) → IsInputOf Amf0 (value g) input → (m : ℕ) → length input < m → (x : Read0) × (run (layouts0 m) 0 input ≡ Done x (length input) [])
 spelled_done0 g input i m lt =
     let n : length input ≡ length (flat i.fields) = ap length i.parts in
     let s = i.spelled in
@@ -131,10 +134,17 @@ pair_done g h input p m lt =
     let r : Runs (pair_layout m) fs b.result = runs_bind (layouts m) (λ x. layouts m) p.front p.back a.result (give b.result) a.runs b.runs in
     (b.result, ap (run (pair_layout m) 0) e ∙ runs_run (pair_layout m) fs b.result 0 [] r ∙ ap (λ k. Done b.result k []) place)
 
--- what spells a graph is not refused
-pub never_refused : (f : Format) (g : Graph) (input : List ℕ) (reason : Reason) (at : ℕ) → IsInputOf f g input → IsInputRefused (IsValue f) most input reason at → ⊥
-never_refused Amf3 g input reason at i q = whole_not_refused layouts IsValue3 values3_is_layout input i.within (spelled_done g input i) reason at q
-never_refused Amf0 g input reason at i q = whole_not_refused layouts0 IsValue0 values0_is_layout input i.within (spelled_done0 g input i) reason at q
+-- what spells a content is not refused
+pub never_refused : (f : Format) (c : Content) (input : List ℕ) (reason : Reason) (at : ℕ) → IsInputOf f c input → IsRefusedAs (one f) input reason at → ⊥
+never_refused Amf3 (value g) input reason at i q = whole_not_refused layouts IsValue3 values3_is_layout input i.within (spelled_done g input i) reason at q
+never_refused Amf3 (packet p) input reason at i q = absurd i.spelled
+never_refused Amf0 (value g) input reason at i q = whole_not_refused layouts0 IsValue0 values0_is_layout input i.within (spelled_done0 g input i) reason at q
+never_refused Amf0 (packet p) input reason at i q = absurd i.spelled
+never_refused Packet (value g) input reason at i q = absurd i.spelled
+never_refused Packet (packet p) input reason at i q =
+    let place : length input ≡ 0 + length (flat i.fields) = omega (arith, ap length i.parts) in
+    let accepted : IsAccepted IsPacketReading 0 most input (length input) [] = record { fields = i.fields; accepted = (p, i.spelled); parts = i.parts ∙ sym (append-nil (flat i.fields)); place = place; within = i.within } in
+    (packet_verdicts.judged_once most input).not_both accepted reason at q
 
 pair_never_refused : (g h : Graph) (input : List ℕ) (reason : Reason) (at : ℕ) → ArePairIn g h input → IsInputRefused (Pair IsValue3) most input reason at → ⊥
 pair_never_refused g h input reason at p q = whole_not_refused pair_layout (Pair IsValue3) pairs_are_layouts input p.within (pair_done g h input p) reason at q
@@ -147,54 +157,61 @@ none_refused input reason at (refused (too_large why t)) = t.cut_off.follows.acc
 none_refused input reason at (trailing why rest some a) = a.accepted
 
 -- what an output is made of is not refused
-pub made_not_refused : (c : Command) (input bytes : List ℕ) (reason : Reason) (at : ℕ) → Makes c input bytes → IsInputRefused (Accepts c) most input reason at → ⊥
-made_not_refused (Canon from to) input bytes reason at (g, i, s) q = never_refused from g input reason at i q
-made_not_refused (Check from) input bytes reason at (g, i, s) q = never_refused from g input reason at i q
-made_not_refused (Show from) input bytes reason at (g, i, s) q = never_refused from g input reason at i q
+pub made_not_refused : (c : Command) (input bytes : List ℕ) (reason : Reason) (at : ℕ) → Makes c input bytes → IsRefusedAs (input_of c) input reason at → ⊥
+made_not_refused (Canon from to) input bytes reason at (c, i, s) q = never_refused from c input reason at i q
+made_not_refused (Check from) input bytes reason at (c, i, s) q = never_refused from c input reason at i q
+made_not_refused (Show from) input bytes reason at (c, i, s) q = never_refused from c input reason at i q
 made_not_refused Same input bytes reason at (g, h, p, s) q = pair_never_refused g h input reason at p q
 made_not_refused (Gen seed size) input bytes reason at m q = none_refused input reason at q
 
 -- and so is what lacks an output
-pub lacking_not_refused : (c : Command) (input : List ℕ) (l : Lack) (reason : Reason) (at : ℕ) → Lacks c input l → IsInputRefused (Accepts c) most input reason at → ⊥
-lacking_not_refused (Canon from to) input l reason at (g, i, k) q = never_refused from g input reason at i q
-lacking_not_refused (Check from) input l reason at k q = k
-lacking_not_refused (Show from) input l reason at k q = k
-lacking_not_refused Same input l reason at k q = k
-lacking_not_refused (Gen seed size) input l reason at k q = k
+pub lacking_not_refused : (c : Command) (input : List ℕ) (number : ℕ) (l : Lack) (reason : Reason) (at : ℕ) → Lacks c input number l → IsRefusedAs (input_of c) input reason at → ⊥
+lacking_not_refused (Canon from to) input number l reason at (c, i, k) q = never_refused from c input reason at i q
+lacking_not_refused (Check from) input number l reason at k q = k
+lacking_not_refused (Show from) input number l reason at k q = k
+lacking_not_refused Same input number l reason at k q = k
+lacking_not_refused (Gen seed size) input number l reason at k q = k
 
-pub spells_free : (f : Format) (g : Graph) (input : List ℕ) → IsInputOf f g input → Spelled f free g input
-spells_free Amf3 g input i = (i.fields, i.spelled, i.parts)
-spells_free Amf0 g input i = (i.fields, i.spelled, i.parts)
+pub spells_free : (f : Format) (c : Content) (input : List ℕ) → IsInputOf f c input → Spelled f free c input
+spells_free f c input i = (i.fields, i.spelled, i.parts)
 
-pub same_input : (f : Format) (g h : Graph) (input : List ℕ) → IsInputOf f g input → IsInputOf f h input → Isomorphic g h
-same_input f g h input i j = same_bytes f g h input (spells_free f g input i) (spells_free f h input j)
+pub same_input : (f : Format) (c d : Content) (input : List ℕ) → IsInputOf f c input → IsInputOf f d input → SameContent c d
+same_input f c d input i j = same_bytes f c d input (spells_free f c input i) (spells_free f d input j)
 
 -- an input has an output or a lack, and not both
-pub made_not_lacking : (c : Command) (input bytes : List ℕ) (l : Lack) → Makes c input bytes → Lacks c input l → ⊥
-made_not_lacking (Canon from to) input bytes l (g, i, (fit, d, s)) (h, j, (other, e, k)) = not_both_alike to g h fit other (same_input from g h input i j) d e bytes l s k
-made_not_lacking (Check from) input bytes l m k = k
-made_not_lacking (Show from) input bytes l m k = k
-made_not_lacking Same input bytes l m k = k
-made_not_lacking (Gen seed size) input bytes l m k = k
+pub made_not_lacking : (c : Command) (input bytes : List ℕ) (number : ℕ) (l : Lack) → Makes c input bytes → Lacks c input number l → ⊥
+made_not_lacking (Canon from to) input bytes number l (c, i, (fit, d, s)) (k, j, (other, e, lacks)) = not_both_alike to c k fit other (same_input from c k input i j) d e bytes number l s lacks
+made_not_lacking (Check from) input bytes number l m k = k
+made_not_lacking (Show from) input bytes number l m k = k
+made_not_lacking Same input bytes number l m k = k
+made_not_lacking (Gen seed size) input bytes number l m k = k
 
 -- and whatever it spells has this lack
-pub lacks_ever : (c : Command) (input : List ℕ) (l : Lack) → Lacks c input l → LacksEver c input l
-lacks_ever (Canon from to) input l (g, i, (fit, d, k)) = λ h other j e. lacks_too to g h fit other (same_input from g h input i j) d e l k
-lacks_ever (Check from) input l k = k
-lacks_ever (Show from) input l k = k
-lacks_ever Same input l k = k
-lacks_ever (Gen seed size) input l k = k
+pub lacks_ever : (c : Command) (input : List ℕ) (number : ℕ) (l : Lack) → Lacks c input number l → LacksEver c input number l
+lacks_ever (Canon from to) input number l (c, i, (fit, d, k)) = λ h other j e. lacks_too to c h fit other (same_input from c h input i j) d e number l k
+lacks_ever (Check from) input number l k = k
+lacks_ever (Show from) input number l k = k
+lacks_ever Same input number l k = k
+lacks_ever (Gen seed size) input number l k = k
 
 -- a command whose output may lack
-pub may_lack : (from to : Format) (g : Graph) (fs : List Field) (l : Lack) → IsSpelling from free g fs → IsUnwritten to g l → MayLack (Canon from to)
-may_lack Amf3 Amf0 g fs l p u = tt
-may_lack Amf0 to g fs l p u = tt
-may_lack Amf3 Amf3 g fs l p (fit, d, k) = (nothing_lacks free g fs p).1 l.node l.kind (subst (λ (x : Graph). IsLack3 x l.node l.kind) d k)
+pub may_lack : (from to : Format) (c : Content) (fs : List Field) (number : ℕ) (l : Lack) → IsSpelling from free c fs → IsUnwritten to c number l → MayLack (Canon from to)
+may_lack Amf3 Amf0 c fs number l p u = tt
+may_lack Amf3 Packet c fs number l p u = tt
+may_lack Amf0 Amf3 c fs number l p u = tt
+may_lack Amf0 Amf0 c fs number l p u = tt
+may_lack Amf0 Packet c fs number l p u = tt
+may_lack Packet Amf3 c fs number l p u = tt
+may_lack Packet Amf0 c fs number l p u = tt
+may_lack Packet Packet c fs number l p u = tt
+may_lack Amf3 Amf3 (packet q) fs number l p u = absurd p
+may_lack Amf3 Amf3 (value g) fs number l p (value x, d, k) = (nothing_lacks free g fs p).1 l.node l.kind (subst (λ (w : Graph). IsLack3 w l.node l.kind) d k.1)
+may_lack Amf3 Amf3 (value g) fs number l p (packet x, d, k) = absurd d
 
 -- output that is read again gives itself
 pub made_again : (c : Command) (input bytes : List ℕ) → Makes c input bytes → IsOutputOf c input → bytes ≡ input
-made_again (Canon from to) input bytes (h, i, w) (same, g, s) =
-    written_again from g h input bytes (subst (λ (f : Format). IsWritten f g input) (sym same) s) (spells_free from h input i) (subst (λ (f : Format). IsWritten f h bytes) (sym same) w)
+made_again (Canon from to) input bytes (h, i, w) (same, c, s) =
+    written_again from c h input bytes (subst (λ (f : Format). IsWritten f c input) (sym same) s) (spells_free from h input i) (subst (λ (f : Format). IsWritten f h bytes) (sym same) w)
 made_again (Check from) input bytes m o = absurd o
 made_again (Show from) input bytes m o = absurd o
 made_again Same input bytes m o = absurd o
@@ -227,23 +244,25 @@ said : (P Q : Type 0) (line : List ℕ) → (P → Q) → (Q → P) → Says P l
 said P Q line go back (inl (p, e)) = inl (go p, e)
 said P Q line go back (inr (n, e)) = inr (λ q. n (back q), e)
 
--- isomorphic graphs have as many nodes to which the root leads
-counted_alike : (g h : Graph) (line : List ℕ) → Isomorphic g h → IsCounted g line → IsCounted h line
-counted_alike g h line i (order, o, is) =
-    let p = order_along g h order o i in
-    (p.0, p.1, is ∙ ap count_line (to_places g h order p.0 o p.1 i).size)
+-- the same contents have as many nodes
+counted_content : (c d : Content) (n : ℕ) → SameContent c d → HasNodes c n → HasNodes d n
+counted_content (value g) (value h) n i k = counted_alike g h n i k
+counted_content (value g) (packet q) n i k = absurd i
+counted_content (packet p) (value h) n i k = absurd i
+counted_content (packet p) (packet q) n i k = packet_laws.same_number p q n i k
 
 -- and one listing
-listed_alike : (g h : Graph) (bytes : List ℕ) → Isomorphic g h → IsListing g bytes → IsListing h bytes
-listed_alike g h bytes i l =
-    let p = order_along g h l.0 l.1 i in
-    (p.0, p.1, same_listing g h bytes (shown_graph h p.0) i l (p.0, p.1, refl))
+listed_content : (c d : Content) (b : List ℕ) → SameContent c d → IsListed c b → IsListed d b
+listed_content (value g) (value h) b i k = listed_alike g h b i k
+listed_content (value g) (packet q) b i k = absurd i
+listed_content (packet p) (value h) b i k = absurd i
+listed_content (packet p) (packet q) b i k = packet_laws.same_listing p q b i k
 
 pub decides : (c : Command) (input bytes : List ℕ) → Makes c input bytes → Decides c input bytes
 decides (Canon from to) input bytes (r, j, (fit, e, s)) = λ g other h i d. decides_alike to r g fit other (same_input from r g input j i) e d bytes s h
-decides (Check from) input bytes (r, j, s) = λ g i. counted_alike r g bytes (same_input from r g input j i) s
-decides (Show from) input bytes (r, j, s) = λ g i. listed_alike r g bytes (same_input from r g input j i) s
-decides (Gen seed size) input bytes (spelled, s, is) = λ other o. is ∙ ap (measure_line (length (made seed size).nodes)) (alone Amf3 (made seed size) spelled other s o)
+decides (Check from) input bytes (r, j, (nodes, has, is)) = λ c i. (nodes, counted_content r c nodes (same_input from r c input j i) has, is)
+decides (Show from) input bytes (r, j, s) = λ c i. listed_content r c bytes (same_input from r c input j i) s
+decides (Gen seed size) input bytes (spelled, s, is) = λ other o. is ∙ ap (measure_line (length (made seed size).nodes)) (canonical_is_alone (made seed size) spelled other s o)
 decides Same input bytes (g, h, p, s) = λ f e q.
     let a = cut_alike g h f e input p q in
     said (Isomorphic g h) (Isomorphic f e) bytes

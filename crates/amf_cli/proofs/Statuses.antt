@@ -1,13 +1,13 @@
 -- What each status says of an end.
 use Rattle.std.proofs.Common.{◌≡◌, ◌≢◌, ◌⊎◌, inl, inr, ℕ, List, ◌++◌, Result, Err, refl, arith}
 use Rattle.amf_io.specs.declared.reason.Reason.{Reason}
-use Rattle.amf_io.specs.Verdict.{IsInputAccepted, IsInputRefused}
+use Rattle.amf_cli.specs.Input.{input_of, IsAcceptedAs, IsRefusedAs}
 use Rattle.amf_graph.specs.declared.lack.Lack.{Lack}
 use Rattle.amf_cli.specs.declared.command.Command.{Command}
 use Rattle.amf_cli.specs.declared.run_end.RunEnd.{RunEnd}
 use Rattle.amf_cli.specs.declared.run_end.RunEnd.TheVariants.{Refused, Usage, ReadFault, WriteFault, NoMemory, NoForm}
 use Rattle.amf_cli.specs.Lines.{status_of, line_of}
-use Rattle.amf_cli.specs.Run.{most, TakesInput, IsReading, CountsReads, CountsWrites, Accepts, Makes, Lacks, RunsTo, WritesAll, WritesSome, IsHidden, IsRefusedWith, HasNoForm, Reports}
+use Rattle.amf_cli.specs.Run.{TakesInput, IsReading, CountsReads, CountsWrites, Makes, Lacks, RunsTo, WritesAll, WritesSome, IsHidden, IsRefusedWith, HasNoForm, Reports}
 use Rattle.amf_cli.proofs.Spelled.{once, made_not_refused, lacking_not_refused, made_not_lacking, lacks_ever}
 
 abbrev Done : RunEnd → Result (Unit {0}) RunEnd
@@ -20,15 +20,15 @@ refused_says c Usage input rest told seen held now before after h r l = absurd (
 refused_says c ReadFault input rest told seen held now before after h r l = absurd (omega arith)
 refused_says c WriteFault input rest told seen held now before after h r l = absurd (omega arith)
 refused_says c NoMemory input rest told seen held now before after h r l = absurd (omega arith)
-refused_says c (NoForm k) input rest told seen held now before after h r l = absurd (omega arith)
+refused_says c (NoForm v k) input rest told seen held now before after h r l = absurd (omega arith)
 
-pub hidden_says : (c : Command) (e : RunEnd) (input rest : List ℕ) (told : Type 0) (held now : List ℕ) → status_of e ≡ 3 → RunsTo c input rest told held now (Done e) → IsHidden (Accepts c) input rest
+pub hidden_says : (c : Command) (e : RunEnd) (input rest : List ℕ) (told : Type 0) (held now : List ℕ) → status_of e ≡ 3 → RunsTo c input rest told held now (Done e) → IsHidden (input_of c) input rest
 hidden_says c (Refused f) input rest told held now h r = absurd (omega arith)
 hidden_says c Usage input rest told held now h r = absurd (omega arith)
 hidden_says c ReadFault input rest told held now h r = r
 hidden_says c WriteFault input rest told held now h r = absurd (omega arith)
 hidden_says c NoMemory input rest told held now h r = absurd (omega arith)
-hidden_says c (NoForm k) input rest told held now h r = absurd (omega arith)
+hidden_says c (NoForm v k) input rest told held now h r = absurd (omega arith)
 
 pub front_says : (c : Command) (e : RunEnd) (input rest : List ℕ) (told : Type 0) (held now : List ℕ) → status_of e ≡ 4 → RunsTo c input rest told held now (Done e) → WritesSome c input rest told held now
 front_says c (Refused f) input rest told held now h r = absurd (omega arith)
@@ -36,27 +36,27 @@ front_says c Usage input rest told held now h r = absurd (omega arith)
 front_says c ReadFault input rest told held now h r = absurd (omega arith)
 front_says c WriteFault input rest told held now h r = r
 front_says c NoMemory input rest told held now h r = absurd (omega arith)
-front_says c (NoForm k) input rest told held now h r = absurd (omega arith)
+front_says c (NoForm v k) input rest told held now h r = absurd (omega arith)
 
-pub accepted_says : (c : Command) (e : RunEnd) (input rest : List ℕ) (told : Type 0) (held now : List ℕ) → (Done e ≡ Err Usage → ⊥) → RunsTo c input rest told held now (Done e) → IsInputAccepted (Accepts c) most input
+pub accepted_says : (c : Command) (e : RunEnd) (input rest : List ℕ) (told : Type 0) (held now : List ℕ) → (Done e ≡ Err Usage → ⊥) → RunsTo c input rest told held now (Done e) → IsAcceptedAs (input_of c) input
     → (status_of e ≡ 0) ⊎ (status_of e ≡ 3) ⊎ (status_of e ≡ 4) ⊎ (status_of e ≡ 5) ⊎ (status_of e ≡ 7)
 accepted_says c (Refused f) input rest told held now u r a = absurd (once c input a f.reason f.at r)
 accepted_says c Usage input rest told held now u r a = absurd (u refl)
 accepted_says c ReadFault input rest told held now u r a = inr (inl refl)
 accepted_says c WriteFault input rest told held now u r a = inr (inr (inl refl))
 accepted_says c NoMemory input rest told held now u r a = inr (inr (inr (inl refl)))
-accepted_says c (NoForm l) input rest told held now u r a = inr (inr (inr (inr refl)))
+accepted_says c (NoForm v l) input rest told held now u r a = inr (inr (inr (inr refl)))
 
-pub not_accepted_says : (c : Command) (e : RunEnd) (input rest : List ℕ) (told : Type 0) (held now : List ℕ) → (Done e ≡ Err Usage → ⊥) → RunsTo c input rest told held now (Done e) → (reason : Reason) (at : ℕ) → IsInputRefused (Accepts c) most input reason at
+pub not_accepted_says : (c : Command) (e : RunEnd) (input rest : List ℕ) (told : Type 0) (held now : List ℕ) → (Done e ≡ Err Usage → ⊥) → RunsTo c input rest told held now (Done e) → (reason : Reason) (at : ℕ) → IsRefusedAs (input_of c) input reason at
     → (status_of e ≡ 1) ⊎ (status_of e ≡ 3) ⊎ (status_of e ≡ 5)
 not_accepted_says c (Refused f) input rest told held now u r reason at q = inl refl
 not_accepted_says c Usage input rest told held now u r reason at q = absurd (u refl)
 not_accepted_says c ReadFault input rest told held now u r reason at q = inr (inl refl)
 not_accepted_says c WriteFault input rest told held now u r reason at q = absurd (made_not_refused c input r.bytes reason at r.made q)
 not_accepted_says c NoMemory input rest told held now u r reason at q = inr (inr refl)
-not_accepted_says c (NoForm l) input rest told held now u r reason at q = absurd (lacking_not_refused c input l reason at r.0 q)
+not_accepted_says c (NoForm v l) input rest told held now u r reason at q = absurd (lacking_not_refused c input v l reason at r.0 q)
 
-pub done_not_refused : (c : Command) (input rest : List ℕ) (told : Type 0) (held now : List ℕ) → WritesAll c input rest told held now → (reason : Reason) (at : ℕ) → IsInputRefused (Accepts c) most input reason at → ⊥
+pub done_not_refused : (c : Command) (input rest : List ℕ) (told : Type 0) (held now : List ℕ) → WritesAll c input rest told held now → (reason : Reason) (at : ℕ) → IsRefusedAs (input_of c) input reason at → ⊥
 done_not_refused c input rest told held now w reason at q = made_not_refused c input w.bytes reason at w.made q
 
 pub formed_says : (c : Command) (e : RunEnd) (input rest : List ℕ) (told : Type 0) (held now bytes : List ℕ) → (Done e ≡ Err Usage → ⊥) → RunsTo c input rest told held now (Done e) → Makes c input bytes
@@ -66,16 +66,16 @@ formed_says c Usage input rest told held now bytes u r m = absurd (u refl)
 formed_says c ReadFault input rest told held now bytes u r m = inr (inl refl)
 formed_says c WriteFault input rest told held now bytes u r m = inr (inr (inl refl))
 formed_says c NoMemory input rest told held now bytes u r m = inr (inr (inr refl))
-formed_says c (NoForm l) input rest told held now bytes u r m = absurd (made_not_lacking c input bytes l m r.0)
+formed_says c (NoForm v l) input rest told held now bytes u r m = absurd (made_not_lacking c input bytes v l m r.0)
 
-pub lacking_says : (c : Command) (e : RunEnd) (input rest : List ℕ) (told : Type 0) (held now : List ℕ) (l : Lack) → (Done e ≡ Err Usage → ⊥) → RunsTo c input rest told held now (Done e) → Lacks c input l
+pub lacking_says : (c : Command) (e : RunEnd) (input rest : List ℕ) (told : Type 0) (held now : List ℕ) (n : ℕ) (l : Lack) → (Done e ≡ Err Usage → ⊥) → RunsTo c input rest told held now (Done e) → Lacks c input n l
     → (status_of e ≡ 3) ⊎ (status_of e ≡ 5) ⊎ (status_of e ≡ 7)
-lacking_says c (Refused f) input rest told held now l u r k = absurd (lacking_not_refused c input l f.reason f.at k r)
-lacking_says c Usage input rest told held now l u r k = absurd (u refl)
-lacking_says c ReadFault input rest told held now l u r k = inl refl
-lacking_says c WriteFault input rest told held now l u r k = absurd (made_not_lacking c input r.bytes l r.made k)
-lacking_says c NoMemory input rest told held now l u r k = inr (inl refl)
-lacking_says c (NoForm j) input rest told held now l u r k = inr (inr refl)
+lacking_says c (Refused f) input rest told held now n l u r k = absurd (lacking_not_refused c input n l f.reason f.at k r)
+lacking_says c Usage input rest told held now n l u r k = absurd (u refl)
+lacking_says c ReadFault input rest told held now n l u r k = inl refl
+lacking_says c WriteFault input rest told held now n l u r k = absurd (made_not_lacking c input r.bytes n l r.made k)
+lacking_says c NoMemory input rest told held now n l u r k = inr (inl refl)
+lacking_says c (NoForm v j) input rest told held now n l u r k = inr (inr refl)
 
 pub no_form_says : (c : Command) (e : RunEnd) (input rest : List ℕ) (told seen : Type 0) (held now before after : List ℕ) → status_of e ≡ 7 → RunsTo c input rest told held now (Done e) → (seen → after ≡ before ++ line_of e) → HasNoForm c input rest seen before after
 unfolding line_of
@@ -84,7 +84,7 @@ no_form_says c Usage input rest told seen held now before after h r l = absurd (
 no_form_says c ReadFault input rest told seen held now before after h r l = absurd (omega arith)
 no_form_says c WriteFault input rest told seen held now before after h r l = absurd (omega arith)
 no_form_says c NoMemory input rest told seen held now before after h r l = absurd (omega arith)
-no_form_says c (NoForm k) input rest told seen held now before after h r l = record { lack = k; lacking = r.0; every = lacks_ever c input k r.0; all_read = r.1; line = l }
+no_form_says c (NoForm v k) input rest told seen held now before after h r l = record { number = v; lack = k; lacking = r.0; every = lacks_ever c input v k r.0; all_read = r.1; line = l }
 
 pub line_says : (e : RunEnd) (held now : List ℕ) → now ≡ held ++ line_of e → Reports (status_of e) held now
 line_says (Refused f) held now h = (Refused f, refl, h)
@@ -92,7 +92,7 @@ line_says Usage held now h = (Usage, refl, h)
 line_says ReadFault held now h = (ReadFault, refl, h)
 line_says WriteFault held now h = (WriteFault, refl, h)
 line_says NoMemory held now h = (NoMemory, refl, h)
-line_says (NoForm l) held now h = (NoForm l, refl, h)
+line_says (NoForm v l) held now h = (NoForm v l, refl, h)
 
 pub usage_status : (e : RunEnd) → Done e ≡ Err Usage → status_of e ≡ 2
 usage_status (Refused f) h = absurd cc
@@ -100,15 +100,15 @@ usage_status Usage h = refl
 usage_status ReadFault h = absurd cc
 usage_status WriteFault h = absurd cc
 usage_status NoMemory h = absurd cc
-usage_status (NoForm l) h = absurd cc
+usage_status (NoForm v l) h = absurd cc
 
-pub form_status : (e : RunEnd) → status_of e ≡ 7 → (l : Lack) × (Done e ≡ Err (NoForm l))
+pub form_status : (e : RunEnd) → status_of e ≡ 7 → (v : ℕ) × (l : Lack) × (Done e ≡ Err (NoForm v l))
 form_status (Refused f) h = absurd (omega arith)
 form_status Usage h = absurd (omega arith)
 form_status ReadFault h = absurd (omega arith)
 form_status WriteFault h = absurd (omega arith)
 form_status NoMemory h = absurd (omega arith)
-form_status (NoForm l) h = (l, refl)
+form_status (NoForm v l) h = (v, l, refl)
 
 -- without a fault the counts stay
 
@@ -118,7 +118,7 @@ reads_steady Usage before now c read = c
 reads_steady ReadFault before now c read = absurd (read refl)
 reads_steady WriteFault before now c read = c
 reads_steady NoMemory before now c read = c
-reads_steady (NoForm l) before now c read = c
+reads_steady (NoForm v l) before now c read = c
 
 pub writes_steady : (e : RunEnd) (before now : ℕ) → CountsWrites before now (Done e) → status_of e ≢ 4 → now ≡ before
 writes_steady (Refused f) before now c write = c
@@ -126,7 +126,7 @@ writes_steady Usage before now c write = c
 writes_steady ReadFault before now c write = c
 writes_steady WriteFault before now c write = absurd (write refl)
 writes_steady NoMemory before now c write = c
-writes_steady (NoForm l) before now c write = c
+writes_steady (NoForm v l) before now c write = c
 
 pub memory_status : (e : RunEnd) → Done e ≡ Err NoMemory → status_of e ≡ 5
 memory_status (Refused f) h = absurd cc
@@ -134,7 +134,7 @@ memory_status Usage h = absurd cc
 memory_status ReadFault h = absurd cc
 memory_status WriteFault h = absurd cc
 memory_status NoMemory h = refl
-memory_status (NoForm l) h = absurd cc
+memory_status (NoForm v l) h = absurd cc
 
 pub reading_says : (c : Command) (e : RunEnd) → (status_of e ≡ 1) ⊎ (status_of e ≡ 3) → IsReading c (Done e) → TakesInput c
 reading_says c (Refused f) h r = r
@@ -142,7 +142,7 @@ reading_says c Usage h r = elim h [ inl e ↦ absurd (omega (arith, e)) | inr e 
 reading_says c ReadFault h r = r
 reading_says c WriteFault h r = elim h [ inl e ↦ absurd (omega (arith, e)) | inr e ↦ absurd (omega (arith, e)) ]
 reading_says c NoMemory h r = elim h [ inl e ↦ absurd (omega (arith, e)) | inr e ↦ absurd (omega (arith, e)) ]
-reading_says c (NoForm l) h r = elim h [ inl e ↦ absurd (omega (arith, e)) | inr e ↦ absurd (omega (arith, e)) ]
+reading_says c (NoForm v l) h r = elim h [ inl e ↦ absurd (omega (arith, e)) | inr e ↦ absurd (omega (arith, e)) ]
 
 pub usage_end : (e : RunEnd) → status_of e ≡ 2 → Done e ≡ Err Usage
 usage_end (Refused f) h = absurd (omega arith)
@@ -150,4 +150,4 @@ usage_end Usage h = refl
 usage_end ReadFault h = absurd (omega arith)
 usage_end WriteFault h = absurd (omega arith)
 usage_end NoMemory h = absurd (omega arith)
-usage_end (NoForm l) h = absurd (omega arith)
+usage_end (NoForm v l) h = absurd (omega arith)

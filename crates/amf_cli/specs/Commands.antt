@@ -1,5 +1,5 @@
 -- What the words of a command line ask for: which commands there are, which options each has, and what their values say.
-use Rattle.std.specs.Prelude.{◌≡◌, ◌&&◌, ℕ, Bool, List, [], ◌∷◌, length, codes, Option, Some, None, option_map, option_and_then, nat_le, nat_lt, if◌then◌else◌}
+use Rattle.std.specs.Prelude.{◌≡◌, ◌&&◌, ℕ, Bool, true, false, List, [], ◌∷◌, length, codes, Option, Some, None, option_map, option_and_then, nat_le, nat_lt, if◌then◌else◌}
 use Rattle.std.specs.List.{list_all, AllByRecursion}
 use Rattle.std.specs.Str.{bytes_eq, IsUtf8}
 use Rattle.std.specs.Str.Parse.{digits_value}
@@ -7,7 +7,7 @@ use Rattle.amf_words.specs.Words.{Text, Given, HasOptions, value_of}
 use Rattle.amf_cli.specs.declared.command.Command.{Command}
 use Rattle.amf_cli.specs.declared.command.Command.TheVariants as command
 use Rattle.amf_cli.specs.declared.format.Format.{Format}
-use Rattle.amf_cli.specs.declared.format.Format.TheVariants.{Amf3, Amf0}
+use Rattle.amf_cli.specs.declared.format.Format.TheVariants.{Amf3, Amf0, Packet}
 use Rattle.amf_cli.specs.declared.kind.Kind.{Kind}
 use Rattle.amf_cli.specs.declared.kind.Kind.TheVariants as kind
 
@@ -28,7 +28,7 @@ options_for kind.Gen = codes "seed" ∷ codes "size" ∷ []
 -- What a value says.
 
 abbrev pub format_named : Text → Option Format
-format_named text = if bytes_eq text (codes "amf3") then Some Amf3 else (if bytes_eq text (codes "amf0") then Some Amf0 else None)
+format_named text = if bytes_eq text (codes "amf3") then Some Amf3 else (if bytes_eq text (codes "amf0") then Some Amf0 else (if bytes_eq text (codes "packet") then Some Packet else None))
 
 -- the format that a value names; without a value this one
 abbrev pub format_or : Format → Option Text → Option Format
@@ -52,9 +52,16 @@ number_at least most = option_and_then (number_named least most)
 
 -- What the values make of a command.
 
+-- a value goes to either format of values, and a packet to a packet alone
+abbrev pub goes_to : Format → Format → Bool
+goes_to Packet Packet = true
+goes_to Packet to = false
+goes_to from Packet = false
+goes_to from to = true
+
 abbrev pub canon_to : Format → Option Format → Option Command
 canon_to from None = None
-canon_to from (Some to) = Some (command.Canon from to)
+canon_to from (Some to) = if goes_to from to then Some (command.Canon from to) else None
 
 -- without `--to` the format stays
 abbrev pub canon_from : Option Format → Option Text → Option Command

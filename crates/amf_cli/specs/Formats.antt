@@ -1,48 +1,66 @@
--- What each format says of a value, in one form for all of them.
+-- What each format says of a content, in one form for all of them. Of a content that is not the format's own nothing holds.
 use Rattle.std.specs.Prelude.{◌≡◌, ℕ, List}
-use Rattle.amf_io.specs.Field.{Field}
+use Rattle.amf_io.specs.Field.{Field, flat}
 use Rattle.amf_wire.specs.Style.{Style, canonical}
 use Rattle.amf_graph.specs.declared.lack.Lack.{Lack}
-use Rattle.amf_graph.specs.Graph.{Graph}
+use Rattle.amf_graph.specs.Isomorphic.{Isomorphic}
 use Rattle.amf3_spelling.specs.Lacks3.{IsLack3}
 use Rattle.amf3_spelling.specs.Reads3.{IsValue3}
-use Rattle.amf3_spelling.specs.Spells3.{IsSpelling3, Spelled3}
+use Rattle.amf3_spelling.specs.Spells3.{IsSpelling3}
 use Rattle.amf0_tables.specs.Lacks0.{IsLack0}
 use Rattle.amf0_tables.specs.Lowered.{IsLoweringOf}
 use Rattle.amf0_tables.specs.Reads0.{IsValue0}
-use Rattle.amf0_tables.specs.Spells0.{IsSpelling0, Spelled0}
+use Rattle.amf0_tables.specs.Spells0.{IsSpelling0}
+use Rattle.amf_packet.specs.Packet.{IsPacketReading, SpellsPacket}
+use Rattle.amf_packet.specs.PacketLacks.{IsPacketLack}
+use Rattle.amf_packet_show.specs.PacketLaws.{IsAlikePacket}
+use Rattle.amf_packet_show.specs.SamePacket.{IsLoweredPacket}
 use Rattle.amf_cli.specs.declared.format.Format.{Format}
-use Rattle.amf_cli.specs.declared.format.Format.TheVariants.{Amf3, Amf0}
+use Rattle.amf_cli.specs.declared.format.Format.TheVariants.{Amf3, Amf0, Packet}
+use Rattle.amf_cli.specs.Content.{Content, value, packet}
 
--- the lists of fields that are one value
-abbrev pub IsValue : Format → List Field → Type 0
-IsValue Amf3 = IsValue3
-IsValue Amf0 = IsValue0
+-- the lists of fields that are one content
+abbrev pub IsContent : Format → List Field → Type 0
+IsContent Amf3 = IsValue3
+IsContent Amf0 = IsValue0
+IsContent Packet = IsPacketReading
 
--- the fields spell the graph
-abbrev pub IsSpelling : Format → Style → Graph → List Field → Type 0
-IsSpelling Amf3 = IsSpelling3
-IsSpelling Amf0 = IsSpelling0
+-- the fields spell the content
+abbrev pub IsSpelling : Format → Style → Content → List Field → Type 0
+IsSpelling Amf3 s (value g) fs = IsSpelling3 s g fs
+IsSpelling Amf0 s (value g) fs = IsSpelling0 s g fs
+IsSpelling Packet s (packet p) fs = SpellsPacket s p fs
+IsSpelling _ s _ fs = ⊥
 
--- the bytes spell the graph
-abbrev pub Spelled : Format → Style → Graph → List ℕ → Type 0
-Spelled Amf3 = Spelled3
-Spelled Amf0 = Spelled0
+-- the bytes spell the content
+abbrev pub Spelled : Format → Style → Content → List ℕ → Type 0
+Spelled f s c b = (fs : List Field) × IsSpelling f s c fs × (b ≡ flat fs)
 
--- the graph in the kinds of nodes and values that the format has: AMF 3 has all, and for AMF 0 it is lowered
-abbrev pub IsFitted : Format → Graph → Graph → Type 0
-IsFitted Amf3 g fit = fit ≡ g
-IsFitted Amf0 g fit = IsLoweringOf g fit
+-- the content in the kinds of nodes and values that the format has: AMF 3 has all, for AMF 0 it is lowered, and so are the plain values of a packet
+abbrev pub IsFitted : Format → Content → Content → Type 0
+IsFitted Amf3 (value g) (value fit) = fit ≡ g
+IsFitted Amf0 (value g) (value fit) = IsLoweringOf g fit
+IsFitted Packet (packet p) (packet fit) = IsLoweredPacket p fit
+IsFitted _ _ _ = ⊥
 
--- the first node of a fitted graph that has no canonical spelling, and why
-abbrev pub IsLackIn : Format → Graph → Lack → Type 0
-IsLackIn Amf3 fit l = IsLack3 fit l.node l.kind
-IsLackIn Amf0 fit l = IsLack0 fit l.node l.kind
+-- the content is the fitted one but for the numbers of its nodes; a packet is so once it is lowered, since its canonical spelling lowers it
+abbrev pub IsAlike : Format → Content → Content → Type 0
+IsAlike Amf3 (value h) (value fit) = Isomorphic h fit
+IsAlike Amf0 (value h) (value fit) = Isomorphic h fit
+IsAlike Packet (packet q) (packet fit) = IsAlikePacket q fit
+IsAlike _ _ _ = ⊥
 
--- the bytes are the canonical spelling of the graph, in the kinds that the format has
-abbrev pub IsWritten : Format → Graph → List ℕ → Type 0
-IsWritten f g bytes = (fit : Graph) × IsFitted f g fit × Spelled f canonical fit bytes
+-- the first value of a fitted content that has no canonical spelling, its first node that has none, and why; the one value of a value has the number 0
+abbrev pub IsLackIn : Format → Content → ℕ → Lack → Type 0
+IsLackIn Amf3 (value fit) number l = (number ≡ 0) × IsLack3 fit l.node l.kind
+IsLackIn Amf0 (value fit) number l = (number ≡ 0) × IsLack0 fit l.node l.kind
+IsLackIn Packet (packet fit) number l = IsPacketLack fit number l.node l.kind
+IsLackIn _ _ number l = ⊥
 
--- the graph has no canonical spelling, for this reason
-abbrev pub IsUnwritten : Format → Graph → Lack → Type 0
-IsUnwritten f g l = (fit : Graph) × IsFitted f g fit × IsLackIn f fit l
+-- the bytes are the canonical spelling of the content, in the kinds that the format has
+abbrev pub IsWritten : Format → Content → List ℕ → Type 0
+IsWritten f c bytes = (fit : Content) × IsFitted f c fit × Spelled f canonical fit bytes
+
+-- the content has no canonical spelling, for this reason
+abbrev pub IsUnwritten : Format → Content → ℕ → Lack → Type 0
+IsUnwritten f c number l = (fit : Content) × IsFitted f c fit × IsLackIn f fit number l

@@ -1,10 +1,12 @@
 -- The definitions that contracts cite.
 pub mod Commands
+pub mod Content
 pub mod Formats
+pub mod Input
 pub mod Lines
 pub mod Written
 pub mod Run
 pub mod WorkedRuns
 -- Devices of the proofs: no clause of a public call needs them.
 pub mod Reading
-pub mod Sized
+pub mod Askable

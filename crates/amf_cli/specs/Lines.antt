@@ -9,8 +9,6 @@ use Rattle.amf_io.specs.declared.reason.Reason.TheVariants.{Truncated, BadMarker
 use Rattle.amf_graph.specs.declared.lack.Lack.{Lack}
 use Rattle.amf_graph.specs.declared.lack.LackKind.{LackKind}
 use Rattle.amf_graph.specs.declared.lack.LackKind.TheVariants as lacking
-use Rattle.amf_graph.specs.declared.write_end.WriteEnd.{WriteEnd}
-use Rattle.amf_graph.specs.declared.write_end.WriteEnd.TheVariants as writer
 use Rattle.amf_cli.specs.declared.run_end.RunEnd.{RunEnd}
 use Rattle.amf_cli.specs.declared.run_end.RunEnd.TheVariants.{Refused, Usage, ReadFault, WriteFault, NoMemory, NoForm}
 
@@ -19,11 +17,6 @@ abbrev pub end_of : ReadEnd → RunEnd
 end_of (reader.Refused f) = Refused f
 end_of reader.ReadFault = ReadFault
 end_of reader.Memory = NoMemory
-
--- and so is that of a writer
-abbrev pub end_of_writer : WriteEnd → RunEnd
-end_of_writer (writer.NoSpelling l) = NoForm l
-end_of_writer writer.Memory = NoMemory
 
 -- a reason is written by its name
 abbrev pub reason_name : Reason → List ℕ
@@ -57,9 +50,9 @@ line_feed = 10 ∷ []
 abbrev pub refusal_line : Refusal → List ℕ
 refusal_line f = codes "amf: refused " ++ reason_name f.reason ++ codes " at " ++ decimal f.at ++ line_feed
 
--- the one value of an input has the number 0
-abbrev pub no_form_line : Lack → List ℕ
-no_form_line l = codes "amf: no form " ++ kind_name l.kind ++ codes " node " ++ decimal l.node ++ codes " value 0\n"
+-- with the number of the value
+abbrev pub no_form_line : ℕ → Lack → List ℕ
+no_form_line number l = codes "amf: no form " ++ kind_name l.kind ++ codes " node " ++ decimal l.node ++ codes " value " ++ decimal number ++ line_feed
 
 -- the line of each end
 unfoldable pub line_of : RunEnd → List ℕ
@@ -68,7 +61,7 @@ line_of Usage = codes "amf: usage\n"
 line_of ReadFault = codes "amf: read fault\n"
 line_of WriteFault = codes "amf: write fault\n"
 line_of NoMemory = codes "amf: no memory\n"
-line_of (NoForm l) = no_form_line l
+line_of (NoForm number l) = no_form_line number l
 
 abbrev pub status_of : RunEnd → ℕ
 status_of (Refused f) = 1
@@ -76,7 +69,7 @@ status_of Usage = 2
 status_of ReadFault = 3
 status_of WriteFault = 4
 status_of NoMemory = 5
-status_of (NoForm l) = 7
+status_of (NoForm number l) = 7
 
 -- how many nodes there are
 abbrev pub count_line : ℕ → List ℕ

@@ -1,23 +1,30 @@
 -- How the parts of an input are read. A device of proofs.
-use Rattle.std.specs.Prelude.{◌≡◌, ℕ, ◌<◌, List, [], length, Result, Ok, Err}
+use Rattle.std.specs.Prelude.{◌≡◌, ℕ, ◌<◌, List, [], length, true, Result, Ok, Err}
 use Rattle.amf_wire.specs.Style.{free}
+use Rattle.amf_io.specs.Field.{Field}
 use Rattle.amf_io.specs.declared.reason.Reason.TheVariants.{Trailing}
 use Rattle.amf_io.specs.declared.ends.ReadEnd.{ReadEnd}
 use Rattle.amf_io.specs.declared.ends.ReadEnd.TheVariants.{Refused, ReadFault, Memory}
-use Rattle.amf_graph.specs.Graph.{Graph}
-use Rattle.amf_graph.specs.Rooted.{RootedArena, content}
+use Rattle.amf_packet.specs.Packet.{Packet, SpellsPacket}
 use Rattle.amf3_read.specs.Answer.{IsTaken, AnswersOf}
 use Rattle.amf_cli.specs.declared.format.Format.{Format}
-use Rattle.amf_cli.specs.Formats.{IsValue, IsSpelling}
-use Rattle.amf_cli.specs.Run.{most}
+use Rattle.amf_cli.specs.Commands.{goes_to}
+use Rattle.amf_cli.specs.Content.{Content}
+use Rattle.amf_cli.specs.Formats.{IsContent, IsSpelling}
+use Rattle.amf_cli.specs.Input.{most}
 
--- a graph was read from nothing, by fields which are the front of what was left where the source tells
-abbrev pub IsReadOne : Format → Type 0 → Graph → List ℕ → List ℕ → ℕ → ℕ → Type 0
-IsReadOne f told g input rest at place = IsTaken told (IsSpelling f free g) (IsValue f) input rest at place most
+-- a content was read from nothing, by fields which are the front of what was left where the source tells
+abbrev pub IsReadOne : Format → Type 0 → Content → List ℕ → List ℕ → ℕ → ℕ → Type 0
+IsReadOne f told c input rest at place = IsTaken told (IsSpelling f free c) (IsContent f) input rest at place most
 
--- how the reader of one value ends
-abbrev pub AnswersOne : Format → Type 0 → List ℕ → List ℕ → ℕ → ℕ → Result RootedArena ReadEnd → Type 0
-AnswersOne f told input rest at place result = AnswersOf (λ g. IsSpelling f free (content g)) (IsValue f) told input rest at place most result
+-- how the reader of one content ends, where view tells which it is
+abbrev pub AnswersOne : {X : Type 0} → (X → Content) → Format → Type 0 → List ℕ → List ℕ → ℕ → ℕ → Result X ReadEnd → Type 0
+AnswersOne view f told input rest at place result = AnswersOf (λ x. IsSpelling f free (view x)) (IsContent f) told input rest at place most result
+
+-- what was read, as something else
+abbrev pub mapped : {X Y : Type 0} → (X → Y) → Result X ReadEnd → Result Y ReadEnd
+mapped f (Ok x) = Ok (f x)
+mapped f (Err e) = Err e
 
 -- how the test for the end of the input ends
 abbrev pub AnswersEnd : {T : Type 0} → List ℕ → List ℕ → ℕ → Result T ReadEnd → Type 0
@@ -25,3 +32,11 @@ AnswersEnd input rest at (Ok x) = (input ≡ []) × (rest ≡ [])
 AnswersEnd input rest at (Err (Refused f)) = (f.reason ≡ Trailing) × (f.at ≡ at) × (0 < length input)
 AnswersEnd input rest at (Err ReadFault) = rest ≡ input
 AnswersEnd input rest at (Err Memory) = ⊥
+
+-- it was read in a format that goes to this one
+abbrev pub GoesInto : Format → Content → Type 0
+GoesInto to c = (from : Format) × (fs : List Field) × IsSpelling from free c fs × (goes_to from to ≡ true)
+
+-- the packet was read
+abbrev pub IsPacketRead : Packet → Type 0
+IsPacketRead p = (fs : List Field) × SpellsPacket free p fs

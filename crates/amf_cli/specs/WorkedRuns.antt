@@ -1,25 +1,35 @@
 -- Worked facts of runs: what words say, which inputs are accepted and refused, what fixes no verdict yet, and the lines of `check` and `gen`.
-use Rattle.std.specs.Prelude.{◌≡◌, ℕ, List, [], ◌∷◌, codes, Some, None}
+use Rattle.std.specs.Prelude.{◌≡◌, ℕ, List, [], ◌∷◌, codes, Option, Some, None, if◌then◌else◌}
+use Rattle.std.specs.Str.{bytes_eq}
 use Rattle.amf_io.specs.declared.reason.Reason.{Reason}
-use Rattle.amf_io.specs.declared.reason.Reason.TheVariants.{Truncated, BadMarker, BadTextIndex, TooLarge, Trailing}
-use Rattle.amf_io.specs.Verdict.{IsInputAccepted, IsInputRefused, IsUnsettled}
+use Rattle.amf_io.specs.declared.reason.Reason.TheVariants.{Truncated, BadMarker, BadTextIndex, TooLarge, Trailing, BadVersion}
+use Rattle.amf_io.specs.Verdict.{IsInputAccepted, IsInputRefused}
+use Rattle.amf_words.specs.Words.{Text}
+use Rattle.amf_graph.specs.declared.lack.LackKind.TheVariants.{NoForm}
 use Rattle.amf_graph.specs.Graph.{Graph, date, array, node}
+use Rattle.amf_packet_show.specs.WorkedPacketListings.{called}
 use Rattle.amf_cli.specs.declared.command.Command.{Command}
 use Rattle.amf_cli.specs.declared.command.Command.TheVariants.{Canon, Check, Show, Same, Gen}
-use Rattle.amf_cli.specs.declared.format.Format.TheVariants.{Amf3, Amf0}
+use Rattle.amf_cli.specs.declared.format.Format.TheVariants.{Amf3, Amf0, Packet}
 use Rattle.amf_cli.specs.declared.kind.Kind.TheVariants as kind
 use Rattle.amf_cli.specs.Commands.{command_for, number_named}
-use Rattle.amf_cli.specs.Lines.{count_line, measure_line}
-use Rattle.amf_cli.specs.Run.{most, Accepts, IsCounted}
+use Rattle.amf_cli.specs.Content.{value, packet}
+use Rattle.amf_cli.specs.Input.{Accepts, one, input_of, IsAcceptedAs, IsRefusedAs, IsUnsettledAs}
+use Rattle.amf_cli.specs.Lines.{count_line, measure_line, no_form_line}
+use Rattle.amf_cli.specs.Run.{IsCounted}
 
 abbrev pub Accepted : Command → List ℕ → Type 0
-Accepted c = IsInputAccepted (Accepts c) most
+Accepted c = IsAcceptedAs (input_of c)
 
 abbrev pub Refused : Command → List ℕ → Reason → ℕ → Type 0
-Refused c = IsInputRefused (Accepts c) most
+Refused c = IsRefusedAs (input_of c)
 
 abbrev pub Unsettled : Command → List ℕ → Type 0
-Unsettled c = IsUnsettled (Accepts c) most
+Unsettled c = IsUnsettledAs (input_of c)
+
+-- the values of options: these formats
+abbrev pub from_to : Option Text → Option Text → Text → Option Text
+from_to from to option = if bytes_eq option (codes "from") then from else (if bytes_eq option (codes "to") then to else None)
 
 -- a date, behind an array to which the root does not lead
 abbrev pub second_reached : Graph
@@ -40,10 +50,15 @@ pub record RunRows : Type 0 where
   pub the_most : number_named 0 4294967295 (codes "4294967295") ≡ Some 4294967295
   -- without options a value is one of AMF 3
   pub check_alone : command_for kind.Check (λ option. None) ≡ Some (Check Amf3)
+  -- a packet goes to a packet alone
+  pub packet_alone : command_for kind.Canon (from_to (Some (codes "packet")) None) ≡ Some (Canon Packet Packet)
+  pub packet_to_value : command_for kind.Canon (from_to (Some (codes "packet")) (Some (codes "amf3"))) ≡ None
+  pub value_to_packet : command_for kind.Canon (from_to None (Some (codes "packet"))) ≡ None
+  pub value_to_value : command_for kind.Canon (from_to (Some (codes "amf0")) (Some (codes "amf3"))) ≡ Some (Canon Amf0 Amf3)
   pub gen_alone : command_for kind.Gen (λ option. None) ≡ None
   -- of three bytes the field that begins at the second is not whole in the first two
-  pub too_large : IsInputRefused (Accepts (Check Amf3)) 2 (0x04 ∷ 0x80 ∷ 0x05 ∷ []) TooLarge 1
-  pub as_large_as_the_limit : IsInputAccepted (Accepts (Check Amf3)) 3 (0x04 ∷ 0x80 ∷ 0x05 ∷ [])
+  pub too_large : IsInputRefused (Accepts (one Amf3)) 2 (0x04 ∷ 0x80 ∷ 0x05 ∷ []) TooLarge 1
+  pub as_large_as_the_limit : IsInputAccepted (Accepts (one Amf3)) 3 (0x04 ∷ 0x80 ∷ 0x05 ∷ [])
   -- what follows may change the verdict: before the first byte, within a field, and behind a whole value
   pub nothing_yet : Unsettled (Show Amf3) []
   pub within_a_field : Unsettled (Show Amf3) (0x04 ∷ 0x80 ∷ [])
@@ -54,7 +69,13 @@ pub record RunRows : Type 0 where
   pub a_third : Refused Same (0x01 ∷ 0x02 ∷ 0x03 ∷ []) Trailing 2
   pub second_has_no_marker : Refused Same (0x01 ∷ 0x12 ∷ []) BadMarker 1
   pub own_tables : Refused Same (0x06 ∷ 0x03 ∷ 0x61 ∷ 0x06 ∷ 0x00 ∷ []) BadTextIndex 4
-  -- only what the root leads to is counted
-  pub one_counted : IsCounted second_reached (count_line 1)
+  -- a packet of version 2, and one that ends before its counts
+  pub bad_version : Refused (Check Packet) (0x00 ∷ 0x02 ∷ []) BadVersion 0
+  pub no_counts : Refused (Show Packet) (0x00 ∷ 0x03 ∷ []) Truncated 2
+  -- only what the root leads to is counted, over all values of a packet
+  pub one_counted : IsCounted (value second_reached) (count_line 1)
+  pub packet_counted : IsCounted (packet called) (count_line 2)
+  -- the number of the value that lacks a spelling
+  pub lacking_line : no_form_line 3 (record { kind = NoForm; node = 12 }) ≡ codes "amf: no form NoForm node 12 value 3\n"
   pub counted_line : count_line 12 ≡ codes "ok nodes 12\n"
   pub measured_line : measure_line 3 (0x09 ∷ 0x01 ∷ 0x01 ∷ []) ≡ codes "nodes 3 bytes 3 sum 11\n"

@@ -12,11 +12,11 @@ use std::str;
 /// What the words of a command line ask for.
 #[derive(Clone, Copy, Debug, PartialEq, Eq)]
 pub enum Command {
-    /// `canon`: the canonical spelling of one value, in the same format or another.
+    /// `canon`: the canonical spelling of one value, in the same format or another, or of one packet.
     Canon { from: Format, to: Format },
-    /// `check`: how many nodes the graph of one value has to which its root leads.
+    /// `check`: how many nodes the root of one value leads to, added over the values of a packet.
     Check { from: Format },
-    /// `show`: the listing of one value.
+    /// `show`: the listing of one value or of one packet.
     Show { from: Format },
     /// `same`: whether two values of AMF 3, one after the other, are the same graph.
     Same,

@@ -107,8 +107,9 @@ fn words_without_a_reading(rt: HostRuntime) {
     for words in [
         ["check", "--from=amf3", "x"].as_slice(),
         &["check", "--to=amf3"],
-        &["check", "--from=packet"],
+        &["check", "--from=sol"],
         &["canon", "--from", "packet", "--to", "amf3"],
+        &["canon", "--to", "packet"],
         &["show", "--from", "amf0", "--from", "amf0"],
         &["serve", "--port=0", "--workers=1", "--each=1"],
         &["gen"],

@@ -1,13 +1,15 @@
 ghost use Rattle.std.specs.Prelude.{◌≡◌};
-ghost use Rattle.amf_cli.specs.Commands.{format_named};
+ghost use Rattle.amf_cli.specs.Commands.{format_named, goes_to};
 
-/// A format of values.
+/// A format of an input or an output.
 #[derive(Clone, Copy, Debug, PartialEq, Eq)]
 pub enum Format {
     /// AMF 3 (Adobe, January 2013).
     Amf3,
     /// AMF 0 (Adobe, 2007).
     Amf0,
+    /// An AMF packet (AMF 0, 4.1).
+    Packet,
 }
 
 impl Format {
@@ -18,7 +20,19 @@ impl Format {
         match name {
             "amf3" => Some(Format::Amf3),
             "amf0" => Some(Format::Amf0),
+            "packet" => Some(Format::Packet),
             _ => None,
+        }
+    }
+
+    /// Whether what is in this format can be written in that one: a value in either format of values, and a packet as a packet.
+    pub fn goes_to(self, to: Format) -> bool
+        ensures { result ≡ goes_to self to }
+    {
+        match (self, to) {
+            (Format::Packet, Format::Packet) => true,
+            (Format::Packet, _) | (_, Format::Packet) => false,
+            _ => true,
         }
     }
 }

@@ -99,7 +99,11 @@ fn canon(matches: &ArgMatches<'_>) -> Option<Command>
         Some(name) => Format::of(name)?,
         None => from,
     };
-    Some(Command::Canon { from, to })
+    if from.goes_to(to) {
+        Some(Command::Canon { from, to })
+    } else {
+        None
+    }
 }
 
 fn generate(matches: &ArgMatches<'_>) -> Option<Command>

@@ -6,7 +6,7 @@ use itoa::Buffer;
 use std::alloc::{AllocError, Global};
 
 /// The line that says how many nodes there are.
-pub fn count_line(alloc: Global, nodes: u32) -> Result<Vec<u8>, AllocError>
+pub fn count_line(alloc: Global, nodes: u128) -> Result<Vec<u8>, AllocError>
     ensures { IfOk result (λ bytes. bytes.items ≡ line.count_line nodes) }
 {
     let mut digits = Buffer::new();

@@ -1,5 +1,5 @@
-//! The program `amf`: writes the canonical spelling of any value of AMF 3 or AMF 0, in either, checks it, lists it, and tells whether two are
-//! the same graph.
+//! The program `amf`: writes the canonical spelling of any value of AMF 3 or AMF 0, in either, and of any packet, checks it, lists it, and
+//! tells whether two values are the same graph.
 #![tactic(auto)]
 
 #[cfg(test)]
@@ -8,6 +8,7 @@ mod arguments;
 mod command;
 #[cfg(test)]
 mod command_tests;
+mod content;
 mod facts;
 mod format;
 mod kind;
@@ -17,6 +18,8 @@ mod lines;
 mod making;
 mod number;
 mod output;
+#[cfg(test)]
+mod packet_tests;
 mod reading;
 mod report;
 mod run;

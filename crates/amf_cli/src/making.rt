@@ -1,14 +1,21 @@
-ghost use Rattle.std.specs.Prelude.{◌≡◌, ◌≤◌, length, IfOk};
+ghost use Rattle.std.specs.Prelude.{◌≡◌, ◌≤◌, List, length, IfOk};
+ghost use Rattle.amf_io.specs.Field.{Field};
 ghost use Rattle.amf_graph.specs.Reached.{IsNamed};
 ghost use Rattle.amf_graph.specs.Rooted.{content};
 ghost use Rattle.amf3_spelling.specs.Spells3.{Spelled3};
 ghost use Rattle.amf_vectors.specs.Made.{made};
-ghost use Rattle.amf_wire.specs.Style.{canonical as canon};
-ghost use Rattle.amf_cli.specs.Run.{most, IsMeasured};
+ghost use Rattle.amf_wire.specs.Style.{free, canonical as canon};
+ghost use Rattle.amf_cli.specs.declared.content.Content.TheVariants as kept;
+ghost use Rattle.amf_cli.specs.declared.format.Format.TheVariants.{Amf3};
+ghost use Rattle.amf_cli.specs.Content.{content_of};
+ghost use Rattle.amf_cli.specs.Formats.{IsSpelling};
+ghost use Rattle.amf_cli.specs.Input.{most};
+ghost use Rattle.amf_cli.specs.Run.{IsMeasured};
 
+use crate::content::Content;
 use crate::format::Format;
 use crate::lines::measure_line;
-use crate::reading::read_graph;
+use crate::reading::read_content;
 use crate::run::LIMIT;
 use crate::run_end::RunEnd;
 use crate::spelling::spell3;
@@ -73,14 +80,26 @@ fn read_back(alloc: Global, graph: &Rooted, bytes: &[u8]) -> Result<(), Memory>
     requires within { length bytes.now ≤ most }
 {
     let mut source = FaultlessSource::new(alloc, bytes, bytes.len(), 0)?;
-    let copy = match read_graph(alloc, Format::Amf3, &mut source) {
-        Ok(copy) => copy,
+    let read = match read_content(alloc, Format::Amf3, &mut source) {
+        Ok(read) => read,
         Err(end) => return Err(only_memory(end)),
     };
+    let copy = only_value(read);
     if isomorphic(alloc, graph, &copy)? {
         Ok(())
     } else {
         unreachable!()
+    }
+}
+
+/// The graph of what was read in AMF 3.
+fn only_value(read: Content) -> Rooted
+    requires { (fs : List Field) × IsSpelling Amf3 free (content_of read) fs }
+    ensures { read ≡ kept.Value result }
+{
+    match read {
+        Content::Value(graph) => graph,
+        Content::Packet(_) => unreachable!(),
     }
 }
 

@@ -1,22 +1,20 @@
-ghost use Rattle.std.specs.Prelude.{◌≡◌, ◌+◌, ◌≤◌, length};
-ghost use Rattle.amf3_read.specs.Pairs.{Pair};
+ghost use Rattle.std.specs.Prelude.{◌≡◌, ◌+◌, ◌≤◌, length, true};
 ghost use Rattle.amf_cli.specs.declared.command.Command.TheVariants.{Canon};
-ghost use Rattle.amf_cli.specs.declared.format.Format.TheVariants.{Amf3};
-ghost use Rattle.amf_cli.specs.Formats.{IsValue};
-ghost use Rattle.amf_cli.specs.Run.{most, TakesInput, Accepts, Makes, IsConverted, IsUnconverted, IsChecked, IsShown, IsCompared, ReadsInput, NeverLacks, OutputEnds, CountsReads, IsReadEnd, IsOutputEnd};
-ghost use Rattle.amf_cli.specs.Sized.{IsSized};
+ghost use Rattle.amf_cli.specs.Commands.{goes_to};
+ghost use Rattle.amf_cli.specs.Input.{most, one, two};
+ghost use Rattle.amf_cli.specs.Run.{TakesInput, Makes, IsConverted, IsUnconverted, IsChecked, IsShown, IsCompared, ReadsInput, NeverLacks, OutputEnds, CountsReads, IsReadEnd, IsOutputEnd};
+ghost use Rattle.amf_cli.specs.Askable.{IsAskable};
 
 use crate::command::Command;
+use crate::content::{listing, node_count};
 use crate::format::Format;
 use crate::lines::count_line;
 use crate::making::measurement;
-use crate::reading::{read_graph, read_graphs};
+use crate::reading::{read_content, read_graphs};
 use crate::run_end::RunEnd;
-use crate::spelling::spell;
-use amf_graph::WriteEnd;
+use crate::spelling::{SpellEnd, spell};
 use amf_io::Source;
-use amf_iso::{Numbering, isomorphic};
-use amf_show::show;
+use amf_iso::isomorphic;
 use std::alloc::Global;
 use std::hash::RandomState;
 
@@ -27,7 +25,7 @@ pub fn output_of<I: Source>(
     command: Command,
     input: &mut I,
 ) -> Result<Vec<u8>, RunEnd>
-    requires { IsSized command }
+    requires { IsAskable command }
     ensures reads { I.tells input.old → OutputEnds command (λ bytes. Makes command (I.left input.old) bytes.items) (I.left input.old) (I.left input.new) result }
     ensures taken { I.tells input.old → length (I.left input.old) ≤ length (I.left input.new) + (most + 1) }
     ensures counts { CountsReads (I.faults input.old) (I.faults input.new) result }
@@ -43,7 +41,7 @@ pub fn output_of<I: Source>(
     }
 }
 
-/// The canonical spelling, in one format, of the one value that the input is in another.
+/// The canonical spelling, in one format, of what the input is in another.
 fn converted<I: Source>(
     alloc: Global,
     keys: Option<RandomState>,
@@ -51,25 +49,26 @@ fn converted<I: Source>(
     to: Format,
     input: &mut I,
 ) -> Result<Vec<u8>, RunEnd>
-    ensures reads { I.tells input.old → ReadsInput (IsValue from) (IsUnconverted from to (I.left input.old)) (λ bytes. IsConverted from to (I.left input.old) bytes.items) (I.left input.old) (I.left input.new) result }
+    requires { goes_to from to ≡ true }
+    ensures reads { I.tells input.old → ReadsInput (one from) (IsUnconverted from to (I.left input.old)) (λ bytes. IsConverted from to (I.left input.old) bytes.items) (I.left input.old) (I.left input.new) result }
     ensures taken { I.tells input.old → length (I.left input.old) ≤ length (I.left input.new) + (most + 1) }
     ensures counts { CountsReads (I.faults input.old) (I.faults input.new) result }
     ensures ends { IsOutputEnd (Canon from to) result }
 {
-    let graph = match read_graph(alloc, from, input) {
-        Ok(graph) => graph,
+    let content = match read_content(alloc, from, input) {
+        Ok(content) => content,
         Err(end) => return Err(end),
     };
-    match spell(alloc, keys, to, &graph) {
+    match spell(alloc, keys, to, &content) {
         Ok(bytes) => Ok(bytes),
-        Err(WriteEnd::NoSpelling(lack)) => Err(RunEnd::NoForm(lack)),
-        Err(WriteEnd::Memory) => Err(RunEnd::NoMemory),
+        Err(SpellEnd::NoForm { value, lack }) => Err(RunEnd::NoForm { value, lack }),
+        Err(SpellEnd::Memory) => Err(RunEnd::NoMemory),
     }
 }
 
 /// The line that says whether the two values that the input is are the same graph.
 fn comparison<I: Source>(alloc: Global, input: &mut I) -> Result<Vec<u8>, RunEnd>
-    ensures reads { I.tells input.old → ReadsInput (Pair (IsValue Amf3)) NeverLacks (λ line. IsCompared (I.left input.old) line.items) (I.left input.old) (I.left input.new) result }
+    ensures reads { I.tells input.old → ReadsInput two NeverLacks (λ line. IsCompared (I.left input.old) line.items) (I.left input.old) (I.left input.new) result }
     ensures taken { I.tells input.old → length (I.left input.old) ≤ length (I.left input.new) + (most + 1) }
     ensures counts { CountsReads (I.faults input.old) (I.faults input.new) result }
     ensures ends { IsReadEnd result }
@@ -83,27 +82,25 @@ fn comparison<I: Source>(alloc: Global, input: &mut I) -> Result<Vec<u8>, RunEnd
     Ok(line.to_vec(alloc)?)
 }
 
-/// The line that says how many nodes the graph of the one value has to which its root leads.
+/// The line that says how many nodes the input has.
 fn checked<I: Source>(alloc: Global, from: Format, input: &mut I) -> Result<Vec<u8>, RunEnd>
-    ensures reads { I.tells input.old → ReadsInput (IsValue from) NeverLacks (λ line. IsChecked from (I.left input.old) line.items) (I.left input.old) (I.left input.new) result }
+    ensures reads { I.tells input.old → ReadsInput (one from) NeverLacks (λ line. IsChecked from (I.left input.old) line.items) (I.left input.old) (I.left input.new) result }
     ensures taken { I.tells input.old → length (I.left input.old) ≤ length (I.left input.new) + (most + 1) }
     ensures counts { CountsReads (I.faults input.old) (I.faults input.new) result }
     ensures ends { IsReadEnd result }
 {
-    let graph = read_graph(alloc, from, input)?;
-    let numbering = Numbering::of(alloc, &graph)?;
-    Ok(count_line(alloc, numbering.count())?)
+    let content = read_content(alloc, from, input)?;
+    let nodes = node_count(alloc, &content)?;
+    Ok(count_line(alloc, nodes)?)
 }
 
-/// The listing of the graph of the one value.
+/// The listing of what the input is.
 fn shown<I: Source>(alloc: Global, from: Format, input: &mut I) -> Result<Vec<u8>, RunEnd>
-    ensures reads { I.tells input.old → ReadsInput (IsValue from) NeverLacks (λ bytes. IsShown from (I.left input.old) bytes.items) (I.left input.old) (I.left input.new) result }
+    ensures reads { I.tells input.old → ReadsInput (one from) NeverLacks (λ bytes. IsShown from (I.left input.old) bytes.items) (I.left input.old) (I.left input.new) result }
     ensures taken { I.tells input.old → length (I.left input.old) ≤ length (I.left input.new) + (most + 1) }
     ensures counts { CountsReads (I.faults input.old) (I.faults input.new) result }
     ensures ends { IsReadEnd result }
 {
-    let graph = read_graph(alloc, from, input)?;
-    let mut listing = Vec::new(alloc);
-    show(alloc, &graph, &mut listing)?;
-    Ok(listing)
+    let content = read_content(alloc, from, input)?;
+    Ok(listing(alloc, &content)?)
 }

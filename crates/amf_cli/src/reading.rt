@@ -6,27 +6,35 @@ ghost use Rattle.amf_io.specs.Field.{Field};
 ghost use Rattle.amf_wire.specs.Style.{free};
 ghost use Rattle.amf_graph.specs.Arena.{Names};
 ghost use Rattle.amf_graph.specs.Rooted.{content};
-ghost use Rattle.amf3_read.specs.Pairs.{Pair};
-ghost use Rattle.amf_cli.specs.declared.format.Format.TheVariants.{Amf3, Amf0};
-ghost use Rattle.amf_cli.specs.Formats.{IsSpelling, IsValue};
-ghost use Rattle.amf_cli.specs.Reading.{AnswersOne, AnswersEnd};
-ghost use Rattle.amf_cli.specs.Run.{most, IsInputOf, ArePairIn, CountsReads, IsReadEnd, ReadsInput, NeverLacks};
+ghost use Rattle.amf_cli.specs.declared.content.Content.TheVariants as kept;
+ghost use Rattle.amf_cli.specs.declared.format.Format.TheVariants as form;
+ghost use Rattle.amf_cli.specs.Content.{content_of, value as of_graph};
+ghost use Rattle.amf_cli.specs.Formats.{IsSpelling};
+ghost use Rattle.amf_cli.specs.Input.{most, one, two};
+ghost use Rattle.amf_cli.specs.Reading.{AnswersOne, AnswersEnd, mapped};
+ghost use Rattle.amf_cli.specs.Run.{IsInputOf, ArePairIn, CountsReads, IsReadEnd, ReadsInput, NeverLacks};
 
+use crate::content::Content;
 use crate::format::Format;
 use crate::run::LIMIT;
 use crate::run_end::RunEnd;
 use amf_graph::{Builder, Rooted, Value};
 use amf_io::{Cursor, ReadEnd, Reason, Refusal, Source, Window};
+use amf_packet::{Packet, read_packet};
 use amf_tables::Tables3;
 use amf0_read::read0;
 use amf0_tables::Tables0;
 use amf3_read::read3;
 use std::alloc::Global;
 
-/// The graph that the input spells in a format.
-pub fn read_graph<I: Source>(alloc: Global, from: Format, input: &mut I) -> Result<Rooted, RunEnd>
-    ensures reads { I.tells input.old → ReadsInput (IsValue from) NeverLacks (λ g. IsInputOf from (content g) (I.left input.old)) (I.left input.old) (I.left input.new) result }
-    ensures spelled { IfOk result (λ g. (fs : List Field) × IsSpelling from free (content g) fs) }
+/// The value or the packet that the input spells in a format.
+pub fn read_content<I: Source>(
+    alloc: Global,
+    from: Format,
+    input: &mut I,
+) -> Result<Content, RunEnd>
+    ensures reads { I.tells input.old → ReadsInput (one from) NeverLacks (λ c. IsInputOf from (content_of c) (I.left input.old)) (I.left input.old) (I.left input.new) result }
+    ensures spelled { IfOk result (λ c. (fs : List Field) × IsSpelling from free (content_of c) fs) }
     ensures taken { I.tells input.old → length (I.left input.old) ≤ length (I.left input.new) + (most + 1) }
     ensures counts { CountsReads (I.faults input.old) (I.faults input.new) result }
     ensures ends { IsReadEnd result }
@@ -38,7 +46,7 @@ pub fn read_graph<I: Source>(alloc: Global, from: Format, input: &mut I) -> Resu
 
 /// The two graphs that the input spells, one after the other.
 pub fn read_graphs<I: Source>(alloc: Global, input: &mut I) -> Result<(Rooted, Rooted), RunEnd>
-    ensures reads { I.tells input.old → ReadsInput (Pair (IsValue Amf3)) NeverLacks (λ p. ArePairIn (content p.0) (content p.1) (I.left input.old)) (I.left input.old) (I.left input.new) result }
+    ensures reads { I.tells input.old → ReadsInput two NeverLacks (λ p. ArePairIn (content p.0) (content p.1) (I.left input.old)) (I.left input.old) (I.left input.new) result }
     ensures taken { I.tells input.old → length (I.left input.old) ≤ length (I.left input.new) + (most + 1) }
     ensures counts { CountsReads (I.faults input.old) (I.faults input.new) result }
     ensures ends { IsReadEnd result }
@@ -48,24 +56,24 @@ pub fn read_graphs<I: Source>(alloc: Global, input: &mut I) -> Result<(Rooted, R
     read_pair(alloc, &mut cursor)
 }
 
-/// The graph that all the bytes of a cursor spell in a format.
+/// The value or the packet that all the bytes of a cursor spell in a format.
 fn read_whole<S: Source>(
     alloc: Global,
     from: Format,
     cursor: &mut Cursor<'_, S>,
-) -> Result<Rooted, RunEnd>
+) -> Result<Content, RunEnd>
     requires at_start { place cursor.old ≡ 0 }
     requires limit { bound cursor.old ≡ most }
     ensures same_reference { (source_of cursor.new).ghost_name ≡ (source_of cursor.old).ghost_name }
-    ensures reads { S.tells (source_of cursor.old).now → ReadsInput (IsValue from) NeverLacks (λ g. IsInputOf from (content g) (unread S.left cursor.old)) (unread S.left cursor.old) (S.left (source_of cursor.new).now) result }
-    ensures spelled { IfOk result (λ g. (fs : List Field) × IsSpelling from free (content g) fs) }
+    ensures reads { S.tells (source_of cursor.old).now → ReadsInput (one from) NeverLacks (λ c. IsInputOf from (content_of c) (unread S.left cursor.old)) (unread S.left cursor.old) (S.left (source_of cursor.new).now) result }
+    ensures spelled { IfOk result (λ c. (fs : List Field) × IsSpelling from free (content_of c) fs) }
     ensures taken { S.tells (source_of cursor.old).now → length (unread S.left cursor.old) ≤ length (S.left (source_of cursor.new).now) + (most + 1) }
     ensures counts { CountsReads (S.faults (source_of cursor.old).now) (S.faults (source_of cursor.new).now) result }
     ensures ends { IsReadEnd result }
 {
-    let graph = read_one(alloc, from, cursor)?;
+    let content = read_one(alloc, from, cursor)?;
     expect_end(cursor)?;
-    Ok(graph)
+    Ok(content)
 }
 
 /// The two graphs that all the bytes of a cursor spell.
@@ -76,7 +84,7 @@ fn read_pair<S: Source>(
     requires at_start { place cursor.old ≡ 0 }
     requires limit { bound cursor.old ≡ most }
     ensures same_reference { (source_of cursor.new).ghost_name ≡ (source_of cursor.old).ghost_name }
-    ensures reads { S.tells (source_of cursor.old).now → ReadsInput (Pair (IsValue Amf3)) NeverLacks (λ p. ArePairIn (content p.0) (content p.1) (unread S.left cursor.old)) (unread S.left cursor.old) (S.left (source_of cursor.new).now) result }
+    ensures reads { S.tells (source_of cursor.old).now → ReadsInput two NeverLacks (λ p. ArePairIn (content p.0) (content p.1) (unread S.left cursor.old)) (unread S.left cursor.old) (S.left (source_of cursor.new).now) result }
     ensures taken { S.tells (source_of cursor.old).now → length (unread S.left cursor.old) ≤ length (S.left (source_of cursor.new).now) + (most + 1) }
     ensures counts { CountsReads (S.faults (source_of cursor.old).now) (S.faults (source_of cursor.new).now) result }
     ensures ends { IsReadEnd result }
@@ -87,19 +95,40 @@ fn read_pair<S: Source>(
     Ok((left, right))
 }
 
-/// The graph that the next bytes of a cursor spell in a format, from empty tables.
+/// The value or the packet that the next bytes of a cursor spell in a format, from empty tables.
 fn read_one<S: Source>(
     alloc: Global,
     from: Format,
     cursor: &mut Cursor<'_, S>,
-) -> Result<Rooted, ReadEnd>
+) -> Result<Content, ReadEnd>
     requires limit { bound cursor.old ≡ most }
     ensures goes { Goes S.tells S.left S.faults cursor.old cursor.new result }
-    ensures answers { AnswersOne from (S.tells (source_of cursor.old).now) (unread S.left cursor.old) (unread S.left cursor.new) (place cursor.old) (place cursor.new) result }
+    ensures answers { AnswersOne content_of from (S.tells (source_of cursor.old).now) (unread S.left cursor.old) (unread S.left cursor.new) (place cursor.old) (place cursor.new) result }
 {
     match from {
-        Format::Amf3 => read_one3(alloc, cursor),
-        Format::Amf0 => read_one0(alloc, cursor),
+        Format::Amf3 => valued(read_one3(alloc, cursor)),
+        Format::Amf0 => valued(read_one0(alloc, cursor)),
+        Format::Packet => packeted(read_packet(alloc, cursor)),
+    }
+}
+
+/// The value that was read.
+fn valued(read: Result<Rooted, ReadEnd>) -> Result<Content, ReadEnd>
+    ensures { result ≡ mapped (λ g. kept.Value g) read }
+{
+    match read {
+        Ok(graph) => Ok(Content::Value(graph)),
+        Err(end) => Err(end),
+    }
+}
+
+/// The packet that was read.
+fn packeted(read: Result<Packet, ReadEnd>) -> Result<Content, ReadEnd>
+    ensures { result ≡ mapped (λ p. kept.Packet p) read }
+{
+    match read {
+        Ok(packet) => Ok(Content::Packet(packet)),
+        Err(end) => Err(end),
     }
 }
 
@@ -107,7 +136,7 @@ fn read_one<S: Source>(
 fn read_one0<S: Source>(alloc: Global, cursor: &mut Cursor<'_, S>) -> Result<Rooted, ReadEnd>
     requires limit { bound cursor.old ≡ most }
     ensures goes { Goes S.tells S.left S.faults cursor.old cursor.new result }
-    ensures answers { AnswersOne Amf0 (S.tells (source_of cursor.old).now) (unread S.left cursor.old) (unread S.left cursor.new) (place cursor.old) (place cursor.new) result }
+    ensures answers { AnswersOne (λ g. of_graph (content g)) form.Amf0 (S.tells (source_of cursor.old).now) (unread S.left cursor.old) (unread S.left cursor.new) (place cursor.old) (place cursor.new) result }
 {
     let mut builder = Builder::new(alloc)?;
     let mut tables = Tables0::new(alloc)?;
@@ -119,7 +148,7 @@ fn read_one0<S: Source>(alloc: Global, cursor: &mut Cursor<'_, S>) -> Result<Roo
 fn read_one3<S: Source>(alloc: Global, cursor: &mut Cursor<'_, S>) -> Result<Rooted, ReadEnd>
     requires limit { bound cursor.old ≡ most }
     ensures goes { Goes S.tells S.left S.faults cursor.old cursor.new result }
-    ensures answers { AnswersOne Amf3 (S.tells (source_of cursor.old).now) (unread S.left cursor.old) (unread S.left cursor.new) (place cursor.old) (place cursor.new) result }
+    ensures answers { AnswersOne (λ g. of_graph (content g)) form.Amf3 (S.tells (source_of cursor.old).now) (unread S.left cursor.old) (unread S.left cursor.new) (place cursor.old) (place cursor.new) result }
 {
     let mut builder = Builder::new(alloc)?;
     let mut tables = Tables3::new(alloc)?;

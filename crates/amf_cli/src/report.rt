@@ -31,7 +31,7 @@ fn report<E: Sink>(end: RunEnd, err: &mut E) -> Result<(), Failed>
         RunEnd::ReadFault => write_all(err, b"amf: read fault\n"),
         RunEnd::WriteFault => write_all(err, b"amf: write fault\n"),
         RunEnd::NoMemory => write_all(err, b"amf: no memory\n"),
-        RunEnd::NoForm(lack) => report_lack(lack, err),
+        RunEnd::NoForm { value, lack } => report_lack(value, lack, err),
     }
 }
 
@@ -49,10 +49,10 @@ fn report_refusal<E: Sink>(refusal: Refusal, err: &mut E) -> Result<(), Failed>
     write_all(err, b"\n")
 }
 
-/// Writes the error line of a graph that has no canonical spelling. The one value of an input has the number 0.
-fn report_lack<E: Sink>(lack: Lack, err: &mut E) -> Result<(), Failed>
+/// Writes the error line of a value that has no canonical spelling, with its number.
+fn report_lack<E: Sink>(value: u32, lack: Lack, err: &mut E) -> Result<(), Failed>
     ensures tells { E.tells err.new → E.tells err.old }
-    ensures line { E.tells err.new → OnOk result (E.held err.new ≡ E.held err.old ++ no_form_line lack) }
+    ensures line { E.tells err.new → OnOk result (E.held err.new ≡ E.held err.old ++ no_form_line value lack) }
     ensures cause { HasCause (E.faults err.old) (E.faults err.new) result }
 {
     let mut digits = Buffer::new();
@@ -60,7 +60,9 @@ fn report_lack<E: Sink>(lack: Lack, err: &mut E) -> Result<(), Failed>
     write_all(err, kind_of(lack.kind))?;
     write_all(err, b" node ")?;
     write_all(err, digits.format(lack.node).as_bytes())?;
-    write_all(err, b" value 0\n")
+    write_all(err, b" value ")?;
+    write_all(err, digits.format(value).as_bytes())?;
+    write_all(err, b"\n")
 }
 
 /// The name of a kind of lack, as the error line has it.

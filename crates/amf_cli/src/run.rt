@@ -1,12 +1,12 @@
 ghost use Rattle.std.specs.Prelude.{◌≡◌, ℕ, ◌≢◌, ◌+◌, ◌≤◌, ◌⊎◌, ◌++◌, List, length};
 ghost use Rattle.amf_io.specs.Outside.{Rose, Steady};
 ghost use Rattle.amf_io.specs.declared.reason.Reason.{Reason};
-ghost use Rattle.amf_io.specs.Verdict.{IsInputAccepted, IsInputRefused};
+ghost use Rattle.amf_cli.specs.Input.{most, input_of, IsAcceptedAs, IsRefusedAs};
 ghost use Rattle.amf_graph.specs.declared.lack.Lack.{Lack};
 ghost use Rattle.amf_cli.specs.declared.command.Command.{Command};
 ghost use Rattle.amf_cli.specs.Commands.{Reads, HasReading};
-ghost use Rattle.amf_cli.specs.Run.{most, TakesInput, Accepts, Makes, Lacks, MayLack, IsOutputOf, CountsReads, CountsWrites, IsReading, IsUntouched, RunsTo, WritesAll, WritesSome, IsRefusedWith, IsHidden, HasNoForm, Reports};
-ghost use Rattle.amf_cli.specs.Sized.{IsSized};
+ghost use Rattle.amf_cli.specs.Run.{TakesInput, Makes, Lacks, MayLack, IsOutputOf, CountsReads, CountsWrites, IsReading, IsUntouched, RunsTo, WritesAll, WritesSome, IsRefusedWith, IsHidden, HasNoForm, Reports};
+ghost use Rattle.amf_cli.specs.Askable.{IsAskable};
 
 use crate::command::Command;
 use crate::output::output_of;
@@ -25,12 +25,12 @@ pub const LIMIT: u32 = 67_108_864;
 /// Does what the words say, and gives the status of the program.
 ///
 /// `words` are those after the program's name. The first is the command, and the others are its options, each at most once, in
-/// any order, as `--x v` or `--x=v`. The formats are `amf3` and `amf0`; without `--from` it is `amf3`, and without `--to` the one of
-/// the input.
+/// any order, as `--x v` or `--x=v`. The formats are `amf3`, `amf0` and `packet`; without `--from` it is `amf3`, and without `--to`
+/// the one of the input. A value goes to `amf3` and `amf0`, and a packet to `packet` alone.
 ///
-/// With `canon` the input is one value in the format that `--from` names, and the output is its canonical spelling in the format
-/// that `--to` names. With `check` and `show` the input is so too; the output is the line `ok nodes N`, where N is how many nodes
-/// the root of the value leads to, and its listing. With `same`, which has no options, the input is two AMF 3 values, one after the
+/// With `canon` the input is one value or packet in the format that `--from` names, and the output is its canonical spelling in the
+/// format that `--to` names. With `check` and `show` the input is so too; the output is the line `ok nodes N`, where N is how many
+/// nodes the root of the value leads to, added over the values of a packet, and its listing. With `same`, which has no options, the input is two AMF 3 values, one after the
 /// other, and the output is the line `same` or `different`. With `gen` nothing is read: the output is the line `nodes N bytes B sum S`
 /// for the graph that is made of the numbers of `--seed`, 0 to 4,294,967,295, and `--size`, 1 to 1,000,000, and its canonical spelling
 /// in AMF 3. A number is 1 to 10 decimal digits.
@@ -72,26 +72,26 @@ pub fn run<R: RandomSource, I: Source, O: Sink, E: Sink>(
 
     // 3 and 4 come only where a count rose, and 3 only where what came before fixes no verdict.
     ensures read_fault { result ≡ 3 → Rose (I.faults input.old) (I.faults input.new) }
-    ensures hidden { (c : Command) → Reads words.now c → result ≡ 3 → I.tells input.old → IsHidden (Accepts c) (I.left input.old) (I.left input.new) }
+    ensures hidden { (c : Command) → Reads words.now c → result ≡ 3 → I.tells input.old → IsHidden (input_of c) (I.left input.old) (I.left input.new) }
     ensures write_fault { result ≡ 4 → Rose (O.faults out.old) (O.faults out.new) }
     ensures front { (c : Command) → Reads words.now c → result ≡ 4 → I.tells input.old → WritesSome c (I.left input.old) (I.left input.new)
         (O.tells out.new) (O.held out.old) (O.held out.new) }
 
     // What is accepted is not refused, and what is refused is not accepted.
-    ensures accepted { (c : Command) → Reads words.now c → I.tells input.old → IsInputAccepted (Accepts c) most (I.left input.old)
+    ensures accepted { (c : Command) → Reads words.now c → I.tells input.old → IsAcceptedAs (input_of c) (I.left input.old)
         → (result ≡ 0) ⊎ (result ≡ 3) ⊎ (result ≡ 4) ⊎ (result ≡ 5) ⊎ (result ≡ 7) }
     ensures not_accepted { (c : Command) → Reads words.now c → I.tells input.old → (reason : Reason) (at : ℕ)
-        → IsInputRefused (Accepts c) most (I.left input.old) reason at
+        → IsRefusedAs (input_of c) (I.left input.old) reason at
         → (result ≡ 1) ⊎ (result ≡ 3) ⊎ (result ≡ 5) }
 
-    // 7: the input is accepted, and whatever it spells has this first lack. It comes only of commands that may lack an output,
+    // 7: the input is accepted, and whatever it spells has this first value without a spelling, with this first lack. It comes only of commands that may lack an output,
     // and where the input has one, or a lack, the status is that of this.
     ensures no_form { (c : Command) → Reads words.now c → result ≡ 7 → I.tells input.old → HasNoForm c (I.left input.old) (I.left input.new)
         (E.tells err.new × Steady (E.faults err.old) (E.faults err.new)) (E.held err.old) (E.held err.new) }
     ensures alone { (c : Command) → Reads words.now c → result ≡ 7 → MayLack c }
     ensures formed { (c : Command) → Reads words.now c → I.tells input.old → (bytes : List ℕ) → Makes c (I.left input.old) bytes
         → (result ≡ 0) ⊎ (result ≡ 3) ⊎ (result ≡ 4) ⊎ (result ≡ 5) }
-    ensures lacking { (c : Command) → Reads words.now c → I.tells input.old → (l : Lack) → Lacks c (I.left input.old) l
+    ensures lacking { (c : Command) → Reads words.now c → I.tells input.old → (number : ℕ) (l : Lack) → Lacks c (I.left input.old) number l
         → (result ≡ 3) ⊎ (result ≡ 5) ⊎ (result ≡ 7) }
 
     // A command without an input leaves it as it is, and has no status that comes of one.
@@ -128,7 +128,7 @@ fn execute<I: Source, O: Sink>(
     ensures no_reading { (HasReading words.now → ⊥) → (result ≡ Err RunEnd.Usage) ⊎ (result ≡ Err RunEnd.NoMemory) }
     ensures read { result ≢ Err RunEnd.Usage → result ≢ Err RunEnd.NoMemory → HasReading words.now }
     ensures unread { (HasReading words.now → ⊥) → input.new ≡ input.old }
-    ensures alone { (c : Command) → Reads words.now c → (l : Lack) → result ≡ Err (RunEnd.NoForm l) → MayLack c }
+    ensures alone { (c : Command) → Reads words.now c → (number : ℕ) (l : Lack) → result ≡ Err (RunEnd.NoForm number l) → MayLack c }
     ensures reading { (c : Command) → Reads words.now c → IsReading c result }
     ensures untaken { (c : Command) → Reads words.now c → (TakesInput c → ⊥) → input.new ≡ input.old }
     ensures taken { I.tells input.old → length (I.left input.old) ≤ length (I.left input.new) + (most + 1) }
@@ -152,9 +152,9 @@ fn perform<I: Source, O: Sink>(
     input: &mut I,
     out: &mut O,
 ) -> Result<(), RunEnd>
-    requires { IsSized command }
+    requires { IsAskable command }
     ensures no_usage { result ≢ Err RunEnd.Usage }
-    ensures alone { (l : Lack) → result ≡ Err (RunEnd.NoForm l) → MayLack command }
+    ensures alone { (number : ℕ) (l : Lack) → result ≡ Err (RunEnd.NoForm number l) → MayLack command }
     ensures reading { IsReading command result }
     ensures untaken { (TakesInput command → ⊥) → input.new ≡ input.old }
     ensures tells { O.tells out.new → O.tells out.old }

@@ -1,7 +1,7 @@
 ghost use Rattle.std.specs.Prelude.{◌≡◌};
 ghost use Rattle.amf_cli.specs.declared.run_end.RunEnd.TheVariants.{NoMemory};
 
-use amf_graph::{Lack, WriteEnd};
+use amf_graph::Lack;
 use amf_io::{ReadEnd, Refusal};
 use amf_wire::Memory;
 use std::alloc::{AllocError, AllocFailed};
@@ -19,8 +19,9 @@ pub enum RunEnd {
     WriteFault,
     /// There was no memory left: status 5.
     NoMemory,
-    /// The graph that the input spells has no canonical spelling: status 7.
-    NoForm(Lack),
+    /// The value of this number is the first that has no canonical spelling, and this is its first lack: status 7. The one
+    /// value of an input has the number 0; the values of a packet are counted from 0, those of the headers first.
+    NoForm { value: u32, lack: Lack },
 }
 
 impl RunEnd {
@@ -36,7 +37,7 @@ impl RunEnd {
             RunEnd::ReadFault => 3,
             RunEnd::WriteFault => 4,
             RunEnd::NoMemory => 5,
-            RunEnd::NoForm(_) => 7,
+            RunEnd::NoForm { .. } => 7,
         }
     }
 }
@@ -75,19 +76,6 @@ impl From<ReadEnd> for RunEnd {
             ReadEnd::Refused(refusal) => RunEnd::Refused(refusal),
             ReadEnd::ReadFault => RunEnd::ReadFault,
             ReadEnd::Memory => RunEnd::NoMemory,
-        }
-    }
-}
-
-impl From<WriteEnd> for RunEnd {
-    ghost use Rattle.amf_cli.specs.Lines.{end_of_writer};
-
-    ghost from_gives = { λ end e. e ≡ end_of_writer end };
-
-    fn from(end: WriteEnd) -> RunEnd {
-        match end {
-            WriteEnd::NoSpelling(lack) => RunEnd::NoForm(lack),
-            WriteEnd::Memory => RunEnd::NoMemory,
         }
     }
 }

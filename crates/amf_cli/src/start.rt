@@ -2,10 +2,10 @@ ghost use Rattle.std.specs.Prelude.{◌≡◌, ℕ, ◌⊎◌, List};
 ghost use Rattle.std.specs.Process.{exit_status};
 ghost use Rattle.amf_io.specs.Outside.{Steady};
 ghost use Rattle.amf_io.specs.declared.reason.Reason.{Reason};
-ghost use Rattle.amf_io.specs.Verdict.{IsInputAccepted, IsInputRefused};
+ghost use Rattle.amf_cli.specs.Input.{input_of, IsAcceptedAs, IsRefusedAs};
 ghost use Rattle.amf_cli.specs.declared.command.Command.{Command};
 ghost use Rattle.amf_cli.specs.Commands.{Reads, HasReading};
-ghost use Rattle.amf_cli.specs.Run.{most, Accepts, Makes, WritesAll, IsRefusedWith, HasNoForm, Reports};
+ghost use Rattle.amf_cli.specs.Run.{Makes, WritesAll, IsRefusedWith, HasNoForm, Reports};
 
 use crate::arguments::{Arguments, words_of};
 use crate::report::end_with;
@@ -31,10 +31,10 @@ pub fn start<R: RandomSource, A: Arguments, I: Source, O: Sink, E: Sink>(
         (O.tells out.new) (O.held out.old) (O.held out.new) }
     ensures refused { A.tells arguments.now → (c : Command) → Reads (A.words arguments.now) c → exit_status result ≡ 1 → I.tells input.old → IsRefusedWith c (I.left input.old)
         (E.tells err.new × Steady (E.faults err.old) (E.faults err.new)) (E.held err.old) (E.held err.new) }
-    ensures accepted { A.tells arguments.now → (c : Command) → Reads (A.words arguments.now) c → I.tells input.old → IsInputAccepted (Accepts c) most (I.left input.old)
+    ensures accepted { A.tells arguments.now → (c : Command) → Reads (A.words arguments.now) c → I.tells input.old → IsAcceptedAs (input_of c) (I.left input.old)
         → (exit_status result ≡ 0) ⊎ (exit_status result ≡ 3) ⊎ (exit_status result ≡ 4) ⊎ (exit_status result ≡ 5) ⊎ (exit_status result ≡ 7) }
     ensures not_accepted { A.tells arguments.now → (c : Command) → Reads (A.words arguments.now) c → I.tells input.old → (reason : Reason) (at : ℕ)
-        → IsInputRefused (Accepts c) most (I.left input.old) reason at
+        → IsRefusedAs (input_of c) (I.left input.old) reason at
         → (exit_status result ≡ 1) ⊎ (exit_status result ≡ 3) ⊎ (exit_status result ≡ 5) }
     ensures formed { A.tells arguments.now → (c : Command) → Reads (A.words arguments.now) c → I.tells input.old → (bytes : List ℕ) → Makes c (I.left input.old) bytes
         → (exit_status result ≡ 0) ⊎ (exit_status result ≡ 3) ⊎ (exit_status result ≡ 4) ⊎ (exit_status result ≡ 5) }

@@ -1,9 +1,12 @@
 use Rattle.std.proofs.Common.{◌≡◌, ◌≤◌, true, List, ℕ, length, drop, sym, subst}
 use Rattle.amf_wire.specs.Style.{canonical}
-use Rattle.amf_graph.specs.Rooted.{RootedArena, content}
+use Rattle.amf_graph.specs.Rooted.{content}
 use Rattle.amf3_spelling.specs.Spells3.{Spelled3}
 use Rattle.amf_cli.specs.declared.format.Format.TheVariants.{Amf3}
-use Rattle.amf_cli.specs.Run.{most, IsInputOf}
+use Rattle.amf_cli.specs.declared.content.Content.{Content as KeptContent}
+use Rattle.amf_cli.specs.Content.{content_of, value}
+use Rattle.amf_cli.specs.Input.{most}
+use Rattle.amf_cli.specs.Run.{IsInputOf}
 use Rattle.amf_cli.proofs.MadeAgain.{no_other_end, gives_back}
 use Rattle.amf_cli.proofs.making.read_back.Goals as goal
 
@@ -12,7 +15,7 @@ only_memory-requires c =
     let g = content c.args.graph.now in
     let left = c.in_ok-source.ensures.left in
     let input : List ℕ = drop c.in_ok-source.source.pieces.at c.in_ok-source.source.pieces.bytes.items in
-    no_other_end (λ (x : RootedArena). IsInputOf Amf3 (content x) input) g input _ c.in-Err.end
+    no_other_end (λ (x : KeptContent). IsInputOf Amf3 (content_of x) input) g input _ c.in-Err.end
     (subst (λ l. Spelled3 canonical g l) (sym left) c.requires.spelled)
     (subst (λ l. length l ≤ most) (sym left) c.requires.within)
     (c.in-Err.ensures.reads tt) c.in-Err.ensures.counts
@@ -22,7 +25,8 @@ unreachable-requires c =
     let g = content c.args.graph.now in
     let left = c.in_ok-source.ensures.left in
     let input : List ℕ = drop c.in_ok-source.source.pieces.at c.in_ok-source.source.pieces.bytes.items in
-    let same = gives_back g (content c.in-Ok.copy) input (subst (λ l. Spelled3 canonical g l) (sym left) c.requires.spelled) (subst (λ l. length l ≤ most) (sym left) c.requires.within) (c.in-Ok.ensures.reads tt).0 in
+    let is : IsInputOf Amf3 (value (content c.only_value-copy.result)) input = subst (λ (x : KeptContent). IsInputOf Amf3 (content_of x) input) c.only_value-copy.ensures (c.in-Ok.ensures.reads tt).0 in
+    let same = gives_back g (content c.only_value-copy.result) input (subst (λ l. Spelled3 canonical g l) (sym left) c.requires.spelled) (subst (λ l. length l ≤ most) (sym left) c.requires.within) is in
     let yes : c.in_ok-isomorphic.field-0 ≡ true = c.in_ok-isomorphic.ensures.1 same in
     let no = c.if-branch.false in
     cc

@@ -1,9 +1,13 @@
 use Rattle.std.proofs.Common.{ap, Err}
-use Rattle.amf_graph.specs.Rooted.{content}
+use Rattle.amf_cli.specs.Content.{content_of}
 use Rattle.amf_cli.proofs.Spelled.{may_lack}
 use Rattle.amf_cli.proofs.output.converted.Goals as goal
 
-pub returns-in-Err-NoSpelling-clause-ends : goal.returns-in-Err-NoSpelling-clause-ends
-returns-in-Err-NoSpelling-clause-ends g c =
+pub spell-requires : goal.spell-requires
+spell-requires g c = let s = c.in-Ok.ensures.spelled in (c.args.from, s.0, s.1, c.requires)
+
+pub returns-in-Err-NoForm-clause-ends : goal.returns-in-Err-NoForm-clause-ends
+returns-in-Err-NoForm-clause-ends g c =
     let s = c.in-Ok.ensures.spelled in
-    may_lack c.args.from c.args.to (content c.in-Ok.graph) s.0 c.in-Err-NoSpelling.lack s.1 (c.in-Err-NoSpelling.ensures.lack c.in-Err-NoSpelling.lack (ap Err c.in-Err-NoSpelling.field-0-is))
+    let e = c.in-Err-NoForm in
+    may_lack c.args.from c.args.to (content_of c.in-Ok.content) s.0 e.value e.lack s.1 (e.ensures.lack e.value e.lack (ap Err e.field-0-is))

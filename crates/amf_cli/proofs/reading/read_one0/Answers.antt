@@ -4,6 +4,7 @@ use Rattle.amf_io.specs.Cursor.{source_of, place, bound, unread}
 use Rattle.amf_graph.specs.Rooted.{RootedArena, content}
 use Rattle.amf0_tables.specs.TableParts0.{shown_tables}
 use Rattle.amf_cli.specs.declared.format.Format.TheVariants.{Amf0}
+use Rattle.amf_cli.specs.Content.{value}
 use Rattle.amf_cli.specs.Reading.{IsReadOne}
 use Rattle.amf_cli.proofs.Inputs.{from_nothing0, one_read0, one_ends0}
 use Rattle.amf_cli.proofs.reading.read_one0.Goals as goal
@@ -17,7 +18,7 @@ returns-clause-answers g c =
     let at = place c.args.cursor.now in
     let k = place c.read0.new.cursor in
     let r = from_nothing0 y c.in_ok-builder.builder c.read0.new.builder (shown_tables c.in_ok-tables.tables) (shown_tables c.read0.new.tables) input rest at k (bound c.args.cursor.now) (Ok c.in_ok-read.read) c.in_ok-builder.ensures c.in_ok-tables.ensures c.requires.limit c.in_ok-read.ensures.answers in
-    subst (λ (x : RootedArena). IsReadOne Amf0 y (content x) input rest at k) (sym c.whole.ensures) (one_read0 y c.read0.new.builder (shown_tables c.read0.new.tables) c.in_ok-read.read input rest at k r)
+    subst (λ (x : RootedArena). IsReadOne Amf0 y (value (content x)) input rest at k) (sym c.whole.ensures) (one_read0 y c.read0.new.builder (shown_tables c.read0.new.tables) c.in_ok-read.read input rest at k r)
 
 pub returns-in_err-read-clause-answers : goal.returns-in_err-read-clause-answers
 returns-in_err-read-clause-answers g c =

@@ -3,6 +3,7 @@ use Rattle.std.proofs.lemmas.Result.{err_from_is_err_and}
 use Rattle.amf_io.specs.Cursor.{source_of, place, bound, unread}
 use Rattle.amf_graph.specs.Rooted.{RootedArena, content}
 use Rattle.amf_cli.specs.declared.format.Format.TheVariants.{Amf3}
+use Rattle.amf_cli.specs.Content.{value}
 use Rattle.amf_cli.specs.Reading.{IsReadOne}
 use Rattle.amf_cli.proofs.Inputs.{from_nothing, one_read, one_ends}
 use Rattle.amf_cli.proofs.reading.read_one3.Goals as goal
@@ -16,7 +17,7 @@ returns-clause-answers g c =
     let at = place c.args.cursor.now in
     let k = place c.read3.new.cursor in
     let r = from_nothing y c.in_ok-builder.builder c.read3.new.builder c.in_ok-tables.tables c.read3.new.tables input rest at k (bound c.args.cursor.now) (Ok c.in_ok-root.root) c.in_ok-builder.ensures c.in_ok-tables.ensures c.requires.limit c.in_ok-root.ensures.answers in
-    subst (λ (x : RootedArena). IsReadOne Amf3 y (content x) input rest at k) (sym c.whole.ensures) (one_read y c.read3.new.builder c.read3.new.tables c.in_ok-root.root input rest at k r)
+    subst (λ (x : RootedArena). IsReadOne Amf3 y (value (content x)) input rest at k) (sym c.whole.ensures) (one_read y c.read3.new.builder c.read3.new.tables c.in_ok-root.root input rest at k r)
 
 pub returns-in_err-root-clause-answers : goal.returns-in_err-root-clause-answers
 returns-in_err-root-clause-answers g c =

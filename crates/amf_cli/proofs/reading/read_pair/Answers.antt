@@ -2,12 +2,12 @@ use Rattle.std.proofs.Common.{Err, subst}
 use Rattle.std.proofs.lemmas.Result.{err_from_is_err_and}
 use Rattle.amf_io.specs.Cursor.{source_of, place, unread}
 use Rattle.amf_graph.specs.Rooted.{RootedArena, content}
-use Rattle.amf3_read.specs.Pairs.{Pair}
-use Rattle.amf_cli.specs.Formats.{IsValue}
+use Rattle.amf_cli.specs.Content.{value}
+use Rattle.amf_cli.specs.Input.{two}
 use Rattle.amf_cli.specs.declared.format.Format.TheVariants.{Amf3}
 use Rattle.amf_cli.specs.Reading.{IsReadOne, AnswersOne}
 use Rattle.amf_cli.specs.Run.{ArePairIn}
-use Rattle.amf_cli.proofs.Inputs.{pair_first_ends, pair_second_ends, pair_read, pair_end_ends, end_of_input, left_behind, nothing_left, taken_by, taken_behind, taken_last, read_told, ends_told}
+use Rattle.amf_cli.proofs.Inputs.{of_value, pair_first_ends, pair_second_ends, pair_read, pair_end_ends, end_of_input, left_behind, nothing_left, taken_by, taken_behind, taken_last, read_told, ends_told}
 use Rattle.amf_cli.proofs.reading.read_pair.Goals as goal
 
 pub returns-in_err-left-clause-reads : goal.returns-in_err-left-clause-reads
@@ -19,8 +19,8 @@ returns-in_err-left-clause-reads g c = λ told.
     let e = c.in_err-left.field-0.0 in
     let Q = λ (x : RootedArena × RootedArena). ArePairIn (content x.0) (content x.1) (unread left old) in
     let p = err_from_is_err_and c.from_residual.result c.from_residual.ensures.1 in
-    rw (p.1, p.2) (end_of_input (Pair (IsValue Amf3)) Q Q (unread left old) (unread left new) (left (source_of new).now) e
-    (pair_first_ends Q y (unread left old) (unread left new) (place new) e told (subst (λ n. AnswersOne Amf3 y (unread left old) (unread left new) n (place new) (Err e)) c.requires.at_start c.in_err-left.ensures.answers))
+    rw (p.1, p.2) (end_of_input two Q Q (unread left old) (unread left new) (left (source_of new).now) e
+    (pair_first_ends Q y (unread left old) (unread left new) (place new) e told (subst (λ n. AnswersOne of_value Amf3 y (unread left old) (unread left new) n (place new) (Err e)) c.requires.at_start c.in_err-left.ensures.answers))
     (left_behind g.S.Source.tells left g.S.Source.faults old new e c.in_err-left.ensures.goes))
 
 pub returns-in_err-left-clause-taken : goal.returns-in_err-left-clause-taken
@@ -36,11 +36,11 @@ returns-in_err-right-clause-reads g c = λ told.
     let h = content c.in_ok-left.left in
     let e = c.in_err-right.field-0.0 in
     let Q = λ (x : RootedArena × RootedArena). ArePairIn (content x.0) (content x.1) (unread left old) in
-    let one = subst (λ n. IsReadOne Amf3 y h (unread left old) (unread left mid) n (place mid)) c.requires.at_start c.in_ok-left.ensures.answers in
-    let two = ends_told Amf3 y (unread left mid) (unread left new) (place mid) (place new) e (λ t. c.in_ok-left.ensures.goes.told t) c.in_err-right.ensures.answers in
+    let first = subst (λ n. IsReadOne Amf3 y (value h) (unread left old) (unread left mid) n (place mid)) c.requires.at_start c.in_ok-left.ensures.answers in
+    let second = ends_told Amf3 y (unread left mid) (unread left new) (place mid) (place new) e (λ t. c.in_ok-left.ensures.goes.told t) c.in_err-right.ensures.answers in
     let p = err_from_is_err_and c.from_residual-in_err-right.result c.from_residual-in_err-right.ensures.1 in
-    rw (p.1, p.2) (end_of_input (Pair (IsValue Amf3)) Q Q (unread left old) (unread left new) (left (source_of new).now) e
-    (pair_second_ends Q y h (unread left old) (unread left mid) (unread left new) (place mid) (place new) e told one two)
+    rw (p.1, p.2) (end_of_input two Q Q (unread left old) (unread left new) (left (source_of new).now) e
+    (pair_second_ends Q y h (unread left old) (unread left mid) (unread left new) (place mid) (place new) e told first second)
     (left_behind g.S.Source.tells left g.S.Source.faults mid new e c.in_err-right.ensures.goes))
 
 pub returns-in_err-right-clause-taken : goal.returns-in_err-right-clause-taken
@@ -59,11 +59,11 @@ returns-in_err-expect_end-clause-reads g c = λ told.
     let e = c.in_err-expect_end.field-0.0 in
     let Q = λ (x : RootedArena × RootedArena). ArePairIn (content x.0) (content x.1) (unread left old) in
     let more = c.in_ok-left.ensures.goes.told told in
-    let one = subst (λ n. IsReadOne Amf3 y h (unread left old) (unread left mid) n (place mid)) c.requires.at_start c.in_ok-left.ensures.answers in
-    let two = read_told Amf3 y k (unread left mid) (unread left last) (place mid) (place last) (λ t. c.in_ok-left.ensures.goes.told t) c.in_ok-right.ensures.answers in
+    let first = subst (λ n. IsReadOne Amf3 y (value h) (unread left old) (unread left mid) n (place mid)) c.requires.at_start c.in_ok-left.ensures.answers in
+    let second = read_told Amf3 y (value k) (unread left mid) (unread left last) (place mid) (place last) (λ t. c.in_ok-left.ensures.goes.told t) c.in_ok-right.ensures.answers in
     let p = err_from_is_err_and c.from_residual-in_err-expect_end.result c.from_residual-in_err-expect_end.ensures.1 in
-    rw (p.1, p.2) (end_of_input (Pair (IsValue Amf3)) Q Q (unread left old) (unread left new) (left (source_of new).now) e
-    (pair_end_ends Q y h k (unread left old) (unread left mid) (unread left last) (unread left new) (place mid) (place last) e told one two (c.in_err-expect_end.ensures.answers (c.in_ok-right.ensures.goes.told more)))
+    rw (p.1, p.2) (end_of_input two Q Q (unread left old) (unread left new) (left (source_of new).now) e
+    (pair_end_ends Q y h k (unread left old) (unread left mid) (unread left last) (unread left new) (place mid) (place last) e told first second (c.in_err-expect_end.ensures.answers (c.in_ok-right.ensures.goes.told more)))
     (left_behind g.S.Source.tells left g.S.Source.faults last new e c.in_err-expect_end.ensures.goes))
 
 pub returns-in_err-expect_end-clause-taken : goal.returns-in_err-expect_end-clause-taken
@@ -79,10 +79,10 @@ returns-clause-reads g c = λ told.
     let h = content c.in_ok-left.left in
     let k = content c.in_ok-right.right in
     let more = c.in_ok-left.ensures.goes.told told in
-    let one = subst (λ n. IsReadOne Amf3 y h (unread left old) (unread left mid) n (place mid)) c.requires.at_start c.in_ok-left.ensures.answers in
-    let two = read_told Amf3 y k (unread left mid) (unread left last) (place mid) (place last) (λ t. c.in_ok-left.ensures.goes.told t) c.in_ok-right.ensures.answers in
+    let first = subst (λ n. IsReadOne Amf3 y (value h) (unread left old) (unread left mid) n (place mid)) c.requires.at_start c.in_ok-left.ensures.answers in
+    let second = read_told Amf3 y (value k) (unread left mid) (unread left last) (place mid) (place last) (λ t. c.in_ok-left.ensures.goes.told t) c.in_ok-right.ensures.answers in
     let end = c.in_ok-expect_end.ensures.answers (c.in_ok-right.ensures.goes.told more) in
-    (pair_read y h k (unread left old) (unread left mid) (unread left last) (place mid) (place last) told end.0 one two, nothing_left left c.expect_end.new.cursor end.1)
+    (pair_read y h k (unread left old) (unread left mid) (unread left last) (place mid) (place last) told end.0 first second, nothing_left left c.expect_end.new.cursor end.1)
 
 pub returns-clause-taken : goal.returns-clause-taken
 returns-clause-taken g c = λ told. taken_last g.S.Source.tells g.S.Source.left g.S.Source.faults c.args.cursor.now c.read_one3.new.cursor c.read_one3-2.new.cursor c.expect_end.new.cursor _ _ _ c.requires.at_start c.requires.limit c.in_ok-left.ensures.goes c.in_ok-right.ensures.goes c.in_ok-expect_end.ensures.goes told

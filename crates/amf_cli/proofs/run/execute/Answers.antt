@@ -13,9 +13,9 @@ returns-in-Some-clause-runs g c = λ d w told.
     (one_reading c.args.words.now c.in-Some.command d read w) (c.perform.ensures.runs told)
 
 pub returns-in-Some-clause-alone : goal.returns-in-Some-clause-alone
-returns-in-Some-clause-alone g c = λ d w l is.
+returns-in-Some-clause-alone g c = λ d w number l is.
     let read : Reads c.args.words.now c.in-Some.command = subst (λ (o : Option Command). IfSome o (Reads c.args.words.now)) c.in-Some.is c.in_ok-command.ensures.reads in
-    subst MayLack (one_reading c.args.words.now c.in-Some.command d read w) (c.perform.ensures.alone l is)
+    subst MayLack (one_reading c.args.words.now c.in-Some.command d read w) (c.perform.ensures.alone number l is)
 
 pub returns-in-Some-clause-reading : goal.returns-in-Some-clause-reading
 returns-in-Some-clause-reading g c = λ d w.

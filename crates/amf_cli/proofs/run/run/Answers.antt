@@ -9,7 +9,7 @@ pub returns-in-Ok-clause-not_accepted : goal.returns-in-Ok-clause-not_accepted
 returns-in-Ok-clause-not_accepted g c = λ d w told reason at q. absurd (done_not_refused d _ _ _ _ _ (c.in-Ok.ensures.runs d w told) reason at q)
 
 pub returns-in-Ok-clause-lacking : goal.returns-in-Ok-clause-lacking
-returns-in-Ok-clause-lacking g c = λ d w told l k. let r = c.in-Ok.ensures.runs d w told in absurd (made_not_lacking d _ r.bytes l r.made k)
+returns-in-Ok-clause-lacking g c = λ d w told number l k. let r = c.in-Ok.ensures.runs d w told in absurd (made_not_lacking d _ r.bytes number l r.made k)
 
 pub returns-in-Ok-clause-again : goal.returns-in-Ok-clause-again
 returns-in-Ok-clause-again g c = λ d w zero told out own.
@@ -59,7 +59,7 @@ returns-in-Err-clause-no_form g c = λ d w seven told.
     (λ s. c.end_with.ensures.line s.0 s.1)
 
 pub returns-in-Err-clause-alone : goal.returns-in-Err-clause-alone
-returns-in-Err-clause-alone g c = λ d w seven. let f = form_status c.in-Err.end (sym c.end_with.ensures.status ∙ seven) in c.in-Err.ensures.alone d w f.0 f.1
+returns-in-Err-clause-alone g c = λ d w seven. let f = form_status c.in-Err.end (sym c.end_with.ensures.status ∙ seven) in c.in-Err.ensures.alone d w f.0 f.1 f.2
 
 pub returns-in-Err-clause-formed : goal.returns-in-Err-clause-formed
 returns-in-Err-clause-formed g c = λ d w told bytes b.
@@ -67,9 +67,9 @@ returns-in-Err-clause-formed g c = λ d w told bytes b.
     (formed_says d c.in-Err.end _ _ _ _ _ bytes (λ h. c.in-Err.ensures.usage h (d, w)) (c.in-Err.ensures.runs d w told) b)
 
 pub returns-in-Err-clause-lacking : goal.returns-in-Err-clause-lacking
-returns-in-Err-clause-lacking g c = λ d w told l k.
+returns-in-Err-clause-lacking g c = λ d w told number l k.
     subst (λ n. (n ≡ 3) ⊎ (n ≡ 5) ⊎ (n ≡ 7)) (sym c.end_with.ensures.status)
-    (lacking_says d c.in-Err.end _ _ _ _ _ l (λ u. c.in-Err.ensures.usage u (d, w)) (c.in-Err.ensures.runs d w told) k)
+    (lacking_says d c.in-Err.end _ _ _ _ _ number l (λ u. c.in-Err.ensures.usage u (d, w)) (c.in-Err.ensures.runs d w told) k)
 
 pub returns-in-Err-clause-line : goal.returns-in-Err-clause-line
 returns-in-Err-clause-line g c = λ told s.

@@ -1,17 +1,36 @@
 use Rattle.std.proofs.Common.{IfOk, sym, subst}
 use Rattle.amf_graph.specs.Rooted.{content}
+use Rattle.amf_packet.specs.Content.{packet_of}
+use Rattle.amf_cli.specs.declared.content.Content.{Content as KeptContent}
+use Rattle.amf_cli.specs.declared.format.Format.{Format}
+use Rattle.amf_cli.specs.Content.{content_of, packet}
 use Rattle.amf_cli.specs.Formats.{IsWritten, IsUnwritten}
-use Rattle.amf_cli.proofs.Formats.{as_written, as_unwritten}
+use Rattle.amf_cli.specs.Reading.{GoesInto}
+use Rattle.amf_cli.proofs.Goes.{not_packet, is_packet, was_read}
 use Rattle.amf_cli.proofs.spelling.spell.Goals as goal
 
-pub returns-in-Amf3-clause-written : goal.returns-in-Amf3-clause-written
-returns-in-Amf3-clause-written c = as_written (λ v. v.items) c.args.to (content c.args.graph.now) c.spell3.result c.in-Amf3.is c.spell3.ensures.written
+pub spell_value-requires : goal.spell_value-requires
+spell_value-requires c = not_packet c.args.to (content c.in-Value.graph) (subst (λ (x : KeptContent). GoesInto c.args.to (content_of x)) c.in-Value.is c.requires)
 
-pub returns-in-Amf3-clause-lack : goal.returns-in-Amf3-clause-lack
-returns-in-Amf3-clause-lack c = λ l is. as_unwritten c.args.to (content c.args.graph.now) l c.in-Amf3.is (c.spell3.ensures.lack l is)
+pub spell_packet-requires : goal.spell_packet-requires
+spell_packet-requires c = was_read c.args.to (packet_of c.in-Packet.packet) (subst (λ (x : KeptContent). GoesInto c.args.to (content_of x)) c.in-Packet.is c.requires)
 
-pub returns-in-Amf0-clause-written : goal.returns-in-Amf0-clause-written
-returns-in-Amf0-clause-written c = subst (λ to. IfOk c.spell0.result (λ bytes. IsWritten to (content c.args.graph.now) bytes.items)) (sym c.in-Amf0.is) c.spell0.ensures.written
+pub returns-in-Value-clause-written : goal.returns-in-Value-clause-written
+returns-in-Value-clause-written c = subst (λ (x : KeptContent). IfOk c.spell_value.result (λ bytes. IsWritten c.args.to (content_of x) bytes.items)) (sym c.in-Value.is) c.spell_value.ensures.written
 
-pub returns-in-Amf0-clause-lack : goal.returns-in-Amf0-clause-lack
-returns-in-Amf0-clause-lack c = λ l is. subst (λ to. IsUnwritten to (content c.args.graph.now) l) (sym c.in-Amf0.is) (c.spell0.ensures.lack l is)
+pub returns-in-Value-clause-lack : goal.returns-in-Value-clause-lack
+returns-in-Value-clause-lack c = λ number l is. subst (λ (x : KeptContent). IsUnwritten c.args.to (content_of x) number l) (sym c.in-Value.is) (c.spell_value.ensures.lack number l is)
+
+pub returns-in-Packet-clause-written : goal.returns-in-Packet-clause-written
+returns-in-Packet-clause-written c =
+    let p = packet_of c.in-Packet.packet in
+    let to = is_packet c.args.to p (subst (λ (x : KeptContent). GoesInto c.args.to (content_of x)) c.in-Packet.is c.requires) in
+    subst (λ (x : KeptContent). IfOk c.spell_packet.result (λ bytes. IsWritten c.args.to (content_of x) bytes.items)) (sym c.in-Packet.is)
+    (subst (λ (f : Format). IfOk c.spell_packet.result (λ bytes. IsWritten f (packet p) bytes.items)) (sym to) c.spell_packet.ensures.written)
+
+pub returns-in-Packet-clause-lack : goal.returns-in-Packet-clause-lack
+returns-in-Packet-clause-lack c = λ number l is.
+    let p = packet_of c.in-Packet.packet in
+    let to = is_packet c.args.to p (subst (λ (x : KeptContent). GoesInto c.args.to (content_of x)) c.in-Packet.is c.requires) in
+    subst (λ (x : KeptContent). IsUnwritten c.args.to (content_of x) number l) (sym c.in-Packet.is)
+    (subst (λ (f : Format). IsUnwritten f (packet p) number l) (sym to) (c.spell_packet.ensures.lack number l is))
