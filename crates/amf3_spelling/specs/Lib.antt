@@ -2,6 +2,7 @@
 pub mod Tables
 pub mod KeptTables
 pub mod Then
+pub mod Markers3
 pub mod Refusals3
 pub mod Words3
 pub mod Parts3
