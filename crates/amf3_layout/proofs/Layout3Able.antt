@@ -13,9 +13,14 @@ use Rattle.amf_graph.specs.declared.value.Value.TheVariants.{Undefined, Null, Bo
 use Rattle.amf_graph.specs.Arena as arena
 use Rattle.amf_graph.specs.Building.{more_value, more_name, shut, more_entry}
 use Rattle.amf3_spelling.specs.Refusals3.{marker_refusal, header_refusal, text_header_refusal, class_header_refusal, indexed_class_refusal, is_served_length, text_header_kind, class_kind, marker_kind, header_kind}
+use Rattle.amf_graph.specs.declared.kind.NodeKind.{NodeKind}
+use Rattle.amf_graph.specs.declared.kind.NodeKind.TheVariants as kind
+use Rattle.amf3_spelling.specs.declared.marker.Marker.{Marker}
+use Rattle.amf3_spelling.specs.declared.marker.Marker.TheVariants as marker
+use Rattle.amf3_spelling.specs.Markers3.{node_marker, marker_byte, marker_at}
 use Rattle.amf3_layout.specs.Layout3State.{State3, with_text, with_contents, with_node, changed}
 use Rattle.amf3_layout.specs.Layout3Words.{chunk, TextRead, known_text, new_text, text_behind, text_layout, class_layout, more_text, texts_layout, Opening, known_traits, plain_traits, external_traits, inline_traits, external_layout, traits_layout}
-use Rattle.amf3_layout.specs.Layout3.{NodeForm, xml_document, date, array, object, xml, bytes, ints, uints, doubles, values, dictionary, Form, undefined, null, untrue, true_, integer, double, text, node, form_of, node_marker, flag_layout, four_layout, eight_layout, many, whole_node, opening, ValueRead, read, items, entries, items_of, is_empty, pairs, pairs_if, parts, inline_node, known_node, node_layout, behind_marker, value_layout}
+use Rattle.amf3_layout.specs.Layout3.{flag_layout, four_layout, eight_layout, many, whole_node, opening, ValueRead, read, items, entries, items_of, is_empty, pairs, pairs_if, parts, inline_node, known_node, node_layout, behind_marker, value_layout}
 use Rattle.amf3_layout.proofs.Layout3Fills.{Filled, text_filled, raw_filled, number_filled, class_filled, able_field, able_chunk}
 
 one_byte : (refusal : ℕ → Option Reason) (n : ℕ) → n < 128 → refusal n ≡ None → Filled (u29_kind refusal)
@@ -89,19 +94,20 @@ able_numbers N k s t head h =
 abbrev of_values : Bool → ℕ → TextRead → Opening
 of_values f h x = record { head = arena.values f x.id; count = h / 2; twins = false; first = false; last = false; state = x.state }
 
-able_opening : (N : ℕ) (f : NodeForm) (h : ℕ) (s : State3) → AbleWithin N (opening f h s)
-able_opening N xml_document h s = able_chunk N text_kind (h / 2) (λ x. whole_node (with_contents s x) (arena.xml_document (length s.arena.texts))) (λ j e. text_filled j)
-able_opening N date h s = able_bind N eight_layout (λ p. give (whole_node s (arena.date p))) (able_eight N) (λ p. able_give N (whole_node s (arena.date p)))
-able_opening N array h s = able_give N (record { head = arena.array; count = h / 2; twins = false; first = true; last = false; state = s })
-able_opening N object h s = able_traits N h s
-able_opening N xml h s = able_chunk N text_kind (h / 2) (λ x. whole_node (with_contents s x) (arena.xml (length s.arena.texts))) (λ j e. text_filled j)
-able_opening N bytes h s = able_chunk N raw_kind (h / 2) (λ x. whole_node s (arena.bytes x)) (λ j e. raw_filled j)
-able_opening N ints h s = able_numbers N (h / 2) s four_layout (λ f ns. arena.ints f (map (cast_signed w32) ns)) (able_four N)
-able_opening N uints h s = able_numbers N (h / 2) s four_layout arena.uints (able_four N)
-able_opening N doubles h s = able_numbers N (h / 2) s eight_layout arena.doubles (able_eight N)
-able_opening N values h s =
+able_opening : (N : ℕ) (f : NodeKind) (h : ℕ) (s : State3) → AbleWithin N (opening f h s)
+able_opening N kind.XmlDocument h s = able_chunk N text_kind (h / 2) (λ x. whole_node (with_contents s x) (arena.xml_document (length s.arena.texts))) (λ j e. text_filled j)
+able_opening N kind.Date h s = able_bind N eight_layout (λ p. give (whole_node s (arena.date p))) (able_eight N) (λ p. able_give N (whole_node s (arena.date p)))
+able_opening N kind.Array h s = able_give N (record { head = arena.array; count = h / 2; twins = false; first = true; last = false; state = s })
+able_opening N kind.Object h s = able_traits N h s
+able_opening N kind.Wrapper h s = able_traits N h s
+able_opening N kind.Xml h s = able_chunk N text_kind (h / 2) (λ x. whole_node (with_contents s x) (arena.xml (length s.arena.texts))) (λ j e. text_filled j)
+able_opening N kind.Bytes h s = able_chunk N raw_kind (h / 2) (λ x. whole_node s (arena.bytes x)) (λ j e. raw_filled j)
+able_opening N kind.Ints h s = able_numbers N (h / 2) s four_layout (λ f ns. arena.ints f (map (cast_signed w32) ns)) (able_four N)
+able_opening N kind.Uints h s = able_numbers N (h / 2) s four_layout arena.uints (able_four N)
+able_opening N kind.Doubles h s = able_numbers N (h / 2) s eight_layout arena.doubles (able_eight N)
+able_opening N kind.Values h s =
     able_bind N flag_layout (λ f. bind (text_layout s) (λ x. give (of_values f h x))) (able_flag N) (λ f. able_bind N (text_layout s) (λ x. give (of_values f h x)) (able_text N s) (λ x. able_give N (of_values f h x)))
-able_opening N dictionary h s =
+able_opening N kind.Dictionary h s =
     able_bind N flag_layout (λ f. give (record { head = arena.dictionary f; count = h / 2; twins = true; first = false; last = false; state = s })) (able_flag N)
     (λ f. able_give N (record { head = arena.dictionary f; count = h / 2; twins = true; first = false; last = false; state = s }))
 
@@ -170,45 +176,35 @@ three_clean marks traits m = ap (λ t. cond (t && leb traits 0) (Some BadTraits)
     and_false true = refl
     and_false false = refl
 
-able_node : (v : Reader) (N : ℕ) → Inner v N → (f : NodeForm) (s : State3) → AbleWithin N (node_layout v N f s)
+able_node : (v : Reader) (N : ℕ) → Inner v N → (f : NodeKind) (s : State3) → AbleWithin N (node_layout v N f s)
 able_node v N i f s =
     able_field N (header_kind s.marks (length s.words.traits) (node_marker f)) (λ b. cond (eqb (u29_value b % 2) 0) (give (known_node s (u29_value b / 2))) (inline_node v N f (u29_value b) s))
     (one_byte (header_refusal s.marks (length s.words.traits) (node_marker f)) 3 (omega arith) (three_clean s.marks (length s.words.traits) (node_marker f)))
     (λ b w ok. able_cond N (eqb (u29_value b % 2) 0) (give (known_node s (u29_value b / 2))) (inline_node v N f (u29_value b) s) (λ _. able_give N (known_node s (u29_value b / 2)))
     (λ _. able_bind N (opening f (u29_value b) s) (parts v N) (able_opening N f (u29_value b) s) (able_parts v N i)))
 
--- The markers and their forms.
+-- A byte that is a marker is the byte of that marker.
 
-abbrev pub code : Form → ℕ
-code undefined = 0
-code null = 1
-code untrue = 2
-code true_ = 3
-code integer = 4
-code double = 5
-code text = 6
-code (node f) = node_marker f
-
-pub code_of : (m : ℕ) → m < 18 → code (form_of m) ≡ m
-code_of zero h = refl
-code_of (suc zero) h = refl
-code_of (suc (suc zero)) h = refl
-code_of (suc (suc (suc zero))) h = refl
-code_of (suc (suc (suc (suc zero)))) h = refl
-code_of (suc (suc (suc (suc (suc zero))))) h = refl
-code_of (suc (suc (suc (suc (suc (suc zero)))))) h = refl
-code_of (suc (suc (suc (suc (suc (suc (suc zero))))))) h = refl
-code_of (suc (suc (suc (suc (suc (suc (suc (suc zero)))))))) h = refl
-code_of (suc (suc (suc (suc (suc (suc (suc (suc (suc zero))))))))) h = refl
-code_of (suc (suc (suc (suc (suc (suc (suc (suc (suc (suc zero)))))))))) h = refl
-code_of (suc (suc (suc (suc (suc (suc (suc (suc (suc (suc (suc zero))))))))))) h = refl
-code_of (suc (suc (suc (suc (suc (suc (suc (suc (suc (suc (suc (suc zero)))))))))))) h = refl
-code_of (suc (suc (suc (suc (suc (suc (suc (suc (suc (suc (suc (suc (suc zero))))))))))))) h = refl
-code_of (suc (suc (suc (suc (suc (suc (suc (suc (suc (suc (suc (suc (suc (suc zero)))))))))))))) h = refl
-code_of (suc (suc (suc (suc (suc (suc (suc (suc (suc (suc (suc (suc (suc (suc (suc zero))))))))))))))) h = refl
-code_of (suc (suc (suc (suc (suc (suc (suc (suc (suc (suc (suc (suc (suc (suc (suc (suc zero)))))))))))))))) h = refl
-code_of (suc (suc (suc (suc (suc (suc (suc (suc (suc (suc (suc (suc (suc (suc (suc (suc (suc zero))))))))))))))))) h = refl
-code_of (suc (suc (suc (suc (suc (suc (suc (suc (suc (suc (suc (suc (suc (suc (suc (suc (suc (suc m)))))))))))))))))) h = absurd (omega arith)
+pub byte_at : (m : ℕ) → m < 18 → marker_byte (marker_at m) ≡ m
+byte_at zero h = refl
+byte_at (suc zero) h = refl
+byte_at (suc (suc zero)) h = refl
+byte_at (suc (suc (suc zero))) h = refl
+byte_at (suc (suc (suc (suc zero)))) h = refl
+byte_at (suc (suc (suc (suc (suc zero))))) h = refl
+byte_at (suc (suc (suc (suc (suc (suc zero)))))) h = refl
+byte_at (suc (suc (suc (suc (suc (suc (suc zero))))))) h = refl
+byte_at (suc (suc (suc (suc (suc (suc (suc (suc zero)))))))) h = refl
+byte_at (suc (suc (suc (suc (suc (suc (suc (suc (suc zero))))))))) h = refl
+byte_at (suc (suc (suc (suc (suc (suc (suc (suc (suc (suc zero)))))))))) h = refl
+byte_at (suc (suc (suc (suc (suc (suc (suc (suc (suc (suc (suc zero))))))))))) h = refl
+byte_at (suc (suc (suc (suc (suc (suc (suc (suc (suc (suc (suc (suc zero)))))))))))) h = refl
+byte_at (suc (suc (suc (suc (suc (suc (suc (suc (suc (suc (suc (suc (suc zero))))))))))))) h = refl
+byte_at (suc (suc (suc (suc (suc (suc (suc (suc (suc (suc (suc (suc (suc (suc zero)))))))))))))) h = refl
+byte_at (suc (suc (suc (suc (suc (suc (suc (suc (suc (suc (suc (suc (suc (suc (suc zero))))))))))))))) h = refl
+byte_at (suc (suc (suc (suc (suc (suc (suc (suc (suc (suc (suc (suc (suc (suc (suc (suc zero)))))))))))))))) h = refl
+byte_at (suc (suc (suc (suc (suc (suc (suc (suc (suc (suc (suc (suc (suc (suc (suc (suc (suc zero))))))))))))))))) h = refl
+byte_at (suc (suc (suc (suc (suc (suc (suc (suc (suc (suc (suc (suc (suc (suc (suc (suc (suc (suc m)))))))))))))))))) h = absurd (omega arith)
 
 -- a marker that is not refused is one of them
 pub marker_below : (m : ℕ) → marker_refusal m ≡ None → m < 18
@@ -221,20 +217,20 @@ marker_below m ok = go (ltb 17 m) refl ok
     go true e f = absurd cc
     go false e f = not_more m e
 
-able_marker : (v : Reader) (N : ℕ) → Inner v N → (s : State3) (x : Form) → AbleWithin N (behind_marker v N s x)
-able_marker v N i s undefined = able_give N (read Undefined s)
-able_marker v N i s null = able_give N (read Null s)
-able_marker v N i s untrue = able_give N (read (Flag false) s)
-able_marker v N i s true_ = able_give N (read (Flag true) s)
-able_marker v N i s integer = able_field N (u29_kind no_refusal) (λ b. give (read (Integer (integer_of (u29_value b))) s)) (one_byte no_refusal 0 (omega arith) refl) (λ b w c. able_give N (read (Integer (integer_of (u29_value b))) s))
-able_marker v N i s double = able_bind N eight_layout (λ p. give (read (Double (record { 0 = p })) s)) (able_eight N) (λ p. able_give N (read (Double (record { 0 = p })) s))
-able_marker v N i s text = able_bind N (text_layout s) (λ x. give (read (Text (record { 0 = x.id })) x.state)) (able_text N s) (λ x. able_give N (read (Text (record { 0 = x.id })) x.state))
-able_marker v N i s (node f) = able_node v N i f s
+able_marker : (v : Reader) (N : ℕ) → Inner v N → (s : State3) (x : Marker) → AbleWithin N (behind_marker v N s x)
+able_marker v N i s marker.Undefined = able_give N (read Undefined s)
+able_marker v N i s marker.Null = able_give N (read Null s)
+able_marker v N i s marker.False = able_give N (read (Flag false) s)
+able_marker v N i s marker.True = able_give N (read (Flag true) s)
+able_marker v N i s marker.Integer = able_field N (u29_kind no_refusal) (λ b. give (read (Integer (integer_of (u29_value b))) s)) (one_byte no_refusal 0 (omega arith) refl) (λ b w c. able_give N (read (Integer (integer_of (u29_value b))) s))
+able_marker v N i s marker.Double = able_bind N eight_layout (λ p. give (read (Double (record { 0 = p })) s)) (able_eight N) (λ p. able_give N (read (Double (record { 0 = p })) s))
+able_marker v N i s marker.Text = able_bind N (text_layout s) (λ x. give (read (Text (record { 0 = x.id })) x.state)) (able_text N s) (λ x. able_give N (read (Text (record { 0 = x.id })) x.state))
+able_marker v N i s (marker.Node f) = able_node v N i f s
 
 -- what has been read in fewer bytes than the fuel can be completed, since the byte of a null is a value
 pub value_able : (n : ℕ) (s : State3) → AbleWithin n (value_layout n s)
 value_able zero s = able_none (value_layout 0 s)
 value_able (suc N) s =
-    able_want (suc N) N marker_kind (λ b. behind_marker (value_layout N) N s (form_of (slice_index b 0))) (field marker_kind (1 ∷ [])) (record { is_kind = refl; is_whole = refl; clean = refl }) (omega arith, tt)
-    (record { more = []; bytes = tt; value = read Null s; runs = refl }) (λ b w ok. able_marker (value_layout N) N (value_able N) s (form_of (slice_index b 0)))
+    able_want (suc N) N marker_kind (λ b. behind_marker (value_layout N) N s (marker_at (slice_index b 0))) (field marker_kind (1 ∷ [])) (record { is_kind = refl; is_whole = refl; clean = refl }) (omega arith, tt)
+    (record { more = []; bytes = tt; value = read Null s; runs = refl }) (λ b w ok. able_marker (value_layout N) N (value_able N) s (marker_at (slice_index b 0)))
     (λ b i w lt. let some = whole_some (fixed 1) b (length b) w in omega arith)

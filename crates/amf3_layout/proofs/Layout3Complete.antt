@@ -21,54 +21,32 @@ use Rattle.amf3_spelling.specs.Parts3.{Part, flag, four, word, Parts, Lifted, la
 use Rattle.amf3_spelling.specs.Headers3.{HeaderBy, marker_field, header_field}
 use Rattle.amf3_spelling.specs.Nodes3.{Named, Begun}
 use Rattle.amf3_spelling.specs.Spells3.{ValueBy, InlineIn, SpellsIn, Spells3}
+use Rattle.amf_graph.specs.declared.kind.NodeKind.{NodeKind}
+use Rattle.amf_graph.specs.declared.kind.NodeKind.TheVariants as kind
+use Rattle.amf3_spelling.specs.declared.marker.Marker.{Marker}
+use Rattle.amf3_spelling.specs.declared.marker.Marker.TheVariants as marker
+use Rattle.amf3_spelling.specs.Markers3.{marker_at, kind_of}
 use Rattle.amf3_layout.specs.Layout3State.{State3, stored_marker, with_contents, with_node}
 use Rattle.amf3_layout.specs.Layout3Words.{chunk, text_layout, Opening}
-use Rattle.amf3_layout.specs.Layout3.{NodeForm, xml_document, date, array, object, xml, bytes, ints, uints, doubles, values, dictionary, Form, undefined, null, untrue, true_, integer, double, text, node, form_of, node_marker, flag_layout, four_layout, eight_layout, many, whole_node, opening, ValueRead, read, parts, inline_node, known_node, node_layout, behind_marker, value_layout}
+use Rattle.amf3_layout.specs.Layout3.{flag_layout, four_layout, eight_layout, many, whole_node, opening, ValueRead, read, parts, inline_node, known_node, node_layout, behind_marker, value_layout}
 use Rattle.amf3_spelling.proofs.Clean.{AllClean, clean3}
 use Rattle.amf3_layout.proofs.Layout3Texts.{clean_parts, takes, u29_step, path_if, even_test, odd_test, text_complete, traits_complete}
 use Rattle.amf3_layout.proofs.Layout3Parts.{Reader, Like, Found, Finds, parts_length, behind, parts_complete, chunk_runs, flag_half, FoundMany, fours_complete, eights_complete}
 
-abbrev pub head_form : Head → NodeForm
-head_form (graph.xml_document x) = xml_document
-head_form (graph.date p) = date
-head_form graph.array = array
-head_form (graph.object t) = object
-head_form (graph.wrapper c) = object
-head_form (graph.xml x) = xml
-head_form (graph.bytes x) = bytes
-head_form (graph.ints f ns) = ints
-head_form (graph.uints f ns) = uints
-head_form (graph.doubles f ns) = doubles
-head_form (graph.values f x) = values
-head_form (graph.dictionary f) = dictionary
-
-form_marker : (h : Head) → form_of (marker h) ≡ node (head_form h)
-form_marker (graph.xml_document x) = refl
-form_marker (graph.date p) = refl
-form_marker graph.array = refl
-form_marker (graph.object t) = refl
-form_marker (graph.wrapper c) = refl
-form_marker (graph.xml x) = refl
-form_marker (graph.bytes x) = refl
-form_marker (graph.ints f ns) = refl
-form_marker (graph.uints f ns) = refl
-form_marker (graph.doubles f ns) = refl
-form_marker (graph.values f x) = refl
-form_marker (graph.dictionary f) = refl
-
-pub marker_form : (h : Head) → node_marker (head_form h) ≡ marker h
-marker_form (graph.xml_document x) = refl
-marker_form (graph.date p) = refl
-marker_form graph.array = refl
-marker_form (graph.object t) = refl
-marker_form (graph.wrapper c) = refl
-marker_form (graph.xml x) = refl
-marker_form (graph.bytes x) = refl
-marker_form (graph.ints f ns) = refl
-marker_form (graph.uints f ns) = refl
-marker_form (graph.doubles f ns) = refl
-marker_form (graph.values f x) = refl
-marker_form (graph.dictionary f) = refl
+-- what is read behind the marker of a node; behind that of a wrapper as behind that of an object
+behind_node : (v : Reader) (N : ℕ) (s : State3) (h : Head) → behind_marker v N s (marker_at (marker h)) ≡ node_layout v N (kind_of h) s
+behind_node v N s (graph.xml_document x) = refl
+behind_node v N s (graph.date p) = refl
+behind_node v N s graph.array = refl
+behind_node v N s (graph.object t) = refl
+behind_node v N s (graph.wrapper c) = refl
+behind_node v N s (graph.xml x) = refl
+behind_node v N s (graph.bytes x) = refl
+behind_node v N s (graph.ints f ns) = refl
+behind_node v N s (graph.uints f ns) = refl
+behind_node v N s (graph.doubles f ns) = refl
+behind_node v N s (graph.values f x) = refl
+behind_node v N s (graph.dictionary f) = refl
 
 -- the header and what belongs to it were read, and the pairs and values are left
 pub record Opened (R : Value → Spelling Tables) (h : Head) (n : ℕ) (s : State3) (qs : List (List ℕ × Value)) (vs : List Value) (t : Tables) (fs : List Field) (u : Tables) : Type 0 where
@@ -77,7 +55,7 @@ pub record Opened (R : Value → Spelling Tables) (h : Head) (n : ℕ) (s : Stat
   pub joined : fs ≡ front ++ back
   pub mid : Tables
   pub begun : Opening
-  pub runs : Runs (opening (head_form h) n s) front begun
+  pub runs : Runs (opening (kind_of h) n s) front begun
   pub mark : stored_marker begun.head ≡ marker h
   pub count : length vs ≡ cond begun.twins (2 * begun.count) begun.count
   pub words : mid.words ≡ begun.state.words
@@ -87,7 +65,7 @@ pub record Opened (R : Value → Spelling Tables) (h : Head) (n : ℕ) (s : Stat
 
 module _ (R : Value → Spelling Tables) (n : ℕ) (s : State3) (qs : List (List ℕ × Value)) (vs : List Value) (t u : Tables) where
   -- a node without pairs and values
-  whole_opened : (h : Head) (fs front : List Field) (mid : Tables) (z : State3) (head : arena.StoredHead) → vs ≡ [] → stored_marker head ≡ marker h → Runs (opening (head_form h) n s) front (whole_node z head) → mid.words ≡ z.words → mid.nodes ≡ t.nodes → z.marks ≡ s.marks
+  whole_opened : (h : Head) (fs front : List Field) (mid : Tables) (z : State3) (head : arena.StoredHead) → vs ≡ [] → stored_marker head ≡ marker h → Runs (opening (kind_of h) n s) front (whole_node z head) → mid.words ≡ z.words → mid.nodes ≡ t.nodes → z.marks ≡ s.marks
       → (back : List Field) → fs ≡ front ++ back → (back ≡ []) × (u ≡ mid) → Opened R h n s qs vs t fs u
   whole_opened h fs front mid z head none mark runs words nodes marks back joined p =
       record {
@@ -106,20 +84,20 @@ module _ (R : Value → Spelling Tables) (n : ℕ) (s : State3) (qs : List (List
       }
 
   -- a chunk of bytes
-  chunk_opened : (h : Head) (kind : ℕ → Kind) (x : List ℕ) (z : List ℕ → State3) (head : List ℕ → arena.StoredHead) → vs ≡ [] → ((y : List ℕ) → stored_marker (head y) ≡ marker h) → ((k : ℕ) → opening (head_form h) k s ≡ chunk kind (k / 2) (λ y. give (whole_node (z y) (head y))))
+  chunk_opened : (h : Head) (kind : ℕ → Kind) (x : List ℕ) (z : List ℕ → State3) (head : List ℕ → arena.StoredHead) → vs ≡ [] → ((y : List ℕ) → stored_marker (head y) ≡ marker h) → ((k : ℕ) → opening (kind_of h) k s ≡ chunk kind (k / 2) (λ y. give (whole_node (z y) (head y))))
       → ((y : List ℕ) → (z y).words ≡ s.words) → ((y : List ℕ) → (z y).marks ≡ s.marks) → (fs : List Field) (mid : Tables) → n ≡ 2 * length x + 1 → mid.words ≡ s.words → mid.nodes ≡ t.nodes → AllClean fs
       → (front back : List Field) (m : Tables) → fs ≡ front ++ back → (front ≡ contents kind x) × (m ≡ mid) → (back ≡ []) × (u ≡ m) → Opened R h n s qs vs t fs u
   chunk_opened h kind x z head none mark is words marks fs mid number same nodes c front back m joined first second =
       let half : n / 2 ≡ length x = omega arith in
       let d = clean_parts fs front back joined c in
-      let runs : Runs (opening (head_form h) n s) front (whole_node (z x) (head x)) =
+      let runs : Runs (opening (kind_of h) n s) front (whole_node (z x) (head x)) =
       subst (λ l. Runs l front (whole_node (z x) (head x))) (sym (is n)) (subst (λ k. Runs (chunk kind k (λ y. give (whole_node (z y) (head y)))) front (whole_node (z x) (head x))) (sym half)
       (subst (λ l. Runs (chunk kind (length x) (λ y. give (whole_node (z y) (head y)))) l (whole_node (z x) (head x))) (sym first.0) (chunk_runs kind x (λ y. whole_node (z y) (head y)) (subst AllClean first.0 d.0)))) in
       whole_opened h fs front m (z x) (head x) none (mark x) runs (ap (λ w. w.words) first.1 ∙ same ∙ sym (words x)) (ap (λ w. w.nodes) first.1 ∙ nodes) (marks x) back joined second
 
   -- a flag and numbers
   numbers_opened : (h : Head) (l : Layout ℕ) (ps : List Part) (k : ℕ) (f : Bool) (head : Bool → List ℕ → arena.StoredHead) → vs ≡ [] → ((f : Bool) (y : List ℕ) → stored_marker (head f y) ≡ marker h)
-      → ((j : ℕ) → opening (head_form h) j s ≡ bind flag_layout (λ f. bind (many (j / 2) l) (λ ns. give (whole_node s (head f ns))))) → ((w : Tables) (fs : List Field) (v : Tables) → AllClean fs → Parts R free ps w fs v → FoundMany l k w fs v)
+      → ((j : ℕ) → opening (kind_of h) j s ≡ bind flag_layout (λ f. bind (many (j / 2) l) (λ ns. give (whole_node s (head f ns))))) → ((w : Tables) (fs : List Field) (v : Tables) → AllClean fs → Parts R free ps w fs v → FoundMany l k w fs v)
       → (fs : List Field) (mid : Tables) → n ≡ 2 * k + 1 → mid.words ≡ s.words → mid.nodes ≡ t.nodes → AllClean fs → Parts R free (flag f ∷ ps) mid fs u → Opened R h n s qs vs t fs u
   numbers_opened h l ps k f head none mark is found fs mid number same nodes c p =
       let half : n / 2 ≡ k = omega arith in
@@ -130,7 +108,7 @@ module _ (R : Value → Spelling Tables) (n : ℕ) (s : State3) (qs : List (List
       let inside : Runs (bind flag_layout (λ f. bind (many k l) (λ ns. give (whole_node s (head f ns))))) (field (raw_kind 1) (a.byte ∷ []) ∷ a.back) x =
       (takes (raw_kind 1) (a.byte ∷ []) a.is_clean, subst (λ q. Runs (bind (many k l) (λ ns. give (whole_node s (head g ns)))) q x) (append-nil a.back) (runs_bind (many k l) (λ ns. give (whole_node s (head g ns))) a.back [] b.numbers (give x) b.runs refl)) in
       whole_opened h fs fs mid s (head g b.numbers) none (mark g b.numbers)
-      (subst (λ q. Runs (opening (head_form h) n s) q x) (sym a.joined) (subst (λ q. Runs q (field (raw_kind 1) (a.byte ∷ []) ∷ a.back) x) (sym (is n)) (subst (λ j. Runs (bind flag_layout (λ f. bind (many j l) (λ ns. give (whole_node s (head f ns))))) (field (raw_kind 1) (a.byte ∷ []) ∷ a.back) x) (sym half) inside)))
+      (subst (λ q. Runs (opening (kind_of h) n s) q x) (sym a.joined) (subst (λ q. Runs q (field (raw_kind 1) (a.byte ∷ []) ∷ a.back) x) (sym (is n)) (subst (λ j. Runs (bind flag_layout (λ f. bind (many j l) (λ ns. give (whole_node s (head f ns))))) (field (raw_kind 1) (a.byte ∷ []) ∷ a.back) x) (sym half) inside)))
       same nodes refl [] (sym (append-nil fs)) (refl, b.same)
 
 -- four bytes of a signed number are four bytes
@@ -181,7 +159,7 @@ open_complete R graph.array names n s qs vs t fs u fit same c p =
       count = omega arith;
       marks = refl;
       rest = p.second;
-      runs = subst (λ l. Runs (opening array n s) l (record { head = arena.array; count = n / 2; twins = false; first = true; last = false; state = s })) (sym f.1.1.0) refl;
+      runs = subst (λ l. Runs (opening kind.Array n s) l (record { head = arena.array; count = n / 2; twins = false; first = true; last = false; state = s })) (sym f.1.1.0) refl;
       words = counted_words t p.mid f.0 s same f.1.1.1 f.2;
       nodes = ap (λ m. m.nodes) f.2;
     }
@@ -307,11 +285,10 @@ header_step : {X : Type 0} (refusal other : ℕ → Option Reason) (next : ℕ �
     → Path (want (u29_kind other) (λ b. next (u29_value b))) (field (u29_kind refusal) h ∷ rest) u
 header_step refusal other next n h rest u e c s p = subst (λ r. Path (want (u29_kind r) (λ b. next (u29_value b))) (field (u29_kind refusal) h ∷ rest) u) e (u29_step refusal next n h rest u c s p)
 
-same_refusal : (g : Graph) (t : Tables) (s : State3) (h : Head) → Like g t s → header_refusal (markers g t.nodes) (length t.words.traits) (marker h) ≡ header_refusal s.marks (length s.words.traits) (node_marker (head_form h))
+same_refusal : (g : Graph) (t : Tables) (s : State3) (h : Head) → Like g t s → header_refusal (markers g t.nodes) (length t.words.traits) (marker h) ≡ header_refusal s.marks (length s.words.traits) (marker h)
 same_refusal g t s h like =
     ap (λ l. header_refusal l (length t.words.traits) (marker h)) like.marks
     ∙ ap (λ w. header_refusal s.marks (length w.traits) (marker h)) like.words
-    ∙ ap (header_refusal s.marks (length s.words.traits)) (sym (marker_form h))
 
 -- what is read behind a marker
 pub record FoundBehind (g : Graph) (l : Layout ValueRead) (fs : List Field) (u : Tables) : Type 0 where
@@ -319,23 +296,23 @@ pub record FoundBehind (g : Graph) (l : Layout ValueRead) (fs : List Field) (u :
   pub runs : Runs l fs result
   pub like : Like g u result.state
 
-abbrev behind_header : Reader → ℕ → NodeForm → State3 → ℕ → Layout ValueRead
+abbrev behind_header : Reader → ℕ → NodeKind → State3 → ℕ → Layout ValueRead
 behind_header v N f s h = cond (eqb (h % 2) 0) (give (known_node s (h / 2))) (inline_node v N f h s)
 
 abbrev Marked : Reader → ℕ → State3 → Layout ValueRead
-Marked v N s = want marker_kind (λ b. behind_marker v N s (form_of (slice_index b 0)))
+Marked v N s = want marker_kind (λ b. behind_marker v N s (marker_at (slice_index b 0)))
 
 -- a marker and a header of a node, and what stands behind them
 node_step : (g : Graph) (v : Reader) (N i n : ℕ) (t : Tables) (s : State3) (header : List ℕ) (rest fs : List Field) (x : ValueRead) → Like g t s → SpellsU29 n header → AllClean fs → fs ≡ marker_field (marker (node_at g i).head) ∷ header_field g t (marker (node_at g i).head) header ∷ rest
-    → Runs (behind_header v N (head_form (node_at g i).head) s n) rest x → Runs (Marked v N s) fs x
+    → Runs (behind_header v N (kind_of (node_at g i).head) s n) rest x → Runs (Marked v N s) fs x
 node_step g v N i n t s header rest fs x like spelled c e p =
     let h = (node_at g i).head in
     let d = subst AllClean e c in
-    let back : Path (node_layout v N (head_form h) s) (header_field g t (marker h) header ∷ rest) (give x) =
-    header_step (header_refusal (markers g t.nodes) (length t.words.traits) (marker h)) (header_refusal s.marks (length s.words.traits) (node_marker (head_form h))) (behind_header v N (head_form h) s) n header rest (give x) (same_refusal g t s h like) d.1.0 spelled p in
+    let back : Path (node_layout v N (kind_of h) s) (header_field g t (marker h) header ∷ rest) (give x) =
+    header_step (header_refusal (markers g t.nodes) (length t.words.traits) (marker h)) (header_refusal s.marks (length s.words.traits) (marker h)) (behind_header v N (kind_of h) s) n header rest (give x) (same_refusal g t s h like) d.1.0 spelled p in
     subst (λ l. Runs (Marked v N s) l x) (sym e)
-    (marker_step (marker h) (λ m. behind_marker v N s (form_of m)) (header_field g t (marker h) header ∷ rest) (give x) d.0
-    (subst (λ f. Path (behind_marker v N s f) (header_field g t (marker h) header ∷ rest) (give x)) (sym (form_marker h)) back))
+    (marker_step (marker h) (λ m. behind_marker v N s (marker_at m)) (header_field g t (marker h) header ∷ rest) (give x) d.0
+    (subst (λ l. Path l (header_field g t (marker h) header ∷ rest) (give x)) (sym (behind_node v N s h)) back))
 
 traits_odd : (e : Entry) (n : ℕ) (w : Words) (fs : List Field) (w' : Words) → TraitsBy free e n w fs w' → (j : ℕ) × (n ≡ 2 * j + 1)
 traits_odd (plain t) n w fs w' (given o number u texts a) = by_flag t.dynamic (length t.sealed) number
@@ -375,7 +352,7 @@ begun_complete g R v N i h t fs u s c like lt p =
     let head = marker_field (marker a.head) in
     let bytes : length (flat fs) ≡ 1 + (length p.header + length (flat p.rest)) = ap (λ l. length (flat l)) p.fields ∙ ap suc (length-append p.header (flat p.rest)) ∙ omega arith in
     let x = parts_complete g R v N h o.begun p.pairs a.values o.mid u o.back p.named cb.1 (record { words = o.words; marks = marks }) (omega arith) o.count o.rest in
-    let f = head_form a.head in
+    let f = kind_of a.head in
     let inside : Runs (inline_node v N f p.number s) p.rest x.result = subst (λ l. Runs (inline_node v N f p.number s) l x.result) (sym o.joined) (runs_bind (opening f p.number s) (parts v N) o.front o.back o.begun (give x.result) o.runs x.runs) in
     let odd : eqb (p.number % 2) 0 ≡ false = subst (λ k. eqb (k % 2) 0 ≡ false) (sym e.1) (odd_test e.0) in
     record {
@@ -389,7 +366,7 @@ named_complete : (g : Graph) (v : Reader) (N i : ℕ) (t : Tables) (fs : List Fi
 named_complete g v N i t fs u s c like p =
     let n = 2 * p.place in
     let x = known_node s (n / 2) in
-    let f = head_form (node_at g i).head in
+    let f = kind_of (node_at g i).head in
     record {
       result = x;
       like = subst (λ w. Like g w s) (sym p.same) like;
@@ -398,7 +375,7 @@ named_complete g v N i t fs u s c like p =
 
 -- Values that are no node.
 
-leaf_step : (g : Graph) (v : Reader) (N m : ℕ) (f : Form) (x : ValueRead) (t mid u : Tables) (w : Words) (s : State3) (fs front back : List Field) → form_of m ≡ f → Like g t s → AllClean fs → fs ≡ front ++ back → front ≡ marker_field m ∷ [] → mid ≡ t → u ≡ with_words mid w
+leaf_step : (g : Graph) (v : Reader) (N m : ℕ) (f : Marker) (x : ValueRead) (t mid u : Tables) (w : Words) (s : State3) (fs front back : List Field) → marker_at m ≡ f → Like g t s → AllClean fs → fs ≡ front ++ back → front ≡ marker_field m ∷ [] → mid ≡ t → u ≡ with_words mid w
     → Runs (behind_marker v N s f) back x → w ≡ x.state.words → x.state.marks ≡ s.marks → FoundBehind g (Marked v N s) fs u
 leaf_step g v N m f x t mid u w s fs front back is like c joined e same after runs words marks =
     let all : fs ≡ marker_field m ∷ back = joined ∙ ap (λ l. l ++ back) e in
@@ -407,42 +384,42 @@ leaf_step g v N m f x t mid u w s fs front back is like c joined e same after ru
       result = x;
       like = record { words = ap (λ k. k.words) after ∙ words; marks = ap (λ k. markers g k.nodes) after ∙ ap (λ k. markers g k.nodes) same ∙ like.marks ∙ sym marks };
       runs = subst (λ l. Runs (Marked v N s) l x) (sym all)
-          (marker_step m (λ k. behind_marker v N s (form_of k)) back (give x) d.0 (subst (λ k. Path (behind_marker v N s k) back (give x)) (sym is) runs));
+          (marker_step m (λ k. behind_marker v N s (marker_at k)) back (give x) d.0 (subst (λ k. Path (behind_marker v N s k) back (give x)) (sym is) runs));
     }
 
 leaf_complete : (g : Graph) (I : ℕ → Spelling Tables) (v : Reader) (N : ℕ) (x : Leaf) (t : Tables) (fs : List Field) (u : Tables) (s : State3) → AllClean fs → Like g t s → ValueBy I free g (leaf x) t fs u → FoundBehind g (Marked v N s) fs u
 leaf_complete g I v N graph.undefined t fs u s c like p =
     let q = p.1 in
-    leaf_step g v N 0 undefined (read Undefined s) t q.mid u q.second.0 s fs q.front q.back refl like c q.joined q.first.0 q.first.1 q.second.2 (subst (λ l. Runs (give (read Undefined s)) l (read Undefined s)) (sym q.second.1.0) refl) (q.second.1.1 ∙ ap (λ k. k.words) q.first.1 ∙ like.words) refl
+    leaf_step g v N 0 marker.Undefined (read Undefined s) t q.mid u q.second.0 s fs q.front q.back refl like c q.joined q.first.0 q.first.1 q.second.2 (subst (λ l. Runs (give (read Undefined s)) l (read Undefined s)) (sym q.second.1.0) refl) (q.second.1.1 ∙ ap (λ k. k.words) q.first.1 ∙ like.words) refl
 leaf_complete g I v N graph.null t fs u s c like p =
     let q = p.1 in
-    leaf_step g v N 1 null (read Null s) t q.mid u q.second.0 s fs q.front q.back refl like c q.joined q.first.0 q.first.1 q.second.2 (subst (λ l. Runs (give (read Null s)) l (read Null s)) (sym q.second.1.0) refl) (q.second.1.1 ∙ ap (λ k. k.words) q.first.1 ∙ like.words) refl
+    leaf_step g v N 1 marker.Null (read Null s) t q.mid u q.second.0 s fs q.front q.back refl like c q.joined q.first.0 q.first.1 q.second.2 (subst (λ l. Runs (give (read Null s)) l (read Null s)) (sym q.second.1.0) refl) (q.second.1.1 ∙ ap (λ k. k.words) q.first.1 ∙ like.words) refl
 leaf_complete g I v N (graph.boolean false) t fs u s c like p =
     let q = p.1 in
-    leaf_step g v N 2 untrue (read (Flag false) s) t q.mid u q.second.0 s fs q.front q.back refl like c q.joined q.first.0 q.first.1 q.second.2 (subst (λ l. Runs (give (read (Flag false) s)) l (read (Flag false) s)) (sym q.second.1.0) refl) (q.second.1.1 ∙ ap (λ k. k.words) q.first.1 ∙ like.words) refl
+    leaf_step g v N 2 marker.False (read (Flag false) s) t q.mid u q.second.0 s fs q.front q.back refl like c q.joined q.first.0 q.first.1 q.second.2 (subst (λ l. Runs (give (read (Flag false) s)) l (read (Flag false) s)) (sym q.second.1.0) refl) (q.second.1.1 ∙ ap (λ k. k.words) q.first.1 ∙ like.words) refl
 leaf_complete g I v N (graph.boolean true) t fs u s c like p =
     let q = p.1 in
-    leaf_step g v N 3 true_ (read (Flag true) s) t q.mid u q.second.0 s fs q.front q.back refl like c q.joined q.first.0 q.first.1 q.second.2 (subst (λ l. Runs (give (read (Flag true) s)) l (read (Flag true) s)) (sym q.second.1.0) refl) (q.second.1.1 ∙ ap (λ k. k.words) q.first.1 ∙ like.words) refl
+    leaf_step g v N 3 marker.True (read (Flag true) s) t q.mid u q.second.0 s fs q.front q.back refl like c q.joined q.first.0 q.first.1 q.second.2 (subst (λ l. Runs (give (read (Flag true) s)) l (read (Flag true) s)) (sym q.second.1.0) refl) (q.second.1.1 ∙ ap (λ k. k.words) q.first.1 ∙ like.words) refl
 leaf_complete g I v N (graph.integer k) t fs u s c like p =
     let q = p.1 in
     let d = clean_parts fs q.front q.back q.joined c in
     let digits = q.second.1.0 in
     let r = read (Integer (integer_of (u29_value digits))) s in
-    leaf_step g v N 4 integer r t q.mid u q.second.0 s fs q.front q.back refl like c q.joined q.first.0 q.first.1 q.second.2
-    (subst (λ l. Runs (behind_marker v N s integer) l r) (sym q.second.1.2) (takes (u29_kind no_refusal) digits (subst AllClean q.second.1.2 d.1).0, refl)) (q.second.1.3 ∙ ap (λ k. k.words) q.first.1 ∙ like.words) refl
+    leaf_step g v N 4 marker.Integer r t q.mid u q.second.0 s fs q.front q.back refl like c q.joined q.first.0 q.first.1 q.second.2
+    (subst (λ l. Runs (behind_marker v N s marker.Integer) l r) (sym q.second.1.2) (takes (u29_kind no_refusal) digits (subst AllClean q.second.1.2 d.1).0, refl)) (q.second.1.3 ∙ ap (λ k. k.words) q.first.1 ∙ like.words) refl
 leaf_complete g I v N (graph.double k) t fs u s c like p =
     let q = p.1 in
     let d = clean_parts fs q.front q.back q.joined c in
     let r = read (Double (record { 0 = from_be_bytes w64 (to_be_bytes w64 k) })) s in
-    leaf_step g v N 5 double r t q.mid u q.second.0 s fs q.front q.back refl like c q.joined q.first.0 q.first.1 q.second.2
-    (subst (λ l. Runs (behind_marker v N s double) l r) (sym q.second.1.0) (takes (raw_kind 8) (to_be_bytes w64 k) (subst AllClean q.second.1.0 d.1).0, refl)) (q.second.1.1 ∙ ap (λ k. k.words) q.first.1 ∙ like.words) refl
+    leaf_step g v N 5 marker.Double r t q.mid u q.second.0 s fs q.front q.back refl like c q.joined q.first.0 q.first.1 q.second.2
+    (subst (λ l. Runs (behind_marker v N s marker.Double) l r) (sym q.second.1.0) (takes (raw_kind 8) (to_be_bytes w64 k) (subst AllClean q.second.1.0 d.1).0, refl)) (q.second.1.1 ∙ ap (λ k. k.words) q.first.1 ∙ like.words) refl
 leaf_complete g I v N (graph.text x) t fs u s c like p =
     let q = p.1 in
     let d = clean_parts fs q.front q.back q.joined c in
     let one = text_complete (text_header_refusal (length s.words.texts)) text_kind s x q.back q.second.0 d.1 (subst (λ w. Text free x w q.back q.second.0) (ap (λ k. k.words) q.first.1 ∙ like.words) q.second.1) in
     let r = read (TextRef (record { 0 = one.read.id })) one.read.state in
-    leaf_step g v N 6 text r t q.mid u q.second.0 s fs q.front q.back refl like c q.joined q.first.0 q.first.1 q.second.2
-    (subst (λ l. Runs (behind_marker v N s text) l r) (append-nil q.back) (runs_bind (text_layout s) (λ y. give (read (TextRef (record { 0 = y.id })) y.state)) q.back [] one.read (give r) one.runs refl)) one.after one.marks
+    leaf_step g v N 6 marker.Text r t q.mid u q.second.0 s fs q.front q.back refl like c q.joined q.first.0 q.first.1 q.second.2
+    (subst (λ l. Runs (behind_marker v N s marker.Text) l r) (append-nil q.back) (runs_bind (text_layout s) (λ y. give (read (TextRef (record { 0 = y.id })) y.state)) q.back [] one.read (give r) one.runs refl)) one.after one.marks
 
 value_by : (g : Graph) (N height : ℕ) → ((k : ℕ) → Finds g (SpellsIn k free g) (value_layout N) N) → (x : Value) (t : Tables) (fs : List Field) (u : Tables) (s : State3) → AllClean fs → Like g t s → length (flat fs) < suc N → SpellsIn height free g x t fs u
     → FoundBehind g (Marked (value_layout N) N s) fs u

@@ -6,9 +6,13 @@ use Rattle.amf_io.proofs.Paths.{extends_bind, extends_same}
 use Rattle.amf_io.proofs.Ables.{extends_cond}
 use Rattle.amf_graph.specs.declared.value.Value.TheVariants.{Node}
 use Rattle.amf_graph.specs.Building.{more_value, more_name, shut, more_entry}
+use Rattle.amf_graph.specs.declared.kind.NodeKind.{NodeKind}
+use Rattle.amf3_spelling.specs.declared.marker.Marker.{Marker}
+use Rattle.amf3_spelling.specs.declared.marker.Marker.TheVariants as marker
+use Rattle.amf3_spelling.specs.Markers3.{marker_at}
 use Rattle.amf3_layout.specs.Layout3State.{State3, with_node, changed}
 use Rattle.amf3_layout.specs.Layout3Words.{TextRead, text_layout, Opening}
-use Rattle.amf3_layout.specs.Layout3.{Form, undefined, null, untrue, true_, integer, double, text, node, NodeForm, ValueRead, read, items, entries, items_of, is_empty, pairs, pairs_if, parts, opening, inline_node, known_node, node_layout, behind_marker, value_layout, form_of}
+use Rattle.amf3_layout.specs.Layout3.{ValueRead, read, items, entries, items_of, is_empty, pairs, pairs_if, parts, opening, inline_node, known_node, node_layout, behind_marker, value_layout}
 
 abbrev Reader : Type 0
 Reader = State3 → Layout ValueRead
@@ -63,7 +67,7 @@ parts_grow t u f h o le g =
     (λ s. extends_bind (items_of o.twins t id o.count s) (items_of o.twins u id o.count s) (behind_items t f id o.last) (behind_items u h id o.last) (items_of_grow o.twins t u id o.count s g)
     (λ z. extends_bind (pairs_if o.last t f id z) (pairs_if o.last u h id z) (ending id) (ending id) (pairs_if_grow o.last t u f h id z le g) (λ y. refl)))
 
-node_grow : (t u : Reader) (f h : ℕ) (k : NodeForm) (s : State3) → f ≤ h → Grow t u → Extends (node_layout t f k s) (node_layout u h k s)
+node_grow : (t u : Reader) (f h : ℕ) (k : NodeKind) (s : State3) → f ≤ h → Grow t u → Extends (node_layout t f k s) (node_layout u h k s)
 node_grow t u f h k s le g = (
   refl,
   λ b.
@@ -72,17 +76,17 @@ node_grow t u f h k s le g = (
       (extends_bind (opening k m s) (opening k m s) (parts t f) (parts u h) (extends_same (opening k m s)) (λ o. parts_grow t u f h o le g)),
 )
 
-marker_grow : (t u : Reader) (f h : ℕ) (s : State3) (m : Form) → f ≤ h → Grow t u → Extends (behind_marker t f s m) (behind_marker u h s m)
-marker_grow t u f h s undefined le g = refl
-marker_grow t u f h s null le g = refl
-marker_grow t u f h s untrue le g = refl
-marker_grow t u f h s true_ le g = refl
-marker_grow t u f h s integer le g = extends_same (behind_marker t f s integer)
-marker_grow t u f h s double le g = extends_same (behind_marker t f s double)
-marker_grow t u f h s text le g = extends_same (behind_marker t f s text)
-marker_grow t u f h s (node k) le g = node_grow t u f h k s le g
+marker_grow : (t u : Reader) (f h : ℕ) (s : State3) (m : Marker) → f ≤ h → Grow t u → Extends (behind_marker t f s m) (behind_marker u h s m)
+marker_grow t u f h s marker.Undefined le g = refl
+marker_grow t u f h s marker.Null le g = refl
+marker_grow t u f h s marker.False le g = refl
+marker_grow t u f h s marker.True le g = refl
+marker_grow t u f h s marker.Integer le g = extends_same (behind_marker t f s marker.Integer)
+marker_grow t u f h s marker.Double le g = extends_same (behind_marker t f s marker.Double)
+marker_grow t u f h s marker.Text le g = extends_same (behind_marker t f s marker.Text)
+marker_grow t u f h s (marker.Node k) le g = node_grow t u f h k s le g
 
 pub value_grows : (n m : ℕ) → n ≤ m → Grow (value_layout n) (value_layout m)
 value_grows zero m le s = tt
 value_grows (suc n) zero le s = absurd (omega arith)
-value_grows (suc n) (suc m) le s = (refl, λ b. marker_grow (value_layout n) (value_layout m) n m s (form_of (slice_index b 0)) (omega arith) (value_grows n m (omega arith)))
+value_grows (suc n) (suc m) le s = (refl, λ b. marker_grow (value_layout n) (value_layout m) n m s (marker_at (slice_index b 0)) (omega arith) (value_grows n m (omega arith)))

@@ -25,10 +25,14 @@ use Rattle.amf3_spelling.specs.Refusals3.{leaf_marker, marker, markers, marker_k
 use Rattle.amf3_spelling.specs.Headers3.{marker_field, header_field}
 use Rattle.amf3_spelling.specs.Nodes3.{Begun}
 use Rattle.amf3_spelling.specs.Spells3.{LeafBy}
+use Rattle.amf_graph.specs.declared.kind.NodeKind.{NodeKind}
+use Rattle.amf3_spelling.specs.declared.marker.Marker.{Marker}
+use Rattle.amf3_spelling.specs.declared.marker.Marker.TheVariants as marker
+use Rattle.amf3_spelling.specs.Markers3.{node_marker, marker_byte, marker_at}
 use Rattle.amf3_layout.specs.Layout3State.{State3, stored_marker}
 use Rattle.amf3_layout.specs.Layout3Words.{TextRead, text_layout}
-use Rattle.amf3_layout.specs.Layout3.{NodeForm, Form, undefined, null, untrue, true_, integer, double, text, node, form_of, node_marker, ValueRead, read, inline_node, known_node, node_layout, behind_marker, value_layout}
-use Rattle.amf3_layout.proofs.Layout3Able.{code, code_of, marker_below}
+use Rattle.amf3_layout.specs.Layout3.{ValueRead, read, inline_node, known_node, node_layout, behind_marker, value_layout}
+use Rattle.amf3_layout.proofs.Layout3Able.{byte_at, marker_below}
 use Rattle.amf3_layout.proofs.Layout3Marks.{marks_kept}
 use Rattle.amf3_layout.proofs.Layout3Contents.{Larger, larger_itself, all_place, Good}
 use Rattle.amf3_layout.proofs.Layout3SoundTexts.{taken, give_is, even_is, odd_is, is_number, spelled_number, TextSound, text_sound}
@@ -102,10 +106,10 @@ traits_row traits n ok e = go (leb traits (n / 4)) refl (ap (λ t. cond ((true &
 two_fields : (f a h b : Field) (rest : List Field) → f ≡ a → h ≡ b → (f ∷ h ∷ rest) ≡ (a ∷ b ∷ rest)
 two_fields f a h b rest p q = ap (λ x. x ∷ h ∷ rest) p ∙ ap (λ x. a ∷ x ∷ rest) q
 
-header_is : (k : NodeForm) (s : State3) (g : Good s) (h : Field) → Takes (header_kind s.marks (length s.words.traits) (node_marker k)) h → (a : Arena) (r : Stored) → Completes s.arena a → h ≡ header_field (graph_of a r) (table s) (node_marker k) h.bytes
+header_is : (k : NodeKind) (s : State3) (g : Good s) (h : Field) → Takes (header_kind s.marks (length s.words.traits) (node_marker k)) h → (a : Arena) (r : Stored) → Completes s.arena a → h ≡ header_field (graph_of a r) (table s) (node_marker k) h.bytes
 header_is k s g h t a r c = taken (header_kind s.marks (length s.words.traits) (node_marker k)) h t ∙ ap (λ l. field (header_kind l (length s.words.traits) (node_marker k)) h.bytes) (sym (graph_marks s a r g c))
 
-known_sound : (d : ℕ) (k : NodeForm) (s : State3) → Good s → (f : Field) → f ≡ marker_field (node_marker k) → (h : Field) → Takes (header_kind s.marks (length s.words.traits) (node_marker k)) h → AreBytes h.bytes → eqb (u29_value h.bytes % 2) 0 ≡ true → ValueSound (spell3 d) s (f ∷ h ∷ []) (known_node s (u29_value h.bytes / 2))
+known_sound : (d : ℕ) (k : NodeKind) (s : State3) → Good s → (f : Field) → f ≡ marker_field (node_marker k) → (h : Field) → Takes (header_kind s.marks (length s.words.traits) (node_marker k)) h → AreBytes h.bytes → eqb (u29_value h.bytes % 2) 0 ≡ true → ValueSound (spell3 d) s (f ∷ h ∷ []) (known_node s (u29_value h.bytes / 2))
 known_sound d k s g f is h t b e =
     let m = node_marker k in
     let n = u29_value h.bytes in
@@ -131,14 +135,14 @@ known_sound d k s g f is h t b e =
           });
     }
 
-new_sound : (N : ℕ) (k : NodeForm) (s : State3) → Sounds (spell3 N) (value_layout N) → Good s → (f : Field) → f ≡ marker_field (node_marker k) → (h : Field) → Takes (header_kind s.marks (length s.words.traits) (node_marker k)) h → AreBytes h.bytes → eqb (u29_value h.bytes % 2) 0 ≡ false
+new_sound : (N : ℕ) (k : NodeKind) (s : State3) → Sounds (spell3 N) (value_layout N) → Good s → (f : Field) → f ≡ marker_field (node_marker k) → (h : Field) → Takes (header_kind s.marks (length s.words.traits) (node_marker k)) h → AreBytes h.bytes → eqb (u29_value h.bytes % 2) 0 ≡ false
     → (rest : List Field) (x : ValueRead) → AreBytes (flat rest) → Runs (inline_node (value_layout N) N k (u29_value h.bytes) s) rest x → ValueSound (spell3 (suc N)) s (f ∷ h ∷ rest) x
 new_sound N k s ih g f is h t b odd rest x br r =
     let m = node_marker k in
     let n = u29_value h.bytes in
     let row = odd_row s.marks (length s.words.traits) m n odd t.clean in
     let z = inline_sound N (value_layout N) N ih k n h.bytes s g (spelled_number h.bytes b t.is_whole) (odd_is n odd) odd
-    (λ i. traits_row (length s.words.traits) n (subst (λ j. cond ((eqb (node_marker j) 10 && eqb (n % 4) 1) && leb (length s.words.traits) (n / 4)) (Some BadTraits) None ≡ None) i row)) rest x br r in
+    (λ i. traits_row (length s.words.traits) n (subst (λ j. cond ((eqb j 10 && eqb (n % 4) 1) && leb (length s.words.traits) (n / 4)) (Some BadTraits) None ≡ None) i row)) rest x br r in
     record {
       good = z.good;
       larger = z.larger;
@@ -152,7 +156,7 @@ new_sound N k s ih g f is h t b odd rest x br r =
           (inr (subst (λ l. Begun (spell3 N a q) free (graph_of a q) z.place (table s) l (table x.state)) (sym (two_fields f (marker_field m) h (header_field (graph_of a q) (table s) m h.bytes) rest is (header_is k s g h t a q cs))) (z.spelled a q c)));
     }
 
-node_sound : (N : ℕ) (k : NodeForm) (s : State3) → Sounds (spell3 N) (value_layout N) → Good s → (f : Field) → f ≡ marker_field (node_marker k) → (rest : List Field) (x : ValueRead) → AreBytes (flat rest) → Runs (node_layout (value_layout N) N k s) rest x → ValueSound (spell3 (suc N)) s (f ∷ rest) x
+node_sound : (N : ℕ) (k : NodeKind) (s : State3) → Sounds (spell3 N) (value_layout N) → Good s → (f : Field) → f ≡ marker_field (node_marker k) → (rest : List Field) (x : ValueRead) → AreBytes (flat rest) → Runs (node_layout (value_layout N) N k s) rest x → ValueSound (spell3 (suc N)) s (f ∷ rest) x
 node_sound N k s ih g f is [] x b r = absurd cc
 node_sound N k s ih g f is (h ∷ rest) x b r = by (eqb (u29_value h.bytes % 2) 0) refl rest x (bytes_back h.bytes (flat rest) b) r.1
   where
@@ -161,31 +165,31 @@ node_sound N k s ih g f is (h ∷ rest) x b r = by (eqb (u29_value h.bytes % 2) 
     by true e (i ∷ rest) y b2 r2 = absurd r2
     by false e rest2 y b2 r2 = new_sound N k s ih g f is h r.0 (bytes_front h.bytes (flat rest) b) e rest2 y b2 r2
 
-form_sound : (N : ℕ) (y : Form) (s : State3) → Sounds (spell3 N) (value_layout N) → Good s → (f : Field) → f ≡ marker_field (code y) → (rest : List Field) (x : ValueRead) → AreBytes (flat rest) → Runs (behind_marker (value_layout N) N s y) rest x → ValueSound (spell3 (suc N)) s (f ∷ rest) x
-form_sound N undefined s ih g f is [] x b r = plain_value (suc N) 0 s g f is Undefined graph.undefined [] x tt (λ a. refl) refl tt (refl, refl) (give_is (read Undefined s) x r)
-form_sound N undefined s ih g f is (h ∷ rest) x b r = absurd r
-form_sound N null s ih g f is [] x b r = plain_value (suc N) 1 s g f is Null graph.null [] x tt (λ a. refl) refl tt (refl, refl) (give_is (read Null s) x r)
-form_sound N null s ih g f is (h ∷ rest) x b r = absurd r
-form_sound N untrue s ih g f is [] x b r = plain_value (suc N) 2 s g f is (Flag false) (graph.boolean false) [] x tt (λ a. refl) refl tt (refl, refl) (give_is (read (Flag false) s) x r)
-form_sound N untrue s ih g f is (h ∷ rest) x b r = absurd r
-form_sound N true_ s ih g f is [] x b r = plain_value (suc N) 3 s g f is (Flag true) (graph.boolean true) [] x tt (λ a. refl) refl tt (refl, refl) (give_is (read (Flag true) s) x r)
-form_sound N true_ s ih g f is (h ∷ rest) x b r = absurd r
-form_sound N integer s ih g f is [] x b r = absurd cc
-form_sound N integer s ih g f is (h ∷ []) x b r =
+form_sound : (N : ℕ) (y : Marker) (s : State3) → Sounds (spell3 N) (value_layout N) → Good s → (f : Field) → f ≡ marker_field (marker_byte y) → (rest : List Field) (x : ValueRead) → AreBytes (flat rest) → Runs (behind_marker (value_layout N) N s y) rest x → ValueSound (spell3 (suc N)) s (f ∷ rest) x
+form_sound N marker.Undefined s ih g f is [] x b r = plain_value (suc N) 0 s g f is Undefined graph.undefined [] x tt (λ a. refl) refl tt (refl, refl) (give_is (read Undefined s) x r)
+form_sound N marker.Undefined s ih g f is (h ∷ rest) x b r = absurd r
+form_sound N marker.Null s ih g f is [] x b r = plain_value (suc N) 1 s g f is Null graph.null [] x tt (λ a. refl) refl tt (refl, refl) (give_is (read Null s) x r)
+form_sound N marker.Null s ih g f is (h ∷ rest) x b r = absurd r
+form_sound N marker.False s ih g f is [] x b r = plain_value (suc N) 2 s g f is (Flag false) (graph.boolean false) [] x tt (λ a. refl) refl tt (refl, refl) (give_is (read (Flag false) s) x r)
+form_sound N marker.False s ih g f is (h ∷ rest) x b r = absurd r
+form_sound N marker.True s ih g f is [] x b r = plain_value (suc N) 3 s g f is (Flag true) (graph.boolean true) [] x tt (λ a. refl) refl tt (refl, refl) (give_is (read (Flag true) s) x r)
+form_sound N marker.True s ih g f is (h ∷ rest) x b r = absurd r
+form_sound N marker.Integer s ih g f is [] x b r = absurd cc
+form_sound N marker.Integer s ih g f is (h ∷ []) x b r =
     let n = u29_value h.bytes in
     let bytes = bytes_front h.bytes [] b in
     let low = spelled_below (spelled_number h.bytes bytes r.0.is_whole) in
     let ok = integer_of-in_range n low in
     plain_value (suc N) 4 s g f is (Integer (integer_of n)) (graph.integer (integer_of n)) (h ∷ []) x ok (λ a. refl) refl ok
     (h.bytes, is_number (integer_bits (integer_of n)) h.bytes bytes r.0.is_whole (sym (integer_bits-integer_of n low)), ap (λ z. z ∷ []) (taken (u29_kind no_refusal) h r.0), refl) (give_is (read (Integer (integer_of n)) s) x r.1)
-form_sound N integer s ih g f is (h ∷ i ∷ rest) x b r = absurd r.1
-form_sound N double s ih g f is [] x b r = absurd cc
-form_sound N double s ih g f is (h ∷ []) x b r =
+form_sound N marker.Integer s ih g f is (h ∷ i ∷ rest) x b r = absurd r.1
+form_sound N marker.Double s ih g f is [] x b r = absurd cc
+form_sound N marker.Double s ih g f is (h ∷ []) x b r =
     let p = from_be_bytes w64 h.bytes in
     let i = eight_is h r.0 (bytes_front h.bytes [] b) in
     plain_value (suc N) 5 s g f is (Double (record { 0 = p })) (graph.double p) (h ∷ []) x i.1 (λ a. refl) refl i.1 (ap (λ z. z ∷ []) i.0, refl) (give_is (read (Double (record { 0 = p })) s) x r.1)
-form_sound N double s ih g f is (h ∷ i ∷ rest) x b r = absurd r.1
-form_sound N text s ih g f is rest x b r =
+form_sound N marker.Double s ih g f is (h ∷ i ∷ rest) x b r = absurd r.1
+form_sound N marker.Text s ih g f is rest x b r =
     let a = bind_runs (text_layout s) (λ y. give (read (TextRef (record { 0 = y.id })) y.state)) rest x r in
     let ab = bytes_parts rest a.front a.back a.parts b in
     last a.value a.front a.back a.parts (text_sound s g a.front a.value ab.0 a.first) a.second
@@ -196,7 +200,7 @@ form_sound N text s ih g f is rest x b r =
         (leaf_value (suc N) 6 s g f is (read (TextRef (record { 0 = y.id })) y.state) front one.good one.larger one.nodes one.node_table one.id
         (λ a c. (graph.text y.bytes, ap (λ z. leaf (graph.text z)) (text_content s front y a one c), refl, one.is_text, one.spelled))))
     last y front (h ∷ back) e one p = absurd p
-form_sound N (node k) s ih g f is rest x b r = node_sound N k s ih g f is rest x b r
+form_sound N (marker.Node k) s ih g f is rest x b r = node_sound N k s ih g f is rest x b r
 
 pub value_sound : (n : ℕ) → Sounds (spell3 n) (value_layout n)
 value_sound zero s [] x g b r = absurd cc
@@ -205,4 +209,4 @@ value_sound (suc N) s [] x g b r = absurd cc
 value_sound (suc N) s (f ∷ rest) x g b r =
     let m = slice_index f.bytes 0 in
     let is : f ≡ marker_field m = taken marker_kind f r.0 ∙ ap (field marker_kind) (one_byte f.bytes r.0.is_whole) in
-    form_sound N (form_of m) s (value_sound N) g f (is ∙ ap marker_field (sym (code_of m (marker_below m r.0.clean)))) rest x (bytes_back f.bytes (flat rest) b) r.1
+    form_sound N (marker_at m) s (value_sound N) g f (is ∙ ap marker_field (sym (byte_at m (marker_below m r.0.clean)))) rest x (bytes_back f.bytes (flat rest) b) r.1

@@ -24,9 +24,12 @@ use Rattle.amf3_spelling.specs.Refusals3.{text_header_refusal}
 use Rattle.amf3_spelling.specs.Words3.{TraitsBy}
 use Rattle.amf3_spelling.specs.Parts3.{Part, flag, four, word, Lifted, Parts, layout, values_then, fours, signed_fours, eights}
 use Rattle.amf3_spelling.specs.Headers3.{HeaderBy}
+use Rattle.amf_graph.specs.declared.kind.NodeKind.{NodeKind}
+use Rattle.amf_graph.specs.declared.kind.NodeKind.TheVariants as kind
+use Rattle.amf3_spelling.specs.Markers3.{node_marker}
 use Rattle.amf3_layout.specs.Layout3State.{State3, stored_marker, takes_parts, with_contents}
 use Rattle.amf3_layout.specs.Layout3Words.{chunk, TextRead, text_layout, Opening, sealed_of, dynamic_of}
-use Rattle.amf3_layout.specs.Layout3.{NodeForm, xml_document, date, array, object, xml, bytes, ints as int_vector, uints, doubles, values, dictionary, node_marker, flag_layout, four_layout, eight_layout, many, whole_node, opening}
+use Rattle.amf3_layout.specs.Layout3.{flag_layout, four_layout, eight_layout, many, whole_node, opening}
 use Rattle.amf3_layout.proofs.Layout3Parts.{behind}
 use Rattle.amf3_layout.proofs.Layout3Contents.{Larger, larger_itself, Good, good_contents}
 use Rattle.amf3_layout.proofs.Layout3SoundTexts.{give_is, TextSound, texts_are, text_sound}
@@ -39,7 +42,7 @@ total o = cond o.twins (2 * o.count) o.count
 abbrev pub Behind : (Value → Spelling Tables) → Head → List (List ℕ × Value) → List Value → ℕ → Spelling Tables
 Behind R h qs vs n = Then (Lifted (HeaderBy free h vs n)) (Parts R free (layout h qs vs))
 
-pub record OpenSound (R : Value → Spelling Tables) (f : NodeForm) (n : ℕ) (s : State3) (fs : List Field) (o : Opening) : Type 0 where
+pub record OpenSound (R : Value → Spelling Tables) (f : NodeKind) (n : ℕ) (s : State3) (fs : List Field) (o : Opening) : Type 0 where
   pub good : Good o.state
   pub larger : Larger s.arena o.state.arena
   pub nodes : o.state.arena.nodes ≡ s.arena.nodes
@@ -54,7 +57,7 @@ pub record OpenSound (R : Value → Spelling Tables) (f : NodeForm) (n : ℕ) (s
 
 module _ (R : Value → Spelling Tables) (n : ℕ) (s : State3) (g : Good s) where
   -- a node without pairs and values
-  whole_open : (f : NodeForm) (fs : List Field) (z : State3) (head : StoredHead) (h : Head) → Good z → Larger s.arena z.arena → z.arena.nodes ≡ s.arena.nodes → z.tables.nodes ≡ s.tables.nodes → z.words ≡ s.words → h ≡ head_content z.arena head → HeadNames z.arena head → stored_marker head ≡ node_marker f
+  whole_open : (f : NodeKind) (fs : List Field) (z : State3) (head : StoredHead) (h : Head) → Good z → Larger s.arena z.arena → z.arena.nodes ≡ s.arena.nodes → z.tables.nodes ≡ s.tables.nodes → z.words ≡ s.words → h ≡ head_content z.arena head → HeadNames z.arena head → stored_marker head ≡ node_marker f
       → Fits h [] [] → ((w : Words) → HeaderBy free h [] n w [] w) → ((qs : List (List ℕ × Value)) (t u : Tables) (back : List Field) → (back ≡ []) × (u ≡ t) → Parts R free (layout h qs []) t (fs ++ back) u) → OpenSound R f n s fs (whole_node z head)
   whole_open f fs z head h good larger nodes table words is named mark fits header parts = record {
     good = good;
@@ -103,7 +106,7 @@ module _ (R : Value → Spelling Tables) (n : ℕ) (s : State3) (g : Good s) whe
   signed_count (k ∷ ns) = ap suc (signed_count ns)
 
   module _ (odd : n ≡ 2 * (n / 2) + 1) where
-    text_node : (f : NodeForm) (head : ℕ → StoredHead) (h : List ℕ → Head) → ((a : Arena) (i : ℕ) → head_content a (head i) ≡ h (text_at a i)) → ((a : Arena) (i : ℕ) → i < length a.texts → HeadNames a (head i)) → ((i : ℕ) → stored_marker (head i) ≡ node_marker f)
+    text_node : (f : NodeKind) (head : ℕ → StoredHead) (h : List ℕ → Head) → ((a : Arena) (i : ℕ) → head_content a (head i) ≡ h (text_at a i)) → ((a : Arena) (i : ℕ) → i < length a.texts → HeadNames a (head i)) → ((i : ℕ) → stored_marker (head i) ≡ node_marker f)
         → ((x : List ℕ) → IsText x → Fits (h x) [] []) → ((x : List ℕ) (w : Words) → n ≡ 2 * length x + 1 → HeaderBy free (h x) [] n w [] w)
         → ((x : List ℕ) (fs : List Field) (qs : List (List ℕ × Value)) (t u : Tables) (back : List Field) → fs ≡ contents text_kind x → (back ≡ []) × (u ≡ t) → Parts R free (layout (h x) qs []) t (fs ++ back) u)
         → (fs : List Field) (o : Opening) → AreBytes (flat fs) → Runs (chunk text_kind (n / 2) (λ x. give (whole_node (with_contents s x) (head (length s.arena.texts))))) fs o → OpenSound R f n s fs o
@@ -131,7 +134,7 @@ module _ (R : Value → Spelling Tables) (n : ℕ) (s : State3) (g : Good s) whe
     flag_read l [] o b r = absurd cc
     flag_read l (f ∷ fs) o b r = record { byte = f; rest = fs; fields = refl; takes = r.0; bytes = bytes_front f.bytes (flat fs) b; bytes_rest = bytes_back f.bytes (flat fs) b; runs = r.1 }
 
-    numbers_open : (f : NodeForm) (l : Layout ℕ) (ps : List ℕ → List Part) (P : ℕ → Type 0) (head : Bool → List ℕ → StoredHead) (h : Bool → List ℕ → Head) → ((k : ℕ) (fs : List Field) (ns : List ℕ) → AreBytes (flat fs) → Runs (many k l) fs ns → Numbers R ps P k fs ns)
+    numbers_open : (f : NodeKind) (l : Layout ℕ) (ps : List ℕ → List Part) (P : ℕ → Type 0) (head : Bool → List ℕ → StoredHead) (h : Bool → List ℕ → Head) → ((k : ℕ) (fs : List Field) (ns : List ℕ) → AreBytes (flat fs) → Runs (many k l) fs ns → Numbers R ps P k fs ns)
         → ((a : Arena) (b : Bool) (ns : List ℕ) → head_content a (head b ns) ≡ h b ns) → ((a : Arena) (b : Bool) (ns : List ℕ) → HeadNames a (head b ns)) → ((b : Bool) (ns : List ℕ) → stored_marker (head b ns) ≡ node_marker f)
         → ((b : Bool) (ns : List ℕ) → AllByRecursion P ns → Fits (h b ns) [] []) → ((b : Bool) (ns : List ℕ) (w : Words) → n ≡ 2 * length ns + 1 → HeaderBy free (h b ns) [] n w [] w)
         → ((b : Bool) (ns : List ℕ) (qs : List (List ℕ × Value)) (t u : Tables) (fs : List Field) → AllByRecursion P ns → Parts R free (flag b ∷ ps ns) t fs u → Parts R free (layout (h b ns) qs []) t fs u)
@@ -154,8 +157,8 @@ module _ (R : Value → Spelling Tables) (n : ℕ) (s : State3) (g : Good s) whe
         last e rest joined k eb ns front (x ∷ back) parted m p = absurd p
 
     -- objects and wrappers
-    object_open : (fs : List Field) (o : Opening) → TraitsSound n s fs o → OpenSound R object n s fs o
-    object_open fs o t = by_head o.head refl t.entry refl t.head
+    object_open : (f : NodeKind) → node_marker f ≡ 0x0A → (fs : List Field) (o : Opening) → TraitsSound n s fs o → OpenSound R f n s fs o
+    object_open f marked fs o t = by_head o.head refl t.entry refl t.head
       where
         counted : (e : Entry) → t.entry ≡ e → total o ≡ sealed_of e
         counted e i = ap (λ b. cond b (2 * o.count) o.count) t.twins ∙ t.count ∙ ap sealed_of i
@@ -166,14 +169,14 @@ module _ (R : Value → Spelling Tables) (n : ℕ) (s : State3) (g : Good s) whe
 
         of_traits : (h : Head) (e : Entry) → t.entry ≡ e → head_content o.state.arena o.head ≡ h → ((qs : List (List ℕ × Value)) (vs : List Value) (w w' : Words) (fs : List Field) → TraitsBy free e n w fs w' → HeaderBy free h vs n w fs w')
             → ((qs : List (List ℕ × Value)) (vs : List Value) → behind false (dynamic_of e) qs vs ≡ layout h qs vs) → ((qs : List (List ℕ × Value)) (vs : List Value) → length vs ≡ sealed_of e → AreMembers (dynamic_of e) qs → Fits h qs vs)
-            → HeadNames o.state.arena o.head → stored_marker o.head ≡ 0x0A → takes_parts o.head ≡ true → OpenSound R object n s fs o
+            → HeadNames o.state.arena o.head → stored_marker o.head ≡ 0x0A → takes_parts o.head ≡ true → OpenSound R f n s fs o
         of_traits h e i is header lay fits named mark takes = record {
           good = t.good;
           larger = t.larger;
           nodes = t.nodes;
           node_table = t.node_table;
           named = named;
-          mark = mark;
+          mark = mark ∙ sym marked;
           once = inl t.first;
           leaf = λ k. absurd (true_false (takes_parts o.head) takes k);
           fits = λ qs vs count none. subst (λ k. Fits k qs vs) (sym is) (fits qs vs (count ∙ counted e i) (members (dynamic_of e) qs (t.last ∙ ap dynamic_of i) none));
@@ -188,7 +191,7 @@ module _ (R : Value → Spelling Tables) (n : ℕ) (s : State3) (g : Good s) whe
             true_false : (b : Bool) → b ≡ true → b ≡ false → ⊥
             true_false b p q = cc
 
-        by_head : (h : StoredHead) → o.head ≡ h → (e : Entry) → t.entry ≡ e → IsHeadOf o.state.arena h e → OpenSound R object n s fs o
+        by_head : (h : StoredHead) → o.head ≡ h → (e : Entry) → t.entry ≡ e → IsHeadOf o.state.arena h e → OpenSound R f n s fs o
         by_head (arena.object k) i (plain c) j q =
             of_traits (graph.object c) (plain c) j (ap (head_content o.state.arena) i ∙ ap graph.object q.1) (λ qs vs w w' fs p. p) (λ qs vs. refl) (λ qs vs c m. (c, m)) (subst (HeadNames o.state.arena) (sym i) q.0) (ap stored_marker i) (ap takes_parts i)
         by_head (arena.wrapper c) i (external d) j q =
@@ -199,7 +202,7 @@ module _ (R : Value → Spelling Tables) (n : ℕ) (s : State3) (g : Good s) whe
     abbrev of_values : Bool → TextRead → Opening
     of_values f x = record { head = arena.values f x.id; count = n / 2; twins = false; first = false; last = false; state = x.state }
 
-    values_open : (fs : List Field) (o : Opening) → AreBytes (flat fs) → Runs (bind flag_layout (λ f. bind (text_layout s) (λ x. give (of_values f x)))) fs o → OpenSound R values n s fs o
+    values_open : (fs : List Field) (o : Opening) → AreBytes (flat fs) → Runs (bind flag_layout (λ f. bind (text_layout s) (λ x. give (of_values f x)))) fs o → OpenSound R kind.Values n s fs o
     values_open fs o b r =
         let c = flag_read (λ f. bind (text_layout s) (λ x. give (of_values f x))) fs o b r in
         let v = not (eqb (slice_index c.byte.bytes 0) 0) in
@@ -208,11 +211,11 @@ module _ (R : Value → Spelling Tables) (n : ℕ) (s : State3) (g : Good s) whe
         last c.byte c.rest c.fields c.takes c.bytes d.value d.front d.back d.parts (text_sound s g d.front d.value db.0 d.first) d.second
       where
         last : (e : Field) (rest : List Field) → fs ≡ e ∷ rest → Takes (raw_kind 1) e → AreBytes e.bytes → (x : TextRead) (front back : List Field) → rest ≡ front ++ back → TextSound (text_header_refusal (length s.words.texts)) text_kind s front x
-            → Path (give (of_values (not (eqb (slice_index e.bytes 0) 0)) x)) back (give o) → OpenSound R values n s fs o
+            → Path (give (of_values (not (eqb (slice_index e.bytes 0) 0)) x)) back (give o) → OpenSound R kind.Values n s fs o
         last e rest joined k eb x front [] parted one p =
             let v = not (eqb (slice_index e.bytes 0) 0) in
             let all : fs ≡ e ∷ front = joined ∙ ap (λ l. e ∷ l) (parted ∙ append-nil front) in
-            subst (λ y. OpenSound R values n s fs y) (give_is (of_values v x) o p) (subst (λ l. OpenSound R values n s l (of_values v x)) (sym all) (record {
+            subst (λ y. OpenSound R kind.Values n s fs y) (give_is (of_values v x) o p) (subst (λ l. OpenSound R kind.Values n s l (of_values v x)) (sym all) (record {
               good = one.good;
               larger = one.larger;
               nodes = one.nodes;
@@ -234,11 +237,11 @@ module _ (R : Value → Spelling Tables) (n : ℕ) (s : State3) (g : Good s) whe
     abbrev of_entries : Bool → Opening
     of_entries f = record { head = arena.dictionary f; count = n / 2; twins = true; first = false; last = false; state = s }
 
-    entries_open : (fs : List Field) (o : Opening) → AreBytes (flat fs) → Runs (bind flag_layout (λ f. give (of_entries f))) fs o → OpenSound R dictionary n s fs o
+    entries_open : (fs : List Field) (o : Opening) → AreBytes (flat fs) → Runs (bind flag_layout (λ f. give (of_entries f))) fs o → OpenSound R kind.Dictionary n s fs o
     entries_open [] o b r = absurd cc
     entries_open (e ∷ []) o b r =
         let v = not (eqb (slice_index e.bytes 0) 0) in
-        subst (λ y. OpenSound R dictionary n s (e ∷ []) y) (give_is (of_entries v) o r.1) (record {
+        subst (λ y. OpenSound R kind.Dictionary n s (e ∷ []) y) (give_is (of_entries v) o r.1) (record {
           good = g;
           larger = itself;
           nodes = refl;
@@ -259,21 +262,21 @@ module _ (R : Value → Spelling Tables) (n : ℕ) (s : State3) (g : Good s) whe
         })
     entries_open (e ∷ f ∷ fs) o b r = absurd r.1
 
-pub open_sound : (R : Value → Spelling Tables) (f : NodeForm) (n : ℕ) (s : State3) → Good s → n ≡ 2 * (n / 2) + 1 → eqb (n % 2) 0 ≡ false → (f ≡ object → eqb (n % 4) 1 ≡ true → n / 4 < length s.words.traits) → (fs : List Field) (o : Opening) → AreBytes (flat fs) → Runs (opening f n s) fs o → OpenSound R f n s fs o
-open_sound R xml_document n s g odd test place fs o b r =
-    text_node R n s g odd xml_document arena.xml_document graph.xml_document (λ a i. refl) (λ a i h. h) (λ i. refl) (λ x h. (h, refl, refl)) (λ x w e. (e, (refl, refl))) (λ x fs qs t u back e q. record { front = fs; back = back; mid = t; joined = refl; first = (e, refl); second = q }) fs o b r
-open_sound R xml n s g odd test place fs o b r =
-    text_node R n s g odd xml arena.xml graph.xml (λ a i. refl) (λ a i h. h) (λ i. refl) (λ x h. (h, refl, refl)) (λ x w e. (e, (refl, refl))) (λ x fs qs t u back e q. record { front = fs; back = back; mid = t; joined = refl; first = (e, refl); second = q }) fs o b r
-open_sound R date n s g odd test place [] o b r = absurd cc
-open_sound R date n s g odd test place (f ∷ []) o b r =
+pub open_sound : (R : Value → Spelling Tables) (f : NodeKind) (n : ℕ) (s : State3) → Good s → n ≡ 2 * (n / 2) + 1 → eqb (n % 2) 0 ≡ false → (node_marker f ≡ 0x0A → eqb (n % 4) 1 ≡ true → n / 4 < length s.words.traits) → (fs : List Field) (o : Opening) → AreBytes (flat fs) → Runs (opening f n s) fs o → OpenSound R f n s fs o
+open_sound R kind.XmlDocument n s g odd test place fs o b r =
+    text_node R n s g odd kind.XmlDocument arena.xml_document graph.xml_document (λ a i. refl) (λ a i h. h) (λ i. refl) (λ x h. (h, refl, refl)) (λ x w e. (e, (refl, refl))) (λ x fs qs t u back e q. record { front = fs; back = back; mid = t; joined = refl; first = (e, refl); second = q }) fs o b r
+open_sound R kind.Xml n s g odd test place fs o b r =
+    text_node R n s g odd kind.Xml arena.xml graph.xml (λ a i. refl) (λ a i h. h) (λ i. refl) (λ x h. (h, refl, refl)) (λ x w e. (e, (refl, refl))) (λ x fs qs t u back e q. record { front = fs; back = back; mid = t; joined = refl; first = (e, refl); second = q }) fs o b r
+open_sound R kind.Date n s g odd test place [] o b r = absurd cc
+open_sound R kind.Date n s g odd test place (f ∷ []) o b r =
     let p = from_be_bytes w64 f.bytes in
     let i = eight_is f r.0 (bytes_front f.bytes [] b) in
-    subst (λ y. OpenSound R date n s (f ∷ []) y) (give_is (whole_node s (arena.date p)) o r.1)
-    (whole_open R n s g date (f ∷ []) s (arena.date p) (graph.date p) g (itself R n s g) refl refl refl refl tt refl (i.1, refl, refl) (λ w. (n / 2, tt, (odd, (refl, refl))))
+    subst (λ y. OpenSound R kind.Date n s (f ∷ []) y) (give_is (whole_node s (arena.date p)) o r.1)
+    (whole_open R n s g kind.Date (f ∷ []) s (arena.date p) (graph.date p) g (itself R n s g) refl refl refl refl tt refl (i.1, refl, refl) (λ w. (n / 2, tt, (odd, (refl, refl))))
     (λ qs t u back q. record { front = f ∷ []; back = back; mid = t; joined = refl; first = (ap (λ h. h ∷ []) i.0, refl); second = q }))
-open_sound R date n s g odd test place (f ∷ h ∷ fs) o b r = absurd r.1
-open_sound R array n s g odd test place [] o b r =
-    subst (λ y. OpenSound R array n s [] y) (give_is (let k : Opening = record { head = arena.array; count = n / 2; twins = false; first = true; last = false; state = s } in k) o r) (record {
+open_sound R kind.Date n s g odd test place (f ∷ h ∷ fs) o b r = absurd r.1
+open_sound R kind.Array n s g odd test place [] o b r =
+    subst (λ y. OpenSound R kind.Array n s [] y) (give_is (let k : Opening = record { head = arena.array; count = n / 2; twins = false; first = true; last = false; state = s } in k) o r) (record {
       good = g;
       larger = itself R n s g;
       nodes = refl;
@@ -285,20 +288,21 @@ open_sound R array n s g odd test place [] o b r =
       fits = λ qs vs c h. tt;
       spelled = λ t u qs vs back same count p. record { front = []; back = back; mid = with_words t s.words; joined = refl; first = (s.words, (odd ∙ ap (λ k. 2 * k + 1) (sym count), (refl, sym same)), refl); second = p };
     })
-open_sound R array n s g odd test place (f ∷ fs) o b r = absurd r
-open_sound R object n s g odd test place fs o b r = object_open R n s g odd fs o (traits_sound n s g test (place refl) fs o b r)
-open_sound R bytes n s g odd test place fs o b r =
+open_sound R kind.Array n s g odd test place (f ∷ fs) o b r = absurd r
+open_sound R kind.Object n s g odd test place fs o b r = object_open R n s g odd kind.Object refl fs o (traits_sound n s g test (place refl) fs o b r)
+open_sound R kind.Wrapper n s g odd test place fs o b r = object_open R n s g odd kind.Wrapper refl fs o (traits_sound n s g test (place refl) fs o b r)
+open_sound R kind.Bytes n s g odd test place fs o b r =
     let c = chunk_taken raw_kind AreBytes (n / 2) (λ x. whole_node s (arena.bytes x)) fs o (λ n. refl) tt (λ k y h _. h) b r in
     let x = c.bytes in
-    subst (λ y. OpenSound R bytes n s fs y) c.is
-    (whole_open R n s g bytes fs s (arena.bytes x) (graph.bytes x) g (itself R n s g) refl refl refl refl tt refl (c.good, refl, refl) (λ w. (odd ∙ ap (λ k. 2 * k + 1) (sym c.long), (refl, refl)))
+    subst (λ y. OpenSound R kind.Bytes n s fs y) c.is
+    (whole_open R n s g kind.Bytes fs s (arena.bytes x) (graph.bytes x) g (itself R n s g) refl refl refl refl tt refl (c.good, refl, refl) (λ w. (odd ∙ ap (λ k. 2 * k + 1) (sym c.long), (refl, refl)))
     (λ qs t u back q. record { front = fs; back = back; mid = t; joined = refl; first = (c.fields, refl); second = q }))
-open_sound R int_vector n s g odd test place fs o b r =
-    numbers_open R n s g odd int_vector four_layout fours (λ k. k < 2 ^ 32) (λ f ns. arena.ints f (map (cast_signed w32) ns)) (λ f ns. graph.ints f (map (cast_signed w32) ns)) (fours_sound R) (λ a f ns. refl) (λ a f ns. tt) (λ f ns. refl) (λ f ns h. (signed_all R n s g ns h, refl, refl))
+open_sound R kind.Ints n s g odd test place fs o b r =
+    numbers_open R n s g odd kind.Ints four_layout fours (λ k. k < 2 ^ 32) (λ f ns. arena.ints f (map (cast_signed w32) ns)) (λ f ns. graph.ints f (map (cast_signed w32) ns)) (fours_sound R) (λ a f ns. refl) (λ a f ns. tt) (λ f ns. refl) (λ f ns h. (signed_all R n s g ns h, refl, refl))
     (λ f ns w e. (e ∙ ap (λ k. 2 * k + 1) (sym (signed_count R n s g ns)), (refl, refl))) (λ f ns qs t u fs h p. subst (λ l. Parts R free (flag f ∷ l) t fs u) (sym (signed_same R n s g ns h)) p) fs o b r
-open_sound R uints n s g odd test place fs o b r =
-    numbers_open R n s g odd uints four_layout fours (λ k. k < 2 ^ 32) arena.uints graph.uints (fours_sound R) (λ a f ns. refl) (λ a f ns. tt) (λ f ns. refl) (λ f ns h. (h, refl, refl)) (λ f ns w e. (e, (refl, refl))) (λ f ns qs t u fs h p. p) fs o b r
-open_sound R doubles n s g odd test place fs o b r =
-    numbers_open R n s g odd doubles eight_layout eights IsPattern arena.doubles graph.doubles (eights_sound R) (λ a f ns. refl) (λ a f ns. tt) (λ f ns. refl) (λ f ns h. (h, refl, refl)) (λ f ns w e. (e, (refl, refl))) (λ f ns qs t u fs h p. p) fs o b r
-open_sound R values n s g odd test place fs o b r = values_open R n s g odd fs o b r
-open_sound R dictionary n s g odd test place fs o b r = entries_open R n s g odd fs o b r
+open_sound R kind.Uints n s g odd test place fs o b r =
+    numbers_open R n s g odd kind.Uints four_layout fours (λ k. k < 2 ^ 32) arena.uints graph.uints (fours_sound R) (λ a f ns. refl) (λ a f ns. tt) (λ f ns. refl) (λ f ns h. (h, refl, refl)) (λ f ns w e. (e, (refl, refl))) (λ f ns qs t u fs h p. p) fs o b r
+open_sound R kind.Doubles n s g odd test place fs o b r =
+    numbers_open R n s g odd kind.Doubles eight_layout eights IsPattern arena.doubles graph.doubles (eights_sound R) (λ a f ns. refl) (λ a f ns. tt) (λ f ns. refl) (λ f ns h. (h, refl, refl)) (λ f ns w e. (e, (refl, refl))) (λ f ns qs t u fs h p. p) fs o b r
+open_sound R kind.Values n s g odd test place fs o b r = values_open R n s g odd fs o b r
+open_sound R kind.Dictionary n s g odd test place fs o b r = entries_open R n s g odd fs o b r

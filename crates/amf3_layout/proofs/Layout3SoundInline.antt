@@ -22,8 +22,10 @@ use Rattle.amf3_spelling.specs.Parts3.{Parts, Lifted, layout}
 use Rattle.amf3_spelling.specs.Headers3.{HeaderBy, marker_field, header_field}
 use Rattle.amf3_spelling.specs.Nodes3.{Begun}
 use Rattle.amf3_spelling.specs.Spells3.{SpellsIn}
+use Rattle.amf_graph.specs.declared.kind.NodeKind.{NodeKind}
+use Rattle.amf3_spelling.specs.Markers3.{node_marker}
 use Rattle.amf3_layout.specs.Layout3State.{State3, with_node, begun, takes_parts, changed}
-use Rattle.amf3_layout.specs.Layout3.{NodeForm, object, node_marker, opening, ValueRead, parts, inline_node}
+use Rattle.amf3_layout.specs.Layout3.{opening, ValueRead, parts, inline_node}
 use Rattle.amf3_layout.proofs.Layout3Parts.{behind}
 use Rattle.amf3_layout.proofs.Layout3Marks.{marker_content}
 use Rattle.amf3_layout.proofs.Layout3Contents.{Larger, larger_itself, larger_twice, head_kept, KeptNode, Good, good_node, good_changed}
@@ -74,7 +76,7 @@ absent_below (suc n) m le k e = later n m k (omega arith) e (absent_below n m (o
     later n m k lt e h = in_last (below n) n m k lt h e
 
 -- a node that was read inline
-pub record InlineSound (height : ℕ) (f : NodeForm) (n : ℕ) (header : List ℕ) (s : State3) (rest : List Field) (x : ValueRead) : Type 0 where
+pub record InlineSound (height : ℕ) (f : NodeKind) (n : ℕ) (header : List ℕ) (s : State3) (rest : List Field) (x : ValueRead) : Type 0 where
   pub good : Good x.state
   pub larger : Larger s.arena x.state.arena
   pub place : ℕ
@@ -86,7 +88,7 @@ pub record InlineSound (height : ℕ) (f : NodeForm) (n : ℕ) (header : List �
   pub spelled : (g : Arena) (r : Stored) → Completes x.state.arena g
       → Begun (spell3 height g r) free (graph_of g r) place (table s) (marker_field (node_marker f) ∷ header_field (graph_of g r) (table s) (node_marker f) header ∷ rest) (table x.state)
 
-pub inline_sound : (height : ℕ) (v : Reader) (N : ℕ) → Sounds (spell3 height) v → (f : NodeForm) (n : ℕ) (header : List ℕ) (s : State3) → Good s → SpellsU29 n header → n ≡ 2 * (n / 2) + 1 → eqb (n % 2) 0 ≡ false → (f ≡ object → eqb (n % 4) 1 ≡ true → n / 4 < length s.words.traits)
+pub inline_sound : (height : ℕ) (v : Reader) (N : ℕ) → Sounds (spell3 height) v → (f : NodeKind) (n : ℕ) (header : List ℕ) (s : State3) → Good s → SpellsU29 n header → n ≡ 2 * (n / 2) + 1 → eqb (n % 2) 0 ≡ false → (node_marker f ≡ 0x0A → eqb (n % 4) 1 ≡ true → n / 4 < length s.words.traits)
     → (rest : List Field) (x : ValueRead) → AreBytes (flat rest) → Runs (inline_node v N f n s) rest x → InlineSound height f n header s rest x
 inline_sound height v N h f n header s g spelled odd test place rest x b r =
     let a = bind_runs (opening f n s) (parts v N) rest x r in

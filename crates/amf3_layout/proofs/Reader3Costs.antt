@@ -12,9 +12,13 @@ use Rattle.amf_graph.specs.Arena.{Arena, StoredNode}
 use Rattle.amf_graph.specs.Bounds.{weight}
 use Rattle.amf_graph.specs.Building.{stored_at, more_value, more_name, shut, more_entry}
 use Rattle.amf3_spelling.specs.Refusals3.{marker_kind, header_kind}
+use Rattle.amf_graph.specs.declared.kind.NodeKind.{NodeKind}
+use Rattle.amf3_spelling.specs.declared.marker.Marker.{Marker}
+use Rattle.amf3_spelling.specs.declared.marker.Marker.TheVariants as marker
+use Rattle.amf3_spelling.specs.Markers3.{node_marker, marker_at}
 use Rattle.amf3_layout.specs.Layout3State.{State3, with_node, changed}
 use Rattle.amf3_layout.specs.Layout3Words.{text_layout, Opening}
-use Rattle.amf3_layout.specs.Layout3.{NodeForm, Form, undefined, null, untrue, true_, integer, double, text, node, form_of, node_marker, eight_layout, opening, ValueRead, read, items, entries, items_of, is_empty, pairs, pairs_if, parts, inline_node, known_node, node_layout, behind_marker, value_layout}
+use Rattle.amf3_layout.specs.Layout3.{eight_layout, opening, ValueRead, read, items, entries, items_of, is_empty, pairs, pairs_if, parts, inline_node, known_node, node_layout, behind_marker, value_layout}
 use Rattle.amf3_layout.proofs.Reader3Weight.{weight_begun, weight_more_value, weight_more_name, weight_more_entry, weight_shut}
 use Rattle.amf3_layout.proofs.Reader3OpeningCosts.{Costs, costs_give, costs_stuck, costs_want, costs_bind, costs_cond, costs_more, costs_within, costs_nothing, state_size, text_size, opening_size, value_size, costs_text, costs_opening}
 
@@ -101,38 +105,38 @@ module _ (v : State3 → Layout ValueRead) (h : (s : State3) → Costs value_siz
       (λ u. costs_bind one value_size (one u) (pairs_if o.last v fuel id u) (ending id) (costs_more state_size (state_size u) 1 (pairs_if o.last v fuel id u) (costs_pairs_if o.last fuel id u))
       (λ z. costs_give value_size (one z) (read (Node (record { 0 = id })) (changed shut id z)) (let e = node_shut id z in omega arith)))))
 
-  costs_inline_node : (fuel : ℕ) (f : NodeForm) (n : ℕ) (s : State3) → Costs value_size (state_size s + 2) (inline_node v fuel f n s)
+  costs_inline_node : (fuel : ℕ) (f : NodeKind) (n : ℕ) (s : State3) → Costs value_size (state_size s + 2) (inline_node v fuel f n s)
   costs_inline_node fuel f n s = costs_bind (λ (o : Opening). opening_size o + 2) value_size (state_size s + 2) (opening f n s) (parts v fuel) (costs_more opening_size (state_size s) 2 (opening f n s) (costs_opening f n s)) (costs_parts fuel)
 
   -- behind a marker
-  costs_node : (fuel : ℕ) (f : NodeForm) (s : State3) → Costs value_size (state_size s + 1) (node_layout v fuel f s)
+  costs_node : (fuel : ℕ) (f : NodeKind) (s : State3) → Costs value_size (state_size s + 1) (node_layout v fuel f s)
   costs_node fuel f s =
       costs_want value_size (state_size s + 1) (header_kind s.marks (length s.words.traits) (node_marker f)) (λ b. cond (eqb (u29_value b % 2) 0) (give (known_node s (u29_value b / 2))) (inline_node v fuel f (u29_value b) s))
       (λ b some. costs_cond value_size (state_size s + 1 + length b) (eqb (u29_value b % 2) 0) (give (known_node s (u29_value b / 2))) (inline_node v fuel f (u29_value b) s)
       (costs_give value_size (state_size s + 1 + length b) (known_node s (u29_value b / 2)) (omega arith))
       (costs_within value_size (state_size s + 2) (state_size s + 1 + length b) (inline_node v fuel f (u29_value b) s) (omega arith) (costs_inline_node fuel f (u29_value b) s)))
 
-  costs_behind : (fuel : ℕ) (s : State3) (f : Form) → Costs value_size (state_size s + 1) (behind_marker v fuel s f)
-  costs_behind fuel s undefined = costs_give value_size (state_size s + 1) (read Undefined s) (omega arith)
-  costs_behind fuel s null = costs_give value_size (state_size s + 1) (read Null s) (omega arith)
-  costs_behind fuel s untrue = costs_give value_size (state_size s + 1) (read (Flag false) s) (omega arith)
-  costs_behind fuel s true_ = costs_give value_size (state_size s + 1) (read (Flag true) s) (omega arith)
-  costs_behind fuel s integer =
+  costs_behind : (fuel : ℕ) (s : State3) (f : Marker) → Costs value_size (state_size s + 1) (behind_marker v fuel s f)
+  costs_behind fuel s marker.Undefined = costs_give value_size (state_size s + 1) (read Undefined s) (omega arith)
+  costs_behind fuel s marker.Null = costs_give value_size (state_size s + 1) (read Null s) (omega arith)
+  costs_behind fuel s marker.False = costs_give value_size (state_size s + 1) (read (Flag false) s) (omega arith)
+  costs_behind fuel s marker.True = costs_give value_size (state_size s + 1) (read (Flag true) s) (omega arith)
+  costs_behind fuel s marker.Integer =
       costs_want value_size (state_size s + 1) (u29_kind no_refusal) (λ b. give (read (Integer (integer_of (u29_value b))) s))
       (λ b some. costs_give value_size (state_size s + 1 + length b) (read (Integer (integer_of (u29_value b))) s) (omega arith))
-  costs_behind fuel s double =
+  costs_behind fuel s marker.Double =
       costs_bind (λ (p : ℕ). state_size s + 1) value_size (state_size s + 1) eight_layout (λ p. give (read (Double (record { 0 = p })) s)) (costs_nothing (state_size s + 1) eight_layout)
       (λ p. costs_give value_size (state_size s + 1) (read (Double (record { 0 = p })) s) (omega arith))
-  costs_behind fuel s text =
+  costs_behind fuel s marker.Text =
       costs_bind text_size value_size (state_size s + 1) (text_layout s) (λ x. give (read (Text (record { 0 = x.id })) x.state)) (costs_within text_size (state_size s) (state_size s + 1) (text_layout s) (omega arith) (costs_text s))
       (λ x. costs_give value_size (text_size x) (read (Text (record { 0 = x.id })) x.state) (omega arith))
-  costs_behind fuel s (node f) = costs_node fuel f s
+  costs_behind fuel s (marker.Node f) = costs_node fuel f s
 
 costs_value : (n : ℕ) (s : State3) → Costs value_size (state_size s) (value_layout n s)
 costs_value zero s = costs_stuck value_size (state_size s)
 costs_value (suc n) s =
-    costs_want value_size (state_size s) marker_kind (λ b. behind_marker (value_layout n) n s (form_of (slice_index b 0)))
-    (λ b some. costs_within value_size (state_size s + 1) (state_size s + length b) (behind_marker (value_layout n) n s (form_of (slice_index b 0))) (omega arith) (costs_behind (value_layout n) (costs_value n) n s (form_of (slice_index b 0))))
+    costs_want value_size (state_size s) marker_kind (λ b. behind_marker (value_layout n) n s (marker_at (slice_index b 0)))
+    (λ b some. costs_within value_size (state_size s + 1) (state_size s + length b) (behind_marker (value_layout n) n s (marker_at (slice_index b 0))) (omega arith) (costs_behind (value_layout n) (costs_value n) n s (marker_at (slice_index b 0))))
 
 pub value_costs : (n : ℕ) (s : State3) (fs : List Field) (x : ValueRead) → Runs (value_layout n s) fs x → weight x.state.arena < weight s.arena + length (flat fs)
 value_costs n s fs x r = let c = costs_value n s fs x r in omega arith

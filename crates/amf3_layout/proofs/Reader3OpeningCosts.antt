@@ -13,9 +13,11 @@ use Rattle.amf_graph.specs.Arena as arena
 use Rattle.amf_graph.specs.Bounds.{bytes_of, weight}
 use Rattle.amf3_spelling.specs.KeptTables.{KeptEntry, plain, external}
 use Rattle.amf3_spelling.specs.Refusals3.{text_header_kind, class_header_kind, class_kind}
+use Rattle.amf_graph.specs.declared.kind.NodeKind.{NodeKind}
+use Rattle.amf_graph.specs.declared.kind.NodeKind.TheVariants as kind
 use Rattle.amf3_layout.specs.Layout3State.{State3, with_contents}
 use Rattle.amf3_layout.specs.Layout3Words.{chunk, TextRead, known_text, new_text, text_behind, text_by, text_layout, class_layout, TextsRead, more_text, texts_layout, Opening, head_of, known_traits, plain_traits, external_traits, inline_traits, external_layout, traits_layout}
-use Rattle.amf3_layout.specs.Layout3.{NodeForm, xml_document, date, array, object, xml, bytes, ints, uints, doubles, values, dictionary, flag_layout, four_layout, eight_layout, many, whole_node, opening, ValueRead}
+use Rattle.amf3_layout.specs.Layout3.{flag_layout, four_layout, eight_layout, many, whole_node, opening, ValueRead}
 use Rattle.amf3_layout.proofs.Layout3SoundTexts.{give_is}
 use Rattle.amf3_layout.proofs.Layout3SoundOpenings.{raw_long}
 use Rattle.amf3_layout.proofs.Reader3Weight.{weight_text, weight_traits}
@@ -150,29 +152,30 @@ costs_numbers k n t s head h e =
     costs_bind (λ (ns : List ℕ). state_size s + k * length ns) opening_size (state_size s) (many n t) (λ ns. give (whole_node s (head ns))) (costs_many (state_size s) k n t (h (state_size s)))
     (λ ns. costs_give opening_size (state_size s + k * length ns) (whole_node s (head ns)) (omega (arith, e ns)))
 
-pub costs_opening : (f : NodeForm) (h : ℕ) (s : State3) → Costs opening_size (state_size s) (opening f h s)
-costs_opening xml_document h s = costs_chunk opening_size (state_size s) text_kind (h / 2) (λ x. whole_node (with_contents s x) (arena.xml_document (length s.arena.texts))) (λ x. omega (arith, weight_text s.arena x))
-costs_opening date h s =
+pub costs_opening : (f : NodeKind) (h : ℕ) (s : State3) → Costs opening_size (state_size s) (opening f h s)
+costs_opening kind.XmlDocument h s = costs_chunk opening_size (state_size s) text_kind (h / 2) (λ x. whole_node (with_contents s x) (arena.xml_document (length s.arena.texts))) (λ x. omega (arith, weight_text s.arena x))
+costs_opening kind.Date h s =
     costs_bind (λ (p : ℕ). state_size s) opening_size (state_size s) eight_layout (λ p. give (whole_node s (arena.date p))) (costs_nothing (state_size s) eight_layout)
     (λ p. costs_give opening_size (state_size s) (whole_node s (arena.date p)) (omega arith))
-costs_opening array h s = costs_give opening_size (state_size s) (record { head = arena.array; count = h / 2; twins = false; first = true; last = false; state = s }) (omega arith)
-costs_opening object h s = costs_traits h s
-costs_opening xml h s = costs_chunk opening_size (state_size s) text_kind (h / 2) (λ x. whole_node (with_contents s x) (arena.xml (length s.arena.texts))) (λ x. omega (arith, weight_text s.arena x))
-costs_opening bytes h s = costs_chunk opening_size (state_size s) raw_kind (h / 2) (λ x. whole_node s (arena.bytes x)) (λ x. omega arith)
-costs_opening ints h s =
+costs_opening kind.Array h s = costs_give opening_size (state_size s) (record { head = arena.array; count = h / 2; twins = false; first = true; last = false; state = s }) (omega arith)
+costs_opening kind.Object h s = costs_traits h s
+costs_opening kind.Wrapper h s = costs_traits h s
+costs_opening kind.Xml h s = costs_chunk opening_size (state_size s) text_kind (h / 2) (λ x. whole_node (with_contents s x) (arena.xml (length s.arena.texts))) (λ x. omega (arith, weight_text s.arena x))
+costs_opening kind.Bytes h s = costs_chunk opening_size (state_size s) raw_kind (h / 2) (λ x. whole_node s (arena.bytes x)) (λ x. omega arith)
+costs_opening kind.Ints h s =
     costs_flagged opening_size (state_size s) (λ f. bind (many (h / 2) four_layout) (λ ns. give (whole_node s (arena.ints f (map (cast_signed w32) ns)))))
     (λ f. costs_numbers 4 (h / 2) four_layout s (λ ns. arena.ints f (map (cast_signed w32) ns)) costs_four (λ ns. ap (λ n. 4 * n) (length-map ns (cast_signed w32))))
-costs_opening uints h s =
+costs_opening kind.Uints h s =
     costs_flagged opening_size (state_size s) (λ f. bind (many (h / 2) four_layout) (λ ns. give (whole_node s (arena.uints f ns))))
     (λ f. costs_numbers 4 (h / 2) four_layout s (arena.uints f) costs_four (λ ns. refl))
-costs_opening doubles h s =
+costs_opening kind.Doubles h s =
     costs_flagged opening_size (state_size s) (λ f. bind (many (h / 2) eight_layout) (λ ns. give (whole_node s (arena.doubles f ns))))
     (λ f. costs_numbers 8 (h / 2) eight_layout s (arena.doubles f) costs_eight (λ ns. refl))
-costs_opening values h s =
+costs_opening kind.Values h s =
     costs_flagged opening_size (state_size s) (λ f. bind (text_layout s) (λ x. give (record { head = arena.values f x.id; count = h / 2; twins = false; first = false; last = false; state = x.state })))
     (λ f. costs_bind text_size opening_size (state_size s) (text_layout s) (λ x. give (record { head = arena.values f x.id; count = h / 2; twins = false; first = false; last = false; state = x.state })) (costs_text s)
     (λ x. costs_give opening_size (text_size x) (record { head = arena.values f x.id; count = h / 2; twins = false; first = false; last = false; state = x.state }) (omega arith)))
-costs_opening dictionary h s =
+costs_opening kind.Dictionary h s =
     costs_flagged opening_size (state_size s) (λ f. give (record { head = arena.dictionary f; count = h / 2; twins = true; first = false; last = false; state = s }))
     (λ f. costs_give opening_size (state_size s) (record { head = arena.dictionary f; count = h / 2; twins = true; first = false; last = false; state = s }) (omega arith))
 
@@ -189,5 +192,5 @@ pub texts_costs : (n : ℕ) (s : State3) (fs : List Field) (x : TextsRead) → R
 texts_costs n s fs x r = costs_texts n s fs x r
 
 -- with what is kept in the node itself
-pub opening_costs : (f : NodeForm) (h : ℕ) (s : State3) (fs : List Field) (o : Opening) → Runs (opening f h s) fs o → weight o.state.arena + bytes_of o.head ≤ weight s.arena + length (flat fs)
+pub opening_costs : (f : NodeKind) (h : ℕ) (s : State3) (fs : List Field) (o : Opening) → Runs (opening f h s) fs o → weight o.state.arena + bytes_of o.head ≤ weight s.arena + length (flat fs)
 opening_costs f h s fs o r = costs_opening f h s fs o r

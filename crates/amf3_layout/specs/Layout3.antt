@@ -5,41 +5,19 @@ use Rattle.amf_wire.specs.U29.{u29_value}
 use Rattle.amf_wire.specs.Integer.{integer_of}
 use Rattle.amf_io.specs.Field.{raw_kind, text_kind, u29_kind, no_refusal}
 use Rattle.amf_io.specs.Layout.{Layout, give, want, stuck, bind}
+use Rattle.amf_graph.specs.declared.kind.NodeKind.{NodeKind}
+use Rattle.amf_graph.specs.declared.kind.NodeKind.TheVariants as kind
 use Rattle.amf_graph.specs.declared.value.Value.{Value as Stored}
 use Rattle.amf_graph.specs.declared.value.Value.TheVariants.{Undefined, Null, Bool as Flag, Integer, Double, Text, Node}
 use Rattle.amf_graph.specs.Arena.{StoredNode}
 use Rattle.amf_graph.specs.Arena as arena
 use Rattle.amf_graph.specs.Building.{more_value, more_name, more_entry, shut}
+use Rattle.amf3_spelling.specs.declared.marker.Marker.{Marker}
+use Rattle.amf3_spelling.specs.declared.marker.Marker.TheVariants as marker
+use Rattle.amf3_spelling.specs.Markers3.{node_marker, marker_at}
 use Rattle.amf3_spelling.specs.Refusals3.{marker_kind, header_kind}
 use Rattle.amf3_layout.specs.Layout3State.{State3, with_contents, with_node, changed}
 use Rattle.amf3_layout.specs.Layout3Words.{chunk, text_layout, Opening, traits_layout}
-
--- the kinds of nodes and of values, in the order of their markers
-pub data NodeForm : Type 0 where
-  xml_document date array object xml bytes ints uints doubles values dictionary : NodeForm
-
-pub data Form : Type 0 where
-  undefined null untrue true_ integer double text : Form
-  node : (f : NodeForm) → Form
-
-abbrev pub forms : List Form
-forms = undefined ∷ null ∷ untrue ∷ true_ ∷ integer ∷ double ∷ text ∷ node xml_document ∷ node date ∷ node array ∷ node object ∷ node xml ∷ node bytes ∷ node ints ∷ node uints ∷ node doubles ∷ node values ∷ node dictionary ∷ []
-
-abbrev pub form_of : ℕ → Form
-form_of m = get_or forms m (node dictionary)
-
-abbrev pub node_marker : NodeForm → ℕ
-node_marker xml_document = 0x07
-node_marker date = 0x08
-node_marker array = 0x09
-node_marker object = 0x0A
-node_marker xml = 0x0B
-node_marker bytes = 0x0C
-node_marker ints = 0x0D
-node_marker uints = 0x0E
-node_marker doubles = 0x0F
-node_marker values = 0x10
-node_marker dictionary = 0x11
 
 -- Parts without text and nodes.
 
@@ -62,18 +40,19 @@ many (suc n) t = bind t (λ x. bind (many n t) (λ xs. give (x ∷ xs)))
 abbrev pub whole_node : State3 → arena.StoredHead → Opening
 whole_node s head = record { head = head; count = 0; twins = false; first = false; last = false; state = s }
 
-abbrev pub opening : NodeForm → ℕ → State3 → Layout Opening
-opening xml_document h s = chunk text_kind (h / 2) (λ x. give (whole_node (with_contents s x) (arena.xml_document (length s.arena.texts))))
-opening date h s = bind eight_layout (λ p. give (whole_node s (arena.date p)))
-opening array h s = give (record { head = arena.array; count = h / 2; twins = false; first = true; last = false; state = s })
-opening object h s = traits_layout h s
-opening xml h s = chunk text_kind (h / 2) (λ x. give (whole_node (with_contents s x) (arena.xml (length s.arena.texts))))
-opening bytes h s = chunk raw_kind (h / 2) (λ x. give (whole_node s (arena.bytes x)))
-opening ints h s = bind flag_layout (λ f. bind (many (h / 2) four_layout) (λ ns. give (whole_node s (arena.ints f (map (cast_signed w32) ns)))))
-opening uints h s = bind flag_layout (λ f. bind (many (h / 2) four_layout) (λ ns. give (whole_node s (arena.uints f ns))))
-opening doubles h s = bind flag_layout (λ f. bind (many (h / 2) eight_layout) (λ ns. give (whole_node s (arena.doubles f ns))))
-opening values h s = bind flag_layout (λ f. bind (text_layout s) (λ x. give (record { head = arena.values f x.id; count = h / 2; twins = false; first = false; last = false; state = x.state })))
-opening dictionary h s = bind flag_layout (λ f. give (record { head = arena.dictionary f; count = h / 2; twins = true; first = false; last = false; state = s }))
+abbrev pub opening : NodeKind → ℕ → State3 → Layout Opening
+opening kind.XmlDocument h s = chunk text_kind (h / 2) (λ x. give (whole_node (with_contents s x) (arena.xml_document (length s.arena.texts))))
+opening kind.Date h s = bind eight_layout (λ p. give (whole_node s (arena.date p)))
+opening kind.Array h s = give (record { head = arena.array; count = h / 2; twins = false; first = true; last = false; state = s })
+opening kind.Object h s = traits_layout h s
+opening kind.Wrapper h s = traits_layout h s
+opening kind.Xml h s = chunk text_kind (h / 2) (λ x. give (whole_node (with_contents s x) (arena.xml (length s.arena.texts))))
+opening kind.Bytes h s = chunk raw_kind (h / 2) (λ x. give (whole_node s (arena.bytes x)))
+opening kind.Ints h s = bind flag_layout (λ f. bind (many (h / 2) four_layout) (λ ns. give (whole_node s (arena.ints f (map (cast_signed w32) ns)))))
+opening kind.Uints h s = bind flag_layout (λ f. bind (many (h / 2) four_layout) (λ ns. give (whole_node s (arena.uints f ns))))
+opening kind.Doubles h s = bind flag_layout (λ f. bind (many (h / 2) eight_layout) (λ ns. give (whole_node s (arena.doubles f ns))))
+opening kind.Values h s = bind flag_layout (λ f. bind (text_layout s) (λ x. give (record { head = arena.values f x.id; count = h / 2; twins = false; first = false; last = false; state = x.state })))
+opening kind.Dictionary h s = bind flag_layout (λ f. give (record { head = arena.dictionary f; count = h / 2; twins = true; first = false; last = false; state = s }))
 
 -- a value that was read
 pub record ValueRead : Type 0 where
@@ -117,28 +96,28 @@ parts value fuel o =
     bind (pairs_if o.last value fuel (length o.state.arena.nodes) t) (λ u.
     give (read (Node (record { 0 = length o.state.arena.nodes })) (changed shut (length o.state.arena.nodes) u)))))
 
-abbrev pub inline_node : (State3 → Layout ValueRead) → ℕ → NodeForm → ℕ → State3 → Layout ValueRead
+abbrev pub inline_node : (State3 → Layout ValueRead) → ℕ → NodeKind → ℕ → State3 → Layout ValueRead
 inline_node value fuel f h s = bind (opening f h s) (parts value fuel)
 
 abbrev pub known_node : State3 → ℕ → ValueRead
 known_node s k = read (Node (record { 0 = get_or s.tables.nodes k 0 })) s
 
 -- a header, and then a node of the table or one inline
-abbrev pub node_layout : (State3 → Layout ValueRead) → ℕ → NodeForm → State3 → Layout ValueRead
+abbrev pub node_layout : (State3 → Layout ValueRead) → ℕ → NodeKind → State3 → Layout ValueRead
 node_layout value fuel f s =
     want (header_kind s.marks (length s.words.traits) (node_marker f)) (λ b. if u29_value b % 2 == 0 then give (known_node s (u29_value b / 2)) else inline_node value fuel f (u29_value b) s)
 
-abbrev pub behind_marker : (State3 → Layout ValueRead) → ℕ → State3 → Form → Layout ValueRead
-behind_marker value fuel s undefined = give (read Undefined s)
-behind_marker value fuel s null = give (read Null s)
-behind_marker value fuel s untrue = give (read (Flag false) s)
-behind_marker value fuel s true_ = give (read (Flag true) s)
-behind_marker value fuel s integer = want (u29_kind no_refusal) (λ b. give (read (Integer (integer_of (u29_value b))) s))
-behind_marker value fuel s double = bind eight_layout (λ p. give (read (Double (record { 0 = p })) s))
-behind_marker value fuel s text = bind (text_layout s) (λ x. give (read (Text (record { 0 = x.id })) x.state))
-behind_marker value fuel s (node f) = node_layout value fuel f s
+abbrev pub behind_marker : (State3 → Layout ValueRead) → ℕ → State3 → Marker → Layout ValueRead
+behind_marker value fuel s marker.Undefined = give (read Undefined s)
+behind_marker value fuel s marker.Null = give (read Null s)
+behind_marker value fuel s marker.False = give (read (Flag false) s)
+behind_marker value fuel s marker.True = give (read (Flag true) s)
+behind_marker value fuel s marker.Integer = want (u29_kind no_refusal) (λ b. give (read (Integer (integer_of (u29_value b))) s))
+behind_marker value fuel s marker.Double = bind eight_layout (λ p. give (read (Double (record { 0 = p })) s))
+behind_marker value fuel s marker.Text = bind (text_layout s) (λ x. give (read (Text (record { 0 = x.id })) x.state))
+behind_marker value fuel s (marker.Node f) = node_layout value fuel f s
 
 -- one value, with fuel
 abbrev pub value_layout : ℕ → State3 → Layout ValueRead
 value_layout zero s = stuck
-value_layout (suc n) s = want marker_kind (λ b. behind_marker (value_layout n) n s (form_of (slice_index b 0)))
+value_layout (suc n) s = want marker_kind (λ b. behind_marker (value_layout n) n s (marker_at (slice_index b 0)))

@@ -1,23 +1,13 @@
 -- What reading AMF 3 changes: an arena with open nodes, and the tables, by place and by content. A device by which verdicts are proved: no spelling needs it.
 use Rattle.std.specs.Prelude.{ℕ, Bool, true, false, List, [], ◌∷◌, ◌++◌, length, map, set}
-use Rattle.amf_graph.specs.Arena.{StoredTraits, StoredHead, xml_document, date, array, object, wrapper, xml, bytes, ints, uints, doubles, values, dictionary, StoredNode, Arena}
-use Rattle.amf_graph.specs.Building.{no_arena, kept_text, kept_traits, stored_at}
+use Rattle.amf_graph.specs.Arena.{StoredTraits, StoredHead, array, object, wrapper, values, dictionary, StoredNode, Arena}
+use Rattle.amf_graph.specs.Building.{no_arena, kept_text, kept_traits, stored_at, kind_of}
+use Rattle.amf3_spelling.specs.Markers3.{node_marker}
 use Rattle.amf3_spelling.specs.Tables as content
 use Rattle.amf3_spelling.specs.KeptTables.{KeptEntry, KeptTables, no_kept_tables, tables_of}
 
 abbrev pub stored_marker : StoredHead → ℕ
-stored_marker (xml_document x) = 0x07
-stored_marker (date p) = 0x08
-stored_marker array = 0x09
-stored_marker (object t) = 0x0A
-stored_marker (wrapper c) = 0x0A
-stored_marker (xml x) = 0x0B
-stored_marker (bytes x) = 0x0C
-stored_marker (ints f ns) = 0x0D
-stored_marker (uints f ns) = 0x0E
-stored_marker (doubles f ns) = 0x0F
-stored_marker (values f x) = 0x10
-stored_marker (dictionary f) = 0x11
+stored_marker h = node_marker (kind_of h)
 
 -- parts are added to it after its header
 abbrev pub takes_parts : StoredHead → Bool

@@ -11,10 +11,11 @@ use Rattle.amf_io.proofs.CursorReads.{gives, then_reads, end_reads}
 use Rattle.amf_graph.specs.declared.value.Value.TheVariants as value
 use Rattle.amf_graph.specs.Arena.{Arena, StoredNode, StoredHead}
 use Rattle.amf_graph.specs.Building.{no_stored, stored_at, shut}
+use Rattle.amf_graph.specs.declared.kind.NodeKind.{NodeKind}
 use Rattle.amf3_spelling.specs.KeptTables.{KeptTables}
 use Rattle.amf3_layout.specs.Layout3State.{State3, state_of, with_node, begun, takes_parts, changed}
 use Rattle.amf3_layout.specs.Layout3Words as layout
-use Rattle.amf3_layout.specs.Layout3.{NodeForm, ValueRead, read, opening, whole_node, items_of, pairs_if, parts, inline_node}
+use Rattle.amf3_layout.specs.Layout3.{ValueRead, read, opening, whole_node, items_of, pairs_if, parts, inline_node}
 use Rattle.amf3_layout.proofs.Reader3Tables.{grows_twice, grows_node}
 use Rattle.amf3_layout.proofs.Reader3Calls.{grows_are}
 use Rattle.amf3_read.specs.declared.node.Begun.{Begun}
@@ -36,7 +37,7 @@ shut_stays s i e = ap (λ ns. let z : State3 = record { arena = record { texts =
 leaf_closed : (s : State3) (head : StoredHead) → takes_parts head ≡ false → (stored_at (with_node s head).arena (length s.arena.nodes)).is_open ≡ false
 leaf_closed s head e = ap (λ (n : StoredNode). n.is_open) (get_or-append_seam s.arena.nodes (begun head) [] no_stored) ∙ e
 
-module _ {S : Type 0} (tells : S → Type 0) (left : S → List ℕ) (faults : S → ℕ) (f : NodeForm) (h : ℕ) (a b : Arena) (t u : KeptTables) (c d : Cursor S Window) where
+module _ {S : Type 0} (tells : S → Type 0) (left : S → List ℕ) (faults : S → ℕ) (f : NodeKind) (h : ℕ) (a b : Arena) (t u : KeptTables) (c d : Cursor S Window) where
   pub inline_ended : (v : State3 → Layout ValueRead) (n : ℕ) (e : ReadEnd) → Ends tells left (opening f h (state_of a t)) c d e → Ends tells left (inline_node v n f h (state_of a t)) c d e
   inline_ended v n e r = end_reads tells left faults (opening f h (state_of a t)) (parts v n) c d e r
 

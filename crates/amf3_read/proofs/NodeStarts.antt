@@ -15,20 +15,21 @@ use Rattle.amf_graph.specs.declared.value.Value.TheVariants as value
 use Rattle.amf_graph.specs.Graph as graph
 use Rattle.amf_graph.specs.Arena.{Arena, StoredNode, head_content}
 use Rattle.amf_graph.specs.Building.{kept_node, stored_at}
+use Rattle.amf_graph.specs.declared.kind.NodeKind.{NodeKind}
+use Rattle.amf3_spelling.specs.Markers3.{node_marker}
 use Rattle.amf3_spelling.specs.KeptTables.{KeptTables}
 use Rattle.amf3_spelling.specs.Reads3.{Grows}
 use Rattle.amf3_spelling.specs.Refusals3.{header_refusal, header_kind}
+use Rattle.amf3_spelling.specs.declared.marker.Marker.{Marker}
 use Rattle.amf3_layout.specs.Layout3State.{State3, state_of, begun}
 use Rattle.amf3_layout.specs.Layout3Words as layout
-use Rattle.amf3_layout.specs.Layout3.{NodeForm, node_marker, Form, ValueRead, read, known_node, opening, parts, inline_node, node_layout, behind_marker, value_layout}
+use Rattle.amf3_layout.specs.Layout3.{ValueRead, read, known_node, opening, parts, inline_node, node_layout, behind_marker, value_layout}
 use Rattle.amf3_layout.proofs.Reader3Tables.{grows_itself, open_there, open_place}
 use Rattle.amf3_read.specs.declared.opening.Parts.{Parts}
 use Rattle.amf3_read.specs.declared.opening.Parts.TheVariants.{Array, Object, Items, Entries}
 use Rattle.amf3_read.specs.declared.node.Begun.{Begun}
 use Rattle.amf3_read.specs.declared.node.Start.{Start}
 use Rattle.amf3_read.specs.declared.node.Start.TheVariants as start
-use Rattle.amf3_read.specs.declared.marker.Marker.{Marker}
-use Rattle.amf3_read.specs.Forms.{form}
 use Rattle.amf3_read.specs.Steps.{marker_layout}
 use Rattle.amf3_read.specs.Filling.{IsEmptyNode}
 use Rattle.amf3_read.specs.Ready.{Ready, left_of}
@@ -81,7 +82,7 @@ todo_is v m i o (Object n d) s e = ap (λ o. parts_at v m i o s) e
 todo_is v m i o (Items n) s e = ap (λ o. parts_at v m i o s) e
 todo_is v m i o (Entries n) s e = ap (λ o. parts_at v m i o s) e
 
-module _ {S : Type 0} (tells : S → Type 0) (left : S → List ℕ) (faults : S → ℕ) (f : NodeForm) (h : ℕ) (a b : Arena) (t u : KeptTables) (c d : Cursor S Window) (x : Begun) (is : Begins tells left f h a b t u c d x) (r : Ready 0 b u d) where
+module _ {S : Type 0} (tells : S → Type 0) (left : S → List ℕ) (faults : S → ℕ) (f : NodeKind) (h : ℕ) (a b : Arena) (t u : KeptTables) (c d : Cursor S Window) (x : Begun) (is : Begins tells left f h a b t u c d x) (r : Ready 0 b u d) where
   pub inline_kept : Kept 1 a b u c d
   inline_kept = record { built = r.built; tables = r.tables; placed = r.placed; texts = is.texts; traits = is.traits; nodes = is.nodes }
 
@@ -114,7 +115,7 @@ module _ {S : Type 0} (tells : S → Type 0) (left : S → List ℕ) (faults : S
       subst (λ j. j < length b.nodes) (sym is.place) (open_place o.state.arena (begun o.head) b within)
 
 -- Behind a header.
-module _ {S : Type 0} (tells : S → Type 0) (left : S → List ℕ) (faults : S → ℕ) (v : State3 → Layout ValueRead) (n : ℕ) (f : NodeForm) (s : State3) (c d : Cursor S Window) (b : List ℕ) (h : ℕ) (fd : AnswersField {X = List ℕ} tells left (λ x. x) u29 c d (Ok b)) (is : h ≡ u29_value b)
+module _ {S : Type 0} (tells : S → Type 0) (left : S → List ℕ) (faults : S → ℕ) (v : State3 → Layout ValueRead) (n : ℕ) (f : NodeKind) (s : State3) (c d : Cursor S Window) (b : List ℕ) (h : ℕ) (fd : AnswersField {X = List ℕ} tells left (λ x. x) u29 c d (Ok b)) (is : h ≡ u29_value b)
     (g : Goes {X = List ℕ} tells left faults c d (Ok b)) (placed : IsPlaced d) (clean : header_refusal s.marks (length s.words.traits) (node_marker f) h ≡ None) (odd : h % 2 ≡ 1) where
   abbrev behind_header : ℕ → Layout ValueRead
   behind_header k = cond (eqb (k % 2) 0) (give (known_node s (k / 2))) (inline_node v n f k s)
@@ -146,9 +147,9 @@ module _ {S : Type 0} (tells : S → Type 0) (left : S → List ℕ) (faults : S
     starts = subst (Ends tells left (value_layout (suc k) s) c d) (sym i) (end_reads tells left faults marker_layout (λ f. behind_marker (value_layout k) k s f) c d e a);
   }
 
-  module _ (s : State3) (c d : Cursor S Window) (m : Marker) (f : Form) (is : form m ≡ f) (g : Goes tells left faults c d (Ok m)) (a : Answers tells left form marker_layout c d (Ok m)) (moves : place c < place d) where
+  module _ (s : State3) (c d : Cursor S Window) (m f : Marker) (is : m ≡ f) (g : Goes tells left faults c d (Ok m)) (a : Answers tells left (λ (m : Marker). m) marker_layout c d (Ok m)) (moves : place c < place d) where
     marker_leads : (k : ℕ) → Leads tells left (value_layout (suc k) s) (behind_marker (value_layout k) k s f) c d
-    marker_leads k = subst (λ f. Leads tells left (value_layout (suc k) s) (behind_marker (value_layout k) k s f) c d) is (leads_behind tells left faults form marker_layout (λ f. behind_marker (value_layout k) k s f) c d m a)
+    marker_leads k = subst (λ f. Leads tells left (value_layout (suc k) s) (behind_marker (value_layout k) k s f) c d) is (leads_behind tells left faults (λ (m : Marker). m) marker_layout (λ f. behind_marker (value_layout k) k s f) c d m a)
 
     pub value_starts : (z : State3) (e : Cursor S Window) (r : Result Start ReadEnd) → OnOk r (place d ≤ place e) → OnOk r (place e ≤ bound e) → bound e ≡ bound d → ((k : ℕ) → StartsBy tells left (value_layout k) k (behind_marker (value_layout k) k s f) z d e r) → (n : ℕ) → left_of c < n → Starts tells left n s z c e r
     value_starts z e r stays within same h zero lt = absurd (omega arith)
@@ -167,7 +168,7 @@ module _ {S : Type 0} (tells : S → Type 0) (left : S → List ℕ) (faults : S
   pub made : {X Y : Type 0} (view : X → Y) (t : Layout Y) (make : Y → ValueRead) (z : State3) (v : Stored) (d e : Cursor S Window) (x : X) → Goes tells left faults d e (Ok x) → Answers tells left view t d e (Ok x) → IsPlaced e → read v z ≡ make (view x) → Answers tells left (λ y. read y z) (bind t (λ y. give (make y))) d e (Ok v)
   made view t make z v d e x g a p q = then_reads tells left faults view (λ y. read y z) t (λ y. give (make y)) d e e x (Ok v) g a (gives tells left faults (λ y. read y z) e v (make (view x)) p q)
 
-  pub unmade : {Y : Type 0} (n : ℕ) (s z : State3) (c d e : Cursor S Window) (m : Marker) (f : Form) → form m ≡ f → Goes tells left faults c d (Ok m) → Answers tells left form marker_layout c d (Ok m) → place c < place d → bound e ≡ bound d → (t : Layout Y) (make : Y → ValueRead) → ((k : ℕ) → behind_marker (value_layout k) k s f ≡ bind t (λ y. give (make y)))
+  pub unmade : {Y : Type 0} (n : ℕ) (s z : State3) (c d e : Cursor S Window) (m f : Marker) → m ≡ f → Goes tells left faults c d (Ok m) → Answers tells left (λ (m : Marker). m) marker_layout c d (Ok m) → place c < place d → bound e ≡ bound d → (t : Layout Y) (make : Y → ValueRead) → ((k : ℕ) → behind_marker (value_layout k) k s f ≡ bind t (λ y. give (make y)))
       → left_of c < n → (r : Result Start ReadEnd) (end : ReadEnd) → IsErrAnd r (λ x. x ≡ end) → Ends tells left t d e end → Starts tells left n s z c e r
   unmade n s z c d e m f is g a moves same t make eq lt (Ok x) end i h = absurd i
   unmade n s z c d e m f is g a moves same t make eq lt (Err x) end i h =

@@ -7,11 +7,12 @@ use Rattle.amf_io.specs.LayoutAnswer.{DoneBy}
 use Rattle.amf_graph.specs.Arena.{Arena, IsBuilt, head_content}
 use Rattle.amf_graph.specs.Graph as graph
 use Rattle.amf_graph.specs.Building.{stored_at}
+use Rattle.amf_graph.specs.declared.kind.NodeKind.{NodeKind}
 use Rattle.amf3_spelling.specs.KeptTables.{KeptTables}
 use Rattle.amf3_spelling.specs.Reads3.{Grows}
 use Rattle.amf3_layout.specs.Layout3State.{state_of, with_node, takes_parts}
 use Rattle.amf3_layout.specs.Layout3Words as layout
-use Rattle.amf3_layout.specs.Layout3.{NodeForm, opening, whole_node}
+use Rattle.amf3_layout.specs.Layout3.{opening, whole_node}
 use Rattle.amf3_read.specs.declared.opening.Parts.{Parts}
 use Rattle.amf3_read.specs.declared.opening.Parts.TheVariants.{Array, Object, Items, Entries}
 use Rattle.amf3_read.specs.declared.node.Begun.{Begun}
@@ -40,7 +41,7 @@ abbrev pub IsBegun : Arena → ℕ → ℕ → Option Parts → Type 0
 IsBegun a i left None = Unit {0}
 IsBegun a i left (Some p) = IsOpened a i left × IsEmptyNode (stored_at a i) × IsShaped (head_content a (stored_at a i).head) p
 
-pub record Begins {S : Type 0} (tells : S → Type 0) (left : S → List ℕ) (f : NodeForm) (header : ℕ) (a b : Arena) (t u : KeptTables) (c d : Cursor S Window) (begun : Begun) : Type 0 where
+pub record Begins {S : Type 0} (tells : S → Type 0) (left : S → List ℕ) (f : NodeKind) (header : ℕ) (a b : Arena) (t u : KeptTables) (c d : Cursor S Window) (begun : Begun) : Type 0 where
   pub opened : layout.Opening
   pub done : DoneBy (tells (source_of c).now) (opening f header (state_of a t)) opened (unread left c) (unread left d) (place c) (place d) (bound c)
   pub state : state_of b u ≡ with_node opened.state opened.head

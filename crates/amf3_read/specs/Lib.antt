@@ -11,7 +11,6 @@ pub mod FieldSize
 pub mod Filling
 pub mod Slots
 pub mod Frames
-pub mod Forms
 pub mod Headers
 pub mod Opened
 pub mod OpeningItems

@@ -11,7 +11,6 @@ mod frame;
 mod header;
 mod laws;
 mod leaf;
-mod marker;
 mod node;
 mod number;
 mod opening;

@@ -2,9 +2,9 @@ ghost use Rattle.std.specs.Prelude.{ℕ, ◌≤◌, OnOk, IfOk, IfErr};
 ghost use Rattle.amf_io.specs.Cursor.{place};
 ghost use Rattle.amf_io.specs.Layout.{Layout};
 ghost use Rattle.amf_io.specs.CursorReads.{Goes, Ends};
+ghost use Rattle.amf3_spelling.specs.Markers3.{node_marker};
 ghost use Rattle.amf3_layout.specs.Layout3State.{State3, state_of};
 ghost use Rattle.amf3_layout.specs.Layout3.{ValueRead, node_layout, inline_node, opening};
-ghost use Rattle.amf3_read.specs.Forms.{node_form};
 ghost use Rattle.amf3_read.specs.Ready.{Ready, left_of};
 ghost use Rattle.amf3_read.specs.Opened.{IsOpening};
 ghost use Rattle.amf3_read.specs.Begins.{Begins};
@@ -13,9 +13,8 @@ ghost use Rattle.amf3_read.specs.Frames.{StartsBy, StartHolds, Kept};
 use crate::ends::{kept, refused};
 use crate::field::{FieldSize, read_field};
 use crate::header::{Header, judge_header};
-use crate::marker::NodeMarker;
 use crate::opening::{Opening, Parts, read_opening};
-use amf_graph::{Builder, NodeId, Value};
+use amf_graph::{Builder, NodeId, NodeKind, Value};
 use amf_io::{Cursor, ReadEnd, Source};
 use amf_tables::Tables3;
 use std::alloc::Global;
@@ -36,27 +35,27 @@ pub enum Start {
     Open(NodeId, Parts),
 }
 
-/// Reads the start of the node behind a marker: one of the table, or one inline.
+/// Reads the start of the node of this kind behind its marker: one of the table, or one inline.
 pub fn start_node<S: Source>(
     alloc: Global,
     cursor: &mut Cursor<'_, S>,
     builder: &mut Builder,
     tables: &mut Tables3,
-    marker: NodeMarker,
+    kind: NodeKind,
 ) -> Result<Start, ReadEnd>
     requires { Ready 0 builder.old tables.old cursor.old }
     ensures goes { Goes S.tells S.left S.faults cursor.old cursor.new result }
-    ensures starts { (v : State3 → Layout ValueRead) (n : ℕ) → StartsBy S.tells S.left v n (node_layout v n (node_form marker) (state_of builder.old tables.old)) (state_of builder.new tables.new) cursor.old cursor.new result }
+    ensures starts { (v : State3 → Layout ValueRead) (n : ℕ) → StartsBy S.tells S.left v n (node_layout v n kind (state_of builder.old tables.old)) (state_of builder.new tables.new) cursor.old cursor.new result }
     ensures kept { OnOk result (Kept 0 builder.old builder.new tables.new cursor.old cursor.new) }
     ensures holds { IfOk result (StartHolds builder.old builder.new (left_of cursor.new)) }
     ensures stays { OnOk result (place cursor.old ≤ place cursor.new) }
 {
     let start = cursor.at();
     let header = read_field(cursor, FieldSize::U29)?.number().get();
-    match judge_header(builder, tables, marker, header) {
+    match judge_header(builder, tables, kind, header) {
         Err(reason) => Err(refused(reason, start)),
         Ok(Header::Known(node)) => Ok(Start::Value(Value::Node(node))),
-        Ok(Header::Inline) => start_inline(alloc, cursor, builder, tables, marker, header),
+        Ok(Header::Inline) => start_inline(alloc, cursor, builder, tables, kind, header),
     }
 }
 
@@ -66,18 +65,18 @@ fn start_inline<S: Source>(
     cursor: &mut Cursor<'_, S>,
     builder: &mut Builder,
     tables: &mut Tables3,
-    marker: NodeMarker,
+    kind: NodeKind,
     header: u32,
 ) -> Result<Start, ReadEnd>
     requires ready { Ready 1 builder.old tables.old cursor.old }
-    requires known { IsOpening tables.old (node_form marker) header }
+    requires known { IsOpening tables.old (node_marker kind) header }
     ensures goes { Goes S.tells S.left S.faults cursor.old cursor.new result }
-    ensures starts { (v : State3 → Layout ValueRead) (n : ℕ) → StartsBy S.tells S.left v n (inline_node v n (node_form marker) header (state_of builder.old tables.old)) (state_of builder.new tables.new) cursor.old cursor.new result }
+    ensures starts { (v : State3 → Layout ValueRead) (n : ℕ) → StartsBy S.tells S.left v n (inline_node v n kind header (state_of builder.old tables.old)) (state_of builder.new tables.new) cursor.old cursor.new result }
     ensures kept { OnOk result (Kept 1 builder.old builder.new tables.new cursor.old cursor.new) }
     ensures holds { IfOk result (StartHolds builder.old builder.new (left_of cursor.new)) }
     ensures stays { OnOk result (place cursor.old ≤ place cursor.new) }
 {
-    let Begun { node, parts } = begin_node(alloc, cursor, builder, tables, marker, header)?;
+    let Begun { node, parts } = begin_node(alloc, cursor, builder, tables, kind, header)?;
     match parts {
         None => Ok(Start::Value(Value::Node(node))),
         Some(parts) => Ok(Start::Open(node, parts)),
@@ -90,18 +89,18 @@ fn begin_node<S: Source>(
     cursor: &mut Cursor<'_, S>,
     builder: &mut Builder,
     tables: &mut Tables3,
-    marker: NodeMarker,
+    kind: NodeKind,
     header: u32,
 ) -> Result<Begun, ReadEnd>
     requires ready { Ready 1 builder.old tables.old cursor.old }
-    requires known { IsOpening tables.old (node_form marker) header }
+    requires known { IsOpening tables.old (node_marker kind) header }
     ensures goes { Goes S.tells S.left S.faults cursor.old cursor.new result }
-    ensures begins { IfOk result (Begins S.tells S.left (node_form marker) header builder.old builder.new tables.old tables.new cursor.old cursor.new) }
-    ensures ends { IfErr result (Ends S.tells S.left (opening (node_form marker) header (state_of builder.old tables.old)) cursor.old cursor.new) }
+    ensures begins { IfOk result (Begins S.tells S.left kind header builder.old builder.new tables.old tables.new cursor.old cursor.new) }
+    ensures ends { IfErr result (Ends S.tells S.left (opening kind header (state_of builder.old tables.old)) cursor.old cursor.new) }
     ensures ready { OnOk result (Ready 0 builder.new tables.new cursor.new) }
     ensures stays { OnOk result (place cursor.old ≤ place cursor.new) }
 {
-    match read_opening(alloc, cursor, builder, tables, marker, header)? {
+    match read_opening(alloc, cursor, builder, tables, kind, header)? {
         Opening::Leaf(leaf) => {
             let node = kept(builder.leaf(leaf))?;
             builder.is_built();

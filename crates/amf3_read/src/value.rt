@@ -7,7 +7,6 @@ ghost use Rattle.amf_io.specs.Cursor.{place};
 ghost use Rattle.amf_io.specs.CursorReads.{IsPlaced, Goes, Answers};
 ghost use Rattle.amf3_layout.specs.Layout3State.{state_of};
 ghost use Rattle.amf3_layout.specs.Layout3.{read, eight_layout, value_layout};
-ghost use Rattle.amf3_read.specs.Forms.{form};
 ghost use Rattle.amf3_read.specs.Ready.{Ready, Continues, left_of};
 ghost use Rattle.amf3_spelling.specs.KeptTables.{AreTablesIn};
 ghost use Rattle.amf3_read.specs.Answer.{HasRoomFor, Answers3, Raises};
@@ -18,13 +17,13 @@ use crate::ends::{kept, refused};
 use crate::field::{FieldSize, read_field};
 use crate::fill::{Step, go_on};
 use crate::frame::{Frame, Now, Slot, part_of};
-use crate::marker::Marker;
 use crate::node::{Start, start_node};
 use crate::text::read_text;
 use amf_graph::{Builder, Value};
 use amf_io::{Cursor, ReadEnd, Reason, Source};
 use amf_tables::Tables3;
 use amf_wire::{Pattern, sign29};
+use amf3_spelling::Marker;
 use std::alloc::Global;
 
 /// Reads one value into a builder and its tables (AMF 3 specification, 3.2 to 3.16), however many nodes are within one another.
@@ -138,14 +137,14 @@ fn start_value<S: Source>(
             let text = read_text(alloc, cursor, builder, tables)?;
             Ok(Start::Value(Value::Text(text)))
         }
-        Marker::Node(node) => start_node(alloc, cursor, builder, tables, node),
+        Marker::Node(kind) => start_node(alloc, cursor, builder, tables, kind),
     }
 }
 
 /// Reads a marker.
 fn read_marker<S: Source>(cursor: &mut Cursor<'_, S>) -> Result<Marker, ReadEnd>
     ensures goes { Goes S.tells S.left S.faults cursor.old cursor.new result }
-    ensures answers { Answers S.tells S.left form marker_layout cursor.old cursor.new result }
+    ensures answers { Answers S.tells S.left (λ m. m) marker_layout cursor.old cursor.new result }
     ensures moves { OnOk result (place cursor.old < place cursor.new) }
     ensures placed { OnOk result (IsPlaced cursor.new) }
 {

@@ -1,5 +1,5 @@
-ghost use Rattle.std.specs.Prelude.{◌≡◌, ◌<◌, IfSome, IfNone};
-ghost use Rattle.amf3_spelling.specs.Markers3.{marker_at, marker_byte, node_marker};
+ghost use Rattle.std.specs.Prelude.{◌≡◌, ◌≤◌, ◌<◌, IfSome, IfNone};
+ghost use Rattle.amf3_spelling.specs.Markers3.{marker_at, node_marker};
 
 use amf_graph::NodeKind;
 
@@ -20,7 +20,7 @@ pub enum Marker {
 impl Marker {
     /// The marker that a byte is, if it is one: 0x0A is that of objects.
     pub fn from_byte(byte: u8) -> Option<Marker>
-        ensures known { IfSome result (λ marker. (marker ≡ marker_at byte) × (marker_byte marker ≡ byte)) }
+        ensures known { IfSome result (λ marker. (byte ≤ 0x11) × (marker ≡ marker_at byte)) }
         ensures none { IfNone result (0x11 < byte) }
     {
         Some(match byte {
