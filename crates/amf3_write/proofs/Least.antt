@@ -16,20 +16,20 @@ module _ (g : Graph) (order : List ℕ) where
   L found = PartLacks3 g order found
 
   lacks_split : (xs : List ℕ) (x n : ℕ) (k : LackKind) → L (xs ++ x ∷ []) n k → L xs n k ⊎ L (x ∷ []) n k
-  lacks_split xs x n k o = elim (at_push xs x o.1 o.0 o.3) [
-    | inl p ↦ inl (o.0, o.1, o.2, p, o.4)
-    | inr p ↦ inr (o.0, 0, o.2, ap (λ w. Some w) p.1, o.4)
+  lacks_split xs x n k o = elim (at_push xs x o.place o.node o.is_found) [
+    | inl p ↦ inl (record { node = o.node; numbered = o.numbered; place = o.place; is_found = p; lacks = o.lacks })
+    | inr p ↦ inr (record { node = o.node; numbered = o.numbered; place = 0; is_found = ap (λ w. Some w) p.1; lacks = o.lacks })
   ]
 
   lacks_left : (xs : List ℕ) (x n : ℕ) (k : LackKind) → L xs n k → L (xs ++ x ∷ []) n k
-  lacks_left xs x n k o = (o.0, o.1, o.2, at_left xs (x ∷ []) o.1 o.0 o.3, o.4)
+  lacks_left xs x n k o = record { node = o.node; numbered = o.numbered; place = o.place; is_found = at_left xs (x ∷ []) o.place o.node o.is_found; lacks = o.lacks }
 
   only_entry : {X : Type 0} (x y : X) (place : ℕ) → slice_get (x ∷ []) place ≡ Some y → x ≡ y
   only_entry x y zero e = same_Some x y e
   only_entry x y (suc place) e = cc
 
   lacks_right : (xs : List ℕ) (x n : ℕ) (k : LackKind) → L (x ∷ []) n k → L (xs ++ x ∷ []) n k
-  lacks_right xs x n k o = (o.0, length xs, o.2, at_end xs x ∙ ap (λ w. Some w) (only_entry x o.0 o.1 o.3), o.4)
+  lacks_right xs x n k o = record { node = o.node; numbered = o.numbered; place = length xs; is_found = at_end xs x ∙ ap (λ w. Some w) (only_entry x o.node o.place o.is_found); lacks = o.lacks }
 
   -- a node lacks a spelling for one reason alone
   only_name : (i : ℕ) (k : LackKind) → NodeLacks3 g i k → k ≡ EmptyName
@@ -37,7 +37,7 @@ module _ (g : Graph) (order : List ℕ) where
   only_name i _ h = absurd h
 
   names_first : (xs : List ℕ) (n : ℕ) (kind k : LackKind) → L xs n kind → rank kind ≤ rank k
-  names_first xs n kind k o = let e : rank kind ≡ 0 = ap rank (only_name o.0 kind o.4) in omega arith
+  names_first xs n kind k o = let e : rank kind ≡ 0 = ap rank (only_name o.node kind o.lacks) in omega arith
 
   pub least_same : (xs : List ℕ) (x : ℕ) (m : Option Lack) → IsLeast (L xs) m → IsLeast (L (x ∷ [])) None → IsLeast (L (xs ++ x ∷ [])) m
   least_same xs x None h none = λ n k o. elim (lacks_split xs x n k o) [ inl p ↦ h n k p | inr p ↦ none n k p ]
@@ -73,7 +73,10 @@ module _ (g : Graph) (order : List ℕ) where
   -- one node
   pub lack_of_node : (i n : ℕ) → slice_get order n ≡ Some i → ((k : ℕ) → slice_get order k ≡ Some i → k ≡ n) → (AllNamed (node_at g i).names → ⊥) → IsLeast (L (i ∷ [])) (Some (record { kind = EmptyName; node = n }))
   lack_of_node i n at alone f = record {
-    lacks = (i, 0, at, refl, f);
-    least = λ m k o. let s = only_entry i o.0 o.1 o.3 in (let e = alone m (o.2 ∙ ap (λ w. Some w) (sym s)) in omega arith);
-    first = λ k o. names_first (i ∷ []) n EmptyName k (i, 0, at, refl, f);
+    lacks = it;
+    least = λ m k o. let s = only_entry i o.node o.place o.is_found in (let e = alone m (o.numbered ∙ ap (λ w. Some w) (sym s)) in omega arith);
+    first = λ k o. names_first (i ∷ []) n EmptyName k it;
   }
+    where
+      it : L (i ∷ []) n EmptyName
+      it = record { node = i; numbered = at; place = 0; is_found = refl; lacks = f }

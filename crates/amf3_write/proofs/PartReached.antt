@@ -46,29 +46,29 @@ module _ (g : Graph) (order : List ℕ) (walk : IsOrder g order) where
   -- a part with a node that has an empty name has a lack with a number
   pub some_lack : (v : Value) (met found : List ℕ) → IsReachedValue g v → HasUnnamed g v met → Walks g met (v ∷ []) (met ++ found) → (n : ℕ) × (k : LackKind) × PartLacks3 g order found n k
   some_lack v met found r h w =
-      let at = h.2 (met ++ found) w in
-      let place = at_behind met found at.0 h.0 at.1 at.2 in
-      let number = found_in w (value_in v r, tt) at.0 h.0 at.1 at.2 in
-      (number.0, EmptyName, (h.0, place.0, number.1, place.1, h.1))
+      let at = h.is_met (met ++ found) w in
+      let place = at_behind met found at.0 h.node at.1 at.2 in
+      let number = found_in w (value_in v r, tt) at.0 h.node at.1 at.2 in
+      (number.0, EmptyName, record { node = h.node; numbered = number.1; place = place.0; is_found = place.1; lacks = h.unnamed })
 
 -- The whole graph.
 
 pub whole_lack : (g : Graph) (number : ℕ) (kind : LackKind) → IsPartLack3 g g.root [] number kind → IsLack3 g number kind
-whole_lack g number kind (order, found, walk, part, f) = (
-  order,
-  walk,
+whole_lack g number kind p = (
+  p.order,
+  p.is_order,
   record {
-    lacks = there number kind f.lacks;
-    least = λ n k l. f.least n k (back n k l);
-    first = λ k l. f.first k (back number k l);
+    lacks = there number kind p.first.lacks;
+    least = λ n k l. p.first.least n k (back n k l);
+    first = λ k l. p.first.first k (back number k l);
   },
 )
   where
-    same : order ≡ found
-    same = walks_fixed walk part
+    same : p.order ≡ p.found
+    same = walks_fixed p.is_order p.walk
 
-    back : (n : ℕ) (k : LackKind) → Lacks3 g order n k → PartLacks3 g order found n k
-    back n k l = (l.0, n, l.1, subst (λ w. slice_get w n ≡ Some l.0) same l.1, l.2)
+    back : (n : ℕ) (k : LackKind) → Lacks3 g p.order n k → PartLacks3 g p.order p.found n k
+    back n k l = record { node = l.0; numbered = l.1; place = n; is_found = subst (λ w. slice_get w n ≡ Some l.0) same l.1; lacks = l.2 }
 
-    there : (n : ℕ) (k : LackKind) → PartLacks3 g order found n k → Lacks3 g order n k
-    there n k l = (l.0, l.2, l.4)
+    there : (n : ℕ) (k : LackKind) → PartLacks3 g p.order p.found n k → Lacks3 g p.order n k
+    there n k l = (l.node, l.numbered, l.lacks)

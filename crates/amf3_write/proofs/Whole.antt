@@ -18,7 +18,7 @@ written_whole g v t t' old new e r h =
 
 -- where a writer of a value stops, the value leads to a node with an empty name
 pub stops_at : (g : Graph) (v : Value) (o : Output) (t : Tables) (l : Lack) → o.tables ≡ t → Stops g (value v ∷ []) o l → HasUnnamed g v t.done
-stops_at g v o t l e s = subst (λ (w : Tables). HasUnnamed g v w.done) e (s.node, s.unnamed, λ all w. (l.node, s.later, s.place all w))
+stops_at g v o t l e s = subst (λ (w : Tables). HasUnnamed g v w.done) e (record { node = s.node; unnamed = s.unnamed; is_met = λ all w. (l.node, s.later, s.place all w) })
 
 pub taken_back : (old new : List ℕ) (start : ℕ) → start ≡ length old → BeginsWith old new → take start new ≡ old
 taken_back old new start e b = ap (λ w. take start w) b.is ∙ take_at old b.rest start (sym e)

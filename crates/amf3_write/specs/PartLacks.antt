@@ -6,14 +6,24 @@ use Rattle.amf_graph.specs.Order.{IsOrder, Walks}
 use Rattle.amf_graph.specs.Lacks.{IsFirstLack}
 use Rattle.amf3_spelling.specs.Lacks3.{NodeLacks3}
 
--- the reason applies to the node of this canonical number, which is one of those found
-abbrev pub PartLacks3 : Graph → List ℕ → List ℕ → ℕ → LackKind → Type 0
-PartLacks3 g order found number kind = (i : ℕ) × (place : ℕ) × (slice_get order number ≡ Some i) × (slice_get found place ≡ Some i) × NodeLacks3 g i kind
+-- the reason applies to a node of this canonical number, which is one of those found
+pub record PartLacks3 (g : Graph) (order found : List ℕ) (number : ℕ) (kind : LackKind) : Type 0 where
+  pub node : ℕ
+  pub numbered : slice_get order number ≡ Some node
+  pub place : ℕ
+  pub is_found : slice_get found place ≡ Some node
+  pub lacks : NodeLacks3 g node kind
 
 -- of the nodes to which the value leads beside those met before, the first by its canonical number that has no spelling
-abbrev pub IsPartLack3 : Graph → Value → List ℕ → ℕ → LackKind → Type 0
-IsPartLack3 g v met number kind = (order : List ℕ) × (found : List ℕ) × IsOrder g order × Walks g met (v ∷ []) (met ++ found) × IsFirstLack (PartLacks3 g order found) number kind
+pub record IsPartLack3 (g : Graph) (v : Value) (met : List ℕ) (number : ℕ) (kind : LackKind) : Type 0 where
+  pub order : List ℕ
+  pub is_order : IsOrder g order
+  pub found : List ℕ
+  pub walk : Walks g met (v ∷ []) (met ++ found)
+  pub first : IsFirstLack (PartLacks3 g order found) number kind
 
 -- the value leads to a node with an empty name beside those met before
-abbrev pub HasUnnamed : Graph → Value → List ℕ → Type 0
-HasUnnamed g v met = (i : ℕ) × (AllNamed (node_at g i).names → ⊥) × ((all : List ℕ) → Walks g met (v ∷ []) all → (place : ℕ) × (length met ≤ place) × (slice_get all place ≡ Some i))
+pub record HasUnnamed (g : Graph) (v : Value) (met : List ℕ) : Type 0 where
+  pub node : ℕ
+  pub unnamed : AllNamed (node_at g node).names → ⊥
+  pub is_met : (all : List ℕ) → Walks g met (v ∷ []) all → (place : ℕ) × (length met ≤ place) × (slice_get all place ≡ Some node)
