@@ -15,3 +15,4 @@ pub mod FoundSteps
 pub mod PartReached
 pub mod PartNodes
 pub mod PartTables
+pub mod PartLackRows

@@ -1,6 +1,7 @@
 //! Writes AMF 3 values canonically.
 #![tactic(auto)]
 
+mod facts;
 mod first_lack;
 mod graph_tables;
 mod leaves;
@@ -16,6 +17,7 @@ mod unwritten;
 mod values;
 mod write;
 
+pub use facts::part_lack_rows;
 pub use graph_tables::GraphTables;
 pub use part::{write3_part, write3_part_of, write3_text, write3_text_of};
 pub use write::{write3, write3_keyed};
