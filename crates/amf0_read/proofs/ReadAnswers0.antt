@@ -17,7 +17,7 @@ use Rattle.amf0_tables.specs.Layout0State.{state0_of}
 use Rattle.amf0_tables.specs.Layout0.{Read0, read0, value0_layout}
 use Rattle.amf0_tables.proofs.Layout0Format.{reads0, is_layout0}
 use Rattle.amf3_read.specs.Ready.{left_of}
-use Rattle.amf3_read.specs.Answer.{Raises}
+use Rattle.amf3_read.specs.Answer.{Raises, between}
 use Rattle.amf3_read.proofs.LayoutVerdicts.{answers_taken, answers_ended}
 use Rattle.std.specs.Result.{IsErrAnd}
 use Rattle.amf0_read.specs.declared.frame.Frame.{Frame}
@@ -44,12 +44,12 @@ module _ {S : Type 0} (tells : S → Type 0) (left : S → List ℕ) (faults : S
   layouts = is_layout0 a t built v
 
   -- an end
-  pub ended : place c ≤ bound c → (n : ℕ) → left_of c < n → (e : ReadEnd) → Ends tells left (first n) c d e → Answers0 tells left a b t u c d (Err e)
+  pub ended : place c ≤ bound c → (n : ℕ) → left_of c < n → (e : ReadEnd) → Ends tells left (first n) c d e → Answers0 a b t u (between tells left c d) (Err e)
   ended le n lt e h = answers_ended {X = Formed} first (IsReading0 a t) layouts (λ x fs. IsReadWith a t fs b u x) (tells (source_of c).now) (unread left c) (unread left d) (place c) (place d) (bound c) n le lt e h
 
   -- a value, with its form
   module _ (n : ℕ) (x : Value) (y : Answers tells left (λ w. read0 w (state0_of b u)) (first n) c d (Ok x)) (is_call : Bool) (bytes more : List ℕ) (is : flat y.fields ≡ bytes ++ more) (call : TellsCall is_call bytes) where
-    pub answered : (f : Form) → f ≡ form_of is_call u.switched → Answers0 tells left a b t u c d (Ok (record { value = x; form = f }))
+    pub answered : (f : Form) → f ≡ form_of is_call u.switched → Answers0 a b t u (between tells left c d) (Ok (record { value = x; form = f }))
     answered f e =
         let z : Formed = record { value = x; form = f } in
         answers_taken {X = Formed} first (IsReading0 a t) layouts (λ x fs. IsReadWith a t fs b u x) (tells (source_of c).now) (unread left c) (unread left d) (place c) (place d) (bound c) n z (read0 x (state0_of b u)) y
@@ -66,20 +66,20 @@ module _ {S : Type 0} (tells : S → Type 0) (left : S → List ℕ) (faults : S
         let r = k.placed.within in
         record { heavier = omega arith; texts = let z = k.texts in omega arith; traits = let z = k.traits in omega arith; nodes = let z = k.nodes in omega arith }
 
-  pub passed : (r : Result Formed ReadEnd) (e : ReadEnd) → IsErrAnd r (λ x. x ≡ e) → Answers0 tells left a b t u c d (Err e) → Answers0 tells left a b t u c d r
+  pub passed : (r : Result Formed ReadEnd) (e : ReadEnd) → IsErrAnd r (λ x. x ≡ e) → Answers0 a b t u (between tells left c d) (Err e) → Answers0 a b t u (between tells left c d) r
   passed (Ok x) e is h = absurd is
-  passed (Err x) e is h = subst (λ w. Answers0 tells left a b t u c d (Err w)) (sym is) h
+  passed (Err x) e is h = subst (λ w. Answers0 a b t u (between tells left c d) (Err w)) (sym is) h
 
   -- what was read first, and then the rest
   module _ {X : Type 0} (b1 : Arena) (u1 : KeptTables0) (x : X) (is_call : Bool) (now : Now) (fs : List Frame) (m : Cursor S Window) (n : ℕ) (g : Goes tells left faults c m (Ok x)) (y : BeginsBy tells left (first n) [] is_call now fs (state0_of b1 u1) c m) where
     abbrev behind : Layout Read0
     behind = bind (current y.fuel now (state0_of b1 u1)) (rest y.fuels fs)
 
-    pub whole_ended : place c ≤ bound c → left_of c < n → (e : ReadEnd) → Ends tells left behind m d e → Answers0 tells left a b t u c d (Err e)
+    pub whole_ended : place c ≤ bound c → left_of c < n → (e : ReadEnd) → Ends tells left behind m d e → Answers0 a b t u (between tells left c d) (Err e)
     whole_ended le lt e h = ended le n lt e (leads_end tells left faults (first n) behind c m d x e g y.leads.leads h)
 
     module _ (got : Value) (h : Answers tells left (λ w. read0 w (state0_of b u)) behind m d (Ok got)) where
-      pub whole_answered : (f : Form) → f ≡ form_of is_call u.switched → Answers0 tells left a b t u c d (Ok (record { value = got; form = f }))
+      pub whole_answered : (f : Form) → f ≡ form_of is_call u.switched → Answers0 a b t u (between tells left c d) (Ok (record { value = got; form = f }))
       whole_answered f e =
           let w = with_done tells left faults (λ (z : Value). read0 z (state0_of b u)) (first n) behind y.bytes c m d x got g y.leads h in
           answered n got w.0 is_call y.bytes w.1 w.2 y.call f e

@@ -6,7 +6,7 @@ ghost use Rattle.amf0_tables.specs.KeptTables0.{AreTables0In};
 ghost use Rattle.amf0_tables.specs.Layout0.{read0};
 ghost use Rattle.amf0_tables.specs.Layout0State.{state0_of};
 ghost use Rattle.amf0_tables.specs.TableParts0.{shown_tables};
-ghost use Rattle.amf3_read.specs.Answer.{HasRoomFor, Raises};
+ghost use Rattle.amf3_read.specs.Answer.{HasRoomFor, Raises, between};
 ghost use Rattle.amf3_read.specs.Ready.{left_of};
 ghost use Rattle.amf3_read.specs.Frames.{Fuel, Enough};
 ghost use Rattle.amf0_read.specs.Answer0.{Answers0};
@@ -45,7 +45,7 @@ pub fn read0<S: Source>(
     requires tables { AreTables0In builder.old (shown_tables tables.old) }
     requires room { HasRoomFor builder.old (left_of cursor.old) }
     ensures goes { Goes S.tells S.left S.faults cursor.old cursor.new result }
-    ensures answers { Answers0 S.tells S.left builder.old builder.new (shown_tables tables.old) (shown_tables tables.new) cursor.old cursor.new result }
+    ensures answers { Answers0 builder.old builder.new (shown_tables tables.old) (shown_tables tables.new) (between S.tells S.left cursor.old cursor.new) result }
     ensures tables { OnOk result (AreTables0In builder.new (shown_tables tables.new)) }
     ensures raises { OnOk result (Raises builder.old builder.new (place cursor.new - place cursor.old)) }
 {

@@ -9,7 +9,7 @@ ghost use Rattle.amf3_layout.specs.Layout3State.{state_of};
 ghost use Rattle.amf3_layout.specs.Layout3.{read, eight_layout, value_layout};
 ghost use Rattle.amf3_read.specs.Ready.{Ready, Continues, left_of};
 ghost use Rattle.amf3_spelling.specs.KeptTables.{AreTablesIn};
-ghost use Rattle.amf3_read.specs.Answer.{HasRoomFor, Answers3, Raises};
+ghost use Rattle.amf3_read.specs.Answer.{HasRoomFor, Answers3, Raises, between};
 ghost use Rattle.amf3_read.specs.Steps.{marker_layout};
 ghost use Rattle.amf3_read.specs.Frames.{Starts, StartHolds, Kept};
 
@@ -43,7 +43,7 @@ pub fn read3<S: Source>(
     requires tables { AreTablesIn builder.old tables.old }
     requires room { HasRoomFor builder.old (left_of cursor.old) }
     ensures goes { Goes S.tells S.left S.faults cursor.old cursor.new result }
-    ensures answers { Answers3 S.tells S.left builder.old builder.new tables.old tables.new cursor.old cursor.new result }
+    ensures answers { Answers3 builder.old builder.new tables.old tables.new (between S.tells S.left cursor.old cursor.new) result }
     ensures tables { OnOk result (AreTablesIn builder.new tables.new) }
     ensures raises { OnOk result (Raises builder.old builder.new (place cursor.new - place cursor.old)) }
 {
