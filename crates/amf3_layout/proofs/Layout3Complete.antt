@@ -16,10 +16,10 @@ use Rattle.amf_graph.specs.declared.value.Value.TheVariants.{Undefined, Null, Bo
 use Rattle.amf3_spelling.specs.Tables.{Entry, plain, external, Words, Tables, with_words, add_node}
 use Rattle.amf3_spelling.specs.Then.{Spelling, Then}
 use Rattle.amf3_spelling.specs.Refusals3.{marker, markers, marker_kind, header_refusal, text_header_refusal}
-use Rattle.amf3_spelling.specs.Words3.{Text, TraitsBy, given, named}
+use Rattle.amf3_spelling.specs.Words3.{Text, TraitsBy, given, placed}
 use Rattle.amf3_spelling.specs.Parts3.{Part, flag, four, word, Parts, Lifted, layout, values_then, fours, signed_fours, eights}
 use Rattle.amf3_spelling.specs.Headers3.{HeaderBy, marker_field, header_field}
-use Rattle.amf3_spelling.specs.Nodes3.{Named, Begun}
+use Rattle.amf3_spelling.specs.Nodes3.{Placed, Begun}
 use Rattle.amf3_spelling.specs.Spells3.{ValueBy, InlineIn, SpellsIn, Spells3}
 use Rattle.amf_graph.specs.declared.kind.NodeKind.{NodeKind}
 use Rattle.amf_graph.specs.declared.kind.NodeKind.TheVariants as kind
@@ -321,7 +321,7 @@ traits_odd (plain t) n w fs w' (given o number u texts a) = by_flag t.dynamic (l
     by_flag true k e = (8 * k + 5, omega arith)
     by_flag false k e = (8 * k + 1, omega arith)
 traits_odd (external c) n w fs w' (given o number u texts a) = let k = number.0 in let e = number.1 in (4 * k + 3, omega arith)
-traits_odd e n w fs w' (named k there o number none a) = (2 * k, omega arith)
+traits_odd e n w fs w' (placed k there o number none a) = (2 * k, omega arith)
 
 header_odd : (h : Head) (vs : List Value) (n : ℕ) (w : Words) (fs : List Field) (w' : Words) → HeaderBy free h vs n w fs w' → (j : ℕ) × (n ≡ 2 * j + 1)
 header_odd (graph.xml_document x) vs n w fs w' p = (length x, p.0)
@@ -362,7 +362,7 @@ begun_complete g R v N i h t fs u s c like lt p =
           (path_if {X = ValueRead} (eqb (p.number % 2) 0) false (give (known_node s (p.number / 2))) (inline_node v N f p.number s) p.rest (give x.result) odd inside);
     }
 
-named_complete : (g : Graph) (v : Reader) (N i : ℕ) (t : Tables) (fs : List Field) (u : Tables) (s : State3) → AllClean fs → Like g t s → Named free g i t fs u → FoundBehind g (Marked v N s) fs u
+named_complete : (g : Graph) (v : Reader) (N i : ℕ) (t : Tables) (fs : List Field) (u : Tables) (s : State3) → AllClean fs → Like g t s → Placed free g i t fs u → FoundBehind g (Marked v N s) fs u
 named_complete g v N i t fs u s c like p =
     let n = 2 * p.place in
     let x = known_node s (n / 2) in

@@ -124,7 +124,7 @@ module _ (refusal : ℕ → Option Reason) (contents : ℕ → Kind) (s : State3
         is_text = subst IsText there (all_at IsText s.arena.texts id [] g.kept.texts good_id);
         id = good_id;
         there = there;
-        spelled = words.named tt k (slice_get-get_or s.words.texts k [] lt) tt f.bytes (is_number (2 * k) f.bytes b t.is_whole (even_is h e)) (ap (λ z. z ∷ []) (taken (u29_kind refusal) f t)) refl;
+        spelled = words.placed tt k (slice_get-get_or s.words.texts k [] lt) tt f.bytes (is_number (2 * k) f.bytes b t.is_whole (even_is h e)) (ap (λ z. z ∷ []) (taken (u29_kind refusal) f t)) refl;
       })
   header_sound f t b true e (h ∷ fs) x r = absurd r
   header_sound f t b false e fs x r = chunk_sound f t b (u29_value f.bytes / 2) (odd_is (u29_value f.bytes) e) fs x r

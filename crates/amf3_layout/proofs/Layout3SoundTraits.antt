@@ -22,7 +22,7 @@ use Rattle.amf_graph.specs.Building.{kept_traits}
 use Rattle.amf3_spelling.specs.Tables.{Entry, plain, external, Words}
 use Rattle.amf3_spelling.specs.KeptTables as kept
 use Rattle.amf3_spelling.specs.Refusals3.{text_header_refusal, class_header_refusal, indexed_class_refusal, class_refusal, class_kind, is_served, is_served_length}
-use Rattle.amf3_spelling.specs.Words3.{TextBy, TraitsBy, given, named}
+use Rattle.amf3_spelling.specs.Words3.{TextBy, TraitsBy, given, placed}
 use Rattle.amf3_layout.specs.Layout3State.{State3}
 use Rattle.amf3_layout.specs.Layout3Words.{chunk, known_text, new_text, TextRead, text_layout, class_layout, TextsRead, texts_layout, Opening, class_of, head_of, sealed_of, dynamic_of, known_traits, plain_traits, external_traits, inline_traits, external_layout, traits_layout}
 use Rattle.amf3_layout.proofs.Layout3Contents.{Larger, larger_itself, larger_twice, text_id, text_kept, all_at, Good, good_entry}
@@ -78,7 +78,7 @@ known_sound n s g lt e =
       first = refl;
       twins = refl;
       head = subst (IsHeadOf s.arena (head_of it)) (sym is) (kept_head s.arena it (all_at (kept.IsEntryIn s.arena) es k (kept.plain 0) g.tables.traits below));
-      spelled = named k (slice_get-get_or s.words.traits k nothing lt) tt e refl refl;
+      spelled = placed k (slice_get-get_or s.words.traits k nothing lt) tt e refl refl;
     }
 
 -- Traits given inline.

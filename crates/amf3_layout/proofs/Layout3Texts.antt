@@ -17,7 +17,7 @@ use Rattle.amf_graph.specs.Graph.{Traits, class_name}
 use Rattle.amf3_spelling.specs.Tables.{Entry, plain, external, Words, add_text, add_entry}
 use Rattle.amf3_spelling.specs.KeptTables as kept
 use Rattle.amf3_spelling.specs.Refusals3.{text_header_refusal, class_header_refusal, class_kind}
-use Rattle.amf3_spelling.specs.Words3.{TextBy, empty, whole, named, Text, Texts, EntryTexts, TraitsBy, given}
+use Rattle.amf3_spelling.specs.Words3.{TextBy, empty, whole, placed, Text, Texts, EntryTexts, TraitsBy, given}
 use Rattle.amf3_layout.specs.Layout3State.{State3, stored_marker, text_word}
 use Rattle.amf3_layout.specs.Layout3Words.{chunk, TextRead, known_text, new_text, text_behind, text_by, text_layout, class_layout, TextsRead, more_text, texts_layout, Opening, class_of, head_of, sealed_of, dynamic_of, known_traits, plain_traits, external_traits, inline_traits, external_layout, traits_layout}
 use Rattle.amf3_spelling.proofs.Clean.{AllClean}
@@ -95,7 +95,7 @@ module _ (refusal : ℕ → Option Reason) (contents : ℕ → Kind) (s : State3
             (path_if {X = TextRead} (eqb ((2 * n + 1) % 2) 0) false (give (known_text s ((2 * n + 1) / 2))) (chunk contents ((2 * n + 1) / 2) (λ x. give (new_text s x))) rest (give (new_text s x)) (odd_test n)
             (subst (λ j. Runs (chunk contents j (λ x. give (new_text s x))) rest (new_text s x)) (sym (half_odd n)) (chunk_runs x e k.1.0))));
       }
-  text_complete x fs w' c (named e k there o h u f a) =
+  text_complete x fs w' c (placed e k there o h u f a) =
       let d = subst AllClean f c in
       let r = known_text s ((2 * k) / 2) in
       record {
@@ -237,7 +237,7 @@ traits_complete (external x) n s fs w w' same c (given o number u texts a) =
       after = a ∙ words_are u one.read.state.words (external x) (external (class_of one.read.bytes)) one.after (ap external (sym (class_is one.read.bytes x one.bytes)));
       runs = subst (λ j. Runs (traits_layout j s) fs r) (sym number.1) all;
     }
-traits_complete e n s fs w w' same c (named k there o number none a) =
+traits_complete e n s fs w w' same c (placed k there o number none a) =
     let m = 4 * k + 1 in
     let quarter : m / 4 ≡ k = omega arith in
     let nothing : Entry = plain (record { class = []; dynamic = false; sealed = [] }) in

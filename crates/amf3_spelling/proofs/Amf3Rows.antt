@@ -13,7 +13,7 @@ use Rattle.amf_graph.specs.ByName.{by_name}
 use Rattle.amf_graph.specs.Order.{Absent}
 use Rattle.amf3_spelling.specs.Tables.{plain, external, Tables, no_words, no_tables, with_words, add_node, add_text, add_entry}
 use Rattle.amf3_spelling.specs.Refusals3.{marker, text_header_kind, class_header_kind, class_kind}
-use Rattle.amf3_spelling.specs.Words3.{Text, TextBy, empty, whole, IsUnnamed, given}
+use Rattle.amf3_spelling.specs.Words3.{Text, TextBy, empty, whole, NoPlaceBelow, given}
 use Rattle.amf3_spelling.specs.Then.{Spelling, Then}
 use Rattle.amf3_spelling.specs.Parts3.{value, word, Lifted, Parts, layout}
 use Rattle.amf3_spelling.specs.Headers3.{marker_field, header_field, HeaderBy}
@@ -125,7 +125,7 @@ an_empty_array n s g i t there new e = record {
     }
 
 -- the header of a dynamic object without class and sealed names, whose traits are new
-abbrev new_traits : (s : Style) (t : Tables) → Only s (IsUnnamed 134217728 t.words.traits (plain open_traits)) → Built (Lifted (HeaderBy s (object open_traits) [] 11)) t
+abbrev new_traits : (s : Style) (t : Tables) → Only s (NoPlaceBelow 134217728 t.words.traits (plain open_traits)) → Built (Lifted (HeaderBy s (object open_traits) [] 11)) t
 new_traits s t unnamed =
     let x : Built (Text s []) t.words = no_text s t.words in
     lifted (HeaderBy s (object open_traits) [] 11) t (record {
@@ -257,11 +257,11 @@ collected s number unused e o few u =
     class_text : IsText (class_name ArrayCollection)
     class_text = (is_text-is (class_name ArrayCollection)).0 refl
 
-    only_of : (s : Style) → Only s (IsUnnamed 268435456 [] (class_name ArrayCollection))
+    only_of : (s : Style) → Only s (NoPlaceBelow 268435456 [] (class_name ArrayCollection))
     only_of free = tt
     only_of canonical = unnamed _ [] (class_name ArrayCollection) (absent_nil (class_name ArrayCollection))
 
-    only_traits : (s : Style) → Only s (IsUnnamed 134217728 [] (external ArrayCollection))
+    only_traits : (s : Style) → Only s (NoPlaceBelow 134217728 [] (external ArrayCollection))
     only_traits free = tt
     only_traits canonical = unnamed _ [] (external ArrayCollection) (absent_nil (external ArrayCollection))
 

@@ -13,7 +13,7 @@ use Rattle.amf3_spelling.specs.Refusals3.{marker, leaf_marker, markers, header_k
 use Rattle.amf3_spelling.specs.Words3.{Text}
 use Rattle.amf3_spelling.specs.Parts3.{Part, flag, four, eight, raw, chars, word, value, Fixed, Lifted, Parts, values_then, pairs_then, fours, signed_fours, eights, layout}
 use Rattle.amf3_spelling.specs.Headers3.{HeaderBy, header_field, marker_field}
-use Rattle.amf3_spelling.specs.Nodes3.{Named, Begun}
+use Rattle.amf3_spelling.specs.Nodes3.{Placed, Begun}
 use Rattle.amf3_spelling.specs.Spells3.{Marked, LeafBy, ValueBy, InlineIn, SpellsIn}
 
 -- Q holds of the nodes to which the value leads
@@ -114,7 +114,7 @@ module _ (g : Graph) (s : Style) (Q : ℕ → Type 0) (D : List ℕ → List ℕ
   same_header : (t u : Tables) (m : ℕ) (header : List ℕ) → Beside D t u → header_field g t m header ≡ header_field g u m header
   same_header t u m header b = ap (λ x. field (header_kind (markers g x) (length t.words.traits) m) header) b.nodes ∙ ap (λ x. field (header_kind (markers g u.nodes) (length x.traits) m) header) b.words
 
-  named_moves : (i : ℕ) → Moves D (Named s g i)
+  named_moves : (i : ℕ) → Moves D (Placed s g i)
   named_moves i t u fs t' b z = (
     u,
     record {

@@ -10,7 +10,7 @@ use Rattle.amf_graph.specs.Order.{Absent}
 use Rattle.amf3_spelling.specs.Tables.{Words, add_text, Tables, with_words, add_node}
 use Rattle.amf3_spelling.specs.Then.{Spelling, Then}
 use Rattle.amf3_spelling.specs.Refusals3.{leaf_marker, marker, text_header_kind}
-use Rattle.amf3_spelling.specs.Words3.{empty, whole, named, Text, IsUnnamed}
+use Rattle.amf3_spelling.specs.Words3.{empty, whole, placed, Text, NoPlaceBelow}
 use Rattle.amf3_spelling.specs.Parts3.{Part, word, value, Lifted, Parts, layout}
 use Rattle.amf3_spelling.specs.Headers3.{HeaderBy, marker_field, header_field}
 use Rattle.amf3_spelling.specs.Spells3.{LeafBy, Marked, ValueBy, SpellsIn}
@@ -45,18 +45,18 @@ an_integer Inline s g n t h = a_leaf Inline s g (integer (pos n)) t (omega arith
 abbrev pub no_text : (s : Style) (w : Words) → Built (Text s []) w
 no_text s w = record { fields = field (text_header_kind (length w.texts)) (1 ∷ []) ∷ []; after = w; spelled = empty refl (1 ∷ []) (small s 1 (omega arith)) refl refl }
 
-abbrev pub new_text : (s : Style) (x : List ℕ) (w : Words) → x ≢ [] → IsText x → Only s (IsUnnamed 268435456 w.texts x) → 2 * length x + 1 < 128 → Built (Text s x) w
+abbrev pub new_text : (s : Style) (x : List ℕ) (w : Words) → x ≢ [] → IsText x → Only s (NoPlaceBelow 268435456 w.texts x) → 2 * length x + 1 < 128 → Built (Text s x) w
 new_text s x w h is_text unnamed few = record {
   fields = field (text_header_kind (length w.texts)) ((2 * length x + 1) ∷ []) ∷ field (text_kind (length x)) x ∷ [];
   after = add_text w x;
   spelled = whole h is_text unnamed ((2 * length x + 1) ∷ []) (small s (2 * length x + 1) few) refl refl;
 }
 
-abbrev pub old_text : (s : Style) (x : List ℕ) (w : Words) (k : ℕ) → Only s (x ≢ []) → slice_get w.texts k ≡ Some x → Only s (IsUnnamed k w.texts x) → 2 * k < 128 → Built (Text s x) w
+abbrev pub old_text : (s : Style) (x : List ℕ) (w : Words) (k : ℕ) → Only s (x ≢ []) → slice_get w.texts k ≡ Some x → Only s (NoPlaceBelow k w.texts x) → 2 * k < 128 → Built (Text s x) w
 old_text s x w k h there unnamed few = record {
   fields = field (text_header_kind (length w.texts)) ((2 * k) ∷ []) ∷ [];
   after = w;
-  spelled = named h k there unnamed ((2 * k) ∷ []) (small s (2 * k) few) refl refl;
+  spelled = placed h k there unnamed ((2 * k) ∷ []) (small s (2 * k) few) refl refl;
 }
 
 abbrev pub a_text : (Inline : ℕ → Spelling Tables) (s : Style) (g : Graph) (x : List ℕ) (t : Tables) → IsText x → Built (Text s x) t.words → Built (ValueBy Inline s g (leaf (text x))) t
@@ -119,8 +119,8 @@ absent_cons y ys x h a zero e = h (some_is e)
     some_is e = cc
 absent_cons y ys x h a (suc k) e = a k e
 
-pub unnamed : {X : Type 0} (bound : ℕ) (xs : List X) (x : X) → Absent xs x → IsUnnamed bound xs x
+pub unnamed : {X : Type 0} (bound : ℕ) (xs : List X) (x : X) → Absent xs x → NoPlaceBelow bound xs x
 unnamed bound xs x a k l e = a k e
 
-pub unnamed_zero : {X : Type 0} (xs : List X) (x : X) → IsUnnamed 0 xs x
+pub unnamed_zero : {X : Type 0} (xs : List X) (x : X) → NoPlaceBelow 0 xs x
 unnamed_zero xs x k l e = absurd (omega arith)

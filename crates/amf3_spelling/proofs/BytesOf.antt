@@ -11,7 +11,7 @@ use Rattle.amf_graph.proofs.NameOrder.{by_name_length}
 use Rattle.amf3_spelling.specs.Tables.{Entry, plain, external, Words, Tables, no_tables, with_words, add_node}
 use Rattle.amf3_spelling.specs.Refusals3.{marker, leaf_marker, text_header_kind, class_header_kind, class_kind}
 use Rattle.amf3_spelling.specs.Then.{Spelling as Fields, Then as FieldThen}
-use Rattle.amf3_spelling.specs.Words3.{TextBy, empty as empty_text, whole as whole_text, named as named_text, Text as FieldText, Texts as FieldTexts, EntryTexts, TraitsBy, given as given_traits, named as named_traits}
+use Rattle.amf3_spelling.specs.Words3.{TextBy, empty as empty_text, whole as whole_text, placed as placed_text, Text as FieldText, Texts as FieldTexts, EntryTexts, TraitsBy, given as given_traits, placed as named_traits}
 use Rattle.amf3_spelling.specs.Parts3 as fields
 use Rattle.amf3_spelling.specs.Headers3.{Counted, HeaderBy}
 use Rattle.amf3_spelling.specs.Nodes3 as nodes
@@ -66,7 +66,7 @@ to_then A A' B B' f g t fs t' z = record { front = flat z.front; back = flat z.b
 to_text_by : (s : Style) (header : Kind) (contents : ℕ → Kind) (x : List ℕ) → To (TextBy s header contents x) (Text s x)
 to_text_by s header contents x t fs t' (empty_text e h u f a) = empty e (subst (λ b. IsU29 s 1 b) (sym (one_field fs header h f)) u) a
 to_text_by s header contents x t fs t' (whole_text e i o h u f a) = whole e i o h u (two_fields fs header (contents (length x)) h x f) a
-to_text_by s header contents x t fs t' (named_text e k i o h u f a) = placed e k i o (subst (λ b. IsU29 s (2 * k) b) (sym (one_field fs header h f)) u) a
+to_text_by s header contents x t fs t' (placed_text e k i o h u f a) = placed e k i o (subst (λ b. IsU29 s (2 * k) b) (sym (one_field fs header h f)) u) a
 
 to_text : (s : Style) (x : List ℕ) → To (FieldText s x) (Text s x)
 to_text s x t fs t' z = to_text_by s (text_header_kind (length t.texts)) text_kind x t fs t' z
@@ -203,7 +203,7 @@ to_layout s R R' r a w vs n header h t fs t' z = record {
   second = to_body s R R' r a w vs z.mid z.back t' z.second;
 }
 
-to_named : (s : Style) (g : Graph) (i : ℕ) (t : Tables) (fs : List Field) (t' : Tables) → nodes.Named s g i t fs t' → (c : List ℕ) × (flat fs ≡ marker (node_at g i).head ∷ c) × Placed s i t c t'
+to_named : (s : Style) (g : Graph) (i : ℕ) (t : Tables) (fs : List Field) (t' : Tables) → nodes.Placed s g i t fs t' → (c : List ℕ) × (flat fs ≡ marker (node_at g i).head ∷ c) × Placed s i t c t'
 to_named s g i t fs t' z = (z.header, ap flat z.fields ∙ ap (λ b. marker (node_at g i).head ∷ b) (append-nil z.header), record { place = z.place; here = z.there; spelled = z.spelled; same = z.same })
 
 to_begun : (s : Style) (R : Value → Fields Tables) (R' : Value → Spelling Tables) → ((v : Value) → To (R v) (R' v)) → (g : Graph) (i : ℕ) (t : Tables) (fs : List Field) (t' : Tables) → nodes.Begun R s g i t fs t' → (c : List ℕ) × (flat fs ≡ marker (node_at g i).head ∷ c) × Begun R' s g i t c t'

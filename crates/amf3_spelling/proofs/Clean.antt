@@ -16,7 +16,7 @@ use Rattle.amf_graph.specs.Graph.{Leaf, undefined, null, boolean, integer, doubl
 use Rattle.amf3_spelling.specs.Tables.{Entry, plain, external, Words, Tables, add_node}
 use Rattle.amf3_spelling.specs.Then.{Spelling, Then, Plain}
 use Rattle.amf3_spelling.specs.Refusals3.{leaf_marker, marker, markers, marker_refusal, kind_refusal, header_refusal, text_header_refusal, class_header_refusal, class_refusal, indexed_class_refusal, is_served_length, class_header_kind, class_kind}
-use Rattle.amf3_spelling.specs.Words3.{TextBy, empty, named, Text, Texts, EntryTexts, EntryNumber, TraitsBy, given}
+use Rattle.amf3_spelling.specs.Words3.{TextBy, empty, placed, Text, Texts, EntryTexts, EntryNumber, TraitsBy, given}
 use Rattle.amf3_spelling.specs.Words3 as words
 use Rattle.amf3_spelling.specs.Parts3.{Part, flag, four, eight, raw, chars, word, value, Fixed, Lifted, Parts, layout, values_then, pairs_then, fours, signed_fours, eights}
 use Rattle.amf3_spelling.specs.Headers3.{HeaderBy, marker_field}
@@ -102,7 +102,7 @@ even_header texts k h = ap (λ b. if b then Some BadTextIndex else None) (both_f
 clean_text : (s : Style) (x : List ℕ) → Cleans (Text s x)
 clean_text s x t fs t' (empty e h u f a) = clean_as _ fs f (number_field s 1 h (text_header_refusal (length t.texts)) u (odd_header (length t.texts) 0), tt)
 clean_text s x t fs t' (words.whole e i o h u f a) = clean_as _ fs f (number_field s (2 * length x + 1) h (text_header_refusal (length t.texts)) u (odd_header (length t.texts) (length x)), (text_field x i e, tt))
-clean_text s x t fs t' (named e k i o h u f a) = clean_as _ fs f (number_field s (2 * k) h (text_header_refusal (length t.texts)) u (even_header (length t.texts) k (below_length t.texts k x i)), tt)
+clean_text s x t fs t' (placed e k i o h u f a) = clean_as _ fs f (number_field s (2 * k) h (text_header_refusal (length t.texts)) u (even_header (length t.texts) k (below_length t.texts k x i)), tt)
 
 clean_texts : (s : Style) (xs : List (List ℕ)) → Cleans (Texts s xs)
 clean_texts s [] t fs t' z = clean_as [] fs z.0 tt
@@ -137,7 +137,7 @@ class_indexed texts k c e =
 clean_class : (s : Style) (c : Wrapped) (w : Words) (fs : List Field) (w' : Words) → TextBy s (class_header_kind w.texts) class_kind (class_name c) w fs w' → AllClean fs
 clean_class s c w fs w' (empty e h u f a) = absurd (has_name c e)
 clean_class s c w fs w' (words.whole e i o h u f a) = clean_as _ fs f (number_field s (2 * length (class_name c) + 1) h (class_header_refusal w.texts) u (class_inline w.texts (length (class_name c)) (served_length c)), (judged_field (class_name c) class_refusal e (served_class c), tt))
-clean_class s c w fs w' (named e k i o h u f a) = clean_as _ fs f (number_field s (2 * k) h (class_header_refusal w.texts) u (class_indexed w.texts k c i), tt)
+clean_class s c w fs w' (placed e k i o h u f a) = clean_as _ fs f (number_field s (2 * k) h (class_header_refusal w.texts) u (class_indexed w.texts k c i), tt)
 
 clean_entry : (s : Style) (e : Entry) → Cleans (EntryTexts s e)
 clean_entry s (plain c) t fs t' z = clean_texts s (c.class ∷ c.sealed) t fs t' z
@@ -145,7 +145,7 @@ clean_entry s (external c) t fs t' z = clean_class s c t fs t' z
 
 clean_traits : (s : Style) (e : Entry) (n : ℕ) → Cleans (TraitsBy s e n)
 clean_traits s e n t fs t' (given o number u texts a) = clean_entry s e t fs u texts
-clean_traits s e n t fs t' (words.named k i o number f a) = clean_as [] fs f tt
+clean_traits s e n t fs t' (words.placed k i o number f a) = clean_as [] fs f tt
 
 clean_counted : (fs : List Field) → fs ≡ [] → AllClean fs
 clean_counted fs e = clean_as [] fs e tt
@@ -231,7 +231,7 @@ entry_inline s (external c) n traits (unused, e, o) = let h : (n % 4 == 1) ≡ f
 
 traits_inline : (s : Style) (e : Entry) (n : ℕ) (w : Words) (fs : List Field) (w' : Words) → TraitsBy s e n w fs w' → ((n % 4 == 1) && nat_le (length w.traits) (n / 4)) ≡ false
 traits_inline s e n w fs w' (given o number u texts a) = entry_inline s e n (length w.traits) number
-traits_inline s e n w fs w' (words.named k i o number f a) =
+traits_inline s e n w fs w' (words.placed k i o number f a) =
     ap (λ b. (n % 4 == 1) && b) (ap (nat_le (length w.traits)) (ap (λ j. j / 4) number ∙ quarter k) ∙ not_below (length w.traits) k (below_length w.traits k e i)) ∙ and_false (n % 4 == 1)
   where
     quarter : (k : ℕ) → (4 * k + 1) / 4 ≡ k

@@ -9,7 +9,7 @@ use Rattle.amf_graph.proofs.NameOrder.{by_name_length}
 use Rattle.amf3_spelling.specs.Tables.{Entry, plain, external, Words, Tables, no_tables, with_words}
 use Rattle.amf3_spelling.specs.Refusals3.{marker, leaf_marker, text_header_kind, class_header_kind, class_kind}
 use Rattle.amf3_spelling.specs.Then.{Spelling as Fields, Then as FieldThen}
-use Rattle.amf3_spelling.specs.Words3.{TextBy, empty as empty_text, whole as whole_text, named as named_text, Text as FieldText, Texts as FieldTexts, EntryTexts, TraitsBy, given as given_traits, named as named_traits}
+use Rattle.amf3_spelling.specs.Words3.{TextBy, empty as empty_text, whole as whole_text, placed as placed_text, Text as FieldText, Texts as FieldTexts, EntryTexts, TraitsBy, given as given_traits, placed as named_traits}
 use Rattle.amf3_spelling.specs.Parts3 as fields
 use Rattle.amf3_spelling.specs.Headers3.{HeaderBy, marker_field, header_field}
 use Rattle.amf3_spelling.specs.Nodes3 as nodes
@@ -34,7 +34,7 @@ from_then A A' B B' f g t b t' z = of_then A A' t z.mid t' b z.front z.back z.jo
 from_text_by : (s : Style) (header : Kind) (contents : ℕ → Kind) (x : List ℕ) → From (TextBy s header contents x) (Text s x)
 from_text_by s header contents x t b t' (empty e u a) = (field header b ∷ [], empty_text e b u refl a, sym (append-nil b))
 from_text_by s header contents x t b t' (whole e i o h u j a) = (field header h ∷ field (contents (length x)) x ∷ [], whole_text e i o h u refl a, j ∙ ap (λ w. h ++ w) (sym (append-nil x)))
-from_text_by s header contents x t b t' (placed e k i o u a) = (field header b ∷ [], named_text e k i o b u refl a, sym (append-nil b))
+from_text_by s header contents x t b t' (placed e k i o u a) = (field header b ∷ [], placed_text e k i o b u refl a, sym (append-nil b))
 
 from_text : (s : Style) (x : List ℕ) → From (FieldText s x) (Text s x)
 from_text s x t b t' z = from_text_by s (text_header_kind (length t.texts)) text_kind x t b t' z
@@ -175,7 +175,7 @@ from_header s (dictionary f) vs w b w' d z =
 even_parts : (a : Head) (w : List (List ℕ × Value)) (vs : List Value) → Fits a w vs → (f : Bool) → a ≡ dictionary f → (n : ℕ) × (length vs ≡ 2 * n)
 even_parts a w vs h f e = let k : Fits (dictionary f) w vs = subst (λ z. Fits z w vs) e h in (k.1, k.2)
 
-of_placed : (s : Style) (g : Graph) (i : ℕ) (t : Tables) (c : List ℕ) (t' : Tables) → Placed s i t c t' → Of (nodes.Named s g i) t (marker (node_at g i).head ∷ c) t'
+of_placed : (s : Style) (g : Graph) (i : ℕ) (t : Tables) (c : List ℕ) (t' : Tables) → Placed s i t c t' → Of (nodes.Placed s g i) t (marker (node_at g i).head ∷ c) t'
 of_placed s g i t c t' p = (
   marker_field (marker (node_at g i).head) ∷ header_field g t (marker (node_at g i).head) c ∷ [],
   record { place = p.place; header = c; there = p.here; spelled = p.spelled; fields = refl; same = p.same },

@@ -6,10 +6,10 @@ use Rattle.amf_wire.specs.U29.{IsU29}
 use Rattle.amf_graph.specs.Graph.{Leaf, undefined, null, boolean, integer, double, text, Value, leaf, node, Head, xml_document, date, array, object, wrapper, xml, bytes, ints, uints, doubles, values, dictionary, Graph, node_at, class_name}
 use Rattle.amf3_spelling.specs.Tables.{Entry, plain, external, Words, Tables, add_node}
 use Rattle.amf3_spelling.specs.Then.{Spelling, Then, Plain}
-use Rattle.amf3_spelling.specs.Words3.{TextBy, empty, whole, named, Text, Texts, EntryTexts, EntryNumber, TraitsBy, given, named as by_place}
+use Rattle.amf3_spelling.specs.Words3.{TextBy, empty, whole, placed, Text, Texts, EntryTexts, EntryNumber, TraitsBy, given, placed as by_place}
 use Rattle.amf3_spelling.specs.Parts3.{Part, flag, four, eight, raw, chars, word, value, Fixed, Lifted, Parts, layout}
 use Rattle.amf3_spelling.specs.Headers3.{HeaderBy}
-use Rattle.amf3_spelling.specs.Nodes3.{Named, Begun}
+use Rattle.amf3_spelling.specs.Nodes3.{Placed, Begun}
 use Rattle.amf3_spelling.specs.Spells3.{LeafBy, ValueBy, InlineIn, SpellsIn, Spells3, Spelled3}
 
 -- A implies B
@@ -25,7 +25,7 @@ forget_u29 s n b u = record { spelled = u.spelled; shortest = tt }
 text_by : (s : Style) (header : Kind) (contents : ℕ → Kind) (x : List ℕ) → Implies (TextBy s header contents x) (TextBy free header contents x)
 text_by s header contents x t fs t' (empty e h u f a) = empty e h (forget_u29 s 1 h u) f a
 text_by s header contents x t fs t' (whole e i o h u f a) = whole e i tt h (forget_u29 s _ h u) f a
-text_by s header contents x t fs t' (named e k i o h u f a) = named tt k i tt h (forget_u29 s _ h u) f a
+text_by s header contents x t fs t' (placed e k i o h u f a) = placed tt k i tt h (forget_u29 s _ h u) f a
 
 text_of : (s : Style) (x : List ℕ) → Implies (Text s x) (Text free x)
 text_of s x t fs t' z = text_by s _ _ x t fs t' z
@@ -85,7 +85,7 @@ parts R R' s f (eight n ∷ ps) t fs t' z = then_implies (Plain (Fixed s (eight 
 parts R R' s f (raw x ∷ ps) t fs t' z = then_implies (Plain (Fixed s (raw x))) (Parts R s ps) (Plain (Fixed free (raw x))) (Parts R' free ps) (plain_implies s (raw x)) (parts R R' s f ps) t fs t' z
 parts R R' s f (chars x ∷ ps) t fs t' z = then_implies (Plain (Fixed s (chars x))) (Parts R s ps) (Plain (Fixed free (chars x))) (Parts R' free ps) (plain_implies s (chars x)) (parts R R' s f ps) t fs t' z
 
-named_by : (s : Style) (g : Graph) (i : ℕ) → Implies (Named s g i) (Named free g i)
+named_by : (s : Style) (g : Graph) (i : ℕ) → Implies (Placed s g i) (Placed free g i)
 named_by s g i t fs t' z = record { place = z.place; header = z.header; there = z.there; spelled = forget_u29 s _ z.header z.spelled; fields = z.fields; same = z.same }
 
 begun_by : (R R' : Value → Spelling Tables) (s : Style) → ((v : Value) → Implies (R v) (R' v)) → (g : Graph) (i : ℕ) → Implies (Begun R s g i) (Begun R' free g i)

@@ -9,7 +9,7 @@ use Rattle.amf_graph.specs.Graph.{integer, text, Value, leaf, node, Head, xml_do
 use Rattle.amf_graph.specs.ByName.{by_name}
 use Rattle.amf3_spelling.specs.Tables.{plain, Tables, no_tables, with_words, add_node, add_entry}
 use Rattle.amf3_spelling.specs.Then.{Spelling, Then, Plain}
-use Rattle.amf3_spelling.specs.Words3.{Text, Texts, given, named}
+use Rattle.amf3_spelling.specs.Words3.{Text, Texts, given, placed}
 use Rattle.amf3_spelling.specs.Parts3.{Part, flag, four, eight, raw, chars, word, value, IsFlag, Fixed, Lifted, Parts, layout}
 use Rattle.amf3_spelling.specs.Headers3.{HeaderBy}
 use Rattle.amf3_spelling.specs.Spells3.{InlineIn, SpellsIn, Spelled3}
@@ -172,7 +172,7 @@ traits_by_place =
     let k : Built (Lifted (HeaderBy canonical (object one_sealed) (leaf (integer (pos 2)) ∷ []) 1)) u = lifted (HeaderBy canonical (object one_sealed) (leaf (integer (pos 2)) ∷ []) 1) u (record {
       fields = [];
       after = u.words;
-      spelled = named 0 refl (unnamed_zero u.words.traits (plain one_sealed)) refl refl refl;
+      spelled = placed 0 refl (unnamed_zero u.words.traits (plain one_sealed)) refl refl refl;
     }) in
     let w : Built (Q two) k.after = an_integer I canonical two_objects 2 k.after (omega arith) in
     let y : Built (R (node 2)) x.after = a_node 0 canonical two_objects 2 x.after [] 1 (omega arith) (absent_cons 0 (1 ∷ []) 2 (λ e. omega arith) (absent_cons 1 [] 2 (λ e. omega arith) (absent_nil 2))) (refl, refl) refl refl tt (omega arith)

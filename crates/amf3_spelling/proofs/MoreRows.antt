@@ -14,7 +14,7 @@ use Rattle.amf3_spelling.specs.Tables.{external, Words, Tables, no_tables, with_
 use Rattle.amf3_spelling.specs.KeptTables.{tables_of}
 use Rattle.amf3_spelling.specs.Then.{Spelling}
 use Rattle.amf3_spelling.specs.Refusals3.{class_header_kind, class_kind}
-use Rattle.amf3_spelling.specs.Words3.{Text, TextBy, whole, named, given, IsUnnamed}
+use Rattle.amf3_spelling.specs.Words3.{Text, TextBy, whole, placed, given, NoPlaceBelow}
 use Rattle.amf3_spelling.specs.Parts3.{word, value, Lifted}
 use Rattle.amf3_spelling.specs.Headers3.{HeaderBy}
 use Rattle.amf3_spelling.specs.Reads3.{IsReading3}
@@ -116,7 +116,7 @@ abbrev Class : Spelling Words
 Class w = TextBy canonical (class_header_kind w.texts) class_kind (class_name ArrayCollection) w
 
 -- the header of the first collection, behind a class name
-abbrev first_collection : (i : ℕ) (t : Tables) (name : Built Class t.words) → IsUnnamed 134217728 t.words.traits (external ArrayCollection) → Built (Lifted (HeaderBy canonical (wrapper ArrayCollection) (node i ∷ []) 7)) t
+abbrev first_collection : (i : ℕ) (t : Tables) (name : Built Class t.words) → NoPlaceBelow 134217728 t.words.traits (external ArrayCollection) → Built (Lifted (HeaderBy canonical (wrapper ArrayCollection) (node i ∷ []) 7)) t
 first_collection i t name new = lifted (HeaderBy canonical (wrapper ArrayCollection) (node i ∷ []) 7) t (record {
   fields = name.fields;
   after = add_entry name.after (external ArrayCollection);
@@ -141,7 +141,7 @@ wrapper_traits_by_place =
     let k : Built (Lifted (HeaderBy canonical (wrapper ArrayCollection) (node 2 ∷ []) 1)) u = lifted (HeaderBy canonical (wrapper ArrayCollection) (node 2 ∷ []) 1) u (record {
       fields = [];
       after = u.words;
-      spelled = named 0 refl (unnamed_zero u.words.traits (external ArrayCollection)) refl refl refl;
+      spelled = placed 0 refl (unnamed_zero u.words.traits (external ArrayCollection)) refl refl refl;
     }) in
     let r : Built (Q (node 2)) k.after = a_reference (InlineIn 1 canonical two_collections) canonical two_collections 2 2 k.after refl (omega arith) in
     let y : Built (R (node 3)) x.after = a_node 1 canonical two_collections 3 x.after [] 1 (omega arith) (absent_cons 0 (1 ∷ 2 ∷ []) 3 (λ e. omega arith) (absent_cons 1 (2 ∷ []) 3 (λ e. omega arith) (absent_cons 2 [] 3 (λ e. omega arith) (absent_nil 3)))) (refl, refl) refl refl tt (omega arith)
@@ -162,7 +162,7 @@ class_by_place =
     let name : Built Class t.words = record {
       fields = field (class_header_kind t.words.texts) (0x00 ∷ []) ∷ [];
       after = t.words;
-      spelled = named class_is 0 refl (unnamed_zero t.words.texts (class_name ArrayCollection)) (0x00 ∷ []) (small canonical 0 (omega arith)) refl refl;
+      spelled = placed class_is 0 refl (unnamed_zero t.words.texts (class_name ArrayCollection)) (0x00 ∷ []) (small canonical 0 (omega arith)) refl refl;
     } in
     let h : Built (Lifted (HeaderBy canonical (wrapper ArrayCollection) (node 2 ∷ []) 7)) t = first_collection 2 t name (unnamed _ [] (external ArrayCollection) (absent_nil (external ArrayCollection))) in
     let e : Built (Q (node 2)) h.after = an_empty_array 0 canonical name_and_collection 2 h.after (omega arith) (absent_cons 0 (1 ∷ []) 2 (λ e. omega arith) (absent_cons 1 [] 2 (λ e. omega arith) (absent_nil 2))) refl in

@@ -4,7 +4,7 @@ use Rattle.amf_io.specs.Field.{Field}
 use Rattle.amf_wire.specs.Style.{Style}
 use Rattle.amf_graph.specs.Graph.{Value, Head, xml_document, date, array, object, wrapper, xml, bytes, ints, uints, doubles, values, dictionary}
 use Rattle.amf3_spelling.specs.Tables.{plain, external, Entry, Words}
-use Rattle.amf3_spelling.specs.Words3.{TraitsBy, given, named, EntryNumber}
+use Rattle.amf3_spelling.specs.Words3.{TraitsBy, given, placed, EntryNumber}
 use Rattle.amf3_spelling.specs.Headers3.{HeaderBy}
 
 entry_odd : (s : Style) (e : Entry) (n : ℕ) → EntryNumber s e n → (k : ℕ) × (n ≡ 2 * k + 1)
@@ -13,7 +13,7 @@ entry_odd s (external c) n (unused, e, o) = (4 * unused + 3, omega arith)
 
 traits_odd : (s : Style) (e : Entry) (n : ℕ) (w : Words) (fs : List Field) (w' : Words) → TraitsBy s e n w fs w' → (k : ℕ) × (n ≡ 2 * k + 1)
 traits_odd s e n w fs w' (given o number u texts after) = entry_odd s e n number
-traits_odd s e n w fs w' (named k there o number f a) = (2 * k, omega arith)
+traits_odd s e n w fs w' (placed k there o number f a) = (2 * k, omega arith)
 
 pub header_odd : (s : Style) (h : Head) (vs : List Value) (n : ℕ) (w : Words) (fs : List Field) (w' : Words) → HeaderBy s h vs n w fs w' → (k : ℕ) × (n ≡ 2 * k + 1)
 header_odd s (xml_document x) vs n w fs w' z = (length x, z.0)

@@ -13,7 +13,7 @@ use Rattle.amf_graph.specs.Graph.{Traits, class_name}
 use Rattle.amf_graph.specs.Small.{IsShort}
 use Rattle.amf_graph.proofs.Lists.{cons_same, moved, split_same, not_empty, search_for, same_list}
 use Rattle.amf3_spelling.specs.Tables.{Entry, plain, external, Words, add_text, add_entry}
-use Rattle.amf3_spelling.specs.Words3.{IsUnnamed, EntryNumber}
+use Rattle.amf3_spelling.specs.Words3.{NoPlaceBelow, EntryNumber}
 use Rattle.amf3_spelling.proofs.ByteSpelling.{Text, empty, whole, placed, Texts, entry_texts, TraitsOf, given, indexed, Step, byte, number, unused, flag, raw, word, traits, StepOf}
 use Rattle.amf3_spelling.proofs.Numbers3.{number_same, number_fixed, number_bound, number_found}
 
@@ -225,7 +225,7 @@ same_entry (plain t) (external c) = inr (λ e. cc)
 same_entry (external c) (plain t) = inr (λ e. cc)
 same_entry (external c) (external c') = elim (same_text (class_name c) (class_name c')) [ inl e ↦ inl (ap external (class_same c c' e)) | inr n ↦ inr (λ h. let e : c ≡ c' = cc in n (ap class_name e)) ]
 
-text_whole : (x : List ℕ) (w : Words) → IsText x → x ≢ [] → length x < 268435456 → IsUnnamed 268435456 w.texts x → (b : List ℕ) × (w' : Words) × Text canonical x w b w'
+text_whole : (x : List ℕ) (w : Words) → IsText x → x ≢ [] → length x < 268435456 → NoPlaceBelow 268435456 w.texts x → (b : List ℕ) × (w' : Words) × Text canonical x w b w'
 text_whole x w tx e l a = let n = number_found (2 * length x + 1) (omega arith) in (n.0 ++ x, add_text w x, whole e tx a n.0 n.1 refl refl)
 
 pub text_found : (x : List ℕ) → IsText x → length x < 268435456 → (w : Words) → (b : List ℕ) × (w' : Words) × Text canonical x w b w'
@@ -268,7 +268,7 @@ entry_short : (e : Entry) → ShortEntry e → AllShort (entry_texts e)
 entry_short (plain t) h = h.0
 entry_short (external c) h = ((class_text c, class_short c), tt)
 
-traits_given : (e : Entry) → ShortEntry e → (w : Words) → IsUnnamed 134217728 w.traits e → (b : List ℕ) × (w' : Words) × TraitsOf canonical e w b w'
+traits_given : (e : Entry) → ShortEntry e → (w : Words) → NoPlaceBelow 134217728 w.traits e → (b : List ℕ) × (w' : Words) × TraitsOf canonical e w b w'
 traits_given e h w a =
     let m = entry_found e h in
     let n = number_found m.0 m.2 in

@@ -13,7 +13,7 @@ use Rattle.amf3_spelling.specs.Parts3.{Lifted, Parts, layout}
 use Rattle.amf3_spelling.specs.Headers3.{HeaderBy, marker_field, header_field}
 
 -- a node at a place of the table
-pub record Named (s : Style) (g : Graph) (i : ℕ) (t : Tables) (fs : List Field) (t' : Tables) : Type 0 where
+pub record Placed (s : Style) (g : Graph) (i : ℕ) (t : Tables) (fs : List Field) (t' : Tables) : Type 0 where
   pub place : ℕ
   pub header : List ℕ
   pub there : slice_get t.nodes place ≡ Some i

@@ -12,7 +12,7 @@ use Rattle.amf3_spelling.specs.Refusals3.{leaf_marker}
 use Rattle.amf3_spelling.specs.Words3.{Text}
 use Rattle.amf3_spelling.specs.Parts3.{Lifted}
 use Rattle.amf3_spelling.specs.Headers3.{marker_field}
-use Rattle.amf3_spelling.specs.Nodes3.{Named, Begun}
+use Rattle.amf3_spelling.specs.Nodes3.{Placed, Begun}
 
 -- what stands behind the marker of a value that is no node
 abbrev pub LeafBy : Style → Leaf → Spelling Words
@@ -28,7 +28,7 @@ Marked m t fs t' = (fs ≡ marker_field m ∷ []) × (t' ≡ t)
 -- a value, where Inline spells a node that has not been spelled
 abbrev pub ValueBy : (ℕ → Spelling Tables) → Style → Graph → Value → Spelling Tables
 ValueBy Inline s g (leaf x) t fs t' = IsLeaf x × Then (Marked (leaf_marker x)) (Lifted (LeafBy s x)) t fs t'
-ValueBy Inline s g (node i) t fs t' = Named s g i t fs t' ⊎ Inline i t fs t'
+ValueBy Inline s g (node i) t fs t' = Placed s g i t fs t' ⊎ Inline i t fs t'
 
 -- an inline node with inline nodes within one another, at most so many with itself
 abbrev pub InlineIn : ℕ → Style → Graph → ℕ → Spelling Tables

@@ -10,14 +10,14 @@ use Rattle.amf3_spelling.specs.Then.{Spelling, Then}
 use Rattle.amf3_spelling.specs.Refusals3.{text_header_kind, class_header_kind, class_kind}
 
 -- no place below the bound holds x
-abbrev pub IsUnnamed : {X : Type 0} → ℕ → List X → X → Type 0
-IsUnnamed bound xs x = (k : ℕ) → k < bound → slice_get xs k ≢ Some x
+abbrev pub NoPlaceBelow : {X : Type 0} → ℕ → List X → X → Type 0
+NoPlaceBelow bound xs x = (k : ℕ) → k < bound → slice_get xs k ≢ Some x
 
 -- a text whose header and contents are fields of these kinds; the canonical spelling is by the first place that a header can name, and never so of the empty text
 pub data TextBy (s : Style) (header : Kind) (contents : ℕ → Kind) (x : List ℕ) (w : Words) (fs : List Field) (w' : Words) : Type 0 where
   empty : x ≡ [] → (h : List ℕ) → IsU29 s 1 h → fs ≡ field header h ∷ [] → w' ≡ w → TextBy s header contents x w fs w'
-  whole : x ≢ [] → IsText x → Only s (IsUnnamed 268435456 w.texts x) → (h : List ℕ) → IsU29 s (2 * length x + 1) h → fs ≡ field header h ∷ field (contents (length x)) x ∷ [] → w' ≡ add_text w x → TextBy s header contents x w fs w'
-  named : Only s (x ≢ []) → (k : ℕ) → slice_get w.texts k ≡ Some x → Only s (IsUnnamed k w.texts x) → (h : List ℕ) → IsU29 s (2 * k) h → fs ≡ field header h ∷ [] → w' ≡ w → TextBy s header contents x w fs w'
+  whole : x ≢ [] → IsText x → Only s (NoPlaceBelow 268435456 w.texts x) → (h : List ℕ) → IsU29 s (2 * length x + 1) h → fs ≡ field header h ∷ field (contents (length x)) x ∷ [] → w' ≡ add_text w x → TextBy s header contents x w fs w'
+  placed : Only s (x ≢ []) → (k : ℕ) → slice_get w.texts k ≡ Some x → Only s (NoPlaceBelow k w.texts x) → (h : List ℕ) → IsU29 s (2 * k) h → fs ≡ field header h ∷ [] → w' ≡ w → TextBy s header contents x w fs w'
 
 abbrev pub Text : Style → List ℕ → Spelling Words
 Text s x w = TextBy s (text_header_kind (length w.texts)) text_kind x w
@@ -39,5 +39,5 @@ EntryNumber s (external c) n = (unused : ℕ) × (n ≡ 8 * unused + 7) × Only 
 
 -- the traits behind an object's header of the number n: given inline, and entered behind its texts, or by its place
 pub data TraitsBy (s : Style) (e : Entry) (n : ℕ) (w : Words) (fs : List Field) (w' : Words) : Type 0 where
-  given : Only s (IsUnnamed 134217728 w.traits e) → EntryNumber s e n → (u : Words) → EntryTexts s e w fs u → w' ≡ add_entry u e → TraitsBy s e n w fs w'
-  named : (k : ℕ) → slice_get w.traits k ≡ Some e → Only s (IsUnnamed k w.traits e) → n ≡ 4 * k + 1 → fs ≡ [] → w' ≡ w → TraitsBy s e n w fs w'
+  given : Only s (NoPlaceBelow 134217728 w.traits e) → EntryNumber s e n → (u : Words) → EntryTexts s e w fs u → w' ≡ add_entry u e → TraitsBy s e n w fs w'
+  placed : (k : ℕ) → slice_get w.traits k ≡ Some e → Only s (NoPlaceBelow k w.traits e) → n ≡ 4 * k + 1 → fs ≡ [] → w' ≡ w → TraitsBy s e n w fs w'

@@ -6,7 +6,7 @@ use Rattle.amf_graph.specs.Graph.{Value, Graph}
 use Rattle.amf3_spelling.specs.Tables.{Words, Tables}
 use Rattle.amf3_spelling.specs.Refusals3.{text_header_kind}
 use Rattle.amf3_spelling.specs.Spells3.{Spells3}
-use Rattle.amf3_spelling.specs.Words3.{Text as FieldText, empty as empty_text, whole as whole_text, named as named_text}
+use Rattle.amf3_spelling.specs.Words3.{Text as FieldText, empty as empty_text, whole as whole_text, placed as placed_text}
 use Rattle.amf3_spelling.specs.Parts3.{Lifted}
 use Rattle.amf3_spelling.specs.ByteSpelling.{Text, empty, whole, placed, word}
 use Rattle.amf3_spelling.proofs.FieldsOf.{from_spells}
@@ -17,7 +17,7 @@ use Rattle.amf3_write.specs.Writes.{WritesStep, WritesValue}
 text_fields : (x : List ℕ) (w : Words) (b : List ℕ) (w' : Words) → Text canonical x w b w' → (fs : List Field) × FieldText canonical x w fs w' × (b ≡ flat fs)
 text_fields x w b w' (empty e u a) = (field (text_header_kind (length w.texts)) b ∷ [], empty_text e b u refl a, sym (append-nil b))
 text_fields x w b w' (whole e i o h u j a) = (field (text_header_kind (length w.texts)) h ∷ field (text_kind (length x)) x ∷ [], whole_text e i o h u refl a, j ∙ ap (λ z. h ++ z) (sym (append-nil x)))
-text_fields x w b w' (placed e k i o u a) = (field (text_header_kind (length w.texts)) b ∷ [], named_text e k i o b u refl a, sym (append-nil b))
+text_fields x w b w' (placed e k i o u a) = (field (text_header_kind (length w.texts)) b ∷ [], placed_text e k i o b u refl a, sym (append-nil b))
 
 appended : (o n : Output) (old new bytes more : List ℕ) → o.bytes.items ≡ old → new ≡ n.bytes.items → n.bytes.items ≡ o.bytes.items ++ bytes → bytes ≡ more → new ≡ old ++ more
 appended o n old new bytes more b d a e = d ∙ a ∙ ap (λ w. w ++ bytes) b ∙ ap (λ w. old ++ w) e

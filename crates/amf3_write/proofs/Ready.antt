@@ -8,7 +8,7 @@ use Rattle.amf_tables.specs.FirstPlace.{IsFirstPlace}
 use Rattle.amf_tables.specs.KnownWords.{Known, AreKnownOf}
 use Rattle.amf3_spelling.specs.Tables.{Entry, Words, Tables, with_words, add_text, add_entry, add_node}
 use Rattle.amf_tables.specs.TextPlaces.{IsEntered}
-use Rattle.amf3_spelling.specs.Words3.{IsUnnamed}
+use Rattle.amf3_spelling.specs.Words3.{NoPlaceBelow}
 use Rattle.amf_tables.specs.declared.text_place.TextPlace.{TextPlace}
 use Rattle.amf_tables.specs.declared.text_place.TextPlace.TheVariants.{Old, New}
 use Rattle.amf3_spelling.specs.ByteSpelling.{Spelling, whole, number, raw, word, step}
@@ -68,5 +68,5 @@ wrote_new x o m n tx ne new e b h =
     }
 
 -- past the places that a header can name
-pub unnamed_past : {X : Type 0} (xs : List X) (x : X) (k n : ℕ) → IsFirstPlace xs x k → n ≤ k → IsUnnamed n xs x
+pub unnamed_past : {X : Type 0} (xs : List X) (x : X) (k n : ℕ) → IsFirstPlace xs x k → n ≤ k → NoPlaceBelow n xs x
 unnamed_past xs x k n first l j before = first.1 j (omega (arith, before, l))

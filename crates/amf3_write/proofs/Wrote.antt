@@ -10,7 +10,7 @@ use Rattle.amf_graph.specs.declared.value.TextId.{TextId}
 use Rattle.amf_graph.specs.Arena.{Arena, IsFinished, text_at}
 use Rattle.amf_graph.specs.Bounds.{IsWithinBounds}
 use Rattle.amf3_spelling.specs.Tables.{Entry, Words, Tables, with_words, add_text, add_entry}
-use Rattle.amf3_spelling.specs.Words3.{IsUnnamed, EntryNumber}
+use Rattle.amf3_spelling.specs.Words3.{NoPlaceBelow, EntryNumber}
 use Rattle.amf_tables.specs.FirstPlace.{IsFirstPlace}
 use Rattle.amf_tables.specs.ShownTraits.{texts_at}
 use Rattle.amf3_spelling.specs.ByteSpelling.{Text, whole, placed, Texts, entry_texts, given, indexed, number, raw, word, traits}
@@ -43,7 +43,7 @@ wrote_place x o m n k ne at e h = record {
 }
 
 -- a text inline
-pub wrote_text : (x : List ℕ) (o m n p : Output) (number_there : ℕ) → IsText x → x ≢ [] → IsUnnamed 268435456 o.tables.words.texts x → number_there ≡ 2 * length x + 1
+pub wrote_text : (x : List ℕ) (o m n p : Output) (number_there : ℕ) → IsText x → x ≢ [] → NoPlaceBelow 268435456 o.tables.words.texts x → number_there ≡ 2 * length x + 1
     → WritesStep (number number_there) o m → WritesStep (raw x) m n → p.tables ≡ with_words n.tables (add_text n.tables.words x) → p.bytes.items ≡ n.bytes.items → WritesStep (word x) o p
 wrote_text x o m n p there tx ne new e h k t b =
     let same : n.tables ≡ o.tables = raw_tables x m n k ∙ number_tables there o m h in record {
@@ -108,7 +108,7 @@ wrote_entry_place e o m n k at i h = record {
   appended = h.appended;
 }
 
-pub wrote_entry : (e : Entry) (o m n p : Output) (i : ℕ) → IsUnnamed 134217728 o.tables.words.traits e → EntryNumber canonical e i → WritesStep (number i) o m → WritesTexts (entry_texts e) m n
+pub wrote_entry : (e : Entry) (o m n p : Output) (i : ℕ) → NoPlaceBelow 134217728 o.tables.words.traits e → EntryNumber canonical e i → WritesStep (number i) o m → WritesTexts (entry_texts e) m n
     → p.tables ≡ with_words n.tables (add_entry n.tables.words e) → p.bytes.items ≡ n.bytes.items → WritesStep (traits e) o p
 wrote_entry e o m n p i new num h k t b =
     let same : m.tables ≡ o.tables = number_tables i o m h in

@@ -2,7 +2,7 @@ ghost use Rattle.std.specs.Prelude.{◌≡◌, ◌≢◌, ◌<◌, ◌^◌, [], 
 ghost use Rattle.amf_graph.specs.Arena.{Arena};
 ghost use Rattle.amf_wire.specs.Text.{IsText};
 ghost use Rattle.amf_tables.specs.FirstPlace.{IsFirstPlace};
-ghost use Rattle.amf3_spelling.specs.Words3.{IsUnnamed};
+ghost use Rattle.amf3_spelling.specs.Words3.{NoPlaceBelow};
 ghost use Rattle.amf3_spelling.specs.ByteSpelling as spell;
 ghost use Rattle.amf3_write.specs.Writes.{WritesStep, Keeps, IsReady};
 
@@ -131,7 +131,7 @@ impl Output {
     fn place_of_text(&self, text: &[u8]) -> Option<u32>
         ensures first { IfSome result (λ place. IsFirstPlace self.now.tables.words.texts text.now place) }
         ensures within { IfSome result (λ place. place < NAMEABLE_TEXTS) }
-        ensures none { IfNone result (IsUnnamed NAMEABLE_TEXTS self.now.tables.words.texts text.now) }
+        ensures none { IfNone result (NoPlaceBelow NAMEABLE_TEXTS self.now.tables.words.texts text.now) }
     {
         let place = self.tables.place_of_text(text)?;
         if place < NAMEABLE_TEXTS {
@@ -178,7 +178,7 @@ impl Output {
         requires is_text { IsText text.now }
         requires short { length text.now < 2 ^ 28 }
         requires not_empty { text.now ≢ [] }
-        requires unnamed { IsUnnamed NAMEABLE_TEXTS self.old.tables.words.texts text.now }
+        requires unnamed { NoPlaceBelow NAMEABLE_TEXTS self.old.tables.words.texts text.now }
         ensures ok { OnOk result (WritesStep (spell.word text.now) self.old self.new) }
         ensures kept { Keeps self.old self.new }
         ensures ready { (a : Arena) → IsReady a self.old.tables self.old.known → IsReady a self.new.tables self.new.known }

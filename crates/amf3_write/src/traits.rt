@@ -6,7 +6,7 @@ ghost use Rattle.amf_tables.specs.ShownTraits.{AreTextIds, AreTraitsOf, shown_en
 ghost use Rattle.amf_tables.specs.KnownWords.{entry_at};
 ghost use Rattle.amf3_spelling.specs.Tables.{with_words, external};
 ghost use Rattle.amf_tables.specs.TextPlaces.{IsEntered};
-ghost use Rattle.amf3_spelling.specs.Words3.{IsUnnamed};
+ghost use Rattle.amf3_spelling.specs.Words3.{NoPlaceBelow};
 ghost use Rattle.amf3_spelling.specs.ByteSpelling as spell;
 ghost use Rattle.amf3_write.specs.Writes.{WritesStep, WritesTexts, Keeps, IsReady};
 
@@ -72,7 +72,7 @@ impl Output {
         requires ready { IsReady graph.now.arena self.old.tables self.old.known }
         ensures first { IfSome result (λ place. IsFirstPlace self.old.tables.words.traits (entry_at graph.now.arena traits.0) place) }
         ensures within { IfSome result (λ place. place < NAMEABLE_TRAITS) }
-        ensures none { IfNone result (IsUnnamed NAMEABLE_TRAITS self.old.tables.words.traits (entry_at graph.now.arena traits.0)) }
+        ensures none { IfNone result (NoPlaceBelow NAMEABLE_TRAITS self.old.tables.words.traits (entry_at graph.now.arena traits.0)) }
         ensures tables { self.new.tables ≡ self.old.tables }
         ensures bytes { self.new.bytes ≡ self.old.bytes }
         ensures ready { IsReady graph.now.arena self.new.tables self.new.known }
@@ -104,7 +104,7 @@ impl Output {
         requires shown { AreTraitsOf graph.now.arena traits.now }
         requires few { length traits.now.sealed.now < 2 ^ 25 }
         requires ready { IsReady graph.now.arena self.old.tables self.old.known }
-        requires unnamed { IsUnnamed NAMEABLE_TRAITS self.old.tables.words.traits (shown_entry graph.now.arena traits.now) }
+        requires unnamed { NoPlaceBelow NAMEABLE_TRAITS self.old.tables.words.traits (shown_entry graph.now.arena traits.now) }
         ensures ok { OnOk result (WritesStep (spell.traits (shown_entry graph.now.arena traits.now)) self.old self.new) }
         ensures kept { Keeps self.old self.new }
         ensures ready { OnOk result (IsReady graph.now.arena self.new.tables self.new.known) }
@@ -121,7 +121,7 @@ impl Output {
     fn place_of_wrapped(&self, class: Wrapped) -> Option<u32>
         ensures first { IfSome result (λ place. IsFirstPlace self.now.tables.words.traits (external class) place) }
         ensures within { IfSome result (λ place. place < NAMEABLE_TRAITS) }
-        ensures none { IfNone result (IsUnnamed NAMEABLE_TRAITS self.now.tables.words.traits (external class)) }
+        ensures none { IfNone result (NoPlaceBelow NAMEABLE_TRAITS self.now.tables.words.traits (external class)) }
     {
         let place = self.tables.place_of_wrapped(class)?;
         if place < NAMEABLE_TRAITS {
@@ -144,7 +144,7 @@ impl Output {
     }
 
     fn wrapper_inline(&mut self, class: Wrapped) -> Result<(), Memory>
-        requires { IsUnnamed NAMEABLE_TRAITS self.old.tables.words.traits (external class) }
+        requires { NoPlaceBelow NAMEABLE_TRAITS self.old.tables.words.traits (external class) }
         ensures ok { OnOk result (WritesStep (spell.traits (external class)) self.old self.new) }
         ensures kept { Keeps self.old self.new }
         ensures ready { (a : Arena) → IsReady a self.old.tables self.old.known → IsReady a self.new.tables self.new.known }

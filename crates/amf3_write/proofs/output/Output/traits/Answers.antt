@@ -3,7 +3,7 @@ use Rattle.amf_graph.specs.Arena.{StoredTraits, traits_content}
 use Rattle.amf3_spelling.specs.ByteSpelling.{traits}
 use Rattle.amf3_spelling.specs.Tables.{Tables, plain}
 use Rattle.amf_tables.specs.ShownTraits.{shown_entry}
-use Rattle.amf3_spelling.specs.Words3.{IsUnnamed}
+use Rattle.amf3_spelling.specs.Words3.{NoPlaceBelow}
 use Rattle.amf3_write.specs.Writes.{WritesStep}
 use Rattle.amf3_write.proofs.Ready.{writes_from}
 use Rattle.amf3_write.proofs.Wrote.{on_ok, wrote_entry_place}
@@ -11,8 +11,8 @@ use Rattle.amf3_write.proofs.output.Output.traits.Goals as goal
 
 pub traits_inline-requires-clause-unnamed : goal.traits_inline-requires-clause-unnamed
 traits_inline-requires-clause-unnamed c =
-    subst (λ (t : Tables). IsUnnamed 134217728 t.words.traits (shown_entry c.args.graph.now.arena c.traits.result)) (sym c.place_of_traits.ensures.tables)
-    (subst (λ (x : StoredTraits). IsUnnamed 134217728 c.args.self.now.tables.words.traits (plain (traits_content c.args.graph.now.arena x))) c.traits.ensures c.in-None.ensures.none)
+    subst (λ (t : Tables). NoPlaceBelow 134217728 t.words.traits (shown_entry c.args.graph.now.arena c.traits.result)) (sym c.place_of_traits.ensures.tables)
+    (subst (λ (x : StoredTraits). NoPlaceBelow 134217728 c.args.self.now.tables.words.traits (plain (traits_content c.args.graph.now.arena x))) c.traits.ensures c.in-None.ensures.none)
 
 pub returns-in-Some-clause-ok : goal.returns-in-Some-clause-ok
 returns-in-Some-clause-ok c =
