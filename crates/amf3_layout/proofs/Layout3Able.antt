@@ -19,7 +19,7 @@ use Rattle.amf3_spelling.specs.declared.marker.Marker.{Marker}
 use Rattle.amf3_spelling.specs.declared.marker.Marker.TheVariants as marker
 use Rattle.amf3_spelling.specs.Markers3.{node_marker, marker_byte, marker_at}
 use Rattle.amf3_layout.specs.Layout3State.{State3, with_text, with_contents, with_node, changed}
-use Rattle.amf3_layout.specs.Layout3Words.{chunk, TextRead, known_text, new_text, text_behind, text_layout, class_layout, more_text, texts_layout, Opening, known_traits, plain_traits, external_traits, inline_traits, external_layout, traits_layout}
+use Rattle.amf3_layout.specs.Layout3Words.{chunk, TextRead, known_text, new_text, text_behind, text_layout, class_layout, more_text, texts_layout, Outline, known_traits, plain_traits, external_traits, inline_traits, external_layout, traits_layout}
 use Rattle.amf3_layout.specs.Layout3.{flag_layout, four_layout, eight_layout, many, whole_node, opening, ValueRead, read, items, entries, items_of, is_empty, pairs, pairs_if, parts, inline_node, known_node, node_layout, behind_marker, value_layout}
 use Rattle.amf3_layout.proofs.Layout3Fills.{Filled, text_filled, raw_filled, number_filled, class_filled, able_field, able_chunk}
 
@@ -55,7 +55,7 @@ able_texts N (suc k) s =
 
 -- Traits.
 
-abbrev class_names : ℕ → TextRead → Layout Opening
+abbrev class_names : ℕ → TextRead → Layout Outline
 class_names h class = bind (texts_layout (h / 16) class.state) (λ names. give (plain_traits (eqb ((h / 8) % 2) 1) class names))
 
 able_inline : (N h : ℕ) (s : State3) → AbleWithin N (inline_traits h s)
@@ -91,7 +91,7 @@ able_numbers : (N k : ℕ) (s : State3) (t : Layout ℕ) (head : Bool → List �
 able_numbers N k s t head h =
     able_bind N flag_layout (λ f. bind (many k t) (λ ns. give (whole_node s (head f ns)))) (able_flag N) (λ f. able_bind N (many k t) (λ ns. give (whole_node s (head f ns))) (able_many N k t h) (λ ns. able_give N (whole_node s (head f ns))))
 
-abbrev of_values : Bool → ℕ → TextRead → Opening
+abbrev of_values : Bool → ℕ → TextRead → Outline
 of_values f h x = record { head = arena.values f x.id; count = h / 2; twins = false; first = false; last = false; state = x.state }
 
 able_opening : (N : ℕ) (f : NodeKind) (h : ℕ) (s : State3) → AbleWithin N (opening f h s)
@@ -157,10 +157,10 @@ ending id u = give (read (Node (record { 0 = id })) (changed shut id u))
 abbrev behind_items : Reader → ℕ → ℕ → Bool → State3 → Layout ValueRead
 behind_items v f id last t = bind (pairs_if last v f id t) (ending id)
 
-abbrev behind_pairs : Reader → ℕ → ℕ → Opening → State3 → Layout ValueRead
+abbrev behind_pairs : Reader → ℕ → ℕ → Outline → State3 → Layout ValueRead
 behind_pairs v f id o s = bind (items_of o.twins v id o.count s) (behind_items v f id o.last)
 
-able_parts : (v : Reader) (N : ℕ) → Inner v N → (o : Opening) → AbleWithin N (parts v N o)
+able_parts : (v : Reader) (N : ℕ) → Inner v N → (o : Outline) → AbleWithin N (parts v N o)
 able_parts v N i o =
     let id = length o.state.arena.nodes in
     let z = with_node o.state o.head in

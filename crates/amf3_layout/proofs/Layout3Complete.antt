@@ -27,7 +27,7 @@ use Rattle.amf3_spelling.specs.declared.marker.Marker.{Marker}
 use Rattle.amf3_spelling.specs.declared.marker.Marker.TheVariants as marker
 use Rattle.amf3_spelling.specs.Markers3.{marker_at, kind_of}
 use Rattle.amf3_layout.specs.Layout3State.{State3, stored_marker, with_contents, with_node}
-use Rattle.amf3_layout.specs.Layout3Words.{chunk, text_layout, Opening}
+use Rattle.amf3_layout.specs.Layout3Words.{chunk, text_layout, Outline}
 use Rattle.amf3_layout.specs.Layout3.{flag_layout, four_layout, eight_layout, many, whole_node, opening, ValueRead, read, parts, inline_node, known_node, node_layout, behind_marker, value_layout}
 use Rattle.amf3_spelling.proofs.Clean.{AllClean, clean3}
 use Rattle.amf3_layout.proofs.Layout3Texts.{clean_parts, takes, u29_step, path_if, even_test, odd_test, text_complete, traits_complete}
@@ -54,7 +54,7 @@ pub record Opened (R : Value → Spelling Tables) (h : Head) (n : ℕ) (s : Stat
   pub back : List Field
   pub joined : fs ≡ front ++ back
   pub mid : Tables
-  pub begun : Opening
+  pub begun : Outline
   pub runs : Runs (opening (kind_of h) n s) front begun
   pub mark : stored_marker begun.head ≡ marker h
   pub count : length vs ≡ cond begun.twins (2 * begun.count) begun.count
@@ -234,7 +234,7 @@ open_complete R (graph.values b x) names n s qs vs t fs u fit same c p =
     let words = counted_words t p.mid f.0 s same f.1.1.1 f.2 in
     let one = text_complete (text_header_refusal (length s.words.texts)) text_kind s x q.front q.first.0 d.0 (subst (λ w. Text free x w q.front q.first.0) words q.first.1) in
     let g = not (eqb a.byte 0) in
-    let r : Opening = record { head = arena.values g one.read.id; count = n / 2; twins = false; first = false; last = false; state = one.read.state } in
+    let r : Outline = record { head = arena.values g one.read.id; count = n / 2; twins = false; first = false; last = false; state = one.read.state } in
     record {
       front = field (raw_kind 1) (a.byte ∷ []) ∷ q.front;
       back = q.back;
@@ -249,8 +249,8 @@ open_complete R (graph.values b x) names n s qs vs t fs u fit same c p =
       rest = q.second;
       runs = (
         takes (raw_kind 1) (a.byte ∷ []) a.is_clean,
-        subst (λ l. Runs (bind (text_layout s) (λ y. give (let o : Opening = record { head = arena.values g y.id; count = n / 2; twins = false; first = false; last = false; state = y.state } in o))) l r) (append-nil q.front)
-            (runs_bind (text_layout s) (λ y. give (let o : Opening = record { head = arena.values g y.id; count = n / 2; twins = false; first = false; last = false; state = y.state } in o)) q.front [] one.read (give r) one.runs refl),
+        subst (λ l. Runs (bind (text_layout s) (λ y. give (let o : Outline = record { head = arena.values g y.id; count = n / 2; twins = false; first = false; last = false; state = y.state } in o))) l r) (append-nil q.front)
+            (runs_bind (text_layout s) (λ y. give (let o : Outline = record { head = arena.values g y.id; count = n / 2; twins = false; first = false; last = false; state = y.state } in o)) q.front [] one.read (give r) one.runs refl),
       );
     }
 open_complete R (graph.dictionary b) names n s qs vs t fs u fit same c p =

@@ -11,7 +11,7 @@ use Rattle.amf3_spelling.specs.declared.marker.Marker.{Marker}
 use Rattle.amf3_spelling.specs.declared.marker.Marker.TheVariants as marker
 use Rattle.amf3_spelling.specs.Markers3.{marker_at}
 use Rattle.amf3_layout.specs.Layout3State.{State3, with_node, changed}
-use Rattle.amf3_layout.specs.Layout3Words.{TextRead, text_layout, Opening}
+use Rattle.amf3_layout.specs.Layout3Words.{TextRead, text_layout, Outline}
 use Rattle.amf3_layout.specs.Layout3.{ValueRead, read, items, entries, items_of, is_empty, pairs, pairs_if, parts, opening, inline_node, known_node, node_layout, behind_marker, value_layout}
 
 abbrev Reader : Type 0
@@ -57,10 +57,10 @@ ending id u = give (read (Node (record { 0 = id })) (changed shut id u))
 abbrev behind_items : Reader → ℕ → ℕ → Bool → State3 → Layout ValueRead
 behind_items v f id last t = bind (pairs_if last v f id t) (ending id)
 
-abbrev behind_pairs : Reader → ℕ → ℕ → Opening → State3 → Layout ValueRead
+abbrev behind_pairs : Reader → ℕ → ℕ → Outline → State3 → Layout ValueRead
 behind_pairs v f id o s = bind (items_of o.twins v id o.count s) (behind_items v f id o.last)
 
-parts_grow : (t u : Reader) (f h : ℕ) (o : Opening) → f ≤ h → Grow t u → Extends (parts t f o) (parts u h o)
+parts_grow : (t u : Reader) (f h : ℕ) (o : Outline) → f ≤ h → Grow t u → Extends (parts t f o) (parts u h o)
 parts_grow t u f h o le g =
     let id = length o.state.arena.nodes in
     extends_bind (pairs_if o.first t f id (with_node o.state o.head)) (pairs_if o.first u h id (with_node o.state o.head)) (behind_pairs t f id o) (behind_pairs u h id o) (pairs_if_grow o.first t u f h id (with_node o.state o.head) le g)

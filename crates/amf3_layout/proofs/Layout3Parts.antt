@@ -15,7 +15,7 @@ use Rattle.amf3_spelling.specs.Refusals3.{markers, text_header_refusal}
 use Rattle.amf3_spelling.specs.Words3.{Text}
 use Rattle.amf3_spelling.specs.Parts3.{Part, flag, Parts, values_then, pairs_then, fours, eights}
 use Rattle.amf3_layout.specs.Layout3State.{State3, with_node, changed}
-use Rattle.amf3_layout.specs.Layout3Words.{chunk, TextRead, text_layout, Opening}
+use Rattle.amf3_layout.specs.Layout3Words.{chunk, TextRead, text_layout, Outline}
 use Rattle.amf3_layout.specs.Layout3.{four_layout, eight_layout, many, ValueRead, read, items, entries, items_of, is_empty, pairs, pairs_if, parts}
 use Rattle.amf3_spelling.proofs.Clean.{AllClean}
 use Rattle.amf3_layout.proofs.Layout3Texts.{clean_parts, takes, path_if, text_complete, text_some}
@@ -180,7 +180,7 @@ pairs_if_half g R v N id h false qs ps t u fs s named c like lt p = none_read g 
 abbrev pub behind : Bool → Bool → List (List ℕ × Value) → List Value → List Part
 behind first last qs vs = cond first (pairs_then qs (values_then vs (cond last (pairs_then qs []) []))) (values_then vs (cond last (pairs_then qs []) []))
 
-pub record FoundNode (g : Graph) (v : Reader) (N : ℕ) (o : Opening) (fs : List Field) (u : Tables) : Type 0 where
+pub record FoundNode (g : Graph) (v : Reader) (N : ℕ) (o : Outline) (fs : List Field) (u : Tables) : Type 0 where
   pub result : ValueRead
   pub runs : Runs (parts v N o) fs result
   pub like : Like g u result.state
@@ -191,10 +191,10 @@ ending id u = give (read (Node (record { 0 = id })) (changed shut id u))
 abbrev behind_items : Reader → ℕ → ℕ → Bool → State3 → Layout ValueRead
 behind_items v f id last t = bind (pairs_if last v f id t) (ending id)
 
-abbrev behind_pairs : Reader → ℕ → ℕ → Opening → State3 → Layout ValueRead
+abbrev behind_pairs : Reader → ℕ → ℕ → Outline → State3 → Layout ValueRead
 behind_pairs v f id o s = bind (items_of o.twins v id o.count s) (behind_items v f id o.last)
 
-pub parts_complete : (g : Graph) (R : Value → Spelling Tables) (v : Reader) (N : ℕ) → Finds g R v N → (o : Opening) (qs : List (List ℕ × Value)) (vs : List Value) (t u : Tables) (fs : List Field) → AllNamed qs → AllClean fs → Like g t (with_node o.state o.head) → length (flat fs) < N
+pub parts_complete : (g : Graph) (R : Value → Spelling Tables) (v : Reader) (N : ℕ) → Finds g R v N → (o : Outline) (qs : List (List ℕ × Value)) (vs : List Value) (t u : Tables) (fs : List Field) → AllNamed qs → AllClean fs → Like g t (with_node o.state o.head) → length (flat fs) < N
     → length vs ≡ cond o.twins (2 * o.count) o.count → Parts R free (behind o.first o.last qs vs) t fs u → FoundNode g v N o fs u
 parts_complete g R v N h o qs vs t u fs named c like lt count p =
     let id = length o.state.arena.nodes in

@@ -28,7 +28,7 @@ use Rattle.amf_graph.specs.declared.kind.NodeKind.{NodeKind}
 use Rattle.amf_graph.specs.declared.kind.NodeKind.TheVariants as kind
 use Rattle.amf3_spelling.specs.Markers3.{node_marker}
 use Rattle.amf3_layout.specs.Layout3State.{State3, stored_marker, takes_parts, with_contents}
-use Rattle.amf3_layout.specs.Layout3Words.{chunk, TextRead, text_layout, Opening, sealed_of, dynamic_of}
+use Rattle.amf3_layout.specs.Layout3Words.{chunk, TextRead, text_layout, Outline, sealed_of, dynamic_of}
 use Rattle.amf3_layout.specs.Layout3.{flag_layout, four_layout, eight_layout, many, whole_node, opening}
 use Rattle.amf3_layout.proofs.Layout3Parts.{behind}
 use Rattle.amf3_layout.proofs.Layout3Contents.{Larger, larger_itself, Good, good_contents}
@@ -36,13 +36,13 @@ use Rattle.amf3_layout.proofs.Layout3SoundTexts.{give_is, TextSound, texts_are, 
 use Rattle.amf3_layout.proofs.Layout3SoundTraits.{IsHeadOf, TraitsSound, traits_sound}
 use Rattle.amf3_layout.proofs.Layout3SoundOpenings.{Chunk, chunk_taken, eight_is, flag_built, Numbers, fours_sound, eights_sound}
 
-abbrev pub total : Opening → ℕ
+abbrev pub total : Outline → ℕ
 total o = cond o.twins (2 * o.count) o.count
 
 abbrev pub Behind : (Value → Spelling Tables) → Head → List (List ℕ × Value) → List Value → ℕ → Spelling Tables
 Behind R h qs vs n = Then (Lifted (HeaderBy free h vs n)) (Parts R free (layout h qs vs))
 
-pub record OpenSound (R : Value → Spelling Tables) (f : NodeKind) (n : ℕ) (s : State3) (fs : List Field) (o : Opening) : Type 0 where
+pub record OpenSound (R : Value → Spelling Tables) (f : NodeKind) (n : ℕ) (s : State3) (fs : List Field) (o : Outline) : Type 0 where
   pub good : Good o.state
   pub larger : Larger s.arena o.state.arena
   pub nodes : o.state.arena.nodes ≡ s.arena.nodes
@@ -83,7 +83,7 @@ module _ (R : Value → Spelling Tables) (n : ℕ) (s : State3) (g : Good s) whe
   contents_larger : (x : List ℕ) → Larger s.arena (with_contents s x).arena
   contents_larger x = record { more_texts = x ∷ []; texts = refl; more_traits = []; traits = sym (append-nil s.arena.traits); nodes = omega arith }
 
-  text_chunk : (fs : List Field) (o : Opening) (f : List ℕ → Opening) → AreBytes (flat fs) → Runs (chunk text_kind (n / 2) (λ y. give (f y))) fs o → Chunk text_kind IsText (n / 2) f fs o
+  text_chunk : (fs : List Field) (o : Outline) (f : List ℕ → Outline) → AreBytes (flat fs) → Runs (chunk text_kind (n / 2) (λ y. give (f y))) fs o → Chunk text_kind IsText (n / 2) f fs o
   text_chunk fs o f b r = chunk_taken text_kind IsText (n / 2) f fs o texts_are.sizes ((is_text-is []).0 refl) (λ k y _ c. texts_are.texts k y c) b r
 
   fits_signed : (k : ℕ) → k < 2 ^ 32 → FitsSigned w32 (cast_signed w32 k)
@@ -109,7 +109,7 @@ module _ (R : Value → Spelling Tables) (n : ℕ) (s : State3) (g : Good s) whe
     text_node : (f : NodeKind) (head : ℕ → StoredHead) (h : List ℕ → Head) → ((a : Arena) (i : ℕ) → head_content a (head i) ≡ h (text_at a i)) → ((a : Arena) (i : ℕ) → i < length a.texts → HeadNames a (head i)) → ((i : ℕ) → stored_marker (head i) ≡ node_marker f)
         → ((x : List ℕ) → IsText x → Fits (h x) [] []) → ((x : List ℕ) (w : Words) → n ≡ 2 * length x + 1 → HeaderBy free (h x) [] n w [] w)
         → ((x : List ℕ) (fs : List Field) (qs : List (List ℕ × Value)) (t u : Tables) (back : List Field) → fs ≡ contents text_kind x → (back ≡ []) × (u ≡ t) → Parts R free (layout (h x) qs []) t (fs ++ back) u)
-        → (fs : List Field) (o : Opening) → AreBytes (flat fs) → Runs (chunk text_kind (n / 2) (λ x. give (whole_node (with_contents s x) (head (length s.arena.texts))))) fs o → OpenSound R f n s fs o
+        → (fs : List Field) (o : Outline) → AreBytes (flat fs) → Runs (chunk text_kind (n / 2) (λ x. give (whole_node (with_contents s x) (head (length s.arena.texts))))) fs o → OpenSound R f n s fs o
     text_node f head h content names mark fits header parts fs o b r =
         let i = length s.arena.texts in
         let c = text_chunk fs o (λ x. whole_node (with_contents s x) (head i)) b r in
@@ -121,7 +121,7 @@ module _ (R : Value → Spelling Tables) (n : ℕ) (s : State3) (g : Good s) whe
         (λ w. header x w (odd ∙ ap (λ k. 2 * k + 1) (sym c.long))) (λ qs t u back q. parts x fs qs t u back c.fields q))
 
     -- a flag, and what is read behind it
-    pub record FlagRead (l : Bool → Layout Opening) (fs : List Field) (o : Opening) : Type 0 where
+    pub record FlagRead (l : Bool → Layout Outline) (fs : List Field) (o : Outline) : Type 0 where
       pub byte : Field
       pub rest : List Field
       pub fields : fs ≡ byte ∷ rest
@@ -130,7 +130,7 @@ module _ (R : Value → Spelling Tables) (n : ℕ) (s : State3) (g : Good s) whe
       pub bytes_rest : AreBytes (flat rest)
       pub runs : Runs (l (not (eqb (slice_index byte.bytes 0) 0))) rest o
 
-    flag_read : (l : Bool → Layout Opening) (fs : List Field) (o : Opening) → AreBytes (flat fs) → Runs (bind flag_layout l) fs o → FlagRead l fs o
+    flag_read : (l : Bool → Layout Outline) (fs : List Field) (o : Outline) → AreBytes (flat fs) → Runs (bind flag_layout l) fs o → FlagRead l fs o
     flag_read l [] o b r = absurd cc
     flag_read l (f ∷ fs) o b r = record { byte = f; rest = fs; fields = refl; takes = r.0; bytes = bytes_front f.bytes (flat fs) b; bytes_rest = bytes_back f.bytes (flat fs) b; runs = r.1 }
 
@@ -138,7 +138,7 @@ module _ (R : Value → Spelling Tables) (n : ℕ) (s : State3) (g : Good s) whe
         → ((a : Arena) (b : Bool) (ns : List ℕ) → head_content a (head b ns) ≡ h b ns) → ((a : Arena) (b : Bool) (ns : List ℕ) → HeadNames a (head b ns)) → ((b : Bool) (ns : List ℕ) → stored_marker (head b ns) ≡ node_marker f)
         → ((b : Bool) (ns : List ℕ) → AllByRecursion P ns → Fits (h b ns) [] []) → ((b : Bool) (ns : List ℕ) (w : Words) → n ≡ 2 * length ns + 1 → HeaderBy free (h b ns) [] n w [] w)
         → ((b : Bool) (ns : List ℕ) (qs : List (List ℕ × Value)) (t u : Tables) (fs : List Field) → AllByRecursion P ns → Parts R free (flag b ∷ ps ns) t fs u → Parts R free (layout (h b ns) qs []) t fs u)
-        → (fs : List Field) (o : Opening) → AreBytes (flat fs) → Runs (bind flag_layout (λ b. bind (many (n / 2) l) (λ ns. give (whole_node s (head b ns))))) fs o → OpenSound R f n s fs o
+        → (fs : List Field) (o : Outline) → AreBytes (flat fs) → Runs (bind flag_layout (λ b. bind (many (n / 2) l) (λ ns. give (whole_node s (head b ns))))) fs o → OpenSound R f n s fs o
     numbers_open f l ps P head h sound content names mark fits header parts fs o b r =
         let c = flag_read (λ b. bind (many (n / 2) l) (λ ns. give (whole_node s (head b ns)))) fs o b r in
         let v = not (eqb (slice_index c.byte.bytes 0) 0) in
@@ -157,7 +157,7 @@ module _ (R : Value → Spelling Tables) (n : ℕ) (s : State3) (g : Good s) whe
         last e rest joined k eb ns front (x ∷ back) parted m p = absurd p
 
     -- objects and wrappers
-    object_open : (f : NodeKind) → node_marker f ≡ 0x0A → (fs : List Field) (o : Opening) → TraitsSound n s fs o → OpenSound R f n s fs o
+    object_open : (f : NodeKind) → node_marker f ≡ 0x0A → (fs : List Field) (o : Outline) → TraitsSound n s fs o → OpenSound R f n s fs o
     object_open f marked fs o t = by_head o.head refl t.entry refl t.head
       where
         counted : (e : Entry) → t.entry ≡ e → total o ≡ sealed_of e
@@ -199,10 +199,10 @@ module _ (R : Value → Spelling Tables) (n : ℕ) (s : State3) (g : Good s) whe
         by_head h i e j q = absurd q
 
     -- vectors of values, and dictionaries
-    abbrev of_values : Bool → TextRead → Opening
+    abbrev of_values : Bool → TextRead → Outline
     of_values f x = record { head = arena.values f x.id; count = n / 2; twins = false; first = false; last = false; state = x.state }
 
-    values_open : (fs : List Field) (o : Opening) → AreBytes (flat fs) → Runs (bind flag_layout (λ f. bind (text_layout s) (λ x. give (of_values f x)))) fs o → OpenSound R kind.Values n s fs o
+    values_open : (fs : List Field) (o : Outline) → AreBytes (flat fs) → Runs (bind flag_layout (λ f. bind (text_layout s) (λ x. give (of_values f x)))) fs o → OpenSound R kind.Values n s fs o
     values_open fs o b r =
         let c = flag_read (λ f. bind (text_layout s) (λ x. give (of_values f x))) fs o b r in
         let v = not (eqb (slice_index c.byte.bytes 0) 0) in
@@ -234,10 +234,10 @@ module _ (R : Value → Spelling Tables) (n : ℕ) (s : State3) (g : Good s) whe
             }))
         last e rest joined k eb x front (y ∷ back) parted one p = absurd p
 
-    abbrev of_entries : Bool → Opening
+    abbrev of_entries : Bool → Outline
     of_entries f = record { head = arena.dictionary f; count = n / 2; twins = true; first = false; last = false; state = s }
 
-    entries_open : (fs : List Field) (o : Opening) → AreBytes (flat fs) → Runs (bind flag_layout (λ f. give (of_entries f))) fs o → OpenSound R kind.Dictionary n s fs o
+    entries_open : (fs : List Field) (o : Outline) → AreBytes (flat fs) → Runs (bind flag_layout (λ f. give (of_entries f))) fs o → OpenSound R kind.Dictionary n s fs o
     entries_open [] o b r = absurd cc
     entries_open (e ∷ []) o b r =
         let v = not (eqb (slice_index e.bytes 0) 0) in
@@ -262,7 +262,7 @@ module _ (R : Value → Spelling Tables) (n : ℕ) (s : State3) (g : Good s) whe
         })
     entries_open (e ∷ f ∷ fs) o b r = absurd r.1
 
-pub open_sound : (R : Value → Spelling Tables) (f : NodeKind) (n : ℕ) (s : State3) → Good s → n ≡ 2 * (n / 2) + 1 → eqb (n % 2) 0 ≡ false → (node_marker f ≡ 0x0A → eqb (n % 4) 1 ≡ true → n / 4 < length s.words.traits) → (fs : List Field) (o : Opening) → AreBytes (flat fs) → Runs (opening f n s) fs o → OpenSound R f n s fs o
+pub open_sound : (R : Value → Spelling Tables) (f : NodeKind) (n : ℕ) (s : State3) → Good s → n ≡ 2 * (n / 2) + 1 → eqb (n % 2) 0 ≡ false → (node_marker f ≡ 0x0A → eqb (n % 4) 1 ≡ true → n / 4 < length s.words.traits) → (fs : List Field) (o : Outline) → AreBytes (flat fs) → Runs (opening f n s) fs o → OpenSound R f n s fs o
 open_sound R kind.XmlDocument n s g odd test place fs o b r =
     text_node R n s g odd kind.XmlDocument arena.xml_document graph.xml_document (λ a i. refl) (λ a i h. h) (λ i. refl) (λ x h. (h, refl, refl)) (λ x w e. (e, (refl, refl))) (λ x fs qs t u back e q. record { front = fs; back = back; mid = t; joined = refl; first = (e, refl); second = q }) fs o b r
 open_sound R kind.Xml n s g odd test place fs o b r =
@@ -276,7 +276,7 @@ open_sound R kind.Date n s g odd test place (f ∷ []) o b r =
     (λ qs t u back q. record { front = f ∷ []; back = back; mid = t; joined = refl; first = (ap (λ h. h ∷ []) i.0, refl); second = q }))
 open_sound R kind.Date n s g odd test place (f ∷ h ∷ fs) o b r = absurd r.1
 open_sound R kind.Array n s g odd test place [] o b r =
-    subst (λ y. OpenSound R kind.Array n s [] y) (give_is (let k : Opening = record { head = arena.array; count = n / 2; twins = false; first = true; last = false; state = s } in k) o r) (record {
+    subst (λ y. OpenSound R kind.Array n s [] y) (give_is (let k : Outline = record { head = arena.array; count = n / 2; twins = false; first = true; last = false; state = s } in k) o r) (record {
       good = g;
       larger = itself R n s g;
       nodes = refl;

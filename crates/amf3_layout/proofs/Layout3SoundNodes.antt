@@ -14,7 +14,7 @@ use Rattle.amf_graph.specs.Building.{shut}
 use Rattle.amf3_spelling.specs.Tables.{Tables}
 use Rattle.amf3_spelling.specs.Parts3.{Part, Parts, values_then, pairs_then}
 use Rattle.amf3_layout.specs.Layout3State.{State3, with_node, begun, takes_parts, changed}
-use Rattle.amf3_layout.specs.Layout3Words.{Opening}
+use Rattle.amf3_layout.specs.Layout3Words.{Outline}
 use Rattle.amf3_layout.specs.Layout3.{ValueRead, read, items_of, pairs_if, parts, whole_node}
 use Rattle.amf3_layout.proofs.Layout3Parts.{behind}
 use Rattle.amf3_layout.proofs.Layout3Contents.{Larger, larger_itself, larger_twice, all_append, Good}
@@ -42,7 +42,7 @@ items_of_sound sp v h true pre post q k s fs z o g e b r = entries_sound sp v h 
 items_of_sound sp v h false pre post q k s fs z o g e b r = items_sound sp v h pre post q k s fs z o g e b r
 
 -- all parts of a node
-pub record PartsSound (sp : Spell) (o : Opening) (pre : List StoredNode) (s : State3) (fs : List Field) (z : State3) : Type 0 where
+pub record PartsSound (sp : Spell) (o : Outline) (pre : List StoredNode) (s : State3) (fs : List Field) (z : State3) : Type 0 where
   pub names : List (ℕ × Stored)
   pub values : List Stored
   pub more : List StoredNode
@@ -78,16 +78,16 @@ ending id u = give (read (Node (record { 0 = id })) (changed shut id u))
 abbrev behind_items : Reader → ℕ → ℕ → Bool → State3 → Layout ValueRead
 behind_items v f id last t = bind (pairs_if last v f id t) (ending id)
 
-abbrev behind_pairs : Reader → ℕ → ℕ → Opening → State3 → Layout ValueRead
+abbrev behind_pairs : Reader → ℕ → ℕ → Outline → State3 → Layout ValueRead
 behind_pairs v f id o s = bind (items_of o.twins v id o.count s) (behind_items v f id o.last)
 
 -- the state behind the parts, before the node is shut
-pub record Ended (sp : Spell) (o : Opening) (fs : List Field) (x : ValueRead) : Type 0 where
+pub record Ended (sp : Spell) (o : Outline) (fs : List Field) (x : ValueRead) : Type 0 where
   pub state : State3
   pub sound : PartsSound sp o o.state.arena.nodes (with_node o.state o.head) fs state
   pub is : x ≡ read (Node (record { 0 = length o.state.arena.nodes })) (changed shut (length o.state.arena.nodes) state)
 
-open_parts : (sp : Spell) (v : Reader) (N : ℕ) → Sounds sp v → (o : Opening) (fs : List Field) (x : ValueRead) → takes_parts o.head ≡ true → (o.first ≡ false) ⊎ (o.last ≡ false) → Good (with_node o.state o.head) → AreBytes (flat fs) → Runs (parts v N o) fs x → Ended sp o fs x
+open_parts : (sp : Spell) (v : Reader) (N : ℕ) → Sounds sp v → (o : Outline) (fs : List Field) (x : ValueRead) → takes_parts o.head ≡ true → (o.first ≡ false) ⊎ (o.last ≡ false) → Good (with_node o.state o.head) → AreBytes (flat fs) → Runs (parts v N o) fs x → Ended sp o fs x
 open_parts sp v N h o fs x open_ once g b r =
     let pre = o.state.arena.nodes in
     let id = length pre in
@@ -137,7 +137,7 @@ open_parts sp v N h o fs x open_ once g b r =
     finish z [] p k = record { state = z; sound = k refl; is = sym (give_is (read (Node (record { 0 = length o.state.arena.nodes })) (changed shut (length o.state.arena.nodes) z)) x p) }
     finish z (f ∷ back) p k = absurd p
 
-whole_parts : (sp : Spell) (v : Reader) (N : ℕ) (s : State3) (o : Opening) (fs : List Field) (x : ValueRead) → o ≡ whole_node o.state o.head → Good (with_node o.state o.head) → Runs (parts v N o) fs x → Ended sp o fs x
+whole_parts : (sp : Spell) (v : Reader) (N : ℕ) (s : State3) (o : Outline) (fs : List Field) (x : ValueRead) → o ≡ whole_node o.state o.head → Good (with_node o.state o.head) → Runs (parts v N o) fs x → Ended sp o fs x
 whole_parts sp v N s o fs x e g r = by fs (subst (λ w. Runs (parts v N w) fs x) e r)
   where
     by : (fs : List Field) → Runs (parts v N (whole_node o.state o.head)) fs x → Ended sp o fs x
@@ -160,6 +160,6 @@ whole_parts sp v N s o fs x e g r = by fs (subst (λ w. Runs (parts v N w) fs x)
     }
     by (f ∷ fs) r = absurd r
 
-pub parts_sound : (sp : Spell) (v : Reader) (N : ℕ) → Sounds sp v → (o : Opening) (fs : List Field) (x : ValueRead) (b : Bool) → takes_parts o.head ≡ b → (b ≡ false → o ≡ whole_node o.state o.head) → (o.first ≡ false) ⊎ (o.last ≡ false) → Good (with_node o.state o.head) → AreBytes (flat fs) → Runs (parts v N o) fs x → Ended sp o fs x
+pub parts_sound : (sp : Spell) (v : Reader) (N : ℕ) → Sounds sp v → (o : Outline) (fs : List Field) (x : ValueRead) (b : Bool) → takes_parts o.head ≡ b → (b ≡ false → o ≡ whole_node o.state o.head) → (o.first ≡ false) ⊎ (o.last ≡ false) → Good (with_node o.state o.head) → AreBytes (flat fs) → Runs (parts v N o) fs x → Ended sp o fs x
 parts_sound sp v N h o fs x true e w once g b r = open_parts sp v N h o fs x e once g b r
 parts_sound sp v N h o fs x false e w once g b r = whole_parts sp v N o.state o fs x (w refl) g r

@@ -24,7 +24,7 @@ use Rattle.amf3_spelling.specs.KeptTables as kept
 use Rattle.amf3_spelling.specs.Refusals3.{text_header_refusal, class_header_refusal, indexed_class_refusal, class_refusal, class_kind, is_served, is_served_length}
 use Rattle.amf3_spelling.specs.Words3.{TextBy, TraitsBy, given, placed}
 use Rattle.amf3_layout.specs.Layout3State.{State3}
-use Rattle.amf3_layout.specs.Layout3Words.{chunk, known_text, new_text, TextRead, text_layout, class_layout, TextsRead, texts_layout, Opening, class_of, head_of, sealed_of, dynamic_of, known_traits, plain_traits, external_traits, inline_traits, external_layout, traits_layout}
+use Rattle.amf3_layout.specs.Layout3Words.{chunk, known_text, new_text, TextRead, text_layout, class_layout, TextsRead, texts_layout, Outline, class_of, head_of, sealed_of, dynamic_of, known_traits, plain_traits, external_traits, inline_traits, external_layout, traits_layout}
 use Rattle.amf3_layout.proofs.Layout3Contents.{Larger, larger_itself, larger_twice, text_id, text_kept, all_at, Good, good_entry}
 use Rattle.amf3_layout.proofs.Layout3SoundTexts.{give_is, TextSound, AreTexts, text_by_sound, text_sound, TextsSound, texts_sound}
 
@@ -34,7 +34,7 @@ IsHeadOf a (object t) (plain k) = (t < length a.traits) × (traits_at a t ≡ k)
 IsHeadOf a (wrapper c) (external d) = c ≡ d
 IsHeadOf a _ e = ⊥
 
-pub record TraitsSound (n : ℕ) (s : State3) (fs : List Field) (o : Opening) : Type 0 where
+pub record TraitsSound (n : ℕ) (s : State3) (fs : List Field) (o : Outline) : Type 0 where
   pub good : Good o.state
   pub larger : Larger s.arena o.state.arena
   pub nodes : o.state.arena.nodes ≡ s.arena.nodes
@@ -212,10 +212,10 @@ external_sound n s fs class g number served one =
     }
 
 -- an odd number names traits by their place, or they are given inline
-abbrev class_names : ℕ → TextRead → Layout Opening
+abbrev class_names : ℕ → TextRead → Layout Outline
 class_names h class = bind (texts_layout (h / 16) class.state) (λ names. give (plain_traits (eqb ((h / 8) % 2) 1) class names))
 
-inline_sound : (n : ℕ) (s : State3) → Good s → eqb (n % 8) 3 ≡ true → (fs : List Field) (o : Opening) → AreBytes (flat fs) → Runs (inline_traits n s) fs o → TraitsSound n s fs o
+inline_sound : (n : ℕ) (s : State3) → Good s → eqb (n % 8) 3 ≡ true → (fs : List Field) (o : Outline) → AreBytes (flat fs) → Runs (inline_traits n s) fs o → TraitsSound n s fs o
 inline_sound n s g three fs o b r =
     let a = bind_runs (text_layout s) (class_names n) fs o r in
     let ab = bytes_parts fs a.front a.back a.parts b in
@@ -229,7 +229,7 @@ inline_sound n s g three fs o b r =
     last y front back ys mid [] e h one more p = subst (λ z. TraitsSound n s fs z) (give_is (plain_traits (eqb ((n / 8) % 2) 1) y ys) o p) (plain_sound n s fs front mid y ys g three (e ∙ ap (λ l. front ++ l) (h ∙ append-nil mid)) one more)
     last y front back ys mid (f ∷ end) e h one more p = absurd p
 
-class_sound : (n : ℕ) (s : State3) → Good s → n ≡ 8 * (n / 8) + 7 → (fs : List Field) (o : Opening) → AreBytes (flat fs) → Runs (external_layout s) fs o → TraitsSound n s fs o
+class_sound : (n : ℕ) (s : State3) → Good s → n ≡ 8 * (n / 8) + 7 → (fs : List Field) (o : Outline) → AreBytes (flat fs) → Runs (external_layout s) fs o → TraitsSound n s fs o
 class_sound n s g number fs o b r =
     let a = bind_runs (class_layout s) (λ class. give (external_traits class)) fs o r in
     let ab = bytes_parts fs a.front a.back a.parts b in
@@ -241,14 +241,14 @@ class_sound n s g number fs o b r =
     last y front [] e one served p = subst (λ z. TraitsSound n s fs z) (give_is (external_traits y) o p) (subst (λ l. TraitsSound n s l (external_traits y)) (sym (e ∙ append-nil front)) (external_sound n s front y g number served one))
     last y front (f ∷ back) e one served p = absurd p
 
-pub traits_sound : (n : ℕ) (s : State3) → Good s → eqb (n % 2) 0 ≡ false → (eqb (n % 4) 1 ≡ true → n / 4 < length s.words.traits) → (fs : List Field) (o : Opening) → AreBytes (flat fs) → Runs (traits_layout n s) fs o → TraitsSound n s fs o
+pub traits_sound : (n : ℕ) (s : State3) → Good s → eqb (n % 2) 0 ≡ false → (eqb (n % 4) 1 ≡ true → n / 4 < length s.words.traits) → (fs : List Field) (o : Outline) → AreBytes (flat fs) → Runs (traits_layout n s) fs o → TraitsSound n s fs o
 traits_sound n s g odd place fs o b r = by_place (eqb (n % 4) 1) refl fs o b r
   where
-    by_given : (t : Bool) → eqb (n % 8) 3 ≡ t → eqb (n % 4) 1 ≡ false → (fs : List Field) (o : Opening) → AreBytes (flat fs) → Runs (cond t (inline_traits n s) (external_layout s)) fs o → TraitsSound n s fs o
+    by_given : (t : Bool) → eqb (n % 8) 3 ≡ t → eqb (n % 4) 1 ≡ false → (fs : List Field) (o : Outline) → AreBytes (flat fs) → Runs (cond t (inline_traits n s) (external_layout s)) fs o → TraitsSound n s fs o
     by_given true e f fs o b r = inline_sound n s g e fs o b r
     by_given false e f fs o b r = class_sound n s g (let a = eqb-false (n % 8) 3 e in let c = eqb-false (n % 4) 1 f in let d = eqb-false (n % 2) 0 odd in omega arith) fs o b r
 
-    by_place : (t : Bool) → eqb (n % 4) 1 ≡ t → (fs : List Field) (o : Opening) → AreBytes (flat fs) → Runs (cond t (give (known_traits s (n / 4))) (cond (eqb (n % 8) 3) (inline_traits n s) (external_layout s))) fs o → TraitsSound n s fs o
+    by_place : (t : Bool) → eqb (n % 4) 1 ≡ t → (fs : List Field) (o : Outline) → AreBytes (flat fs) → Runs (cond t (give (known_traits s (n / 4))) (cond (eqb (n % 8) 3) (inline_traits n s) (external_layout s))) fs o → TraitsSound n s fs o
     by_place true e [] o b r = subst (λ z. TraitsSound n s [] z) (give_is (known_traits s (n / 4)) o r) (known_sound n s g (place e) (let a = eqb-true (n % 4) 1 e in omega arith))
     by_place true e (f ∷ fs) o b r = absurd r
     by_place false e fs o b r = by_given (eqb (n % 8) 3) refl e fs o b r

@@ -19,7 +19,7 @@ use Rattle.amf3_spelling.specs.KeptTables as kept
 use Rattle.amf3_spelling.specs.Refusals3.{text_header_refusal, class_header_refusal, class_kind}
 use Rattle.amf3_spelling.specs.Words3.{TextBy, empty, whole, placed, Text, Texts, EntryTexts, TraitsBy, given}
 use Rattle.amf3_layout.specs.Layout3State.{State3, stored_marker, text_word}
-use Rattle.amf3_layout.specs.Layout3Words.{chunk, TextRead, known_text, new_text, text_behind, text_by, text_layout, class_layout, TextsRead, more_text, texts_layout, Opening, class_of, head_of, sealed_of, dynamic_of, known_traits, plain_traits, external_traits, inline_traits, external_layout, traits_layout}
+use Rattle.amf3_layout.specs.Layout3Words.{chunk, TextRead, known_text, new_text, text_behind, text_by, text_layout, class_layout, TextsRead, more_text, texts_layout, Outline, class_of, head_of, sealed_of, dynamic_of, known_traits, plain_traits, external_traits, inline_traits, external_layout, traits_layout}
 use Rattle.amf3_spelling.proofs.Clean.{AllClean}
 
 -- the fields of the parts are clean
@@ -142,7 +142,7 @@ texts_complete (x ∷ xs) s fs w w' e c p =
 
 -- traits that are spelled are read
 pub record FoundTraits (e : Entry) (n : ℕ) (s : State3) (fs : List Field) (w' : Words) : Type 0 where
-  pub read : Opening
+  pub read : Outline
   pub runs : Runs (traits_layout n s) fs read
   pub mark : stored_marker read.head ≡ 0x0A
   pub count : read.count ≡ sealed_of e
@@ -187,7 +187,7 @@ count_bits : (d : Bool) (k : ℕ) → (16 * k + (8 * cond d 1 0 + 3)) / 16 ≡ k
 count_bits true k = omega arith
 count_bits false k = omega arith
 
-abbrev class_names : ℕ → TextRead → Layout Opening
+abbrev class_names : ℕ → TextRead → Layout Outline
 class_names h class = bind (texts_layout (h / 16) class.state) (λ names. give (plain_traits (eqb ((h / 8) % 2) 1) class names))
 
 pub traits_complete : (e : Entry) (n : ℕ) (s : State3) (fs : List Field) (w w' : Words) → w ≡ s.words → AllClean fs → TraitsBy free e n w fs w' → FoundTraits e n s fs w'
@@ -204,8 +204,8 @@ traits_complete (plain t) n s fs w w' same c (given o number u texts a) =
     (runs_bind (texts_layout (m / 16) one.read.state) (λ names. give (plain_traits (eqb ((m / 8) % 2) 1) one.read names)) texts.back [] more.read (give r)
     (subst (λ j. Runs (texts_layout j one.read.state) texts.back more.read) (sym (count_bits t.dynamic k)) more.runs) refl)) in
     let all : Runs (traits_layout m s) (texts.front ++ texts.back) r =
-    path_if {X = Opening} (eqb (m % 4) 1) false (give (known_traits s (m / 4))) (cond (eqb (m % 8) 3) (inline_traits m s) (external_layout s)) (texts.front ++ texts.back) (give r) (not_place t.dynamic k)
-    (path_if {X = Opening} (eqb (m % 8) 3) true (inline_traits m s) (external_layout s) (texts.front ++ texts.back) (give r) (is_given t.dynamic k) inside) in
+    path_if {X = Outline} (eqb (m % 4) 1) false (give (known_traits s (m / 4))) (cond (eqb (m % 8) 3) (inline_traits m s) (external_layout s)) (texts.front ++ texts.back) (give r) (not_place t.dynamic k)
+    (path_if {X = Outline} (eqb (m % 8) 3) true (inline_traits m s) (external_layout s) (texts.front ++ texts.back) (give r) (is_given t.dynamic k) inside) in
     record {
       read = r;
       mark = refl;
@@ -224,8 +224,8 @@ traits_complete (external x) n s fs w w' same c (given o number u texts a) =
     let r = external_traits one.read in
     let inside : Runs (external_layout s) fs r = subst (λ l. Runs (external_layout s) l r) (append-nil fs) (runs_bind (class_layout s) (λ class. give (external_traits class)) fs [] one.read (give r) one.runs refl) in
     let all : Runs (traits_layout m s) fs r =
-    path_if {X = Opening} (eqb (m % 4) 1) false (give (known_traits s (m / 4))) (cond (eqb (m % 8) 3) (inline_traits m s) (external_layout s)) fs (give r) (ne_eqb _ _ (λ e. omega arith))
-    (path_if {X = Opening} (eqb (m % 8) 3) false (inline_traits m s) (external_layout s) fs (give r) (ne_eqb _ _ (λ e. omega arith)) inside) in
+    path_if {X = Outline} (eqb (m % 4) 1) false (give (known_traits s (m / 4))) (cond (eqb (m % 8) 3) (inline_traits m s) (external_layout s)) fs (give r) (ne_eqb _ _ (λ e. omega arith))
+    (path_if {X = Outline} (eqb (m % 8) 3) false (inline_traits m s) (external_layout s) fs (give r) (ne_eqb _ _ (λ e. omega arith)) inside) in
     record {
       read = r;
       mark = refl;
@@ -244,7 +244,7 @@ traits_complete e n s fs w w' same c (placed k there o number none a) =
     let entry : get_or s.words.traits (m / 4) nothing ≡ e = ap (λ j. get_or s.words.traits j nothing) quarter ∙ get_or_from_slice_get s.words.traits k e nothing (subst (λ v. slice_get v.traits k ≡ Some e) same there) in
     let r = known_traits s (m / 4) in
     let all : Runs (traits_layout m s) [] r =
-    path_if {X = Opening} (eqb (m % 4) 1) true (give r) (cond (eqb (m % 8) 3) (inline_traits m s) (external_layout s)) [] (give r) (eq-eqb _ _ (omega arith)) refl in
+    path_if {X = Outline} (eqb (m % 4) 1) true (give r) (cond (eqb (m % 8) 3) (inline_traits m s) (external_layout s)) [] (give r) (eq-eqb _ _ (omega arith)) refl in
     record {
       read = r;
       mark = object_mark (get_or s.tables.traits (m / 4) (kept.plain 0));

@@ -17,7 +17,7 @@ use Rattle.amf3_spelling.specs.declared.marker.Marker.{Marker}
 use Rattle.amf3_spelling.specs.declared.marker.Marker.TheVariants as marker
 use Rattle.amf3_spelling.specs.Markers3.{node_marker, marker_at}
 use Rattle.amf3_layout.specs.Layout3State.{State3, with_node, changed}
-use Rattle.amf3_layout.specs.Layout3Words.{text_layout, Opening}
+use Rattle.amf3_layout.specs.Layout3Words.{text_layout, Outline}
 use Rattle.amf3_layout.specs.Layout3.{eight_layout, opening, ValueRead, read, items, entries, items_of, is_empty, pairs, pairs_if, parts, inline_node, known_node, node_layout, behind_marker, value_layout}
 use Rattle.amf3_layout.proofs.Reader3Weight.{weight_begun, weight_more_value, weight_more_name, weight_more_entry, weight_shut}
 use Rattle.amf3_layout.proofs.Reader3OpeningCosts.{Costs, costs_give, costs_stuck, costs_want, costs_bind, costs_cond, costs_more, costs_within, costs_nothing, state_size, text_size, opening_size, value_size, costs_text, costs_opening}
@@ -90,11 +90,11 @@ module _ (v : State3 → Layout ValueRead) (h : (s : State3) → Costs value_siz
   abbrev behind_items : ℕ → ℕ → Bool → State3 → Layout ValueRead
   behind_items fuel id last t = bind (pairs_if last v fuel id t) (ending id)
 
-  abbrev behind_pairs : ℕ → ℕ → Opening → State3 → Layout ValueRead
+  abbrev behind_pairs : ℕ → ℕ → Outline → State3 → Layout ValueRead
   behind_pairs fuel id o s = bind (items_of o.twins v id o.count s) (behind_items fuel id o.last)
 
   -- with the node itself, and one more
-  costs_parts : (fuel : ℕ) (o : Opening) → Costs value_size (opening_size o + 2) (parts v fuel o)
+  costs_parts : (fuel : ℕ) (o : Outline) → Costs value_size (opening_size o + 2) (parts v fuel o)
   costs_parts fuel o =
       let id = length o.state.arena.nodes in
       let s = with_node o.state o.head in
@@ -106,7 +106,7 @@ module _ (v : State3 → Layout ValueRead) (h : (s : State3) → Costs value_siz
       (λ z. costs_give value_size (one z) (read (Node (record { 0 = id })) (changed shut id z)) (let e = node_shut id z in omega arith)))))
 
   costs_inline_node : (fuel : ℕ) (f : NodeKind) (n : ℕ) (s : State3) → Costs value_size (state_size s + 2) (inline_node v fuel f n s)
-  costs_inline_node fuel f n s = costs_bind (λ (o : Opening). opening_size o + 2) value_size (state_size s + 2) (opening f n s) (parts v fuel) (costs_more opening_size (state_size s) 2 (opening f n s) (costs_opening f n s)) (costs_parts fuel)
+  costs_inline_node fuel f n s = costs_bind (λ (o : Outline). opening_size o + 2) value_size (state_size s + 2) (opening f n s) (parts v fuel) (costs_more opening_size (state_size s) 2 (opening f n s) (costs_opening f n s)) (costs_parts fuel)
 
   -- behind a marker
   costs_node : (fuel : ℕ) (f : NodeKind) (s : State3) → Costs value_size (state_size s + 1) (node_layout v fuel f s)

@@ -16,7 +16,7 @@ use Rattle.amf3_spelling.specs.Refusals3.{text_header_kind, class_header_kind, c
 use Rattle.amf_graph.specs.declared.kind.NodeKind.{NodeKind}
 use Rattle.amf_graph.specs.declared.kind.NodeKind.TheVariants as kind
 use Rattle.amf3_layout.specs.Layout3State.{State3, with_contents}
-use Rattle.amf3_layout.specs.Layout3Words.{chunk, TextRead, known_text, new_text, text_behind, text_by, text_layout, class_layout, TextsRead, more_text, texts_layout, Opening, head_of, known_traits, plain_traits, external_traits, inline_traits, external_layout, traits_layout}
+use Rattle.amf3_layout.specs.Layout3Words.{chunk, TextRead, known_text, new_text, text_behind, text_by, text_layout, class_layout, TextsRead, more_text, texts_layout, Outline, head_of, known_traits, plain_traits, external_traits, inline_traits, external_layout, traits_layout}
 use Rattle.amf3_layout.specs.Layout3.{flag_layout, four_layout, eight_layout, many, whole_node, opening, ValueRead}
 use Rattle.amf3_layout.proofs.Layout3SoundTexts.{give_is}
 use Rattle.amf3_layout.proofs.Layout3SoundOpenings.{raw_long}
@@ -83,7 +83,7 @@ text_size x = weight x.state.arena + 1
 abbrev pub texts_size : TextsRead → ℕ
 texts_size x = weight x.state.arena + length x.ids
 
-abbrev pub opening_size : Opening → ℕ
+abbrev pub opening_size : Outline → ℕ
 opening_size o = weight o.state.arena + bytes_of o.head
 
 abbrev pub value_size : ValueRead → ℕ
@@ -192,5 +192,5 @@ pub texts_costs : (n : ℕ) (s : State3) (fs : List Field) (x : TextsRead) → R
 texts_costs n s fs x r = costs_texts n s fs x r
 
 -- with what is kept in the node itself
-pub opening_costs : (f : NodeKind) (h : ℕ) (s : State3) (fs : List Field) (o : Opening) → Runs (opening f h s) fs o → weight o.state.arena + bytes_of o.head ≤ weight s.arena + length (flat fs)
+pub opening_costs : (f : NodeKind) (h : ℕ) (s : State3) (fs : List Field) (o : Outline) → Runs (opening f h s) fs o → weight o.state.arena + bytes_of o.head ≤ weight s.arena + length (flat fs)
 opening_costs f h s fs o r = costs_opening f h s fs o r

@@ -17,7 +17,7 @@ use Rattle.amf3_spelling.specs.declared.marker.Marker.TheVariants as marker
 use Rattle.amf3_spelling.specs.Markers3.{node_marker, marker_at}
 use Rattle.amf3_spelling.specs.Refusals3.{marker_kind, header_kind}
 use Rattle.amf3_layout.specs.Layout3State.{State3, with_contents, with_node, changed}
-use Rattle.amf3_layout.specs.Layout3Words.{chunk, text_layout, Opening, traits_layout}
+use Rattle.amf3_layout.specs.Layout3Words.{chunk, text_layout, Outline, traits_layout}
 
 -- Parts without text and nodes.
 
@@ -37,10 +37,10 @@ many (suc n) t = bind t (λ x. bind (many n t) (λ xs. give (x ∷ xs)))
 
 -- Nodes: what stands behind a header with low bit 1.
 
-abbrev pub whole_node : State3 → arena.StoredHead → Opening
+abbrev pub whole_node : State3 → arena.StoredHead → Outline
 whole_node s head = record { head = head; count = 0; twins = false; first = false; last = false; state = s }
 
-abbrev pub opening : NodeKind → ℕ → State3 → Layout Opening
+abbrev pub opening : NodeKind → ℕ → State3 → Layout Outline
 opening kind.XmlDocument h s = chunk text_kind (h / 2) (λ x. give (whole_node (with_contents s x) (arena.xml_document (length s.arena.texts))))
 opening kind.Date h s = bind eight_layout (λ p. give (whole_node s (arena.date p)))
 opening kind.Array h s = give (record { head = arena.array; count = h / 2; twins = false; first = true; last = false; state = s })
@@ -89,7 +89,7 @@ abbrev pub pairs_if : Bool → (State3 → Layout ValueRead) → ℕ → ℕ →
 pairs_if there value fuel id s = if there then pairs value fuel id s else give s
 
 -- the parts of a node, which is open until they are there
-abbrev pub parts : (State3 → Layout ValueRead) → ℕ → Opening → Layout ValueRead
+abbrev pub parts : (State3 → Layout ValueRead) → ℕ → Outline → Layout ValueRead
 parts value fuel o =
     bind (pairs_if o.first value fuel (length o.state.arena.nodes) (with_node o.state o.head)) (λ s.
     bind (items_of o.twins value (length o.state.arena.nodes) o.count s) (λ t.

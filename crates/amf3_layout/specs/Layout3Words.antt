@@ -55,7 +55,7 @@ texts_layout zero s = give (record { ids = []; texts = []; state = s })
 texts_layout (suc n) s = bind (text_layout s) (λ x. bind (texts_layout n x.state) (λ xs. give (more_text x xs)))
 
 -- what a node is made of: its head, how many values it takes, or how many keys with their values, and whether pairs stand before or behind them
-pub record Opening : Type 0 where
+pub record Outline : Type 0 where
   pub head : StoredHead
   pub count : ℕ
   pub twins : Bool
@@ -79,7 +79,7 @@ abbrev pub dynamic_of : content.Entry → Bool
 dynamic_of (content.plain t) = t.dynamic
 dynamic_of (content.external c) = false
 
-abbrev pub known_traits : State3 → ℕ → Opening
+abbrev pub known_traits : State3 → ℕ → Outline
 known_traits s k = record {
   head = head_of (get_or s.tables.traits k (plain 0));
   count = sealed_of (get_or s.words.traits k (content.plain (record { class = []; dynamic = false; sealed = [] })));
@@ -89,7 +89,7 @@ known_traits s k = record {
   state = s;
 }
 
-abbrev pub plain_traits : Bool → TextRead → TextsRead → Opening
+abbrev pub plain_traits : Bool → TextRead → TextsRead → Outline
 plain_traits dynamic class names = record {
   head = object (length names.state.arena.traits);
   count = length names.texts;
@@ -99,7 +99,7 @@ plain_traits dynamic class names = record {
   state = with_entry names.state (record { class = class.id; dynamic = dynamic; sealed = names.ids }) (plain (length names.state.arena.traits)) (content.plain (record { class = class.bytes; dynamic = dynamic; sealed = names.texts }));
 }
 
-abbrev pub external_traits : TextRead → Opening
+abbrev pub external_traits : TextRead → Outline
 external_traits class = record {
   head = wrapper (class_of class.bytes);
   count = 1;
@@ -109,12 +109,12 @@ external_traits class = record {
   state = with_entry class.state (record { class = class.id; dynamic = false; sealed = [] }) (external (length class.state.arena.traits) (class_of class.bytes)) (content.external (class_of class.bytes));
 }
 
-abbrev pub inline_traits : ℕ → State3 → Layout Opening
+abbrev pub inline_traits : ℕ → State3 → Layout Outline
 inline_traits h s = bind (text_layout s) (λ class. bind (texts_layout (h / 16) class.state) (λ names. give (plain_traits ((h / 8) % 2 == 1) class names)))
 
-abbrev pub external_layout : State3 → Layout Opening
+abbrev pub external_layout : State3 → Layout Outline
 external_layout s = bind (class_layout s) (λ class. give (external_traits class))
 
 -- the traits behind an object's header with low bit 1: by their place with low bits 01, given with 011, and of an externalizable class with 111
-abbrev pub traits_layout : ℕ → State3 → Layout Opening
+abbrev pub traits_layout : ℕ → State3 → Layout Outline
 traits_layout h s = if h % 4 == 1 then give (known_traits s (h / 4)) else (if h % 8 == 3 then inline_traits h s else external_layout s)

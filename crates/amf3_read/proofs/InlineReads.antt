@@ -18,12 +18,12 @@ use Rattle.amf3_layout.specs.Layout3Words as layout
 use Rattle.amf3_layout.specs.Layout3.{ValueRead, read, opening, whole_node, items_of, pairs_if, parts, inline_node}
 use Rattle.amf3_layout.proofs.Reader3Tables.{grows_twice, grows_node}
 use Rattle.amf3_layout.proofs.Reader3Calls.{grows_are}
-use Rattle.amf3_read.specs.declared.node.Begun.{Begun}
+use Rattle.amf3_read.specs.declared.node.Entered.{Entered}
 use Rattle.amf3_read.specs.Ready.{Ready, Continues}
 use Rattle.amf3_read.specs.Begins.{Begins, has_parts}
 
 -- the parts of a node at a place
-abbrev pub parts_at : (State3 → Layout ValueRead) → ℕ → ℕ → layout.Opening → State3 → Layout ValueRead
+abbrev pub parts_at : (State3 → Layout ValueRead) → ℕ → ℕ → layout.Outline → State3 → Layout ValueRead
 parts_at v n i o s =
     bind (pairs_if o.first v n i s) (λ u. bind (items_of o.twins v i o.count u) (λ w. bind (pairs_if o.last v n i w) (λ x. give (read (value.Node (record { 0 = i })) (changed shut i x)))))
 
@@ -41,7 +41,7 @@ module _ {S : Type 0} (tells : S → Type 0) (left : S → List ℕ) (faults : S
   pub inline_ended : (v : State3 → Layout ValueRead) (n : ℕ) (e : ReadEnd) → Ends tells left (opening f h (state_of a t)) c d e → Ends tells left (inline_node v n f h (state_of a t)) c d e
   inline_ended v n e r = end_reads tells left faults (opening f h (state_of a t)) (parts v n) c d e r
 
-  module _ (x : Begun) (is : Begins tells left f h a b t u c d x) where
+  module _ (x : Entered) (is : Begins tells left f h a b t u c d x) where
     whole : x.parts ≡ None → has_parts is.opened None
     whole none = subst (has_parts is.opened) none is.parts
 
@@ -68,9 +68,9 @@ module _ {S : Type 0} (tells : S → Type 0) (left : S → List ℕ) (faults : S
       parts_are = ap (λ i. parts_at v n i is.opened (state_of b u)) is.place ∙ ap (parts_at v n (length is.opened.state.arena.nodes) is.opened) is.state
 
       -- what is read of the values, by the opening
-      pub inline_reads : {Z : Type 0} (other : Z → ValueRead) (e : Cursor S Window) (r : Result Z ReadEnd) (o : layout.Opening) → is.opened ≡ o → Answers tells left other (parts_at v n x.node.0 o (state_of b u)) d e r → Answers tells left other (inline_node v n f h (state_of a t)) c e r
+      pub inline_reads : {Z : Type 0} (other : Z → ValueRead) (e : Cursor S Window) (r : Result Z ReadEnd) (o : layout.Outline) → is.opened ≡ o → Answers tells left other (parts_at v n x.node.0 o (state_of b u)) d e r → Answers tells left other (inline_node v n f h (state_of a t)) c e r
       inline_reads other e r o same q =
-          then_reads tells left faults (λ (y : Begun). is.opened) other (opening f h (state_of a t)) (parts v n) c d e x r g is.done
+          then_reads tells left faults (λ (y : Entered). is.opened) other (opening f h (state_of a t)) (parts v n) c d e x r g is.done
           (subst (λ l. Answers tells left other l d e r) (ap (λ p. parts_at v n x.node.0 p (state_of b u)) (sym same) ∙ parts_are) q)
 
       pub whole_reads : {Z : Type 0} (other : Z → ValueRead) (z : Z) → x.parts ≡ None → IsPlaced d → other z ≡ read (value.Node x.node) (state_of b u) → Answers tells left other (inline_node v n f h (state_of a t)) c d (Ok z)

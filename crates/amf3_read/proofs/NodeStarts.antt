@@ -27,7 +27,7 @@ use Rattle.amf3_layout.specs.Layout3.{ValueRead, read, known_node, opening, part
 use Rattle.amf3_layout.proofs.Reader3Tables.{grows_itself, open_there, open_place}
 use Rattle.amf3_read.specs.declared.opening.Parts.{Parts}
 use Rattle.amf3_read.specs.declared.opening.Parts.TheVariants.{Array, Object, Items, Entries}
-use Rattle.amf3_read.specs.declared.node.Begun.{Begun}
+use Rattle.amf3_read.specs.declared.node.Entered.{Entered}
 use Rattle.amf3_read.specs.declared.node.Start.{Start}
 use Rattle.amf3_read.specs.declared.node.Start.TheVariants as start
 use Rattle.amf3_read.specs.Steps.{marker_layout}
@@ -76,20 +76,20 @@ shaped_suits (graph.uints f x) n p z s = absurd s
 shaped_suits (graph.doubles f x) n p z s = absurd s
 
 -- the parts of an opening are what is still to be read
-todo_is : (v : State3 → Layout ValueRead) (m i : ℕ) (o : layout.Opening) (p : Parts) (s : State3) → has_parts o (Some p) → parts_at v m i o s ≡ todo v m i p s
+todo_is : (v : State3 → Layout ValueRead) (m i : ℕ) (o : layout.Outline) (p : Parts) (s : State3) → has_parts o (Some p) → parts_at v m i o s ≡ todo v m i p s
 todo_is v m i o (Array n) s e = ap (λ o. parts_at v m i o s) e
 todo_is v m i o (Object n d) s e = ap (λ o. parts_at v m i o s) e
 todo_is v m i o (Items n) s e = ap (λ o. parts_at v m i o s) e
 todo_is v m i o (Entries n) s e = ap (λ o. parts_at v m i o s) e
 
-module _ {S : Type 0} (tells : S → Type 0) (left : S → List ℕ) (faults : S → ℕ) (f : NodeKind) (h : ℕ) (a b : Arena) (t u : KeptTables) (c d : Cursor S Window) (x : Begun) (is : Begins tells left f h a b t u c d x) (r : Ready 0 b u d) where
+module _ {S : Type 0} (tells : S → Type 0) (left : S → List ℕ) (faults : S → ℕ) (f : NodeKind) (h : ℕ) (a b : Arena) (t u : KeptTables) (c d : Cursor S Window) (x : Entered) (is : Begins tells left f h a b t u c d x) (r : Ready 0 b u d) where
   pub inline_kept : Kept 1 a b u c d
   inline_kept = record { built = r.built; tables = r.tables; placed = r.placed; texts = is.texts; traits = is.traits; nodes = is.nodes }
 
   pub inline_leads : (p : Parts) → x.parts ≡ Some p → (v : State3 → Layout ValueRead) (n : ℕ) → Goes tells left faults c d (Ok x) → Leads tells left (inline_node v n f h (state_of a t)) (todo v n x.node.0 p (state_of b u)) c d
   inline_leads p e v n g =
       subst (λ l. Leads tells left (inline_node v n f h (state_of a t)) l c d) (sym (parts_are tells left faults f h a b t u c d x is v n g) ∙ todo_is v n x.node.0 is.opened p (state_of b u) (subst (has_parts is.opened) e is.parts))
-      (leads_behind tells left faults (λ (y : Begun). is.opened) (opening f h (state_of a t)) (parts v n) c d x is.done)
+      (leads_behind tells left faults (λ (y : Entered). is.opened) (opening f h (state_of a t)) (parts v n) c d x is.done)
 
   pub inline_holds : (p : Parts) → x.parts ≡ Some p → StartHolds a b (left_of d) (start.Open x.node p)
   inline_holds p e =

@@ -15,12 +15,12 @@ use Rattle.amf3_layout.specs.Layout3Words as layout
 use Rattle.amf3_layout.specs.Layout3.{opening, whole_node}
 use Rattle.amf3_read.specs.declared.opening.Parts.{Parts}
 use Rattle.amf3_read.specs.declared.opening.Parts.TheVariants.{Array, Object, Items, Entries}
-use Rattle.amf3_read.specs.declared.node.Begun.{Begun}
+use Rattle.amf3_read.specs.declared.node.Entered.{Entered}
 use Rattle.amf3_read.specs.Ready.{left_of}
 use Rattle.amf3_read.specs.Filling.{IsOpened, IsEmptyNode}
 
 -- the values to come, as the layouts have them
-abbrev pub has_parts : layout.Opening → Option Parts → Type 0
+abbrev pub has_parts : layout.Outline → Option Parts → Type 0
 has_parts o None = (o ≡ whole_node o.state o.head) × (takes_parts o.head ≡ false)
 has_parts o (Some (Array n)) = o ≡ record { head = o.head; count = n; twins = false; first = true; last = false; state = o.state }
 has_parts o (Some (Object n d)) = o ≡ record { head = o.head; count = n; twins = false; first = false; last = d; state = o.state }
@@ -41,8 +41,8 @@ abbrev pub IsBegun : Arena → ℕ → ℕ → Option Parts → Type 0
 IsBegun a i left None = Unit {0}
 IsBegun a i left (Some p) = IsOpened a i left × IsEmptyNode (stored_at a i) × IsShaped (head_content a (stored_at a i).head) p
 
-pub record Begins {S : Type 0} (tells : S → Type 0) (left : S → List ℕ) (f : NodeKind) (header : ℕ) (a b : Arena) (t u : KeptTables) (c d : Cursor S Window) (begun : Begun) : Type 0 where
-  pub opened : layout.Opening
+pub record Begins {S : Type 0} (tells : S → Type 0) (left : S → List ℕ) (f : NodeKind) (header : ℕ) (a b : Arena) (t u : KeptTables) (c d : Cursor S Window) (begun : Entered) : Type 0 where
+  pub opened : layout.Outline
   pub done : DoneBy (tells (source_of c).now) (opening f header (state_of a t)) opened (unread left c) (unread left d) (place c) (place d) (bound c)
   pub state : state_of b u ≡ with_node opened.state opened.head
   pub place : begun.node.0 ≡ length opened.state.arena.nodes

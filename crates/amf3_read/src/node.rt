@@ -21,7 +21,7 @@ use std::alloc::Global;
 
 /// A node that is in the table: complete, or with values to come.
 #[derive(Clone, Copy, Debug, PartialEq, Eq)]
-pub struct Begun {
+pub struct Entered {
     pub node: NodeId,
     pub parts: Option<Parts>,
 }
@@ -76,7 +76,7 @@ fn start_inline<S: Source>(
     ensures holds { IfOk result (StartHolds builder.old builder.new (left_of cursor.new)) }
     ensures stays { OnOk result (place cursor.old ≤ place cursor.new) }
 {
-    let Begun { node, parts } = begin_node(alloc, cursor, builder, tables, kind, header)?;
+    let Entered { node, parts } = begin_node(alloc, cursor, builder, tables, kind, header)?;
     match parts {
         None => Ok(Start::Value(Value::Node(node))),
         Some(parts) => Ok(Start::Open(node, parts)),
@@ -91,7 +91,7 @@ fn begin_node<S: Source>(
     tables: &mut Tables3,
     kind: NodeKind,
     header: u32,
-) -> Result<Begun, ReadEnd>
+) -> Result<Entered, ReadEnd>
     requires ready { Ready 1 builder.old tables.old cursor.old }
     requires known { IsOpening tables.old (node_marker kind) header }
     ensures goes { Goes S.tells S.left S.faults cursor.old cursor.new result }
@@ -105,12 +105,12 @@ fn begin_node<S: Source>(
             let node = kept(builder.leaf(leaf))?;
             builder.is_built();
             tables.push_node(node)?;
-            Ok(Begun { node, parts: None })
+            Ok(Entered { node, parts: None })
         }
         Opening::Node(shape, parts) => {
             let node = kept(builder.open_node(shape))?;
             tables.push_node(node)?;
-            Ok(Begun {
+            Ok(Entered {
                 node,
                 parts: Some(parts),
             })
