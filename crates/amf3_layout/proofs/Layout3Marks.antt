@@ -3,24 +3,15 @@ use Rattle.std.proofs.Common.{◌≡◌, ℕ, zero, suc, ◌<◌, Bool, true, fa
 use Rattle.std.specs.List.{AllByRecursion}
 use Rattle.amf_graph.specs.declared.value.Value.{Value as Stored}
 use Rattle.amf_graph.specs.Graph.{node_at, no_node}
-use Rattle.amf_graph.specs.Arena.{Arena, StoredHead, xml_document, date, array, object, wrapper, xml, bytes, ints, uints, doubles, values, dictionary, StoredNode, head_content, node_content, graph_of, Extends, NodesComplete}
+use Rattle.amf_graph.specs.Arena.{Arena, StoredHead, StoredNode, head_content, node_content, graph_of, Extends, NodesComplete}
 use Rattle.amf_graph.specs.Building.{no_stored, stored_at}
+use Rattle.amf3_spelling.specs.Markers3.{node_marker}
 use Rattle.amf3_spelling.specs.Refusals3.{marker, markers}
 use Rattle.amf3_layout.specs.Layout3State.{stored_marker}
+use Rattle.amf3_spelling.proofs.Markers.{kind_content}
 
 pub marker_content : (a : Arena) (h : StoredHead) → marker (head_content a h) ≡ stored_marker h
-marker_content a (xml_document x) = refl
-marker_content a (date p) = refl
-marker_content a array = refl
-marker_content a (object t) = refl
-marker_content a (wrapper c) = refl
-marker_content a (xml x) = refl
-marker_content a (bytes x) = refl
-marker_content a (ints f ns) = refl
-marker_content a (uints f ns) = refl
-marker_content a (doubles f ns) = refl
-marker_content a (values f x) = refl
-marker_content a (dictionary f) = refl
+marker_content a h = ap node_marker (kind_content a h)
 
 mark_at : (a : Arena) (ns : List StoredNode) (i : ℕ) → marker (get_or (map (node_content a) ns) i no_node).head ≡ stored_marker (get_or ns i no_stored).head
 mark_at a [] i = refl

@@ -28,3 +28,4 @@ pub mod LacksAlike
 pub mod FirstLack3
 pub mod Stops3
 pub mod Aside3
+pub mod Markers

@@ -1,5 +1,5 @@
 ghost use Rattle.std.specs.Prelude.{◌≡◌, ◌≤◌, ◌<◌, IfSome, IfNone};
-ghost use Rattle.amf3_spelling.specs.Markers3.{marker_at, node_marker};
+ghost use Rattle.amf3_spelling.specs.Markers3.{marker_at, marker_byte, node_marker};
 
 use amf_graph::NodeKind;
 
@@ -44,6 +44,22 @@ impl Marker {
             0x11 => Marker::Node(NodeKind::Dictionary),
             _ => return None,
         })
+    }
+
+    /// Its byte.
+    pub fn byte(self) -> u8
+        ensures { result ≡ marker_byte self }
+    {
+        match self {
+            Marker::Undefined => 0x00,
+            Marker::Null => 0x01,
+            Marker::False => 0x02,
+            Marker::True => 0x03,
+            Marker::Integer => 0x04,
+            Marker::Double => 0x05,
+            Marker::Text => 0x06,
+            Marker::Node(kind) => node_marker(kind),
+        }
     }
 }
 

@@ -17,15 +17,17 @@ use Rattle.amf_graph.specs.ByName.{by_name}
 use Rattle.amf_graph.specs.Order.{Absent, seconds}
 use Rattle.amf_graph.specs.Arena.{Arena, StoredNode, node_content, graph_of, IsFinished, IsNodeIn, Names}
 use Rattle.amf_graph.specs.Bounds.{NodeWithin, IsWithinBounds}
-use Rattle.amf_graph.specs.Building.{stored_at, no_stored}
+use Rattle.amf_graph.specs.Building.{stored_at, no_stored, kind_of}
 use Rattle.amf_graph.specs.Views.{flat}
 use Rattle.amf_graph.proofs.NameOrder.{by_name_again, by_name_all, by_name_length}
 use Rattle.amf3_spelling.specs.Tables.{plain, with_words, add_node}
+use Rattle.amf3_spelling.specs.Markers3.{node_marker}
 use Rattle.amf3_spelling.specs.Refusals3.{marker}
 use Rattle.amf_tables.specs.FirstPlace.{IsFirstPlace}
 use Rattle.amf3_spelling.specs.ByteSpelling.{byte, number, word, traits, step, values_then, pairs_then, layout, Placed, Begun, NodeIn, Parts, Spells}
 use Rattle.amf3_spelling.proofs.BytesOf.{fits_too}
 use Rattle.amf3_spelling.proofs.FirstLack3.{named_or_not}
+use Rattle.amf3_spelling.proofs.Markers.{kind_content}
 use Rattle.amf3_spelling.proofs.Ordered3.{part_values}
 use Rattle.amf3_write.specs.declared.output.Output.{Output}
 use Rattle.amf3_write.proofs.Wrote.{each_there}
@@ -39,6 +41,10 @@ same_end (Err e) x l h k = cc
 
 pub node_shown : (a : Arena) (root : Stored) (i : ℕ) → node_at (graph_of a root) i ≡ node_content a (stored_at a i)
 node_shown a root i = get_or-map (node_content a) a.nodes i no_stored
+
+-- the marker of a node is that of its kind
+pub shown_marker : (a : Arena) (root : Stored) (i : ℕ) → marker (node_at (graph_of a root) i).head ≡ node_marker (kind_of (stored_at a i).head)
+shown_marker a root i = ap (λ (n : Node). marker n.head) (node_shown a root i) ∙ ap node_marker (kind_content a (stored_at a i).head)
 
 pub shown : (a : Arena) (root : Stored) (i : ℕ) (n : StoredNode) → stored_at a i ≡ n → node_at (graph_of a root) i ≡ node_content a n
 shown a root i n e = node_shown a root i ∙ ap (node_content a) e

@@ -2,6 +2,7 @@ ghost use Rattle.std.specs.Prelude.{◌≡◌, ◌≢◌, ◌<◌, ◌^◌, [], 
 ghost use Rattle.amf_graph.specs.Arena.{Arena};
 ghost use Rattle.amf_wire.specs.Text.{IsText};
 ghost use Rattle.amf_tables.specs.FirstPlace.{IsFirstPlace};
+ghost use Rattle.amf3_spelling.specs.Markers3.{marker_byte};
 ghost use Rattle.amf3_spelling.specs.Words3.{NoPlaceBelow};
 ghost use Rattle.amf3_spelling.specs.ByteSpelling as spell;
 ghost use Rattle.amf3_write.specs.Writes.{WritesStep, Keeps, IsReady};
@@ -9,6 +10,7 @@ ghost use Rattle.amf3_write.specs.Writes.{WritesStep, Keeps, IsReady};
 use crate::GraphTables;
 use amf_tables::{KnownWords, WriterTables};
 use amf_wire::{Memory, U29, write_u29};
+use amf3_spelling::Marker;
 use std::alloc::Global;
 use std::mem;
 
@@ -67,13 +69,14 @@ impl Output {
         *bytes = self.bytes;
     }
 
-    pub(crate) fn byte(&mut self, byte: u8) -> Result<(), Memory>
-        ensures ok { OnOk result (WritesStep (spell.byte byte) self.old self.new) }
+    /// A marker (3.1).
+    pub(crate) fn marker(&mut self, marker: Marker) -> Result<(), Memory>
+        ensures ok { OnOk result (WritesStep (spell.byte (marker_byte marker)) self.old self.new) }
         ensures kept { Keeps self.old self.new }
         ensures tables { self.new.tables ≡ self.old.tables }
         ensures known { self.new.known ≡ self.old.known }
     {
-        self.bytes.push(byte)?;
+        self.bytes.push(marker.byte())?;
         Ok(())
     }
 

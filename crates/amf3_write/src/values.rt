@@ -10,11 +10,12 @@ ghost use Rattle.amf3_spelling.specs.ByteSpelling as spell;
 ghost use Rattle.amf3_write.specs.Unwritten.{AreRunsOf, parts_left, turns_left, Falls};
 ghost use Rattle.amf3_write.specs.Writes.{WritesSteps, WritesValue, Leads, Keeps, Stops, IsReady};
 
-use crate::nodes::{is_unnamed, marker};
+use crate::nodes::is_unnamed;
 use crate::output::Output;
 use crate::unwritten::Unwritten;
 use amf_graph::{Lack, LackKind, NodeId, Rooted, Value, WriteEnd};
 use amf_wire::{Memory, Pattern, unsign29};
+use amf3_spelling::Marker;
 
 impl Output {
     /// The integer behind its marker (3.6).
@@ -25,7 +26,7 @@ impl Output {
         ensures tables { self.new.tables ≡ self.old.tables }
         ensures known { self.new.known ≡ self.old.known }
     {
-        self.byte(0x04)?;
+        self.marker(Marker::Integer)?;
         match unsign29(integer) {
             Some(bits) => {
                 self.number(bits.get())?;
@@ -42,7 +43,7 @@ impl Output {
         ensures tables { self.new.tables ≡ self.old.tables }
         ensures known { self.new.known ≡ self.old.known }
     {
-        self.byte(0x05)?;
+        self.marker(Marker::Double)?;
         self.raw(&double.0.to_be_bytes())?;
         Ok(())
     }
@@ -84,14 +85,14 @@ impl Output {
         ensures ready { OnOk result (IsReady graph.now.arena self.new.tables self.new.known) }
     {
         match value {
-            Value::Undefined => self.byte(0x00)?,
-            Value::Null => self.byte(0x01)?,
-            Value::Bool(false) => self.byte(0x02)?,
-            Value::Bool(true) => self.byte(0x03)?,
+            Value::Undefined => self.marker(Marker::Undefined)?,
+            Value::Null => self.marker(Marker::Null)?,
+            Value::Bool(false) => self.marker(Marker::False)?,
+            Value::Bool(true) => self.marker(Marker::True)?,
             Value::Integer(integer) => self.integer(integer)?,
             Value::Double(double) => self.double(double)?,
             Value::Text(text) => {
-                self.byte(0x06)?;
+                self.marker(Marker::Text)?;
                 self.text_of(text, graph)?;
             }
             Value::Node(node) => self.node(node, graph, waiting)?,
@@ -119,7 +120,7 @@ impl Output {
         graph.is_finished();
         match self.tables.place_of_node(node) {
             Some(place) => {
-                self.byte(marker(&graph.node(node)))?;
+                self.marker(Marker::Node(graph.kind_of(node)))?;
                 self.number(2 * place)?;
                 Ok(())
             }
@@ -152,7 +153,7 @@ impl Output {
                 node: self.tables.node_count(),
             }));
         }
-        self.byte(marker(&graph.node(node)))?;
+        self.marker(Marker::Node(graph.kind_of(node)))?;
         self.tables.add_node(node)?;
         self.open(node, graph, waiting)?;
         Ok(())

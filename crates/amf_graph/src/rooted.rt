@@ -3,7 +3,7 @@ ghost use Rattle.std.specs.List.{AllByRecursion};
 ghost use Rattle.amf_graph.specs.Arena.{IsFinished, Names, text_at, no_traits};
 ghost use Rattle.amf_graph.specs.Bodies.{body_node};
 ghost use Rattle.amf_graph.specs.Bounds.{IsWithinBounds};
-ghost use Rattle.amf_graph.specs.Building.{stored_at};
+ghost use Rattle.amf_graph.specs.Building.{stored_at, kind_of};
 ghost use Rattle.amf_graph.specs.Renumbered.{numbers_of, renumbered, IsPart};
 ghost use Rattle.amf_graph.specs.StandIns.{GraphStandsFor};
 ghost use Rattle.amf_graph.specs.Views.{Shows, ShowsTraits};
@@ -12,7 +12,7 @@ use crate::body::Body;
 use crate::renumber::{places_by_node, renumbered};
 use crate::stand_ins::stand_in;
 use crate::store::Store;
-use crate::{NodeId, NodeView, TextId, TraitsId, TraitsView, Value};
+use crate::{NodeId, NodeKind, NodeView, TextId, TraitsId, TraitsView, Value};
 use amf_wire::Memory;
 use std::alloc::Global;
 use std::marker::Model;
@@ -98,6 +98,14 @@ impl Rooted {
         ensures { stored_at self.now.arena node.0 ≡ body_node false result.now }
     {
         self.store.body(node)
+    }
+
+    /// The kind of a node.
+    pub fn kind_of(&self, node: NodeId) -> NodeKind
+        requires { node.0 < length self.now.arena.nodes }
+        ensures { result ≡ kind_of (stored_at self.now.arena node.0).head }
+    {
+        self.store.kind(node)
     }
 
     /// What a node holds.

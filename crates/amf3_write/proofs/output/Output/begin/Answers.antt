@@ -37,4 +37,4 @@ returns-in_ok-text_of-in-Text-clause-leads c =
     let old = parts_left a c.args.waiting.now.items in
     let x = text_at a c.in-Text.text.0 in
     subst (λ v. Leads g (value (value_content a v) ∷ old) old c.args.self.now c.text_of.new.self) (sym c.in-Text.is)
-    (leads_leaf g (text x) old c.args.self.now c.text_of.new.self c.in_ok-text_of-in-Text.ensures.text (wrote_two (byte 6) (word x) c.args.self.now c.byte-in-Text.new.self c.text_of.new.self c.in_ok-byte-in-Text.ensures.ok c.in_ok-text_of-in-Text.ensures.ok))
+    (leads_leaf g (text x) old c.args.self.now c.text_of.new.self c.in_ok-text_of-in-Text.ensures.text (wrote_two (byte 6) (word x) c.args.self.now c.marker-in-Text.new.self c.text_of.new.self c.in_ok-marker-in-Text.ensures.ok c.in_ok-text_of-in-Text.ensures.ok))

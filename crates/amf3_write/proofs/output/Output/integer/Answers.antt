@@ -9,5 +9,5 @@ use Rattle.amf3_write.proofs.output.Output.integer.Goals as goal
 pub returns-clause-ok : goal.returns-clause-ok
 returns-clause-ok c =
     let fits : FitsSigned w32 c.args.integer = fits_wide c.args.integer c.requires in
-    wrote_two (byte 4) (number (integer_bits c.args.integer)) c.args.self.now c.byte.new.self c.number.new.self c.in_ok-byte.ensures.ok
-    (subst (λ x. WritesStep (number x) c.byte.new.self c.number.new.self) (c.get.ensures.value ∙ c.in-Some.ensures.1 ∙ ap integer_bits (to_z-of_z w32 c.args.integer fits)) c.in_ok-number-in-Some.ensures.ok)
+    wrote_two (byte 4) (number (integer_bits c.args.integer)) c.args.self.now c.marker.new.self c.number.new.self c.in_ok-marker.ensures.ok
+    (subst (λ x. WritesStep (number x) c.marker.new.self c.number.new.self) (c.get.ensures.value ∙ c.in-Some.ensures.1 ∙ ap integer_bits (to_z-of_z w32 c.args.integer fits)) c.in_ok-number-in-Some.ensures.ok)
