@@ -1,9 +1,10 @@
-ghost use Rattle.std.specs.Prelude.{◌≡◌, ℕ, ◌+◌, ◌<◌, ◌≤◌, ◌^◌, length, OnOk, IfOk, IfErr};
+ghost use Rattle.std.specs.Prelude.{◌≡◌, ℕ, ◌+◌, ◌<◌, ◌≤◌, length, OnOk, IfOk, IfErr};
 ghost use Rattle.amf_io.specs.Cursor.{place};
 ghost use Rattle.amf_io.specs.CursorReads.{Goes};
 ghost use Rattle.amf_graph.specs.Arena.{HeadNames, IsBuilt, IsTextId, array};
 ghost use Rattle.amf_graph.specs.Bounds.{items_of};
 ghost use Rattle.amf_graph.specs.Building.{leaf_head};
+ghost use Rattle.amf3_read.specs.Answer.{room_end};
 ghost use Rattle.amf0_tables.specs.Layout0 as layout;
 ghost use Rattle.amf0_tables.specs.Layout0.{Reader0, behind0};
 ghost use Rattle.amf0_tables.specs.Layout0State.{state0_of};
@@ -208,8 +209,8 @@ fn read_switched<S: Source>(
 /// Keeps a node without parts, which no index of AMF 0 names.
 fn keep_leaf(builder: &mut Builder, leaf: Leaf) -> Result<NodeId, ReadEnd>
     requires names { HeadNames builder.old (leaf_head leaf) }
-    requires room { length builder.old.nodes < 2 ^ 27 }
-    requires few { items_of (leaf_head leaf) < 2 ^ 27 }
+    requires room { length builder.old.nodes < room_end }
+    requires few { items_of (leaf_head leaf) < room_end }
     ensures ok { IfOk result (λ node. KeepsLeaf builder.old builder.new (leaf_head leaf) node.0) }
     ensures built { OnOk result (IsBuilt builder.new) }
     ensures err { IfErr result (λ end. end ≡ ReadEnd.Memory) }
@@ -222,7 +223,7 @@ fn keep_leaf(builder: &mut Builder, leaf: Leaf) -> Result<NodeId, ReadEnd>
 
 /// Opens an array, which an index names from then on.
 pub fn open_array(builder: &mut Builder, tables: &mut Tables0) -> Result<NodeId, ReadEnd>
-    requires room { length builder.old.nodes < 2 ^ 27 }
+    requires room { length builder.old.nodes < room_end }
     ensures ok { IfOk result (λ node. Opens builder.old builder.new (shown_tables tables.old) (shown_tables tables.new) array node.0) }
     ensures err { IfErr result (λ end. end ≡ ReadEnd.Memory) }
 {
@@ -238,8 +239,8 @@ fn open_object(
     class: TextId,
 ) -> Result<NodeId, ReadEnd>
     requires class { IsTextId builder.old class.0 }
-    requires few_traits { length builder.old.traits + 1 < 2 ^ 27 }
-    requires few_nodes { length builder.old.nodes < 2 ^ 27 }
+    requires few_traits { length builder.old.traits + 1 < room_end }
+    requires few_nodes { length builder.old.nodes < room_end }
     ensures ok { IfOk result (λ node. OpensObject builder.old builder.new (shown_tables tables.old) (shown_tables tables.new) class.0 node.0) }
     ensures err { IfErr result (λ end. end ≡ ReadEnd.Memory) }
 {

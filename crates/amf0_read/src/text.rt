@@ -1,7 +1,8 @@
-ghost use Rattle.std.specs.Prelude.{◌≡◌, ◌+◌, ◌<◌, ◌≤◌, ◌^◌, [], length, OnOk, IfOk, IfErr};
+ghost use Rattle.std.specs.Prelude.{◌≡◌, ◌+◌, ◌<◌, ◌≤◌, [], length, OnOk, IfOk, IfErr};
 ghost use Rattle.amf_graph.specs.Arena.{IsBuilt, text_at};
 ghost use Rattle.amf_io.specs.CursorReads.{IsPlaced, Goes, Answers};
 ghost use Rattle.amf_io.specs.Cursor.{place};
+ghost use Rattle.amf3_read.specs.Answer.{room_end};
 ghost use Rattle.amf3_spelling.specs.KeptTables.{AreTablesIn};
 ghost use Rattle.amf0_tables.specs.KeptTables0.{KeptTables0};
 ghost use Rattle.amf0_tables.specs.Layout0.{short_layout, long_layout};
@@ -21,7 +22,7 @@ pub fn read_short_text<S: Source>(
     cursor: &mut Cursor<'_, S>,
     builder: &mut Builder,
 ) -> Result<TextId, ReadEnd>
-    requires { length builder.old.texts + left_of cursor.old < 2 ^ 27 }
+    requires { length builder.old.texts + left_of cursor.old < room_end }
     ensures goes { Goes S.tells S.left S.faults cursor.old cursor.new result }
     ensures answers { (t : KeptTables0) → AreTablesIn builder.old t.amf3 → Answers S.tells S.left (λ x. text_read builder.new t x) (short_layout (state0_of builder.old t)) cursor.old cursor.new result }
     ensures kept { IfOk result (λ x. KeptText builder.old builder.new x.0) }
@@ -40,7 +41,7 @@ pub fn read_long_text<S: Source>(
     cursor: &mut Cursor<'_, S>,
     builder: &mut Builder,
 ) -> Result<TextId, ReadEnd>
-    requires { length builder.old.texts + left_of cursor.old < 2 ^ 27 }
+    requires { length builder.old.texts + left_of cursor.old < room_end }
     ensures goes { Goes S.tells S.left S.faults cursor.old cursor.new result }
     ensures answers { (t : KeptTables0) → AreTablesIn builder.old t.amf3 → Answers S.tells S.left (λ x. text_read builder.new t x) (long_layout (state0_of builder.old t)) cursor.old cursor.new result }
     ensures kept { IfOk result (λ x. KeptText builder.old builder.new x.0) }
@@ -55,7 +56,7 @@ pub fn read_long_text<S: Source>(
 
 /// Keeps the empty text, which is the class of an object without one.
 pub fn keep_empty_text(builder: &mut Builder) -> Result<TextId, ReadEnd>
-    requires { length builder.old.texts < 2 ^ 27 }
+    requires { length builder.old.texts < room_end }
     ensures kept { IfOk result (λ x. KeptText builder.old builder.new x.0) }
     ensures empty { IfOk result (λ x. text_at builder.new x.0 ≡ []) }
     ensures built { OnOk result (IsBuilt builder.new) }

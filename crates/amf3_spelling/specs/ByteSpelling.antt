@@ -10,7 +10,7 @@ use Rattle.amf_graph.specs.ByName.{by_name}
 use Rattle.amf_graph.specs.Order.{Absent}
 use Rattle.amf3_spelling.specs.Tables.{Entry, plain, external, Words, Tables, no_tables, add_text, add_entry, with_words, add_node}
 use Rattle.amf3_spelling.specs.Refusals3.{marker, leaf_marker}
-use Rattle.amf3_spelling.specs.Words3.{NoPlaceBelow, EntryNumber}
+use Rattle.amf3_spelling.specs.Words3.{NoPlaceBelow, EntryNumber, nameable_texts, nameable_traits}
 use Rattle.amf3_spelling.specs.Parts3.{IsFlag}
 
 -- a state before, the bytes, the state after
@@ -32,7 +32,7 @@ Plain P w b w' = P b × (w' ≡ w)
 
 pub data Text (s : Style) (x : List ℕ) (t : Words) (b : List ℕ) (t' : Words) : Type 0 where
   empty : x ≡ [] → IsU29 s 1 b → t' ≡ t → Text s x t b t'
-  whole : x ≢ [] → IsText x → Only s (NoPlaceBelow 268435456 t.texts x) → (header : List ℕ) → IsU29 s (2 * length x + 1) header → b ≡ header ++ x → t' ≡ add_text t x → Text s x t b t'
+  whole : x ≢ [] → IsText x → Only s (NoPlaceBelow nameable_texts t.texts x) → (header : List ℕ) → IsU29 s (2 * length x + 1) header → b ≡ header ++ x → t' ≡ add_text t x → Text s x t b t'
   placed : Only s (x ≢ []) → (k : ℕ) → slice_get t.texts k ≡ Some x → Only s (NoPlaceBelow k t.texts x) → IsU29 s (2 * k) b → t' ≡ t → Text s x t b t'
 
 -- texts one after the other
@@ -45,7 +45,7 @@ entry_texts (plain t) = t.class ∷ t.sealed
 entry_texts (external c) = class_name c ∷ []
 
 pub data TraitsOf (s : Style) (e : Entry) (t : Words) (b : List ℕ) (t' : Words) : Type 0 where
-  given : Only s (NoPlaceBelow 134217728 t.traits e) → (n : ℕ) (header rest : List ℕ) (u : Words) → EntryNumber s e n → IsU29 s n header → Texts s (entry_texts e) t rest u → b ≡ header ++ rest → t' ≡ add_entry u e → TraitsOf s e t b t'
+  given : Only s (NoPlaceBelow nameable_traits t.traits e) → (n : ℕ) (header rest : List ℕ) (u : Words) → EntryNumber s e n → IsU29 s n header → Texts s (entry_texts e) t rest u → b ≡ header ++ rest → t' ≡ add_entry u e → TraitsOf s e t b t'
   indexed : (k : ℕ) → slice_get t.traits k ≡ Some e → Only s (NoPlaceBelow k t.traits e) → IsU29 s (4 * k + 1) b → t' ≡ t → TraitsOf s e t b t'
 
 -- a step of a layout that names no node

@@ -1,5 +1,5 @@
 -- What a stack of runs stands for. A device of proofs.
-use Rattle.std.specs.Prelude.{ℕ, ◌+◌, ◌*◌, ◌<◌, ◌≤◌, ◌⊎◌, List, [], ◌∷◌, ◌++◌, length, reverse, Option, Some, None}
+use Rattle.std.specs.Prelude.{ℕ, ◌+◌, ◌*◌, ◌^◌, ◌<◌, ◌≤◌, ◌⊎◌, List, [], ◌∷◌, ◌++◌, length, reverse, Option, Some, None}
 use Rattle.std.specs.List.{AllByRecursion}
 use Rattle.amf_graph.specs.declared.value.Value.{Value as Stored}
 use Rattle.amf_graph.specs.declared.value.TextId.{TextId}
@@ -63,6 +63,10 @@ abbrev pub turns_left : List Unwritten → ℕ
 turns_left [] = 0
 turns_left (run ∷ runs) = run_turns run + turns_left runs
 
+-- no node takes more turns
+abbrev pub node_turns : ℕ
+node_turns = 2 ^ 30
+
 -- no more turns are left than before; or one of so many nodes is new in the table, and no more turns came than a node has
 abbrev pub Falls : ℕ → List ℕ → List ℕ → ℕ → ℕ → Type 0
-Falls count old new before after = (after ≤ before) ⊎ ((i : ℕ) × (i < count) × Absent old i × BeginsWith (old ++ i ∷ []) new × (after ≤ before + 1073741824))
+Falls count old new before after = (after ≤ before) ⊎ ((i : ℕ) × (i < count) × Absent old i × BeginsWith (old ++ i ∷ []) new × (after ≤ before + node_turns))

@@ -1,6 +1,7 @@
-ghost use Rattle.std.specs.Prelude.{◌≡◌, ◌+◌, ◌*◌, ◌<◌, ◌^◌, [], ◌∷◌, length, map, OnOk, FitsSigned};
+ghost use Rattle.std.specs.Prelude.{◌≡◌, ◌+◌, ◌*◌, ◌<◌, [], ◌∷◌, length, map, OnOk, FitsSigned};
 ghost use Rattle.std.specs.Int.{to_be_bytes, w32, w64};
 ghost use Rattle.std.specs.List.{AllByRecursion};
+ghost use Rattle.amf_graph.specs.Bounds.{count_end};
 ghost use Rattle.amf3_spelling.specs.ByteSpelling as spell;
 ghost use Rattle.amf3_write.specs.Writes.{WritesStep, WritesSteps, Keeps};
 
@@ -11,7 +12,7 @@ use amf_wire::{Memory, Pattern};
 impl Output {
     /// A length, and so many bytes (3.9, 3.13, 3.14).
     pub(crate) fn counted(&mut self, bytes: &[u8]) -> Result<(), Memory>
-        requires { length bytes.now < 2 ^ 28 }
+        requires { length bytes.now < count_end }
         ensures ok { OnOk result (WritesSteps (spell.step (spell.number (2 * length bytes.now + 1)) ∷ spell.step (spell.raw bytes.now) ∷ []) self.old self.new) }
         ensures kept { Keeps self.old self.new }
         ensures tables { self.new.tables ≡ self.old.tables }
@@ -36,7 +37,7 @@ impl Output {
 
     /// A count, and whether it is fixed (3.15).
     pub(crate) fn vector(&mut self, count: usize, fixed: bool) -> Result<(), Memory>
-        requires { count < 2 ^ 28 }
+        requires { count < count_end }
         ensures ok { OnOk result (WritesSteps (spell.step (spell.number (2 * count + 1)) ∷ spell.step (spell.flag fixed) ∷ []) self.old self.new) }
         ensures kept { Keeps self.old self.new }
         ensures tables { self.new.tables ≡ self.old.tables }
@@ -49,7 +50,7 @@ impl Output {
 
     /// A vector of ints (3.15).
     pub(crate) fn ints(&mut self, fixed: bool, items: &[i32]) -> Result<(), Memory>
-        requires few { length items.now < 2 ^ 28 }
+        requires few { length items.now < count_end }
         requires in_range { AllByRecursion (FitsSigned w32) items.now }
         ensures ok { OnOk result (WritesSteps (spell.step (spell.number (2 * length items.now + 1)) ∷ spell.step (spell.flag fixed) ∷ spell.step (spell.raw (spell.signed_bytes items.now)) ∷ []) self.old self.new) }
         ensures kept { Keeps self.old self.new }
@@ -76,7 +77,7 @@ impl Output {
 
     /// A vector of uints (3.15).
     pub(crate) fn uints(&mut self, fixed: bool, items: &[u32]) -> Result<(), Memory>
-        requires { length items.now < 2 ^ 28 }
+        requires { length items.now < count_end }
         ensures ok { OnOk result (WritesSteps (spell.step (spell.number (2 * length items.now + 1)) ∷ spell.step (spell.flag fixed) ∷ spell.step (spell.raw (spell.four_bytes items.now)) ∷ []) self.old self.new) }
         ensures kept { Keeps self.old self.new }
         ensures tables { self.new.tables ≡ self.old.tables }
@@ -101,7 +102,7 @@ impl Output {
 
     /// A vector of doubles (3.15).
     pub(crate) fn doubles(&mut self, fixed: bool, items: &[Pattern]) -> Result<(), Memory>
-        requires { length items.now < 2 ^ 28 }
+        requires { length items.now < count_end }
         ensures ok { OnOk result (WritesSteps (spell.step (spell.number (2 * length (map (λ p. p.0) items.now) + 1)) ∷ spell.step (spell.flag fixed) ∷ spell.step (spell.raw (spell.eight_bytes (map (λ p. p.0) items.now))) ∷ []) self.old self.new) }
         ensures kept { Keeps self.old self.new }
         ensures tables { self.new.tables ≡ self.old.tables }

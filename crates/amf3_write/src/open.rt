@@ -1,13 +1,14 @@
-ghost use Rattle.std.specs.Prelude.{◌≡◌, ◌+◌, ◌<◌, ◌≤◌, ◌^◌, [], ◌++◌, length, OnOk};
+ghost use Rattle.std.specs.Prelude.{◌≡◌, ◌+◌, ◌<◌, ◌≤◌, [], ◌++◌, length, OnOk};
 ghost use Rattle.amf_graph.specs.Arena.{traits_at};
 ghost use Rattle.amf_graph.specs.ByName.{by_name};
 ghost use Rattle.amf_graph.specs.Graph as graph_of_values;
 ghost use Rattle.amf_graph.specs.Graph.{node_at};
 ghost use Rattle.amf_graph.specs.Rooted.{content};
+ghost use Rattle.amf_graph.specs.Bounds.{count_end};
 ghost use Rattle.amf3_spelling.specs.ByteSpelling as spell;
 ghost use Rattle.amf_iso.specs.Contents.{values_of, pairs_of, AreValues, ArePairs};
 ghost use Rattle.amf3_write.specs.Contents.{node_parts};
-ghost use Rattle.amf3_write.specs.Unwritten.{AreRunsOf, parts_left, turns_left};
+ghost use Rattle.amf3_write.specs.Unwritten.{AreRunsOf, parts_left, turns_left, node_turns};
 ghost use Rattle.amf3_write.specs.Writes.{Leads, Keeps, IsReady};
 
 use crate::output::Output;
@@ -33,7 +34,7 @@ impl Output {
         requires ready { IsReady graph.now.arena self.old.tables self.old.known }
         ensures leads { OnOk result (Leads (content graph.now) (node_parts (node_at (content graph.now) node.0) ++ parts_left graph.now.arena waiting.old.items) (parts_left graph.now.arena waiting.new.items) self.old self.new) }
         ensures runs { OnOk result (AreRunsOf graph.now.arena waiting.new.items) }
-        ensures turns { OnOk result (turns_left waiting.new.items ≤ turns_left waiting.old.items + 2 ^ 30) }
+        ensures turns { OnOk result (turns_left waiting.new.items ≤ turns_left waiting.old.items + node_turns) }
         ensures kept { Keeps self.old self.new }
         ensures ready { OnOk result (IsReady graph.now.arena self.new.tables self.new.known) }
     {
@@ -78,7 +79,7 @@ impl Output {
         waiting: &mut Vec<Unwritten<'g>>,
     ) -> Result<(), Memory>
         requires values { AreValues graph.now.arena items.now }
-        requires few { length items.now < 2 ^ 28 }
+        requires few { length items.now < count_end }
         requires pairs { ArePairs graph.now.arena names.now }
         requires runs { AreRunsOf graph.now.arena waiting.old.items }
         requires ready { IsReady graph.now.arena self.old.tables self.old.known }

@@ -1,6 +1,8 @@
-ghost use Rattle.std.specs.Prelude.{◌≡◌, ◌≢◌, ◌<◌, ◌^◌, [], length, take, true, false, OnOk, OnErr, IfOk, IfSome, IfNone};
+ghost use Rattle.std.specs.Prelude.{◌≡◌, ◌≢◌, ◌<◌, [], length, take, true, false, OnOk, OnErr, IfOk, IfSome, IfNone};
 ghost use Rattle.amf_graph.specs.Arena.{Arena};
 ghost use Rattle.amf_wire.specs.Text.{IsText};
+ghost use Rattle.amf_graph.specs.Bounds.{count_end};
+ghost use Rattle.amf_wire.specs.U29.{u29_end};
 ghost use Rattle.amf_tables.specs.FirstPlace.{IsFirstPlace};
 ghost use Rattle.amf3_spelling.specs.Markers3.{marker_byte};
 ghost use Rattle.amf3_spelling.specs.Words3.{NoPlaceBelow};
@@ -82,7 +84,7 @@ impl Output {
 
     /// A number of 29 bits, in the fewest bytes (1.3.1).
     pub(crate) fn number(&mut self, number: u32) -> Result<(), Memory>
-        requires { number < 2 ^ 29 }
+        requires { number < u29_end }
         ensures ok { OnOk result (WritesStep (spell.number number) self.old self.new) }
         ensures kept { Keeps self.old self.new }
         ensures tables { self.new.tables ≡ self.old.tables }
@@ -147,7 +149,7 @@ impl Output {
     /// A text: by its place, or inline where no header can name it. The empty text has no place (1.3.2).
     pub(crate) fn text(&mut self, text: &[u8]) -> Result<(), Memory>
         requires is_text { IsText text.now }
-        requires short { length text.now < 2 ^ 28 }
+        requires short { length text.now < count_end }
         ensures ok { OnOk result (WritesStep (spell.word text.now) self.old self.new) }
         ensures kept { Keeps self.old self.new }
         ensures ready { (a : Arena) → IsReady a self.old.tables self.old.known → IsReady a self.new.tables self.new.known }
@@ -164,7 +166,7 @@ impl Output {
     /// A text that stands at this place first: by its place, or inline where no header can name it.
     pub(crate) fn text_at(&mut self, place: u32, text: &[u8]) -> Result<(), Memory>
         requires is_text { IsText text.now }
-        requires short { length text.now < 2 ^ 28 }
+        requires short { length text.now < count_end }
         requires not_empty { text.now ≢ [] }
         requires first { IsFirstPlace self.old.tables.words.texts text.now place }
         ensures ok { OnOk result (WritesStep (spell.word text.now) self.old self.new) }
@@ -179,7 +181,7 @@ impl Output {
 
     fn text_inline(&mut self, text: &[u8]) -> Result<(), Memory>
         requires is_text { IsText text.now }
-        requires short { length text.now < 2 ^ 28 }
+        requires short { length text.now < count_end }
         requires not_empty { text.now ≢ [] }
         requires unnamed { NoPlaceBelow NAMEABLE_TEXTS self.old.tables.words.texts text.now }
         ensures ok { OnOk result (WritesStep (spell.word text.now) self.old self.new) }

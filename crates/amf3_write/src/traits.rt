@@ -1,6 +1,7 @@
-ghost use Rattle.std.specs.Prelude.{◌≡◌, ◌<◌, ◌^◌, length, IfOk, OnOk, IfSome, IfNone};
+ghost use Rattle.std.specs.Prelude.{◌≡◌, ◌<◌, length, IfOk, OnOk, IfSome, IfNone};
 ghost use Rattle.amf_wire.specs.Text.{IsText};
 ghost use Rattle.amf_graph.specs.Arena.{Arena, IsTextId, text_at};
+ghost use Rattle.amf_graph.specs.Bounds.{sealed_end};
 ghost use Rattle.amf_tables.specs.FirstPlace.{IsFirstPlace};
 ghost use Rattle.amf_tables.specs.ShownTraits.{AreTextIds, AreTraitsOf, shown_entry, texts_at};
 ghost use Rattle.amf_tables.specs.KnownWords.{entry_at};
@@ -102,7 +103,7 @@ impl Output {
 
     fn traits_inline(&mut self, traits: &TraitsView<'_>, graph: &Rooted) -> Result<(), Memory>
         requires shown { AreTraitsOf graph.now.arena traits.now }
-        requires few { length traits.now.sealed.now < 2 ^ 25 }
+        requires few { length traits.now.sealed.now < sealed_end }
         requires ready { IsReady graph.now.arena self.old.tables self.old.known }
         requires unnamed { NoPlaceBelow NAMEABLE_TRAITS self.old.tables.words.traits (shown_entry graph.now.arena traits.now) }
         ensures ok { OnOk result (WritesStep (spell.traits (shown_entry graph.now.arena traits.now)) self.old self.new) }

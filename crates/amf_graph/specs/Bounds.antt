@@ -1,7 +1,19 @@
 -- How large a graph is, and how large it may be: what the headers of AMF 3 have room for (1.3.1, 3.12).
-use Rattle.std.specs.Prelude.{ℕ, ◌+◌, ◌*◌, ◌/◌, ◌<◌, length, sum_by}
+use Rattle.std.specs.Prelude.{ℕ, ◌+◌, ◌*◌, ◌/◌, ◌^◌, ◌<◌, length, sum_by}
 use Rattle.std.specs.List.{AllByRecursion}
 use Rattle.amf_graph.specs.Arena.{StoredHead, bytes, ints, uints, doubles, dictionary, StoredNode, Arena}
+
+-- numbers of texts and nodes, of bytes of a text, and of the items, names and parts of a node together are below it
+abbrev pub count_end : ℕ
+count_end = 2 ^ 28
+
+-- numbers of traits
+abbrev pub traits_end : ℕ
+traits_end = 2 ^ 27
+
+-- numbers of sealed names of one class
+abbrev pub sealed_end : ℕ
+sealed_end = 2 ^ 25
 
 -- the bytes and items that are kept in a node itself, as many as they are
 abbrev pub items_of : StoredHead → ℕ
@@ -17,14 +29,14 @@ parts_of (dictionary f) n = n / 2
 parts_of _ n = n
 
 pub record NodeWithin (n : StoredNode) : Type 0 where
-  pub together : items_of n.head + length n.names + parts_of n.head (length n.values) < 268435456
+  pub together : items_of n.head + length n.names + parts_of n.head (length n.values) < count_end
 
 pub record IsWithinBounds (a : Arena) : Type 0 where
-  pub few_texts : length a.texts < 268435456
-  pub few_traits : length a.traits < 134217728
-  pub few_nodes : length a.nodes < 268435456
-  pub texts : AllByRecursion (λ x. length x < 268435456) a.texts
-  pub traits : AllByRecursion (λ t. length t.sealed < 33554432) a.traits
+  pub few_texts : length a.texts < count_end
+  pub few_traits : length a.traits < traits_end
+  pub few_nodes : length a.nodes < count_end
+  pub texts : AllByRecursion (λ x. length x < count_end) a.texts
+  pub traits : AllByRecursion (λ t. length t.sealed < sealed_end) a.traits
   pub nodes : AllByRecursion NodeWithin a.nodes
 
 -- the bytes that are kept in a node itself: one for a byte, four for an int, eight for a Number

@@ -1,11 +1,12 @@
 -- Numbers that are gathered, each once and with its place. A device of proofs.
-use Rattle.std.specs.Prelude.{◌≡◌, ℕ, ◌<◌, ◌^◌, nat_lt, if◌then◌else◌, List, [], ◌∷◌, ◌++◌, length, map, get_or, slice_get, Option, Some}
+use Rattle.std.specs.Prelude.{◌≡◌, ℕ, ◌<◌, nat_lt, if◌then◌else◌, List, [], ◌∷◌, ◌++◌, length, map, get_or, slice_get, Option, Some}
 use Rattle.std.specs.List.{AllByRecursion, flat_map}
 use Rattle.amf_graph.specs.declared.value.Value.{Value as Stored}
 use Rattle.amf_graph.specs.declared.value.Value.TheVariants.{Text, Node as NodeRef}
 use Rattle.amf_graph.specs.Arena.{Arena, StoredTraits, StoredHead, xml_document, object, xml, values, StoredNode, no_traits}
 use Rattle.amf_graph.specs.Building.{stored_at}
 use Rattle.amf_graph.specs.Renumbered.{place_of}
+use Rattle.amf_graph.specs.Bounds.{count_end}
 
 -- numbers below a count, in the order in which they came
 pub record Placed : Type 0 where
@@ -14,7 +15,7 @@ pub record Placed : Type 0 where
 
 -- each number that came has its place, and no other has one
 pub record ArePlaces (items : List ℕ) (places : List (Option ℕ)) : Type 0 where
-  pub few : length places < 2 ^ 28
+  pub few : length places < count_end
   pub placed : (k i : ℕ) → slice_get items k ≡ Some i → slice_get places i ≡ Some (Some k)
   pub back : (k i : ℕ) → slice_get places i ≡ Some (Some k) → slice_get items k ≡ Some i
 

@@ -3,10 +3,11 @@ use Rattle.std.specs.Prelude.{ℕ, ◌/◌, ◌<◌, List, length}
 use Rattle.std.specs.List.{AllByRecursion}
 use Rattle.amf_graph.specs.Graph.{text, Value, leaf, Head, xml_document, object, xml, bytes, ints, uints, doubles, values, dictionary, Node, Graph, node_at}
 use Rattle.amf_graph.specs.Reached.{Reached, IsReachedValue}
+use Rattle.amf_graph.specs.Bounds.{count_end, sealed_end}
 
--- fewer than 2^28
+-- as few as headers have room for
 abbrev pub IsFew : ℕ → Type 0
-IsFew n = n < 268435456
+IsFew n = n < count_end
 
 abbrev pub IsShort : List ℕ → Type 0
 IsShort x = IsFew (length x)
@@ -17,7 +18,7 @@ IsSmallValue _ = Unit {0}
 
 abbrev pub IsSmallHead : Head → Type 0
 IsSmallHead (xml_document x) = IsShort x
-IsSmallHead (object t) = IsShort t.class × AllByRecursion IsShort t.sealed × (length t.sealed < 33554432)
+IsSmallHead (object t) = IsShort t.class × AllByRecursion IsShort t.sealed × (length t.sealed < sealed_end)
 IsSmallHead (xml x) = IsShort x
 IsSmallHead (bytes x) = IsShort x
 IsSmallHead (ints f ns) = IsFew (length ns)

@@ -1,6 +1,6 @@
-ghost use Rattle.std.specs.Prelude.{◌≡◌, ◌+◌, ◌^◌, ◌<◌, [], ◌∷◌, ◌++◌, length, IfOk, OnOk, OnErr};
+ghost use Rattle.std.specs.Prelude.{◌≡◌, ◌+◌, ◌<◌, [], ◌∷◌, ◌++◌, length, IfOk, OnOk, OnErr};
 ghost use Rattle.std.specs.List.{AllByRecursion};
-ghost use Rattle.amf_graph.specs.Bounds.{parts_of, items_of};
+ghost use Rattle.amf_graph.specs.Bounds.{parts_of, items_of, count_end};
 ghost use Rattle.amf_graph.specs.Building.{kind_of, shape_head};
 ghost use Rattle.amf_graph.specs.Bodies.{body_head, body_names, body_values, TakesItem, TakesName, TakesEntry};
 ghost use Rattle.amf_graph.specs.Renumbered.{renumbered_names, renumbered_values, number_in, HasNumber};
@@ -83,7 +83,7 @@ impl Body {
 
     /// How many items, names and parts it has together.
     pub(crate) fn size(&self) -> usize
-        requires { items_of (body_head self.now) + length (body_names self.now) + parts_of (body_head self.now) (length (body_values self.now)) < 2 ^ 28 }
+        requires { items_of (body_head self.now) + length (body_names self.now) + parts_of (body_head self.now) (length (body_values self.now)) < count_end }
         ensures { result ≡ items_of (body_head self.now) + length (body_names self.now) + parts_of (body_head self.now) (length (body_values self.now)) }
     {
         match self {

@@ -1,6 +1,6 @@
 //! Copies of texts, traits and nodes, under the numbers of the copies.
 
-ghost use Rattle.std.specs.Prelude.{◌≡◌, ◌+◌, ◌<◌, ◌^◌, ◌↔◌, ◌⊎◌, length, get_or, IsTrue, IfOk};
+ghost use Rattle.std.specs.Prelude.{◌≡◌, ◌+◌, ◌<◌, ◌↔◌, ◌⊎◌, length, get_or, IsTrue, IfOk};
 ghost use Rattle.std.specs.List.{AllByRecursion};
 ghost use Rattle.amf_graph.specs.Arena.{Names, no_traits};
 ghost use Rattle.amf_graph.specs.Bodies.{body_head, body_names, body_values, one_or_none};
@@ -35,14 +35,15 @@ pub(crate) struct Copying {
 }
 
 impl Model for Copying {
-    ghost use Rattle.std.specs.Prelude.{◌<◌, ◌^◌};
+    ghost use Rattle.std.specs.Prelude.{◌<◌};
+    ghost use Rattle.amf_graph.specs.Bounds.{count_end};
     ghost use Rattle.amf_graph.specs.Copying.{Plan};
 
     ghost Value = { Plan };
 
     ghost view = { λ c. record { texts = c.texts; traits = c.traits; nodes = c.nodes; first_text = c.first_text; first_traits = c.first_traits; first_node = c.first_node } };
 
-    ghost invariant = { λ c. (c.first_text < 2 ^ 28) × (c.first_traits < 2 ^ 28) × (c.first_node < 2 ^ 28) };
+    ghost invariant = { λ c. (c.first_text < count_end) × (c.first_traits < count_end) × (c.first_node < count_end) };
 }
 
 impl Copying {

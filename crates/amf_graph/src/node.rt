@@ -1,7 +1,8 @@
-ghost use Rattle.std.specs.Prelude.{◌≡◌, ◌^◌, ◌<◌, [], false, position, IfOk, OnOk, OnErr};
+ghost use Rattle.std.specs.Prelude.{◌≡◌, ◌<◌, [], false, position, IfOk, OnOk, OnErr};
 ghost use Rattle.amf_graph.specs.Building.{kind_of, leaf_head, shape_head, begun, closed, more_part, shut, size_of};
 ghost use Rattle.amf_graph.specs.Bodies.{TakesPart, body_node};
 ghost use Rattle.amf_graph.specs.Renumbered.{renumbered_node, number_in, HaveNumbers};
+ghost use Rattle.amf_graph.specs.Bounds.{count_end};
 
 use crate::body::Body;
 use crate::{Leaf, NodeKind, Part, Shape};
@@ -73,7 +74,7 @@ impl Node {
 
     /// How many items, names and parts it has together.
     pub(crate) fn size(&self) -> usize
-        requires { size_of self.now < 2 ^ 28 }
+        requires { size_of self.now < count_end }
         ensures { result ≡ size_of self.now }
     {
         self.body.size()

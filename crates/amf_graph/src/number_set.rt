@@ -1,8 +1,9 @@
-ghost use Rattle.std.specs.Prelude.{◌≡◌, ◌<◌, ◌≤◌, ◌^◌, [], length, slice_get, Some, IfOk, OnOk, OnErr};
+ghost use Rattle.std.specs.Prelude.{◌≡◌, ◌<◌, ◌≤◌, [], length, slice_get, Some, IfOk, OnOk, OnErr};
 ghost use Rattle.std.specs.List.{AllByRecursion};
 ghost use Rattle.amf_graph.specs.Order.{IsDistinct};
 ghost use Rattle.amf_graph.specs.Gather.{placed, with_all, with_entry};
 ghost use Rattle.amf_graph.specs.Renumbered.{place_of};
+ghost use Rattle.amf_graph.specs.Bounds.{count_end};
 
 use amf_wire::Memory;
 use std::alloc::Global;
@@ -30,7 +31,7 @@ impl Model for NumberSet {
 impl NumberSet {
     /// None yet. It gives up where there is no memory.
     pub(crate) fn new(alloc: Global, count: u32) -> Result<NumberSet, Memory>
-        requires { count < 2 ^ 28 }
+        requires { count < count_end }
         ensures { IfOk result (λ p. p ≡ placed count []) }
     {
         Ok(NumberSet {
@@ -58,7 +59,7 @@ impl NumberSet {
         ensures count { result ≡ length self.now.items }
         ensures few { length self.now.items ≤ self.now.count }
         ensures below { AllByRecursion (λ i. i < self.now.count) self.now.items }
-        ensures small { result < 2 ^ 28 }
+        ensures small { result < count_end }
         ensures once { IsDistinct self.now.items }
     {
         self.items.len()
@@ -88,7 +89,7 @@ impl NumberSet {
     pub(crate) fn place(&self, item: u32) -> u32
         requires { item < self.now.count }
         ensures place { result ≡ place_of self.now.items item }
-        ensures few { result < 2 ^ 28 }
+        ensures few { result < count_end }
     {
         match self.places[item as usize] {
             Some(place) => place,

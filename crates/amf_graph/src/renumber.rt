@@ -1,9 +1,10 @@
-ghost use Rattle.std.specs.Prelude.{◌≡◌, ℕ, ◌<◌, ◌^◌, length, IfOk};
+ghost use Rattle.std.specs.Prelude.{◌≡◌, ℕ, ◌<◌, length, IfOk};
 ghost use Rattle.std.specs.List.{AllByRecursion};
 ghost use Rattle.amf_graph.specs.Bodies.{one_or_none};
 ghost use Rattle.amf_graph.specs.Order.{IsDistinct};
 ghost use Rattle.amf_graph.specs.Views.{named, flat};
 ghost use Rattle.amf_graph.specs.Renumbered.{numbers_of, place_of, renumbered_value, renumbered_values, renumbered_names, number_in, HasNumber};
+ghost use Rattle.amf_graph.specs.Bounds.{count_end};
 
 use crate::{NodeId, TextId, Value};
 use amf_wire::Memory;
@@ -17,7 +18,7 @@ pub(crate) fn places_by_node(
 ) -> Result<Vec<u32>, Memory>
     requires distinct { IsDistinct (numbers_of order.now) }
     requires there { AllByRecursion (λ i. i < count) (numbers_of order.now) }
-    requires few { count < 2 ^ 28 }
+    requires few { count < count_end }
     ensures count { IfOk result (λ numbers. length numbers.items ≡ count) }
     ensures places { IfOk result (λ numbers. (i : ℕ) → i < count → number_in numbers.items i ≡ place_of (numbers_of order.now) i) }
 {

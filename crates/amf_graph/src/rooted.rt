@@ -1,8 +1,8 @@
-ghost use Rattle.std.specs.Prelude.{◌≡◌, ◌<◌, ◌^◌, false, length, get_or, IfOk};
+ghost use Rattle.std.specs.Prelude.{◌≡◌, ◌<◌, false, length, get_or, IfOk};
 ghost use Rattle.std.specs.List.{AllByRecursion};
 ghost use Rattle.amf_graph.specs.Arena.{IsFinished, Names, text_at, no_traits};
 ghost use Rattle.amf_graph.specs.Bodies.{body_node};
-ghost use Rattle.amf_graph.specs.Bounds.{IsWithinBounds};
+ghost use Rattle.amf_graph.specs.Bounds.{IsWithinBounds, count_end};
 ghost use Rattle.amf_graph.specs.Building.{stored_at, kind_of};
 ghost use Rattle.amf_graph.specs.Renumbered.{numbers_of, renumbered, IsPart};
 ghost use Rattle.amf_graph.specs.StandIns.{GraphStandsFor};
@@ -80,14 +80,14 @@ impl Rooted {
 
     pub(crate) fn text_count(&self) -> u32
         ensures count { result ≡ length self.now.arena.texts }
-        ensures few { result < 2 ^ 28 }
+        ensures few { result < count_end }
     {
         self.store.text_count() as u32
     }
 
     pub(crate) fn traits_count(&self) -> u32
         ensures count { result ≡ length self.now.arena.traits }
-        ensures few { result < 2 ^ 28 }
+        ensures few { result < count_end }
     {
         self.store.traits_count() as u32
     }

@@ -1,4 +1,4 @@
-ghost use Rattle.std.specs.Prelude.{[], ◌≡◌, ◌<◌, ◌≤◌, ◌^◌, length, map, slice_get, get_or, false, IfOk, OnOk, OnErr, IsErrOf, MatchOption, Some};
+ghost use Rattle.std.specs.Prelude.{[], ◌≡◌, ◌<◌, ◌≤◌, length, map, slice_get, get_or, false, IfOk, OnOk, OnErr, IsErrOf, MatchOption, Some};
 ghost use Rattle.std.specs.List.{AllByRecursion, AllZip};
 ghost use Rattle.amf_graph.specs.Arena.{text_at, no_traits, HeadNames, IsNodeIn, IsBuilt};
 ghost use Rattle.amf_graph.specs.Building.{no_arena, no_stored, kept_text, kept_traits, kept_node, stored_traits, stored_at, changed, more_part, shut, closed, leaf_head, kind_of, size_of, IsFirstOpen};
@@ -8,6 +8,7 @@ ghost use Rattle.amf_graph.specs.Renumbered.{numbers_of, renumbered_node, renumb
 ghost use Rattle.amf_graph.specs.HaveStandIns.{NodeHasStandIns};
 ghost use Rattle.amf_graph.specs.StandIns.{NodeStandsFor, opened_traits};
 ghost use Rattle.amf_graph.specs.Views.{Shows, ShowsTraits};
+ghost use Rattle.amf_graph.specs.Bounds.{count_end};
 
 use crate::body::Body;
 use crate::class::Class;
@@ -114,7 +115,7 @@ impl Store {
     /// How many items, names and parts the node has together.
     pub(crate) fn size(&self, node: NodeId) -> usize
         requires there { node.0 < length self.now.nodes }
-        requires within { size_of (stored_at self.now node.0) < 2 ^ 28 }
+        requires within { size_of (stored_at self.now node.0) < count_end }
         ensures { result ≡ size_of (stored_at self.now node.0) }
     {
         self.nodes[node.0 as usize].size()

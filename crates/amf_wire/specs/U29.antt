@@ -1,6 +1,10 @@
 -- Unsigned integers of 29 bits in one to four bytes (AMF 3, 1.3.1).
-use Rattle.std.specs.Prelude.{◌≡◌, ℕ, zero, suc, ◌+◌, ◌-◌, ◌*◌, ◌<◌, ◌≤◌, List, [], ◌∷◌, length, Option, Some, None, nat_lt, if◌then◌else◌, slice_index}
+use Rattle.std.specs.Prelude.{◌≡◌, ℕ, zero, suc, ◌+◌, ◌-◌, ◌*◌, ◌^◌, ◌<◌, ◌≤◌, List, [], ◌∷◌, length, Option, Some, None, nat_lt, if◌then◌else◌, slice_index}
 use Rattle.amf_wire.specs.Style.{Style, Only}
+
+-- the numbers of 29 bits are below it
+abbrev pub u29_end : ℕ
+u29_end = 2 ^ 29
 
 -- seven bits in each byte, the top bit set where another byte follows; a fourth byte has eight bits
 pub data SpellsU29 (n : ℕ) (bytes : List ℕ) : Type 0 where

@@ -1,4 +1,5 @@
 ghost use Rattle.std.specs.Prelude.{◌≡◌, ℕ, ◌<◌, SomeIff};
+ghost use Rattle.amf_wire.specs.U29.{u29_end};
 
 use std::marker::Model;
 
@@ -13,7 +14,7 @@ impl Model for U29 {
 
     ghost view = { λ n. n.value };
 
-    ghost invariant = { λ n. n.value < 536870912 };
+    ghost invariant = { λ n. n.value < u29_end };
 
     ghost inverse = { λ n. record { value = n } };
 }
@@ -21,7 +22,7 @@ impl Model for U29 {
 impl U29 {
     /// The number `n`, or `None` exactly from 2^29.
     pub fn new(n: u32) -> Option<U29>
-        ensures { SomeIff result (n < 536870912) n }
+        ensures { SomeIff result (n < u29_end) n }
     {
         if n < 1 << 29 {
             Some(U29 { value: n })
@@ -33,7 +34,7 @@ impl U29 {
     /// The number, which is below 2^29.
     pub fn get(self) -> u32
         ensures value { result ≡ self }
-        ensures in_bits { result < 536870912 }
+        ensures in_bits { result < u29_end }
     {
         self.value
     }

@@ -1,6 +1,6 @@
 ghost use Rattle.std.specs.Prelude.{◌≡◌, ◌+◌, ◌*◌, ◌<◌, ◌≤◌, ◌↔◌, IsTrue};
 ghost use Rattle.amf_wire.specs.U29Answer.{IsU29Read};
-ghost use Rattle.amf_wire.specs.U29.{IsShortU29};
+ghost use Rattle.amf_wire.specs.U29.{IsShortU29, u29_end};
 
 use crate::u29::U29;
 
@@ -54,7 +54,7 @@ fn is_last(byte: u8) -> bool
 }
 
 fn whole(value: u32, used: u8) -> U29Read
-    requires { value < 536870912 }
+    requires { value < u29_end }
     ensures { result ≡ U29Read.Whole value used }
 {
     match U29::new(value) {
