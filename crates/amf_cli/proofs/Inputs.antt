@@ -24,7 +24,7 @@ use Rattle.amf3_spelling.specs.Reads3.{Grows, IsRead3, IsReading3, IsValue3}
 use Rattle.amf3_layout.proofs.Values3Layout.{no_arena_built, values3_is_layout}
 use Rattle.amf3_layout.specs.Layout3State.{no_state}
 use Rattle.amf3_layout.specs.Layout3.{value_layout}
-use Rattle.amf3_read.specs.Answer.{IsTaken, IsInterrupted, AnswersAs, AnswersOf}
+use Rattle.amf3_read.specs.Answer.{IsTaken, IsInterrupted, Answers3, AnswersOf, stretch}
 use Rattle.amf0_tables.specs.KeptTables0.{KeptTables0, no_kept_tables0, tables0_of}
 use Rattle.amf0_tables.specs.Reads0.{IsReading0}
 use Rattle.amf0_read.specs.Answer0.{IsReadWith}
@@ -84,42 +84,42 @@ taken_whole at end next behind ahead rest limit bound z l b total past within = 
 
 -- what is answered, from nothing up to the most
 pub from_nothing : (told : Type 0) (a b : Arena) (t u : KeptTables) (input rest : List ℕ) (at place limit : ℕ) (r : Result Value ReadEnd) → a ≡ no_arena → t ≡ no_kept_tables → limit ≡ most
-    → AnswersAs told a b t u input rest at place limit r → AnswersAs told no_arena b no_kept_tables u input rest at place most r
+    → Answers3 a b t u (stretch told input rest at place limit) r → Answers3 no_arena b no_kept_tables u (stretch told input rest at place most) r
 from_nothing told a b t u input rest at place limit r e h m w =
-    subst (λ x. AnswersAs told x b no_kept_tables u input rest at place most r) e
-    (subst (λ x. AnswersAs told a b x u input rest at place most r) h
-    (subst (λ x. AnswersAs told a b t u input rest at place x r) m w))
+    subst (λ x. Answers3 x b no_kept_tables u (stretch told input rest at place most) r) e
+    (subst (λ x. Answers3 a b x u (stretch told input rest at place most) r) h
+    (subst (λ x. Answers3 a b t u (stretch told input rest at place x) r) m w))
 
 -- what was read from nothing: all nodes of it are new, and closed
 
 pub all_closed : (b : Arena) → Grows no_arena b → AllByRecursion (λ n. n.is_open ≡ false) b.nodes
 all_closed b g = subst (λ ns. AllByRecursion (λ n. n.is_open ≡ false) ns) (sym g.nodes) g.closed
 
-pub one_read : (told : Type 0) (b : Arena) (u : KeptTables) (v : Value) (input rest : List ℕ) (at place : ℕ) → IsTaken told (λ fs. IsRead3 no_arena no_kept_tables fs b u v) (IsReading3 no_arena no_kept_tables) input rest at place most → IsReadOne Amf3 told (value (graph_of b v)) input rest at place
+pub one_read : (told : Type 0) (b : Arena) (u : KeptTables) (v : Value) (input rest : List ℕ) (at place : ℕ) → IsTaken (λ fs. IsRead3 no_arena no_kept_tables fs b u v) (IsReading3 no_arena no_kept_tables) (stretch told input rest at place most) → IsReadOne Amf3 told (value (graph_of b v)) input rest at place
 one_read told b u v input rest at place r =
     let finished : IsFinished b = record { built = r.read.built no_arena_built; closed = all_closed b r.read.grows } in
     record { fields = r.fields; read = (tables_of b u, r.read.spelled b (completes_itself b finished)); accepted = r.accepted; parts = r.parts; taken = r.taken; within = r.within }
 
-pub one_ends : (told : Type 0) (b : Arena) (u : KeptTables) (input rest : List ℕ) (at place : ℕ) (e : ReadEnd) → AnswersAs told no_arena b no_kept_tables u input rest at place most (Err e) → AnswersOne of_value Amf3 told input rest at place (Err e)
+pub one_ends : (told : Type 0) (b : Arena) (u : KeptTables) (input rest : List ℕ) (at place : ℕ) (e : ReadEnd) → Answers3 no_arena b no_kept_tables u (stretch told input rest at place most) (Err e) → AnswersOne of_value Amf3 told input rest at place (Err e)
 one_ends told b u input rest at place (Refused f) h = h
 one_ends told b u input rest at place ReadFault h = h
 one_ends told b u input rest at place Memory h = tt
 
 -- the same of AMF 0
 pub from_nothing0 : (told : Type 0) (a b : Arena) (t u : KeptTables0) (input rest : List ℕ) (at place limit : ℕ) (r : Result Read0 ReadEnd) → a ≡ no_arena → t ≡ no_kept_tables0 → limit ≡ most
-    → AnswersOf (λ x fs. IsReadWith a t fs b u x) (IsReading0 a t) told input rest at place limit r → AnswersOf (λ x fs. IsReadWith no_arena no_kept_tables0 fs b u x) (IsReading0 no_arena no_kept_tables0) told input rest at place most r
+    → AnswersOf (λ x fs. IsReadWith a t fs b u x) (IsReading0 a t) (stretch told input rest at place limit) r → AnswersOf (λ x fs. IsReadWith no_arena no_kept_tables0 fs b u x) (IsReading0 no_arena no_kept_tables0) (stretch told input rest at place most) r
 from_nothing0 told a b t u input rest at place limit r e h m w =
-    subst (λ x. AnswersOf (λ y fs. IsReadWith x no_kept_tables0 fs b u y) (IsReading0 x no_kept_tables0) told input rest at place most r) e
-    (subst (λ x. AnswersOf (λ y fs. IsReadWith a x fs b u y) (IsReading0 a x) told input rest at place most r) h
-    (subst (λ x. AnswersOf (λ y fs. IsReadWith a t fs b u y) (IsReading0 a t) told input rest at place x r) m w))
+    subst (λ x. AnswersOf (λ y fs. IsReadWith x no_kept_tables0 fs b u y) (IsReading0 x no_kept_tables0) (stretch told input rest at place most) r) e
+    (subst (λ x. AnswersOf (λ y fs. IsReadWith a x fs b u y) (IsReading0 a x) (stretch told input rest at place most) r) h
+    (subst (λ x. AnswersOf (λ y fs. IsReadWith a t fs b u y) (IsReading0 a t) (stretch told input rest at place x) r) m w))
 
-pub one_read0 : (told : Type 0) (b : Arena) (u : KeptTables0) (x : Read0) (input rest : List ℕ) (at place : ℕ) → IsTaken told (λ fs. IsReadWith no_arena no_kept_tables0 fs b u x) (IsReading0 no_arena no_kept_tables0) input rest at place most → IsReadOne Amf0 told (value (graph_of b x.value)) input rest at place
+pub one_read0 : (told : Type 0) (b : Arena) (u : KeptTables0) (x : Read0) (input rest : List ℕ) (at place : ℕ) → IsTaken (λ fs. IsReadWith no_arena no_kept_tables0 fs b u x) (IsReading0 no_arena no_kept_tables0) (stretch told input rest at place most) → IsReadOne Amf0 told (value (graph_of b x.value)) input rest at place
 one_read0 told b u x input rest at place r =
     let read = r.read.read in
     let finished : IsFinished b = record { built = read.built no_arena_built; closed = all_closed b read.grows } in
     record { fields = r.fields; read = (tables0_of b u, read.spelled b (completes_itself b finished)); accepted = r.accepted; parts = r.parts; taken = r.taken; within = r.within }
 
-pub one_ends0 : (told : Type 0) (b : Arena) (u : KeptTables0) (input rest : List ℕ) (at place : ℕ) (e : ReadEnd) → AnswersOf (λ x fs. IsReadWith no_arena no_kept_tables0 fs b u x) (IsReading0 no_arena no_kept_tables0) told input rest at place most (Err e) → AnswersOne of_value Amf0 told input rest at place (Err e)
+pub one_ends0 : (told : Type 0) (b : Arena) (u : KeptTables0) (input rest : List ℕ) (at place : ℕ) (e : ReadEnd) → AnswersOf (λ x fs. IsReadWith no_arena no_kept_tables0 fs b u x) (IsReading0 no_arena no_kept_tables0) (stretch told input rest at place most) (Err e) → AnswersOne of_value Amf0 told input rest at place (Err e)
 one_ends0 told b u input rest at place (Refused f) h = h
 one_ends0 told b u input rest at place ReadFault h = h
 one_ends0 told b u input rest at place Memory h = tt
@@ -304,8 +304,8 @@ goes_mapped view tells left faults old new (Ok x) g = record { told = g.told; sa
 goes_mapped view tells left faults old new (Err e) g = record { told = g.told; same_source = g.same_source; same_bound = g.same_bound; one_past = g.one_past; cause = g.cause; none_ahead = g.none_ahead; total = g.total }
 
 -- a packet, up to the most
-pub packet_answers : (told : Type 0) (input rest : List ℕ) (at place limit : ℕ) (r : Result KeptPacket ReadEnd) → limit ≡ most → AnswersOf (λ p fs. SpellsPacket free (packet_of p) fs) IsPacketReading told input rest at place limit r → AnswersOne (λ p. packet (packet_of p)) Packet told input rest at place r
-packet_answers told input rest at place limit (Ok x) m h = subst (λ n. IsTaken told (SpellsPacket free (packet_of x)) IsPacketReading input rest at place n) m h
+pub packet_answers : (told : Type 0) (input rest : List ℕ) (at place limit : ℕ) (r : Result KeptPacket ReadEnd) → limit ≡ most → AnswersOf (λ p fs. SpellsPacket free (packet_of p) fs) IsPacketReading (stretch told input rest at place limit) r → AnswersOne (λ p. packet (packet_of p)) Packet told input rest at place r
+packet_answers told input rest at place limit (Ok x) m h = subst (λ n. IsTaken (SpellsPacket free (packet_of x)) IsPacketReading (stretch told input rest at place n)) m h
 packet_answers told input rest at place limit (Err (Refused f)) m h = subst (λ n. told → IsRefused IsPacketReading at n input f.reason f.at) m h
 packet_answers told input rest at place limit (Err ReadFault) m h = subst (λ n. told → IsInterrupted IsPacketReading input rest at n) m h
 packet_answers told input rest at place limit (Err Memory) m h = tt

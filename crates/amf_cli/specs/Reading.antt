@@ -6,7 +6,7 @@ use Rattle.amf_io.specs.declared.reason.Reason.TheVariants.{Trailing}
 use Rattle.amf_io.specs.declared.ends.ReadEnd.{ReadEnd}
 use Rattle.amf_io.specs.declared.ends.ReadEnd.TheVariants.{Refused, ReadFault, Memory}
 use Rattle.amf_packet.specs.Packet.{Packet, SpellsPacket}
-use Rattle.amf3_read.specs.Answer.{IsTaken, AnswersOf}
+use Rattle.amf3_read.specs.Answer.{IsTaken, AnswersOf, stretch}
 use Rattle.amf_cli.specs.declared.format.Format.{Format}
 use Rattle.amf_cli.specs.Commands.{goes_to}
 use Rattle.amf_cli.specs.Content.{Content}
@@ -15,11 +15,11 @@ use Rattle.amf_cli.specs.Input.{most}
 
 -- a content was read from nothing, by fields which are the front of what was left where the source tells
 abbrev pub IsReadOne : Format → Type 0 → Content → List ℕ → List ℕ → ℕ → ℕ → Type 0
-IsReadOne f told c input rest at place = IsTaken told (IsSpelling f free c) (IsContent f) input rest at place most
+IsReadOne f told c input rest at place = IsTaken (IsSpelling f free c) (IsContent f) (stretch told input rest at place most)
 
 -- how the reader of one content ends, where view tells which it is
 abbrev pub AnswersOne : {X : Type 0} → (X → Content) → Format → Type 0 → List ℕ → List ℕ → ℕ → ℕ → Result X ReadEnd → Type 0
-AnswersOne view f told input rest at place result = AnswersOf (λ x. IsSpelling f free (view x)) (IsContent f) told input rest at place most result
+AnswersOne view f told input rest at place result = AnswersOf (λ x. IsSpelling f free (view x)) (IsContent f) (stretch told input rest at place most) result
 
 -- what was read, as something else
 abbrev pub mapped : {X Y : Type 0} → (X → Y) → Result X ReadEnd → Result Y ReadEnd

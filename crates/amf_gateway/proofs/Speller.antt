@@ -18,7 +18,7 @@ use Rattle.amf_graph.specs.Order.{Absent}
 use Rattle.amf3_spelling.specs.Tables.{Entry, plain, external, Words, add_text, add_entry, Tables, no_tables, with_words, add_node}
 use Rattle.amf3_spelling.specs.Then.{Spelling, Then}
 use Rattle.amf3_spelling.specs.Refusals3.{marker, text_header_kind}
-use Rattle.amf3_spelling.specs.Words3.{Text, Texts, whole, IsUnnamed, TraitsBy, given, named, EntryTexts}
+use Rattle.amf3_spelling.specs.Words3.{Text, Texts, whole, NoPlaceBelow, TraitsBy, given, placed, EntryTexts}
 use Rattle.amf3_spelling.specs.Parts3.{Part, word, value, Lifted, Parts, layout}
 use Rattle.amf3_spelling.specs.Headers3.{HeaderBy, marker_field, header_field}
 use Rattle.amf3_spelling.specs.Spells3.{LeafBy, ValueBy, InlineIn, SpellsIn, Spelled3}
@@ -130,10 +130,10 @@ same_entry (external c) t = inr (external_no c t)
 -- Places in tables.
 
 pub data Found {A : Type 0} (xs : List A) (x : A) : Type 0 where
-  here : (k : ℕ) → slice_get xs k ≡ Some x → IsUnnamed k xs x → Found xs x
+  here : (k : ℕ) → slice_get xs k ≡ Some x → NoPlaceBelow k xs x → Found xs x
   nowhere : Absent xs x → Found xs x
 
-pub unnamed_cons : {A : Type 0} (y : A) (ys : List A) (x : A) (k : ℕ) → y ≢ x → IsUnnamed k ys x → IsUnnamed (suc k) (y ∷ ys) x
+pub unnamed_cons : {A : Type 0} (y : A) (ys : List A) (x : A) (k : ℕ) → y ≢ x → NoPlaceBelow k ys x → NoPlaceBelow (suc k) (y ∷ ys) x
 unnamed_cons y ys x k f u zero l e = f (some_is e)
   where
     some_is : Some y ≡ Some x → y ≡ x
@@ -206,7 +206,7 @@ pub record Headed (s : Style) (h : Head) (vs : List Value) (w : Words) : Type 0 
   pub built : Built (HeaderBy s h vs number) w
 
 abbrev pub traits_found : (s : Style) (t : Traits) (vs : List Value) (w : Words) → Found w.traits (plain t) → Option (Headed s (object t) vs w)
-traits_found s t vs w (here k h u) = Some (record { number = 4 * k + 1; built = record { fields = []; after = w; spelled = named k h (only s u) refl refl refl } })
+traits_found s t vs w (here k h u) = Some (record { number = 4 * k + 1; built = record { fields = []; after = w; spelled = placed k h (only s u) refl refl refl } })
 traits_found s t vs w (nowhere a) = and_then (all_words s (t.class ∷ t.sealed) w) (λ b.
     Some (record {
       number = 16 * length t.sealed + (8 * cond t.dynamic 1 0 + 3);

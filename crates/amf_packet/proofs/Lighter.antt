@@ -13,7 +13,7 @@ use Rattle.amf_graph.proofs.Lists.{at_left, at_end, at_push}
 use Rattle.amf3_spelling.specs.Tables.{Entry, plain, external, Words, Tables, add_node}
 use Rattle.amf3_spelling.specs.Then.{Spelling, Then, Plain}
 use Rattle.amf3_spelling.specs.Refusals3.{leaf_marker, marker}
-use Rattle.amf3_spelling.specs.Words3.{TextBy, empty, whole, named, Text, Texts, EntryTexts, TraitsBy, given, named as by_place}
+use Rattle.amf3_spelling.specs.Words3.{TextBy, empty, whole, placed, Text, Texts, EntryTexts, TraitsBy, given, placed as by_place}
 use Rattle.amf3_spelling.specs.Parts3.{Part, flag, four, eight, raw, chars, word, value, Fixed, Lifted, Parts, layout, values_then, pairs_then, fours, signed_fours, eights}
 use Rattle.amf3_spelling.specs.Headers3.{HeaderBy}
 use Rattle.amf3_spelling.specs.Nodes3.{Begun}
@@ -134,7 +134,7 @@ u29_field s n k h u = u29_bytes n h u.spelled
 text_by : (s : Style) (header : Kind) (kind : ℕ → Kind) (x : List ℕ) (w : Words) (fs : List Field) (w' : Words) → TextBy s header kind x w fs w' → AllBytes fs
 text_by s header kind x w fs w' (empty e h u f a) = bytes_as _ fs f (u29_field s 1 header h u, tt)
 text_by s header kind x w fs w' (whole e i o h u f a) = bytes_as _ fs f (u29_field s _ header h u, (text_bytes x i, tt))
-text_by s header kind x w fs w' (named e k i o h u f a) = bytes_as _ fs f (u29_field s _ header h u, tt)
+text_by s header kind x w fs w' (placed e k i o h u f a) = bytes_as _ fs f (u29_field s _ header h u, tt)
 
 text_of : (s : Style) (x : List ℕ) → Bytes (Text s x)
 text_of s x w fs w' z = text_by s _ _ x w fs w' z

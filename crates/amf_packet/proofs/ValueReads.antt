@@ -23,7 +23,7 @@ use Rattle.amf0_tables.specs.Layout0.{value0_layout}
 use Rattle.amf0_tables.proofs.Layout0Format.{values0_is_layout}
 use Rattle.amf0_read.specs.declared.formed.Read0.{Read0}
 use Rattle.amf0_read.specs.Answer0.{IsReadWith, Answers0}
-use Rattle.amf3_read.specs.Answer.{AnswersOf, Raises}
+use Rattle.amf3_read.specs.Answer.{AnswersOf, Raises, between}
 use Rattle.amf3_read.specs.Ready.{left_of}
 use Rattle.amf_packet.specs.declared.body.Body.{Body}
 use Rattle.amf_packet.specs.declared.body.Body.TheVariants.{Call, Amf3, Plain}
@@ -64,12 +64,12 @@ raised_weight a b g f body at end e le r is i =
 module _ {S : Type 0} (tells : S → Type 0) (left : S → List ℕ) (faults : S → ℕ) (c d : Cursor S Window) where
   -- from a builder and tables that are new
   abbrev pub Answered : Arena → KeptTables0 → Result Read0 ReadEnd → Type 0
-  Answered b u r = AnswersOf (λ x fs. IsReadWith no_arena no_kept_tables0 fs b u x) (IsReading0 no_arena no_kept_tables0) (tells (source_of c).now) (unread left c) (unread left d) (place c) (place d) (bound c) r
+  Answered b u r = AnswersOf (λ x fs. IsReadWith no_arena no_kept_tables0 fs b u x) (IsReading0 no_arena no_kept_tables0) (between tells left c d) r
 
-  pub from_new : (a b : Arena) (t u : KeptTables0) (r : Result Read0 ReadEnd) → a ≡ no_arena → t ≡ no_kept_tables0 → Answers0 tells left a b t u c d r → Answered b u r
+  pub from_new : (a b : Arena) (t u : KeptTables0) (r : Result Read0 ReadEnd) → a ≡ no_arena → t ≡ no_kept_tables0 → Answers0 a b t u (between tells left c d) r → Answered b u r
   from_new a b t u r e h w =
-      subst (λ x. AnswersOf (λ y fs. IsReadWith x no_kept_tables0 fs b u y) (IsReading0 x no_kept_tables0) (tells (source_of c).now) (unread left c) (unread left d) (place c) (place d) (bound c) r) e
-      (subst (λ x. AnswersOf (λ y fs. IsReadWith a x fs b u y) (IsReading0 a x) (tells (source_of c).now) (unread left c) (unread left d) (place c) (place d) (bound c) r) h w)
+      subst (λ x. AnswersOf (λ y fs. IsReadWith x no_kept_tables0 fs b u y) (IsReading0 x no_kept_tables0) (between tells left c d) r) e
+      (subst (λ x. AnswersOf (λ y fs. IsReadWith a x fs b u y) (IsReading0 a x) (between tells left c d) r) h w)
 
   -- what is needed of the graph
   pub names_root : (b : Arena) (u : KeptTables0) (x : Read0) → Answered b u (Ok x) → Names b x.value

@@ -17,7 +17,7 @@ use Rattle.amf_io.proofs.Paths.{flat-append, runs_run}
 use Rattle.amf_io.proofs.Readings.{read_took, read_bad, read_short, read_stuck, cut_from}
 use Rattle.amf_io.proofs.Unique.{fault_run}
 use Rattle.amf_io.proofs.Verdicts.{short_run, more_fuel, not_stuck}
-use Rattle.amf3_read.specs.Answer.{IsTaken, AnswersOf}
+use Rattle.amf3_read.specs.Answer.{IsTaken, AnswersOf, stretch}
 
 module _ {Y : Type 0} (t : ℕ → Layout Y) (P : List Field → Type 0) (g : IsLayout t P) (bytes : (fs : List Field) → P fs → AreBytes (flat fs)) where
   -- with more fuel than bytes the layout says what it says with much fuel
@@ -127,13 +127,13 @@ module _ {Y : Type 0} (t : ℕ → Layout Y) (P : List Field → Type 0) (g : Is
         inside k start rest parts place = omega (arith, place, ap length parts, length-append (flat start) rest, length-take (limit - base) l)
 
     -- what was read, with its fields
-    pub taken_done : {X : Type 0} (R : X → List Field → Type 0) (told : Type 0) (input rest : List ℕ) (place n : ℕ) (x : X) → limit - base < n → (a : IsTaken told (R x) P input rest base place limit) → (y : Y) × (d : DoneBy told (t n) y input rest base place limit) × R x d.fields
+    pub taken_done : {X : Type 0} (R : X → List Field → Type 0) (told : Type 0) (input rest : List ℕ) (place n : ℕ) (x : X) → limit - base < n → (a : IsTaken (R x) P (stretch told input rest base place limit)) → (y : Y) × (d : DoneBy told (t n) y input rest base place limit) × R x d.fields
     taken_done R told input rest place n x lt a =
         let c = g.complete n a.fields a.accepted (let p = a.taken in let w = a.within in omega arith) in
         (c.0, record { fields = a.fields; runs = c.1; bytes = bytes a.fields a.accepted; taken = a.taken; within = a.within; parts = a.parts }, a.read)
 
     -- and how it ended
-    pub ended_ends : {X : Type 0} (R : X → List Field → Type 0) (told : Type 0) (input rest : List ℕ) (place n : ℕ) → limit - base < n → (e : ReadEnd) → AnswersOf R P told input rest base place limit (Err e) → EndsBy told (t n) input rest base limit e
+    pub ended_ends : {X : Type 0} (R : X → List Field → Type 0) (told : Type 0) (input rest : List ℕ) (place n : ℕ) → limit - base < n → (e : ReadEnd) → AnswersOf R P (stretch told input rest base place limit) (Err e) → EndsBy told (t n) input rest base limit e
     ended_ends R told input rest place n lt (Refused f) a = λ s. record {
       outcome = says_read n f.at input f.reason (refused_says n f.at input f.reason lt (a s));
       bytes = refused_bytes f.at input f.reason (a s);

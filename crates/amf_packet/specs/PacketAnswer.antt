@@ -6,7 +6,7 @@ use Rattle.amf_io.specs.declared.ends.ReadEnd.{ReadEnd}
 use Rattle.amf_io.specs.Cursor.{source_of, place, bound, unread}
 use Rattle.amf_wire.specs.Style.{free}
 use Rattle.amf_graph.specs.Bounds.{weight}
-use Rattle.amf3_read.specs.Answer.{AnswersOf}
+use Rattle.amf3_read.specs.Answer.{AnswersOf, between}
 use Rattle.amf_packet.specs.declared.body.Body.{Body}
 use Rattle.amf_packet.specs.declared.body.Body.TheVariants.{Call, Amf3, Plain}
 use Rattle.amf_packet.specs.declared.packet.Header.{Header}
@@ -17,7 +17,7 @@ use Rattle.amf_packet.specs.Packet.{SpellsPacket, IsPacketReading}
 
 -- by the cursors before and behind it: the fields spell the packet; or where the source tells, a refusal which is the verdict, or a read fault
 abbrev pub AnswersPacket : {S : Type 0} → (S → Type 0) → (S → List ℕ) → Cursor S Window → Cursor S Window → Result Packet ReadEnd → Type 0
-AnswersPacket tells left c d result = AnswersOf (λ p fs. SpellsPacket free (packet_of p) fs) IsPacketReading (tells (source_of c).now) (unread left c) (unread left d) (place c) (place d) (bound c) result
+AnswersPacket tells left c d result = AnswersOf (λ p fs. SpellsPacket free (packet_of p) fs) IsPacketReading (between tells left c d) result
 
 -- how large the graph of a value is
 abbrev pub body_weight : Body → ℕ

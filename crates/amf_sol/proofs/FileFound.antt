@@ -18,7 +18,7 @@ use Rattle.amf3_spelling.specs.Refusals3.{text_header_refusal, text_header_kind}
 use Rattle.amf3_spelling.specs.Spells3.{Spells3}
 use Rattle.amf3_spelling.specs.Tables.{Words, Tables}
 use Rattle.amf3_spelling.specs.Then.{Plain}
-use Rattle.amf3_spelling.specs.Words3.{empty, whole, named, Text}
+use Rattle.amf3_spelling.specs.Words3.{empty, whole, placed, Text}
 use Rattle.amf3_spelling.proofs.Clean.{AllClean, clean_as, text_field, contents_clean, below_length}
 use Rattle.amf3_layout.proofs.Layout3Complete.{spelled_read}
 use Rattle.amf3_layout.proofs.Layout3Parts.{Like, parts_length, like_text, chunk_runs}
@@ -65,7 +65,7 @@ even_header texts k h = ap (λ b. cond b (Some BadTextIndex) None) (both_false (
 pub clean_text : (x : List ℕ) (w : Words) (fs : List Field) (w' : Words) → Text free x w fs w' → AllClean fs
 clean_text x w fs w' (empty e h u f a) = clean_as _ fs f (number_field 1 h (text_header_refusal (length w.texts)) u (odd_header (length w.texts) 0), tt)
 clean_text x w fs w' (whole e i o h u f a) = clean_as _ fs f (number_field (2 * length x + 1) h (text_header_refusal (length w.texts)) u (odd_header (length w.texts) (length x)), (text_field x i e, tt))
-clean_text x w fs w' (named e k i o h u f a) = clean_as _ fs f (number_field (2 * k) h (text_header_refusal (length w.texts)) u (even_header (length w.texts) k (below_length w.texts k x i)), tt)
+clean_text x w fs w' (placed e k i o h u f a) = clean_as _ fs f (number_field (2 * k) h (text_header_refusal (length w.texts)) u (even_header (length w.texts) k (below_length w.texts k x i)), tt)
 
 pub short_runs : (x : List ℕ) (fs : List Field) (s : State0) → Short x fs → Runs (short_layout s) fs (new_text0 s x)
 short_runs x fs s h =
