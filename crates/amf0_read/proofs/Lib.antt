@@ -1,6 +1,6 @@
 mod States0
 mod Markers
-mod TextReads0
+pub mod TextReads0
 mod Stack0
 mod GoesOn0
 mod Opened0
@@ -12,3 +12,4 @@ mod Fronts0
 mod FrontStarts0
 mod Costs0
 mod ReadAnswers0
+pub mod ValueReads0

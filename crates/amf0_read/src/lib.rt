@@ -14,4 +14,5 @@ mod text;
 mod value;
 
 pub use formed::Read0;
-pub use value::read0;
+pub use text::read_short_text;
+pub use value::{read_value0, read0};

@@ -1,9 +1,9 @@
-ghost use Rattle.std.specs.Prelude.{◌≡◌, List, ◌-◌, reverse, OnOk};
+ghost use Rattle.std.specs.Prelude.{◌≡◌, ◌<◌, ◌-◌, ℕ, false, List, reverse, OnOk};
 ghost use Rattle.amf_io.specs.Cursor.{place};
 ghost use Rattle.amf_io.specs.CursorReads.{Goes, Answers};
 ghost use Rattle.amf_io.specs.Layout.{bind};
 ghost use Rattle.amf0_tables.specs.KeptTables0.{AreTables0In};
-ghost use Rattle.amf0_tables.specs.Layout0.{read0};
+ghost use Rattle.amf0_tables.specs.Layout0.{read0, value0_layout};
 ghost use Rattle.amf0_tables.specs.Layout0State.{state0_of};
 ghost use Rattle.amf0_tables.specs.TableParts0.{shown_tables};
 ghost use Rattle.amf3_read.specs.Answer.{HasRoomFor, Raises, between};
@@ -60,6 +60,23 @@ pub fn read0<S: Source>(
     let value = read_on(alloc, cursor, builder, tables, frames, now)?;
     let form = form_of(is_call, tables.has_switched());
     Ok(Read0 { value, form })
+}
+
+/// Reads one value as [`read0`] does, for readers of formats that have it within them: what was read is told by its
+/// layout.
+pub fn read_value0<S: Source>(
+    alloc: Global,
+    cursor: &mut Cursor<'_, S>,
+    builder: &mut Builder,
+    tables: &mut Tables0,
+) -> Result<Value, ReadEnd>
+    requires { Ready0 0 builder.old (shown_tables tables.old) cursor.old }
+    ensures goes { Goes S.tells S.left S.faults cursor.old cursor.new result }
+    ensures answers { (n : ℕ) → left_of cursor.old < n → Answers S.tells S.left (λ v. read0 v (state0_of builder.new (shown_tables tables.new))) (value0_layout n false (state0_of builder.old (shown_tables tables.old))) cursor.old cursor.new result }
+    ensures kept { OnOk result (Kept0 0 0 builder.old builder.new (shown_tables tables.new) cursor.old cursor.new) }
+{
+    let Front { frames, now, .. } = read_front(alloc, cursor, builder, tables)?;
+    read_on(alloc, cursor, builder, tables, frames, now)
 }
 
 /// The form of a value that begins as a call does, or not, and with which a marker has switched to AMF 3 by then, or not.

@@ -27,6 +27,6 @@ pub use field::{FieldSize, read_field};
 pub use field_bytes::FieldBytes;
 pub use laws::{pairs_have_one_verdict, texts_have_one_verdict};
 pub use number::read_flag;
-pub use text::{read_loose_text, read3_text};
+pub use text::{read_loose_text, read_text, read3_text};
 pub use value::{read_double, read_value, read3};
 pub use values::Values3;
