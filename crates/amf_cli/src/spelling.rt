@@ -14,7 +14,7 @@ ghost use Rattle.amf_cli.specs.Reading.{GoesInto, IsPacketRead};
 use crate::content::Content;
 use crate::format::Format;
 use amf_graph::{Lack, Rooted, WriteEnd};
-use amf_packet::{Packet, PacketEnd, write_packet};
+use amf_packet::{Packet, PacketEnd, write_packet_keyed};
 use amf_packet_show::packet_has_lowering;
 use amf0_tables::lowering_is_kept;
 use amf0_write::{lower, write0};
@@ -44,7 +44,7 @@ pub fn spell(
 {
     match content {
         Content::Value(graph) => spell_value(alloc, keys, to, graph),
-        Content::Packet(packet) => spell_packet(alloc, packet),
+        Content::Packet(packet) => spell_packet(alloc, keys, packet),
     }
 }
 
@@ -85,14 +85,18 @@ fn spell_graph(
 }
 
 /// The canonical spelling of a packet that was read.
-fn spell_packet(alloc: Global, packet: &Packet) -> Result<Vec<u8>, SpellEnd>
+fn spell_packet(
+    alloc: Global,
+    keys: Option<RandomState>,
+    packet: &Packet,
+) -> Result<Vec<u8>, SpellEnd>
     requires { IsPacketRead (packet_of packet.now) }
     ensures written { IfOk result (λ bytes. IsWritten form.Packet (of_packet (packet_of packet.now)) bytes.items) }
     ensures lack { (number : ℕ) (l : Lack) → IsErrOf result (SpellEnd.NoForm number l) → IsUnwritten form.Packet (of_packet (packet_of packet.now)) number l }
 {
     packet_has_lowering(packet);
     let mut bytes = Vec::new(alloc);
-    match write_packet(alloc, packet, &mut bytes) {
+    match write_packet_keyed(alloc, keys, packet, &mut bytes) {
         Ok(()) => Ok(bytes),
         Err(PacketEnd::NoSpelling { value, lack }) => Err(SpellEnd::NoForm { value, lack }),
         Err(PacketEnd::Memory) => Err(SpellEnd::Memory),

@@ -13,6 +13,7 @@ use crate::write_parts::append_packet;
 use crate::write_texts::{first_long, is_too_many};
 use crate::{Packet, PacketEnd};
 use std::alloc::Global;
+use std::hash::RandomState;
 
 /// Appends the canonical spelling of a packet (AMF 0, 4.1 to 4.3). The version is 0, 1 or 3, and each name and URI is a text.
 /// Each value is written with fresh tables: a `Call` as the one item, in AMF 3, of a strict array, an `Amf3` in AMF 3, and a
@@ -22,7 +23,29 @@ use std::alloc::Global;
 /// exactly where there are not, and a name or URI has more than 65,535 bytes: it tells the first value with which one stands.
 /// `NoSpelling` comes only where neither is so, and tells the first value that has no spelling, and its first lack; `Memory`
 /// where there is no room for the tables or the bytes.
+///
+/// The texts of AMF 3 are looked up by fixed keys, so whoever knows them can make a packet that takes long:
+/// `write_packet_keyed` is passed others.
 pub fn write_packet(alloc: Global, packet: &Packet, out: &mut Vec<u8>) -> Result<(), PacketEnd>
+    requires version { is_version packet.now.version ≡ true }
+    requires texts { HasTexts (packet_of packet.now) }
+    ensures written { OnOk result (AppendsPacket (packet_of packet.now) out.old.items out.new.items) }
+    ensures many { IsErrOf result PacketEnd.TooMany ↔ IsTooMany (packet_of packet.now) }
+    ensures long { (value : ℕ) → IsErrOf result (PacketEnd.LongText value) ↔ ((IsTooMany (packet_of packet.now) → ⊥) × IsLongText (packet_of packet.now) value) }
+    ensures lack { (value : ℕ) (l : Lack) → IsErrOf result (PacketEnd.NoSpelling value l) → (IsTooMany (packet_of packet.now) → ⊥) × ((v : ℕ) → IsLongText (packet_of packet.now) v → ⊥) × IsPacketLack (packet_of packet.now) value l.node l.kind }
+    ensures kept { OnErr result (out.new.items ≡ out.old.items) }
+{
+    write_packet_keyed(alloc, None, packet, out)
+}
+
+/// Does what `write_packet` does, with tables that are looked up by these keys, or by fixed ones where there are none. What is
+/// written is the same for all keys.
+pub fn write_packet_keyed(
+    alloc: Global,
+    keys: Option<RandomState>,
+    packet: &Packet,
+    out: &mut Vec<u8>,
+) -> Result<(), PacketEnd>
     requires version { is_version packet.now.version ≡ true }
     requires texts { HasTexts (packet_of packet.now) }
     ensures written { OnOk result (AppendsPacket (packet_of packet.now) out.old.items out.new.items) }
@@ -36,12 +59,17 @@ pub fn write_packet(alloc: Global, packet: &Packet, out: &mut Vec<u8>) -> Result
     }
     match first_long(packet) {
         Some(value) => Err(PacketEnd::LongText(value)),
-        None => append_whole(alloc, packet, out),
+        None => append_whole(alloc, keys, packet, out),
     }
 }
 
 /// Appends a packet whose counts and texts fit their fields. After an end `out` is as before.
-fn append_whole(alloc: Global, packet: &Packet, out: &mut Vec<u8>) -> Result<(), PacketEnd>
+fn append_whole(
+    alloc: Global,
+    keys: Option<RandomState>,
+    packet: &Packet,
+    out: &mut Vec<u8>,
+) -> Result<(), PacketEnd>
     requires version { is_version packet.now.version ≡ true }
     requires headers { length packet.now.headers < 2 ^ 16 }
     requires messages { length packet.now.messages < 2 ^ 16 }
@@ -50,7 +78,7 @@ fn append_whole(alloc: Global, packet: &Packet, out: &mut Vec<u8>) -> Result<(),
     ensures kept { OnErr result (out.new.items ≡ out.old.items) }
 {
     let start = out.len();
-    match append_packet(alloc, packet, out) {
+    match append_packet(alloc, keys, packet, out) {
         Ok(()) => Ok(()),
         Err(end) => {
             out.truncate(start);

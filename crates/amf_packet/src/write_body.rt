@@ -13,30 +13,41 @@ use crate::{Body, PacketEnd};
 use amf_graph::{Rooted, WriteEnd};
 use amf0_tables::lowering_is_kept;
 use amf0_write::{lower, write0};
-use amf3_write::write3;
+use amf3_write::write3_keyed;
 use std::alloc::Global;
+use std::hash::RandomState;
 
 /// The bytes before the item of a call: a strict array of one item, and the marker of AMF 3 (AMF 0, 2.12 and 3.1).
 const CALL: [u8; 6] = [0x0A, 0x00, 0x00, 0x00, 0x01, 0x11];
 
 /// Appends the item of a call.
-fn append_call(alloc: Global, graph: &Rooted, out: &mut Vec<u8>) -> Result<(), WriteEnd>
+fn append_call(
+    alloc: Global,
+    keys: Option<RandomState>,
+    graph: &Rooted,
+    out: &mut Vec<u8>,
+) -> Result<(), WriteEnd>
     ensures written { OnOk result (Appends (BodyBy canonical form.Call (content graph.now)) out.old.items out.new.items) }
     ensures lack { (l : Lack) → IsErrOf result (WriteEnd.NoSpelling l) → IsBodyLack form.Call (content graph.now) l.node l.kind }
     ensures grows { Grows out.old.items out.new.items }
 {
     out.extend_from_slice(&CALL)?;
-    write3(alloc, graph, out)
+    write3_keyed(alloc, keys, graph, out)
 }
 
 /// Appends a value behind the marker of AMF 3 (AMF 0, 3.1).
-fn append_amf3(alloc: Global, graph: &Rooted, out: &mut Vec<u8>) -> Result<(), WriteEnd>
+fn append_amf3(
+    alloc: Global,
+    keys: Option<RandomState>,
+    graph: &Rooted,
+    out: &mut Vec<u8>,
+) -> Result<(), WriteEnd>
     ensures written { OnOk result (Appends (BodyBy canonical form.Amf3 (content graph.now)) out.old.items out.new.items) }
     ensures lack { (l : Lack) → IsErrOf result (WriteEnd.NoSpelling l) → IsBodyLack form.Amf3 (content graph.now) l.node l.kind }
     ensures grows { Grows out.old.items out.new.items }
 {
     out.push(0x11)?;
-    write3(alloc, graph, out)
+    write3_keyed(alloc, keys, graph, out)
 }
 
 /// Appends a value in the kinds that AMF 0 has.
@@ -52,14 +63,19 @@ fn append_plain(alloc: Global, graph: &Rooted, out: &mut Vec<u8>) -> Result<(), 
 }
 
 /// Appends a value in its form.
-fn append_formed(alloc: Global, body: &Body, out: &mut Vec<u8>) -> Result<(), WriteEnd>
+fn append_formed(
+    alloc: Global,
+    keys: Option<RandomState>,
+    body: &Body,
+    out: &mut Vec<u8>,
+) -> Result<(), WriteEnd>
     ensures written { OnOk result (Appends (BodyBy canonical (body_of body.now).form (body_of body.now).graph) out.old.items out.new.items) }
     ensures lack { (l : Lack) → IsErrOf result (WriteEnd.NoSpelling l) → IsBodyLack (body_of body.now).form (body_of body.now).graph l.node l.kind }
     ensures grows { Grows out.old.items out.new.items }
 {
     match body {
-        Body::Call(graph) => append_call(alloc, graph, out),
-        Body::Amf3(graph) => append_amf3(alloc, graph, out),
+        Body::Call(graph) => append_call(alloc, keys, graph, out),
+        Body::Amf3(graph) => append_amf3(alloc, keys, graph, out),
         Body::Plain(graph) => append_plain(alloc, graph, out),
     }
 }
@@ -67,6 +83,7 @@ fn append_formed(alloc: Global, body: &Body, out: &mut Vec<u8>) -> Result<(), Wr
 /// Appends a value in its form. The value has this number.
 pub fn append_body(
     alloc: Global,
+    keys: Option<RandomState>,
     body: &Body,
     value: u32,
     out: &mut Vec<u8>,
@@ -74,7 +91,7 @@ pub fn append_body(
     ensures writes { Writes (BodyBy canonical (body_of body.now).form (body_of body.now).graph) (LacksHere (body_of body.now) value) out.old.items out.new.items result }
     ensures grows { Grows out.old.items out.new.items }
 {
-    match append_formed(alloc, body, out) {
+    match append_formed(alloc, keys, body, out) {
         Ok(()) => Ok(()),
         Err(WriteEnd::Memory) => Err(PacketEnd::Memory),
         Err(WriteEnd::NoSpelling(lack)) => Err(PacketEnd::NoSpelling { value, lack }),

@@ -11,6 +11,7 @@ use crate::write_body::append_body;
 use crate::{Body, Header, Message, Packet, PacketEnd};
 use amf_wire::{Memory, Name};
 use std::alloc::Global;
+use std::hash::RandomState;
 
 /// The length of a value, which is not known (AMF 0, 4.2 and 4.3).
 const UNKNOWN: u32 = 0xFFFF_FFFF;
@@ -56,17 +57,24 @@ fn append_length(out: &mut Vec<u8>) -> Result<(), Memory>
 }
 
 /// Appends the length of a value, and then the value, which has this number.
-fn append_sized(alloc: Global, body: &Body, value: u32, out: &mut Vec<u8>) -> Result<(), PacketEnd>
+fn append_sized(
+    alloc: Global,
+    keys: Option<RandomState>,
+    body: &Body,
+    value: u32,
+    out: &mut Vec<u8>,
+) -> Result<(), PacketEnd>
     ensures writes { Writes (SizedBy canonical (body_of body.now)) (LacksHere (body_of body.now) value) out.old.items out.new.items result }
     ensures grows { Grows out.old.items out.new.items }
 {
     append_length(out)?;
-    append_body(alloc, body, value, out)
+    append_body(alloc, keys, body, value, out)
 }
 
 /// Appends a header (AMF 0, 4.2), whose value has this number.
 fn append_header(
     alloc: Global,
+    keys: Option<RandomState>,
     header: &Header,
     value: u32,
     out: &mut Vec<u8>,
@@ -77,12 +85,13 @@ fn append_header(
 {
     append_name(&header.name, out)?;
     append_must(header.must, out)?;
-    append_sized(alloc, &header.body, value, out)
+    append_sized(alloc, keys, &header.body, value, out)
 }
 
 /// Appends a message (AMF 0, 4.3), whose value has this number.
 fn append_message(
     alloc: Global,
+    keys: Option<RandomState>,
     message: &Message,
     value: u32,
     out: &mut Vec<u8>,
@@ -93,11 +102,16 @@ fn append_message(
 {
     append_name(&message.target, out)?;
     append_name(&message.response, out)?;
-    append_sized(alloc, &message.body, value, out)
+    append_sized(alloc, keys, &message.body, value, out)
 }
 
 /// Appends how many headers there are, and then each.
-fn append_headers(alloc: Global, headers: &[Header], out: &mut Vec<u8>) -> Result<(), PacketEnd>
+fn append_headers(
+    alloc: Global,
+    keys: Option<RandomState>,
+    headers: &[Header],
+    out: &mut Vec<u8>,
+) -> Result<(), PacketEnd>
     requires few { length headers.now < 2 ^ 16 }
     requires texts { AllByRecursion FitTexts (header_texts (map header_of headers.now)) }
     ensures writes { Writes (ListBy (HeaderBy canonical) (map header_of headers.now)) (LacksFirst 0 (header_bodies (map header_of headers.now))) out.old.items out.new.items result }
@@ -105,7 +119,7 @@ fn append_headers(alloc: Global, headers: &[Header], out: &mut Vec<u8>) -> Resul
 {
     append_number(headers.len() as u16, out)?;
     for (place, header) in headers.iter().enumerate() {
-        append_header(alloc, header, place as u32, out)?;
+        append_header(alloc, keys, header, place as u32, out)?;
     }
     Ok(())
 }
@@ -113,6 +127,7 @@ fn append_headers(alloc: Global, headers: &[Header], out: &mut Vec<u8>) -> Resul
 /// Appends how many messages there are, and then each. The value of the first has this number.
 fn append_messages(
     alloc: Global,
+    keys: Option<RandomState>,
     messages: &[Message],
     first: u32,
     out: &mut Vec<u8>,
@@ -125,13 +140,18 @@ fn append_messages(
 {
     append_number(messages.len() as u16, out)?;
     for (place, message) in messages.iter().enumerate() {
-        append_message(alloc, message, first + place as u32, out)?;
+        append_message(alloc, keys, message, first + place as u32, out)?;
     }
     Ok(())
 }
 
 /// Appends a packet whose counts and texts fit their fields. It stops at the first value that has no spelling.
-pub fn append_packet(alloc: Global, packet: &Packet, out: &mut Vec<u8>) -> Result<(), PacketEnd>
+pub fn append_packet(
+    alloc: Global,
+    keys: Option<RandomState>,
+    packet: &Packet,
+    out: &mut Vec<u8>,
+) -> Result<(), PacketEnd>
     requires version { is_version packet.now.version ≡ true }
     requires headers { length packet.now.headers < 2 ^ 16 }
     requires messages { length packet.now.messages < 2 ^ 16 }
@@ -142,6 +162,6 @@ pub fn append_packet(alloc: Global, packet: &Packet, out: &mut Vec<u8>) -> Resul
     let headers = packet.headers.as_slice();
     let first = headers.len() as u32;
     append_number(packet.version, out)?;
-    append_headers(alloc, headers, out)?;
-    append_messages(alloc, packet.messages.as_slice(), first, out)
+    append_headers(alloc, keys, headers, out)?;
+    append_messages(alloc, keys, packet.messages.as_slice(), first, out)
 }

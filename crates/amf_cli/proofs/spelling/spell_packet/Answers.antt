@@ -10,14 +10,14 @@ use Rattle.amf_cli.specs.Formats.{IsUnwritten}
 use Rattle.amf_cli.proofs.Goes.{packet_written, packet_unwritten}
 use Rattle.amf_cli.proofs.spelling.spell_packet.Goals as goal
 
-pub write_packet-requires-clause-version : goal.write_packet-requires-clause-version
-write_packet-requires-clause-version c = has_version free (packet_of c.args.packet.now) c.requires.0 c.requires.1
+pub write_packet_keyed-requires-clause-version : goal.write_packet_keyed-requires-clause-version
+write_packet_keyed-requires-clause-version c = has_version free (packet_of c.args.packet.now) c.requires.0 c.requires.1
 
-pub write_packet-requires-clause-texts : goal.write_packet-requires-clause-texts
-write_packet-requires-clause-texts c = has_texts free (packet_of c.args.packet.now) c.requires.0 c.requires.1
+pub write_packet_keyed-requires-clause-texts : goal.write_packet_keyed-requires-clause-texts
+write_packet_keyed-requires-clause-texts c = has_texts free (packet_of c.args.packet.now) c.requires.0 c.requires.1
 
 pub returns-in-Ok-clause-written : goal.returns-in-Ok-clause-written
-returns-in-Ok-clause-written c = let low = c.packet_has_lowering.ensures in packet_written (packet_of c.args.packet.now) low.0 _ c.write_packet.new.out.items low.1 c.new-bytes.ensures.items c.in-Ok.ensures.written
+returns-in-Ok-clause-written c = let low = c.packet_has_lowering.ensures in packet_written (packet_of c.args.packet.now) low.0 _ c.write_packet_keyed.new.out.items low.1 c.new-bytes.ensures.items c.in-Ok.ensures.written
 
 pub returns-in-Err-NoSpelling-clause-lack : goal.returns-in-Err-NoSpelling-clause-lack
 returns-in-Err-NoSpelling-clause-lack c = λ number l is.

@@ -6,7 +6,7 @@ use Rattle.amf_packet.specs.PacketLacks.{texts_by_value}
 use Rattle.amf_packet.specs.WriteParts.{IsFirstLong}
 use Rattle.amf_packet.proofs.WriteTexts.{fit_all}
 use Rattle.amf_packet.proofs.WriteTold.{many_many, many_long, many_lack, long_many, long_long, long_lack, begun_written, begun_many, begun_long, begun_lack, few_headers, few_messages}
-use Rattle.amf_packet.proofs.write.write_packet.Goals as goal
+use Rattle.amf_packet.proofs.write.write_packet_keyed.Goals as goal
 
 pub returns-then-is_too_many-clause-many : goal.returns-then-is_too_many-clause-many
 returns-then-is_too_many-clause-many c = many_many (packet_of c.args.packet.now) (c.is_too_many.ensures.many c.if-is_too_many.true)
