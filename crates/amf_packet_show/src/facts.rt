@@ -7,7 +7,8 @@ pub fn packet_listing_rows()
 {}
 
 /// Two packets that the same bytes spell are the same; canonical bytes are so for exactly those that are the same once their
-/// plain values are lowered; what is spelled lacks nothing; and the same packets have one listing and one number of nodes.
+/// plain values are lowered; what has a canonical spelling lacks nothing; no packet has two listings or two numbers of nodes,
+/// and the same packets have the same.
 pub fn packet_laws()
     ensures { PacketLaws }
 {}
