@@ -11,3 +11,9 @@ pub mod FileSound
 pub mod FileRepeats
 pub mod FileVerdicts
 pub mod Unheld
+pub mod ExactReads
+pub mod HeadReads
+pub mod HolderPut
+pub mod PairReads
+pub mod PairLoops
+pub mod FileAnswers

@@ -4,8 +4,10 @@ pub mod FileVerdict
 pub mod FileLaws
 pub mod FileLacks
 pub mod StoredFile
+pub mod FileAnswer
 pub mod WorkedFiles
 -- Devices of the proofs: no clause of a public call needs them.
 pub mod HolderTest
 pub mod Repeated
 pub mod FileLayout
+pub mod FileReading

@@ -64,6 +64,18 @@ impl SharedObject {
         })
     }
 
+    /// The shared object of a text and of a graph whose root is known to be a holder.
+    pub(crate) fn of_parts(name: Name, version: SolVersion, holder: Rooted) -> SharedObject
+        requires { IsStoredFile (record { name = name; version = version; holder = holder }) }
+        ensures { result ≡ record { name = name; version = version; holder = holder } }
+    {
+        SharedObject {
+            name,
+            version,
+            holder,
+        }
+    }
+
     /// What is true of every shared object. It does nothing.
     pub fn is_stored(&self)
         ensures { IsStoredFile self.now }

@@ -1,0 +1,12 @@
+use Rattle.amf0_tables.specs.TableParts0.{shown_tables}
+use Rattle.amf0_read.specs.Ready0.{Ready0}
+use Rattle.amf3_read.specs.Ready.{left_of}
+use Rattle.amf_sol.specs.declared.sol_version.SolVersion.TheVariants.{Amf0}
+use Rattle.amf_sol.proofs.PairLoops.{PairsSo}
+use Rattle.amf_sol.proofs.pairs.read_pairs0.Given as goal
+
+abbrev pub invariant-loop-tables : goal.invariant-loop-tables
+invariant-loop-tables g l = PairsSo g.S.Source.tells g.S.Source.left g.S.Source.faults Amf0 l.builder (shown_tables l.tables) l.fn.cursor l.cursor × Ready0 0 l.builder (shown_tables l.tables) l.cursor
+
+abbrev pub decreases-loop-tables : goal.decreases-loop-tables
+decreases-loop-tables g l = left_of l.cursor

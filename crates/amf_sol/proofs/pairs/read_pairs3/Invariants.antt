@@ -1,0 +1,11 @@
+use Rattle.amf3_read.specs.Ready.{Ready, left_of}
+use Rattle.amf_sol.specs.FileReading.{tables3}
+use Rattle.amf_sol.specs.declared.sol_version.SolVersion.TheVariants.{Amf3}
+use Rattle.amf_sol.proofs.PairLoops.{PairsSo}
+use Rattle.amf_sol.proofs.pairs.read_pairs3.Given as goal
+
+abbrev pub invariant-loop-tables : goal.invariant-loop-tables
+invariant-loop-tables g l = PairsSo g.S.Source.tells g.S.Source.left g.S.Source.faults Amf3 l.builder (tables3 l.tables) l.fn.cursor l.cursor × Ready 0 l.builder l.tables l.cursor
+
+abbrev pub decreases-loop-tables : goal.decreases-loop-tables
+decreases-loop-tables g l = left_of l.cursor

@@ -1,0 +1,195 @@
+ghost use Rattle.std.specs.Prelude.{◌≡◌, ◌+◌, ◌<◌, ◌↔◌, ℕ, List, [], IsTrue, OnOk, IfOk, IfErr};
+ghost use Rattle.amf_io.specs.Cursor.{source_of, place, unread};
+ghost use Rattle.amf_io.specs.CursorReads.{IsPlaced, Goes, Answers};
+ghost use Rattle.amf_graph.specs.Building.{no_arena};
+ghost use Rattle.amf0_tables.specs.Layout0State.{state0_of};
+ghost use Rattle.amf0_tables.specs.TableParts0.{shown_tables};
+ghost use Rattle.amf0_read.specs.Ready0.{Ready0};
+ghost use Rattle.amf3_read.specs.Answer.{room_end};
+ghost use Rattle.amf3_read.specs.Ready.{Ready, left_of};
+ghost use Rattle.amf_sol.specs.FileLayout.{file, holder_arena, pair_by};
+ghost use Rattle.amf_sol.specs.FileReading.{tables3, IsOpenHolder, AnswersPairs, AnswersHolder, closed_holder};
+
+use crate::SolVersion;
+use crate::head::read_pair_end;
+use amf_graph::{Builder, NodeId, Part, Rooted, Shape, Value};
+use amf_io::{Cursor, ReadEnd, Source};
+use amf_tables::Tables3;
+use amf0_read::{read_short_text, read_value0};
+use amf0_tables::Tables0;
+use amf3_read::{kept, read_text, read_value};
+use std::alloc::Global;
+
+/// Reads the pairs up to the end of the input into a new holder, which is the first node, and in no table.
+pub(crate) fn read_holder<S: Source>(
+    alloc: Global,
+    cursor: &mut Cursor<'_, S>,
+    version: SolVersion,
+) -> Result<Rooted, ReadEnd>
+    requires placed { IsPlaced cursor.old }
+    requires room { left_of cursor.old + 1 < room_end }
+    ensures goes { Goes S.tells S.left S.faults cursor.old cursor.new result }
+    ensures answers { (n : ℕ) (name : List ℕ) → left_of cursor.old < n → AnswersHolder S.tells S.left version n name cursor.old cursor.new result }
+{
+    let mut builder = Builder::new(alloc)?;
+    let holder = open_holder(&mut builder)?;
+    read_pairs(alloc, cursor, &mut builder, holder, version)?;
+    Ok(close_holder(builder, holder))
+}
+
+/// Opens a holder in a new builder.
+fn open_holder(builder: &mut Builder) -> Result<NodeId, ReadEnd>
+    requires { builder.old ≡ no_arena }
+    ensures holder { IfOk result (λ holder. holder.0 ≡ 0) }
+    ensures opened { OnOk result (builder.new ≡ holder_arena) }
+    ensures err { IfErr result (λ end. end ≡ ReadEnd.Memory) }
+{
+    let class = kept(builder.text(&[]))?;
+    let traits = kept(builder.traits(class, true, &[]))?;
+    kept(builder.open_node(Shape::Object(traits)))
+}
+
+/// Closes the holder, and gives the graph whose root it is.
+fn close_holder(builder: Builder, holder: NodeId) -> Rooted
+    requires first { holder.0 ≡ 0 }
+    requires opened { IsOpenHolder builder 0 }
+    ensures { result ≡ closed_holder builder }
+{
+    let mut builder = builder;
+    builder.close_node(holder);
+    match builder.finish(Value::Node(holder)) {
+        Ok(graph) => graph,
+        Err(_) => unreachable!(),
+    }
+}
+
+/// Reads pairs of a format to the end of the input, with one set of tables.
+fn read_pairs<S: Source>(
+    alloc: Global,
+    cursor: &mut Cursor<'_, S>,
+    builder: &mut Builder,
+    holder: NodeId,
+    version: SolVersion,
+) -> Result<(), ReadEnd>
+    requires first { holder.0 ≡ 0 }
+    requires opened { builder.old ≡ holder_arena }
+    requires placed { IsPlaced cursor.old }
+    requires room { left_of cursor.old + 1 < room_end }
+    ensures goes { Goes S.tells S.left S.faults cursor.old cursor.new result }
+    ensures answers { (n : ℕ) (name : List ℕ) → left_of cursor.old < n → AnswersPairs S.tells S.left version n name builder.new cursor.old cursor.new result }
+    ensures holder { OnOk result (IsOpenHolder builder.new 0) }
+{
+    match version {
+        SolVersion::Amf0 => read_pairs0(alloc, cursor, builder, holder),
+        SolVersion::Amf3 => read_pairs3(alloc, cursor, builder, holder),
+    }
+}
+
+/// Whether no byte follows.
+fn is_over<S: Source>(cursor: &mut Cursor<'_, S>) -> Result<bool, ReadEnd>
+    requires { IsPlaced cursor.old }
+    ensures goes { Goes S.tells S.left S.faults cursor.old cursor.new result }
+    ensures over { IfOk result (λ over. S.tells (source_of cursor.old).now → IsTrue over ↔ (unread S.left cursor.old ≡ [])) }
+    ensures stays { place cursor.new ≡ place cursor.old }
+    ensures same { S.tells (source_of cursor.old).now → unread S.left cursor.new ≡ unread S.left cursor.old }
+    ensures err { IfErr result (λ end. end ≡ ReadEnd.ReadFault) }
+{
+    match cursor.at_end() {
+        Ok(ended) => Ok(ended),
+        Err(_) => Err(ReadEnd::ReadFault),
+    }
+}
+
+/// Reads pairs of AMF 0 to the end of the input, with one set of tables.
+fn read_pairs0<S: Source>(
+    alloc: Global,
+    cursor: &mut Cursor<'_, S>,
+    builder: &mut Builder,
+    holder: NodeId,
+) -> Result<(), ReadEnd>
+    requires first { holder.0 ≡ 0 }
+    requires opened { builder.old ≡ holder_arena }
+    requires placed { IsPlaced cursor.old }
+    requires room { left_of cursor.old + 1 < room_end }
+    ensures goes { Goes S.tells S.left S.faults cursor.old cursor.new result }
+    ensures answers { (n : ℕ) (name : List ℕ) → left_of cursor.old < n → AnswersPairs S.tells S.left SolVersion.Amf0 n name builder.new cursor.old cursor.new result }
+    ensures holder { OnOk result (IsOpenHolder builder.new 0) }
+{
+    let mut tables = Tables0::new(alloc)?;
+    while !is_over(cursor)? {
+        read_pair0(alloc, cursor, builder, &mut tables, holder)?;
+    }
+    Ok(())
+}
+
+/// Reads a pair of AMF 0 into the holder.
+fn read_pair0<S: Source>(
+    alloc: Global,
+    cursor: &mut Cursor<'_, S>,
+    builder: &mut Builder,
+    tables: &mut Tables0,
+    holder: NodeId,
+) -> Result<(), ReadEnd>
+    requires first { holder.0 ≡ 0 }
+    requires ready { Ready0 0 builder.old (shown_tables tables.old) cursor.old }
+    requires holder { IsOpenHolder builder.old (left_of cursor.old) }
+    ensures goes { Goes S.tells S.left S.faults cursor.old cursor.new result }
+    ensures answers { (n : ℕ) (name : List ℕ) → left_of cursor.old < n → Answers S.tells S.left (λ done. file SolVersion.Amf0 name (state0_of builder.new (shown_tables tables.new))) (pair_by SolVersion.Amf0 n name (state0_of builder.old (shown_tables tables.old))) cursor.old cursor.new result }
+    ensures ready { OnOk result (Ready0 0 builder.new (shown_tables tables.new) cursor.new) }
+    ensures holder { OnOk result (IsOpenHolder builder.new (left_of cursor.new)) }
+    ensures moves { OnOk result (place cursor.old < place cursor.new) }
+{
+    let name = read_short_text(alloc, cursor, builder)?;
+    // What is true of every builder.
+    builder.is_built();
+    let value = read_value0(alloc, cursor, builder, tables)?;
+    read_pair_end(cursor)?;
+    kept(builder.put(holder, Part::Named(name, value)))?;
+    Ok(())
+}
+
+/// Reads pairs of AMF 3 to the end of the input, with one set of tables.
+fn read_pairs3<S: Source>(
+    alloc: Global,
+    cursor: &mut Cursor<'_, S>,
+    builder: &mut Builder,
+    holder: NodeId,
+) -> Result<(), ReadEnd>
+    requires first { holder.0 ≡ 0 }
+    requires opened { builder.old ≡ holder_arena }
+    requires placed { IsPlaced cursor.old }
+    requires room { left_of cursor.old + 1 < room_end }
+    ensures goes { Goes S.tells S.left S.faults cursor.old cursor.new result }
+    ensures answers { (n : ℕ) (name : List ℕ) → left_of cursor.old < n → AnswersPairs S.tells S.left SolVersion.Amf3 n name builder.new cursor.old cursor.new result }
+    ensures holder { OnOk result (IsOpenHolder builder.new 0) }
+{
+    let mut tables = Tables3::new(alloc)?;
+    while !is_over(cursor)? {
+        read_pair3(alloc, cursor, builder, &mut tables, holder)?;
+    }
+    Ok(())
+}
+
+/// Reads a pair of AMF 3 into the holder.
+fn read_pair3<S: Source>(
+    alloc: Global,
+    cursor: &mut Cursor<'_, S>,
+    builder: &mut Builder,
+    tables: &mut Tables3,
+    holder: NodeId,
+) -> Result<(), ReadEnd>
+    requires first { holder.0 ≡ 0 }
+    requires ready { Ready 0 builder.old tables.old cursor.old }
+    requires holder { IsOpenHolder builder.old (left_of cursor.old) }
+    ensures goes { Goes S.tells S.left S.faults cursor.old cursor.new result }
+    ensures answers { (n : ℕ) (name : List ℕ) → left_of cursor.old < n → Answers S.tells S.left (λ done. file SolVersion.Amf3 name (state0_of builder.new (tables3 tables.new))) (pair_by SolVersion.Amf3 n name (state0_of builder.old (tables3 tables.old))) cursor.old cursor.new result }
+    ensures ready { OnOk result (Ready 0 builder.new tables.new cursor.new) }
+    ensures holder { OnOk result (IsOpenHolder builder.new (left_of cursor.new)) }
+    ensures moves { OnOk result (place cursor.old < place cursor.new) }
+{
+    let name = read_text(alloc, cursor, builder, tables)?;
+    let value = read_value(alloc, cursor, builder, tables)?;
+    read_pair_end(cursor)?;
+    kept(builder.put(holder, Part::Named(name, value)))?;
+    Ok(())
+}

@@ -1,0 +1,41 @@
+ghost use Rattle.std.specs.Prelude.{◌<◌};
+ghost use Rattle.amf_io.specs.CursorReads.{Goes};
+ghost use Rattle.amf3_read.specs.Answer.{between, room_end};
+ghost use Rattle.amf3_read.specs.Ready.{left_of};
+ghost use Rattle.amf_sol.specs.FileAnswer.{AnswersFile};
+
+use crate::SharedObject;
+use crate::head::{read_head, read_length};
+use crate::pairs::read_holder;
+use amf_io::{Cursor, ReadEnd, Reason, Source};
+use amf3_read::refused;
+use std::alloc::Global;
+
+/// The number of bytes of a file that its length field does not count.
+const UNCOUNTED: u64 = 6;
+
+/// Reads a shared object file, up to the end of the input: the signature, the length, the name and the version, and then pairs
+/// with one set of tables. The pairs are the members of the holder, which is in no table.
+///
+/// The bytes that the cursor's limit still allows are below 2^27.
+///
+/// Where the input is refused, the refusal is the verdict on it: the first field that no file has there, or where the input or
+/// its limit ends inside a pair or before the first; `BadLength` where nothing else is wrong, and the length is not the number
+/// of bytes behind it. `Memory` comes where there is no room for what is read. After an end the cursor is only to be dropped.
+pub fn read_sol<S: Source>(
+    alloc: Global,
+    cursor: &mut Cursor<'_, S>,
+) -> Result<SharedObject, ReadEnd>
+    requires room { left_of cursor.old < room_end }
+    ensures goes { Goes S.tells S.left S.faults cursor.old cursor.new result }
+    ensures answers { AnswersFile (between S.tells S.left cursor.old cursor.new) result }
+{
+    let start = cursor.at();
+    let length = read_length(alloc, cursor)?;
+    let head = read_head(alloc, cursor)?;
+    let holder = read_holder(alloc, cursor, head.version)?;
+    if length as u64 + UNCOUNTED != (cursor.at() - start) as u64 {
+        return Err(refused(Reason::BadLength, start + 2));
+    }
+    Ok(SharedObject::of_parts(head.name, head.version, holder))
+}
