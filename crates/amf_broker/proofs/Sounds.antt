@@ -14,7 +14,7 @@ use Rattle.amf_broker.specs.Machine.{is_connected, at_client, queue_of, queue_in
 use Rattle.amf_broker.specs.Sound.{IsSound, IsNowhere}
 use Rattle.amf_broker.specs.Delivery.{messages_for}
 use Rattle.amf_broker.proofs.Clients.{rises-at, Same, same-seen, same-kept, length-at, connected-at, client_at-stays, queue_of-at, queue_of-new, queue_of-emptied, queue_of-gone, queue_of-other}
-use Rattle.amf_broker.proofs.Orders.{rises-new, rises-part, rises-spread}
+use Rattle.amf_broker.proofs.Orders.{any-connected, none-named, rises-new, rises-part, rises-spread}
 use Rattle.amf_broker.proofs.Spreads.{is_among, filter-swap, connected-spread}
 use Rattle.amf_broker.proofs.Steps.{Idle, idle-served, next-served}
 
@@ -128,6 +128,7 @@ numbered-spread n j number message (u ∷ us) cs other = elim (is_full u.client 
 pub sound-first : (names : List (List ℕ)) → IsSound (first_board names)
 sound-first names = record {
   ordered = refl;
+  subs_ordered = refl;
   few = omega arith;
   places = λ j. omega arith;
   new_clients = λ j new. refl;
@@ -137,7 +138,8 @@ sound-first names = record {
 
 pub sound-connected : (b : Board) → IsSound b → length b.clients < MAX_CLIENTS → IsSound (connected b).1
 sound-connected b s few = record {
-  ordered = rises-new 0 b.next_client b.moment b.clients (omega arith) s.new_clients s.ordered;
+  ordered = rises-new (λ (c : Connection). c.id) 0 (new_client b.next_client b.moment) b.clients (omega arith) (λ id new. any-connected id b.clients ∙ s.new_clients id new) s.ordered;
+  subs_ordered = s.subs_ordered;
   few = let e = length-append b.clients (new_client b.next_client b.moment ∷ []) in omega arith;
   places = λ j. let same = ap length (ended-new j b.next_client b.moment b.clients) in let old = s.places j in omega arith;
   new_clients = λ j new. let other : b.next_client ≢ j = omega arith in absent-new j _ b.clients other ∙ s.new_clients j (omega arith);
@@ -148,6 +150,7 @@ sound-connected b s few = record {
 pub sound-subscribed : (b : Board) (client : ℕ) (topic : Topic) → IsSound b → places_of client b < MAX_SUBS → IsSound (subscribed b client topic).1
 sound-subscribed b client topic s few = record {
   ordered = s.ordered;
+  subs_ordered = rises-new (λ (u : Subscription). u.id) 0 (record { id = b.next_sub; client = client; topic = topic }) b.subs (omega arith) (λ id new. none-named id b.subs (s.new_subs id new).not_live) s.subs_ordered;
   few = s.few;
   places = λ j.
       let more = new-places j (record { id = b.next_sub; client = client; topic = topic }) b.subs in
@@ -167,6 +170,7 @@ sound-subscribed b client topic s few = record {
 pub sound-unsubscribed : (b : Board) (sub : ℕ) → IsSound b → IsSound (unsubscribed b sub).1
 sound-unsubscribed b sub s = record {
   ordered = s.ordered;
+  subs_ordered = rises-part (λ (u : Subscription). u.id) 0 (λ u. not (u.id == sub)) b.subs s.subs_ordered;
   few = s.few;
   places = λ j. let less = part-places j (λ u. not (u.id == sub)) b.subs in let old = s.places j in omega arith;
   new_clients = s.new_clients;
@@ -177,6 +181,7 @@ sound-unsubscribed b sub s = record {
 pub sound-polled : (b : Board) (client : ℕ) → IsSound b → IsSound (polled b client).1
 sound-polled b client s = record {
   ordered = rises-at 0 client emptied b.clients (λ c. refl) ∙ s.ordered;
+  subs_ordered = s.subs_ordered;
   few = let same = length-at client emptied b.clients in let old = s.few in omega arith;
   places = λ j. let less = ended-emptied j client b.clients in let old = s.places j in omega arith;
   new_clients = λ j new. connected-at j client emptied b.clients (λ c. refl) ∙ s.new_clients j new;
@@ -186,7 +191,8 @@ sound-polled b client s = record {
 
 pub sound-disconnected : (b : Board) (client : ℕ) → IsSound b → IsSound (disconnected b client).1
 sound-disconnected b client s = record {
-  ordered = rises-part 0 (λ c. not (c.id == client)) b.clients s.ordered;
+  ordered = rises-part (λ (c : Connection). c.id) 0 (λ c. not (c.id == client)) b.clients s.ordered;
+  subs_ordered = rises-part (λ (u : Subscription). u.id) 0 (λ u. not (u.client == client)) b.subs s.subs_ordered;
   few = let less = length-gone client b.clients in let old = s.few in omega arith;
   places = λ j.
       let less = part-places j (λ u. not (u.client == client)) b.subs in
@@ -201,6 +207,7 @@ sound-disconnected b client s = record {
 pub sound-same : (b : Board) (ds : List Connection) → IsSound b → Same b.clients ds → IsSound (record b { clients = ds })
 sound-same b ds s same = record {
   ordered = same.order 0 ∙ s.ordered;
+  subs_ordered = s.subs_ordered;
   few = let e = same.many in let old = s.few in omega arith;
   places = λ j. let e = ap length (same.ends j) in let old = s.places j in omega arith;
   new_clients = λ j new. same.here j ∙ s.new_clients j new;
@@ -222,6 +229,7 @@ sound-without_all (k ∷ ks) b s = sound-without_all ks (without k b) (sound-dis
 pub sound-advanced : (present : ℕ) (ks : List ℕ) (b : Board) → IsSound b → IsSound (advanced present ks b)
 sound-advanced present ks b s = sound-without_all ks (record b { moment = present }) (record {
   ordered = s.ordered;
+  subs_ordered = s.subs_ordered;
   few = s.few;
   places = s.places;
   new_clients = s.new_clients;
@@ -268,6 +276,7 @@ sound-published b topic message s =
     let to = spread b.next_message message us b.clients in
     record {
       ordered = rises-spread 0 b.next_message message us b.clients ∙ s.ordered;
+      subs_ordered = rises-part (λ (u : Subscription). u.id) 0 _ b.subs s.subs_ordered;
       few = let same = length-spread b.next_message message us b.clients in let old = s.few in omega arith;
       places = λ j.
           let over : Subscription → Bool = λ u. list_any (λ (id : ℕ). id == u.id) to.ended in

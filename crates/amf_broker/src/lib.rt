@@ -3,6 +3,7 @@
 
 mod broker;
 mod call;
+mod ended;
 mod ids;
 mod laws;
 mod limits;

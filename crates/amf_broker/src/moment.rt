@@ -1,18 +1,30 @@
-ghost use Rattle.std.specs.Prelude.{◌≡◌, ◌==◌, map, filter, count_by, IfOk};
+ghost use Rattle.std.specs.Prelude.{◌≡◌, ◌==◌, map, filter, true, IfOk};
 ghost use Rattle.std.specs.List.{list_any};
 ghost use Rattle.amf_broker.specs.Machine.{later, is_idle};
-ghost use Rattle.amf_broker.specs.Moments.{stays};
+ghost use Rattle.amf_broker.specs.Sound.{are_in_order};
 
 use crate::ClientId;
 use crate::mailbox::Mailbox;
 use amf_wire::Memory;
 use std::alloc::Global;
 
-/// The present moment of a call, and the clients that expire at it.
+/// The present moment of a call, and the clients that expire at it, in order of their numbers.
 #[derive(Drop)]
 pub(crate) struct Moment {
     pub(crate) present: u64,
     pub(crate) expired: Vec<ClientId>,
+    ghost ordered: { are_in_order expired.items ≡ true },
+}
+
+impl Moment {
+    /// Whether the client expires at it.
+    pub(crate) fn expires(&self, client: ClientId) -> bool
+        ensures { result ≡ list_any (λ id. id == client) self.now.expired.items }
+    {
+        self.expired
+            .binary_search_by_key(&client.0, |id| id.0)
+            .is_ok()
+    }
 }
 
 /// The later of the two.
@@ -44,21 +56,4 @@ pub(crate) fn idle_among(
         }
     }
     Ok(ids)
-}
-
-/// Whether the client is one of these.
-pub(crate) fn is_in(ids: &[ClientId], client: ClientId) -> bool
-    ensures { result ≡ list_any (λ id. id == client) ids.now }
-{
-    ids.iter().any(|id| *id == client)
-}
-
-/// How many clients are none of these.
-pub(crate) fn staying(clients: &[Mailbox], expired: &[ClientId]) -> usize
-    ensures { result ≡ count_by (λ c. stays expired.now c.id) clients.now }
-{
-    clients
-        .iter()
-        .filter(|mailbox| !is_in(expired, mailbox.id()))
-        .count()
 }

@@ -1,5 +1,4 @@
-ghost use Rattle.std.specs.Prelude.{◌≡◌, ◌+◌, ◌≤◌, ◌==◌, ℕ, [], length, filter, true, vec_capacity, IfOk};
-ghost use Rattle.std.specs.List.{list_any};
+ghost use Rattle.std.specs.Prelude.{◌≡◌, ◌+◌, ◌≤◌, ℕ, [], length, filter, true, vec_capacity, IfOk};
 ghost use Rattle.amf_broker.specs.Machine.{ended_of};
 ghost use Rattle.amf_broker.specs.Moments.{is_reached};
 ghost use Rattle.amf_broker.specs.Sound.{rises};
@@ -7,33 +6,33 @@ ghost use Rattle.amf_broker.specs.Parcels.{parcels_for, parcels_of, clients_afte
 
 use crate::live_sub::LiveSub;
 use crate::mailbox::Mailbox;
-use crate::moment::is_in;
+use crate::moment::Moment;
 use crate::parcel::Parcel;
-use crate::{ClientId, Deliveries, Delivery, MAX_SUBS, Payload, SubId, Topic};
+use crate::{Deliveries, Delivery, MAX_SUBS, Payload, SubId, Topic};
 use amf_wire::Memory;
 use std::alloc::Global;
 
 /// Whether the subscription is of the topic, and its client does not expire.
-fn is_reached(live: &LiveSub, expired: &[ClientId], topic: &Topic) -> bool
-    ensures { result ≡ is_reached expired.now topic.now live.now }
+fn is_reached(live: &LiveSub, moment: &Moment, topic: &Topic) -> bool
+    ensures { result ≡ is_reached moment.now.expired.items topic.now live.now }
 {
-    !is_in(expired, live.client()) && live.is_of(topic)
+    !moment.expires(live.client()) && live.is_of(topic)
 }
 
 /// A parcel for each subscription of the topic whose client does not expire. All share the message.
 pub(crate) fn packed(
     alloc: Global,
     subs: &[LiveSub],
-    expired: &[ClientId],
+    moment: &Moment,
     topic: &Topic,
     number: u64,
     message: &Payload,
 ) -> Result<Vec<Parcel>, Memory>
-    ensures { IfOk result (λ parcels. parcels.items ≡ parcels_for number message.now (filter (is_reached expired.now topic.now) subs.now)) }
+    ensures { IfOk result (λ parcels. parcels.items ≡ parcels_for number message.now (filter (is_reached moment.now.expired.items topic.now) subs.now)) }
 {
     let mut parcels = Vec::new(alloc);
     for live in subs {
-        if is_reached(live, expired, topic) {
+        if is_reached(live, moment, topic) {
             let delivery = Delivery {
                 sub: live.id(),
                 number,
@@ -64,13 +63,6 @@ pub(crate) fn hand_round(
         }
     }
     ended
-}
-
-/// Whether the subscription is one of these.
-pub(crate) fn is_among(subs: &[SubId], sub: SubId) -> bool
-    ensures { result ≡ list_any (λ id. id == sub) subs.now }
-{
-    subs.iter().any(|id| *id == sub)
 }
 
 /// These deliveries once more, which share their messages.

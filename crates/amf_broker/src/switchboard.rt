@@ -1,8 +1,9 @@
+use crate::ended::Ended;
 use crate::live_sub::LiveSub;
 use crate::mailbox::{Mailbox, place_of};
-use crate::moment::{Moment, has_idle, idle_among, is_in, later_of};
+use crate::moment::{Moment, has_idle, idle_among, later_of};
 use crate::parcel::Parcel;
-use crate::parcels::{hand_round, is_among, packed, shared};
+use crate::parcels::{hand_round, packed, shared};
 use crate::room::Room;
 use crate::{Call, ClientId, MAX_CLIENTS, MAX_SUBS, Payload, Reply, SubId, SubIds, Topic};
 use amf_wire::{Memory, Name};
@@ -43,19 +44,19 @@ impl Model for Switchboard {
 }
 
 /// The clients that expire leave, and their subscriptions end.
-fn leave(clients: &mut Vec<Mailbox>, subs: &mut Vec<LiveSub>, expired: &[ClientId])
-    ensures clients { clients.new.items ≡ clients_left expired.now clients.old.items }
-    ensures subs { subs.new.items ≡ subs_left expired.now subs.old.items }
+fn leave(clients: &mut Vec<Mailbox>, subs: &mut Vec<LiveSub>, moment: &Moment)
+    ensures clients { clients.new.items ≡ clients_left moment.now.expired.items clients.old.items }
+    ensures subs { subs.new.items ≡ subs_left moment.now.expired.items subs.old.items }
     ensures clients_len { vec_len clients.new ≤ vec_len clients.old }
     ensures subs_len { vec_len subs.new ≤ vec_len subs.old }
     ensures clients_room { vec_capacity clients.new ≡ vec_capacity clients.old }
     ensures subs_room { vec_capacity subs.new ≡ vec_capacity subs.old }
 {
-    if expired.is_empty() {
+    if moment.expired.is_empty() {
         return;
     }
-    clients.retain(|mailbox| !is_in(expired, mailbox.id()));
-    subs.retain(|live| !is_in(expired, live.client()));
+    clients.retain(|mailbox| !moment.expires(mailbox.id()));
+    subs.retain(|live| !moment.expires(live.client()));
 }
 
 impl Switchboard {
@@ -103,7 +104,7 @@ impl Switchboard {
     pub(crate) fn advance(&mut self, moment: &Moment)
         ensures { self.new ≡ board_at moment.now self.old }
     {
-        leave(&mut self.clients, &mut self.subs, &moment.expired);
+        leave(&mut self.clients, &mut self.subs, moment);
         self.moment = moment.present;
     }
 
@@ -130,7 +131,7 @@ impl Switchboard {
         let id = ClientId(self.next_client);
         let mailbox = Mailbox::new(alloc, id, moment.present)?;
         self.clients.reserve(1)?;
-        leave(&mut self.clients, &mut self.subs, &moment.expired);
+        leave(&mut self.clients, &mut self.subs, moment);
         self.moment = moment.present;
         self.clients.push(mailbox).unwrap();
         self.next_client += 1;
@@ -151,7 +152,7 @@ impl Switchboard {
     {
         let id = SubId(self.next_sub);
         self.subs.reserve(1)?;
-        leave(&mut self.clients, &mut self.subs, &moment.expired);
+        leave(&mut self.clients, &mut self.subs, moment);
         self.moment = moment.present;
         self.subs.push(LiveSub::new(id, client, topic)).unwrap();
         self.next_sub += 1;
@@ -181,7 +182,7 @@ impl Switchboard {
     {
         let number = self.next_message;
         let message = Payload::new(alloc, message)?;
-        let parcels = packed(alloc, &self.subs, &moment.expired, &topic, number, &message)?;
+        let parcels = packed(alloc, &self.subs, moment, &topic, number, &message)?;
         let ended = Vec::with_capacity(alloc, parcels.len())?;
         self.advance(moment);
         Ok(self.deliver(parcels, ended, &topic, &message))
@@ -203,12 +204,13 @@ impl Switchboard {
         ensures state { self.new ≡ (published self.old topic.now message.now).1 }
     {
         let number = self.next_message;
-        let ended = hand_round(parcels, &mut self.clients, ended);
-        self.subs.retain(|live| !is_among(&ended, live.id()));
+        let subs = hand_round(parcels, &mut self.clients, ended);
+        let ended = Ended { subs };
+        self.subs.retain(|live| !ended.has(live.id()));
         self.next_message += 1;
         Reply::Published {
             number,
-            ended: SubIds::of_vec(ended),
+            ended: SubIds::of_vec(ended.subs),
         }
     }
 

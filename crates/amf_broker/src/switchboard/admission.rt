@@ -1,12 +1,12 @@
-ghost use Rattle.std.specs.Prelude.{◌≡◌, ◌+◌, ◌==◌, ◌&&◌, ◌||◌, nat_le, ℕ, Option, bytes_eq, length, true};
+ghost use Rattle.std.specs.Prelude.{◌≡◌, ◌+◌, ◌==◌, ◌&&◌, ◌||◌, nat_le, ℕ, Option, bytes_eq, count_by, length, true};
 ghost use Rattle.std.specs.List.{list_any};
 ghost use Rattle.amf_broker.specs.Machine.{refusal, client_refusal, topic_refusal, number_refusal, places_of, last_of, is_connected};
 ghost use Rattle.amf_broker.specs.Admission.{allowed};
-ghost use Rattle.amf_broker.specs.Moments.{board_at};
+ghost use Rattle.amf_broker.specs.Moments.{board_at, stays};
 
 use crate::live_sub::{is_live, live_of};
-use crate::mailbox::{has_client, last_of, untold_of};
-use crate::moment::{Moment, is_in, staying};
+use crate::mailbox::{Mailbox, has_client, last_of, untold_of};
+use crate::moment::Moment;
 use crate::switchboard::Switchboard;
 use crate::{
     Call, ClientId, MAX_CLIENTS, MAX_MESSAGE, MAX_SUBS, MAX_SUBTOPIC, Reply, SubId, Topic,
@@ -27,6 +27,16 @@ fn is_listed(destinations: &[Name], destination: &Name) -> bool
     destinations
         .iter()
         .any(|name| destination.as_bytes() == name.as_bytes())
+}
+
+/// How many clients do not expire.
+fn staying(clients: &[Mailbox], moment: &Moment) -> usize
+    ensures { result ≡ count_by (λ c. stays moment.now.expired.items c.id) clients.now }
+{
+    clients
+        .iter()
+        .filter(|mailbox| !moment.expires(mailbox.id()))
+        .count()
 }
 
 impl Switchboard {
@@ -160,13 +170,13 @@ impl Switchboard {
     fn staying(&self, moment: &Moment) -> usize
         ensures { result ≡ length (board_at moment.now self.now).clients }
     {
-        staying(&self.clients, &moment.expired)
+        staying(&self.clients, moment)
     }
 
     fn is_here(&self, moment: &Moment, client: ClientId) -> bool
         ensures { result ≡ is_connected client (board_at moment.now self.now).clients }
     {
-        !is_in(&moment.expired, client) && has_client(&self.clients, client)
+        !moment.expires(client) && has_client(&self.clients, client)
     }
 
     /// The number of the client's last numbered poll, or 0.

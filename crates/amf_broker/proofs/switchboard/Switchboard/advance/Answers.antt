@@ -7,12 +7,12 @@ use Rattle.amf_broker.proofs.switchboard.Switchboard.advance.Goals as goal
 
 pub invariant_of-self : goal.invariant_of-self
 invariant_of-self c =
-    let clients : c.leave.new.clients.items ≡ clients_left c.args.moment.now.expired.items c.self.inside.clients.items = c.leave.ensures.clients ∙ rw c.deref.ensures.value refl in
-    let subs : c.leave.new.subs.items ≡ subs_left c.args.moment.now.expired.items c.self.inside.subs.items = c.leave.ensures.subs ∙ rw c.deref.ensures.value refl in
+    let clients : c.leave.new.clients.items ≡ clients_left c.args.moment.now.expired.items c.self.inside.clients.items = c.leave.ensures.clients in
+    let subs : c.leave.new.subs.items ≡ subs_left c.args.moment.now.expired.items c.self.inside.subs.items = c.leave.ensures.subs in
     advance-sound c.args.moment.now.present c.args.moment.now.expired.items _ _ _ clients subs c.self.invariant
 
 pub returns : goal.returns
 returns c =
-    let clients : c.leave.new.clients.items ≡ clients_left c.args.moment.now.expired.items c.self.inside.clients.items = c.leave.ensures.clients ∙ rw c.deref.ensures.value refl in
-    let subs : c.leave.new.subs.items ≡ subs_left c.args.moment.now.expired.items c.self.inside.subs.items = c.leave.ensures.subs ∙ rw c.deref.ensures.value refl in
+    let clients : c.leave.new.clients.items ≡ clients_left c.args.moment.now.expired.items c.self.inside.clients.items = c.leave.ensures.clients in
+    let subs : c.leave.new.subs.items ≡ subs_left c.args.moment.now.expired.items c.self.inside.subs.items = c.leave.ensures.subs in
     rw (← c.self.view_is) (advance-state c.args.moment.now.present c.args.moment.now.expired.items (the_view c.self.inside) _ _ clients subs)

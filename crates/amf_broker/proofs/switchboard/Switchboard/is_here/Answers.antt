@@ -7,13 +7,13 @@ use Rattle.amf_broker.proofs.Leavers.{connected-left}
 use Rattle.amf_broker.proofs.Advances.{clients-at}
 use Rattle.amf_broker.proofs.switchboard.Switchboard.is_here.Goals as goal
 
-pub returns-then-not-is_in : goal.returns-then-not-is_in
-returns-then-not-is_in c =
-    let stay = ap not (sym (rw c.deref.ensures.value at c.is_in.ensures) ∙ c.if-not-is_in.true) in
-    let was = rw c.deref-then-not-is_in.ensures.value at c.has_client.ensures in
+pub returns-then-not-expires : goal.returns-then-not-expires
+returns-then-not-expires c =
+    let stay = ap not (sym c.expires.ensures ∙ c.if-not-expires.true) in
+    let was = rw c.deref.ensures.value at c.has_client.ensures in
     rw (← c.self.view_is) (was ∙ sym (ap (is_connected c.args.client) (clients-at c.args.moment.now.present c.args.moment.now.expired.items (the_view c.self.inside)) ∙ (connected-left c.args.client c.args.moment.now.expired.items c.self.inside.clients.items ∙ ap (λ b. b && is_connected c.args.client c.self.inside.clients.items) stay)))
 
-pub returns-else-not-is_in : goal.returns-else-not-is_in
-returns-else-not-is_in c =
-    let stay = ap not (sym (rw c.deref.ensures.value at c.is_in.ensures) ∙ c.if-not-is_in.false) in
-    rw (← c.self.view_is) (ap not c.if-not-is_in.false ∙ sym (ap (is_connected c.args.client) (clients-at c.args.moment.now.present c.args.moment.now.expired.items (the_view c.self.inside)) ∙ (connected-left c.args.client c.args.moment.now.expired.items c.self.inside.clients.items ∙ ap (λ b. b && is_connected c.args.client c.self.inside.clients.items) stay)))
+pub returns-else-not-expires : goal.returns-else-not-expires
+returns-else-not-expires c =
+    let stay = ap not (sym c.expires.ensures ∙ c.if-not-expires.false) in
+    rw (← c.self.view_is) (ap not c.if-not-expires.false ∙ sym (ap (is_connected c.args.client) (clients-at c.args.moment.now.present c.args.moment.now.expired.items (the_view c.self.inside)) ∙ (connected-left c.args.client c.args.moment.now.expired.items c.self.inside.clients.items ∙ ap (λ b. b && is_connected c.args.client c.self.inside.clients.items) stay)))

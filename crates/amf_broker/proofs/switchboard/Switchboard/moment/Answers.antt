@@ -1,7 +1,10 @@
 -- The moment of a call, and who expires at it.
 use Rattle.std.proofs.Common.{◌≡◌, ◌∙◌, true, false, refl, sym}
-use Rattle.amf_broker.specs.Machine.{later}
+use Rattle.amf_broker.specs.State.{Connection}
+use Rattle.amf_broker.specs.Machine.{later, is_idle}
+use Rattle.amf_broker.specs.Sound.{are_in_order}
 use Rattle.amf_broker.proofs.Advances.{none-idle, some-idle}
+use Rattle.amf_broker.proofs.Orders.{part-in-order}
 use Rattle.amf_broker.proofs.switchboard.Switchboard.moment.Goals as goal
 use Rattle.amf_broker.proofs.switchboard.Switchboard.moment.Goals.{then-has_idle+in_ok-expired, else-has_idle}
 
@@ -20,3 +23,11 @@ returns-clause-expired c = elim c.if-has_idle.branch [
       let any = sym (rw (c.later_of-present.ensures, c.deref.ensures.value) at c.has_idle.ensures) ∙ w.if-has_idle.false in
       rw (← c.self.view_is, w.expired-is) (w.new-expired.ensures.items ∙ sym (none-idle (later c.self.inside.moment c.args.moment) c.self.inside.clients.items any))
 ]
+
+pub invariant_of-result : goal.invariant_of-result
+invariant_of-result c =
+    let ordered : are_in_order c.if-has_idle.expired.items ≡ true = elim c.if-has_idle.branch [
+      | then-has_idle+in_ok-expired w ↦ rw (w.expired-is, w.in_ok-expired.ensures, w.deref-then-has_idle.ensures.value) (part-in-order (λ (c : Connection). c.id) (is_idle c.later_of-present.result) c.self.inside.clients.items c.self.invariant.ordered)
+      | else-has_idle w ↦ rw (w.expired-is, w.new-expired.ensures.items) refl
+    ] in
+    record { ordered = ordered }

@@ -11,5 +11,5 @@ deliver-requires-clause-number c =
 
 pub deliver-requires-clause-parcels : goal.deliver-requires-clause-parcels
 deliver-requires-clause-parcels c =
-    let all = rw (c.deref.ensures.value, c.deref-2.ensures.value, reached-is c.args.moment.now.expired.items c.args.topic c.self.inside.subs.items) at c.in_ok-parcels.ensures in
+    let all = rw (c.deref.ensures.value, reached-is c.args.moment.now.expired.items c.args.topic c.self.inside.subs.items) at c.in_ok-parcels.ensures in
     rw (c.advance.ensures, ← c.self.view_is, next-message c.args.moment.now.present c.args.moment.now.expired.items (the_view c.self.inside), subs-at c.args.moment.now.present c.args.moment.now.expired.items (the_view c.self.inside)) all

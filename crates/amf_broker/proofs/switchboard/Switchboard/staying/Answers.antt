@@ -7,5 +7,5 @@ use Rattle.amf_broker.proofs.switchboard.Switchboard.staying.Goals as goal
 
 pub returns : goal.returns
 returns c =
-    let left = rw (c.deref.ensures.value, c.deref-2.ensures.value) at c.staying.ensures in
+    let left = rw c.deref.ensures.value at c.staying.ensures in
     rw (← c.self.view_is) (left ∙ (length-left c.args.moment.now.expired.items c.self.inside.clients.items ∙ sym (ap length (clients-at c.args.moment.now.present c.args.moment.now.expired.items (the_view c.self.inside)))))

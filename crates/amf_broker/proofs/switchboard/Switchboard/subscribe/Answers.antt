@@ -8,8 +8,8 @@ use Rattle.amf_broker.proofs.switchboard.Switchboard.subscribe.Goals as goal
 
 pub invariant_of-self-2 : goal.invariant_of-self-2
 invariant_of-self-2 c =
-    let clients : c.leave.new.clients.items ≡ clients_left c.args.moment.now.expired.items c.self.inside.clients.items = c.leave.ensures.clients ∙ rw c.deref.ensures.value refl in
-    let subs : c.leave.new.subs.items ≡ subs_left c.args.moment.now.expired.items c.self.inside.subs.items = c.leave.ensures.subs ∙ rw (c.deref.ensures.value, c.in_ok-reserve.ensures.items) refl in
+    let clients : c.leave.new.clients.items ≡ clients_left c.args.moment.now.expired.items c.self.inside.clients.items = c.leave.ensures.clients in
+    let subs : c.leave.new.subs.items ≡ subs_left c.args.moment.now.expired.items c.self.inside.subs.items = c.leave.ensures.subs ∙ rw c.in_ok-reserve.ensures.items refl in
     let pushed : c.push.new.self.items ≡ c.leave.new.subs.items ++ (record { id = c.self.inside.next_sub; client = c.args.client; topic = c.args.topic } ∷ []) = search rules in
     let few = rw (← c.self.view_is) at c.requires.few in
     subscribe-sound c.args.moment.now.present c.args.moment.now.expired.items _ _ _ clients subs c.args.client c.args.topic _ pushed c.self.invariant few
@@ -19,7 +19,7 @@ returns-clause-reply c = rw (← c.self.view_is) (ap Subscribed (sym (next-sub c
 
 pub returns-clause-state : goal.returns-clause-state
 returns-clause-state c =
-    let clients : c.leave.new.clients.items ≡ clients_left c.args.moment.now.expired.items c.self.inside.clients.items = c.leave.ensures.clients ∙ rw c.deref.ensures.value refl in
-    let subs : c.leave.new.subs.items ≡ subs_left c.args.moment.now.expired.items c.self.inside.subs.items = c.leave.ensures.subs ∙ rw (c.deref.ensures.value, c.in_ok-reserve.ensures.items) refl in
+    let clients : c.leave.new.clients.items ≡ clients_left c.args.moment.now.expired.items c.self.inside.clients.items = c.leave.ensures.clients in
+    let subs : c.leave.new.subs.items ≡ subs_left c.args.moment.now.expired.items c.self.inside.subs.items = c.leave.ensures.subs ∙ rw c.in_ok-reserve.ensures.items refl in
     let pushed : c.push.new.self.items ≡ c.leave.new.subs.items ++ (record { id = c.self.inside.next_sub; client = c.args.client; topic = c.args.topic } ∷ []) = search rules in
     rw (← c.self.view_is) (subscribe-state c.args.moment.now.present c.args.moment.now.expired.items (the_view c.self.inside) _ _ clients subs c.args.client c.args.topic _ pushed)
