@@ -1,5 +1,5 @@
 -- The board is that of the moment.
-use Rattle.std.proofs.Common.{◌≡◌, ◌∙◌, refl}
+use Rattle.std.proofs.Common.{◌≡◌}
 use Rattle.amf_broker.specs.Moments.{clients_left, subs_left}
 use Rattle.amf_broker.specs.contracts.switchboard.Switchboard.{the_view}
 use Rattle.amf_broker.proofs.Advances.{advance-state, advance-sound}
