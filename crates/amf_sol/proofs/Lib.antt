@@ -17,3 +17,12 @@ pub mod HolderPut
 pub mod PairReads
 pub mod PairLoops
 pub mod FileAnswers
+pub mod Walked3
+pub mod WrittenPairs
+pub mod HolderNodes
+pub mod HolderLacks3
+pub mod HolderLacks0
+pub mod LowHolders
+pub mod FileWrites
+pub mod PairSteps
+pub mod OneFile

@@ -1,10 +1,12 @@
--- The laws of the verdict on a shared object file.
+-- The laws of the verdict on a shared object file, and of what a shared object is written as.
 use Rattle.std.specs.Prelude.{◌≡◌, ◌⊎◌, ℕ, ◌≤◌, List}
 use Rattle.amf_io.specs.declared.reason.Reason.{Reason}
-use Rattle.amf_io.specs.Field.{Field, AreBytes}
+use Rattle.amf_io.specs.Field.{Field, flat, AreBytes}
 use Rattle.amf_io.specs.Verdict.{FixesNext, IsFault, IsFirstFault}
-use Rattle.amf_wire.specs.Style.{free}
+use Rattle.amf_wire.specs.Style.{free, canonical}
+use Rattle.amf_graph.specs.declared.lack.LackKind.{LackKind}
 use Rattle.amf_sol.specs.SharedObject.{Shared, HasHolder, SpellsFile, IsFileReading}
+use Rattle.amf_sol.specs.FileLacks.{IsFileLack}
 use Rattle.amf_sol.specs.FileVerdict.{IsFileAccepted, IsFileRefused}
 
 -- an input of bytes is accepted, or it is refused for a reason at an offset
@@ -30,3 +32,12 @@ FileFaultsAreFirst = (base at : ℕ) (input : List ℕ) (reason : Reason) → Is
 -- the root of a file's graph is a holder, and nothing that it reaches holds it
 abbrev pub FilesHaveHolders : Type 0
 FilesHaveHolders = (o : Shared) (fs : List Field) → SpellsFile free o fs → HasHolder o.holder
+
+-- a shared object has one canonical file, which lacks nothing, and one first lack
+pub record FileOrLack (o : Shared) : Type 0 where
+  pub one_file : (fs gs : List Field) → SpellsFile canonical o fs → SpellsFile canonical o gs → flat fs ≡ flat gs
+  pub not_both : (fs : List Field) → SpellsFile canonical o fs → (number : ℕ) (kind : LackKind) → IsFileLack o number kind → ⊥
+  pub one_lack : (number other_number : ℕ) (kind other_kind : LackKind) → IsFileLack o number kind → IsFileLack o other_number other_kind → (number ≡ other_number) × (kind ≡ other_kind)
+
+abbrev pub FilesOrLacks : Type 0
+FilesOrLacks = (o : Shared) → HasHolder o.holder → FileOrLack o

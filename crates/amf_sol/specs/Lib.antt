@@ -3,6 +3,7 @@ pub mod SharedObject
 pub mod FileVerdict
 pub mod FileLaws
 pub mod FileLacks
+pub mod WrittenFile
 pub mod StoredFile
 pub mod FileAnswer
 pub mod WorkedFiles
@@ -11,3 +12,4 @@ pub mod HolderTest
 pub mod Repeated
 pub mod FileLayout
 pub mod FileReading
+pub mod FileParts

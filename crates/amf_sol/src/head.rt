@@ -5,6 +5,7 @@ ghost use Rattle.amf_sol.specs.FileLayout.{file, no_pairs};
 ghost use Rattle.amf_sol.specs.FileReading.{exact_layout, length_layout, name_layout, version_layout, rest_layout, end_layout};
 
 use crate::SolVersion;
+use crate::fixed::{PADDING, SECOND_SIGNATURE, SIGNATURE};
 use amf_io::{Cursor, ReadEnd, Reason, Source};
 use amf_wire::Name;
 use amf3_read::{Contents, FieldSize, read_contents, read_field, refused};
@@ -25,7 +26,7 @@ pub(crate) fn read_length<S: Source>(
     ensures goes { Goes S.tells S.left S.faults cursor.old cursor.new result }
     ensures answers { Answers S.tells S.left (λ size. size) length_layout cursor.old cursor.new result }
 {
-    read_exactly(alloc, cursor, &[0x00, 0xBF], Reason::BadSignature)?;
+    read_exactly(alloc, cursor, &SIGNATURE, Reason::BadSignature)?;
     Ok(read_field(cursor, FieldSize::Four)?.four())
 }
 
@@ -38,10 +39,9 @@ pub(crate) fn read_head<S: Source>(
     ensures answers { Answers S.tells S.left (λ head. file head.version head.name no_pairs) rest_layout cursor.old cursor.new result }
     ensures placed { OnOk result (IsPlaced cursor.new) }
 {
-    let signature = [b'T', b'C', b'S', b'O', 0, 4, 0, 0, 0, 0];
-    read_exactly(alloc, cursor, &signature, Reason::BadSignature)?;
+    read_exactly(alloc, cursor, &SECOND_SIGNATURE, Reason::BadSignature)?;
     let name = read_name(alloc, cursor)?;
-    read_exactly(alloc, cursor, &[0, 0, 0], Reason::BadPadding)?;
+    read_exactly(alloc, cursor, &PADDING, Reason::BadPadding)?;
     let version = read_version(cursor)?;
     Ok(Head { name, version })
 }

@@ -1,6 +1,6 @@
-//! Laws of the verdict on a shared object file.
+//! Laws of the verdict on a shared object file, and of what a shared object is written as.
 
-ghost use Rattle.amf_sol.specs.FileLaws.{FilesJudged, FilesJudgedOnce, FilesFixNext, FileFaultsAreFirst, FilesHaveHolders};
+ghost use Rattle.amf_sol.specs.FileLaws.{FilesJudged, FilesJudgedOnce, FilesFixNext, FileFaultsAreFirst, FilesHaveHolders, FilesOrLacks};
 
 /// An input of bytes has a verdict, and no input has two: it is a shared object file of the length that it gives, or it is
 /// refused for one reason at one offset.
@@ -24,4 +24,9 @@ pub fn file_faults_are_first()
 /// holds it.
 pub fn files_have_holders()
     ensures { FilesHaveHolders }
+{}
+
+/// A shared object has no two canonical files and no two first lacks, and where it has a canonical file it lacks nothing.
+pub fn files_or_lacks()
+    ensures { FilesOrLacks }
 {}

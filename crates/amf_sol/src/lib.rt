@@ -1,7 +1,9 @@
-//! Shared object files (`.sol`): which fields spell one, the verdict on an input, the shared object itself, and its reader.
+//! Shared object files (`.sol`): which fields spell one, the verdict on an input, the shared object itself, its reader and its
+//! writer.
 #![tactic(auto)]
 
 mod facts;
+mod fixed;
 mod head;
 mod holder;
 mod laws;
@@ -14,12 +16,19 @@ mod sol_end;
 mod sol_version;
 #[cfg(test)]
 mod tests;
+mod write;
+mod write_head;
+mod write_pairs;
+#[cfg(test)]
+mod write_tests;
 
 pub use facts::worked_files;
 pub use laws::{
     file_faults_are_first, files_fix_next_kind, files_have_holders, files_have_one_verdict,
+    files_or_lacks,
 };
 pub use read::read_sol;
 pub use shared_object::SharedObject;
 pub use sol_end::SolEnd;
 pub use sol_version::SolVersion;
+pub use write::{write_sol, write_sol_keyed};
