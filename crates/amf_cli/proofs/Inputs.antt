@@ -1,5 +1,5 @@
 -- How the reading of a whole input ends.
-use Rattle.std.proofs.Common.{◌≡◌, ℕ, ◌≤◌, List, [], ◌∷◌, ◌++◌, ◌+◌, length, length-append, append_assoc, take, drop, Result, Ok, Err, false, refl, sym, ap, ◌∙◌, subst, arith, inl, inr}
+use Rattle.std.proofs.Common.{◌≡◌, ◌≢◌, ℕ, ◌≤◌, List, [], ◌∷◌, ◌++◌, ◌+◌, length, length-append, append_assoc, take, drop, Result, Ok, Err, false, refl, sym, ap, ◌∙◌, subst, arith, inl, inr}
 use Rattle.std.specs.List.{AllByRecursion}
 use Rattle.std.proofs.lemmas.List.{append-nil, length-take}
 use Rattle.amf_io.specs.declared.window.Window.{Window}
@@ -9,7 +9,8 @@ use Rattle.amf_io.specs.Cursor as cursors
 use Rattle.amf_io.specs.CursorReads.{Goes}
 use Rattle.amf_io.specs.ReadEnds.{IsFaultedEnd}
 use Rattle.amf_io.specs.Field.{Field, flat}
-use Rattle.amf_io.specs.Verdict.{IsRefused, IsCutOff, refused, trailing}
+use Rattle.amf_io.specs.declared.reason.Reason.{Reason}
+use Rattle.amf_io.specs.Verdict.{IsRefused, IsCutOff, IsInputRefused, refused, trailing}
 use Rattle.amf_io.proofs.Paths.{flat-append}
 use Rattle.amf_io.specs.declared.ends.ReadEnd.{ReadEnd}
 use Rattle.amf_io.specs.declared.ends.ReadEnd.TheVariants.{Refused, ReadFault, Memory}
@@ -33,15 +34,19 @@ use Rattle.amf_wire.specs.Style.{free}
 use Rattle.amf_packet.specs.declared.packet.Packet.{Packet as KeptPacket}
 use Rattle.amf_packet.specs.Content.{packet_of}
 use Rattle.amf_packet.specs.Packet.{SpellsPacket, IsPacketReading}
+use Rattle.amf_sol.specs.FileAnswer.{IsFileTaken, AnswersFile}
+use Rattle.amf_sol.specs.FileVerdict.{HasItsLength, IsFileRefused}
+use Rattle.amf_sol.specs.SharedObject.{IsFileReading}
+use Rattle.amf_sol.specs.StoredFile.{StoredFile, shared}
 use Rattle.amf_graph.specs.declared.lack.Lack.{Lack}
 use Rattle.amf_cli.specs.declared.run_end.RunEnd.{RunEnd}
 use Rattle.amf_cli.specs.declared.run_end.RunEnd.TheVariants as run
 use Rattle.amf3_read.specs.Pairs.{Pair}
 use Rattle.amf_cli.specs.declared.format.Format.{Format}
-use Rattle.amf_cli.specs.declared.format.Format.TheVariants.{Amf3, Amf0, Packet}
+use Rattle.amf_cli.specs.declared.format.Format.TheVariants.{Amf3, Amf0, Packet, Sol}
 use Rattle.amf_cli.specs.declared.content.Content.{Content as KeptContent}
-use Rattle.amf_cli.specs.Content.{Content, value, packet, content_of}
-use Rattle.amf_cli.specs.Formats.{IsContent}
+use Rattle.amf_cli.specs.Content.{Content, value, packet, file, content_of}
+use Rattle.amf_cli.specs.Formats.{GivesLength, IsContent}
 use Rattle.amf_cli.specs.Input.{most, Input, one, two, IsRefusedAs}
 use Rattle.amf_cli.specs.Run.{IsInputOf, ArePairIn, IsHidden, NeverLacks, ReadsInput}
 use Rattle.amf_cli.specs.Reading.{IsReadOne, AnswersOne, AnswersEnd, mapped}
@@ -135,25 +140,38 @@ ends_told f told input rest at place Memory go h = tt
 
 -- The one content of an input.
 
-pub whole_ends : {X : Type 0} (f : Format) (Q : X → Type 0) (told : Type 0) (input rest : List ℕ) (place : ℕ) (e : ReadEnd) → told → AnswersOne content_of f told input rest 0 place (Err e) → AnswersInput (one f) Q input rest (Err e)
-whole_ends f Q told input rest place (Refused e) y h = refused (h y)
-whole_ends f Q told input rest place ReadFault y h =
+-- but for a file, the verdict is that of any list of fields, and no length is given
+refused_as : (f : Format) → f ≢ Sol → (input : List ℕ) (reason : Reason) (at : ℕ) → IsInputRefused (IsContent f) most input reason at → IsRefusedAs (one f) input reason at
+refused_as Amf3 n input reason at x = x
+refused_as Amf0 n input reason at x = x
+refused_as Packet n input reason at x = x
+refused_as Sol n input reason at x = absurd (n refl)
+
+gives_none : (f : Format) → f ≢ Sol → (input : List ℕ) → GivesLength f input
+gives_none Amf3 n input = tt
+gives_none Amf0 n input = tt
+gives_none Packet n input = tt
+gives_none Sol n input = absurd (n refl)
+
+pub whole_ends : {X : Type 0} (f : Format) → f ≢ Sol → (Q : X → Type 0) (told : Type 0) (input rest : List ℕ) (place : ℕ) (e : ReadEnd) → told → AnswersOne content_of f told input rest 0 place (Err e) → AnswersInput (one f) Q input rest (Err e)
+whole_ends f n Q told input rest place (Refused e) y h = refused_as f n input e.reason e.at (refused (h y))
+whole_ends f n Q told input rest place ReadFault y h =
     let i = h y in
     let w = i.within in
     record { given = i.given; parts = i.parts; unsettled = record { within = omega arith; waits = inl (i.stop, i.cut_off) } }
-whole_ends f Q told input rest place Memory y h = tt
+whole_ends f n Q told input rest place Memory y h = tt
 
 -- nothing follows it
-pub whole_read : (f : Format) (told : Type 0) (g : Content) (input mid : List ℕ) (place : ℕ) → told → mid ≡ [] → IsReadOne f told g input mid 0 place → IsInputOf f g input
-whole_read f told g input mid place y e r =
+pub whole_read : (f : Format) → f ≢ Sol → (told : Type 0) (g : Content) (input mid : List ℕ) (place : ℕ) → told → mid ≡ [] → IsReadOne f told g input mid 0 place → IsInputOf f g input
+whole_read f none told g input mid place y e r =
     let all : input ≡ flat r.fields = r.parts y ∙ ap (λ m. flat r.fields ++ m) e ∙ append-nil (flat r.fields) in
-    record { fields = r.fields; spelled = r.read; parts = all; within = let t = r.taken in let w = r.within in let n : length input ≡ length (flat r.fields) = ap length all in omega arith }
+    record { fields = r.fields; spelled = r.read; its_length = gives_none f none input; parts = all; within = let t = r.taken in let w = r.within in let n : length input ≡ length (flat r.fields) = ap length all in omega arith }
 
 -- it ends, or bytes follow it, or a read fails behind it
-pub whole_end_ends : {X : Type 0} (f : Format) (Q : X → Type 0) (told : Type 0) (g : Content) (input mid rest : List ℕ) (place : ℕ) (e : ReadEnd) → told → IsReadOne f told g input mid 0 place → AnswersEnd {T = Unit {0}} mid rest place (Err e) → AnswersInput (one f) Q input rest (Err e)
-whole_end_ends f Q told g input mid rest place (Refused e) y r (why, at, more) =
-    trailing why mid more (record { fields = r.fields; accepted = r.accepted; parts = r.parts y; place = at ∙ r.taken; within = let w = r.within in omega arith })
-whole_end_ends f Q told g input mid rest place ReadFault y r same =
+pub whole_end_ends : {X : Type 0} (f : Format) → f ≢ Sol → (Q : X → Type 0) (told : Type 0) (g : Content) (input mid rest : List ℕ) (place : ℕ) (e : ReadEnd) → told → IsReadOne f told g input mid 0 place → AnswersEnd {T = Unit {0}} mid rest place (Err e) → AnswersInput (one f) Q input rest (Err e)
+whole_end_ends f n Q told g input mid rest place (Refused e) y r (why, at, more) =
+    refused_as f n input e.reason e.at (trailing why mid more (record { fields = r.fields; accepted = r.accepted; parts = r.parts y; place = at ∙ r.taken; within = let w = r.within in omega arith }))
+whole_end_ends f n Q told g input mid rest place ReadFault y r same =
     let fits : length (flat r.fields) ≤ most = let t = r.taken in let w = r.within in omega arith in
     record {
       given = flat r.fields;
@@ -163,7 +181,25 @@ whole_end_ends f Q told g input mid rest place ReadFault y r same =
         waits = inr (record { fields = r.fields; accepted = r.accepted; parts = sym (append-nil (flat r.fields)); place = omega arith; within = fits });
       };
     }
-whole_end_ends f Q told g input mid rest place Memory y r h = absurd h
+whole_end_ends f n Q told g input mid rest place Memory y r h = absurd h
+
+-- The one file of an input.
+
+pub file_ends : {X : Type 0} (Q : X → Type 0) (told : Type 0) (input rest : List ℕ) (at place limit : ℕ) (e : ReadEnd) → told → at ≡ 0 → limit ≡ most → AnswersFile (stretch told input rest at place limit) (Err e) → AnswersInput (one Sol) Q input rest (Err e)
+file_ends Q told input rest at place limit (Refused f) y a l h = subst (λ n. IsFileRefused n most input f.reason f.at) a (subst (λ n. IsFileRefused at n input f.reason f.at) l (h y))
+file_ends Q told input rest at place limit ReadFault y a l h =
+    let i = h y in
+    let w = i.within in
+    record { given = i.given; parts = i.parts; unsettled = record { within = omega (arith, a, l, w); waits = inl (i.stop, subst (λ n. IsCutOff IsFileReading n i.given i.stop) a i.cut_off) } }
+file_ends Q told input rest at place limit Memory y a l h = tt
+
+-- it is all of the input
+pub file_read : (told : Type 0) (o : StoredFile) (input rest : List ℕ) (at place limit : ℕ) → told → at ≡ 0 → limit ≡ most → IsFileTaken o (stretch told input rest at place limit) → IsInputOf Sol (file (shared o)) input
+file_read told o input rest at place limit y a l r =
+    let parts = r.parts y in
+    let taken = r.taken in
+    let within = r.within in
+    record { fields = r.fields; spelled = r.spelled; its_length = subst HasItsLength (sym parts) r.its_length; parts = parts; within = omega (arith, a, l, taken, within, ap length parts) }
 
 -- The two values of an input.
 

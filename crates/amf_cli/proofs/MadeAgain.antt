@@ -58,7 +58,7 @@ never_lacks g named n kind (order, walk, f) =
 
 -- canonical bytes that are an input
 as_input : (g : Graph) (bytes : List ℕ) → Spelled3 canonical g bytes → length bytes ≤ most → IsInputOf Amf3 (value g) bytes
-as_input g bytes s w = let f = forgotten Amf3 (value g) bytes refl s in record { fields = f.0; spelled = f.1; parts = f.2; within = w }
+as_input g bytes s w = let f = forgotten Amf3 (value g) bytes refl s in record { fields = f.0; spelled = f.1; its_length = tt; parts = f.2; within = w }
 
 -- are read where there is memory
 pub no_other_end : {X : Type 0} (Q : X → Type 0) (g : Graph) (bytes rest : List ℕ) (e : RunEnd) → Spelled3 canonical g bytes → length bytes ≤ most → ReadsInput (one Amf3) NeverLacks Q bytes rest (Err e) → CountsReads {T = X} 0 0 (Err e) → e ≡ run.NoMemory

@@ -4,9 +4,9 @@ use Rattle.std.proofs.lemmas.List.{length-take}
 use Rattle.std.specs.Fmt.{digits}
 use Rattle.amf_io.specs.Reading.{Decides, Waits, read, run}
 use Rattle.amf_io.proofs.Inputs.{outcome_decides, outcome_waits}
-use Rattle.amf_graph.specs.Order.{first, over}
+use Rattle.amf_graph.specs.Order.{again, first, over}
 use Rattle.amf3_spelling.specs.Reads3.{IsValue3}
-use Rattle.amf3_spelling.proofs.Build.{absent_nil}
+use Rattle.amf3_spelling.proofs.Build.{absent_nil, absent_cons}
 use Rattle.amf3_layout.proofs.Values3Layout.{values3_is_layout}
 use Rattle.amf3_layout.proofs.VerdictRows.{all_bytes, both_hold, are_bytes, is_short}
 use Rattle.amf3_read.specs.Pairs.{Pair}
@@ -15,6 +15,7 @@ use Rattle.amf_packet.specs.LayoutPacket.{packet_layout}
 use Rattle.amf_packet.specs.Packet.{IsPacketReading}
 use Rattle.amf_packet.proofs.PacketLayout.{packet_is_layout}
 use Rattle.amf_packet_show.proofs.Rows.{called_counted}
+use Rattle.amf_sol.proofs.FileRows.{files}
 use Rattle.amf_cli.specs.Input.{most}
 use Rattle.amf_cli.specs.WorkedRuns.{RunRows}
 use Rattle.amf_cli.proofs.Spelled.{layouts}
@@ -59,6 +60,10 @@ run_rows = record {
   packet_to_value = refl;
   value_to_packet = refl;
   value_to_value = refl;
+  file_alone = refl;
+  file_to_packet = refl;
+  packet_to_file = refl;
+  value_to_file = refl;
   gen_alone = refl;
   too_large = one 2 (0x04 ∷ 0x80 ∷ 0x05 ∷ []) refl;
   as_large_as_the_limit = one 3 (0x04 ∷ 0x80 ∷ 0x05 ∷ []) refl;
@@ -72,8 +77,11 @@ run_rows = record {
   own_tables = two (0x06 ∷ 0x03 ∷ 0x61 ∷ 0x06 ∷ 0x00 ∷ []) refl;
   bad_version = packets (0x00 ∷ 0x02 ∷ []) refl;
   no_counts = packets (0x00 ∷ 0x03 ∷ []) refl;
+  whole_file = files.accepted;
+  wrong_length = files.wrong_length;
   one_counted = (1, (1 ∷ [], first 1 (omega arith) (absent_nil 1) over, refl), refl);
   packet_counted = (2, called_counted, refl);
+  file_counted = (2, (0 ∷ 1 ∷ [], first 0 (omega arith) (absent_nil 0) (first 1 (omega arith) (absent_cons 0 [] 1 (λ e. omega arith) (absent_nil 1)) (again 1 1 refl over)), refl), refl);
   lacking_line = refl;
   counted_line = refl;
   measured_line = refl;

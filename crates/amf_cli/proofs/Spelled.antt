@@ -19,6 +19,9 @@ use Rattle.amf_packet.specs.Packet.{IsPacketReading}
 use Rattle.amf_packet.proofs.PacketVerdicts.{packet_verdicts}
 use Rattle.amf_packet_show.proofs.Laws.{packet_laws}
 use Rattle.amf_packet_show.proofs.Listed.{counted_alike, listed_alike}
+use Rattle.amf_sol.specs.SharedObject.{IsFileReading}
+use Rattle.amf_sol.proofs.FileVerdicts.{files_judged_once}
+use Rattle.amf_sol_show.proofs.Laws.{file_laws}
 use Rattle.amf_vectors.specs.Made.{made}
 use Rattle.amf3_spelling.specs.Tables.{no_tables}
 use Rattle.amf3_spelling.specs.Lacks3.{IsLack3}
@@ -44,8 +47,8 @@ use Rattle.amf_cli.specs.declared.command.Command.TheVariants.{Canon, Check, Sho
 use Rattle.amf3_read.specs.Pairs.{Pair}
 use Rattle.amf3_read.proofs.PairLayouts.{pair_layout, pairs_are_layouts}
 use Rattle.amf_cli.specs.declared.format.Format.{Format}
-use Rattle.amf_cli.specs.declared.format.Format.TheVariants.{Amf3, Amf0, Packet}
-use Rattle.amf_cli.specs.Content.{Content, value, packet, HasNodes, IsListed}
+use Rattle.amf_cli.specs.declared.format.Format.TheVariants.{Amf3, Amf0, Packet, Sol}
+use Rattle.amf_cli.specs.Content.{Content, value, packet, file, HasNodes, IsListed}
 use Rattle.amf_cli.specs.Formats.{IsSpelling, Spelled, IsWritten, IsUnwritten}
 use Rattle.amf_cli.specs.Input.{most, Input, nothing, one, two, input_of, IsAcceptedAs, IsRefusedAs}
 use Rattle.amf_cli.specs.Run.{IsInputOf, ArePairIn, Says, Makes, Decides, Lacks, LacksEver, MayLack, IsOutputOf}
@@ -64,6 +67,7 @@ once_as nothing input = λ a reason at q. absurd a.accepted
 once_as (one Amf3) input = (judged_once layouts IsValue3 values3_is_layout most input).not_both
 once_as (one Amf0) input = (judged_once layouts0 IsValue0 values0_is_layout most input).not_both
 once_as (one Packet) input = (packet_verdicts.judged_once most input).not_both
+once_as (one Sol) input = let j = files_judged_once 0 most input in j.not_both
 once_as two input = (judged_once pair_layout (Pair IsValue3) pairs_are_layouts most input).not_both
 
 pub once : (c : Command) (input : List ℕ) → IsAcceptedAs (input_of c) input → (reason : Reason) (at : ℕ) → IsRefusedAs (input_of c) input reason at → ⊥
@@ -137,14 +141,17 @@ pair_done g h input p m lt =
 -- what spells a content is not refused
 pub never_refused : (f : Format) (c : Content) (input : List ℕ) (reason : Reason) (at : ℕ) → IsInputOf f c input → IsRefusedAs (one f) input reason at → ⊥
 never_refused Amf3 (value g) input reason at i q = whole_not_refused layouts IsValue3 values3_is_layout input i.within (spelled_done g input i) reason at q
-never_refused Amf3 (packet p) input reason at i q = absurd i.spelled
 never_refused Amf0 (value g) input reason at i q = whole_not_refused layouts0 IsValue0 values0_is_layout input i.within (spelled_done0 g input i) reason at q
-never_refused Amf0 (packet p) input reason at i q = absurd i.spelled
-never_refused Packet (value g) input reason at i q = absurd i.spelled
 never_refused Packet (packet p) input reason at i q =
     let place : length input ≡ 0 + length (flat i.fields) = omega (arith, ap length i.parts) in
     let accepted : IsAccepted IsPacketReading 0 most input (length input) [] = record { fields = i.fields; accepted = (p, i.spelled); parts = i.parts ∙ sym (append-nil (flat i.fields)); place = place; within = i.within } in
     (packet_verdicts.judged_once most input).not_both accepted reason at q
+never_refused Sol (file o) input reason at i q =
+    let place : 0 + length input ≡ 0 + length (flat i.fields) = omega (arith, ap length i.parts) in
+    let accepted : IsAccepted IsFileReading 0 most input (0 + length input) [] = record { fields = i.fields; accepted = (o, i.spelled); parts = i.parts ∙ sym (append-nil (flat i.fields)); place = place; within = let w = i.within in omega arith } in
+    let j = files_judged_once 0 most input in
+    j.not_both (accepted, i.its_length) reason at q
+never_refused _ _ input reason at i q = absurd i.spelled
 
 pair_never_refused : (g h : Graph) (input : List ℕ) (reason : Reason) (at : ℕ) → ArePairIn g h input → IsInputRefused (Pair IsValue3) most input reason at → ⊥
 pair_never_refused g h input reason at p q = whole_not_refused pair_layout (Pair IsValue3) pairs_are_layouts input p.within (pair_done g h input p) reason at q
@@ -196,17 +203,12 @@ lacks_ever (Gen seed size) input number l k = k
 
 -- a command whose output may lack
 pub may_lack : (from to : Format) (c : Content) (fs : List Field) (number : ℕ) (l : Lack) → IsSpelling from free c fs → IsUnwritten to c number l → MayLack (Canon from to)
-may_lack Amf3 Amf0 c fs number l p u = tt
-may_lack Amf3 Packet c fs number l p u = tt
-may_lack Amf0 Amf3 c fs number l p u = tt
-may_lack Amf0 Amf0 c fs number l p u = tt
-may_lack Amf0 Packet c fs number l p u = tt
-may_lack Packet Amf3 c fs number l p u = tt
-may_lack Packet Amf0 c fs number l p u = tt
-may_lack Packet Packet c fs number l p u = tt
-may_lack Amf3 Amf3 (packet q) fs number l p u = absurd p
 may_lack Amf3 Amf3 (value g) fs number l p (value x, d, k) = (nothing_lacks free g fs p).1 l.node l.kind (subst (λ (w : Graph). IsLack3 w l.node l.kind) d k.1)
 may_lack Amf3 Amf3 (value g) fs number l p (packet x, d, k) = absurd d
+may_lack Amf3 Amf3 (value g) fs number l p (file x, d, k) = absurd d
+may_lack Amf3 Amf3 (packet q) fs number l p u = absurd p
+may_lack Amf3 Amf3 (file q) fs number l p u = absurd p
+may_lack _ _ c fs number l p u = tt
 
 -- output that is read again gives itself
 pub made_again : (c : Command) (input bytes : List ℕ) → Makes c input bytes → IsOutputOf c input → bytes ≡ input
@@ -247,16 +249,16 @@ said P Q line go back (inr (n, e)) = inr (λ q. n (back q), e)
 -- the same contents have as many nodes
 counted_content : (c d : Content) (n : ℕ) → SameContent c d → HasNodes c n → HasNodes d n
 counted_content (value g) (value h) n i k = counted_alike g h n i k
-counted_content (value g) (packet q) n i k = absurd i
-counted_content (packet p) (value h) n i k = absurd i
 counted_content (packet p) (packet q) n i k = packet_laws.same_number p q n i k
+counted_content (file o) (file q) n i k = counted_alike o.holder q.holder n i.holder k
+counted_content _ _ n i k = absurd i
 
 -- and one listing
 listed_content : (c d : Content) (b : List ℕ) → SameContent c d → IsListed c b → IsListed d b
 listed_content (value g) (value h) b i k = listed_alike g h b i k
-listed_content (value g) (packet q) b i k = absurd i
-listed_content (packet p) (value h) b i k = absurd i
 listed_content (packet p) (packet q) b i k = packet_laws.same_listing p q b i k
+listed_content (file o) (file q) b i k = file_laws.same_listing o q b i k
+listed_content _ _ b i k = absurd i
 
 pub decides : (c : Command) (input bytes : List ℕ) → Makes c input bytes → Decides c input bytes
 decides (Canon from to) input bytes (r, j, (fit, e, s)) = λ g other h i d. decides_alike to r g fit other (same_input from r g input j i) e d bytes s h

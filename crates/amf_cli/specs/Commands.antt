@@ -7,7 +7,7 @@ use Rattle.amf_words.specs.Words.{Text, Given, HasOptions, value_of}
 use Rattle.amf_cli.specs.declared.command.Command.{Command}
 use Rattle.amf_cli.specs.declared.command.Command.TheVariants as command
 use Rattle.amf_cli.specs.declared.format.Format.{Format}
-use Rattle.amf_cli.specs.declared.format.Format.TheVariants.{Amf3, Amf0, Packet}
+use Rattle.amf_cli.specs.declared.format.Format.TheVariants.{Amf3, Amf0, Packet, Sol}
 use Rattle.amf_cli.specs.declared.kind.Kind.{Kind}
 use Rattle.amf_cli.specs.declared.kind.Kind.TheVariants as kind
 
@@ -28,7 +28,7 @@ options_for kind.Gen = codes "seed" ∷ codes "size" ∷ []
 -- What a value says.
 
 abbrev pub format_named : Text → Option Format
-format_named text = if bytes_eq text (codes "amf3") then Some Amf3 else (if bytes_eq text (codes "amf0") then Some Amf0 else (if bytes_eq text (codes "packet") then Some Packet else None))
+format_named text = if bytes_eq text (codes "amf3") then Some Amf3 else (if bytes_eq text (codes "amf0") then Some Amf0 else (if bytes_eq text (codes "packet") then Some Packet else (if bytes_eq text (codes "sol") then Some Sol else None)))
 
 -- the format that a value names; without a value this one
 abbrev pub format_or : Format → Option Text → Option Format
@@ -52,11 +52,14 @@ number_at least most = option_and_then (number_named least most)
 
 -- What the values make of a command.
 
--- a value goes to either format of values, and a packet to a packet alone
+-- a value goes to either format of values, a packet to a packet alone, and a file to a file alone
 abbrev pub goes_to : Format → Format → Bool
 goes_to Packet Packet = true
+goes_to Sol Sol = true
 goes_to Packet to = false
+goes_to Sol to = false
 goes_to from Packet = false
+goes_to from Sol = false
 goes_to from to = true
 
 abbrev pub canon_to : Format → Option Format → Option Command

@@ -5,9 +5,11 @@ use Rattle.amf_io.specs.Verdict.{IsInputAccepted, IsInputRefused, IsUnsettled}
 use Rattle.amf_io.specs.declared.reason.Reason.{Reason}
 use Rattle.amf3_read.specs.Pairs.{Pair}
 use Rattle.amf3_spelling.specs.Reads3.{IsValue3}
+use Rattle.amf_sol.specs.FileVerdict.{IsFileAccepted, IsFileRefused}
 use Rattle.amf_cli.specs.declared.command.Command.{Command}
 use Rattle.amf_cli.specs.declared.command.Command.TheVariants.{Canon, Check, Show, Same, Gen}
 use Rattle.amf_cli.specs.declared.format.Format.{Format}
+use Rattle.amf_cli.specs.declared.format.Format.TheVariants.{Sol}
 use Rattle.amf_cli.specs.Formats.{IsContent}
 
 -- the most bytes of an input
@@ -33,12 +35,14 @@ Accepts nothing = λ fields. ⊥
 Accepts (one f) = IsContent f
 Accepts two = Pair IsValue3
 
--- The verdicts.
+-- The verdicts. A wrong length of a file is looked at last, and nothing can follow a file.
 
 abbrev pub IsAcceptedAs : Input → List ℕ → Type 0
+IsAcceptedAs (one Sol) input = IsFileAccepted 0 most input
 IsAcceptedAs i input = IsInputAccepted (Accepts i) most input
 
 abbrev pub IsRefusedAs : Input → List ℕ → Reason → ℕ → Type 0
+IsRefusedAs (one Sol) input reason at = IsFileRefused 0 most input reason at
 IsRefusedAs i input reason at = IsInputRefused (Accepts i) most input reason at
 
 -- what was given fixes no verdict yet

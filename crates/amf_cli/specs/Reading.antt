@@ -8,6 +8,7 @@ use Rattle.amf_io.specs.declared.ends.ReadEnd.TheVariants.{Refused, ReadFault, M
 use Rattle.amf_packet.specs.Packet.{Packet, SpellsPacket}
 use Rattle.amf3_read.specs.Answer.{IsTaken, AnswersOf, stretch}
 use Rattle.amf_cli.specs.declared.format.Format.{Format}
+use Rattle.amf_cli.specs.declared.format.Format.TheVariants.{Amf3, Amf0}
 use Rattle.amf_cli.specs.Commands.{goes_to}
 use Rattle.amf_cli.specs.Content.{Content}
 use Rattle.amf_cli.specs.Formats.{IsContent, IsSpelling}
@@ -36,6 +37,12 @@ AnswersEnd input rest at (Err Memory) = ⊥
 -- it was read in a format that goes to this one
 abbrev pub GoesInto : Format → Content → Type 0
 GoesInto to c = (from : Format) × (fs : List Field) × IsSpelling from free c fs × (goes_to from to ≡ true)
+
+-- a format of one value
+abbrev pub IsOfValues : Format → Type 0
+IsOfValues Amf3 = Unit {0}
+IsOfValues Amf0 = Unit {0}
+IsOfValues _ = ⊥
 
 -- the packet was read
 abbrev pub IsPacketRead : Packet → Type 0

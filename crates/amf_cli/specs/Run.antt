@@ -14,7 +14,7 @@ use Rattle.amf_cli.specs.declared.command.Command.TheVariants.{Canon, Check, Sho
 use Rattle.amf_cli.specs.declared.format.Format.{Format}
 use Rattle.amf_cli.specs.declared.format.Format.TheVariants.{Amf3}
 use Rattle.amf_cli.specs.Content.{Content, HasNodes, IsListed}
-use Rattle.amf_cli.specs.Formats.{IsSpelling, Spelled, IsFitted, IsAlike, IsLackIn, IsWritten, IsUnwritten}
+use Rattle.amf_cli.specs.Formats.{GivesLength, IsSpelling, Spelled, IsFitted, IsAlike, IsLackIn, IsWritten, IsUnwritten}
 use Rattle.amf_cli.specs.Input.{most, Input, input_of, IsRefusedAs, IsUnsettledAs}
 use Rattle.amf_cli.specs.declared.run_end.RunEnd.{RunEnd}
 use Rattle.amf_cli.specs.declared.run_end.RunEnd.TheVariants.{Refused, Usage, ReadFault, WriteFault, NoMemory, NoForm}
@@ -29,10 +29,11 @@ TakesInput (Show from) = Unit {0}
 TakesInput Same = Unit {0}
 TakesInput (Gen seed size) = ⊥
 
--- the whole input is one spelling of the content
+-- the whole input is one spelling of the content, with its right length where the format gives one
 pub record IsInputOf (f : Format) (c : Content) (input : List ℕ) : Type 0 where
   pub fields : List Field
   pub spelled : IsSpelling f free c fields
+  pub its_length : GivesLength f input
   pub parts : input ≡ flat fields
   pub within : length input ≤ most
 

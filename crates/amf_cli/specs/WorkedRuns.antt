@@ -2,18 +2,20 @@
 use Rattle.std.specs.Prelude.{◌≡◌, ℕ, List, [], ◌∷◌, codes, Option, Some, None, if◌then◌else◌}
 use Rattle.std.specs.Str.{bytes_eq}
 use Rattle.amf_io.specs.declared.reason.Reason.{Reason}
-use Rattle.amf_io.specs.declared.reason.Reason.TheVariants.{Truncated, BadMarker, BadTextIndex, TooLarge, Trailing, BadVersion}
+use Rattle.amf_io.specs.declared.reason.Reason.TheVariants.{Truncated, BadMarker, BadTextIndex, TooLarge, Trailing, BadVersion, BadLength}
 use Rattle.amf_io.specs.Verdict.{IsInputAccepted, IsInputRefused}
 use Rattle.amf_words.specs.Words.{Text}
 use Rattle.amf_graph.specs.declared.lack.LackKind.TheVariants.{NoForm}
 use Rattle.amf_graph.specs.Graph.{Graph, date, array, node}
 use Rattle.amf_packet_show.specs.WorkedPacketListings.{called}
+use Rattle.amf_sol.specs.WorkedFiles.{one_true_bytes}
+use Rattle.amf_sol_show.specs.WorkedFileListings.{one_array_twice}
 use Rattle.amf_cli.specs.declared.command.Command.{Command}
 use Rattle.amf_cli.specs.declared.command.Command.TheVariants.{Canon, Check, Show, Same, Gen}
-use Rattle.amf_cli.specs.declared.format.Format.TheVariants.{Amf3, Amf0, Packet}
+use Rattle.amf_cli.specs.declared.format.Format.TheVariants.{Amf3, Amf0, Packet, Sol}
 use Rattle.amf_cli.specs.declared.kind.Kind.TheVariants as kind
 use Rattle.amf_cli.specs.Commands.{command_for, number_named}
-use Rattle.amf_cli.specs.Content.{value, packet}
+use Rattle.amf_cli.specs.Content.{value, packet, file}
 use Rattle.amf_cli.specs.Input.{Accepts, one, input_of, IsAcceptedAs, IsRefusedAs, IsUnsettledAs}
 use Rattle.amf_cli.specs.Lines.{count_line, measure_line, no_form_line}
 use Rattle.amf_cli.specs.Run.{IsCounted}
@@ -55,6 +57,11 @@ pub record RunRows : Type 0 where
   pub packet_to_value : command_for kind.Canon (from_to (Some (codes "packet")) (Some (codes "amf3"))) ≡ None
   pub value_to_packet : command_for kind.Canon (from_to None (Some (codes "packet"))) ≡ None
   pub value_to_value : command_for kind.Canon (from_to (Some (codes "amf0")) (Some (codes "amf3"))) ≡ Some (Canon Amf0 Amf3)
+  -- and a file to a file alone
+  pub file_alone : command_for kind.Canon (from_to (Some (codes "sol")) None) ≡ Some (Canon Sol Sol)
+  pub file_to_packet : command_for kind.Canon (from_to (Some (codes "sol")) (Some (codes "packet"))) ≡ None
+  pub packet_to_file : command_for kind.Canon (from_to (Some (codes "packet")) (Some (codes "sol"))) ≡ None
+  pub value_to_file : command_for kind.Canon (from_to None (Some (codes "sol"))) ≡ None
   pub gen_alone : command_for kind.Gen (λ option. None) ≡ None
   -- of three bytes the field that begins at the second is not whole in the first two
   pub too_large : IsInputRefused (Accepts (one Amf3)) 2 (0x04 ∷ 0x80 ∷ 0x05 ∷ []) TooLarge 1
@@ -72,9 +79,13 @@ pub record RunRows : Type 0 where
   -- a packet of version 2, and one that ends before its counts
   pub bad_version : Refused (Check Packet) (0x00 ∷ 0x02 ∷ []) BadVersion 0
   pub no_counts : Refused (Show Packet) (0x00 ∷ 0x03 ∷ []) Truncated 2
+  -- a file of the length that it gives, and the same with a length that is too great
+  pub whole_file : Accepted (Canon Sol Sol) (one_true_bytes 0x17)
+  pub wrong_length : Refused (Check Sol) (one_true_bytes 0x18) BadLength 2
   -- only what the root leads to is counted, over all values of a packet
   pub one_counted : IsCounted (value second_reached) (count_line 1)
   pub packet_counted : IsCounted (packet called) (count_line 2)
+  pub file_counted : IsCounted (file one_array_twice) (count_line 2)
   -- the number of the value that lacks a spelling
   pub lacking_line : no_form_line 3 (record { kind = NoForm; node = 12 }) ≡ codes "amf: no form NoForm node 12 value 3\n"
   pub counted_line : count_line 12 ≡ codes "ok nodes 12\n"

@@ -12,11 +12,12 @@ use std::str;
 /// What the words of a command line ask for.
 #[derive(Clone, Copy, Debug, PartialEq, Eq)]
 pub enum Command {
-    /// `canon`: the canonical spelling of one value, in the same format or another, or of one packet.
+    /// `canon`: the canonical spelling of one value, in the same format or another, of one packet, or of one file.
     Canon { from: Format, to: Format },
-    /// `check`: how many nodes the root of one value leads to, added over the values of a packet.
+    /// `check`: how many nodes the root of one value leads to, added over the values of a packet,
+    /// or that of a file's pairs.
     Check { from: Format },
-    /// `show`: the listing of one value or of one packet.
+    /// `show`: the listing of one value, of one packet, or of one file.
     Show { from: Format },
     /// `same`: whether two values of AMF 3, one after the other, are the same graph.
     Same,

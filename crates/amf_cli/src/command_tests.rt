@@ -107,7 +107,7 @@ fn words_without_a_reading(rt: HostRuntime) {
     for words in [
         ["check", "--from=amf3", "x"].as_slice(),
         &["check", "--to=amf3"],
-        &["check", "--from=sol"],
+        &["check", "--from=file"],
         &["canon", "--from", "packet", "--to", "amf3"],
         &["canon", "--to", "packet"],
         &["show", "--from", "amf0", "--from", "amf0"],

@@ -5,6 +5,8 @@ use amf_graph::Rooted;
 use amf_packet::Packet;
 use amf_packet_show::{count_nodes, count_packet_nodes, show_packet};
 use amf_show::show;
+use amf_sol::SharedObject;
+use amf_sol_show::show_file;
 use amf_wire::Memory;
 use std::alloc::Global;
 
@@ -15,19 +17,23 @@ pub enum Content {
     Value(Rooted),
     /// One packet.
     Packet(Packet),
+    /// One shared object file.
+    File(SharedObject),
 }
 
-/// How many nodes the root of a value leads to, added over the values of a packet.
+/// How many nodes the root of a value leads to, added over the values of a packet; of a file those of the graph whose root
+/// holds the pairs.
 pub fn node_count(alloc: Global, content: &Content) -> Result<u128, Memory>
     ensures { IfOk result (λ nodes. HasNodes (content_of content.now) nodes) }
 {
     match content {
         Content::Value(graph) => Ok(u128::from(count_nodes(alloc, graph)?)),
         Content::Packet(packet) => count_packet_nodes(alloc, packet),
+        Content::File(file) => Ok(u128::from(count_nodes(alloc, file.holder())?)),
     }
 }
 
-/// The listing of a value or of a packet.
+/// The listing of a value, of a packet or of a file.
 pub fn listing(alloc: Global, content: &Content) -> Result<Vec<u8>, Memory>
     ensures { IfOk result (λ bytes. IsListed (content_of content.now) bytes.items) }
 {
@@ -35,6 +41,7 @@ pub fn listing(alloc: Global, content: &Content) -> Result<Vec<u8>, Memory>
     match content {
         Content::Value(graph) => show(alloc, graph, &mut bytes)?,
         Content::Packet(packet) => show_packet(alloc, packet, &mut bytes)?,
+        Content::File(file) => show_file(alloc, file, &mut bytes)?,
     }
     Ok(bytes)
 }

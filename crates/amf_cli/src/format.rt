@@ -10,6 +10,8 @@ pub enum Format {
     Amf0,
     /// An AMF packet (AMF 0, 4.1).
     Packet,
+    /// A shared object file.
+    Sol,
 }
 
 impl Format {
@@ -21,17 +23,20 @@ impl Format {
             "amf3" => Some(Format::Amf3),
             "amf0" => Some(Format::Amf0),
             "packet" => Some(Format::Packet),
+            "sol" => Some(Format::Sol),
             _ => None,
         }
     }
 
-    /// Whether what is in this format can be written in that one: a value in either format of values, and a packet as a packet.
+    /// Whether what is in this format can be written in that one: a value in either format of values, a packet
+    /// as a packet, and a file as a file.
     pub fn goes_to(self, to: Format) -> bool
         ensures { result ≡ goes_to self to }
     {
         match (self, to) {
-            (Format::Packet, Format::Packet) => true,
-            (Format::Packet, _) | (_, Format::Packet) => false,
+            (Format::Packet, Format::Packet) | (Format::Sol, Format::Sol) => true,
+            (Format::Packet, _) | (Format::Sol, _) | (_, Format::Packet) | (_, Format::Sol) =>
+                false,
             _ => true,
         }
     }

@@ -1,5 +1,5 @@
-//! The program `amf`: writes the canonical spelling of any value of AMF 3 or AMF 0, in either, and of any packet, checks it, lists it, and
-//! tells whether two values are the same graph.
+//! The program `amf`: writes the canonical spelling of any value of AMF 3 or AMF 0, in either, of any packet and of any shared object
+//! file, checks it, lists it, and tells whether two values are the same graph.
 #![tactic(auto)]
 
 #[cfg(test)]
@@ -21,9 +21,13 @@ mod output;
 #[cfg(test)]
 mod packet_tests;
 mod reading;
+#[cfg(test)]
+mod real_tests;
 mod report;
 mod run;
 mod run_end;
+#[cfg(test)]
+mod sol_tests;
 mod spelling;
 mod start;
 #[cfg(test)]

@@ -99,7 +99,7 @@ fn only_value(read: Content) -> Rooted
 {
     match read {
         Content::Value(graph) => graph,
-        Content::Packet(_) => unreachable!(),
+        Content::Packet(_) | Content::File(_) => unreachable!(),
     }
 }
 

@@ -1,4 +1,4 @@
-use crate::tests::{Case, check_rows};
+use crate::tests::{check_rows, ends, writes};
 
 static CANON: [&str; 3] = ["canon", "--from", "packet"];
 
@@ -17,33 +17,6 @@ static CALL: &[u8] =
 /// A header, and a message with an array of a null in AMF 3 and of an object with a member without a name.
 static NAMELESS: &[u8] =
     b"\0\0\0\x01\0\x01h\0\0\0\0\0\x05\0\x01\0\0\0\0\0\0\0\0\x0A\0\0\0\x02\x11\x01\x03\0\0\x05\0\0\x09";
-
-/// A command that writes this.
-fn writes(words: &'static [&'static str], input: &'static [u8], output: &'static [u8]) -> Case {
-    Case {
-        words,
-        input,
-        status: 0,
-        output,
-        line: b"",
-    }
-}
-
-/// A command that ends with this status and this line.
-fn ends(
-    words: &'static [&'static str],
-    input: &'static [u8],
-    status: u8,
-    line: &'static [u8],
-) -> Case {
-    Case {
-        words,
-        input,
-        status,
-        output: b"",
-        line,
-    }
-}
 
 #[test]
 fn packets(rt: HostRuntime) {

@@ -1,4 +1,4 @@
-ghost use Rattle.std.specs.Prelude.{◌≡◌, ◌+◌, ◌≤◌, List, OnOk, IfOk, length, false};
+ghost use Rattle.std.specs.Prelude.{◌≡◌, ◌≢◌, ◌+◌, ◌≤◌, List, OnOk, IfOk, length, false};
 ghost use Rattle.std.specs.List.{AllByRecursion};
 ghost use Rattle.amf_io.specs.Cursor.{source_of, place, bound, unread};
 ghost use Rattle.amf_io.specs.CursorReads.{Goes};
@@ -21,13 +21,14 @@ use crate::run_end::RunEnd;
 use amf_graph::{Builder, Rooted, Value};
 use amf_io::{Cursor, ReadEnd, Reason, Refusal, Source, Window};
 use amf_packet::{Packet, read_packet};
+use amf_sol::read_sol;
 use amf_tables::Tables3;
 use amf0_read::read0;
 use amf0_tables::Tables0;
 use amf3_read::read3;
 use std::alloc::Global;
 
-/// The value or the packet that the input spells in a format.
+/// The value, the packet or the file that the input spells in a format.
 pub fn read_content<I: Source>(
     alloc: Global,
     from: Format,
@@ -56,12 +57,49 @@ pub fn read_graphs<I: Source>(alloc: Global, input: &mut I) -> Result<(Rooted, R
     read_pair(alloc, &mut cursor)
 }
 
-/// The value or the packet that all the bytes of a cursor spell in a format.
+/// The value, the packet or the file that all the bytes of a cursor spell in a format.
 fn read_whole<S: Source>(
     alloc: Global,
     from: Format,
     cursor: &mut Cursor<'_, S>,
 ) -> Result<Content, RunEnd>
+    requires at_start { place cursor.old ≡ 0 }
+    requires limit { bound cursor.old ≡ most }
+    ensures same_reference { (source_of cursor.new).ghost_name ≡ (source_of cursor.old).ghost_name }
+    ensures reads { S.tells (source_of cursor.old).now → ReadsInput (one from) NeverLacks (λ c. IsInputOf from (content_of c) (unread S.left cursor.old)) (unread S.left cursor.old) (S.left (source_of cursor.new).now) result }
+    ensures spelled { IfOk result (λ c. (fs : List Field) × IsSpelling from free (content_of c) fs) }
+    ensures taken { S.tells (source_of cursor.old).now → length (unread S.left cursor.old) ≤ length (S.left (source_of cursor.new).now) + (most + 1) }
+    ensures counts { CountsReads (S.faults (source_of cursor.old).now) (S.faults (source_of cursor.new).now) result }
+    ensures ends { IsReadEnd result }
+{
+    match from {
+        Format::Sol => read_file(alloc, cursor),
+        _ => read_ended(alloc, from, cursor),
+    }
+}
+
+/// The file that all the bytes of a cursor spell: nothing can follow it.
+fn read_file<S: Source>(alloc: Global, cursor: &mut Cursor<'_, S>) -> Result<Content, RunEnd>
+    requires at_start { place cursor.old ≡ 0 }
+    requires limit { bound cursor.old ≡ most }
+    ensures same_reference { (source_of cursor.new).ghost_name ≡ (source_of cursor.old).ghost_name }
+    ensures reads { S.tells (source_of cursor.old).now → ReadsInput (one form.Sol) NeverLacks (λ c. IsInputOf form.Sol (content_of c) (unread S.left cursor.old)) (unread S.left cursor.old) (S.left (source_of cursor.new).now) result }
+    ensures spelled { IfOk result (λ c. (fs : List Field) × IsSpelling form.Sol free (content_of c) fs) }
+    ensures taken { S.tells (source_of cursor.old).now → length (unread S.left cursor.old) ≤ length (S.left (source_of cursor.new).now) + (most + 1) }
+    ensures counts { CountsReads (S.faults (source_of cursor.old).now) (S.faults (source_of cursor.new).now) result }
+    ensures ends { IsReadEnd result }
+{
+    let file = read_sol(alloc, cursor)?;
+    Ok(Content::File(file))
+}
+
+/// The value or the packet that all the bytes of a cursor spell in a format.
+fn read_ended<S: Source>(
+    alloc: Global,
+    from: Format,
+    cursor: &mut Cursor<'_, S>,
+) -> Result<Content, RunEnd>
+    requires ended { from ≢ form.Sol }
     requires at_start { place cursor.old ≡ 0 }
     requires limit { bound cursor.old ≡ most }
     ensures same_reference { (source_of cursor.new).ghost_name ≡ (source_of cursor.old).ghost_name }
@@ -101,6 +139,7 @@ fn read_one<S: Source>(
     from: Format,
     cursor: &mut Cursor<'_, S>,
 ) -> Result<Content, ReadEnd>
+    requires ended { from ≢ form.Sol }
     requires limit { bound cursor.old ≡ most }
     ensures goes { Goes S.tells S.left S.faults cursor.old cursor.new result }
     ensures answers { AnswersOne content_of from (S.tells (source_of cursor.old).now) (unread S.left cursor.old) (unread S.left cursor.new) (place cursor.old) (place cursor.new) result }
@@ -109,6 +148,7 @@ fn read_one<S: Source>(
         Format::Amf3 => valued(read_one3(alloc, cursor)),
         Format::Amf0 => valued(read_one0(alloc, cursor)),
         Format::Packet => packeted(read_packet(alloc, cursor)),
+        Format::Sol => unreachable!(),
     }
 }
 

@@ -25,12 +25,13 @@ pub const LIMIT: u32 = 67_108_864;
 /// Does what the words say, and gives the status of the program.
 ///
 /// `words` are those after the program's name. The first is the command, and the others are its options, each at most once, in
-/// any order, as `--x v` or `--x=v`. The formats are `amf3`, `amf0` and `packet`; without `--from` it is `amf3`, and without `--to`
-/// the one of the input. A value goes to `amf3` and `amf0`, and a packet to `packet` alone.
+/// any order, as `--x v` or `--x=v`. The formats are `amf3`, `amf0`, `packet` and `sol`; without `--from` it is `amf3`, and without `--to`
+/// the one of the input. A value goes to `amf3` and `amf0`, a packet to `packet` alone, and a
+/// shared object file to `sol` alone.
 ///
-/// With `canon` the input is one value or packet in the format that `--from` names, and the output is its canonical spelling in the
+/// With `canon` the input is one value, packet or file in the format that `--from` names, and the output is its canonical spelling in the
 /// format that `--to` names. With `check` and `show` the input is so too; the output is the line `ok nodes N`, where N is how many
-/// nodes the root of the value leads to, added over the values of a packet, and its listing. With `same`, which has no options, the input is two AMF 3 values, one after the
+/// nodes the root of the value leads to, added over the values of a packet, or for a file that of its pairs, and its listing. With `same`, which has no options, the input is two AMF 3 values, one after the
 /// other, and the output is the line `same` or `different`. With `gen` nothing is read: the output is the line `nodes N bytes B sum S`
 /// for the graph that is made of the numbers of `--seed`, 0 to 4,294,967,295, and `--size`, 1 to 1,000,000, and its canonical spelling
 /// in AMF 3. A number is 1 to 10 decimal digits.

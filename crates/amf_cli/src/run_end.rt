@@ -20,7 +20,8 @@ pub enum RunEnd {
     /// There was no memory left: status 5.
     NoMemory,
     /// The value of this number is the first that has no canonical spelling, and this is its first lack: status 7. The one
-    /// value of an input has the number 0; the values of a packet are counted from 0, those of the headers first.
+    /// value of an input has the number 0, and so has a file; the values of a packet are counted from 0, those of the headers
+    /// first.
     NoForm { value: u32, lack: Lack },
 }
 

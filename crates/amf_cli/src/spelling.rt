@@ -1,21 +1,24 @@
-ghost use Rattle.std.specs.Prelude.{◌≡◌, ◌≢◌, ℕ, IfOk};
+ghost use Rattle.std.specs.Prelude.{ℕ, IfOk};
 ghost use Rattle.std.specs.Result.{IsErrOf};
 ghost use Rattle.amf_graph.specs.declared.lack.Lack.{Lack};
 ghost use Rattle.amf_graph.specs.Rooted.{content as graph_of};
 ghost use Rattle.amf3_spelling.specs.Lacks3.{IsLack3};
 ghost use Rattle.amf3_spelling.specs.Spells3.{Spelled3};
 ghost use Rattle.amf_packet.specs.Content.{packet_of};
+ghost use Rattle.amf_sol.specs.StoredFile.{shared};
 ghost use Rattle.amf_wire.specs.Style.{canonical};
 ghost use Rattle.amf_cli.specs.declared.format.Format.TheVariants as form;
-ghost use Rattle.amf_cli.specs.Content.{content_of, value as of_graph, packet as of_packet};
+ghost use Rattle.amf_cli.specs.Content.{content_of, value as of_graph, packet as of_packet, file as of_file};
 ghost use Rattle.amf_cli.specs.Formats.{IsWritten, IsUnwritten};
-ghost use Rattle.amf_cli.specs.Reading.{GoesInto, IsPacketRead};
+ghost use Rattle.amf_cli.specs.Reading.{GoesInto, IsPacketRead, IsOfValues};
 
 use crate::content::Content;
 use crate::format::Format;
 use amf_graph::{Lack, Rooted, WriteEnd};
 use amf_packet::{Packet, PacketEnd, write_packet_keyed};
 use amf_packet_show::packet_has_lowering;
+use amf_sol::{SharedObject, write_sol_keyed};
+use amf_sol_show::file_has_lowering;
 use amf0_tables::lowering_is_kept;
 use amf0_write::{lower, write0};
 use amf3_write::write3_keyed;
@@ -31,7 +34,7 @@ pub enum SpellEnd {
     Memory,
 }
 
-/// The canonical spelling of a value or a packet in a format. `NoForm` comes only where there is none.
+/// The canonical spelling of a value, a packet or a file in a format. `NoForm` comes only where there is none.
 pub fn spell(
     alloc: Global,
     keys: Option<RandomState>,
@@ -45,6 +48,7 @@ pub fn spell(
     match content {
         Content::Value(graph) => spell_value(alloc, keys, to, graph),
         Content::Packet(packet) => spell_packet(alloc, keys, packet),
+        Content::File(file) => spell_file(alloc, keys, file),
     }
 }
 
@@ -55,7 +59,7 @@ fn spell_value(
     to: Format,
     graph: &Rooted,
 ) -> Result<Vec<u8>, SpellEnd>
-    requires { to ≢ form.Packet }
+    requires { IsOfValues to }
     ensures written { IfOk result (λ bytes. IsWritten to (of_graph (graph_of graph.now)) bytes.items) }
     ensures lack { (number : ℕ) (l : Lack) → IsErrOf result (SpellEnd.NoForm number l) → IsUnwritten to (of_graph (graph_of graph.now)) number l }
 {
@@ -73,14 +77,14 @@ fn spell_graph(
     to: Format,
     graph: &Rooted,
 ) -> Result<Vec<u8>, WriteEnd>
-    requires { to ≢ form.Packet }
+    requires { IsOfValues to }
     ensures written { IfOk result (λ bytes. IsWritten to (of_graph (graph_of graph.now)) bytes.items) }
     ensures lack { (l : Lack) → IsErrOf result (WriteEnd.NoSpelling l) → IsUnwritten to (of_graph (graph_of graph.now)) 0 l }
 {
     match to {
         Format::Amf3 => spell3(alloc, keys, graph),
         Format::Amf0 => spell0(alloc, graph),
-        Format::Packet => unreachable!(),
+        Format::Packet | Format::Sol => unreachable!(),
     }
 }
 
@@ -103,6 +107,24 @@ fn spell_packet(
         // What was read fits its counts and its lengths.
         Err(PacketEnd::TooMany) => unreachable!(),
         Err(PacketEnd::LongText(_)) => unreachable!(),
+    }
+}
+
+/// The canonical spelling of a shared object file, which has the number 0.
+fn spell_file(
+    alloc: Global,
+    keys: Option<RandomState>,
+    file: &SharedObject,
+) -> Result<Vec<u8>, SpellEnd>
+    ensures written { IfOk result (λ bytes. IsWritten form.Sol (of_file (shared file.now)) bytes.items) }
+    ensures lack { (number : ℕ) (l : Lack) → IsErrOf result (SpellEnd.NoForm number l) → IsUnwritten form.Sol (of_file (shared file.now)) number l }
+{
+    file_has_lowering(file);
+    let mut bytes = Vec::new(alloc);
+    match write_sol_keyed(alloc, keys, file, &mut bytes) {
+        Ok(()) => Ok(bytes),
+        Err(WriteEnd::NoSpelling(lack)) => Err(SpellEnd::NoForm { value: 0, lack }),
+        Err(WriteEnd::Memory) => Err(SpellEnd::Memory),
     }
 }
 

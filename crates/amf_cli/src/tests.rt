@@ -69,6 +69,37 @@ fn not_compared(input: &'static [u8], line: &'static [u8]) -> Case {
     }
 }
 
+/// A command that writes this.
+pub(crate) fn writes(
+    words: &'static [&'static str],
+    input: &'static [u8],
+    output: &'static [u8],
+) -> Case {
+    Case {
+        words,
+        input,
+        status: 0,
+        output,
+        line: b"",
+    }
+}
+
+/// A command that ends with this status and this line.
+pub(crate) fn ends(
+    words: &'static [&'static str],
+    input: &'static [u8],
+    status: u8,
+    line: &'static [u8],
+) -> Case {
+    Case {
+        words,
+        input,
+        status,
+        output: b"",
+        line,
+    }
+}
+
 /// What a run over streams in memory gave.
 #[derive(Drop)]
 pub(crate) struct Ran {

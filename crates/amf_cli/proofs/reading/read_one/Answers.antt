@@ -14,7 +14,7 @@ use Rattle.amf_cli.proofs.Inputs.{of_value, answers_mapped, goes_mapped, packet_
 use Rattle.amf_cli.proofs.reading.read_one.Goals as goal
 
 pub read_packet-requires : goal.read_packet-requires
-read_packet-requires g c = omega (arith, c.requires)
+read_packet-requires g c = omega (arith, c.requires.limit)
 
 pub returns-in-Amf3-clause-goes : goal.returns-in-Amf3-clause-goes
 returns-in-Amf3-clause-goes g c =

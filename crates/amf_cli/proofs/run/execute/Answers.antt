@@ -3,8 +3,13 @@ use Rattle.std.specs.Prelude.{IfSome}
 use Rattle.amf_cli.specs.declared.command.Command.{Command}
 use Rattle.amf_cli.specs.Commands.{Reads}
 use Rattle.amf_cli.specs.Run.{RunsTo, MayLack, IsReading, TakesInput}
-use Rattle.amf_cli.proofs.Asked.{one_reading}
+use Rattle.amf_cli.proofs.Asked.{one_reading, read_sized}
 use Rattle.amf_cli.proofs.run.execute.Goals as goal
+
+pub perform-requires : goal.perform-requires
+perform-requires g c =
+    let read : Reads c.args.words.now c.in-Some.command = subst (λ (o : Option Command). IfSome o (Reads c.args.words.now)) c.in-Some.is c.in_ok-command.ensures.reads in
+    read_sized c.args.words.now c.in-Some.command read
 
 pub returns-in-Some-clause-runs : goal.returns-in-Some-clause-runs
 returns-in-Some-clause-runs g c = λ d w told.
