@@ -167,7 +167,7 @@ fn read_integer<S: Source>(cursor: &mut Cursor<'_, S>) -> Result<i32, ReadEnd>
     Ok(sign29(field.number()))
 }
 
-/// Reads a double, by its bits (AMF 3 specification, 3.7).
+/// Reads a double, by its bits (AMF 3 specification, 3.7). Its ends are those of [`read3`].
 pub fn read_double<S: Source>(cursor: &mut Cursor<'_, S>) -> Result<Pattern, ReadEnd>
     ensures goes { Goes S.tells S.left S.faults cursor.old cursor.new result }
     ensures answers { Answers S.tells S.left (λ p. p.0) eight_layout cursor.old cursor.new result }

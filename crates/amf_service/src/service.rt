@@ -45,7 +45,7 @@ pub trait Service: Send + Sync + Drop {
         ensures answer { Answers (asked (record { knows = knows self.now; gives = gives self.now }) operation.now (content args.now)) result }
         ensures light { IfOk result (λ graph. weight graph.arena ≤ 67108864) };
 
-    /// Isomorphic arguments give isomorphic results and equal faults. It does nothing.
+    /// Whole isomorphic arguments give isomorphic results and equal faults. It does nothing.
     fn is_lawful(&self)
         ensures { IsLawful (gives self.now) };
 }

@@ -11,7 +11,8 @@ const UNIT: u64 = 1 << 52;
 /// The bit of a double's sign.
 const SIGN: u64 = 1 << 63;
 
-/// The whole number that the double is, or `None` where it is none, where its size is 2^53 or more, and for minus zero.
+/// The whole number that the double is (IEEE 754, 3.4, binary64), or `None` where it is none, where its size is 2^53 or more,
+/// and for minus zero.
 pub fn whole_of(p: Pattern) -> Option<i64>
     ensures some { IfSome result (λ v. IsPatternOf p.0 v) }
     ensures none { IsNone result → (v : ℤ) → IsPatternOf p.0 v → ⊥ }
@@ -58,7 +59,7 @@ fn power_of_two(power: u64) -> u64
     1 << power
 }
 
-/// The double that is this whole number, or `None` exactly where its size is 2^53 or more.
+/// The double that is this whole number (IEEE 754, 3.4, binary64), or `None` exactly where its size is 2^53 or more.
 pub fn pattern_of(v: i64) -> Option<Pattern>
     ensures some { IfSome result (λ p. IsPatternOf p.0 v) }
     ensures none { IsSome result ↔ HasPattern v }
