@@ -8,7 +8,8 @@ use Rattle.amf_io.specs.Cursor.{place, bound}
 use Rattle.std.specs.Result.{IsErrAnd}
 use Rattle.amf_io.specs.declared.ends.ReadEnd.{ReadEnd}
 use Rattle.amf_io.specs.Layout.{Layout}
-use Rattle.amf_io.specs.CursorReads.{IsPlaced, Ends}
+use Rattle.amf_io.specs.ReadEnds.{IsPlaced}
+use Rattle.amf_io.specs.CursorReads.{Ends}
 use Rattle.amf0_tables.specs.Parts0.{is_empty}
 use Rattle.amf0_tables.specs.Layout0State.{State0}
 use Rattle.amf0_tables.specs.Layout0.{Read0}
@@ -23,7 +24,7 @@ use Rattle.amf3_read.specs.declared.opening.Parts.TheVariants as parts
 use Rattle.amf3_read.specs.declared.fill.Next.TheVariants as next
 use Rattle.amf3_read.specs.Filling.{IsOpened}
 use Rattle.amf3_read.specs.Opened.{KeptText}
-use Rattle.amf3_read.specs.Ready.{left_of}
+use Rattle.amf3_read.specs.Answer.{left_of}
 use Rattle.amf3_read.specs.Frames.{Suits, IsNext}
 use Rattle.amf3_read.proofs.PartPut.{stays, same_head}
 use Rattle.amf3_read.proofs.Stack.{opened_less, opened_grown}

@@ -7,14 +7,15 @@ use Rattle.amf_io.specs.declared.ends.ReadEnd.{ReadEnd}
 use Rattle.amf_io.specs.Cursor.{place, bound}
 use Rattle.amf_io.specs.Field.{flat}
 use Rattle.amf_io.specs.Layout.{Layout, bind, Runs}
-use Rattle.amf_io.specs.CursorReads.{IsPlaced, Goes, Answers, Ends}
+use Rattle.amf_io.specs.ReadEnds.{IsPlaced, Goes}
+use Rattle.amf_io.specs.CursorReads.{Answers, Ends}
 use Rattle.amf_io.proofs.CursorReads.{leads_end, end_reads}
 use Rattle.amf_graph.specs.declared.value.NodeId.{NodeId}
 use Rattle.amf_graph.specs.Arena.{Arena, IsBuilt, array}
 use Rattle.amf0_tables.specs.KeptTables0.{KeptTables0}
 use Rattle.amf0_tables.specs.Layout0State.{State0, state0_of}
 use Rattle.amf0_tables.specs.Layout0.{Read0, Reader0, with_items, behind0, value0_layout, strict}
-use Rattle.amf3_read.specs.Ready.{left_of}
+use Rattle.amf3_read.specs.Answer.{left_of}
 use Rattle.amf3_read.specs.Frames.{Fuel}
 use Rattle.amf3_read.proofs.LayoutBinds.{bind_give, bind_same}
 use Rattle.amf3_read.proofs.Stack.{opened_less}

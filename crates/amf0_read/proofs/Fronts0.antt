@@ -8,7 +8,8 @@ use Rattle.amf_io.specs.declared.cursor.Cursor.{Cursor}
 use Rattle.amf_io.specs.Cursor.{place, unread}
 use Rattle.amf_io.specs.Field.{Field, flat, AreBytes}
 use Rattle.amf_io.specs.Layout.{Layout, give, bind, Runs}
-use Rattle.amf_io.specs.CursorReads.{Goes, Answers, Leads}
+use Rattle.amf_io.specs.ReadEnds.{Goes}
+use Rattle.amf_io.specs.CursorReads.{Answers, Leads}
 use Rattle.amf_io.proofs.Whole.{whole_fixed}
 use Rattle.amf_io.proofs.Paths.{path_join, path_bind, flat-append}
 use Rattle.amf_io.proofs.Ables.{bytes_flat}

@@ -6,7 +6,8 @@ use Rattle.amf_io.specs.declared.window.Window.{Window}
 use Rattle.amf_io.specs.declared.cursor.Cursor.{Cursor}
 use Rattle.amf_io.specs.declared.ends.ReadEnd.{ReadEnd}
 use Rattle.amf_io.specs.Layout.{Layout, give, bind}
-use Rattle.amf_io.specs.CursorReads.{Goes, Answers, Ends, Leads}
+use Rattle.amf_io.specs.ReadEnds.{Goes}
+use Rattle.amf_io.specs.CursorReads.{Answers, Ends, Leads}
 use Rattle.amf_io.proofs.CursorReads.{goes_nowhere, goes_then, goes_other, leads_nowhere, leads_answers, leads_behind, leads_on, leads_end, end_reads}
 use Rattle.amf_graph.specs.declared.value.Value.{Value as Stored}
 use Rattle.amf_graph.specs.declared.value.NodeId.{NodeId}
@@ -25,7 +26,7 @@ use Rattle.amf0_tables.specs.Layout0.{Read0, read0, Reader0, behind0, value0_lay
 use Rattle.amf3_read.specs.declared.opening.Parts.TheVariants as parts
 use Rattle.amf3_read.specs.declared.frame.Slot.TheVariants as slot3
 use Rattle.amf3_read.specs.Filling.{with_more, IsOpened}
-use Rattle.amf3_read.specs.Ready.{left_of}
+use Rattle.amf3_read.specs.Answer.{left_of}
 use Rattle.amf3_read.specs.Frames.{Fuel, Enough}
 use Rattle.amf3_read.proofs.LayoutBinds.{bind_bind}
 use Rattle.amf3_read.proofs.PartPut.{part_names, part_values, more_size, stays, same_head, put_node, put_built, put_tables, put_opened, put_head, put_nodes}

@@ -7,7 +7,8 @@ use Rattle.amf_io.specs.declared.ends.ReadEnd.{ReadEnd}
 use Rattle.amf_io.specs.Cursor.{place, bound}
 use Rattle.amf_io.specs.Field.{text_kind}
 use Rattle.amf_io.specs.Layout.{give}
-use Rattle.amf_io.specs.CursorReads.{IsPlaced, Goes, Answers}
+use Rattle.amf_io.specs.ReadEnds.{IsPlaced, Goes}
+use Rattle.amf_io.specs.CursorReads.{Answers}
 use Rattle.amf_graph.specs.declared.value.TextId.{TextId}
 use Rattle.amf_graph.specs.Graph as graph
 use Rattle.amf_graph.specs.Arena.{Arena, StoredNode, IsBuilt, IsTextId, text_at, head_content}
@@ -24,7 +25,7 @@ use Rattle.amf3_read.specs.Opened.{KeptText}
 use Rattle.amf3_read.proofs.LayoutBinds.{chunk_reads, chunk_ends}
 use Rattle.amf3_read.specs.declared.opening.Parts.TheVariants as parts
 use Rattle.amf3_read.specs.Filling.{IsOpened}
-use Rattle.amf3_read.specs.Ready.{left_of}
+use Rattle.amf3_read.specs.Answer.{left_of}
 use Rattle.amf3_read.proofs.TextReads.{new_text_there}
 use Rattle.amf3_read.proofs.PartPut.{stays, same_head}
 use Rattle.amf3_read.proofs.GoesOn.{suits_name}

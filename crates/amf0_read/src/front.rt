@@ -1,9 +1,9 @@
 ghost use Rattle.std.specs.Prelude.{ℕ, ◌<◌, reverse, IfOk};
-ghost use Rattle.amf_io.specs.CursorReads.{Goes};
+ghost use Rattle.amf_io.specs.ReadEnds.{Goes};
 ghost use Rattle.amf0_tables.specs.Layout0.{value0_layout};
 ghost use Rattle.amf0_tables.specs.Layout0State.{state0_of};
 ghost use Rattle.amf0_tables.specs.TableParts0.{shown_tables};
-ghost use Rattle.amf3_read.specs.Ready.{left_of};
+ghost use Rattle.amf3_read.specs.Answer.{left_of};
 ghost use Rattle.amf0_read.specs.Ready0.{Ready0, Kept0};
 ghost use Rattle.amf0_read.specs.Frames0.{Holds, owed};
 ghost use Rattle.amf0_read.specs.Fronts0.{LeadsFront, LeadsItems};

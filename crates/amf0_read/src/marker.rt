@@ -1,6 +1,7 @@
 ghost use Rattle.std.specs.Prelude.{◌≡◌, ◌<◌, true, false, length, IfSome, IfNone, IfOk, IfErr, OnOk};
 ghost use Rattle.amf_io.specs.Cursor.{place};
-ghost use Rattle.amf_io.specs.CursorReads.{IsPlaced, Goes, Answers};
+ghost use Rattle.amf_io.specs.ReadEnds.{IsPlaced, Goes};
+ghost use Rattle.amf_io.specs.CursorReads.{Answers};
 ghost use Rattle.amf0_tables.specs.Layout0.{form0_of};
 ghost use Rattle.amf0_tables.specs.Refusals0.{is_no_marker0, marker0_refusal};
 ghost use Rattle.amf0_tables.specs.TableParts0.{shown_tables};

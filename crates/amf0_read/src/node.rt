@@ -1,15 +1,14 @@
 ghost use Rattle.std.specs.Prelude.{◌≡◌, ℕ, ◌+◌, ◌<◌, ◌≤◌, length, OnOk, IfOk, IfErr};
 ghost use Rattle.amf_io.specs.Cursor.{place};
-ghost use Rattle.amf_io.specs.CursorReads.{Goes};
+ghost use Rattle.amf_io.specs.ReadEnds.{Goes};
 ghost use Rattle.amf_graph.specs.Arena.{HeadNames, IsBuilt, IsTextId, array};
 ghost use Rattle.amf_graph.specs.Bounds.{items_of};
 ghost use Rattle.amf_graph.specs.Building.{leaf_head};
-ghost use Rattle.amf3_read.specs.Answer.{room_end};
+ghost use Rattle.amf3_read.specs.Answer.{room_end, left_of};
 ghost use Rattle.amf0_tables.specs.Layout0 as layout;
 ghost use Rattle.amf0_tables.specs.Layout0.{Reader0, behind0};
 ghost use Rattle.amf0_tables.specs.Layout0State.{state0_of};
 ghost use Rattle.amf0_tables.specs.TableParts0.{shown_tables};
-ghost use Rattle.amf3_read.specs.Ready.{left_of};
 ghost use Rattle.amf0_read.specs.Markers0.{form};
 ghost use Rattle.amf0_read.specs.Opens0.{KeepsLeaf, Opens, OpensObject};
 ghost use Rattle.amf0_read.specs.Ready0.{Ready0, Kept0};

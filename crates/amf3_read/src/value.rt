@@ -4,12 +4,13 @@ ghost use Rattle.amf_wire.specs.U29.{u29_value};
 ghost use Rattle.amf_io.specs.Field.{u29_kind, no_refusal};
 ghost use Rattle.amf_io.specs.Layout.{give, want};
 ghost use Rattle.amf_io.specs.Cursor.{place};
-ghost use Rattle.amf_io.specs.CursorReads.{IsPlaced, Goes, Answers};
+ghost use Rattle.amf_io.specs.ReadEnds.{IsPlaced, Goes};
+ghost use Rattle.amf_io.specs.CursorReads.{Answers};
 ghost use Rattle.amf3_layout.specs.Layout3State.{state_of};
 ghost use Rattle.amf3_layout.specs.Layout3.{read, eight_layout, value_layout};
-ghost use Rattle.amf3_read.specs.Ready.{Ready, Continues, left_of};
+ghost use Rattle.amf3_read.specs.Ready.{Ready, Continues};
 ghost use Rattle.amf3_spelling.specs.KeptTables.{AreTablesIn};
-ghost use Rattle.amf3_read.specs.Answer.{HasRoomFor, Answers3, Raises, between};
+ghost use Rattle.amf3_read.specs.Answer.{HasRoomFor, Answers3, Raises, between, left_of};
 ghost use Rattle.amf3_read.specs.Steps.{marker_layout};
 ghost use Rattle.amf3_read.specs.Frames.{Starts, StartHolds, Kept};
 

@@ -6,8 +6,7 @@ use Rattle.amf_io.specs.declared.window.Window.{Window}
 use Rattle.amf_io.specs.declared.cursor.Cursor.{Cursor}
 use Rattle.amf_io.specs.Cursor.{source_of, ahead, unread, EndsByFault, GivesEnd}
 use Rattle.amf_io.specs.Cursor as cursors
-use Rattle.amf_io.specs.CursorReads.{Goes}
-use Rattle.amf_io.specs.ReadEnds.{IsFaultedEnd}
+use Rattle.amf_io.specs.ReadEnds.{IsFaultedEnd, Goes}
 use Rattle.amf_io.specs.Field.{Field, flat}
 use Rattle.amf_io.specs.declared.reason.Reason.{Reason}
 use Rattle.amf_io.specs.Verdict.{IsRefused, IsCutOff, IsInputRefused, refused, trailing}

@@ -7,14 +7,14 @@ pub mod Plans
 pub mod Field
 pub mod Verdict
 pub mod ReadEnds
+pub mod Standard
 pub mod Halls
 pub mod Front
 pub mod Fronts
--- Devices of the proofs: no clause of a public call needs them.
+-- Devices of the proofs. Of the public items only Format and the laws about layouts need them.
 pub mod Layout
 pub mod Reading
 pub mod LayoutAnswer
 pub mod CursorReads
 pub mod Worked
-pub mod Standard
 pub mod Rests

@@ -38,6 +38,12 @@ Answers c (Err Unknown) = c ≡ no_operation
 Answers c (Err (Fault x)) = (c ≡ given (fault x)) × IsFault x
 Answers c (Err Memory) = Unit {0}
 
+-- the fault with this text, or want of memory
+abbrev pub FaultsWith : List ℕ → ServiceEnd → Type 0
+FaultsWith x Unknown = ⊥
+FaultsWith x (Fault y) = y ≡ x
+FaultsWith x Memory = Unit {0}
+
 -- isomorphic graphs, or the same fault
 abbrev pub GivenMatch : Given → Given → Type 0
 GivenMatch (result g) (result h) = Isomorphic g h

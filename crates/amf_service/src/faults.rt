@@ -1,4 +1,4 @@
-ghost use Rattle.amf_service.specs.Made.{FaultsWith};
+ghost use Rattle.amf_service.specs.Meaning.{FaultsWith};
 
 use crate::ServiceEnd;
 use amf_wire::Name;

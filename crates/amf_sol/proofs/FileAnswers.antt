@@ -10,7 +10,8 @@ use Rattle.amf_io.specs.declared.reason.Reason.TheVariants.{BadLength}
 use Rattle.amf_io.specs.declared.ends.ReadEnd.{ReadEnd}
 use Rattle.amf_io.specs.declared.ends.ReadEnd.TheVariants.{Refused, ReadFault, Memory}
 use Rattle.amf_io.specs.Cursor.{source_of, place, bound, unread}
-use Rattle.amf_io.specs.CursorReads.{Goes, Answers, Ends}
+use Rattle.amf_io.specs.ReadEnds.{Goes}
+use Rattle.amf_io.specs.CursorReads.{Answers, Ends}
 use Rattle.amf_io.specs.Field.{Field, AreBytes, flat, u32_kind, no_refusal}
 use Rattle.amf_io.specs.Layout.{give, want, Path, Runs}
 use Rattle.amf_io.specs.LayoutAnswer.{EndsBy}
@@ -24,8 +25,7 @@ use Rattle.amf_io.proofs.Whole.{whole_fixed}
 use Rattle.amf_wire.specs.Style.{free}
 use Rattle.amf_wire.specs.Text.{IsText}
 use Rattle.amf_graph.specs.Rooted.{RootedArena, content}
-use Rattle.amf3_read.specs.Answer.{Stretch, between, stretch}
-use Rattle.amf3_read.specs.Ready.{left_of}
+use Rattle.amf3_read.specs.Answer.{Stretch, between, stretch, left_of}
 use Rattle.amf0_tables.specs.Layout0State.{state0_of}
 use Rattle.amf_sol.specs.declared.head.Head.{Head}
 use Rattle.amf_sol.specs.declared.sol_version.SolVersion.{SolVersion}
