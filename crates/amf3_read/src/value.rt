@@ -10,7 +10,8 @@ ghost use Rattle.amf3_layout.specs.Layout3State.{state_of};
 ghost use Rattle.amf3_layout.specs.Layout3.{read, eight_layout, value_layout};
 ghost use Rattle.amf3_read.specs.Ready.{Ready, Continues};
 ghost use Rattle.amf3_spelling.specs.KeptTables.{AreTablesIn};
-ghost use Rattle.amf3_read.specs.Answer.{HasRoomFor, Answers3, Raises, between, left_of};
+ghost use Rattle.amf_io.specs.Stretch.{between};
+ghost use Rattle.amf3_read.specs.Answer.{HasRoomFor, Answers3, Raises, left_of};
 ghost use Rattle.amf3_read.specs.Steps.{marker_layout};
 ghost use Rattle.amf3_read.specs.Frames.{Starts, StartHolds, Kept};
 

@@ -7,6 +7,7 @@ pub mod Plans
 pub mod Field
 pub mod Verdict
 pub mod ReadEnds
+pub mod Stretch
 pub mod Standard
 pub mod Halls
 pub mod Front
@@ -16,5 +17,6 @@ pub mod Layout
 pub mod Reading
 pub mod LayoutAnswer
 pub mod CursorReads
+pub mod Repeated
 pub mod Worked
 pub mod Rests

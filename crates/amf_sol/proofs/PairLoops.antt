@@ -28,10 +28,10 @@ use Rattle.amf_sol.specs.declared.sol_version.SolVersion.{SolVersion}
 use Rattle.amf_sol.specs.declared.sol_version.SolVersion.TheVariants.{Amf0, Amf3}
 use Rattle.amf_sol.specs.FileLayout.{FileState, file, holder_arena, no_pairs, pair_by, pair_layout}
 use Rattle.amf_sol.specs.FileReading.{IsOpenHolder, PairsEnded, GoesPast, AnswersPairs, AnswersHolder}
-use Rattle.amf_sol.specs.Repeated.{steps}
+use Rattle.amf_io.specs.Repeated.{steps}
 use Rattle.amf_sol.proofs.FileSound.{holder_built, holder_tables}
-use Rattle.amf_sol.proofs.RepeatedVerdicts.{none_whole}
-use Rattle.amf_sol.proofs.SharedPaths.{given}
+use Rattle.amf_io.proofs.RepeatedVerdicts.{none_whole}
+use Rattle.amf_io.proofs.SharedPaths.{given}
 
 -- behind so many steps stands one more
 pub steps_on : {S : Type 0} (step : S → Layout S) (m : ℕ) (s x : S) (fs : List Field) → Runs (steps step m s) fs x → Path (steps step (suc m) s) fs (bind (step x) (λ u. give u))
