@@ -1,7 +1,6 @@
 -- The definitions that contracts cite.
 pub mod Meaning
 pub mod Registry
-pub mod Whole
 pub mod Shipped
 pub mod ServiceLaws
 pub mod WorkedServices

@@ -240,5 +240,4 @@ fn names_are_ordered(rt: HostRuntime) -> Result<(), Fail> {
 fn facts_stand(_rt: HostRuntime) {
     service_rows();
     service_laws();
-    whole_numbers();
 }

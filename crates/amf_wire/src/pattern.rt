@@ -1,5 +1,6 @@
 ghost use Rattle.std.specs.Prelude.{◌≡◌, ◌<◌, ◌^◌, ◌/◌, ◌%◌, ℕ, ℤ, ◌↔◌, IfSome, IsSome, IsNone};
 ghost use Rattle.amf_wire.specs.Whole.{IsPatternOf, HasPattern, HasParts, IsSize, PatternsAreInverse};
+ghost use Rattle.amf_wire.specs.WholeNumbers.{WholeNumbers};
 
 /// The bits of a 64-bit double (AMF 3 specification, 3.7; AMF 0 specification, 2.2).
 #[derive(Clone, Copy, Debug, PartialEq, Eq)]
@@ -89,4 +90,9 @@ fn magnitude_of(size: u64) -> u64
 /// A whole number below 2^53 in size has one pattern, and a pattern is that of at most one whole number.
 pub fn patterns_are_inverse()
     ensures { PatternsAreInverse }
+{}
+
+/// The functions from doubles to whole numbers and back say what the relation says.
+pub fn whole_numbers()
+    ensures { WholeNumbers }
 {}
