@@ -10,6 +10,6 @@ mod NodeStarts0
 mod Closes0
 mod Fronts0
 mod FrontStarts0
-mod Costs0
+pub mod Costs0
 mod ReadAnswers0
 pub mod ValueReads0

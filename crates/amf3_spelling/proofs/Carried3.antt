@@ -91,16 +91,18 @@ module _ (g h : Graph) (P : ℕ → ℕ → Type 0)
     (nodes : (i j : ℕ) → P i j → NodesMatch P (node_at g i) (node_at h j))
     (again : (ps : List (List ℕ × Value)) → by_name (by_name ps) ≡ by_name ps) where
   -- two lists, place by place
-  record Along (xs ys : List ℕ) : Type 0 where
-    size : length xs ≡ length ys
-    pairs : (k i j : ℕ) → slice_get xs k ≡ Some i → slice_get ys k ≡ Some j → P i j
+  pub record Along (xs ys : List ℕ) : Type 0 where
+    pub size : length xs ≡ length ys
+    pub pairs : (k i j : ℕ) → slice_get xs k ≡ Some i → slice_get ys k ≡ Some j → P i j
 
-  record Joined (t u : Tables) : Type 0 where
-    words : t.words ≡ u.words
-    nodes_along : Along t.nodes u.nodes
-    done_along : Along t.done u.done
+  -- tables of the one and of the other graph
+  pub record Joined (t u : Tables) : Type 0 where
+    pub words : t.words ≡ u.words
+    pub nodes_along : Along t.nodes u.nodes
+    pub done_along : Along t.done u.done
 
-  abbrev Carried : Spelling Tables → Spelling Tables → Type 0
+  -- what is spelled on such tables is spelled of the other
+  abbrev pub Carried : Spelling Tables → Spelling Tables → Type 0
   Carried A B = (t u : Tables) (b : List ℕ) (t' : Tables) → Joined t u → A t b t' → (u' : Tables) × B u b u' × Joined t' u'
 
   carried_then : (A A' B B' : Spelling Tables) → Carried A A' → Carried B B' → Carried (Then A B) (Then A' B')
@@ -177,7 +179,7 @@ module _ (g h : Graph) (P : ℕ → ℕ → Type 0)
           let same : one.0 ≡ i = right one.0 i j (k.done_along.pairs n one.0 j one.1 e) m in
           p.new n (one.1 ∙ ap (λ w. Some w) same)
 
-  carried_value : (N N' : ℕ → Spelling Tables) → ((i j : ℕ) → P i j → Carried (N i) (N' j)) → (v w : Value) → ValuesMatch P v w → Carried (ValueBy N canonical g v) (ValueBy N' canonical h w)
+  pub carried_value : (N N' : ℕ → Spelling Tables) → ((i j : ℕ) → P i j → Carried (N i) (N' j)) → (v w : Value) → ValuesMatch P v w → Carried (ValueBy N canonical g v) (ValueBy N' canonical h w)
   carried_value N N' c (leaf x) (leaf y) m t u b t' j p =
       subst (λ w. (u' : Tables) × (IsLeaf w × Parts (λ v t b t'. ⊥) canonical (step (byte (leaf_marker w)) ∷ leaf_layout w) u b u') × Joined t' u') m
       (let o = carried_parts canonical (λ v t b t'. ⊥) (λ v t b t'. ⊥) (λ v w m t u b t' j p. absurd p) (step (byte (leaf_marker x)) ∷ leaf_layout x) (step (byte (leaf_marker x)) ∷ leaf_layout x) (refl, leaf_zip P x) t u b t' j p.1 in (o.0, (p.0, o.1), o.2))
@@ -185,7 +187,7 @@ module _ (g h : Graph) (P : ℕ → ℕ → Type 0)
   carried_value N N' c (leaf x) (node k) m t u b t' j p = elim m [ ]
   carried_value N N' c (node n) (leaf x) m t u b t' j p = elim m [ ]
 
-  carried_node : (d i j : ℕ) → P i j → Carried (NodeIn d canonical g i) (NodeIn d canonical h j)
+  pub carried_node : (d i j : ℕ) → P i j → Carried (NodeIn d canonical g i) (NodeIn d canonical h j)
   carried_node zero i j m t u b t' k p = carried_placed canonical i j m t u b t' k p
   carried_node (suc d) i j m t u b t' k (inl p) = let o = carried_placed canonical i j m t u b t' k p in (o.0, inl o.1, o.2)
   carried_node (suc d) i j m t u b t' k (inr p) =
