@@ -31,7 +31,7 @@ use Rattle.amf3_read.proofs.Stack.{opened_less, opened_grown}
 use Rattle.amf3_read.proofs.GoesOn.{suits_behind, closed_there, closed_fits, closed_kept, closed_holds}
 use Rattle.amf0_read.specs.declared.frame.Todo.TheVariants.{Items, Pairs}
 use Rattle.amf0_read.specs.declared.frame.Slot.TheVariants.{Item}
-use Rattle.amf0_read.specs.declared.marker.Marker.{Marker}
+use Rattle.amf0_tables.specs.declared.marker.Marker0.{Marker0}
 use Rattle.amf0_read.specs.declared.fill.Step.TheVariants as step
 use Rattle.amf0_read.specs.Ready0.{Ready0, Kept0}
 use Rattle.amf0_read.specs.Frames0.{Lacks, GoesOn, StepHolds}
@@ -79,7 +79,7 @@ module _ {S : Type 0} (i : ℕ) (y : Arena) (t : KeptTables0) (e : Cursor S Wind
     shut_holds = closed_holds i n.todo y b t.amf3 e r.amf3 o n.suits n.none eq
 
 -- an item comes next, and its marker was read
-pub item_waits : (a : Arena) (i n : ℕ) (m : Marker) → Lacks (head_content a (stored_at a i).head) (stored_at a i) (Items (suc n)) → StepHolds a a i (step.Wait (Item n) m)
+pub item_waits : (a : Arena) (i n : ℕ) (m : Marker0) → Lacks (head_content a (stored_at a i).head) (stored_at a i) (Items (suc n)) → StepHolds a a i (step.Wait (Item n) m)
 item_waits a i n m s = (grows_itself a, tt, s)
 
 pub item_kept : {S : Type 0} (a : Arena) (t : KeptTables0) (c d : Cursor S Window) → Ready0 0 a t c → IsPlaced d → bound d ≡ bound c → place c < place d → Kept0 1 0 a a t c d

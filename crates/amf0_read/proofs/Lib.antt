@@ -1,5 +1,4 @@
 mod States0
-mod Markers
 pub mod TextReads0
 mod Stack0
 mod GoesOn0

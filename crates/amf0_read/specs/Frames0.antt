@@ -1,5 +1,5 @@
 -- What a stack of open nodes is: what is still to be read, as a layout, and what holds of the arena. A device by which verdicts are proved.
-use Rattle.std.specs.Prelude.{◌≡◌, ℕ, suc, ◌<◌, ◌≤◌, true, List, [], ◌∷◌, length, ◌⊎◌, Result, Ok, Err, if◌then◌else◌}
+use Rattle.std.specs.Prelude.{◌≡◌, ℕ, suc, ◌<◌, ◌≤◌, true, List, [], ◌∷◌, length, ◌⊎◌, Result, Ok, Err, if◌then◌else◌, Some}
 use Rattle.amf_io.specs.declared.window.Window.{Window}
 use Rattle.amf_io.specs.declared.cursor.Cursor.{Cursor}
 use Rattle.amf_io.specs.declared.ends.ReadEnd.{ReadEnd}
@@ -33,7 +33,6 @@ use Rattle.amf0_read.specs.declared.node.Start.{Start}
 use Rattle.amf0_read.specs.declared.node.Start.TheVariants as start
 use Rattle.amf0_read.specs.declared.fill.Step.{Step}
 use Rattle.amf0_read.specs.declared.fill.Step.TheVariants as step
-use Rattle.amf0_read.specs.Markers0.{form}
 use Rattle.amf0_read.specs.Ready0.{Ready0, Kept0}
 
 -- The part that a value is, and what is still to be read behind it.
@@ -66,7 +65,7 @@ rest (u ∷ us) (f ∷ fs) x = bind (resume (value0_layout u.values) u.pairs f.n
 
 -- what is read now
 abbrev pub current : Fuel → Now → State0 → Layout Read0
-current u (now.Begun m) s = behind0 (value0_layout u.values) u.pairs s (form m)
+current u (now.Begun m) s = behind0 (value0_layout u.values) u.pairs s (Some m)
 current u (now.Given v) s = give (read0 v s)
 current u (now.Open node p) s = todo (value0_layout u.values) u.pairs node.0 p s
 

@@ -13,18 +13,18 @@ ghost use Rattle.amf0_read.specs.Ready0.{Ready0, Kept0};
 ghost use Rattle.amf0_read.specs.Frames0.{todo as still, Lacks, GoesOn, StepHolds, StepMoves, owed_at};
 
 use crate::frame::{Slot, Todo};
-use crate::marker::{Marker, read_marker, read_marker_or_end};
+use crate::marker::{read_marker, read_marker_or_end};
 use crate::text::read_short_text;
 use amf_graph::{Builder, NodeId};
 use amf_io::{Cursor, ReadEnd, Source};
-use amf0_tables::Tables0;
+use amf0_tables::{Marker0, Tables0};
 use std::alloc::Global;
 
 /// How an open node went on.
 #[derive(Clone, Copy, Debug, PartialEq, Eq)]
 pub enum Step {
     /// It waits for a value for this slot, whose marker was read.
-    Wait(Slot, Marker),
+    Wait(Slot, Marker0),
     /// It is closed.
     Closed,
 }
