@@ -17,7 +17,7 @@ use Rattle.amf3_spelling.proofs.BytesOf.{fits_too}
 use Rattle.amf0_tables.specs.Tables0.{Tables0, no_tables0, add_node0, add_done0}
 use Rattle.amf0_tables.specs.Refusals0.{marker0_kind, index0_kind}
 use Rattle.amf0_tables.specs.Parts0.{marker0_field, Short, Long, Marked0, LeafBy0, Values0, Pairs0, Count0, PairsBy0, is_empty}
-use Rattle.amf0_tables.specs.Spells0.{NodeBy0, Named0, Begun0, InlineIn0, SpellsIn0, IsSpelling0, Spelled0}
+use Rattle.amf0_tables.specs.Spells0.{NodeBy0, Named0, Begun0, InlineIn0, SpellsIn0, Spells0, IsSpelling0, Spelled0}
 use Rattle.amf0_tables.proofs.Zips.{zip_length}
 
 none_too : {X : Type 0} (xs ys : List X) → length xs ≡ length ys → xs ≡ [] → ys ≡ []
@@ -168,6 +168,11 @@ module _ (g h : Graph) (P : ℕ → ℕ → Type 0)
   carried_inline zero b i j m t u fs t' k p = elim p [ ]
   carried_inline (suc n) b i j m t u fs t' k p = carried_begun (SpellsIn0 n canonical g) (SpellsIn0 n canonical h) (carried_value n (carried_inline n)) b i j m t u fs t' k p
 
+  -- a value that is spelled in the canonical way, and the value that stands for it
+  pub carried_spells0 : (v w : Value) → ValuesMatch P v w → Carried (Spells0 canonical g v) (Spells0 canonical h w)
+  carried_spells0 v w m t u fs t' j (n, p) = let o = carried_value n (carried_inline n) false v w m t u fs t' j p in (o.0, (n, o.1), o.2)
+
+  -- of the whole graph
   pub carried_root : (fs : List Field) → ValuesMatch P g.root h.root → IsSpelling0 canonical g fs → IsSpelling0 canonical h fs
   carried_root fs m p =
       let none : Along P [] [] = record { size = refl; pairs = λ k i j e f. absurd (no_entry k i e) } in
