@@ -8,7 +8,8 @@ use Rattle.amf_io.specs.Cursor.{place, bound}
 use Rattle.std.specs.Result.{IsErrAnd}
 use Rattle.amf_io.specs.declared.ends.ReadEnd.{ReadEnd}
 use Rattle.amf_io.specs.Layout.{Layout}
-use Rattle.amf_io.specs.CursorReads.{IsPlaced, Ends}
+use Rattle.amf_io.specs.ReadEnds.{IsPlaced}
+use Rattle.amf_io.specs.CursorReads.{Ends}
 use Rattle.amf0_tables.specs.Parts0.{is_empty}
 use Rattle.amf0_tables.specs.Layout0State.{State0}
 use Rattle.amf0_tables.specs.Layout0.{Read0}
@@ -23,14 +24,14 @@ use Rattle.amf3_read.specs.declared.opening.Parts.TheVariants as parts
 use Rattle.amf3_read.specs.declared.fill.Next.TheVariants as next
 use Rattle.amf3_read.specs.Filling.{IsOpened}
 use Rattle.amf3_read.specs.Opened.{KeptText}
-use Rattle.amf3_read.specs.Ready.{left_of}
+use Rattle.amf3_read.specs.Answer.{left_of}
 use Rattle.amf3_read.specs.Frames.{Suits, IsNext}
 use Rattle.amf3_read.proofs.PartPut.{stays, same_head}
 use Rattle.amf3_read.proofs.Stack.{opened_less, opened_grown}
 use Rattle.amf3_read.proofs.GoesOn.{suits_behind, closed_there, closed_fits, closed_kept, closed_holds}
 use Rattle.amf0_read.specs.declared.frame.Todo.TheVariants.{Items, Pairs}
 use Rattle.amf0_read.specs.declared.frame.Slot.TheVariants.{Item}
-use Rattle.amf0_read.specs.declared.marker.Marker.{Marker}
+use Rattle.amf0_tables.specs.declared.marker.Marker0.{Marker0}
 use Rattle.amf0_read.specs.declared.fill.Step.TheVariants as step
 use Rattle.amf0_read.specs.Ready0.{Ready0, Kept0}
 use Rattle.amf0_read.specs.Frames0.{Lacks, GoesOn, StepHolds}
@@ -78,7 +79,7 @@ module _ {S : Type 0} (i : ℕ) (y : Arena) (t : KeptTables0) (e : Cursor S Wind
     shut_holds = closed_holds i n.todo y b t.amf3 e r.amf3 o n.suits n.none eq
 
 -- an item comes next, and its marker was read
-pub item_waits : (a : Arena) (i n : ℕ) (m : Marker) → Lacks (head_content a (stored_at a i).head) (stored_at a i) (Items (suc n)) → StepHolds a a i (step.Wait (Item n) m)
+pub item_waits : (a : Arena) (i n : ℕ) (m : Marker0) → Lacks (head_content a (stored_at a i).head) (stored_at a i) (Items (suc n)) → StepHolds a a i (step.Wait (Item n) m)
 item_waits a i n m s = (grows_itself a, tt, s)
 
 pub item_kept : {S : Type 0} (a : Arena) (t : KeptTables0) (c d : Cursor S Window) → Ready0 0 a t c → IsPlaced d → bound d ≡ bound c → place c < place d → Kept0 1 0 a a t c d

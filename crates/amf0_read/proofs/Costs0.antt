@@ -1,5 +1,5 @@
 -- What is read weighs less than its bytes: each value of AMF 0 takes more bytes than it adds to the weight of the arena.
-use Rattle.std.proofs.Common.{◌≡◌, ℕ, zero, suc, ◌+◌, ◌≤◌, ◌<◌, Bool, true, false, not, List, [], length, get_or, set, refl, ap, arith, inl, inr, ◌⊎◌}
+use Rattle.std.proofs.Common.{◌≡◌, ℕ, zero, suc, ◌+◌, ◌≤◌, ◌<◌, Bool, true, false, not, List, [], length, get_or, set, refl, ap, arith, inl, inr, ◌⊎◌, Option, Some, None}
 use Rattle.std.specs.Prelude.{if◌then◌else◌, slice_index, ◌==◌}
 use Rattle.std.specs.Int.{from_be_bytes, w16, w32, w64}
 use Rattle.std.proofs.lemmas.Bool.{cases_lt}
@@ -20,7 +20,10 @@ use Rattle.amf3_layout.proofs.Reader3Costs.{value_costs}
 use Rattle.amf0_tables.specs.Parts0.{is_empty}
 use Rattle.amf0_tables.specs.Refusals0.{marker0_kind, index0_kind}
 use Rattle.amf0_tables.specs.Layout0State.{State0, with_class, class_head, with_node0, changed0, switched}
-use Rattle.amf0_tables.specs.Layout0.{Form0, double, boolean, short_text, object, movie_clip, null, undefined, place, names, end, strict, date, long_text, unsupported, record_set, document, typed, switch, form0_of, TextRead0, new_text0, short_layout, long_layout, Read0, read0, end0, Reader0, items0, pairs0, shut0, with_pairs, with_items, whole0, with_members, behind0, value0_layout}
+use Rattle.amf0_tables.specs.Layout0.{TextRead0, new_text0, short_layout, long_layout, Read0, read0, end0, Reader0, items0, pairs0, shut0, with_pairs, with_items, whole0, with_members, behind0, value0_layout}
+use Rattle.amf0_tables.specs.declared.marker.Marker0.{Marker0}
+use Rattle.amf0_tables.specs.declared.marker.Marker0.TheVariants as marker
+use Rattle.amf0_tables.specs.Markers0.{marker0_at}
 
 abbrev state_size : State0 → ℕ
 state_size s = weight s.amf3.arena
@@ -125,46 +128,44 @@ module _ (v : Reader0) (h : (e : Bool) (s : State0) → Costs value_size (state_
       costs_within value_size (state_size (with_class x.state x.id)) (text_size x) (with_members v fuel x) (omega (arith, weight_traits x.state.amf3.arena (record { class = x.id; dynamic = true; sealed = [] })))
       (costs_with_pairs fuel (with_class x.state x.id) (class_head x.state) refl)
 
-  costs_behind : (fuel : ℕ) (s : State0) (f : Form0) → Costs value_size (state_size s + 1) (behind0 v fuel s f)
-  costs_behind fuel s double = costs_want value_size (state_size s + 1) (raw_kind 8) (λ b. give (read0 (Double (record { 0 = from_be_bytes w64 b })) s)) (λ b some. costs_give value_size (state_size s + 1 + length b) (read0 (Double (record { 0 = from_be_bytes w64 b })) s) (omega arith))
-  costs_behind fuel s boolean = costs_want value_size (state_size s + 1) (raw_kind 1) (λ b. give (read0 (Flag (not (slice_index b 0 == 0))) s)) (λ b some. costs_give value_size (state_size s + 1 + length b) (read0 (Flag (not (slice_index b 0 == 0))) s) (omega arith))
-  costs_behind fuel s short_text =
+  costs_behind : (fuel : ℕ) (s : State0) (f : Option Marker0) → Costs value_size (state_size s + 1) (behind0 v fuel s f)
+  costs_behind fuel s (Some marker.Double) = costs_want value_size (state_size s + 1) (raw_kind 8) (λ b. give (read0 (Double (record { 0 = from_be_bytes w64 b })) s)) (λ b some. costs_give value_size (state_size s + 1 + length b) (read0 (Double (record { 0 = from_be_bytes w64 b })) s) (omega arith))
+  costs_behind fuel s (Some marker.Boolean) = costs_want value_size (state_size s + 1) (raw_kind 1) (λ b. give (read0 (Flag (not (slice_index b 0 == 0))) s)) (λ b some. costs_give value_size (state_size s + 1 + length b) (read0 (Flag (not (slice_index b 0 == 0))) s) (omega arith))
+  costs_behind fuel s (Some marker.Text) =
       costs_bind text_size value_size (state_size s + 1) (short_layout s) (λ x. give (read0 (Text (record { 0 = x.id })) x.state)) (costs_within text_size (state_size s) (state_size s + 1) (short_layout s) (omega arith) (costs_short s))
       (λ x. costs_give value_size (text_size x) (read0 (Text (record { 0 = x.id })) x.state) (omega arith))
-  costs_behind fuel s object = costs_within value_size (text_size (new_text0 s [])) (state_size s + 1) (with_members v fuel (new_text0 s [])) (omega (arith, weight_text s.amf3.arena [])) (costs_members fuel (new_text0 s []))
-  costs_behind fuel s movie_clip = costs_give value_size (state_size s + 1) (end0 s) (omega arith)
-  costs_behind fuel s null = costs_give value_size (state_size s + 1) (read0 Null s) (omega arith)
-  costs_behind fuel s undefined = costs_give value_size (state_size s + 1) (read0 Undefined s) (omega arith)
-  costs_behind fuel s place =
+  costs_behind fuel s (Some marker.Object) = costs_within value_size (text_size (new_text0 s [])) (state_size s + 1) (with_members v fuel (new_text0 s [])) (omega (arith, weight_text s.amf3.arena [])) (costs_members fuel (new_text0 s []))
+  costs_behind fuel s (Some marker.Null) = costs_give value_size (state_size s + 1) (read0 Null s) (omega arith)
+  costs_behind fuel s (Some marker.Undefined) = costs_give value_size (state_size s + 1) (read0 Undefined s) (omega arith)
+  costs_behind fuel s (Some marker.Reference) =
       costs_want value_size (state_size s + 1) (index0_kind (length s.nodes)) (λ b. give (read0 (Node (record { 0 = get_or s.nodes (from_be_bytes w16 b) 0 })) s))
       (λ b some. costs_give value_size (state_size s + 1 + length b) (read0 (Node (record { 0 = get_or s.nodes (from_be_bytes w16 b) 0 })) s) (omega arith))
-  costs_behind fuel s names =
+  costs_behind fuel s (Some marker.Names) =
       costs_want value_size (state_size s + 1) (u32_kind no_refusal) (λ b. with_pairs v fuel s arena.array)
       (λ b some. costs_within value_size (state_size s) (state_size s + 1 + length b) (with_pairs v fuel s arena.array) (omega arith) (costs_with_pairs fuel s arena.array refl))
-  costs_behind fuel s end = costs_give value_size (state_size s + 1) (end0 s) (omega arith)
-  costs_behind fuel s strict =
+  costs_behind fuel s None = costs_give value_size (state_size s + 1) (end0 s) (omega arith)
+  costs_behind fuel s (Some marker.Strict) =
       costs_want value_size (state_size s + 1) (u32_kind no_refusal) (λ b. with_items v (from_be_bytes w32 b) s arena.array)
       (λ b some. costs_within value_size (state_size s + 2) (state_size s + 1 + length b) (with_items v (from_be_bytes w32 b) s arena.array) (omega arith) (costs_with_items (from_be_bytes w32 b) s))
-  costs_behind fuel s date = costs_date s
-  costs_behind fuel s long_text =
+  costs_behind fuel s (Some marker.Date) = costs_date s
+  costs_behind fuel s (Some marker.LongText) =
       costs_bind text_size value_size (state_size s + 1) (long_layout s) (λ x. give (read0 (Text (record { 0 = x.id })) x.state)) (costs_within text_size (state_size s) (state_size s + 1) (long_layout s) (omega arith) (costs_long s))
       (λ x. costs_give value_size (text_size x) (read0 (Text (record { 0 = x.id })) x.state) (omega arith))
-  costs_behind fuel s unsupported = costs_give value_size (state_size s + 1) (read0 Undefined s) (omega arith)
-  costs_behind fuel s record_set = costs_give value_size (state_size s + 1) (end0 s) (omega arith)
-  costs_behind fuel s document =
+  costs_behind fuel s (Some marker.Unsupported) = costs_give value_size (state_size s + 1) (read0 Undefined s) (omega arith)
+  costs_behind fuel s (Some marker.Document) =
       costs_bind (λ (x : TextRead0). text_size x + 1) value_size (state_size s + 1) (long_layout s) (λ x. give (whole0 x.state (arena.xml_document x.id))) (costs_more text_size (state_size s) 1 (long_layout s) (costs_long s))
       (λ x. costs_give value_size (text_size x + 1) (whole0 x.state (arena.xml_document x.id)) (omega (arith, weight_begun x.state.amf3.arena (arena.xml_document x.id))))
-  costs_behind fuel s typed =
+  costs_behind fuel s (Some marker.Typed) =
       costs_bind text_size value_size (state_size s + 1) (short_layout s) (with_members v fuel) (costs_within text_size (state_size s) (state_size s + 1) (short_layout s) (omega arith) (costs_short s)) (costs_members fuel)
-  costs_behind fuel s switch =
+  costs_behind fuel s (Some marker.Switch) =
       costs_bind (λ (x : ValueRead). weight x.state.arena + 1) value_size (state_size s + 1) (value_layout fuel s.amf3) (λ x. give (read0 x.value (switched s x.state))) (λ fs x r. omega (arith, value_costs fuel s.amf3 fs x r))
       (λ x. costs_give value_size (weight x.state.arena + 1) (read0 x.value (switched s x.state)) (omega arith))
 
 costs_value : (n : ℕ) (e : Bool) (s : State0) → Costs value_size (state_size s) (value0_layout n e s)
 costs_value zero e s = costs_stuck value_size (state_size s)
 costs_value (suc n) e s =
-    costs_want value_size (state_size s) (marker0_kind e (length s.nodes)) (λ b. behind0 (value0_layout n) n s (form0_of (slice_index b 0)))
-    (λ b some. costs_within value_size (state_size s + 1) (state_size s + length b) (behind0 (value0_layout n) n s (form0_of (slice_index b 0))) (omega arith) (costs_behind (value0_layout n) (costs_value n) n s (form0_of (slice_index b 0))))
+    costs_want value_size (state_size s) (marker0_kind e (length s.nodes)) (λ b. behind0 (value0_layout n) n s (marker0_at (slice_index b 0)))
+    (λ b some. costs_within value_size (state_size s + 1) (state_size s + length b) (behind0 (value0_layout n) n s (marker0_at (slice_index b 0))) (omega arith) (costs_behind (value0_layout n) (costs_value n) n s (marker0_at (slice_index b 0))))
 
 pub value0_costs : (n : ℕ) (e : Bool) (s : State0) (fs : List Field) (x : Read0) → Runs (value0_layout n e s) fs x → weight x.state.amf3.arena < weight s.amf3.arena + length (flat fs)
 value0_costs n e s fs x r = let c = costs_value n e s fs x r in omega arith

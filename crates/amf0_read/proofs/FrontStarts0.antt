@@ -1,5 +1,5 @@
 -- What is read of a value before its stack of open nodes is needed leads on, with its bytes.
-use Rattle.std.proofs.Common.{◌≡◌, ℕ, zero, suc, ◌≤◌, ◌<◌, Bool, true, false, List, [], ◌∷◌, ◌++◌, length, append-nil, reverse, refl, sym, subst, arith, Result, Ok, Err}
+use Rattle.std.proofs.Common.{◌≡◌, ℕ, zero, suc, ◌≤◌, ◌<◌, Bool, true, false, List, [], ◌∷◌, ◌++◌, length, append-nil, reverse, refl, sym, subst, arith, Result, Ok, Err, Some}
 use Rattle.std.specs.Result.{IsErrAnd}
 use Rattle.amf_io.specs.declared.window.Window.{Window}
 use Rattle.amf_io.specs.declared.cursor.Cursor.{Cursor}
@@ -7,14 +7,15 @@ use Rattle.amf_io.specs.declared.ends.ReadEnd.{ReadEnd}
 use Rattle.amf_io.specs.Cursor.{place, bound}
 use Rattle.amf_io.specs.Field.{flat}
 use Rattle.amf_io.specs.Layout.{Layout, bind, Runs}
-use Rattle.amf_io.specs.CursorReads.{IsPlaced, Goes, Answers, Ends}
+use Rattle.amf_io.specs.ReadEnds.{IsPlaced, Goes}
+use Rattle.amf_io.specs.CursorReads.{Answers, Ends}
 use Rattle.amf_io.proofs.CursorReads.{leads_end, end_reads}
 use Rattle.amf_graph.specs.declared.value.NodeId.{NodeId}
 use Rattle.amf_graph.specs.Arena.{Arena, IsBuilt, array}
 use Rattle.amf0_tables.specs.KeptTables0.{KeptTables0}
 use Rattle.amf0_tables.specs.Layout0State.{State0, state0_of}
-use Rattle.amf0_tables.specs.Layout0.{Read0, Reader0, with_items, behind0, value0_layout, strict}
-use Rattle.amf3_read.specs.Ready.{left_of}
+use Rattle.amf0_tables.specs.Layout0.{Read0, Reader0, with_items, behind0, value0_layout}
+use Rattle.amf3_read.specs.Answer.{left_of}
 use Rattle.amf3_read.specs.Frames.{Fuel}
 use Rattle.amf3_read.proofs.LayoutBinds.{bind_give, bind_same}
 use Rattle.amf3_read.proofs.Stack.{opened_less}
@@ -24,11 +25,11 @@ use Rattle.amf0_read.specs.declared.frame.Now.{Now}
 use Rattle.amf0_read.specs.declared.frame.Now.TheVariants as now
 use Rattle.amf0_read.specs.declared.frame.Slot.TheVariants.{Item}
 use Rattle.amf0_read.specs.declared.frame.Todo.TheVariants.{Items}
-use Rattle.amf0_read.specs.declared.marker.Marker.{Marker}
-use Rattle.amf0_read.specs.declared.marker.Marker.TheVariants as marker
+use Rattle.amf0_tables.specs.declared.marker.Marker0.{Marker0}
+use Rattle.amf0_tables.specs.declared.marker.Marker0.TheVariants as marker
 use Rattle.amf0_read.specs.declared.node.Start.{Start}
 use Rattle.amf0_read.specs.declared.node.Start.TheVariants as start
-use Rattle.amf0_read.specs.Markers0.{form, marker_layout}
+use Rattle.amf0_read.specs.Markers0.{marker_layout}
 use Rattle.amf0_read.specs.Leaves0.{count_layout}
 use Rattle.amf0_read.specs.Opens0.{Opens}
 use Rattle.amf0_read.specs.Ready0.{Ready0, Kept0}
@@ -73,7 +74,7 @@ owes_nothing (start.Value v) = refl
 owes_nothing (start.Open i p) = refl
 
 -- an array that waits for its one item
-pub item_holds : (a b : Arena) (left more : ℕ) (i : NodeId) (m : Marker) → suc left ≤ more → IsBuilt a → OpenedFrom a b more i.0 (Items 1) → Holds left (now.Begun m) (record { node = i; slot = Item 0 } ∷ []) b
+pub item_holds : (a b : Arena) (left more : ℕ) (i : NodeId) (m : Marker0) → suc left ≤ more → IsBuilt a → OpenedFrom a b more i.0 (Items 1) → Holds left (now.Begun m) (record { node = i; slot = Item 0 } ∷ []) b
 item_holds a b left more i m le k h = record {
   over = record { opened = opened_less b i.0 (suc left) more le h.opened; below = tt; built = h.built k };
   names = tt;
@@ -94,9 +95,9 @@ module _ {S : Type 0} (tells : S → Type 0) (left : S → List ℕ) (faults : S
   first_ended (suc k) s c d e lt h = end_reads tells left faults (marker_layout false (length s.nodes)) (behind0 (value0_layout k) k s) c d e h
 
   -- Behind the marker.
-  module _ (s : State0) (c d : Cursor S Window) (m : Marker) (g : Goes tells left faults c d (Ok m)) (a : Answers tells left form (marker_layout false (length s.nodes)) c d (Ok m)) (moves : place c < place d) where
-    first_with : (k : ℕ) → LeadsWith tells left (value0_layout (suc k) false s) (behind0 (value0_layout k) k s (form m)) (flat a.fields) c d
-    first_with k = with_answer tells left faults form (marker_layout false (length s.nodes)) (behind0 (value0_layout k) k s) c d m a
+  module _ (s : State0) (c d : Cursor S Window) (m : Marker0) (g : Goes tells left faults c d (Ok m)) (a : Answers tells left (λ m. Some m) (marker_layout false (length s.nodes)) c d (Ok m)) (moves : place c < place d) where
+    first_with : (k : ℕ) → LeadsWith tells left (value0_layout (suc k) false s) (behind0 (value0_layout k) k s (Some m)) (flat a.fields) c d
+    first_with k = with_answer tells left faults (λ m. Some m) (marker_layout false (length s.nodes)) (behind0 (value0_layout k) k s) c d m a
 
     less : left_of d < left_of c
     less = let p = a.within in let q = g.same_bound in omega arith
@@ -106,7 +107,7 @@ module _ {S : Type 0} (tells : S → Type 0) (left : S → List ℕ) (faults : S
     front_items is z e r h zero lt = absurd (omega arith)
     front_items is z e (Err end) h (suc k) lt =
         let l = less in
-        leads_end tells left faults (value0_layout (suc k) false s) (behind0 (value0_layout k) k s (form m)) c d e m end g (first_with k).leads (subst (λ w. Ends tells left (behind0 (value0_layout k) k s (form w)) d e end) (sym is) (h k (omega arith)))
+        leads_end tells left faults (value0_layout (suc k) false s) (behind0 (value0_layout k) k s (Some m)) c d e m end g (first_with k).leads (subst (λ w. Ends tells left (behind0 (value0_layout k) k s (Some w)) d e end) (sym is) (h k (omega arith)))
     front_items is z e (Ok x) h (suc k) lt =
         let l = less in
         let y = h k (omega arith) in
@@ -117,20 +118,20 @@ module _ {S : Type 0} (tells : S → Type 0) (left : S → List ℕ) (faults : S
           enough = y.enough;
           fueled = y.fueled;
           bytes = flat a.fields ++ y.bytes;
-          leads = with_on tells left faults (value0_layout (suc k) false s) (behind0 (value0_layout k) k s (form m)) goal (flat a.fields) y.bytes c d e m g (first_with k)
-              (subst (λ w. LeadsWith tells left (behind0 (value0_layout k) k s (form w)) goal y.bytes d e) (sym is) y.leads);
+          leads = with_on tells left faults (value0_layout (suc k) false s) (behind0 (value0_layout k) k s (Some m)) goal (flat a.fields) y.bytes c d e m g (first_with k)
+              (subst (λ w. LeadsWith tells left (behind0 (value0_layout k) k s (Some w)) goal y.bytes d e) (sym is) y.leads);
           call = subst (λ b. TellsCall x.is_call (b ++ y.bytes)) (sym (strict_byte false (length s.nodes) m a.fields a.runs is)) y.call;
         }
 
     -- of any other value
-    pub front_not : (z : State0) (e : Cursor S Window) (end : ReadEnd) → ((v : Reader0) (k : ℕ) → left_of d < k → StartsBy tells left v k (behind0 v k s (form m)) z d e (Err end)) → (n : ℕ) → left_of c < n → Ends tells left (value0_layout n false s) c e end
+    pub front_not : (z : State0) (e : Cursor S Window) (end : ReadEnd) → ((v : Reader0) (k : ℕ) → left_of d < k → StartsBy tells left v k (behind0 v k s (Some m)) z d e (Err end)) → (n : ℕ) → left_of c < n → Ends tells left (value0_layout n false s) c e end
     front_not z e end h zero lt = absurd (omega arith)
     front_not z e end h (suc k) lt =
         let l = less in
-        leads_end tells left faults (value0_layout (suc k) false s) (behind0 (value0_layout k) k s (form m)) c d e m end g (first_with k).leads (h (value0_layout k) k (omega arith))
+        leads_end tells left faults (value0_layout (suc k) false s) (behind0 (value0_layout k) k s (Some m)) c d e m end g (first_with k).leads (h (value0_layout k) k (omega arith))
 
     module _ (other : m ≡ marker.Strict → ⊥) (z : State0) (e : Cursor S Window) (stays : left_of e ≤ left_of d) where
-      begins : (k : ℕ) (n : Now) (b : List ℕ) → left_of c < suc k → LeadsWith tells left (behind0 (value0_layout k) k s (form m)) (bind (current (record { values = k; pairs = k }) n z) (rest [] [])) b d e → BeginsBy tells left (value0_layout (suc k) false s) [] false n [] z c e
+      begins : (k : ℕ) (n : Now) (b : List ℕ) → left_of c < suc k → LeadsWith tells left (behind0 (value0_layout k) k s (Some m)) (bind (current (record { values = k; pairs = k }) n z) (rest [] [])) b d e → BeginsBy tells left (value0_layout (suc k) false s) [] false n [] z c e
       begins k n b lt w =
           let l = less in
           record {
@@ -139,11 +140,11 @@ module _ {S : Type 0} (tells : S → Type 0) (left : S → List ℕ) (faults : S
             enough = (omega arith, omega arith);
             fueled = tt;
             bytes = flat a.fields ++ b;
-            leads = with_on tells left faults (value0_layout (suc k) false s) (behind0 (value0_layout k) k s (form m)) (bind (current (record { values = k; pairs = k }) n z) (rest [] [])) (flat a.fields) b c d e m g (first_with k) w;
+            leads = with_on tells left faults (value0_layout (suc k) false s) (behind0 (value0_layout k) k s (Some m)) (bind (current (record { values = k; pairs = k }) n z) (rest [] [])) (flat a.fields) b c d e m g (first_with k) w;
             call = other_call false (length s.nodes) m a.fields b a.runs other;
           }
 
-      pub front_other : (x : Start) → ((v : Reader0) (k : ℕ) → left_of d < k → StartsBy tells left v k (behind0 v k s (form m)) z d e (Ok x)) → (n : ℕ) → left_of c < n → BeginsBy tells left (value0_layout n false s) [] false (now_of x) [] z c e
+      pub front_other : (x : Start) → ((v : Reader0) (k : ℕ) → left_of d < k → StartsBy tells left v k (behind0 v k s (Some m)) z d e (Ok x)) → (n : ℕ) → left_of c < n → BeginsBy tells left (value0_layout n false s) [] false (now_of x) [] z c e
       front_other x h zero lt = absurd (omega arith)
       front_other (start.Value v) h (suc k) lt =
           let l = less in
@@ -152,14 +153,14 @@ module _ {S : Type 0} (tells : S → Type 0) (left : S → List ℕ) (faults : S
       front_other (start.Open i p) h (suc k) lt =
           let l = less in
           let y = h (value0_layout k) k (omega arith) in
-          let t = behind0 (value0_layout k) k s (form m) in
+          let t = behind0 (value0_layout k) k s (Some m) in
           let u = todo (value0_layout k) k i.0 p z in
           begins k (now.Open i p) (flat y.fields) lt (alone t u (flat y.fields) d e (with_leads tells left faults t u d e y))
 
   -- Behind the count of an array with items.
   module _ (a b : Arena) (t u : KeptTables0) (c d : Cursor S Window) (i : NodeId) (r : Ready0 1 a t c) (o : Opens a b t u array i.0) (count : ℕ) (g : Goes tells left faults c d (Ok count)) (h : Answers tells left (λ (k : ℕ). k) count_layout c d (Ok count)) where
     abbrev items : ℕ → Layout Read0
-    items n = behind0 (value0_layout n) n (state0_of a t) strict
+    items n = behind0 (value0_layout n) n (state0_of a t) (Some marker.Strict)
 
     items_with : (n : ℕ) → LeadsWith tells left (items n) (todo (value0_layout n) n i.0 (Items count) (state0_of b u)) (flat h.fields) c d
     items_with n =
@@ -193,7 +194,7 @@ module _ {S : Type 0} (tells : S → Type 0) (left : S → List ℕ) (faults : S
           leads_end tells left faults (items (suc n)) (todo v (suc n) i.0 (Items 1) (state0_of b u)) c d e count end g (one_with (suc n)).leads
           (subst (λ l. Ends tells left l d e end) (sym (todo_item v (suc n) i.0 0 (state0_of b u))) (marker_ends tells left faults n false (state0_of b u) (resume v (suc n) i.0 (Item 0)) d e end k))
 
-      module _ (m : Marker) (k : Answers tells left form (marker_layout false (length u.nodes)) d e (Ok m)) (less : left_of e < left_of d) (is_call : Bool) (so : is_call ≡ true → m ≡ marker.Switch) (not_so : is_call ≡ false → m ≡ marker.Switch → ⊥) where
+      module _ (m : Marker0) (k : Answers tells left (λ m. Some m) (marker_layout false (length u.nodes)) d e (Ok m)) (less : left_of e < left_of d) (is_call : Bool) (so : is_call ≡ true → m ≡ marker.Switch) (not_so : is_call ≡ false → m ≡ marker.Switch → ⊥) where
         abbrev frame : Frame
         frame = record { node = i; slot = Item 0 }
 
@@ -204,10 +205,10 @@ module _ {S : Type 0} (tells : S → Type 0) (left : S → List ℕ) (faults : S
             let v = value0_layout (suc n) in
             let z = state0_of b u in
             let next = resume v (suc n) i.0 (Item 0) in
-            let cur = behind0 (value0_layout n) n z (form m) in
+            let cur = behind0 (value0_layout n) n z (Some m) in
             let waits : Fuel = record { values = suc n; pairs = suc n } in
             let item = subst (λ t. LeadsWith tells left t (bind cur next) (flat k.fields) d e) (sym (todo_item v (suc n) i.0 0 z))
-            (with_bound tells left faults (value0_layout (suc n) false z) cur next (flat k.fields) d e (with_answer tells left faults form (marker_layout false (length u.nodes)) (behind0 (value0_layout n) n z) d e m k)) in
+            (with_bound tells left faults (value0_layout (suc n) false z) cur next (flat k.fields) d e (with_answer tells left faults (λ m. Some m) (marker_layout false (length u.nodes)) (behind0 (value0_layout n) n z) d e m k)) in
             record {
               fuel = record { values = n; pairs = n };
               fuels = waits ∷ [];

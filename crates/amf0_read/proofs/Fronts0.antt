@@ -1,27 +1,28 @@
 -- How a value begins: what was read first, with its bytes, and whether these begin a call.
-use Rattle.std.proofs.Common.{◌≡◌, ℕ, ◌≤◌, Bool, true, false, List, [], ◌∷◌, ◌++◌, length, take, drop, get_or, append-nil, refl, sym, ap, ◌∙◌, subst, arith, length-append, append_assoc, Ok}
+use Rattle.std.proofs.Common.{◌≡◌, ℕ, ◌≤◌, Bool, true, false, List, [], ◌∷◌, ◌++◌, length, take, drop, get_or, append-nil, refl, sym, ap, ◌∙◌, subst, arith, length-append, append_assoc, Ok, Option, Some}
 use Rattle.std.specs.Prelude.{slice_index}
 use Rattle.std.specs.Int.{from_be_bytes, to_be_bytes, w32}
 use Rattle.std.proofs.lemmas.Nat.{be_bytes_4}
+use Rattle.std.proofs.lemmas.Option.{same_Some}
 use Rattle.amf_io.specs.declared.window.Window.{Window}
 use Rattle.amf_io.specs.declared.cursor.Cursor.{Cursor}
 use Rattle.amf_io.specs.Cursor.{place, unread}
 use Rattle.amf_io.specs.Field.{Field, flat, AreBytes}
 use Rattle.amf_io.specs.Layout.{Layout, give, bind, Runs}
-use Rattle.amf_io.specs.CursorReads.{Goes, Answers, Leads}
+use Rattle.amf_io.specs.ReadEnds.{Goes}
+use Rattle.amf_io.specs.CursorReads.{Answers, Leads}
 use Rattle.amf_io.proofs.Whole.{whole_fixed}
 use Rattle.amf_io.proofs.Paths.{path_join, path_bind, flat-append}
 use Rattle.amf_io.proofs.Ables.{bytes_flat}
 use Rattle.amf3_layout.proofs.Layout3SoundOpenings.{all_below}
 use Rattle.amf0_tables.specs.Form.{call_front}
-use Rattle.amf0_tables.specs.Layout0.{Form0, form0_of}
-use Rattle.amf0_tables.proofs.Layout0Forms.{code0, code0_of, marker0_below}
-use Rattle.amf0_read.specs.declared.marker.Marker.{Marker}
-use Rattle.amf0_read.specs.declared.marker.Marker.TheVariants as marker
-use Rattle.amf0_read.specs.Markers0.{form, marker_layout}
+use Rattle.amf0_tables.proofs.Layout0Forms.{code0, code0_at}
+use Rattle.amf0_tables.specs.declared.marker.Marker0.{Marker0}
+use Rattle.amf0_tables.specs.declared.marker.Marker0.TheVariants as marker
+use Rattle.amf0_read.specs.Markers0.{marker_layout}
 use Rattle.amf0_read.specs.Leaves0.{count_layout}
 use Rattle.amf0_read.specs.Fronts0.{LeadsWith, TellsCall}
-use Rattle.amf0_read.proofs.Markers.{is_strict, is_switch}
+use Rattle.amf0_tables.specs.Markers0.{marker0_at}
 
 module _ {S : Type 0} (tells : S → Type 0) (left : S → List ℕ) (faults : S → ℕ) where
   -- what was answered leads on
@@ -75,20 +76,20 @@ one_byte (x ∷ y ∷ b) e = absurd (omega arith)
 give_same : {X : Type 0} (x y : X) → give x ≡ give y → x ≡ y
 give_same x y e = cc
 
-record MarkerByte (fs : List Field) (f : Form0) : Type 0 where
+record MarkerByte (fs : List Field) (f : Option Marker0) : Type 0 where
   byte : ℕ
   are : flat fs ≡ byte ∷ []
-  is : form0_of byte ≡ f
+  is : marker0_at byte ≡ f
   code : code0 f ≡ byte
 
-marker_byte : (may_end : Bool) (n : ℕ) (fs : List Field) (f : Form0) → Runs (marker_layout may_end n) fs f → MarkerByte fs f
+marker_byte : (may_end : Bool) (n : ℕ) (fs : List Field) (f : Option Marker0) → Runs (marker_layout may_end n) fs f → MarkerByte fs f
 marker_byte may_end n [] f r = absurd cc
 marker_byte may_end n (g ∷ h ∷ fs) f r = absurd r.1
 marker_byte may_end n (g ∷ []) f r =
     let long : length g.bytes ≡ 1 = sym (whole_fixed 1 g.bytes (length g.bytes) r.0.is_whole) in
     let x = slice_index g.bytes 0 in
-    let is : form0_of x ≡ f = give_same (form0_of x) f r.1 in
-    record { byte = x; are = one_byte g.bytes long; is = is; code = ap code0 (sym is) ∙ code0_of x (marker0_below may_end n x r.0.clean) }
+    let is : marker0_at x ≡ f = give_same (marker0_at x) f r.1 in
+    record { byte = x; are = one_byte g.bytes long; is = is; code = ap code0 (sym is) ∙ code0_at may_end n x r.0.clean }
 
 count_whole : (fs : List Field) (k : ℕ) → Runs count_layout fs k → (length (flat fs) ≡ 4) × (k ≡ from_be_bytes w32 (flat fs))
 count_whole [] k r = absurd cc
@@ -106,12 +107,12 @@ heads_same : (x y : ℕ) (a b : List ℕ) → x ∷ a ≡ y ∷ b → x ≡ y
 heads_same x y a b e = cc
 
 -- another marker than that of an array with items
-pub other_call : (may_end : Bool) (n : ℕ) (m : Marker) (fs : List Field) (b : List ℕ) → Runs (marker_layout may_end n) fs (form m) → (m ≡ marker.Strict → ⊥) → TellsCall false (flat fs ++ b)
+pub other_call : (may_end : Bool) (n : ℕ) (m : Marker0) (fs : List Field) (b : List ℕ) → Runs (marker_layout may_end n) fs (Some m) → (m ≡ marker.Strict → ⊥) → TellsCall false (flat fs ++ b)
 other_call may_end n m fs b r other = λ more e.
-    let k = marker_byte may_end n fs (form m) r in
+    let k = marker_byte may_end n fs (Some m) r in
     let first : k.byte ∷ take 5 (b ++ more) ≡ call_front = ap (λ l. take 6 ((l ++ b) ++ more)) (sym k.are) ∙ e in
     let same : k.byte ≡ 0x0A = heads_same k.byte 0x0A (take 5 (b ++ more)) _ first in
-    other (is_strict m (sym k.is ∙ ap form0_of same))
+    other (same_Some m marker.Strict (sym k.is ∙ ap marker0_at same))
 
 -- an array whose items are not one
 pub count_call : (fs : List Field) (k : ℕ) (b : List ℕ) → Runs count_layout fs k → (k ≡ 1 → ⊥) → TellsCall false ((0x0A ∷ []) ++ (flat fs ++ b))
@@ -131,15 +132,15 @@ count_call fs k b r other = λ more e. let w = count_whole fs k r in other (w.1 
 one_front : (fs gs : List Field) (x : ℕ) (more : List ℕ) → AreBytes (flat fs) → Runs count_layout fs 1 → flat gs ≡ x ∷ [] → take 6 (((0x0A ∷ []) ++ (flat fs ++ flat gs)) ++ more) ≡ 0x0A ∷ 0 ∷ 0 ∷ 0 ∷ 1 ∷ x ∷ []
 one_front fs gs x more b r e = ap (λ l. take 6 (((0x0A ∷ []) ++ (l ++ flat gs)) ++ more)) (count_bytes fs 1 b r) ∙ ap (λ l. take 6 (((0x0A ∷ []) ++ ((0 ∷ 0 ∷ 0 ∷ 1 ∷ []) ++ l)) ++ more)) e
 
-pub item_call : (n : ℕ) (m : Marker) (fs gs : List Field) → AreBytes (flat fs) → Runs count_layout fs 1 → Runs (marker_layout false n) gs (form m) → (is_call : Bool) → (is_call ≡ true → m ≡ marker.Switch) → (is_call ≡ false → m ≡ marker.Switch → ⊥) → TellsCall is_call ((0x0A ∷ []) ++ (flat fs ++ flat gs))
+pub item_call : (n : ℕ) (m : Marker0) (fs gs : List Field) → AreBytes (flat fs) → Runs count_layout fs 1 → Runs (marker_layout false n) gs (Some m) → (is_call : Bool) → (is_call ≡ true → m ≡ marker.Switch) → (is_call ≡ false → m ≡ marker.Switch → ⊥) → TellsCall is_call ((0x0A ∷ []) ++ (flat fs ++ flat gs))
 item_call n m fs gs b r q true so not_so = λ more.
-    let k = marker_byte false n gs (form m) q in
-    one_front fs gs k.byte more b r k.are ∙ ap (λ x. 0x0A ∷ 0 ∷ 0 ∷ 0 ∷ 1 ∷ x ∷ []) (sym k.code ∙ ap (λ y. code0 (form y)) (so refl))
+    let k = marker_byte false n gs (Some m) q in
+    one_front fs gs k.byte more b r k.are ∙ ap (λ x. 0x0A ∷ 0 ∷ 0 ∷ 0 ∷ 1 ∷ x ∷ []) (sym k.code ∙ ap (λ y. code0 (Some y)) (so refl))
 item_call n m fs gs b r q false so not_so = λ more e.
-    let k = marker_byte false n gs (form m) q in
+    let k = marker_byte false n gs (Some m) q in
     let last : k.byte ≡ 0x11 = ap (λ l. get_or l 5 0) (sym (one_front fs gs k.byte more b r k.are) ∙ e) in
-    not_so refl (is_switch m (sym k.is ∙ ap form0_of last))
+    not_so refl (same_Some m marker.Switch (sym k.is ∙ ap marker0_at last))
 
 -- the marker of an array with items
-pub strict_byte : (may_end : Bool) (n : ℕ) (m : Marker) (fs : List Field) → Runs (marker_layout may_end n) fs (form m) → m ≡ marker.Strict → flat fs ≡ 0x0A ∷ []
-strict_byte may_end n m fs r e = let k = marker_byte may_end n fs (form m) r in k.are ∙ ap (λ x. x ∷ []) (sym k.code ∙ ap (λ y. code0 (form y)) e)
+pub strict_byte : (may_end : Bool) (n : ℕ) (m : Marker0) (fs : List Field) → Runs (marker_layout may_end n) fs (Some m) → m ≡ marker.Strict → flat fs ≡ 0x0A ∷ []
+strict_byte may_end n m fs r e = let k = marker_byte may_end n fs (Some m) r in k.are ∙ ap (λ x. x ∷ []) (sym k.code ∙ ap (λ y. code0 (Some y)) e)

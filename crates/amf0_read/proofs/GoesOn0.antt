@@ -1,11 +1,12 @@
 -- How an open node goes on, as the layouts have it.
-use Rattle.std.proofs.Common.{◌≡◌, ℕ, zero, suc, ◌<◌, Bool, true, false, List, length, refl, sym, ap, ◌∙◌, arith, subst, Ok, None, Option}
+use Rattle.std.proofs.Common.{◌≡◌, ℕ, zero, suc, ◌<◌, Bool, true, false, List, length, refl, sym, ap, ◌∙◌, arith, subst, Ok, None, Option, Some}
 use Rattle.std.specs.Prelude.{if◌then◌else◌}
 use Rattle.amf_io.specs.declared.window.Window.{Window}
 use Rattle.amf_io.specs.declared.cursor.Cursor.{Cursor}
 use Rattle.amf_io.specs.declared.ends.ReadEnd.{ReadEnd}
 use Rattle.amf_io.specs.Layout.{Layout, give, bind}
-use Rattle.amf_io.specs.CursorReads.{IsPlaced, Goes, Answers, Ends, Leads}
+use Rattle.amf_io.specs.ReadEnds.{IsPlaced, Goes}
+use Rattle.amf_io.specs.CursorReads.{Answers, Ends, Leads}
 use Rattle.amf_io.proofs.CursorReads.{leads_nowhere, leads_behind, leads_on, leads_end, end_reads}
 use Rattle.amf_graph.specs.declared.value.TextId.{TextId}
 use Rattle.amf_graph.specs.declared.value.Value.TheVariants as value
@@ -16,17 +17,17 @@ use Rattle.amf3_layout.proofs.Reader3States.{shut_state}
 use Rattle.amf0_tables.specs.KeptTables0.{KeptTables0}
 use Rattle.amf0_tables.specs.Parts0.{is_empty}
 use Rattle.amf0_tables.specs.Layout0State.{State0, state0_of, changed0}
-use Rattle.amf0_tables.specs.Layout0.{Form0, TextRead0, Read0, read0, Reader0, short_layout, items0, pairs0, shut0, behind0, value0_layout}
-use Rattle.amf3_read.specs.Ready.{left_of}
+use Rattle.amf0_tables.specs.Layout0.{TextRead0, Read0, read0, Reader0, short_layout, items0, pairs0, shut0, behind0, value0_layout}
+use Rattle.amf3_read.specs.Answer.{left_of}
 use Rattle.amf3_read.specs.Frames.{Fuel, Enough}
 use Rattle.amf3_read.proofs.LayoutBinds.{bind_bind, bind_same}
 use Rattle.amf3_read.proofs.Stack.{leads_bound}
 use Rattle.amf0_read.specs.declared.frame.Todo.TheVariants.{Items, Pairs}
 use Rattle.amf0_read.specs.declared.frame.Slot.TheVariants.{Item, Named}
 use Rattle.amf0_read.specs.declared.frame.Now.TheVariants as now
-use Rattle.amf0_read.specs.declared.marker.Marker.{Marker}
+use Rattle.amf0_tables.specs.declared.marker.Marker0.{Marker0}
 use Rattle.amf0_read.specs.declared.fill.Step.TheVariants as step
-use Rattle.amf0_read.specs.Markers0.{form, form_or_end, marker_layout}
+use Rattle.amf0_read.specs.Markers0.{marker_layout}
 use Rattle.amf0_read.specs.Ready0.{text_read}
 use Rattle.amf0_read.specs.Frames0.{todo, resume, GoesOn, LeadsToValue}
 use Rattle.amf0_read.proofs.States0.{state_with}
@@ -58,7 +59,7 @@ shut_is i a b t e = ap (λ z. read0 (value.Node (record { 0 = i })) (state_with 
 
 module _ {S : Type 0} (tells : S → Type 0) (left : S → List ℕ) (faults : S → ℕ) where
   -- a marker was read where a value comes next
-  pub marker_leads : (k : ℕ) (may_end : Bool) (s : State0) (next : Read0 → Layout Read0) {X : Type 0} (view : X → Form0) (c d : Cursor S Window) (m : X) → Answers tells left view (marker_layout may_end (length s.nodes)) c d (Ok m)
+  pub marker_leads : (k : ℕ) (may_end : Bool) (s : State0) (next : Read0 → Layout Read0) {X : Type 0} (view : X → Option Marker0) (c d : Cursor S Window) (m : X) → Answers tells left view (marker_layout may_end (length s.nodes)) c d (Ok m)
       → Leads tells left (bind (value0_layout (suc k) may_end s) next) (bind (behind0 (value0_layout k) k s (view m)) next) c d
   marker_leads k may_end s next view c d m a =
       leads_bound tells left faults (value0_layout (suc k) may_end s) (behind0 (value0_layout k) k s (view m)) next c d
@@ -71,7 +72,7 @@ module _ {S : Type 0} (tells : S → Type 0) (left : S → List ℕ) (faults : S
 
   -- an item comes next
   module _ (i n : ℕ) (a : Arena) (t : KeptTables0) (c d : Cursor S Window) where
-    pub item_goes : (m : Marker) → Answers tells left form (marker_layout false (length t.nodes)) c d (Ok m) → left_of d < left_of c → (f : Fuel) → Enough (left_of c) f → GoesOn tells left (todo (value0_layout f.values) f.pairs i (Items (suc n)) (state0_of a t)) i (state0_of a t) c d (Ok (step.Wait (Item n) m))
+    pub item_goes : (m : Marker0) → Answers tells left (λ m. Some m) (marker_layout false (length t.nodes)) c d (Ok m) → left_of d < left_of c → (f : Fuel) → Enough (left_of c) f → GoesOn tells left (todo (value0_layout f.values) f.pairs i (Items (suc n)) (state0_of a t)) i (state0_of a t) c d (Ok (step.Wait (Item n) m))
     item_goes m h less f lt = by f.values lt.0
       where
         by : (k : ℕ) → left_of c < k → LeadsToValue tells left (todo (value0_layout k) f.pairs i (Items (suc n)) (state0_of a t)) i (Item n) (now.Begun m) (state0_of a t) c d
@@ -81,8 +82,8 @@ module _ {S : Type 0} (tells : S → Type 0) (left : S → List ℕ) (faults : S
           waiting = record { values = suc k; pairs = f.pairs };
           enough = (omega arith, omega arith);
           enough_waiting = (omega arith, let x = lt.1 in omega arith);
-          leads = subst (λ l. Leads tells left l (bind (behind0 (value0_layout k) k (state0_of a t) (form m)) (resume (value0_layout (suc k)) f.pairs i (Item n))) c d) (sym (todo_item (value0_layout (suc k)) f.pairs i n (state0_of a t)))
-              (marker_leads k false (state0_of a t) (resume (value0_layout (suc k)) f.pairs i (Item n)) form c d m h);
+          leads = subst (λ l. Leads tells left l (bind (behind0 (value0_layout k) k (state0_of a t) (Some m)) (resume (value0_layout (suc k)) f.pairs i (Item n))) c d) (sym (todo_item (value0_layout (suc k)) f.pairs i n (state0_of a t)))
+              (marker_leads k false (state0_of a t) (resume (value0_layout (suc k)) f.pairs i (Item n)) (λ m. Some m) c d m h);
         }
 
     pub item_ends : (e : ReadEnd) → Ends tells left (marker_layout false (length t.nodes)) c d e → (f : Fuel) → Enough (left_of c) f → Ends tells left (todo (value0_layout f.values) f.pairs i (Items (suc n)) (state0_of a t)) c d e
@@ -107,7 +108,7 @@ module _ {S : Type 0} (tells : S → Type 0) (left : S → List ℕ) (faults : S
           subst (λ o. Leads tells left (todo v (suc q) i Pairs (state0_of a t)) (bind (v o (state0_of b t)) (resume v q i (Named x))) c d) is
           (subst (λ l. Leads tells left l (pair_behind v q i (text_read b t x)) c d) (sym (todo_pair v q i (state0_of a t))) (leads_behind tells left faults (text_read b t) (short_layout (state0_of a t)) (pair_behind v q i) c d x y))
 
-      pub pair_goes : left_of e < left_of c → {X : Type 0} (view : X → Form0) (k : X) (m : Marker) → view k ≡ form m → Answers tells left view (marker_layout may_end (length t.nodes)) d e (Ok k) → (f : Fuel) → Enough (left_of c) f → GoesOn tells left (todo (value0_layout f.values) f.pairs i Pairs (state0_of a t)) i (state0_of b t) c e (Ok (step.Wait (Named x) m))
+      pub pair_goes : left_of e < left_of c → {X : Type 0} (view : X → Option Marker0) (k : X) (m : Marker0) → view k ≡ Some m → Answers tells left view (marker_layout may_end (length t.nodes)) d e (Ok k) → (f : Fuel) → Enough (left_of c) f → GoesOn tells left (todo (value0_layout f.values) f.pairs i Pairs (state0_of a t)) i (state0_of b t) c e (Ok (step.Wait (Named x) m))
       pair_goes less view w m same h f lt = by f.values f.pairs lt.0 lt.1
         where
           by : (k q : ℕ) → left_of c < k → left_of c < q → LeadsToValue tells left (todo (value0_layout k) q i Pairs (state0_of a t)) i (Named x) (now.Begun m) (state0_of b t) c e
@@ -137,7 +138,7 @@ module _ {S : Type 0} (tells : S → Type 0) (left : S → List ℕ) (faults : S
               leads_end tells left faults (todo v (suc q) i Pairs (state0_of a t)) (bind (v may_end (state0_of b t)) next) c d e x end g (named_leads v q) (marker_ends k may_end (state0_of b t) next d e end h)
 
       -- the pairs end there
-      pub pairs_closed : (z : Arena) → z ≡ changed_arena shut i b → may_end ≡ true → (k : Option Marker) → k ≡ None → Answers tells left form_or_end (marker_layout may_end (length t.nodes)) d e (Ok k) → (f : Fuel) → Enough (left_of c) f → GoesOn tells left (todo (value0_layout f.values) f.pairs i Pairs (state0_of a t)) i (state0_of z t) c e (Ok step.Closed)
+      pub pairs_closed : (z : Arena) → z ≡ changed_arena shut i b → may_end ≡ true → (k : Option Marker0) → k ≡ None → Answers tells left (λ m. m) (marker_layout may_end (length t.nodes)) d e (Ok k) → (f : Fuel) → Enough (left_of c) f → GoesOn tells left (todo (value0_layout f.values) f.pairs i Pairs (state0_of a t)) i (state0_of z t) c e (Ok step.Closed)
       pairs_closed z shuts can w none h f lt = by f.values f.pairs lt.0 lt.1
         where
           by : (k q : ℕ) → left_of c < k → left_of c < q → Leads tells left (todo (value0_layout k) q i Pairs (state0_of a t)) (give (read0 (value.Node (record { 0 = i })) (state0_of z t))) c e
@@ -147,8 +148,8 @@ module _ {S : Type 0} (tells : S → Type 0) (left : S → List ℕ) (faults : S
               let v = value0_layout (suc k) in
               let next = resume v q i (Named x) in
               subst (λ r. Leads tells left (todo v (suc q) i Pairs (state0_of a t)) (give r) c e) (shut_is i b z t shuts)
-              (subst (λ z. Leads tells left (todo v (suc q) i Pairs (state0_of a t)) (bind (behind0 (value0_layout k) k (state0_of b t) (form_or_end z)) next) c e) none
-              (leads_on tells left faults (todo v (suc q) i Pairs (state0_of a t)) (bind (v may_end (state0_of b t)) next) (bind (behind0 (value0_layout k) k (state0_of b t) (form_or_end w)) next) c d e x g (named_leads v q) (marker_leads k may_end (state0_of b t) next form_or_end d e w h)))
+              (subst (λ z. Leads tells left (todo v (suc q) i Pairs (state0_of a t)) (bind (behind0 (value0_layout k) k (state0_of b t) z) next) c e) none
+              (leads_on tells left faults (todo v (suc q) i Pairs (state0_of a t)) (bind (v may_end (state0_of b t)) next) (bind (behind0 (value0_layout k) k (state0_of b t) w) next) c d e x g (named_leads v q) (marker_leads k may_end (state0_of b t) next (λ m. m) d e w h)))
 
   -- no item is left
   pub items_closed : (i : ℕ) (a b : Arena) (t : KeptTables0) (c : Cursor S Window) → IsPlaced c → b ≡ changed_arena shut i a → (f : Fuel) → Enough (left_of c) f → GoesOn tells left (todo (value0_layout f.values) f.pairs i (Items 0) (state0_of a t)) i (state0_of b t) c c (Ok step.Closed)

@@ -1,5 +1,4 @@
 mod States0
-mod Markers
 pub mod TextReads0
 mod Stack0
 mod GoesOn0
@@ -10,6 +9,6 @@ mod NodeStarts0
 mod Closes0
 mod Fronts0
 mod FrontStarts0
-mod Costs0
+pub mod Costs0
 mod ReadAnswers0
 pub mod ValueReads0

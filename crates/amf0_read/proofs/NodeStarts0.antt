@@ -2,7 +2,8 @@
 use Rattle.std.proofs.Common.{◌≡◌, ℕ, ◌+◌, ◌≤◌, ◌<◌, ◌^◌, true, false, Ok, inl, inr, List, [], ◌∷◌, length, refl, sym, ap, ◌∙◌, arith, subst, length-append}
 use Rattle.amf_io.specs.declared.window.Window.{Window}
 use Rattle.amf_io.specs.declared.cursor.Cursor.{Cursor}
-use Rattle.amf_io.specs.CursorReads.{IsPlaced, Answers}
+use Rattle.amf_io.specs.ReadEnds.{IsPlaced}
+use Rattle.amf_io.specs.CursorReads.{Answers}
 use Rattle.amf_graph.specs.declared.shape.Shape.{Shape}
 use Rattle.amf_graph.specs.declared.shape.Shape.TheVariants as shape
 use Rattle.amf_graph.specs.declared.value.Value.{Value as Stored}
@@ -22,7 +23,8 @@ use Rattle.amf0_tables.specs.KeptTables0.{KeptTables0, AreTables0In}
 use Rattle.amf0_tables.specs.Layout0State.{state0_of, switched, with_done0}
 use Rattle.amf0_tables.specs.Layout0.{read0, Reader0, with_pairs, with_items, with_members, whole0}
 use Rattle.amf3_read.specs.Opened.{KeptText}
-use Rattle.amf3_read.specs.Ready.{Ready, Continues, left_of}
+use Rattle.amf3_read.specs.Answer.{left_of}
+use Rattle.amf3_read.specs.Ready.{Ready, Continues}
 use Rattle.amf3_read.specs.declared.opening.Parts.TheVariants as parts
 use Rattle.amf3_read.proofs.NodeStarts.{shaped_suits}
 use Rattle.std.proofs.Math.Seq.{get_or-append_seam}

@@ -2,7 +2,7 @@
 use Rattle.std.proofs.Common.{◌≡◌, ℕ, ◌+◌, ◌≤◌, ◌<◌, ◌^◌, [], ◌∷◌, ◌++◌, length, refl, sym, ap, ◌∙◌, arith, subst, length-append}
 use Rattle.amf_io.specs.declared.window.Window.{Window}
 use Rattle.amf_io.specs.declared.cursor.Cursor.{Cursor}
-use Rattle.amf_io.specs.CursorReads.{IsPlaced}
+use Rattle.amf_io.specs.ReadEnds.{IsPlaced}
 use Rattle.amf_graph.specs.declared.shape.Shape.{Shape}
 use Rattle.amf_graph.specs.declared.shape.Shape.TheVariants as shape
 use Rattle.amf_graph.specs.Arena.{Arena, StoredNode, IsBuilt, HeadNames, head_content}
@@ -16,7 +16,7 @@ use Rattle.amf3_layout.proofs.Reader3Calls.{node_opened}
 use Rattle.amf0_tables.specs.KeptTables0.{KeptTables0, AreTables0In}
 use Rattle.amf0_tables.specs.TableParts0.{kept_node0}
 use Rattle.amf3_read.specs.Filling.{IsOpened}
-use Rattle.amf3_read.specs.Ready.{left_of}
+use Rattle.amf3_read.specs.Answer.{left_of}
 use Rattle.amf0_read.specs.declared.frame.Todo.{Todo}
 use Rattle.amf0_read.specs.Opens0.{Opens}
 use Rattle.amf0_read.specs.Ready0.{Kept0}

@@ -4,7 +4,8 @@ use Rattle.amf_io.specs.declared.window.Window.{Window}
 use Rattle.amf_io.specs.declared.cursor.Cursor.{Cursor}
 use Rattle.amf_io.specs.declared.ends.ReadEnd.{ReadEnd}
 use Rattle.amf_io.specs.Cursor.{source_of, place, bound, unread}
-use Rattle.amf_io.specs.CursorReads.{Goes, Answers, Ends}
+use Rattle.amf_io.specs.ReadEnds.{Goes}
+use Rattle.amf_io.specs.CursorReads.{Answers, Ends}
 use Rattle.amf_io.specs.Field.{flat}
 use Rattle.amf_io.specs.Layout.{Layout, IsLayout, bind}
 use Rattle.amf_graph.specs.declared.value.Value.{Value}
@@ -16,8 +17,8 @@ use Rattle.amf0_tables.specs.Form.{IsForm}
 use Rattle.amf0_tables.specs.Layout0State.{state0_of}
 use Rattle.amf0_tables.specs.Layout0.{Read0, read0, value0_layout}
 use Rattle.amf0_tables.proofs.Layout0Format.{reads0, is_layout0}
-use Rattle.amf3_read.specs.Ready.{left_of}
-use Rattle.amf3_read.specs.Answer.{Raises, between}
+use Rattle.amf_io.specs.Stretch.{between}
+use Rattle.amf3_read.specs.Answer.{Raises, left_of}
 use Rattle.amf3_read.proofs.LayoutVerdicts.{answers_taken, answers_ended}
 use Rattle.std.specs.Result.{IsErrAnd}
 use Rattle.amf0_read.specs.declared.frame.Frame.{Frame}

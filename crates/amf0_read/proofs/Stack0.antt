@@ -6,7 +6,8 @@ use Rattle.amf_io.specs.declared.window.Window.{Window}
 use Rattle.amf_io.specs.declared.cursor.Cursor.{Cursor}
 use Rattle.amf_io.specs.declared.ends.ReadEnd.{ReadEnd}
 use Rattle.amf_io.specs.Layout.{Layout, give, bind}
-use Rattle.amf_io.specs.CursorReads.{Goes, Answers, Ends, Leads}
+use Rattle.amf_io.specs.ReadEnds.{Goes}
+use Rattle.amf_io.specs.CursorReads.{Answers, Ends, Leads}
 use Rattle.amf_io.proofs.CursorReads.{goes_nowhere, goes_then, goes_other, leads_nowhere, leads_answers, leads_behind, leads_on, leads_end, end_reads}
 use Rattle.amf_graph.specs.declared.value.Value.{Value as Stored}
 use Rattle.amf_graph.specs.declared.value.NodeId.{NodeId}
@@ -25,7 +26,7 @@ use Rattle.amf0_tables.specs.Layout0.{Read0, read0, Reader0, behind0, value0_lay
 use Rattle.amf3_read.specs.declared.opening.Parts.TheVariants as parts
 use Rattle.amf3_read.specs.declared.frame.Slot.TheVariants as slot3
 use Rattle.amf3_read.specs.Filling.{with_more, IsOpened}
-use Rattle.amf3_read.specs.Ready.{left_of}
+use Rattle.amf3_read.specs.Answer.{left_of}
 use Rattle.amf3_read.specs.Frames.{Fuel, Enough}
 use Rattle.amf3_read.proofs.LayoutBinds.{bind_bind}
 use Rattle.amf3_read.proofs.PartPut.{part_names, part_values, more_size, stays, same_head, put_node, put_built, put_tables, put_opened, put_head, put_nodes}
@@ -36,11 +37,10 @@ use Rattle.amf0_read.specs.declared.frame.Slot.TheVariants.{Item, Named}
 use Rattle.amf0_read.specs.declared.frame.Frame.{Frame}
 use Rattle.amf0_read.specs.declared.frame.Now.{Now}
 use Rattle.amf0_read.specs.declared.frame.Now.TheVariants as now
-use Rattle.amf0_read.specs.declared.marker.Marker.{Marker}
+use Rattle.amf0_tables.specs.declared.marker.Marker0.{Marker0}
 use Rattle.amf0_read.specs.declared.node.Start.{Start}
 use Rattle.amf0_read.specs.declared.node.Start.TheVariants as start
 use Rattle.amf0_read.specs.declared.fill.Step.TheVariants as step
-use Rattle.amf0_read.specs.Markers0.{form}
 use Rattle.amf0_read.specs.Ready0.{Ready0, Kept0}
 use Rattle.amf0_read.specs.Frames0.{part_of, todo_behind, todo, resume, rest, current, HaveFuel, Lacks, LacksFor, SlotNames, Nested, Holds, now_of, StartsBy, StartHolds, GoesOn, StepHolds, owed, IsAt, StackSo}
 
@@ -169,8 +169,8 @@ module _ {S : Type 0} (tells : S → Type 0) (left : S → List ℕ) (faults : S
 
   module _ (b : Arena) (u : KeptTables0) (d : Cursor S Window) (fs : List Frame) where
     -- the marker of a value was read
-    module _ (m : Marker) (so : StackSo tells left faults old es a b t u c d (now.Begun m) fs) (b1 : Arena) (u1 : KeptTables0) (e : Cursor S Window) where
-      pub so_end : (end : ReadEnd) → ((v : Reader0) (n : ℕ) → left_of d < n → StartsBy tells left v n (behind0 v n (state0_of b u) (form m)) (state0_of b1 u1) d e (Err end)) → (fuel : Fuel) (fuels : List Fuel) → Enough (left_of c) fuel → HaveFuel (left_of c) fuels es → Ends tells left (first fuel fuels) c e end
+    module _ (m : Marker0) (so : StackSo tells left faults old es a b t u c d (now.Begun m) fs) (b1 : Arena) (u1 : KeptTables0) (e : Cursor S Window) where
+      pub so_end : (end : ReadEnd) → ((v : Reader0) (n : ℕ) → left_of d < n → StartsBy tells left v n (behind0 v n (state0_of b u) (Some m)) (state0_of b1 u1) d e (Err end)) → (fuel : Fuel) (fuels : List Fuel) → Enough (left_of c) fuel → HaveFuel (left_of c) fuels es → Ends tells left (first fuel fuels) c e end
       so_end end h fuel fuels lt f =
           let y = so.at fuel fuels lt f in
           let w = current y.fuel (now.Begun m) (state0_of b u) in
@@ -178,7 +178,7 @@ module _ {S : Type 0} (tells : S → Type 0) (left : S → List ℕ) (faults : S
           (end_reads tells left faults w (rest y.fuels fs) d e end (h (value0_layout y.fuel.values) y.fuel.pairs y.enough.1))
 
       module _ (k : Kept0 0 1 b b1 u1 d e) (same : left_of e ≤ left_of d) where
-        so_value : (v : Stored) → Goes tells left faults d e (Ok (start.Value v)) → ((w : Reader0) (n : ℕ) → left_of d < n → StartsBy tells left w n (behind0 w n (state0_of b u) (form m)) (state0_of b1 u1) d e (Ok (start.Value v))) → StartHolds b b1 (left_of e) (start.Value v)
+        so_value : (v : Stored) → Goes tells left faults d e (Ok (start.Value v)) → ((w : Reader0) (n : ℕ) → left_of d < n → StartsBy tells left w n (behind0 w n (state0_of b u) (Some m)) (state0_of b1 u1) d e (Ok (start.Value v))) → StartHolds b b1 (left_of e) (start.Value v)
             → StackSo tells left faults old es a b1 t u1 c e (now.Given v) fs
         so_value v g h (names, grows) = record {
           goes = goes_then tells left faults c d e tt (Ok tt) so.goes (goes_other tells left faults d e (start.Value v) tt g);
@@ -198,7 +198,7 @@ module _ {S : Type 0} (tells : S → Type 0) (left : S → List ℕ) (faults : S
               };
         }
 
-        so_open : (i : NodeId) (p : Todo) → Goes tells left faults d e (Ok (start.Open i p)) → ((w : Reader0) (n : ℕ) → left_of d < n → StartsBy tells left w n (behind0 w n (state0_of b u) (form m)) (state0_of b1 u1) d e (Ok (start.Open i p))) → StartHolds b b1 (left_of e) (start.Open i p)
+        so_open : (i : NodeId) (p : Todo) → Goes tells left faults d e (Ok (start.Open i p)) → ((w : Reader0) (n : ℕ) → left_of d < n → StartsBy tells left w n (behind0 w n (state0_of b u) (Some m)) (state0_of b1 u1) d e (Ok (start.Open i p))) → StartHolds b b1 (left_of e) (start.Open i p)
             → StackSo tells left faults old es a b1 t u1 c e (now.Open i p) fs
         so_open i p g h o = record {
           goes = goes_then tells left faults c d e tt (Ok tt) so.goes (goes_other tells left faults d e (start.Open i p) tt g);
@@ -226,7 +226,7 @@ module _ {S : Type 0} (tells : S → Type 0) (left : S → List ℕ) (faults : S
               };
         }
 
-        pub so_start : (x : Start) → Goes tells left faults d e (Ok x) → ((w : Reader0) (n : ℕ) → left_of d < n → StartsBy tells left w n (behind0 w n (state0_of b u) (form m)) (state0_of b1 u1) d e (Ok x)) → StartHolds b b1 (left_of e) x
+        pub so_start : (x : Start) → Goes tells left faults d e (Ok x) → ((w : Reader0) (n : ℕ) → left_of d < n → StartsBy tells left w n (behind0 w n (state0_of b u) (Some m)) (state0_of b1 u1) d e (Ok x)) → StartHolds b b1 (left_of e) x
             → StackSo tells left faults old es a b1 t u1 c e (now_of x) fs
         so_start (start.Value v) g h o = so_value v g h o
         so_start (start.Open i p) g h o = so_open i p g h o
@@ -242,7 +242,7 @@ module _ {S : Type 0} (tells : S → Type 0) (left : S → List ℕ) (faults : S
           leads_end tells left faults (first fuel fuels) (bind (still y.fuel) (rest y.fuels fs)) c d e tt end so.goes y.leads
           (end_reads tells left faults (still y.fuel) (rest y.fuels fs) d e end (h y.fuel y.enough))
 
-      pub go_wait : (x : Slot) (m : Marker) → Kept0 1 0 b b1 u d e → suc (left_of e) ≤ left_of d → Goes tells left faults d e (Ok (step.Wait x m)) → ((f : Fuel) → Enough (left_of d) f → GoesOn tells left (still f) i.0 (state0_of b1 u) d e (Ok (step.Wait x m))) → StepHolds b b1 i.0 (step.Wait x m)
+      pub go_wait : (x : Slot) (m : Marker0) → Kept0 1 0 b b1 u d e → suc (left_of e) ≤ left_of d → Goes tells left faults d e (Ok (step.Wait x m)) → ((f : Fuel) → Enough (left_of d) f → GoesOn tells left (still f) i.0 (state0_of b1 u) d e (Ok (step.Wait x m))) → StepHolds b b1 i.0 (step.Wait x m)
           → StackSo tells left faults old es a b1 t u c e (now.Begun m) (record { node = i; slot = x } ∷ fs)
       go_wait x m k less g h (grows, names, lacks) = record {
         goes = goes_then tells left faults c d e tt (Ok tt) so.goes (goes_other tells left faults d e (step.Wait x m) tt g);

@@ -1,18 +1,18 @@
 -- How a value begins behind its marker, as the layouts have it.
-use Rattle.std.proofs.Common.{◌≡◌, ℕ, List, sym, subst, Result, Ok, Err}
+use Rattle.std.proofs.Common.{◌≡◌, ℕ, List, sym, subst, Result, Ok, Err, Some}
 use Rattle.std.specs.Result.{IsErrAnd}
 use Rattle.amf_io.specs.declared.window.Window.{Window}
 use Rattle.amf_io.specs.declared.cursor.Cursor.{Cursor}
 use Rattle.amf_io.specs.declared.ends.ReadEnd.{ReadEnd}
 use Rattle.amf_io.specs.Layout.{Layout, give, bind}
-use Rattle.amf_io.specs.CursorReads.{IsPlaced, Goes, Answers, Ends, Leads}
+use Rattle.amf_io.specs.ReadEnds.{IsPlaced, Goes}
+use Rattle.amf_io.specs.CursorReads.{Answers, Ends, Leads}
 use Rattle.amf_io.proofs.CursorReads.{gives, then_reads, end_reads, leads_behind}
 use Rattle.amf_graph.specs.declared.value.Value.{Value as Stored}
 use Rattle.amf0_tables.specs.Layout0State.{State0}
 use Rattle.amf0_tables.specs.Layout0.{Read0, read0, Reader0, behind0}
-use Rattle.amf0_read.specs.declared.marker.Marker.{Marker}
+use Rattle.amf0_tables.specs.declared.marker.Marker0.{Marker0}
 use Rattle.amf0_read.specs.declared.node.Start.{Start}
-use Rattle.amf0_read.specs.Markers0.{form}
 use Rattle.amf0_read.specs.Frames0.{StartsBy}
 
 module _ {S : Type 0} (tells : S → Type 0) (left : S → List ℕ) (faults : S → ℕ) where
@@ -30,5 +30,5 @@ module _ {S : Type 0} (tells : S → Type 0) (left : S → List ℕ) (faults : S
   opened view t next u d e x a is = subst (λ w. Leads tells left (bind t next) w d e) is (leads_behind tells left faults view t next d e x a)
 
 -- behind a marker that is known
-pub by_marker : {S : Type 0} (tells : S → Type 0) (left : S → List ℕ) (m k : Marker) (v : Reader0) (n : ℕ) (s z : State0) (c d : Cursor S Window) (r : Result Start ReadEnd) → m ≡ k → StartsBy tells left v n (behind0 v n s (form k)) z c d r → StartsBy tells left v n (behind0 v n s (form m)) z c d r
-by_marker tells left m k v n s z c d r is h = subst (λ m. StartsBy tells left v n (behind0 v n s (form m)) z c d r) (sym is) h
+pub by_marker : {S : Type 0} (tells : S → Type 0) (left : S → List ℕ) (m k : Marker0) (v : Reader0) (n : ℕ) (s z : State0) (c d : Cursor S Window) (r : Result Start ReadEnd) → m ≡ k → StartsBy tells left v n (behind0 v n s (Some k)) z c d r → StartsBy tells left v n (behind0 v n s (Some m)) z c d r
+by_marker tells left m k v n s z c d r is h = subst (λ m. StartsBy tells left v n (behind0 v n s (Some m)) z c d r) (sym is) h

@@ -7,7 +7,8 @@ use Rattle.amf_io.specs.declared.ends.ReadEnd.{ReadEnd}
 use Rattle.amf_io.specs.Cursor.{place, bound}
 use Rattle.amf_io.specs.Field.{text_kind}
 use Rattle.amf_io.specs.Layout.{give}
-use Rattle.amf_io.specs.CursorReads.{IsPlaced, Goes, Answers}
+use Rattle.amf_io.specs.ReadEnds.{IsPlaced, Goes}
+use Rattle.amf_io.specs.CursorReads.{Answers}
 use Rattle.amf_graph.specs.declared.value.TextId.{TextId}
 use Rattle.amf_graph.specs.Graph as graph
 use Rattle.amf_graph.specs.Arena.{Arena, StoredNode, IsBuilt, IsTextId, text_at, head_content}
@@ -24,13 +25,13 @@ use Rattle.amf3_read.specs.Opened.{KeptText}
 use Rattle.amf3_read.proofs.LayoutBinds.{chunk_reads, chunk_ends}
 use Rattle.amf3_read.specs.declared.opening.Parts.TheVariants as parts
 use Rattle.amf3_read.specs.Filling.{IsOpened}
-use Rattle.amf3_read.specs.Ready.{left_of}
+use Rattle.amf3_read.specs.Answer.{left_of}
 use Rattle.amf3_read.proofs.TextReads.{new_text_there}
 use Rattle.amf3_read.proofs.PartPut.{stays, same_head}
 use Rattle.amf3_read.proofs.GoesOn.{suits_name}
 use Rattle.amf0_read.specs.declared.frame.Todo.TheVariants.{Pairs}
 use Rattle.amf0_read.specs.declared.frame.Slot.TheVariants.{Named}
-use Rattle.amf0_read.specs.declared.marker.Marker.{Marker}
+use Rattle.amf0_tables.specs.declared.marker.Marker0.{Marker0}
 use Rattle.amf0_read.specs.declared.fill.Step.TheVariants as step
 use Rattle.amf0_read.specs.Frames0.{Lacks, LacksFor, StepHolds}
 use Rattle.amf0_read.specs.Ready0.{Ready0, Kept0, text_read}
@@ -84,7 +85,7 @@ name_kept a z t i c d e r built k two more same p =
     }
 
 -- what the node lacks is as it was
-pub name_waits : (a z : Arena) (i left : ℕ) (x : TextId) (m : Marker) → IsOpened a i left → IsBuilt a → KeptText a z x.0 → Lacks (head_content a (stored_at a i).head) (stored_at a i) Pairs → StepHolds a z i (step.Wait (Named x) m)
+pub name_waits : (a z : Arena) (i left : ℕ) (x : TextId) (m : Marker0) → IsOpened a i left → IsBuilt a → KeptText a z x.0 → Lacks (head_content a (stored_at a i).head) (stored_at a i) Pairs → StepHolds a z i (step.Wait (Named x) m)
 name_waits a z i left x m o b k s =
     let g = text_grows a z x.0 k in
     let still : Lacks (head_content z (stored_at z i).head) (stored_at z i) Pairs = subst (λ h. Lacks h (stored_at z i) Pairs) (sym (same_head i left a z o g b)) (subst (λ n. Lacks (head_content a (stored_at a i).head) n Pairs) (sym (stays i left a z o g)) s) in

@@ -4,7 +4,8 @@ use Rattle.amf_io.specs.declared.window.Window.{Window}
 use Rattle.amf_io.specs.declared.cursor.Cursor.{Cursor}
 use Rattle.amf_io.specs.declared.ends.ReadEnd.{ReadEnd}
 use Rattle.amf_io.specs.Layout.{Layout, give}
-use Rattle.amf_io.specs.CursorReads.{Goes, Answers, Leads}
+use Rattle.amf_io.specs.ReadEnds.{Goes}
+use Rattle.amf_io.specs.CursorReads.{Answers, Leads}
 use Rattle.amf_io.proofs.CursorReads.{leads_answers, leads_on, leads_end}
 use Rattle.amf_graph.specs.Arena.{Arena}
 use Rattle.amf0_tables.specs.KeptTables0.{KeptTables0}

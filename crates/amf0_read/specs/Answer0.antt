@@ -6,7 +6,7 @@ use Rattle.amf_graph.specs.Arena.{Arena}
 use Rattle.amf0_tables.specs.KeptTables0.{KeptTables0}
 use Rattle.amf0_tables.specs.Reads0.{IsRead0, IsReading0}
 use Rattle.amf0_tables.specs.Form.{IsForm}
-use Rattle.amf3_read.specs.Answer.{Stretch, AnswersOf}
+use Rattle.amf_io.specs.Stretch.{Stretch, AnswersOf}
 use Rattle.amf0_read.specs.declared.formed.Read0.{Read0}
 
 -- the fields spell the value in every finished graph that completes the arena, and it has its form

@@ -1,10 +1,11 @@
 -- What a stack of open nodes is: what is still to be read, as a layout, and what holds of the arena. A device by which verdicts are proved.
-use Rattle.std.specs.Prelude.{◌≡◌, ℕ, suc, ◌<◌, ◌≤◌, true, List, [], ◌∷◌, length, ◌⊎◌, Result, Ok, Err, if◌then◌else◌}
+use Rattle.std.specs.Prelude.{◌≡◌, ℕ, suc, ◌<◌, ◌≤◌, true, List, [], ◌∷◌, length, ◌⊎◌, Result, Ok, Err, if◌then◌else◌, Some}
 use Rattle.amf_io.specs.declared.window.Window.{Window}
 use Rattle.amf_io.specs.declared.cursor.Cursor.{Cursor}
 use Rattle.amf_io.specs.declared.ends.ReadEnd.{ReadEnd}
 use Rattle.amf_io.specs.Layout.{Layout, give, stuck, bind}
-use Rattle.amf_io.specs.CursorReads.{Goes, Answers, Ends, Leads}
+use Rattle.amf_io.specs.ReadEnds.{Goes}
+use Rattle.amf_io.specs.CursorReads.{Answers, Ends, Leads}
 use Rattle.amf_graph.specs.declared.value.Value.{Value}
 use Rattle.amf_graph.specs.declared.value.Value.TheVariants as value
 use Rattle.amf_graph.specs.declared.part.Part.{Part}
@@ -19,7 +20,7 @@ use Rattle.amf0_tables.specs.Layout0.{Read0, read0, Reader0, items0, pairs0, shu
 use Rattle.amf3_read.specs.declared.opening.Parts.TheVariants as parts
 use Rattle.amf3_read.specs.declared.frame.Slot.TheVariants as slot3
 use Rattle.amf3_read.specs.Filling.{IsOpened}
-use Rattle.amf3_read.specs.Ready.{left_of}
+use Rattle.amf3_read.specs.Answer.{left_of}
 use Rattle.amf3_read.specs.Frames.{Fuel, Enough, Suits, WaitsFor}
 use Rattle.amf0_read.specs.declared.frame.Todo.{Todo}
 use Rattle.amf0_read.specs.declared.frame.Todo.TheVariants.{Items, Pairs}
@@ -32,7 +33,6 @@ use Rattle.amf0_read.specs.declared.node.Start.{Start}
 use Rattle.amf0_read.specs.declared.node.Start.TheVariants as start
 use Rattle.amf0_read.specs.declared.fill.Step.{Step}
 use Rattle.amf0_read.specs.declared.fill.Step.TheVariants as step
-use Rattle.amf0_read.specs.Markers0.{form}
 use Rattle.amf0_read.specs.Ready0.{Ready0, Kept0}
 
 -- The part that a value is, and what is still to be read behind it.
@@ -65,7 +65,7 @@ rest (u ∷ us) (f ∷ fs) x = bind (resume (value0_layout u.values) u.pairs f.n
 
 -- what is read now
 abbrev pub current : Fuel → Now → State0 → Layout Read0
-current u (now.Begun m) s = behind0 (value0_layout u.values) u.pairs s (form m)
+current u (now.Begun m) s = behind0 (value0_layout u.values) u.pairs s (Some m)
 current u (now.Given v) s = give (read0 v s)
 current u (now.Open node p) s = todo (value0_layout u.values) u.pairs node.0 p s
 

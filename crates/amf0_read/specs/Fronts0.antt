@@ -1,5 +1,5 @@
 -- How a value begins, with the bytes that were read so far. A device by which verdicts are proved.
-use Rattle.std.specs.Prelude.{◌≡◌, ◌≢◌, ℕ, Bool, true, false, List, [], ◌∷◌, ◌++◌, take, reverse, Result, Ok, Err}
+use Rattle.std.specs.Prelude.{◌≡◌, ◌≢◌, ℕ, Bool, true, false, List, [], ◌∷◌, ◌++◌, take, reverse, Result, Ok, Err, Some}
 use Rattle.amf_io.specs.declared.window.Window.{Window}
 use Rattle.amf_io.specs.declared.cursor.Cursor.{Cursor}
 use Rattle.amf_io.specs.declared.ends.ReadEnd.{ReadEnd}
@@ -10,13 +10,14 @@ use Rattle.amf0_tables.specs.declared.form.Form.{Form}
 use Rattle.amf0_tables.specs.declared.form.Form.TheVariants as form
 use Rattle.amf0_tables.specs.Form.{call_front}
 use Rattle.amf0_tables.specs.Layout0State.{State0}
-use Rattle.amf0_tables.specs.Layout0.{Read0, behind0, strict, value0_layout}
-use Rattle.amf3_read.specs.Ready.{left_of}
+use Rattle.amf0_tables.specs.Layout0.{Read0, behind0, value0_layout}
+use Rattle.amf3_read.specs.Answer.{left_of}
 use Rattle.amf3_read.specs.Frames.{Fuel, Enough}
 use Rattle.amf0_read.specs.declared.front.Front.{Front}
 use Rattle.amf0_read.specs.declared.frame.Frame.{Frame}
 use Rattle.amf0_read.specs.declared.frame.Now.{Now}
 use Rattle.amf0_read.specs.Frames0.{current, rest, HaveFuel}
+use Rattle.amf0_tables.specs.declared.marker.Marker0.TheVariants as marker
 
 -- what was read leads from one layout to another, and these are its bytes
 pub record LeadsWith {S Y : Type 0} (tells : S → Type 0) (left : S → List ℕ) (t u : Layout Y) (b : List ℕ) (c d : Cursor S Window) : Type 0 where
@@ -47,7 +48,7 @@ LeadsFront tells left n s z c d result = LeadsBy tells left (value0_layout n fal
 
 -- behind the marker of an array with items
 abbrev pub LeadsItems : {S : Type 0} → (S → Type 0) → (S → List ℕ) → ℕ → State0 → State0 → Cursor S Window → Cursor S Window → Result Front ReadEnd → Type 0
-LeadsItems tells left n s z c d result = LeadsBy tells left (behind0 (value0_layout n) n s strict) (0x0A ∷ []) z c d result
+LeadsItems tells left n s z c d result = LeadsBy tells left (behind0 (value0_layout n) n s (Some marker.Strict)) (0x0A ∷ []) z c d result
 
 -- the form of a value, by its beginning and by whether a marker has switched
 abbrev pub form_of : Bool → Bool → Form

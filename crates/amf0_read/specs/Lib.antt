@@ -1,6 +1,7 @@
 -- The definitions that contracts cite.
 pub mod Answer0
--- Devices of the proofs: no clause of a public call needs them.
+-- Devices of the proofs. Of the public calls only those need them by which a reader of another format reads on in AMF 0
+-- (`read_value0`, `read_short_text`).
 pub mod Ready0
 pub mod Markers0
 pub mod Leaves0

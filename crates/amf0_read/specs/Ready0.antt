@@ -3,14 +3,15 @@ use Rattle.std.specs.Prelude.{ℕ, ◌+◌, ◌<◌, ◌≤◌, length}
 use Rattle.std.specs.List.{AllByRecursion}
 use Rattle.amf_io.specs.declared.window.Window.{Window}
 use Rattle.amf_io.specs.declared.cursor.Cursor.{Cursor}
-use Rattle.amf_io.specs.CursorReads.{IsPlaced}
+use Rattle.amf_io.specs.ReadEnds.{IsPlaced}
 use Rattle.amf_graph.specs.declared.value.TextId.{TextId}
 use Rattle.amf_graph.specs.Arena.{Arena, IsBuilt, text_at}
 use Rattle.amf_graph.specs.Order.{IsDistinct}
 use Rattle.amf0_tables.specs.KeptTables0.{KeptTables0, AreTables0In}
 use Rattle.amf0_tables.specs.Layout0.{TextRead0}
 use Rattle.amf0_tables.specs.Layout0State.{state0_of}
-use Rattle.amf3_read.specs.Ready.{Ready, left_of}
+use Rattle.amf3_read.specs.Answer.{left_of}
+use Rattle.amf3_read.specs.Ready.{Ready}
 
 -- the tables are the builder's, and it has room for all that the bytes to come, and so many before them, may add
 pub record Ready0 {S : Type 0} (spare : ℕ) (a : Arena) (t : KeptTables0) (c : Cursor S Window) : Type 0 where

@@ -1,30 +1,30 @@
 ghost use Rattle.std.specs.Prelude.{◌<◌, IfOk};
 ghost use Rattle.amf_io.specs.Cursor.{place};
-ghost use Rattle.amf_io.specs.CursorReads.{Goes};
+ghost use Rattle.amf_io.specs.ReadEnds.{Goes};
 ghost use Rattle.amf_graph.specs.Arena.{head_content};
 ghost use Rattle.amf_graph.specs.Building.{stored_at};
 ghost use Rattle.amf0_tables.specs.Layout0.{value0_layout};
 ghost use Rattle.amf0_tables.specs.Layout0State.{state0_of};
 ghost use Rattle.amf0_tables.specs.TableParts0.{shown_tables};
 ghost use Rattle.amf3_read.specs.Filling.{IsOpened};
-ghost use Rattle.amf3_read.specs.Ready.{left_of};
+ghost use Rattle.amf3_read.specs.Answer.{left_of};
 ghost use Rattle.amf3_read.specs.Frames.{Fuel, Enough};
 ghost use Rattle.amf0_read.specs.Ready0.{Ready0, Kept0};
 ghost use Rattle.amf0_read.specs.Frames0.{todo as still, Lacks, GoesOn, StepHolds, StepMoves, owed_at};
 
 use crate::frame::{Slot, Todo};
-use crate::marker::{Marker, read_marker, read_marker_or_end};
+use crate::marker::{read_marker, read_marker_or_end};
 use crate::text::read_short_text;
 use amf_graph::{Builder, NodeId};
 use amf_io::{Cursor, ReadEnd, Source};
-use amf0_tables::Tables0;
+use amf0_tables::{Marker0, Tables0};
 use std::alloc::Global;
 
 /// How an open node went on.
 #[derive(Clone, Copy, Debug, PartialEq, Eq)]
 pub enum Step {
     /// It waits for a value for this slot, whose marker was read.
-    Wait(Slot, Marker),
+    Wait(Slot, Marker0),
     /// It is closed.
     Closed,
 }

@@ -1,8 +1,8 @@
 ghost use Rattle.std.specs.Prelude.{◌≡◌};
 ghost use Rattle.amf0_read.specs.Frames0.{part_of, todo_behind};
 
-use crate::marker::Marker;
 use amf_graph::{NodeId, Part, TextId, Value};
+use amf0_tables::Marker0;
 
 /// What is still to be read of an open node.
 #[derive(Clone, Copy, Debug, PartialEq, Eq)]
@@ -33,7 +33,7 @@ pub struct Frame {
 #[derive(Clone, Copy, Debug, PartialEq, Eq)]
 pub enum Now {
     /// The marker of a value.
-    Begun(Marker),
+    Begun(Marker0),
     /// A value.
     Given(Value),
     /// So much of an open node is still to be read.

@@ -1,20 +1,20 @@
 ghost use Rattle.std.specs.Prelude.{ℕ, ◌<◌, reverse, IfOk};
-ghost use Rattle.amf_io.specs.CursorReads.{Goes};
+ghost use Rattle.amf_io.specs.ReadEnds.{Goes};
 ghost use Rattle.amf0_tables.specs.Layout0.{value0_layout};
 ghost use Rattle.amf0_tables.specs.Layout0State.{state0_of};
 ghost use Rattle.amf0_tables.specs.TableParts0.{shown_tables};
-ghost use Rattle.amf3_read.specs.Ready.{left_of};
+ghost use Rattle.amf3_read.specs.Answer.{left_of};
 ghost use Rattle.amf0_read.specs.Ready0.{Ready0, Kept0};
 ghost use Rattle.amf0_read.specs.Frames0.{Holds, owed};
 ghost use Rattle.amf0_read.specs.Fronts0.{LeadsFront, LeadsItems};
 
 use crate::frame::{Frame, Now, Slot, Todo};
 use crate::leaf::read_count;
-use crate::marker::{Marker, read_marker};
+use crate::marker::read_marker;
 use crate::node::{open_array, start_value};
 use amf_graph::Builder;
 use amf_io::{Cursor, ReadEnd, Source};
-use amf0_tables::Tables0;
+use amf0_tables::{Marker0, Tables0};
 use std::alloc::Global;
 
 /// What is read of a value before its stack of open nodes is needed.
@@ -40,7 +40,7 @@ pub fn read_front<S: Source>(
     ensures holds { IfOk result (λ front. Holds (left_of cursor.new) front.now (reverse front.frames.items) builder.new) }
 {
     match read_marker(cursor, tables)? {
-        Marker::Strict => read_items(alloc, cursor, builder, tables),
+        Marker0::Strict => read_items(alloc, cursor, builder, tables),
         marker => {
             let start = start_value(alloc, cursor, builder, tables, marker)?;
             Ok(Front {
@@ -83,6 +83,6 @@ fn read_items<S: Source>(
     Ok(Front {
         frames,
         now: Now::Begun(item),
-        is_call: item == Marker::Switch,
+        is_call: item == Marker0::Switch,
     })
 }

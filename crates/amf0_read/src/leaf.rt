@@ -1,5 +1,6 @@
 ghost use Rattle.std.specs.Prelude.{◌≡◌, ℕ, Some, slice_get, IfOk, OnOk};
-ghost use Rattle.amf_io.specs.CursorReads.{IsPlaced, Goes, Answers};
+ghost use Rattle.amf_io.specs.ReadEnds.{IsPlaced, Goes};
+ghost use Rattle.amf_io.specs.CursorReads.{Answers};
 ghost use Rattle.amf0_tables.specs.TableParts0.{shown_tables};
 ghost use Rattle.amf0_read.specs.Leaves0.{place_layout, time_layout, count_layout};
 

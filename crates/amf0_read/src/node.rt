@@ -1,27 +1,24 @@
-ghost use Rattle.std.specs.Prelude.{◌≡◌, ℕ, ◌+◌, ◌<◌, ◌≤◌, length, OnOk, IfOk, IfErr};
+ghost use Rattle.std.specs.Prelude.{◌≡◌, ℕ, ◌+◌, ◌<◌, ◌≤◌, length, Some, OnOk, IfOk, IfErr};
 ghost use Rattle.amf_io.specs.Cursor.{place};
-ghost use Rattle.amf_io.specs.CursorReads.{Goes};
+ghost use Rattle.amf_io.specs.ReadEnds.{Goes};
 ghost use Rattle.amf_graph.specs.Arena.{HeadNames, IsBuilt, IsTextId, array};
 ghost use Rattle.amf_graph.specs.Bounds.{items_of};
 ghost use Rattle.amf_graph.specs.Building.{leaf_head};
-ghost use Rattle.amf3_read.specs.Answer.{room_end};
-ghost use Rattle.amf0_tables.specs.Layout0 as layout;
+ghost use Rattle.amf3_read.specs.Answer.{room_end, left_of};
+ghost use Rattle.amf0_tables.specs.declared.marker.Marker0.TheVariants as marker0;
 ghost use Rattle.amf0_tables.specs.Layout0.{Reader0, behind0};
 ghost use Rattle.amf0_tables.specs.Layout0State.{state0_of};
 ghost use Rattle.amf0_tables.specs.TableParts0.{shown_tables};
-ghost use Rattle.amf3_read.specs.Ready.{left_of};
-ghost use Rattle.amf0_read.specs.Markers0.{form};
 ghost use Rattle.amf0_read.specs.Opens0.{KeepsLeaf, Opens, OpensObject};
 ghost use Rattle.amf0_read.specs.Ready0.{Ready0, Kept0};
 ghost use Rattle.amf0_read.specs.Frames0.{now_of, StartsBy, StartHolds};
 
 use crate::frame::{Now, Todo};
 use crate::leaf::{read_count, read_reference, read_time};
-use crate::marker::Marker;
 use crate::text::{keep_empty_text, read_long_text, read_short_text};
 use amf_graph::{Builder, Leaf, NodeId, Shape, TextId, Value};
 use amf_io::{Cursor, ReadEnd, Source};
-use amf0_tables::Tables0;
+use amf0_tables::{Marker0, Tables0};
 use amf3_read::{kept, read_double, read_flag, read_value};
 use std::alloc::Global;
 
@@ -52,42 +49,42 @@ pub fn start_value<S: Source>(
     cursor: &mut Cursor<'_, S>,
     builder: &mut Builder,
     tables: &mut Tables0,
-    marker: Marker,
+    marker: Marker0,
 ) -> Result<Start, ReadEnd>
     requires { Ready0 1 builder.old (shown_tables tables.old) cursor.old }
     ensures goes { Goes S.tells S.left S.faults cursor.old cursor.new result }
-    ensures starts { (v : Reader0) (n : ℕ) → left_of cursor.old < n → StartsBy S.tells S.left v n (behind0 v n (state0_of builder.old (shown_tables tables.old)) (form marker)) (state0_of builder.new (shown_tables tables.new)) cursor.old cursor.new result }
+    ensures starts { (v : Reader0) (n : ℕ) → left_of cursor.old < n → StartsBy S.tells S.left v n (behind0 v n (state0_of builder.old (shown_tables tables.old)) (Some marker)) (state0_of builder.new (shown_tables tables.new)) cursor.old cursor.new result }
     ensures kept { OnOk result (Kept0 0 1 builder.old builder.new (shown_tables tables.new) cursor.old cursor.new) }
     ensures holds { IfOk result (StartHolds builder.old builder.new (left_of cursor.new)) }
     ensures stays { OnOk result (place cursor.old ≤ place cursor.new) }
 {
     match marker {
-        Marker::Null => Ok(Start::Value(Value::Null)),
-        Marker::Undefined | Marker::Unsupported => Ok(Start::Value(Value::Undefined)),
-        Marker::Boolean => Ok(Start::Value(Value::Bool(read_flag(cursor)?))),
-        Marker::Double => Ok(Start::Value(Value::Double(read_double(cursor)?))),
-        Marker::Text => {
+        Marker0::Null => Ok(Start::Value(Value::Null)),
+        Marker0::Undefined | Marker0::Unsupported => Ok(Start::Value(Value::Undefined)),
+        Marker0::Boolean => Ok(Start::Value(Value::Bool(read_flag(cursor)?))),
+        Marker0::Double => Ok(Start::Value(Value::Double(read_double(cursor)?))),
+        Marker0::Text => {
             let text = read_short_text(alloc, cursor, builder)?;
             builder.is_built();
             Ok(Start::Value(Value::Text(text)))
         }
-        Marker::LongText => {
+        Marker0::LongText => {
             let text = read_long_text(alloc, cursor, builder)?;
             builder.is_built();
             Ok(Start::Value(Value::Text(text)))
         }
-        Marker::Reference => Ok(Start::Value(Value::Node(read_reference(cursor, tables)?))),
-        Marker::Date => read_date(cursor, builder, tables),
-        Marker::Document => read_document(alloc, cursor, builder, tables),
-        Marker::Object => {
+        Marker0::Reference => Ok(Start::Value(Value::Node(read_reference(cursor, tables)?))),
+        Marker0::Date => read_date(cursor, builder, tables),
+        Marker0::Document => read_document(alloc, cursor, builder, tables),
+        Marker0::Object => {
             let class = keep_empty_text(builder)?;
             let node = open_object(builder, tables, class)?;
             Ok(Start::Open(node, Todo::Pairs))
         }
-        Marker::Typed => start_typed(alloc, cursor, builder, tables),
-        Marker::Names => start_names(cursor, builder, tables),
-        Marker::Strict => start_strict(cursor, builder, tables),
-        Marker::Switch => read_switched(alloc, cursor, builder, tables),
+        Marker0::Typed => start_typed(alloc, cursor, builder, tables),
+        Marker0::Names => start_names(cursor, builder, tables),
+        Marker0::Strict => start_strict(cursor, builder, tables),
+        Marker0::Switch => read_switched(alloc, cursor, builder, tables),
     }
 }
 
@@ -99,7 +96,7 @@ fn read_date<S: Source>(
 ) -> Result<Start, ReadEnd>
     requires { Ready0 1 builder.old (shown_tables tables.now) cursor.old }
     ensures goes { Goes S.tells S.left S.faults cursor.old cursor.new result }
-    ensures starts { (v : Reader0) (n : ℕ) → left_of cursor.old < n → StartsBy S.tells S.left v n (behind0 v n (state0_of builder.old (shown_tables tables.now)) layout.date) (state0_of builder.new (shown_tables tables.now)) cursor.old cursor.new result }
+    ensures starts { (v : Reader0) (n : ℕ) → left_of cursor.old < n → StartsBy S.tells S.left v n (behind0 v n (state0_of builder.old (shown_tables tables.now)) (Some marker0.Date)) (state0_of builder.new (shown_tables tables.now)) cursor.old cursor.new result }
     ensures kept { OnOk result (Kept0 0 1 builder.old builder.new (shown_tables tables.now) cursor.old cursor.new) }
     ensures holds { IfOk result (StartHolds builder.old builder.new (left_of cursor.new)) }
     ensures stays { OnOk result (place cursor.old ≤ place cursor.new) }
@@ -118,7 +115,7 @@ fn read_document<S: Source>(
 ) -> Result<Start, ReadEnd>
     requires { Ready0 1 builder.old (shown_tables tables.now) cursor.old }
     ensures goes { Goes S.tells S.left S.faults cursor.old cursor.new result }
-    ensures starts { (v : Reader0) (n : ℕ) → left_of cursor.old < n → StartsBy S.tells S.left v n (behind0 v n (state0_of builder.old (shown_tables tables.now)) layout.document) (state0_of builder.new (shown_tables tables.now)) cursor.old cursor.new result }
+    ensures starts { (v : Reader0) (n : ℕ) → left_of cursor.old < n → StartsBy S.tells S.left v n (behind0 v n (state0_of builder.old (shown_tables tables.now)) (Some marker0.Document)) (state0_of builder.new (shown_tables tables.now)) cursor.old cursor.new result }
     ensures kept { OnOk result (Kept0 0 1 builder.old builder.new (shown_tables tables.now) cursor.old cursor.new) }
     ensures holds { IfOk result (StartHolds builder.old builder.new (left_of cursor.new)) }
     ensures stays { OnOk result (place cursor.old ≤ place cursor.new) }
@@ -139,7 +136,7 @@ fn start_typed<S: Source>(
 ) -> Result<Start, ReadEnd>
     requires { Ready0 1 builder.old (shown_tables tables.old) cursor.old }
     ensures goes { Goes S.tells S.left S.faults cursor.old cursor.new result }
-    ensures starts { (v : Reader0) (n : ℕ) → left_of cursor.old < n → StartsBy S.tells S.left v n (behind0 v n (state0_of builder.old (shown_tables tables.old)) layout.typed) (state0_of builder.new (shown_tables tables.new)) cursor.old cursor.new result }
+    ensures starts { (v : Reader0) (n : ℕ) → left_of cursor.old < n → StartsBy S.tells S.left v n (behind0 v n (state0_of builder.old (shown_tables tables.old)) (Some marker0.Typed)) (state0_of builder.new (shown_tables tables.new)) cursor.old cursor.new result }
     ensures kept { OnOk result (Kept0 0 1 builder.old builder.new (shown_tables tables.new) cursor.old cursor.new) }
     ensures holds { IfOk result (StartHolds builder.old builder.new (left_of cursor.new)) }
     ensures stays { OnOk result (place cursor.old ≤ place cursor.new) }
@@ -159,7 +156,7 @@ fn start_names<S: Source>(
 ) -> Result<Start, ReadEnd>
     requires { Ready0 1 builder.old (shown_tables tables.old) cursor.old }
     ensures goes { Goes S.tells S.left S.faults cursor.old cursor.new result }
-    ensures starts { (v : Reader0) (n : ℕ) → left_of cursor.old < n → StartsBy S.tells S.left v n (behind0 v n (state0_of builder.old (shown_tables tables.old)) layout.names) (state0_of builder.new (shown_tables tables.new)) cursor.old cursor.new result }
+    ensures starts { (v : Reader0) (n : ℕ) → left_of cursor.old < n → StartsBy S.tells S.left v n (behind0 v n (state0_of builder.old (shown_tables tables.old)) (Some marker0.Names)) (state0_of builder.new (shown_tables tables.new)) cursor.old cursor.new result }
     ensures kept { OnOk result (Kept0 0 1 builder.old builder.new (shown_tables tables.new) cursor.old cursor.new) }
     ensures holds { IfOk result (StartHolds builder.old builder.new (left_of cursor.new)) }
     ensures stays { OnOk result (place cursor.old ≤ place cursor.new) }
@@ -177,7 +174,7 @@ fn start_strict<S: Source>(
 ) -> Result<Start, ReadEnd>
     requires { Ready0 1 builder.old (shown_tables tables.old) cursor.old }
     ensures goes { Goes S.tells S.left S.faults cursor.old cursor.new result }
-    ensures starts { (v : Reader0) (n : ℕ) → left_of cursor.old < n → StartsBy S.tells S.left v n (behind0 v n (state0_of builder.old (shown_tables tables.old)) layout.strict) (state0_of builder.new (shown_tables tables.new)) cursor.old cursor.new result }
+    ensures starts { (v : Reader0) (n : ℕ) → left_of cursor.old < n → StartsBy S.tells S.left v n (behind0 v n (state0_of builder.old (shown_tables tables.old)) (Some marker0.Strict)) (state0_of builder.new (shown_tables tables.new)) cursor.old cursor.new result }
     ensures kept { OnOk result (Kept0 0 1 builder.old builder.new (shown_tables tables.new) cursor.old cursor.new) }
     ensures holds { IfOk result (StartHolds builder.old builder.new (left_of cursor.new)) }
     ensures stays { OnOk result (place cursor.old ≤ place cursor.new) }
@@ -196,7 +193,7 @@ fn read_switched<S: Source>(
 ) -> Result<Start, ReadEnd>
     requires { Ready0 1 builder.old (shown_tables tables.old) cursor.old }
     ensures goes { Goes S.tells S.left S.faults cursor.old cursor.new result }
-    ensures starts { (v : Reader0) (n : ℕ) → left_of cursor.old < n → StartsBy S.tells S.left v n (behind0 v n (state0_of builder.old (shown_tables tables.old)) layout.switch) (state0_of builder.new (shown_tables tables.new)) cursor.old cursor.new result }
+    ensures starts { (v : Reader0) (n : ℕ) → left_of cursor.old < n → StartsBy S.tells S.left v n (behind0 v n (state0_of builder.old (shown_tables tables.old)) (Some marker0.Switch)) (state0_of builder.new (shown_tables tables.new)) cursor.old cursor.new result }
     ensures kept { OnOk result (Kept0 0 1 builder.old builder.new (shown_tables tables.new) cursor.old cursor.new) }
     ensures holds { IfOk result (StartHolds builder.old builder.new (left_of cursor.new)) }
     ensures stays { OnOk result (place cursor.old ≤ place cursor.new) }

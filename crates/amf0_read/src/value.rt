@@ -1,13 +1,14 @@
 ghost use Rattle.std.specs.Prelude.{◌≡◌, ◌<◌, ◌-◌, ℕ, false, List, reverse, OnOk};
 ghost use Rattle.amf_io.specs.Cursor.{place};
-ghost use Rattle.amf_io.specs.CursorReads.{Goes, Answers};
+ghost use Rattle.amf_io.specs.ReadEnds.{Goes};
+ghost use Rattle.amf_io.specs.CursorReads.{Answers};
 ghost use Rattle.amf_io.specs.Layout.{bind};
 ghost use Rattle.amf0_tables.specs.KeptTables0.{AreTables0In};
 ghost use Rattle.amf0_tables.specs.Layout0.{read0, value0_layout};
 ghost use Rattle.amf0_tables.specs.Layout0State.{state0_of};
 ghost use Rattle.amf0_tables.specs.TableParts0.{shown_tables};
-ghost use Rattle.amf3_read.specs.Answer.{HasRoomFor, Raises, between};
-ghost use Rattle.amf3_read.specs.Ready.{left_of};
+ghost use Rattle.amf_io.specs.Stretch.{between};
+ghost use Rattle.amf3_read.specs.Answer.{HasRoomFor, Raises, left_of};
 ghost use Rattle.amf3_read.specs.Frames.{Fuel, Enough};
 ghost use Rattle.amf0_read.specs.Answer0.{Answers0};
 ghost use Rattle.amf0_read.specs.Fronts0.{form_of};

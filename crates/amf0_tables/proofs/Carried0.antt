@@ -17,7 +17,7 @@ use Rattle.amf3_spelling.proofs.BytesOf.{fits_too}
 use Rattle.amf0_tables.specs.Tables0.{Tables0, no_tables0, add_node0, add_done0}
 use Rattle.amf0_tables.specs.Refusals0.{marker0_kind, index0_kind}
 use Rattle.amf0_tables.specs.Parts0.{marker0_field, Short, Long, Marked0, LeafBy0, Values0, Pairs0, Count0, PairsBy0, is_empty}
-use Rattle.amf0_tables.specs.Spells0.{NodeBy0, Named0, Begun0, InlineIn0, SpellsIn0, IsSpelling0, Spelled0}
+use Rattle.amf0_tables.specs.Spells0.{NodeBy0, Named0, Begun0, InlineIn0, SpellsIn0, Spells0, IsSpelling0, Spelled0}
 use Rattle.amf0_tables.proofs.Zips.{zip_length}
 
 none_too : {X : Type 0} (xs ys : List X) → length xs ≡ length ys → xs ≡ [] → ys ≡ []
@@ -27,11 +27,13 @@ module _ (g h : Graph) (P : ℕ → ℕ → Type 0)
     (left : (i j k : ℕ) → P i j → P i k → j ≡ k) (right : (i j k : ℕ) → P i k → P j k → i ≡ j)
     (within : (i j : ℕ) → P i j → j < length h.nodes)
     (nodes : (i j : ℕ) → P i j → NodesMatch P (node_at g i) (node_at h j)) where
-  record Joined (t u : Tables0) : Type 0 where
-    nodes_along : Along P t.nodes u.nodes
-    done_along : Along P t.amf3.done u.amf3.done
+  -- tables of the one and of the other graph
+  pub record Joined (t u : Tables0) : Type 0 where
+    pub nodes_along : Along P t.nodes u.nodes
+    pub done_along : Along P t.amf3.done u.amf3.done
 
-  abbrev Carried : Spelling Tables0 → Spelling Tables0 → Type 0
+  -- what is spelled on such tables is spelled of the other
+  abbrev pub Carried : Spelling Tables0 → Spelling Tables0 → Type 0
   Carried A B = (t u : Tables0) (fs : List Field) (t' : Tables0) → Joined t u → A t fs t' → (u' : Tables0) × B u fs u' × Joined t' u'
 
   carried_then : (A A' B B' : Spelling Tables0) → Carried A A' → Carried B B' → Carried (Then A B) (Then A' B')
@@ -152,7 +154,7 @@ module _ (g h : Graph) (P : ℕ → ℕ → Type 0)
         still t u t' p.same k,
       )
 
-  carried_value : (n : ℕ) → ((b : Bool) (i j : ℕ) → P i j → Carried (InlineIn0 n canonical g b i) (InlineIn0 n canonical h b j)) → (b : Bool) (v w : Value) → ValuesMatch P v w → Carried (SpellsIn0 n canonical g b v) (SpellsIn0 n canonical h b w)
+  pub carried_value : (n : ℕ) → ((b : Bool) (i j : ℕ) → P i j → Carried (InlineIn0 n canonical g b i) (InlineIn0 n canonical h b j)) → (b : Bool) (v w : Value) → ValuesMatch P v w → Carried (SpellsIn0 n canonical g b v) (SpellsIn0 n canonical h b w)
   carried_value n c b (leaf x) (leaf y) m t u fs t' k (inl p) =
       subst (λ w. (u' : Tables0) × SpellsIn0 n canonical h b (leaf w) u fs u' × Joined t' u') m (let o = carried_leaf b x t u fs t' k p in (o.0, inl o.1, o.2))
   carried_value n c b (leaf x) (leaf y) m t u fs t' k (inr p) = absurd p.0
@@ -162,10 +164,15 @@ module _ (g h : Graph) (P : ℕ → ℕ → Type 0)
   carried_value n c b (node i) (node j) m t u fs t' k (inl (inr p)) = let o = c b i j m t u fs t' k p in (o.0, inl (inr o.1), o.2)
   carried_value n c b (node i) (node j) m t u fs t' k (inr p) = absurd p.0
 
-  carried_inline : (n : ℕ) (b : Bool) (i j : ℕ) → P i j → Carried (InlineIn0 n canonical g b i) (InlineIn0 n canonical h b j)
+  pub carried_inline : (n : ℕ) (b : Bool) (i j : ℕ) → P i j → Carried (InlineIn0 n canonical g b i) (InlineIn0 n canonical h b j)
   carried_inline zero b i j m t u fs t' k p = elim p [ ]
   carried_inline (suc n) b i j m t u fs t' k p = carried_begun (SpellsIn0 n canonical g) (SpellsIn0 n canonical h) (carried_value n (carried_inline n)) b i j m t u fs t' k p
 
+  -- a value that is spelled in the canonical way, and the value that stands for it
+  pub carried_spells0 : (v w : Value) → ValuesMatch P v w → Carried (Spells0 canonical g v) (Spells0 canonical h w)
+  carried_spells0 v w m t u fs t' j (n, p) = let o = carried_value n (carried_inline n) false v w m t u fs t' j p in (o.0, (n, o.1), o.2)
+
+  -- of the whole graph
   pub carried_root : (fs : List Field) → ValuesMatch P g.root h.root → IsSpelling0 canonical g fs → IsSpelling0 canonical h fs
   carried_root fs m p =
       let none : Along P [] [] = record { size = refl; pairs = λ k i j e f. absurd (no_entry k i e) } in

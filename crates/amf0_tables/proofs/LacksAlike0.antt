@@ -130,7 +130,7 @@ module _ (g h : Graph) (xs ys : List ℕ) (a : IsOrder g xs) (b : IsOrder h ys) 
   node_along outside n i j FarReference e f m z = (sym (ap enters0 m.head) ∙ z.0, (let p = place_along outside n in let q = z.1 in omega (arith, p, q)), twice_along n i j e f z.2)
   node_along outside n i j LongFile e f m z = z
 
-  lacks_along0 : (outside n : ℕ) (kind : LackKind) → Lacks0 g outside xs n kind → Lacks0 h outside ys n kind
+  pub lacks_along0 : (outside n : ℕ) (kind : LackKind) → Lacks0 g outside xs n kind → Lacks0 h outside ys n kind
   lacks_along0 outside n kind (i, e, z) =
       let m = to_places g h xs ys a b o in
       let other = entry ys n (subst (λ w. n < w) m.size (slice_get_within xs n i e)) in

@@ -1,5 +1,5 @@
 -- What has been read of a value of AMF 0 can be completed.
-use Rattle.std.proofs.Common.{◌≡◌, ℕ, zero, suc, ◌≤◌, ◌<◌, Bool, true, false, cond, eqb, leb, not, [], ◌∷◌, length, slice_index, get_or, Some, None, refl, sym, ap, ◌∙◌, subst, arith}
+use Rattle.std.proofs.Common.{◌≡◌, ℕ, zero, suc, ◌≤◌, ◌<◌, Bool, true, false, cond, eqb, leb, not, [], ◌∷◌, length, slice_index, get_or, Some, None, refl, sym, ap, ◌∙◌, subst, arith, Option}
 use Rattle.std.specs.Int.{from_be_bytes, w16, w32, w64}
 use Rattle.amf_io.specs.declared.reason.Reason.TheVariants.{BadReference}
 use Rattle.amf_io.specs.Field.{Field, field, fixed, raw_kind, text_kind, u16_kind, u32_kind, no_refusal}
@@ -18,9 +18,12 @@ use Rattle.amf3_layout.proofs.Layout3Fills.{Filled, text_filled, raw_filled, abl
 use Rattle.amf0_tables.specs.Parts0.{is_empty}
 use Rattle.amf0_tables.specs.Refusals0.{marker0_kind, marker0_refusal, index0_kind}
 use Rattle.amf0_tables.specs.Layout0State.{State0, switched, with_text0, with_class, class_head, with_node0, changed0}
-use Rattle.amf0_tables.specs.Layout0.{Form0, double, boolean, short_text, object, movie_clip, null, undefined, place, names, end, strict, date, long_text, unsupported, record_set, document, typed, switch, form0_of, new_text0, short_layout, long_layout, Read0, read0, end0, Reader0, items0, pairs0, shut0, with_pairs, with_items, whole0, with_members, behind0, value0_layout}
-use Rattle.amf0_tables.proofs.Layout0Forms.{code0, code0_of, marker0_below, some_place}
+use Rattle.amf0_tables.specs.Layout0.{new_text0, short_layout, long_layout, Read0, read0, end0, Reader0, items0, pairs0, shut0, with_pairs, with_items, whole0, with_members, behind0, value0_layout}
+use Rattle.amf0_tables.proofs.Layout0Forms.{code0, code0_at, some_place}
 use Rattle.amf0_tables.proofs.Layout0Grows.{next_pair, named_value}
+use Rattle.amf0_tables.specs.declared.marker.Marker0.{Marker0}
+use Rattle.amf0_tables.specs.declared.marker.Marker0.TheVariants as marker
+use Rattle.amf0_tables.specs.Markers0.{marker0_at}
 
 u16_filled : Filled (u16_kind no_refusal)
 u16_filled = record { bytes = 0 ∷ 0 ∷ []; is_whole = refl; clean = refl; are_bytes = (omega arith, (omega arith, tt)) }
@@ -86,33 +89,31 @@ module _ (v : Reader0) (N : ℕ) (h : Inner v N) (e : Ends v N) where
       let i = length s.amf3.arena.nodes in
       able_bind N (items0 v i n (with_node0 s head)) (λ u. give (shut0 i u)) (able_items v N h i n (with_node0 s head)) (λ u. able_give N (shut0 i u))
 
-  able_behind : (s : State0) (y : Form0) → (y ≡ place → 0 < length s.nodes) → AbleWithin N (behind0 v N s y)
-  able_behind s double p = able_field N (raw_kind 8) (λ b. give (read0 (Double (record { 0 = from_be_bytes w64 b })) s)) (raw_filled 7) (λ b w c. able_give N (read0 (Double (record { 0 = from_be_bytes w64 b })) s))
-  able_behind s boolean p = able_field N (raw_kind 1) (λ b. give (read0 (Flag (not (eqb (slice_index b 0) 0))) s)) (raw_filled 0) (λ b w c. able_give N (read0 (Flag (not (eqb (slice_index b 0) 0))) s))
-  able_behind s short_text p = able_bind N (short_layout s) (λ x. give (read0 (Text (record { 0 = x.id })) x.state)) (able_short N s) (λ x. able_give N (read0 (Text (record { 0 = x.id })) x.state))
-  able_behind s object p = let x = new_text0 s [] in able_with_pairs (with_class x.state x.id) (class_head x.state)
-  able_behind s movie_clip p = able_give N (end0 s)
-  able_behind s null p = able_give N (read0 Null s)
-  able_behind s undefined p = able_give N (read0 Undefined s)
-  able_behind s place p =
+  able_behind : (s : State0) (y : Option Marker0) → (y ≡ Some marker.Reference → 0 < length s.nodes) → AbleWithin N (behind0 v N s y)
+  able_behind s (Some marker.Double) p = able_field N (raw_kind 8) (λ b. give (read0 (Double (record { 0 = from_be_bytes w64 b })) s)) (raw_filled 7) (λ b w c. able_give N (read0 (Double (record { 0 = from_be_bytes w64 b })) s))
+  able_behind s (Some marker.Boolean) p = able_field N (raw_kind 1) (λ b. give (read0 (Flag (not (eqb (slice_index b 0) 0))) s)) (raw_filled 0) (λ b w c. able_give N (read0 (Flag (not (eqb (slice_index b 0) 0))) s))
+  able_behind s (Some marker.Text) p = able_bind N (short_layout s) (λ x. give (read0 (Text (record { 0 = x.id })) x.state)) (able_short N s) (λ x. able_give N (read0 (Text (record { 0 = x.id })) x.state))
+  able_behind s (Some marker.Object) p = let x = new_text0 s [] in able_with_pairs (with_class x.state x.id) (class_head x.state)
+  able_behind s (Some marker.Null) p = able_give N (read0 Null s)
+  able_behind s (Some marker.Undefined) p = able_give N (read0 Undefined s)
+  able_behind s (Some marker.Reference) p =
       able_field N (index0_kind (length s.nodes)) (λ b. give (read0 (Node (record { 0 = get_or s.nodes (from_be_bytes w16 b) 0 })) s)) (index_filled (length s.nodes) (p refl)) (λ b w c. able_give N (read0 (Node (record { 0 = get_or s.nodes (from_be_bytes w16 b) 0 })) s))
-  able_behind s names p = able_field N (u32_kind no_refusal) (λ b. with_pairs v N s arena.array) u32_filled (λ b w c. able_with_pairs s arena.array)
-  able_behind s end p = able_give N (end0 s)
-  able_behind s strict p = able_field N (u32_kind no_refusal) (λ b. with_items v (from_be_bytes w32 b) s arena.array) u32_filled (λ b w c. able_with_items (from_be_bytes w32 b) s arena.array)
-  able_behind s date p =
+  able_behind s (Some marker.Names) p = able_field N (u32_kind no_refusal) (λ b. with_pairs v N s arena.array) u32_filled (λ b w c. able_with_pairs s arena.array)
+  able_behind s None p = able_give N (end0 s)
+  able_behind s (Some marker.Strict) p = able_field N (u32_kind no_refusal) (λ b. with_items v (from_be_bytes w32 b) s arena.array) u32_filled (λ b w c. able_with_items (from_be_bytes w32 b) s arena.array)
+  able_behind s (Some marker.Date) p =
       able_field N (raw_kind 8) (λ b. want (raw_kind 2) (λ zone. give (whole0 s (arena.date (from_be_bytes w64 b))))) (raw_filled 7)
       (λ b w c. able_field N (raw_kind 2) (λ zone. give (whole0 s (arena.date (from_be_bytes w64 b)))) (raw_filled 1) (λ zone w c. able_give N (whole0 s (arena.date (from_be_bytes w64 b)))))
-  able_behind s long_text p = able_bind N (long_layout s) (λ x. give (read0 (Text (record { 0 = x.id })) x.state)) (able_long N s) (λ x. able_give N (read0 (Text (record { 0 = x.id })) x.state))
-  able_behind s unsupported p = able_give N (read0 Undefined s)
-  able_behind s record_set p = able_give N (end0 s)
-  able_behind s document p = able_bind N (long_layout s) (λ x. give (whole0 x.state (arena.xml_document x.id))) (able_long N s) (λ x. able_give N (whole0 x.state (arena.xml_document x.id)))
-  able_behind s typed p = able_bind N (short_layout s) (with_members v N) (able_short N s) (λ x. able_with_pairs (with_class x.state x.id) (class_head x.state))
-  able_behind s switch p =
+  able_behind s (Some marker.LongText) p = able_bind N (long_layout s) (λ x. give (read0 (Text (record { 0 = x.id })) x.state)) (able_long N s) (λ x. able_give N (read0 (Text (record { 0 = x.id })) x.state))
+  able_behind s (Some marker.Unsupported) p = able_give N (read0 Undefined s)
+  able_behind s (Some marker.Document) p = able_bind N (long_layout s) (λ x. give (whole0 x.state (arena.xml_document x.id))) (able_long N s) (λ x. able_give N (whole0 x.state (arena.xml_document x.id)))
+  able_behind s (Some marker.Typed) p = able_bind N (short_layout s) (with_members v N) (able_short N s) (λ x. able_with_pairs (with_class x.state x.id) (class_head x.state))
+  able_behind s (Some marker.Switch) p =
       let after : ValueRead → Layout Read0 = λ x. give (read0 x.value (switched s x.state)) in
       able_bind N (value_layout N s.amf3) after (value_able N s.amf3) (λ x. able_give N (read0 x.value (switched s x.state)))
 
-place_is : (m : ℕ) → m < 18 → form0_of m ≡ place → 7 ≡ m
-place_is m l e = sym (ap code0 e) ∙ code0_of m l
+place_is : (may_end : Bool) (nodes m : ℕ) → marker0_refusal may_end nodes m ≡ None → marker0_at m ≡ Some marker.Reference → 7 ≡ m
+place_is may_end nodes m ok e = sym (ap code0 e) ∙ code0_at may_end nodes m ok
 
 null_clean : (may_end : Bool) (nodes : ℕ) → marker0_refusal may_end nodes 0x05 ≡ None
 null_clean may_end nodes = refl
@@ -122,11 +123,11 @@ pub value0_able : (n : ℕ) (may_end : Bool) (s : State0) → AbleWithin n (valu
 value0_able zero may_end s = able_none (value0_layout 0 may_end s)
 value0_able (suc N) may_end s =
     let k = marker0_kind may_end (length s.nodes) in
-    able_want (suc N) N k (λ b. behind0 (value0_layout N) N s (form0_of (slice_index b 0))) (field k (0x05 ∷ [])) (record { is_kind = refl; is_whole = refl; clean = null_clean may_end (length s.nodes) }) (omega arith, tt)
+    able_want (suc N) N k (λ b. behind0 (value0_layout N) N s (marker0_at (slice_index b 0))) (field k (0x05 ∷ [])) (record { is_kind = refl; is_whole = refl; clean = null_clean may_end (length s.nodes) }) (omega arith, tt)
     (record { more = []; bytes = tt; value = read0 Null s; runs = refl })
     (λ b w ok.
     let m = slice_index b 0 in
-    able_behind (value0_layout N) N (value0_able N) (ends N) s (form0_of m) (λ e. some_place may_end (length s.nodes) (subst (λ x. marker0_refusal may_end (length s.nodes) x ≡ None) (sym (place_is m (marker0_below may_end (length s.nodes) m ok) e)) ok)))
+    able_behind (value0_layout N) N (value0_able N) (ends N) s (marker0_at m) (λ e. some_place may_end (length s.nodes) (subst (λ x. marker0_refusal may_end (length s.nodes) x ≡ None) (sym (place_is may_end (length s.nodes) m ok e)) ok)))
     (λ b i w lt. let some = whole_some (fixed 1) b (length b) w in omega arith)
   where
     ends : (N : ℕ) → Ends (value0_layout N) N

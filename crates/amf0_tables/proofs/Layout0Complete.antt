@@ -27,9 +27,10 @@ use Rattle.amf0_tables.specs.Refusals0.{marker0_kind, index0_kind}
 use Rattle.amf0_tables.specs.Parts0.{marker0_field, Short, Long, LeafBy0, Values0, Pairs0, PairsBy0, is_empty}
 use Rattle.amf0_tables.specs.Spells0.{NodeBy0, Named0, Begun0, Switched, SpellsIn0, Spells0}
 use Rattle.amf0_tables.specs.Layout0State.{State0, switched, with_text0, with_class, class_head, with_done0, with_node0, changed0}
-use Rattle.amf0_tables.specs.Layout0.{form0_of, new_text0, short_layout, long_layout, Read0, read0, end0, Reader0, items0, pairs0, shut0, with_pairs, with_items, whole0, with_members, behind0, value0_layout}
+use Rattle.amf0_tables.specs.Layout0.{new_text0, short_layout, long_layout, Read0, read0, end0, Reader0, items0, pairs0, shut0, with_pairs, with_items, whole0, with_members, behind0, value0_layout}
 use Rattle.amf0_tables.proofs.Clean0.{clean0}
 use Rattle.amf0_tables.proofs.Layout0Grows.{next_pair, named_value}
+use Rattle.amf0_tables.specs.Markers0.{marker0_at}
 
 -- the same words, nodes of the same markers, and as many nodes that an index can name
 pub record Like0 (g : Graph) (t : Tables0) (s : State0) : Type 0 where
@@ -171,10 +172,10 @@ module _ (g : Graph) (R : Bool → Value → Spelling Tables0) (v : Reader0) (N 
       }
 
   -- what stands behind the marker of a node
-  node_found : (i : ℕ) (a : Head) (names : List (List ℕ × Value)) (vs : List Value) (m : ℕ) (t : Tables0) (fs : List Field) (u : Tables0) (s : State0) → AllClean fs → Like0 g t s → length (flat fs) < N → NodeBy0 R free i a names vs m t fs u → Found0 g (behind0 v N s (form0_of m)) fs u
+  node_found : (i : ℕ) (a : Head) (names : List (List ℕ × Value)) (vs : List Value) (m : ℕ) (t : Tables0) (fs : List Field) (u : Tables0) (s : State0) → AllClean fs → Like0 g t s → length (flat fs) < N → NodeBy0 R free i a names vs m t fs u → Found0 g (behind0 v N s (marker0_at m)) fs u
   node_found i (graph.object k) names vs m t fs u s c like lt (o, inl p) =
       let x = new_text0 s [] in
-      subst (λ w. Found0 g (behind0 v N s (form0_of w)) fs u) (sym p.0)
+      subst (λ w. Found0 g (behind0 v N s (marker0_at w)) fs u) (sym p.0)
       (with_pairs_found i names t fs u (with_class x.state x.id) (class_head x.state) c (like_class g t x.state x.id (like_text g t s [] like)) lt p.2)
   node_found i (graph.object k) names vs m t fs u s c like lt (o, inr p) =
       let q = p.2 in
@@ -183,11 +184,11 @@ module _ (g : Graph) (R : Bool → Value → Spelling Tables0) (v : Reader0) (N 
       let x = new_text0 s k.class in
       let like1 : Like0 g (add_node0 t i) (with_node0 (with_class x.state x.id) (class_head x.state)) = like_node g t i (with_class x.state x.id) (class_head x.state) (like_class g t x.state x.id (like_text g t s k.class like)) in
       let o = with_pairs_found i names t q.back u (with_class x.state x.id) (class_head x.state) d.1 (like_class g t x.state x.id (like_text g t s k.class like)) (omega arith) (subst (λ w. PairsBy0 R free names w q.back u) q.first.1 q.second) in
-      subst (λ w. Found0 g (behind0 v N s (form0_of w)) fs u) (sym p.0) (record {
+      subst (λ w. Found0 g (behind0 v N s (marker0_at w)) fs u) (sym p.0) (record {
         result = o.result;
         is_value = o.is_value;
         like = o.like;
-        runs = subst (λ l. Runs (behind0 v N s (form0_of 0x10)) l o.result) (sym q.joined) (runs_bind (short_layout s) (with_members v N) q.front q.back x (give o.result) (short_runs k.class q.front s q.first.0 d.0) o.runs);
+        runs = subst (λ l. Runs (behind0 v N s (marker0_at 0x10)) l o.result) (sym q.joined) (runs_bind (short_layout s) (with_members v N) q.front q.back x (give o.result) (short_runs k.class q.front s q.first.0 d.0) o.runs);
       })
   node_found i graph.array names vs m t fs u s c like lt (inl p) =
       let q = p.3 in
@@ -196,11 +197,11 @@ module _ (g : Graph) (R : Bool → Value → Spelling Tables0) (v : Reader0) (N 
       let count = q.first.0 in
       let o = with_pairs_found i names t q.back u s arena.array d.1 like (omega arith) (subst (λ w. PairsBy0 R free names w q.back u) q.first.1 q.second) in
       let all : fs ≡ field (u32_kind no_refusal) (to_be_bytes w32 count.0) ∷ q.back = q.joined ∙ ap (λ l. l ++ q.back) count.3 in
-      subst (λ w. Found0 g (behind0 v N s (form0_of w)) fs u) (sym p.0) (record {
+      subst (λ w. Found0 g (behind0 v N s (marker0_at w)) fs u) (sym p.0) (record {
         result = o.result;
         is_value = o.is_value;
         like = o.like;
-        runs = subst (λ l. Runs (behind0 v N s (form0_of 0x08)) l o.result) (sym all) (takes (u32_kind no_refusal) (to_be_bytes w32 count.0) (subst AllClean all c).0, o.runs);
+        runs = subst (λ l. Runs (behind0 v N s (marker0_at 0x08)) l o.result) (sym all) (takes (u32_kind no_refusal) (to_be_bytes w32 count.0) (subst AllClean all c).0, o.runs);
       })
   node_found i graph.array names vs m t fs u s c like lt (inr p) =
       let q = p.3 in
@@ -209,30 +210,30 @@ module _ (g : Graph) (R : Bool → Value → Spelling Tables0) (v : Reader0) (N 
       let size = to_be_bytes w32 (length vs) in
       let o = with_items_found i vs t q.back u s arena.array d.1 like (omega arith) (subst (λ w. Values0 R vs w q.back u) q.first.1 q.second) in
       let all : fs ≡ field (u32_kind no_refusal) size ∷ q.back = q.joined ∙ ap (λ l. l ++ q.back) q.first.0 in
-      subst (λ w. Found0 g (behind0 v N s (form0_of w)) fs u) (sym p.0) (record {
+      subst (λ w. Found0 g (behind0 v N s (marker0_at w)) fs u) (sym p.0) (record {
         result = o.result;
         is_value = o.is_value;
         like = o.like;
-        runs = subst (λ l. Runs (behind0 v N s (form0_of 0x0A)) l o.result) (sym all)
+        runs = subst (λ l. Runs (behind0 v N s (marker0_at 0x0A)) l o.result) (sym all)
             (takes (u32_kind no_refusal) size (subst AllClean all c).0, subst (λ n. Runs (with_items v n s arena.array) q.back o.result) (sym (from_be_bytes-to_be_bytes_4 (length vs) p.2)) o.runs);
       })
   node_found i (graph.date k) names vs m t fs u s c like lt (e, zone, l, only, is, same) =
       let d = subst AllClean is c in
       let x = whole0 s (arena.date (from_be_bytes w64 (to_be_bytes w64 k))) in
-      subst (λ w. Found0 g (behind0 v N s (form0_of w)) fs u) (sym e) (record {
+      subst (λ w. Found0 g (behind0 v N s (marker0_at w)) fs u) (sym e) (record {
         result = x;
         is_value = refl;
         like = like_same g (add_done0 t i) u x.state same (like_done g t i s (arena.date (from_be_bytes w64 (to_be_bytes w64 k))) like);
-        runs = subst (λ l. Runs (behind0 v N s (form0_of 0x0B)) l x) (sym is) (takes (raw_kind 8) (to_be_bytes w64 k) d.0, (takes (raw_kind 2) (to_be_bytes w16 zone) d.1.0, refl));
+        runs = subst (λ l. Runs (behind0 v N s (marker0_at 0x0B)) l x) (sym is) (takes (raw_kind 8) (to_be_bytes w64 k) d.0, (takes (raw_kind 2) (to_be_bytes w16 zone) d.1.0, refl));
       })
   node_found i (graph.xml_document k) names vs m t fs u s c like lt (e, p, same) =
       let y = new_text0 s k in
       let x = whole0 y.state (arena.xml_document y.id) in
-      subst (λ w. Found0 g (behind0 v N s (form0_of w)) fs u) (sym e) (record {
+      subst (λ w. Found0 g (behind0 v N s (marker0_at w)) fs u) (sym e) (record {
         result = x;
         is_value = refl;
         like = like_same g (add_done0 t i) u x.state same (like_done g t i y.state (arena.xml_document y.id) (like_text g t s k like));
-        runs = subst (λ l. Runs (behind0 v N s (form0_of 0x0F)) l x) (append-nil fs) (runs_bind (long_layout s) (λ z. give (whole0 z.state (arena.xml_document z.id))) fs [] y (give x) (long_runs k fs s p c) refl);
+        runs = subst (λ l. Runs (behind0 v N s (marker0_at 0x0F)) l x) (append-nil fs) (runs_bind (long_layout s) (λ z. give (whole0 z.state (arena.xml_document z.id))) fs [] y (give x) (long_runs k fs s p c) refl);
       })
   node_found i (graph.wrapper k) names vs m t fs u s c like lt p = absurd p
   node_found i (graph.xml k) names vs m t fs u s c like lt p = absurd p
@@ -244,14 +245,14 @@ module _ (g : Graph) (R : Bool → Value → Spelling Tables0) (v : Reader0) (N 
   node_found i (graph.dictionary f) names vs m t fs u s c like lt p = absurd p
 
 abbrev Marked : Reader0 → ℕ → Bool → State0 → Layout Read0
-Marked v N b s = want (marker0_kind b (length s.nodes)) (λ m. behind0 v N s (form0_of (slice_index m 0)))
+Marked v N b s = want (marker0_kind b (length s.nodes)) (λ m. behind0 v N s (marker0_at (slice_index m 0)))
 
 -- a marker, and what stands behind it
-mark_found : (g : Graph) (v : Reader0) (N : ℕ) (b : Bool) (m : ℕ) (t : Tables0) (s : State0) (fs rest : List Field) (u : Tables0) → Like0 g t s → AllClean fs → fs ≡ marker0_field b t m ∷ rest → Found0 g (behind0 v N s (form0_of m)) rest u → Found0 g (Marked v N b s) fs u
+mark_found : (g : Graph) (v : Reader0) (N : ℕ) (b : Bool) (m : ℕ) (t : Tables0) (s : State0) (fs rest : List Field) (u : Tables0) → Like0 g t s → AllClean fs → fs ≡ marker0_field b t m ∷ rest → Found0 g (behind0 v N s (marker0_at m)) rest u → Found0 g (Marked v N b s) fs u
 mark_found g v N b m t s fs rest u like c e o =
     let d = subst AllClean e c in
     let step : Runs (Marked v N b s) (marker0_field b t m ∷ rest) o.result =
-    subst (λ n. Runs (want (marker0_kind b n) (λ k. behind0 v N s (form0_of (slice_index k 0)))) (marker0_field b t m ∷ rest) o.result) like.size (takes (marker0_kind b (length t.nodes)) (m ∷ []) d.0, o.runs) in
+    subst (λ n. Runs (want (marker0_kind b n) (λ k. behind0 v N s (marker0_at (slice_index k 0)))) (marker0_field b t m ∷ rest) o.result) like.size (takes (marker0_kind b (length t.nodes)) (m ∷ []) d.0, o.runs) in
     record { result = o.result; is_value = o.is_value; like = o.like; runs = subst (λ l. Runs (Marked v N b s) l o.result) (sym e) step }
 
 -- a value that is no node, behind its marker
@@ -262,20 +263,20 @@ leaf_found g v N b graph.null t fs u s c like (rest, e, f, a) = mark_found g v N
 leaf_found g v N b (graph.boolean k) t fs u s c like (rest, (m, h, e), f, a) =
     let x = read0 (Flag (not (eqb m 0))) s in
     let d = subst AllClean e (subst AllClean f c).1 in
-    mark_found g v N b 0x01 t s fs rest u like c f (record { result = x; is_value = refl; like = like_same g t u s a like; runs = subst (λ l. Runs (behind0 v N s (form0_of 0x01)) l x) (sym e) (takes (raw_kind 1) (m ∷ []) d.0, refl) })
+    mark_found g v N b 0x01 t s fs rest u like c f (record { result = x; is_value = refl; like = like_same g t u s a like; runs = subst (λ l. Runs (behind0 v N s (marker0_at 0x01)) l x) (sym e) (takes (raw_kind 1) (m ∷ []) d.0, refl) })
 leaf_found g v N b (graph.integer k) t fs u s c like p = absurd p
 leaf_found g v N b (graph.double k) t fs u s c like (l, (rest, e, f, a)) =
     let x = read0 (Double (record { 0 = from_be_bytes w64 (to_be_bytes w64 k) })) s in
     let d = subst AllClean e (subst AllClean f c).1 in
-    mark_found g v N b 0x00 t s fs rest u like c f (record { result = x; is_value = refl; like = like_same g t u s a like; runs = subst (λ l. Runs (behind0 v N s (form0_of 0x00)) l x) (sym e) (takes (raw_kind 8) (to_be_bytes w64 k) d.0, refl) })
+    mark_found g v N b 0x00 t s fs rest u like c f (record { result = x; is_value = refl; like = like_same g t u s a like; runs = subst (λ l. Runs (behind0 v N s (marker0_at 0x00)) l x) (sym e) (takes (raw_kind 8) (to_be_bytes w64 k) d.0, refl) })
 leaf_found g v N b (graph.text k) t fs u s c like (inl (rest, h, f, a)) =
     let y = new_text0 s k in
     let x = read0 (TextRef (record { 0 = y.id })) y.state in
-    mark_found g v N b 0x02 t s fs rest u like c f (record { result = x; is_value = refl; like = like_same g t u y.state a (like_text g t s k like); runs = subst (λ l. Runs (behind0 v N s (form0_of 0x02)) l x) (append-nil rest) (runs_bind (short_layout s) (λ z. give (read0 (TextRef (record { 0 = z.id })) z.state)) rest [] y (give x) (short_runs k rest s h (subst AllClean f c).1) refl) })
+    mark_found g v N b 0x02 t s fs rest u like c f (record { result = x; is_value = refl; like = like_same g t u y.state a (like_text g t s k like); runs = subst (λ l. Runs (behind0 v N s (marker0_at 0x02)) l x) (append-nil rest) (runs_bind (short_layout s) (λ z. give (read0 (TextRef (record { 0 = z.id })) z.state)) rest [] y (give x) (short_runs k rest s h (subst AllClean f c).1) refl) })
 leaf_found g v N b (graph.text k) t fs u s c like (inr (o, (rest, h, f, a))) =
     let y = new_text0 s k in
     let x = read0 (TextRef (record { 0 = y.id })) y.state in
-    mark_found g v N b 0x0C t s fs rest u like c f (record { result = x; is_value = refl; like = like_same g t u y.state a (like_text g t s k like); runs = subst (λ l. Runs (behind0 v N s (form0_of 0x0C)) l x) (append-nil rest) (runs_bind (long_layout s) (λ z. give (read0 (TextRef (record { 0 = z.id })) z.state)) rest [] y (give x) (long_runs k rest s h (subst AllClean f c).1) refl) })
+    mark_found g v N b 0x0C t s fs rest u like c f (record { result = x; is_value = refl; like = like_same g t u y.state a (like_text g t s k like); runs = subst (λ l. Runs (behind0 v N s (marker0_at 0x0C)) l x) (append-nil rest) (runs_bind (long_layout s) (λ z. give (read0 (TextRef (record { 0 = z.id })) z.state)) rest [] y (give x) (long_runs k rest s h (subst AllClean f c).1) refl) })
 
 -- AMF 3 behind its marker
 switch_found : (g : Graph) (v : Reader0) (N : ℕ) (b : Bool) (x : Value) (t : Tables0) (fs : List Field) (u : Tables0) (s : State0) → AllClean fs → Like0 g t s → length (flat fs) < suc N → Switched b g x t fs u → Found0 g (Marked v N b s) fs u
@@ -287,7 +288,7 @@ switch_found g v N b x t fs u s c like lt p =
       result = y;
       is_value = refl;
       like = like_same g (switched_to t p.after) u y.state p.tables (record { amf3 = o.like; size = like.size });
-      runs = subst (λ l. Runs (behind0 v N s (form0_of 0x11)) l y) (append-nil p.rest) (runs_bind (value_layout N s.amf3) (λ z. give (read0 z.value (switched s z.state))) p.rest [] o.result (give y) o.runs refl);
+      runs = subst (λ l. Runs (behind0 v N s (marker0_at 0x11)) l y) (append-nil p.rest) (runs_bind (value_layout N s.amf3) (λ z. give (read0 z.value (switched s z.state))) p.rest [] o.result (give y) o.runs refl);
     })
 
 named_found : (g : Graph) (v : Reader0) (N : ℕ) (b : Bool) (i : ℕ) (t : Tables0) (fs : List Field) (u : Tables0) (s : State0) → AllClean fs → Like0 g t s → Named0 b i t fs u → Found0 g (Marked v N b s) fs u

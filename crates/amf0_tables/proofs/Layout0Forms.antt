@@ -1,52 +1,17 @@
 -- The markers of AMF 0 that are not refused.
-use Rattle.std.proofs.Common.{◌≡◌, ℕ, zero, suc, ◌<◌, Bool, true, false, cond, eqb, ltb, not, ◌&&◌, ◌||◌, Some, None, refl, sym, ap, ◌∙◌, arith}
+use Rattle.std.proofs.Common.{◌≡◌, ℕ, zero, suc, ◌<◌, Bool, true, false, cond, eqb, ltb, not, ◌&&◌, ◌||◌, Option, Some, None, refl, sym, ap, ◌∙◌, arith}
 use Rattle.amf_io.specs.declared.reason.Reason.TheVariants.{BadMarker, BadReference}
 use Rattle.amf0_tables.specs.Refusals0.{is_no_marker0, marker0_refusal}
-use Rattle.amf0_tables.specs.Layout0.{Form0, double, boolean, short_text, object, movie_clip, null, undefined, place, names, end, strict, date, long_text, unsupported, record_set, document, typed, switch, form0_of}
+use Rattle.amf0_tables.specs.declared.marker.Marker0.{Marker0}
+use Rattle.amf0_tables.specs.Markers0.{marker0_byte, marker0_at}
 
-abbrev pub code0 : Form0 → ℕ
-code0 double = 0x00
-code0 boolean = 0x01
-code0 short_text = 0x02
-code0 object = 0x03
-code0 movie_clip = 0x04
-code0 null = 0x05
-code0 undefined = 0x06
-code0 place = 0x07
-code0 names = 0x08
-code0 end = 0x09
-code0 strict = 0x0A
-code0 date = 0x0B
-code0 long_text = 0x0C
-code0 unsupported = 0x0D
-code0 record_set = 0x0E
-code0 document = 0x0F
-code0 typed = 0x10
-code0 switch = 0x11
-
-pub code0_of : (m : ℕ) → m < 18 → code0 (form0_of m) ≡ m
-code0_of zero h = refl
-code0_of (suc zero) h = refl
-code0_of (suc (suc zero)) h = refl
-code0_of (suc (suc (suc zero))) h = refl
-code0_of (suc (suc (suc (suc zero)))) h = refl
-code0_of (suc (suc (suc (suc (suc zero))))) h = refl
-code0_of (suc (suc (suc (suc (suc (suc zero)))))) h = refl
-code0_of (suc (suc (suc (suc (suc (suc (suc zero))))))) h = refl
-code0_of (suc (suc (suc (suc (suc (suc (suc (suc zero)))))))) h = refl
-code0_of (suc (suc (suc (suc (suc (suc (suc (suc (suc zero))))))))) h = refl
-code0_of (suc (suc (suc (suc (suc (suc (suc (suc (suc (suc zero)))))))))) h = refl
-code0_of (suc (suc (suc (suc (suc (suc (suc (suc (suc (suc (suc zero))))))))))) h = refl
-code0_of (suc (suc (suc (suc (suc (suc (suc (suc (suc (suc (suc (suc zero)))))))))))) h = refl
-code0_of (suc (suc (suc (suc (suc (suc (suc (suc (suc (suc (suc (suc (suc zero))))))))))))) h = refl
-code0_of (suc (suc (suc (suc (suc (suc (suc (suc (suc (suc (suc (suc (suc (suc zero)))))))))))))) h = refl
-code0_of (suc (suc (suc (suc (suc (suc (suc (suc (suc (suc (suc (suc (suc (suc (suc zero))))))))))))))) h = refl
-code0_of (suc (suc (suc (suc (suc (suc (suc (suc (suc (suc (suc (suc (suc (suc (suc (suc zero)))))))))))))))) h = refl
-code0_of (suc (suc (suc (suc (suc (suc (suc (suc (suc (suc (suc (suc (suc (suc (suc (suc (suc zero))))))))))))))))) h = refl
-code0_of (suc (suc (suc (suc (suc (suc (suc (suc (suc (suc (suc (suc (suc (suc (suc (suc (suc (suc m)))))))))))))))))) h = absurd (omega arith)
+-- the byte of a marker, or of the end of pairs
+abbrev pub code0 : Option Marker0 → ℕ
+code0 (Some m) = marker0_byte m
+code0 None = 0x09
 
 -- a marker that is not refused is one of them
-pub marker0_below : (may_end : Bool) (nodes m : ℕ) → marker0_refusal may_end nodes m ≡ None → m < 18
+marker0_below : (may_end : Bool) (nodes m : ℕ) → marker0_refusal may_end nodes m ≡ None → m < 18
 marker0_below may_end nodes m ok = go (ltb 17 m) refl ok
   where
     not_more : (m : ℕ) → ltb 17 m ≡ false → m < 18
@@ -66,6 +31,31 @@ marker0_below may_end nodes m ok = go (ltb 17 m) refl ok
       where
         none_is : {X : Type 0} {x : X} → Some x ≡ None → ⊥
         none_is e = cc
+
+-- a byte that is not refused is that of its marker
+pub code0_at : (may_end : Bool) (nodes m : ℕ) → marker0_refusal may_end nodes m ≡ None → code0 (marker0_at m) ≡ m
+code0_at may_end nodes m ok = go m (marker0_below may_end nodes m ok) ok
+  where
+    go : (m : ℕ) → m < 18 → marker0_refusal may_end nodes m ≡ None → code0 (marker0_at m) ≡ m
+    go zero l ok = refl
+    go (suc zero) l ok = refl
+    go (suc (suc zero)) l ok = refl
+    go (suc (suc (suc zero))) l ok = refl
+    go (suc (suc (suc (suc zero)))) l ok = absurd cc
+    go (suc (suc (suc (suc (suc zero))))) l ok = refl
+    go (suc (suc (suc (suc (suc (suc zero)))))) l ok = refl
+    go (suc (suc (suc (suc (suc (suc (suc zero))))))) l ok = refl
+    go (suc (suc (suc (suc (suc (suc (suc (suc zero)))))))) l ok = refl
+    go (suc (suc (suc (suc (suc (suc (suc (suc (suc zero))))))))) l ok = refl
+    go (suc (suc (suc (suc (suc (suc (suc (suc (suc (suc zero)))))))))) l ok = refl
+    go (suc (suc (suc (suc (suc (suc (suc (suc (suc (suc (suc zero))))))))))) l ok = refl
+    go (suc (suc (suc (suc (suc (suc (suc (suc (suc (suc (suc (suc zero)))))))))))) l ok = refl
+    go (suc (suc (suc (suc (suc (suc (suc (suc (suc (suc (suc (suc (suc zero))))))))))))) l ok = refl
+    go (suc (suc (suc (suc (suc (suc (suc (suc (suc (suc (suc (suc (suc (suc zero)))))))))))))) l ok = absurd cc
+    go (suc (suc (suc (suc (suc (suc (suc (suc (suc (suc (suc (suc (suc (suc (suc zero))))))))))))))) l ok = refl
+    go (suc (suc (suc (suc (suc (suc (suc (suc (suc (suc (suc (suc (suc (suc (suc (suc zero)))))))))))))))) l ok = refl
+    go (suc (suc (suc (suc (suc (suc (suc (suc (suc (suc (suc (suc (suc (suc (suc (suc (suc zero))))))))))))))))) l ok = refl
+    go (suc (suc (suc (suc (suc (suc (suc (suc (suc (suc (suc (suc (suc (suc (suc (suc (suc (suc m)))))))))))))))))) l ok = absurd (omega arith)
 
 -- a place is not empty
 pub some_place : (may_end : Bool) (nodes : ℕ) → marker0_refusal may_end nodes 0x07 ≡ None → 0 < nodes

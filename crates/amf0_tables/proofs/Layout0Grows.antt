@@ -1,5 +1,5 @@
 -- More fuel reads the same value of AMF 0.
-use Rattle.std.proofs.Common.{ℕ, zero, suc, ◌≤◌, Bool, false, cond, [], slice_index, refl, arith, length}
+use Rattle.std.proofs.Common.{ℕ, zero, suc, ◌≤◌, Bool, false, cond, [], slice_index, refl, arith, length, Option, Some, None}
 use Rattle.std.specs.Int.{from_be_bytes, w32}
 use Rattle.amf_io.specs.Layout.{Layout, give, bind, Extends}
 use Rattle.amf_io.proofs.Paths.{extends_bind, extends_same}
@@ -10,7 +10,10 @@ use Rattle.amf3_layout.specs.Layout3.{ValueRead, value_layout}
 use Rattle.amf3_layout.proofs.Layout3Grows.{value_grows}
 use Rattle.amf0_tables.specs.Parts0.{is_empty}
 use Rattle.amf0_tables.specs.Layout0State.{State0, switched, with_class, class_head, with_node0, changed0}
-use Rattle.amf0_tables.specs.Layout0.{Form0, double, boolean, short_text, object, movie_clip, null, undefined, place, names, end, strict, date, long_text, unsupported, record_set, document, typed, switch, form0_of, TextRead0, new_text0, short_layout, Read0, read0, Reader0, items0, pairs0, shut0, with_pairs, with_items, with_members, behind0, value0_layout}
+use Rattle.amf0_tables.specs.Layout0.{TextRead0, new_text0, short_layout, Read0, read0, Reader0, items0, pairs0, shut0, with_pairs, with_items, with_members, behind0, value0_layout}
+use Rattle.amf0_tables.specs.declared.marker.Marker0.{Marker0}
+use Rattle.amf0_tables.specs.declared.marker.Marker0.TheVariants as marker
+use Rattle.amf0_tables.specs.Markers0.{marker0_at}
 
 abbrev Grow : Reader0 → Reader0 → Type 0
 Grow t u = (b : Bool) (s : State0) → Extends (t b s) (u b s)
@@ -44,29 +47,27 @@ with_items_grow t u n s head g =
     let i = length s.amf3.arena.nodes in
     extends_bind (items0 t i n (with_node0 s head)) (items0 u i n (with_node0 s head)) (λ z. give (shut0 i z)) (λ z. give (shut0 i z)) (items_grow t u i n (with_node0 s head) g) (λ z. refl)
 
-behind_grow : (t u : Reader0) (f h : ℕ) (s : State0) (y : Form0) → f ≤ h → Grow t u → Extends (behind0 t f s y) (behind0 u h s y)
-behind_grow t u f h s double le g = extends_same (behind0 t f s double)
-behind_grow t u f h s boolean le g = extends_same (behind0 t f s boolean)
-behind_grow t u f h s short_text le g = extends_same (behind0 t f s short_text)
-behind_grow t u f h s object le g = let x = new_text0 s [] in with_pairs_grow t u f h (with_class x.state x.id) (class_head x.state) le g
-behind_grow t u f h s movie_clip le g = refl
-behind_grow t u f h s null le g = refl
-behind_grow t u f h s undefined le g = refl
-behind_grow t u f h s place le g = extends_same (behind0 t f s place)
-behind_grow t u f h s names le g = (refl, λ b. with_pairs_grow t u f h s array le g)
-behind_grow t u f h s end le g = refl
-behind_grow t u f h s strict le g = (refl, λ b. with_items_grow t u (from_be_bytes w32 b) s array g)
-behind_grow t u f h s date le g = extends_same (behind0 t f s date)
-behind_grow t u f h s long_text le g = extends_same (behind0 t f s long_text)
-behind_grow t u f h s unsupported le g = refl
-behind_grow t u f h s record_set le g = refl
-behind_grow t u f h s document le g = extends_same (behind0 t f s document)
-behind_grow t u f h s typed le g = extends_bind (short_layout s) (short_layout s) (with_members t f) (with_members u h) (extends_same (short_layout s)) (λ x. with_pairs_grow t u f h (with_class x.state x.id) (class_head x.state) le g)
-behind_grow t u f h s switch le g =
+behind_grow : (t u : Reader0) (f h : ℕ) (s : State0) (y : Option Marker0) → f ≤ h → Grow t u → Extends (behind0 t f s y) (behind0 u h s y)
+behind_grow t u f h s (Some marker.Double) le g = extends_same (behind0 t f s (Some marker.Double))
+behind_grow t u f h s (Some marker.Boolean) le g = extends_same (behind0 t f s (Some marker.Boolean))
+behind_grow t u f h s (Some marker.Text) le g = extends_same (behind0 t f s (Some marker.Text))
+behind_grow t u f h s (Some marker.Object) le g = let x = new_text0 s [] in with_pairs_grow t u f h (with_class x.state x.id) (class_head x.state) le g
+behind_grow t u f h s (Some marker.Null) le g = refl
+behind_grow t u f h s (Some marker.Undefined) le g = refl
+behind_grow t u f h s (Some marker.Reference) le g = extends_same (behind0 t f s (Some marker.Reference))
+behind_grow t u f h s (Some marker.Names) le g = (refl, λ b. with_pairs_grow t u f h s array le g)
+behind_grow t u f h s None le g = refl
+behind_grow t u f h s (Some marker.Strict) le g = (refl, λ b. with_items_grow t u (from_be_bytes w32 b) s array g)
+behind_grow t u f h s (Some marker.Date) le g = extends_same (behind0 t f s (Some marker.Date))
+behind_grow t u f h s (Some marker.LongText) le g = extends_same (behind0 t f s (Some marker.LongText))
+behind_grow t u f h s (Some marker.Unsupported) le g = refl
+behind_grow t u f h s (Some marker.Document) le g = extends_same (behind0 t f s (Some marker.Document))
+behind_grow t u f h s (Some marker.Typed) le g = extends_bind (short_layout s) (short_layout s) (with_members t f) (with_members u h) (extends_same (short_layout s)) (λ x. with_pairs_grow t u f h (with_class x.state x.id) (class_head x.state) le g)
+behind_grow t u f h s (Some marker.Switch) le g =
     let after : ValueRead → Layout Read0 = λ x. give (read0 x.value (switched s x.state)) in
     extends_bind (value_layout f s.amf3) (value_layout h s.amf3) after after (value_grows f h le s.amf3) (λ x. refl)
 
 pub value0_grows : (n m : ℕ) → n ≤ m → Grow (value0_layout n) (value0_layout m)
 value0_grows zero m le b s = tt
 value0_grows (suc n) zero le b s = absurd (omega arith)
-value0_grows (suc n) (suc m) le may_end s = (refl, λ b. behind_grow (value0_layout n) (value0_layout m) n m s (form0_of (slice_index b 0)) (omega arith) (value0_grows n m (omega arith)))
+value0_grows (suc n) (suc m) le may_end s = (refl, λ b. behind_grow (value0_layout n) (value0_layout m) n m s (marker0_at (slice_index b 0)) (omega arith) (value0_grows n m (omega arith)))

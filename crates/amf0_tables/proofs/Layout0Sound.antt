@@ -1,5 +1,5 @@
 -- A value of AMF 0 that is read is spelled so in each finished graph that completes what is there afterwards.
-use Rattle.std.proofs.Common.{◌≡◌, ℕ, zero, suc, ◌<◌, ◌^◌, Bool, true, false, cond, eqb, leb, not, List, [], ◌∷◌, ◌++◌, length, get_or, slice_index, Some, None, refl, sym, ap, ◌∙◌, arith, subst, inl, inr, ◌⊎◌, length-append}
+use Rattle.std.proofs.Common.{◌≡◌, ℕ, zero, suc, ◌<◌, ◌^◌, Bool, true, false, cond, eqb, leb, not, List, [], ◌∷◌, ◌++◌, length, get_or, slice_index, Some, None, refl, sym, ap, ◌∙◌, arith, subst, inl, inr, ◌⊎◌, length-append, Option}
 use Rattle.std.proofs.lemmas.Bool.{eqb-true, eqb-false}
 use Rattle.std.proofs.lemmas.List.{append-nil, length-map}
 use Rattle.std.proofs.Math.Seq.{get_or-append_seam}
@@ -32,11 +32,14 @@ use Rattle.amf0_tables.specs.Refusals0.{marker0_kind, marker0_refusal, index0_ki
 use Rattle.amf0_tables.specs.Parts0.{marker0_field, Short, Long, LeafBy0}
 use Rattle.amf0_tables.specs.Spells0.{Switched, SpellsIn0}
 use Rattle.amf0_tables.specs.Layout0State.{State0, switched, with_text0}
-use Rattle.amf0_tables.specs.Layout0.{Form0, double, boolean, short_text, object, movie_clip, null, undefined, place, names, end, strict, date, long_text, unsupported, record_set, document, typed, switch, form0_of, TextRead0, short_layout, long_layout, Read0, read0, end0, whole0, with_members, behind0, value0_layout}
-use Rattle.amf0_tables.proofs.Layout0Forms.{code0, code0_of, marker0_below, end_may}
+use Rattle.amf0_tables.specs.Layout0.{TextRead0, short_layout, long_layout, Read0, read0, end0, whole0, with_members, behind0, value0_layout}
+use Rattle.amf0_tables.proofs.Layout0Forms.{code0, code0_at, end_may}
 use Rattle.amf0_tables.proofs.Layout0Contents.{Good0, table0, good0_moved, good_text0}
 use Rattle.amf0_tables.proofs.Layout0SoundParts.{empty_text, ValueSound0, EndSound0, Sounds0, TextSound0, short_sound, long_sound, u32_is, text_there, completed_larger, SoMany, ItemsSpelled, NoValues, PairsSpelled}
 use Rattle.amf0_tables.proofs.Layout0SoundNodes.{spell0, opened_sound, whole_sound, pairs_shut, items_shut, pairs_by, none_mapped, members_sound}
+use Rattle.amf0_tables.specs.declared.marker.Marker0.{Marker0}
+use Rattle.amf0_tables.specs.declared.marker.Marker0.TheVariants as marker
+use Rattle.amf0_tables.specs.Markers0.{marker0_at}
 
 abbrev Outcome : ℕ → Bool → State0 → List Field → Read0 → Type 0
 Outcome n b s fs x = ValueSound0 (spell0 n) b s fs x ⊎ EndSound0 b s fs x
@@ -133,31 +136,24 @@ switch_sound N b s f rest x g is bytes r =
     by e r (leaf l) p = inr (tt, p)
     by e r (graph.node i) p = inr (tt, p)
 
--- what is refused is not read
-refused : (b : Bool) (nodes : ℕ) (P : Type 0) → marker0_refusal b nodes 0x04 ≡ None → P
-refused b nodes P ok = absurd cc
-
-refused_too : (b : Bool) (nodes : ℕ) (P : Type 0) → marker0_refusal b nodes 0x0E ≡ None → P
-refused_too b nodes P ok = absurd cc
-
 module _ (N : ℕ) (b : Bool) (s : State0) (ih : Sounds0 (spell0 N) (value0_layout N)) (g : Good0 s) (f : Field) where
-  form_sound : (y : Form0) → f ≡ marker0_field b (table0 s) (code0 y) → marker0_refusal b (length s.nodes) (code0 y) ≡ None → (rest : List Field) (x : Read0) → AreBytes (flat rest) → Runs (behind0 (value0_layout N) N s y) rest x → Outcome (suc N) b s (f ∷ rest) x
-  form_sound double is ok [] x bytes r = absurd cc
-  form_sound double is ok (h ∷ []) x bytes r =
+  form_sound : (y : Option Marker0) → f ≡ marker0_field b (table0 s) (code0 y) → marker0_refusal b (length s.nodes) (code0 y) ≡ None → (rest : List Field) (x : Read0) → AreBytes (flat rest) → Runs (behind0 (value0_layout N) N s y) rest x → Outcome (suc N) b s (f ∷ rest) x
+  form_sound (Some marker.Double) is ok [] x bytes r = absurd cc
+  form_sound (Some marker.Double) is ok (h ∷ []) x bytes r =
       let p = from_be_bytes w64 h.bytes in
       let i = eight_is h r.0 (bytes_front h.bytes [] bytes) in
       inl (plain_sound (suc N) b s (f ∷ h ∷ []) (Double (record { 0 = p })) (graph.double p) x g i.1 (λ e. refl)
       (i.1, (h ∷ [], ap (λ w. w ∷ []) i.0, ap (λ w. w ∷ h ∷ []) is, refl)) (give_is (read0 (Double (record { 0 = p })) s) x r.1))
-  form_sound double is ok (h ∷ i ∷ rest) x bytes r = absurd r.1
-  form_sound boolean is ok [] x bytes r = absurd cc
-  form_sound boolean is ok (h ∷ []) x bytes r =
+  form_sound (Some marker.Double) is ok (h ∷ i ∷ rest) x bytes r = absurd r.1
+  form_sound (Some marker.Boolean) is ok [] x bytes r = absurd cc
+  form_sound (Some marker.Boolean) is ok (h ∷ []) x bytes r =
       let m = slice_index h.bytes 0 in
       let k = not (eqb m 0) in
       inl (plain_sound (suc N) b s (f ∷ h ∷ []) (Flag k) (graph.boolean k) x g tt (λ e. refl)
       (h ∷ [], (m, flag_row m (all_below h.bytes (bytes_front h.bytes [] bytes) 0), ap (λ w. w ∷ []) (taken (raw_kind 1) h r.0 ∙ ap (field (raw_kind 1)) (one_byte h.bytes r.0.is_whole))), ap (λ w. w ∷ h ∷ []) is, refl)
       (give_is (read0 (Flag k) s) x r.1))
-  form_sound boolean is ok (h ∷ i ∷ rest) x bytes r = absurd r.1
-  form_sound short_text is ok rest x bytes r =
+  form_sound (Some marker.Boolean) is ok (h ∷ i ∷ rest) x bytes r = absurd r.1
+  form_sound (Some marker.Text) is ok rest x bytes r =
       let a = bind_runs (short_layout s) (λ y. give (read0 (TextRef (record { 0 = y.id })) y.state)) rest x r in
       let ab = bytes_parts rest a.front a.back a.parts bytes in
       last a.value a.front a.back a.parts (short_sound s a.front a.value ab.0 a.first) a.second
@@ -165,20 +161,19 @@ module _ (N : ℕ) (b : Bool) (s : State0) (ih : Sounds0 (spell0 N) (value0_layo
       last : (y : TextRead0) (front back : List Field) → rest ≡ front ++ back → TextSound0 Short s front y → Path (give (read0 (TextRef (record { 0 = y.id })) y.state)) back (give x) → Outcome (suc N) b s (f ∷ rest) x
       last y front [] e t p = inl (text_value (suc N) b s (f ∷ rest) front y x Short g t (λ k q. inl (front, q, ap (λ w. w ∷ rest) is ∙ ap (λ l. marker0_field b (table0 s) 0x02 ∷ l) (e ∙ append-nil front), refl)) (give_is (read0 (TextRef (record { 0 = y.id })) y.state) x p))
       last y front (h ∷ back) e t p = absurd p
-  form_sound object is ok rest x bytes r =
+  form_sound (Some marker.Object) is ok rest x bytes r =
       inl (members_sound N 0x03 b (value0_layout N) ih s g [] empty_text rest rest x bytes r (λ e q ps u p. (record { dynamic = refl; unsealed = refl }, inl (refl, refl, pairs_by (spell0 N e q) ps _ rest u p))) f is)
-  form_sound movie_clip is ok rest x bytes r = refused b (length s.nodes) (Outcome (suc N) b s (f ∷ rest) x) ok
-  form_sound null is ok [] x bytes r = inl (plain_sound (suc N) b s (f ∷ []) Null graph.null x g tt (λ e. refl) ([], refl, ap (λ w. w ∷ []) is, refl) (give_is (read0 Null s) x r))
-  form_sound null is ok (h ∷ rest) x bytes r = absurd r
-  form_sound undefined is ok [] x bytes r = inl (plain_sound (suc N) b s (f ∷ []) Undefined graph.undefined x g tt (λ e. refl) (inl ([], refl, ap (λ w. w ∷ []) is, refl)) (give_is (read0 Undefined s) x r))
-  form_sound undefined is ok (h ∷ rest) x bytes r = absurd r
-  form_sound place is ok [] x bytes r = absurd cc
-  form_sound place is ok (h ∷ []) x bytes r =
+  form_sound (Some marker.Null) is ok [] x bytes r = inl (plain_sound (suc N) b s (f ∷ []) Null graph.null x g tt (λ e. refl) ([], refl, ap (λ w. w ∷ []) is, refl) (give_is (read0 Null s) x r))
+  form_sound (Some marker.Null) is ok (h ∷ rest) x bytes r = absurd r
+  form_sound (Some marker.Undefined) is ok [] x bytes r = inl (plain_sound (suc N) b s (f ∷ []) Undefined graph.undefined x g tt (λ e. refl) (inl ([], refl, ap (λ w. w ∷ []) is, refl)) (give_is (read0 Undefined s) x r))
+  form_sound (Some marker.Undefined) is ok (h ∷ rest) x bytes r = absurd r
+  form_sound (Some marker.Reference) is ok [] x bytes r = absurd cc
+  form_sound (Some marker.Reference) is ok (h ∷ []) x bytes r =
       let k = read0 (NodeRef (record { 0 = get_or s.nodes (from_be_bytes w16 h.bytes) 0 })) s in
       inl (subst (λ y. ValueSound0 (spell0 (suc N)) b s (f ∷ h ∷ []) y) (give_is k x r.1) (place_sound (suc N) b s f h g is r.0 (bytes_front h.bytes [] bytes)))
-  form_sound place is ok (h ∷ i ∷ rest) x bytes r = absurd r.1
-  form_sound names is ok [] x bytes r = absurd cc
-  form_sound names is ok (h ∷ rest) x bytes r =
+  form_sound (Some marker.Reference) is ok (h ∷ i ∷ rest) x bytes r = absurd r.1
+  form_sound (Some marker.Names) is ok [] x bytes r = absurd cc
+  form_sound (Some marker.Names) is ok (h ∷ rest) x bytes r =
       let n = u32_is h r.0 (bytes_front h.bytes (flat rest) bytes) in
       let k = pairs_shut (spell0 N) (value0_layout N) N ih s arena.array rest x g tt refl (bytes_back h.bytes (flat rest) bytes) r.1 in
       inl (subst (λ y. ValueSound0 (spell0 (suc N)) b s (f ∷ h ∷ rest) y) k.is
@@ -189,12 +184,12 @@ module _ (N : ℕ) (b : Bool) (s : State0) (ih : Sounds0 (spell0 N) (value0_layo
         tt,
         record { front = h ∷ []; back = rest; mid = _; joined = refl; first = ((from_be_bytes w32 h.bytes, n.1, tt, ap (λ w. w ∷ []) n.0), refl); second = pairs_by (spell0 N e q) (pairs_content e k.adds.adds.names) _ rest (table0 k.state) p },
       )) f is))
-  form_sound end is ok [] x bytes r =
+  form_sound None is ok [] x bytes r =
       let may = end_may b (length s.nodes) ok in
       inr (subst (λ y. EndSound0 b s (f ∷ []) y) (give_is (end0 s) x r) (record { is_end = refl; may = may; fields = ap (λ w. w ∷ []) is; same = refl }))
-  form_sound end is ok (h ∷ rest) x bytes r = absurd r
-  form_sound strict is ok [] x bytes r = absurd cc
-  form_sound strict is ok (h ∷ rest) x bytes r =
+  form_sound None is ok (h ∷ rest) x bytes r = absurd r
+  form_sound (Some marker.Strict) is ok [] x bytes r = absurd cc
+  form_sound (Some marker.Strict) is ok (h ∷ rest) x bytes r =
       let n = u32_is h r.0 (bytes_front h.bytes (flat rest) bytes) in
       let m = from_be_bytes w32 h.bytes in
       let k = items_shut (spell0 N) (value0_layout N) m ih s arena.array rest x g tt refl (bytes_back h.bytes (flat rest) bytes) r.1 in
@@ -207,9 +202,9 @@ module _ (N : ℕ) (b : Bool) (s : State0) (ih : Sounds0 (spell0 N) (value0_layo
         subst (λ w. w < 2 ^ 32) (sym (many e)) n.1,
         record { front = h ∷ []; back = rest; mid = _; joined = refl; first = (ap (λ w. w ∷ []) n.0 ∙ ap (λ w. field (u32_kind no_refusal) (to_be_bytes w32 w) ∷ []) (sym (many e)), refl); second = p },
       )) f is))
-  form_sound date is ok [] x bytes r = absurd cc
-  form_sound date is ok (h ∷ []) x bytes r = absurd (let z = r.1 in cc)
-  form_sound date is ok (h ∷ k ∷ []) x bytes r =
+  form_sound (Some marker.Date) is ok [] x bytes r = absurd cc
+  form_sound (Some marker.Date) is ok (h ∷ []) x bytes r = absurd (let z = r.1 in cc)
+  form_sound (Some marker.Date) is ok (h ∷ k ∷ []) x bytes r =
       let p = from_be_bytes w64 h.bytes in
       let i = eight_is h r.0 (bytes_front h.bytes (k.bytes ++ []) bytes) in
       let kb = bytes_front k.bytes [] (bytes_back h.bytes (k.bytes ++ []) bytes) in
@@ -227,8 +222,8 @@ module _ (N : ℕ) (b : Bool) (s : State0) (ih : Sounds0 (spell0 N) (value0_layo
         ap (λ w. w ∷ k ∷ []) i.0 ∙ ap (λ w. field (raw_kind 8) (to_be_bytes w64 p) ∷ w ∷ []) (taken (raw_kind 2) k r.1.0 ∙ ap (field (raw_kind 2)) (sym (be_bytes_2 k.bytes zone long fits refl))),
         refl,
       )) f is))
-  form_sound date is ok (h ∷ k ∷ i ∷ rest) x bytes r = absurd r.1.1
-  form_sound long_text is ok rest x bytes r =
+  form_sound (Some marker.Date) is ok (h ∷ k ∷ i ∷ rest) x bytes r = absurd r.1.1
+  form_sound (Some marker.LongText) is ok rest x bytes r =
       let a = bind_runs (long_layout s) (λ y. give (read0 (TextRef (record { 0 = y.id })) y.state)) rest x r in
       let ab = bytes_parts rest a.front a.back a.parts bytes in
       last a.value a.front a.back a.parts (long_sound s a.front a.value ab.0 a.first) a.second
@@ -236,10 +231,9 @@ module _ (N : ℕ) (b : Bool) (s : State0) (ih : Sounds0 (spell0 N) (value0_layo
       last : (y : TextRead0) (front back : List Field) → rest ≡ front ++ back → TextSound0 Long s front y → Path (give (read0 (TextRef (record { 0 = y.id })) y.state)) back (give x) → Outcome (suc N) b s (f ∷ rest) x
       last y front [] e t p = inl (text_value (suc N) b s (f ∷ rest) front y x Long g t (λ k q. inr (tt, (front, q, ap (λ w. w ∷ rest) is ∙ ap (λ l. marker0_field b (table0 s) 0x0C ∷ l) (e ∙ append-nil front), refl))) (give_is (read0 (TextRef (record { 0 = y.id })) y.state) x p))
       last y front (h ∷ back) e t p = absurd p
-  form_sound unsupported is ok [] x bytes r = inl (plain_sound (suc N) b s (f ∷ []) Undefined graph.undefined x g tt (λ e. refl) (inr (tt, ([], refl, ap (λ w. w ∷ []) is, refl))) (give_is (read0 Undefined s) x r))
-  form_sound unsupported is ok (h ∷ rest) x bytes r = absurd r
-  form_sound record_set is ok rest x bytes r = refused_too b (length s.nodes) (Outcome (suc N) b s (f ∷ rest) x) ok
-  form_sound document is ok rest x bytes r =
+  form_sound (Some marker.Unsupported) is ok [] x bytes r = inl (plain_sound (suc N) b s (f ∷ []) Undefined graph.undefined x g tt (λ e. refl) (inr (tt, ([], refl, ap (λ w. w ∷ []) is, refl))) (give_is (read0 Undefined s) x r))
+  form_sound (Some marker.Unsupported) is ok (h ∷ rest) x bytes r = absurd r
+  form_sound (Some marker.Document) is ok rest x bytes r =
       let a = bind_runs (long_layout s) (λ y. give (whole0 y.state (arena.xml_document y.id))) rest x r in
       let ab = bytes_parts rest a.front a.back a.parts bytes in
       last a.value a.front a.back a.parts (long_sound s a.front a.value ab.0 a.first) a.second
@@ -264,13 +258,13 @@ module _ (N : ℕ) (b : Bool) (s : State0) (ih : Sounds0 (spell0 N) (value0_layo
             spelled = z.spelled;
           }))
       last y front (h ∷ back) e t p = absurd p
-  form_sound typed is ok rest x bytes r =
+  form_sound (Some marker.Typed) is ok rest x bytes r =
       let a = bind_runs (short_layout s) (with_members (value0_layout N) N) rest x r in
       let ab = bytes_parts rest a.front a.back a.parts bytes in
       let t = short_sound s a.front a.value ab.0 a.first in
       inl (members_sound N 0x10 b (value0_layout N) ih s g t.bytes t.is_text a.back rest x ab.1 (subst (λ w. Runs (with_members (value0_layout N) N w) a.back x) t.is a.second)
       (λ e q ps u p. (record { dynamic = refl; unsealed = refl }, inr (refl, tt, record { front = a.front; back = a.back; mid = _; joined = a.parts; first = (t.spelled, refl); second = pairs_by (spell0 N e q) ps _ a.back u p }))) f is)
-  form_sound switch is ok rest x bytes r =
+  form_sound (Some marker.Switch) is ok rest x bytes r =
       let a = bind_runs (value_layout N s.amf3) (λ y. give (read0 y.value (switched s y.state))) rest x r in
       let ab = bytes_parts rest a.front a.back a.parts bytes in
       last a.value a.front a.back a.parts (λ l e. switch_sound N b s f l a.value g is (subst (λ w. AreBytes (flat w)) (sym e) ab.0) (subst (λ w. Runs (value_layout N s.amf3) w a.value) (sym e) a.first)) a.second
@@ -287,5 +281,5 @@ value0_sound (suc N) b s (f ∷ rest) x g bytes r =
     let m = slice_index f.bytes 0 in
     let k = marker0_kind b (length s.nodes) in
     let is : f ≡ marker0_field b (table0 s) m = taken k f r.0 ∙ ap (field k) (one_byte f.bytes r.0.is_whole) in
-    let same = code0_of m (marker0_below b (length s.nodes) m r.0.clean) in
-    form_sound N b s (value0_sound N) g f (form0_of m) (is ∙ ap (marker0_field b (table0 s)) (sym same)) (subst (λ w. marker0_refusal b (length s.nodes) w ≡ None) (sym same) r.0.clean) rest x (bytes_back f.bytes (flat rest) bytes) r.1
+    let same = code0_at b (length s.nodes) m r.0.clean in
+    form_sound N b s (value0_sound N) g f (marker0_at m) (is ∙ ap (marker0_field b (table0 s)) (sym same)) (subst (λ w. marker0_refusal b (length s.nodes) w ≡ None) (sym same) r.0.clean) rest x (bytes_back f.bytes (flat rest) bytes) r.1

@@ -4,6 +4,7 @@ pub mod SameReached
 pub mod Patterns
 pub mod Chains
 pub mod LoweredLow
+pub mod LoweredAgain
 pub mod Low
 pub mod LowLaws
 pub mod LowBounds

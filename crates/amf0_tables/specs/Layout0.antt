@@ -1,5 +1,5 @@
 -- A value of AMF 0 as it is read, field by field (1.3.1, 2.2 to 2.18 and 3.1). A device by which verdicts are proved: no spelling needs it.
-use Rattle.std.specs.Prelude.{ℕ, zero, suc, Bool, true, false, not, List, [], ◌∷◌, length, get_or, ◌==◌, if◌then◌else◌, slice_index}
+use Rattle.std.specs.Prelude.{ℕ, zero, suc, Bool, true, false, not, List, [], length, get_or, ◌==◌, if◌then◌else◌, slice_index, Option, Some, None}
 use Rattle.std.specs.Int.{from_be_bytes, w16, w32, w64}
 use Rattle.amf_io.specs.Field.{raw_kind, text_kind, u16_kind, u32_kind, no_refusal}
 use Rattle.amf_io.specs.Layout.{Layout, give, want, stuck, bind}
@@ -10,19 +10,12 @@ use Rattle.amf_graph.specs.Arena as arena
 use Rattle.amf_graph.specs.Building.{more_value, more_name, shut}
 use Rattle.amf3_layout.specs.Layout3Words.{chunk}
 use Rattle.amf3_layout.specs.Layout3.{value_layout}
+use Rattle.amf0_tables.specs.declared.marker.Marker0.{Marker0}
+use Rattle.amf0_tables.specs.declared.marker.Marker0.TheVariants as marker
+use Rattle.amf0_tables.specs.Markers0.{marker0_at}
 use Rattle.amf0_tables.specs.Parts0.{is_empty}
 use Rattle.amf0_tables.specs.Refusals0.{marker0_kind, index0_kind}
 use Rattle.amf0_tables.specs.Layout0State.{State0, switched, with_text0, with_class, class_head, with_done0, with_node0, changed0}
-
--- the forms of values, in the order of their markers; the end of pairs is among them
-pub data Form0 : Type 0 where
-  double boolean short_text object movie_clip null undefined place names end strict date long_text unsupported record_set document typed switch : Form0
-
-abbrev pub forms0 : List Form0
-forms0 = double ∷ boolean ∷ short_text ∷ object ∷ movie_clip ∷ null ∷ undefined ∷ place ∷ names ∷ end ∷ strict ∷ date ∷ long_text ∷ unsupported ∷ record_set ∷ document ∷ typed ∷ switch ∷ []
-
-abbrev pub form0_of : ℕ → Form0
-form0_of m = get_or forms0 m end
 
 -- Texts.
 
@@ -85,28 +78,26 @@ whole0 s head = read0 (Node (record { 0 = length s.amf3.arena.nodes })) (with_do
 abbrev pub with_members : Reader0 → ℕ → TextRead0 → Layout Read0
 with_members value fuel x = with_pairs value fuel (with_class x.state x.id) (class_head x.state)
 
--- behind a marker; those of movie clips and record sets are refused, so that nothing is read behind them
-abbrev pub behind0 : Reader0 → ℕ → State0 → Form0 → Layout Read0
-behind0 value fuel s double = want (raw_kind 8) (λ b. give (read0 (Double (record { 0 = from_be_bytes w64 b })) s))
-behind0 value fuel s boolean = want (raw_kind 1) (λ b. give (read0 (Flag (not (slice_index b 0 == 0))) s))
-behind0 value fuel s short_text = bind (short_layout s) (λ x. give (read0 (Text (record { 0 = x.id })) x.state))
-behind0 value fuel s object = with_members value fuel (new_text0 s [])
-behind0 value fuel s movie_clip = give (end0 s)
-behind0 value fuel s null = give (read0 Null s)
-behind0 value fuel s undefined = give (read0 Undefined s)
-behind0 value fuel s place = want (index0_kind (length s.nodes)) (λ b. give (read0 (Node (record { 0 = get_or s.nodes (from_be_bytes w16 b) 0 })) s))
-behind0 value fuel s names = want (u32_kind no_refusal) (λ b. with_pairs value fuel s arena.array)
-behind0 value fuel s end = give (end0 s)
-behind0 value fuel s strict = want (u32_kind no_refusal) (λ b. with_items value (from_be_bytes w32 b) s arena.array)
-behind0 value fuel s date = want (raw_kind 8) (λ b. want (raw_kind 2) (λ zone. give (whole0 s (arena.date (from_be_bytes w64 b)))))
-behind0 value fuel s long_text = bind (long_layout s) (λ x. give (read0 (Text (record { 0 = x.id })) x.state))
-behind0 value fuel s unsupported = give (read0 Undefined s)
-behind0 value fuel s record_set = give (end0 s)
-behind0 value fuel s document = bind (long_layout s) (λ x. give (whole0 x.state (arena.xml_document x.id)))
-behind0 value fuel s typed = bind (short_layout s) (with_members value fuel)
-behind0 value fuel s switch = bind (value_layout fuel s.amf3) (λ x. give (read0 x.value (switched s x.state)))
+-- behind the marker of a value, or the end of pairs
+abbrev pub behind0 : Reader0 → ℕ → State0 → Option Marker0 → Layout Read0
+behind0 value fuel s (Some marker.Double) = want (raw_kind 8) (λ b. give (read0 (Double (record { 0 = from_be_bytes w64 b })) s))
+behind0 value fuel s (Some marker.Boolean) = want (raw_kind 1) (λ b. give (read0 (Flag (not (slice_index b 0 == 0))) s))
+behind0 value fuel s (Some marker.Text) = bind (short_layout s) (λ x. give (read0 (Text (record { 0 = x.id })) x.state))
+behind0 value fuel s (Some marker.Object) = with_members value fuel (new_text0 s [])
+behind0 value fuel s (Some marker.Null) = give (read0 Null s)
+behind0 value fuel s (Some marker.Undefined) = give (read0 Undefined s)
+behind0 value fuel s (Some marker.Reference) = want (index0_kind (length s.nodes)) (λ b. give (read0 (Node (record { 0 = get_or s.nodes (from_be_bytes w16 b) 0 })) s))
+behind0 value fuel s (Some marker.Names) = want (u32_kind no_refusal) (λ b. with_pairs value fuel s arena.array)
+behind0 value fuel s None = give (end0 s)
+behind0 value fuel s (Some marker.Strict) = want (u32_kind no_refusal) (λ b. with_items value (from_be_bytes w32 b) s arena.array)
+behind0 value fuel s (Some marker.Date) = want (raw_kind 8) (λ b. want (raw_kind 2) (λ zone. give (whole0 s (arena.date (from_be_bytes w64 b)))))
+behind0 value fuel s (Some marker.LongText) = bind (long_layout s) (λ x. give (read0 (Text (record { 0 = x.id })) x.state))
+behind0 value fuel s (Some marker.Unsupported) = give (read0 Undefined s)
+behind0 value fuel s (Some marker.Document) = bind (long_layout s) (λ x. give (whole0 x.state (arena.xml_document x.id)))
+behind0 value fuel s (Some marker.Typed) = bind (short_layout s) (with_members value fuel)
+behind0 value fuel s (Some marker.Switch) = bind (value_layout fuel s.amf3) (λ x. give (read0 x.value (switched s x.state)))
 
 -- one value, or where it may stand the end of pairs, with fuel
 abbrev pub value0_layout : ℕ → Bool → State0 → Layout Read0
 value0_layout zero may_end s = stuck
-value0_layout (suc n) may_end s = want (marker0_kind may_end (length s.nodes)) (λ b. behind0 (value0_layout n) n s (form0_of (slice_index b 0)))
+value0_layout (suc n) may_end s = want (marker0_kind may_end (length s.nodes)) (λ b. behind0 (value0_layout n) n s (marker0_at (slice_index b 0)))

@@ -1,5 +1,6 @@
 -- The definitions that contracts cite.
 pub mod Tables0
+pub mod Markers0
 pub mod Refusals0
 pub mod Parts0
 pub mod Spells0

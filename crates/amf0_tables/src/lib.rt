@@ -7,6 +7,7 @@ mod facts;
 mod form;
 mod laws;
 mod layout_laws;
+mod marker;
 mod tables0;
 mod verdict_laws;
 
@@ -18,6 +19,7 @@ pub use laws::{
     values_have_one_form,
 };
 pub use layout_laws::{layouts0_are_of_spellings, layouts0_are_sound, values0_are_spellings};
+pub use marker::Marker0;
 pub use tables0::Tables0;
 pub use verdict_laws::{
     bytes_fix_fields0, bytes_fix_next_kind0, faults0_are_first, inputs0_have_one_verdict,

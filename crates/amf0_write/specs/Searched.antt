@@ -19,6 +19,10 @@ use Rattle.amf0_write.specs.declared.meeting.Meeting.{Meeting}
 use Rattle.amf0_write.specs.declared.meeting.Meeting.TheVariants.{Never, Alone, At}
 use Rattle.amf0_write.specs.PartLacks0.{outside_of, PlaceLacks0, PartLacks0}
 
+-- the next index and the nodes that were never met are together no more
+abbrev pub places_end : ℕ
+places_end = 2 ^ 30
+
 -- the value leads to a lack, behind what is done in these tables
 abbrev pub HasPartLack0 : Graph → Value → Tables0 → Type 0
 HasPartLack0 g v t = (all : List ℕ) (again : List ℕ) → Meets g t.amf3.done (v ∷ []) all again → (place : ℕ) × (i : ℕ) × (kind : LackKind) × (slice_get all place ≡ Some i) × PlaceLacks0 g (outside_of g t) (length t.amf3.done) all again place i kind

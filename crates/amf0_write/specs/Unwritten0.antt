@@ -1,5 +1,5 @@
 -- What a stack of runs stands for. A device of proofs.
-use Rattle.std.specs.Prelude.{◌≡◌, ℕ, ◌+◌, ◌<◌, ◌≤◌, ◌⊎◌, List, [], ◌∷◌, ◌++◌, length, reverse, Option, Some, None}
+use Rattle.std.specs.Prelude.{◌≡◌, ℕ, ◌+◌, ◌^◌, ◌<◌, ◌≤◌, ◌⊎◌, List, [], ◌∷◌, ◌++◌, length, reverse, Option, Some, None}
 use Rattle.std.specs.List.{AllByRecursion}
 use Rattle.amf_graph.specs.declared.value.TextId.{TextId}
 use Rattle.amf_graph.specs.declared.value.Value.{Value as Stored}
@@ -69,6 +69,14 @@ abbrev pub turns_left : List Unwritten → ℕ
 turns_left [] = 0
 turns_left (run ∷ runs) = run_turns run + turns_left runs
 
+-- what is opened adds no more turns
+abbrev pub opened_turns : ℕ
+opened_turns = 2 ^ 29
+
+-- and no node takes more
+abbrev pub node_turns : ℕ
+node_turns = 2 ^ 30
+
 -- no more turns are left than before; or one of so many nodes is new among those written, and no more turns came than a node has
 abbrev pub Falls : ℕ → List ℕ → List ℕ → ℕ → ℕ → Type 0
-Falls count old new before after = ((new ≡ old) × (after ≤ before)) ⊎ ((i : ℕ) × (i < count) × Absent old i × (new ≡ old ++ i ∷ []) × (after ≤ before + 1073741824))
+Falls count old new before after = ((new ≡ old) × (after ≤ before)) ⊎ ((i : ℕ) × (i < count) × Absent old i × (new ≡ old ++ i ∷ []) × (after ≤ before + node_turns))

@@ -1,4 +1,4 @@
-ghost use Rattle.std.specs.Prelude.{◌≡◌, ◌≢◌, ◌+◌, ◌<◌, ◌≤◌, ◌^◌, ◌∷◌, [], ◌++◌, length, OnOk};
+ghost use Rattle.std.specs.Prelude.{◌≡◌, ◌≢◌, ◌+◌, ◌<◌, ◌≤◌, ◌∷◌, [], ◌++◌, length, OnOk};
 ghost use Rattle.std.specs.List.{AllByRecursion};
 ghost use Rattle.amf_graph.specs.declared.value.Value.TheVariants.{Node as NodeRef};
 ghost use Rattle.amf_graph.specs.Arena.{traits_at};
@@ -11,9 +11,10 @@ ghost use Rattle.amf_iso.specs.Contents.{values_of, pairs_of};
 ghost use Rattle.amf0_tables.specs.Lacks0.{HasNoForm, HasShortNames, IsShortName};
 ghost use Rattle.amf0_tables.specs.Lowered.{IsLowered};
 ghost use Rattle.amf0_tables.specs.Spells0.{IsOpenTraits};
-ghost use Rattle.amf0_write.specs.Unwritten0.{IsMetValue, AreMetPairs, AreRunsOf, parts_left, turns_left, Falls};
+ghost use Rattle.amf0_write.specs.Unwritten0.{IsMetValue, AreMetPairs, AreRunsOf, parts_left, turns_left, Falls, opened_turns};
 ghost use Rattle.amf0_write.specs.Writes0 as part;
 ghost use Rattle.amf0_write.specs.Writes0.{pairs_then, done_of, Leads, Keeps, Opened};
+ghost use Rattle.amf_graph.specs.Bounds.{count_end};
 
 use crate::output::Output;
 use crate::unwritten::Unwritten;
@@ -80,14 +81,14 @@ impl Output {
         graph: &'g Rooted,
         waiting: &mut Vec<Unwritten<'g>>,
     ) -> Result<(), Memory>
-        requires few { length items.now < 2 ^ 28 }
-        requires few_names { length names.now < 2 ^ 28 }
+        requires few { length items.now < count_end }
+        requires few_names { length names.now < count_end }
         requires form { names.now ≢ [] → items.now ≡ [] }
         requires items { AllByRecursion (IsMetValue graph.now) items.now }
         requires names { AreMetPairs graph.now names.now }
         ensures opened { OnOk result (Opened (record { head = graph_of_values.array; names = pairs_of graph.now.arena names.now; values = values_of graph.now.arena items.now }) (parts_left graph.now.arena waiting.old.items) (parts_left graph.now.arena waiting.new.items) self.old self.new) }
         ensures runs { AreRunsOf graph.now waiting.old.items → OnOk result (AreRunsOf graph.now waiting.new.items) }
-        ensures turns { OnOk result (turns_left waiting.new.items ≤ turns_left waiting.old.items + 2 ^ 29) }
+        ensures turns { OnOk result (turns_left waiting.new.items ≤ turns_left waiting.old.items + opened_turns) }
         ensures kept { Keeps self.old self.new }
     {
         if names.is_empty() {
@@ -113,11 +114,11 @@ impl Output {
         requires traits { traits.0 < length graph.now.arena.traits }
         requires open { IsOpenTraits (traits_at graph.now.arena traits.0) }
         requires class { IsShortName (traits_at graph.now.arena traits.0).class }
-        requires few_names { length members.now < 2 ^ 28 }
+        requires few_names { length members.now < count_end }
         requires names { AreMetPairs graph.now members.now }
         ensures opened { OnOk result (Opened (record { head = graph_of_values.object (traits_at graph.now.arena traits.0); names = pairs_of graph.now.arena members.now; values = [] }) (parts_left graph.now.arena waiting.old.items) (parts_left graph.now.arena waiting.new.items) self.old self.new) }
         ensures runs { AreRunsOf graph.now waiting.old.items → OnOk result (AreRunsOf graph.now waiting.new.items) }
-        ensures turns { OnOk result (turns_left waiting.new.items ≤ turns_left waiting.old.items + 2 ^ 29) }
+        ensures turns { OnOk result (turns_left waiting.new.items ≤ turns_left waiting.old.items + opened_turns) }
         ensures kept { Keeps self.old self.new }
     {
         graph.is_finished();

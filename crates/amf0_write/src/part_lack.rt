@@ -8,8 +8,9 @@ ghost use Rattle.amf_graph.specs.Rooted.{content};
 ghost use Rattle.amf3_spelling.specs.Tables.{Tables};
 ghost use Rattle.amf0_write.specs.Meetings.{IsFirstReason};
 ghost use Rattle.amf0_write.specs.PartLacks0.{outside_of, IsPartLack0};
-ghost use Rattle.amf0_write.specs.Searched.{HasPartLack0, AreMetAs, MeetingLacks, IsBefore, Notes, IsEntered, Searched, left_of, unmet};
+ghost use Rattle.amf0_write.specs.Searched.{HasPartLack0, AreMetAs, MeetingLacks, IsBefore, Notes, IsEntered, Searched, left_of, unmet, places_end};
 ghost use Rattle.amf0_write.specs.Written0.{tables0};
+ghost use Rattle.amf_graph.specs.Bounds.{count_end};
 
 use crate::meeting::Meeting;
 use crate::nodes::{enters, has_no_form, has_short_names, is_loose};
@@ -81,10 +82,10 @@ impl Search {
         requires order { IsOrder (content graph.now) numbering.now }
         requires there { node.0 < length graph.now.arena.nodes }
         requires room { length self.old.meetings.items ≡ length graph.now.arena.nodes }
-        requires few { self.old.next + unmet self.old.meetings.items ≤ 2 ^ 30 }
+        requires few { self.old.next + unmet self.old.meetings.items ≤ places_end }
         ensures searched { (outside : ℕ) (before : List ℕ) (from left : List ValueContent) → Searched (content graph.now) outside before from numbering.now self.old (graph_of_values.node node.0 ∷ left) → Searched (content graph.now) outside before from numbering.now self.new (left_of (content graph.now) result node.0 left) }
         ensures room { length self.new.meetings.items ≡ length self.old.meetings.items }
-        ensures few { self.new.next + unmet self.new.meetings.items ≤ 2 ^ 30 }
+        ensures few { self.new.next + unmet self.new.meetings.items ≤ places_end }
         ensures less { result ≡ true → unmet self.new.meetings.items < unmet self.old.meetings.items }
         ensures same { result ≡ false → self.new.meetings ≡ self.old.meetings }
     {
@@ -142,7 +143,7 @@ impl Search {
         requires order { IsOrder (content graph.now) numbering.now }
         requires value { Names graph.now.arena value }
         requires room { length self.old.meetings.items ≡ length graph.now.arena.nodes }
-        requires few { self.old.next + unmet self.old.meetings.items ≤ 2 ^ 30 }
+        requires few { self.old.next + unmet self.old.meetings.items ≤ places_end }
         ensures { (outside : ℕ) (before : List ℕ) (from : List ValueContent) → Searched (content graph.now) outside before from numbering.now self.old (value_content graph.now.arena value ∷ []) → OnOk result (Searched (content graph.now) outside before from numbering.now self.new []) }
     {
         let mut waiting = vec![in alloc; value]?;
@@ -171,7 +172,7 @@ pub(crate) fn part_lack(
     requires value { Names graph.now.arena value }
     requires reached { IsReachedValue (content graph.now) (value_content graph.now.arena value) }
     requires room { length meetings.items ≡ length graph.now.arena.nodes }
-    requires few { next ≤ 2 ^ 28 }
+    requires few { next ≤ count_end }
     requires lacking { (t : Tables) × AreMetAs (content graph.now) (outside_of (content graph.now) (tables0 t)) t.done meetings.items next × HasPartLack0 (content graph.now) (value_content graph.now.arena value) (tables0 t) }
     ensures { (t : Tables) → AreMetAs (content graph.now) (outside_of (content graph.now) (tables0 t)) t.done meetings.items next → IfOk result (λ l. IsPartLack0 (content graph.now) (value_content graph.now.arena value) (tables0 t) l.node l.kind) }
 {

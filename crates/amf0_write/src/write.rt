@@ -1,4 +1,4 @@
-ghost use Rattle.std.specs.Prelude.{◌≡◌, ◌≤◌, ◌^◌, length, OnOk, OnErr, IfOk};
+ghost use Rattle.std.specs.Prelude.{◌≡◌, ◌≤◌, length, OnOk, OnErr, IfOk};
 ghost use Rattle.std.specs.Result.{IsErrOf};
 ghost use Rattle.amf_graph.specs.declared.lack.Lack.{Lack};
 ghost use Rattle.amf_graph.specs.Arena.{Names, value_content};
@@ -12,6 +12,7 @@ ghost use Rattle.amf0_write.specs.PartLacks0.{IsPartLack0};
 ghost use Rattle.amf0_write.specs.Searched.{HasPartLack0, AreGrownTables};
 ghost use Rattle.amf0_write.specs.Unwritten0.{IsMetValue};
 ghost use Rattle.amf0_write.specs.Written0.{tables0, AreTables0, AppendsCanonical0, AppendsPart0};
+ghost use Rattle.amf_graph.specs.Bounds.{count_end};
 
 use crate::meeting::meetings_before;
 use crate::output::Output;
@@ -59,7 +60,7 @@ fn lack_of(
     loose: &[NodeId],
 ) -> Result<Lack, Memory>
     requires met { IsMetValue graph.now value }
-    requires few { count ≤ 2 ^ 28 }
+    requires few { count ≤ count_end }
     requires lacking { (t : Tables) × HasPartLack0 (content graph.now) (value_content graph.now.arena value) (tables0 t) × AreGrownTables (content graph.now) (tables0 t) (tables0 tables.now) loose.now × (count ≡ length t.nodes) }
     ensures { (t : Tables) → AreGrownTables (content graph.now) (tables0 t) (tables0 tables.now) loose.now → count ≡ length t.nodes → IfOk result (λ l. IsPartLack0 (content graph.now) (value_content graph.now.arena value) (tables0 t) l.node l.kind) }
 {

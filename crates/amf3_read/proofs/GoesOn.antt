@@ -6,7 +6,8 @@ use Rattle.amf_io.specs.declared.cursor.Cursor.{Cursor}
 use Rattle.amf_io.specs.declared.ends.ReadEnd.{ReadEnd}
 use Rattle.amf_io.specs.Cursor.{place}
 use Rattle.amf_io.specs.Layout.{Layout, give, bind}
-use Rattle.amf_io.specs.CursorReads.{IsPlaced, Goes, Answers, Ends, Leads}
+use Rattle.amf_io.specs.ReadEnds.{IsPlaced, Goes}
+use Rattle.amf_io.specs.CursorReads.{Answers, Ends, Leads}
 use Rattle.amf_io.proofs.CursorReads.{leads_nowhere, leads_behind, end_reads}
 use Rattle.amf_graph.specs.declared.value.TextId.{TextId}
 use Rattle.amf_graph.specs.declared.value.Value.TheVariants as value
@@ -31,7 +32,8 @@ use Rattle.amf3_read.specs.declared.fill.Next.{Next}
 use Rattle.amf3_read.specs.declared.fill.Next.TheVariants as next
 use Rattle.amf3_read.specs.declared.fill.Step.TheVariants as step
 use Rattle.amf3_read.specs.Filling.{IsOpened}
-use Rattle.amf3_read.specs.Ready.{Ready, Continues, left_of, text_read}
+use Rattle.amf3_read.specs.Answer.{left_of}
+use Rattle.amf3_read.specs.Ready.{Ready, Continues, text_read}
 use Rattle.amf3_read.specs.Frames.{todo, resume, closed_node, LacksItems, Suits, WaitsFor, SlotNames, spare, Kept, GoesOn, StepHolds, IsNext, IsBehindPairs}
 use Rattle.amf3_read.proofs.LayoutBinds.{bind_bind, bind_same}
 use Rattle.amf3_read.proofs.PartPut.{there, stays, same_head}

@@ -8,7 +8,8 @@ use Rattle.std.specs.Result.{IsErrAnd}
 use Rattle.amf_io.specs.Cursor.{place, bound}
 use Rattle.amf_io.specs.Field.{u29}
 use Rattle.amf_io.specs.Layout.{Layout, give, want, bind}
-use Rattle.amf_io.specs.CursorReads.{IsPlaced, Goes, Answers, AnswersField, Ends, Leads}
+use Rattle.amf_io.specs.ReadEnds.{IsPlaced, Goes}
+use Rattle.amf_io.specs.CursorReads.{Answers, AnswersField, Ends, Leads}
 use Rattle.amf_io.proofs.CursorReads.{gives, leads_behind, leads_on, leads_end, leads_answers, end_reads, then_reads, field_reads}
 use Rattle.amf_graph.specs.declared.value.Value.{Value as Stored}
 use Rattle.amf_graph.specs.declared.value.Value.TheVariants as value
@@ -32,7 +33,8 @@ use Rattle.amf3_read.specs.declared.node.Start.{Start}
 use Rattle.amf3_read.specs.declared.node.Start.TheVariants as start
 use Rattle.amf3_read.specs.Steps.{marker_layout}
 use Rattle.amf3_read.specs.Filling.{IsEmptyNode}
-use Rattle.amf3_read.specs.Ready.{Ready, left_of}
+use Rattle.amf3_read.specs.Answer.{left_of}
+use Rattle.amf3_read.specs.Ready.{Ready}
 use Rattle.amf3_read.specs.Begins.{Begins, has_parts, IsShaped, IsBegun}
 use Rattle.amf3_read.specs.Frames.{todo, Suits, Kept, Starts, StartsBy, StartHolds}
 use Rattle.amf3_read.proofs.LayoutBinds.{bind_give}

@@ -1,5 +1,6 @@
 -- What the values of an open node do to an arena, as they are read. A device by which verdicts are proved.
 use Rattle.std.specs.Prelude.{◌≡◌, ℕ, ◌+◌, ◌<◌, true, List, [], ◌++◌, length}
+use Rattle.amf_graph.specs.declared.limits.TheConstants.{MAX_COUNT}
 use Rattle.amf_graph.specs.declared.value.Value.{Value as Stored}
 use Rattle.amf_graph.specs.Arena.{Arena, StoredNode}
 use Rattle.amf_graph.specs.Building.{kept_node, stored_at, size_of}
@@ -15,7 +16,7 @@ pub record IsOpened (a : Arena) (i left : ℕ) : Type 0 where
   pub within : Grows (kept_node before (stored_at a i)) a
   pub place : i ≡ length before.nodes
   pub opened : (stored_at a i).is_open ≡ true
-  pub room : size_of (stored_at a i) + left < 268435455
+  pub room : size_of (stored_at a i) + left < MAX_COUNT
 
 -- an open node without names and values
 pub record IsEmptyNode (n : StoredNode) : Type 0 where

@@ -1,11 +1,13 @@
 ghost use Rattle.std.specs.Prelude.{ℕ, ◌≤◌, OnOk, IfOk, IfErr};
 ghost use Rattle.amf_io.specs.Cursor.{place};
 ghost use Rattle.amf_io.specs.Layout.{Layout};
-ghost use Rattle.amf_io.specs.CursorReads.{Goes, Ends};
+ghost use Rattle.amf_io.specs.ReadEnds.{Goes};
+ghost use Rattle.amf_io.specs.CursorReads.{Ends};
 ghost use Rattle.amf3_spelling.specs.Markers3.{node_marker};
 ghost use Rattle.amf3_layout.specs.Layout3State.{State3, state_of};
 ghost use Rattle.amf3_layout.specs.Layout3.{ValueRead, node_layout, inline_node, opening};
-ghost use Rattle.amf3_read.specs.Ready.{Ready, left_of};
+ghost use Rattle.amf3_read.specs.Answer.{left_of};
+ghost use Rattle.amf3_read.specs.Ready.{Ready};
 ghost use Rattle.amf3_read.specs.Opened.{IsOpening};
 ghost use Rattle.amf3_read.specs.Begins.{Begins};
 ghost use Rattle.amf3_read.specs.Frames.{StartsBy, StartHolds, Kept};

@@ -4,12 +4,14 @@ ghost use Rattle.amf_wire.specs.U29.{u29_value};
 ghost use Rattle.amf_io.specs.Field.{u29_kind, no_refusal};
 ghost use Rattle.amf_io.specs.Layout.{give, want};
 ghost use Rattle.amf_io.specs.Cursor.{place};
-ghost use Rattle.amf_io.specs.CursorReads.{IsPlaced, Goes, Answers};
+ghost use Rattle.amf_io.specs.ReadEnds.{IsPlaced, Goes};
+ghost use Rattle.amf_io.specs.CursorReads.{Answers};
 ghost use Rattle.amf3_layout.specs.Layout3State.{state_of};
 ghost use Rattle.amf3_layout.specs.Layout3.{read, eight_layout, value_layout};
-ghost use Rattle.amf3_read.specs.Ready.{Ready, Continues, left_of};
+ghost use Rattle.amf3_read.specs.Ready.{Ready, Continues};
 ghost use Rattle.amf3_spelling.specs.KeptTables.{AreTablesIn};
-ghost use Rattle.amf3_read.specs.Answer.{HasRoomFor, Answers3, Raises, between};
+ghost use Rattle.amf_io.specs.Stretch.{between};
+ghost use Rattle.amf3_read.specs.Answer.{HasRoomFor, Answers3, Raises, left_of};
 ghost use Rattle.amf3_read.specs.Steps.{marker_layout};
 ghost use Rattle.amf3_read.specs.Frames.{Starts, StartHolds, Kept};
 
@@ -167,7 +169,7 @@ fn read_integer<S: Source>(cursor: &mut Cursor<'_, S>) -> Result<i32, ReadEnd>
     Ok(sign29(field.number()))
 }
 
-/// Reads a double, by its bits (AMF 3 specification, 3.7).
+/// Reads a double, by its bits (AMF 3 specification, 3.7). Its ends are those of [`read3`].
 pub fn read_double<S: Source>(cursor: &mut Cursor<'_, S>) -> Result<Pattern, ReadEnd>
     ensures goes { Goes S.tells S.left S.faults cursor.old cursor.new result }
     ensures answers { Answers S.tells S.left (λ p. p.0) eight_layout cursor.old cursor.new result }

@@ -1,12 +1,14 @@
 -- A canonical spelling of a graph is one of each isomorphic graph.
-use Rattle.std.proofs.Common.{◌≡◌, ℕ, zero, suc, ◌+◌, ◌*◌, ◌<◌, Bool, true, false, cond, List, [], ◌∷◌, ◌++◌, length, slice_get, Some, sym, refl, ap, ◌∙◌, subst, inl, inr, arith}
+use Rattle.std.proofs.Common.{◌≡◌, ℕ, zero, suc, ◌+◌, ◌*◌, ◌<◌, Bool, true, false, cond, List, [], ◌∷◌, length, slice_get, Some, sym, refl, ap, ◌∙◌, subst, inl, inr}
 use Rattle.std.specs.List.{AllZip}
 use Rattle.std.proofs.lemmas.Option.{slice_get_within}
 use Rattle.amf_wire.specs.Style.{Style, canonical}
 use Rattle.amf_graph.specs.Graph.{AllNamed, Leaf, undefined, null, boolean, integer, double, text, IsLeaf, Value, leaf, node, Head, date, array, object, wrapper, bytes, xml_document, xml, ints, uints, doubles, values, dictionary, Graph, node_at, Fits}
 use Rattle.amf_graph.specs.ByName.{by_name}
 use Rattle.amf_graph.specs.Isomorphic.{ValuesMatch, PairsMatch, NodesMatch}
-use Rattle.amf_graph.proofs.Lists.{entry, at_push, length_pushed, no_entry}
+use Rattle.amf_graph.proofs.Lists.{entry, no_entry}
+use Rattle.amf_graph.proofs.NameOrder.{by_name_again}
+use Rattle.amf_graph.proofs.Places.{Along, along_push}
 use Rattle.amf3_spelling.specs.Tables.{Tables, no_tables, with_words, add_node}
 use Rattle.amf3_spelling.specs.Refusals3.{marker, leaf_marker}
 use Rattle.amf3_spelling.proofs.ByteSpelling.{Spelling, Then, Step, number, word, byte, StepOf, Part, step, value, values_then, pairs_then, header_step, body, layout, leaf_layout, Lifted, Parts, Placed, Begun, ValueBy, NodeIn, Spells}
@@ -88,19 +90,15 @@ leaf_zip P (text x) = (refl, tt)
 module _ (g h : Graph) (P : ℕ → ℕ → Type 0)
     (left : (i j k : ℕ) → P i j → P i k → j ≡ k) (right : (i j k : ℕ) → P i k → P j k → i ≡ j)
     (within : (i j : ℕ) → P i j → j < length h.nodes)
-    (nodes : (i j : ℕ) → P i j → NodesMatch P (node_at g i) (node_at h j))
-    (again : (ps : List (List ℕ × Value)) → by_name (by_name ps) ≡ by_name ps) where
-  -- two lists, place by place
-  record Along (xs ys : List ℕ) : Type 0 where
-    size : length xs ≡ length ys
-    pairs : (k i j : ℕ) → slice_get xs k ≡ Some i → slice_get ys k ≡ Some j → P i j
+    (nodes : (i j : ℕ) → P i j → NodesMatch P (node_at g i) (node_at h j)) where
+  -- tables of the one and of the other graph, place by place
+  pub record Joined (t u : Tables) : Type 0 where
+    pub words : t.words ≡ u.words
+    pub nodes_along : Along P t.nodes u.nodes
+    pub done_along : Along P t.done u.done
 
-  record Joined (t u : Tables) : Type 0 where
-    words : t.words ≡ u.words
-    nodes_along : Along t.nodes u.nodes
-    done_along : Along t.done u.done
-
-  abbrev Carried : Spelling Tables → Spelling Tables → Type 0
+  -- what is spelled on such tables is spelled of the other graph
+  abbrev pub Carried : Spelling Tables → Spelling Tables → Type 0
   Carried A B = (t u : Tables) (b : List ℕ) (t' : Tables) → Joined t u → A t b t' → (u' : Tables) × B u b u' × Joined t' u'
 
   carried_then : (A A' B B' : Spelling Tables) → Carried A A' → Carried B B' → Carried (Then A B) (Then A' B')
@@ -136,15 +134,6 @@ module _ (g h : Graph) (P : ℕ → ℕ → Type 0)
       let same : other.0 ≡ j = left i other.0 j (k.nodes_along.pairs p.place i other.0 p.here other.1) m in
       (u, record { place = p.place; here = other.1 ∙ ap (λ w. Some w) same; spelled = p.spelled; same = refl }, still t u t' p.same k)
 
-  along_push : (xs ys : List ℕ) (i j : ℕ) → P i j → Along xs ys → Along (xs ++ i ∷ []) (ys ++ j ∷ [])
-  along_push xs ys i j m k = record {
-    size = length_pushed xs i ∙ ap suc k.size ∙ sym (length_pushed ys j);
-    pairs = λ n a b e f. elim (at_push xs i n a e) [
-      | inl p ↦ elim (at_push ys j n b f) [ inl q ↦ k.pairs n a b p q | inr q ↦ absurd (omega (arith, slice_get_within xs n a p, k.size, q.0)) ]
-      | inr p ↦ elim (at_push ys j n b f) [ inl q ↦ absurd (omega (arith, slice_get_within ys n b q, k.size, p.0)) | inr q ↦ subst (λ w. P w b) p.1 (subst (λ w. P i w) q.1 m) ]
-    ];
-  }
-
   carried_begun : (R R' : Value → Spelling Tables) → ((v w : Value) → ValuesMatch P v w → Carried (R v) (R' w)) → (i j : ℕ) → P i j → Carried (Begun R canonical g i) (Begun R' canonical h j)
   carried_begun R R' c i j m t u b t' k p =
       let a = node_at g i in
@@ -156,13 +145,13 @@ module _ (g h : Graph) (P : ℕ → ℕ → Type 0)
       let parts : AllZip (PartsMatch P) (layout a.head p.wire a.values) (layout a'.head wire' a'.values) =
       subst (λ w. AllZip (PartsMatch P) (layout a.head p.wire a.values) (layout w wire' a'.values)) n.head (layout_zip P a.head p.wire wire' a.values a'.values names n.values lengths) in
       let o = carried_parts canonical R R' c (layout a.head p.wire a.values) (layout a'.head wire' a'.values) parts (add_node t i) (add_node u j) b t'
-      (record { words = k.words; nodes_along = along_push t.nodes u.nodes i j m k.nodes_along; done_along = along_push t.done u.done i j m k.done_along }) p.body in (
+      (record { words = k.words; nodes_along = along_push P t.nodes u.nodes i j m k.nodes_along; done_along = along_push P t.done u.done i j m k.done_along }) p.body in (
         o.0,
         record {
           exists = within i j m;
           new = λ n e. absent n (slice_get_within u.done n j e) e;
           wire = wire';
-          sorted = again a'.names;
+          sorted = by_name_again a'.names;
           in_order = refl;
           named = named_zip P p.wire wire' names p.named;
           fits = subst (λ w. Fits w wire' a'.values) n.head (fits_too a.head p.wire wire' a.values a'.values (zip_length (PairsMatch P) p.wire wire' names) lengths p.fits);
@@ -177,7 +166,7 @@ module _ (g h : Graph) (P : ℕ → ℕ → Type 0)
           let same : one.0 ≡ i = right one.0 i j (k.done_along.pairs n one.0 j one.1 e) m in
           p.new n (one.1 ∙ ap (λ w. Some w) same)
 
-  carried_value : (N N' : ℕ → Spelling Tables) → ((i j : ℕ) → P i j → Carried (N i) (N' j)) → (v w : Value) → ValuesMatch P v w → Carried (ValueBy N canonical g v) (ValueBy N' canonical h w)
+  pub carried_value : (N N' : ℕ → Spelling Tables) → ((i j : ℕ) → P i j → Carried (N i) (N' j)) → (v w : Value) → ValuesMatch P v w → Carried (ValueBy N canonical g v) (ValueBy N' canonical h w)
   carried_value N N' c (leaf x) (leaf y) m t u b t' j p =
       subst (λ w. (u' : Tables) × (IsLeaf w × Parts (λ v t b t'. ⊥) canonical (step (byte (leaf_marker w)) ∷ leaf_layout w) u b u') × Joined t' u') m
       (let o = carried_parts canonical (λ v t b t'. ⊥) (λ v t b t'. ⊥) (λ v w m t u b t' j p. absurd p) (step (byte (leaf_marker x)) ∷ leaf_layout x) (step (byte (leaf_marker x)) ∷ leaf_layout x) (refl, leaf_zip P x) t u b t' j p.1 in (o.0, (p.0, o.1), o.2))
@@ -185,14 +174,19 @@ module _ (g h : Graph) (P : ℕ → ℕ → Type 0)
   carried_value N N' c (leaf x) (node k) m t u b t' j p = elim m [ ]
   carried_value N N' c (node n) (leaf x) m t u b t' j p = elim m [ ]
 
-  carried_node : (d i j : ℕ) → P i j → Carried (NodeIn d canonical g i) (NodeIn d canonical h j)
+  pub carried_node : (d i j : ℕ) → P i j → Carried (NodeIn d canonical g i) (NodeIn d canonical h j)
   carried_node zero i j m t u b t' k p = carried_placed canonical i j m t u b t' k p
   carried_node (suc d) i j m t u b t' k (inl p) = let o = carried_placed canonical i j m t u b t' k p in (o.0, inl o.1, o.2)
   carried_node (suc d) i j m t u b t' k (inr p) =
       let o = carried_begun (Spells d canonical g) (Spells d canonical h) (carried_value (NodeIn d canonical g) (NodeIn d canonical h) (carried_node d)) i j m t u b t' k p in (o.0, inr o.1, o.2)
 
+  -- a value that is spelled in the canonical way, and the value that stands for it
+  pub carried_spells : (d : ℕ) (v w : Value) → ValuesMatch P v w → Carried (Spells d canonical g v) (Spells d canonical h w)
+  carried_spells d v w m = carried_value (NodeIn d canonical g) (NodeIn d canonical h) (carried_node d) v w m
+
+  -- of the whole graph
   pub carried_root : (d : ℕ) (b : List ℕ) (t : Tables) → ValuesMatch P g.root h.root → Spells d canonical g g.root no_tables b t → (u : Tables) × Spells d canonical h h.root no_tables b u
   carried_root d b t m p =
-      let none : Along [] [] = record { size = refl; pairs = λ k i j e f. absurd (no_entry k i e) } in
-      let o = carried_value (NodeIn d canonical g) (NodeIn d canonical h) (carried_node d) g.root h.root m no_tables no_tables b t (record { words = refl; nodes_along = none; done_along = none }) p in
+      let none : Along P [] [] = record { size = refl; pairs = λ k i j e f. absurd (no_entry k i e) } in
+      let o = carried_spells d g.root h.root m no_tables no_tables b t (record { words = refl; nodes_along = none; done_along = none }) p in
       (o.0, o.1)

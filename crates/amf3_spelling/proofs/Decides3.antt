@@ -3,7 +3,6 @@ use Rattle.std.proofs.Common.{◌≡◌, ℕ, List, sym, refl, subst}
 use Rattle.amf_wire.specs.Style.{free, canonical}
 use Rattle.amf_graph.specs.Graph.{Graph}
 use Rattle.amf_graph.specs.Isomorphic.{StandIn, Isomorphic}
-use Rattle.amf_graph.proofs.NameOrder.{by_name_again}
 use Rattle.amf_graph.proofs.Isomorphisms.{isomorphic_sym}
 use Rattle.amf3_spelling.specs.Spells3.{Spells3, Spelled3}
 use Rattle.amf3_spelling.specs.LawsCanonical3.{CanonicalIsAlone, IsomorphicHaveSameCanonical, SameBytesAreIsomorphic, CanonicalDecides, CanonicalExists}
@@ -30,7 +29,7 @@ canonical_is_alone g b c x y = one_alone g b c (to_spelled canonical g b x) (to_
 
 carried_over : (g h : Graph) (b : List ℕ) → Isomorphic g h → Spelled canonical g b → Spelled canonical h b
 carried_over g h b i p =
-    let o = carried_root g h (StandIn i.pairs) i.left i.right (λ a c m. (i.within a c m).1) i.nodes by_name_again p.0 b p.1 i.root p.2 in
+    let o = carried_root g h (StandIn i.pairs) i.left i.right (λ a c m. (i.within a c m).1) i.nodes p.0 b p.1 i.root p.2 in
     (p.0, o.0, o.1)
 
 pub same_canonical : IsomorphicHaveSameCanonical

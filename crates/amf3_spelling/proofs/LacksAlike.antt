@@ -32,7 +32,7 @@ zip_named P (p ∷ ps) (q ∷ qs) m h = (λ e. h.0 (sym m.0.0 ∙ e), zip_named 
 named_back : (P : ℕ → ℕ → Type 0) (a b : Node) → NodesMatch P a b → AllNamed b.names → AllNamed a.names
 named_back P a b m h = by_name_all_back (λ p. p.0 ≢ []) a.names (zip_named P (by_name a.names) (by_name b.names) m.names (by_name_all (λ p. p.0 ≢ []) b.names h))
 
-lacks_along : (g h : Graph) (xs ys : List ℕ) → IsOrder g xs → IsOrder h ys → Isomorphic g h → (n : ℕ) (kind : LackKind) → Lacks3 g xs n kind → Lacks3 h ys n kind
+pub lacks_along : (g h : Graph) (xs ys : List ℕ) → IsOrder g xs → IsOrder h ys → Isomorphic g h → (n : ℕ) (kind : LackKind) → Lacks3 g xs n kind → Lacks3 h ys n kind
 lacks_along g h xs ys a b i n kind (j, e, l) =
     let m = to_places g h xs ys a b i in
     let other = entry ys n (subst (λ w. n < w) m.size (slice_get_within xs n j e)) in

@@ -19,10 +19,11 @@ use Rattle.amf3_spelling.proofs.Alike3.{Paired, After, alike}
 use Rattle.amf3_spelling.proofs.BytesOf.{to_spells}
 
 -- the nodes that were spelled inline have names
-abbrev AreNamed : Graph → Tables → Type 0
+abbrev pub AreNamed : Graph → Tables → Type 0
 AreNamed g t = (k i : ℕ) → slice_get t.done k ≡ Some i → AllNamed (node_at g i).names
 
-abbrev KeepsNames : Graph → Spelling Tables → Type 0
+-- what is spelled adds no node without names
+abbrev pub KeepsNames : Graph → Spelling Tables → Type 0
 KeepsNames g A = (t : Tables) (b : List ℕ) (t' : Tables) → A t b t' → AreNamed g t → AreNamed g t'
 
 module _ (g : Graph) (s : Style) where
@@ -41,14 +42,14 @@ module _ (g : Graph) (s : Style) where
       names_parts R f (layout a.head p.wire a.values) (add_node t i) b t' p.body
       (λ k j e. elim (at_push t.done i k j e) [ inl q ↦ h k j q | inr q ↦ subst (λ n. AllNamed (node_at g n).names) q.1 named ])
 
-  names_value : (N : ℕ → Spelling Tables) → ((i : ℕ) → KeepsNames g (N i)) → (v : Value) → KeepsNames g (ValueBy N s g v)
+  pub names_value : (N : ℕ → Spelling Tables) → ((i : ℕ) → KeepsNames g (N i)) → (v : Value) → KeepsNames g (ValueBy N s g v)
   names_value N f (leaf x) t b t' p h = names_parts (λ v t b t'. ⊥) (λ v t b t' e. absurd e) (step (byte (leaf_marker x)) ∷ leaf_layout x) t b t' p.1 h
   names_value N f (node i) t b t' p h = f i t p.0 t' p.2 h
 
   names_placed : (i : ℕ) → KeepsNames g (Placed s i)
   names_placed i t b t' p h = same_names t t' (ap (λ (w : Tables). w.done) p.same) h
 
-  names_node : (d i : ℕ) → KeepsNames g (NodeIn d s g i)
+  pub names_node : (d i : ℕ) → KeepsNames g (NodeIn d s g i)
   names_node zero i t b t' p h = names_placed i t b t' p h
   names_node (suc d) i t b t' (inl p) h = names_placed i t b t' p h
   names_node (suc d) i t b t' (inr p) h = names_begun (Spells d s g) (names_value (NodeIn d s g) (names_node d)) i t b t' p h

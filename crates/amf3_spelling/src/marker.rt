@@ -18,7 +18,8 @@ pub enum Marker {
 }
 
 impl Marker {
-    /// The marker that a byte is, if it is one: 0x0A is that of objects.
+    /// The marker that a byte is, or `None` exactly above 0x11: 0x0A is that of objects (AMF 3
+    /// specification, 3.1).
     pub fn from_byte(byte: u8) -> Option<Marker>
         ensures known { IfSome result (λ marker. (byte ≤ 0x11) × (marker ≡ marker_at byte)) }
         ensures none { IfNone result (0x11 < byte) }
@@ -63,7 +64,7 @@ impl Marker {
     }
 }
 
-/// The marker of a node of this kind.
+/// The marker of a node of this kind (AMF 3 specification, 3.1).
 pub fn node_marker(kind: NodeKind) -> u8
     ensures { result ≡ node_marker kind }
 {

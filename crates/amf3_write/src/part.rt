@@ -71,7 +71,7 @@ fn write_text(
 }
 
 /// Does what `write3_text` does, with tables of this graph: the text is looked up by its bytes once, however often it is
-/// named.
+/// named. The tables are of this graph (`AreTablesOf`).
 pub fn write3_text_of(
     alloc: Global,
     graph: &Rooted,
@@ -116,7 +116,7 @@ fn write_value(
 }
 
 /// Does what `write3_part` does, with tables of this graph: each text and traits of the graph is looked up by its content
-/// once, however many parts name it.
+/// once, however many parts name it. The tables are of this graph (`AreTablesOf`).
 pub fn write3_part_of(
     alloc: Global,
     graph: &Rooted,

@@ -18,7 +18,7 @@ use Rattle.amf0_tables.proofs.Low.{kept}
 use Rattle.amf_packet_show.specs.SamePacket.{SamePacket}
 use Rattle.amf_packet_show.proofs.Laws.{packet_laws}
 use Rattle.amf_packet_show.proofs.Lowerings.{same_sym, same_trans}
-use Rattle.amf_packet_show.proofs.LoweredAgain.{lowered_again}
+use Rattle.amf0_tables.proofs.LoweredAgain.{lowered_again}
 use Rattle.amf_sol.specs.SharedObject.{Shared}
 use Rattle.amf_sol.specs.declared.sol_version.SolVersion.{SolVersion}
 use Rattle.amf_sol.specs.declared.sol_version.SolVersion.TheVariants as version

@@ -6,8 +6,7 @@ use Rattle.amf_io.specs.declared.window.Window.{Window}
 use Rattle.amf_io.specs.declared.cursor.Cursor.{Cursor}
 use Rattle.amf_io.specs.Cursor.{source_of, ahead, unread, EndsByFault, GivesEnd}
 use Rattle.amf_io.specs.Cursor as cursors
-use Rattle.amf_io.specs.CursorReads.{Goes}
-use Rattle.amf_io.specs.ReadEnds.{IsFaultedEnd}
+use Rattle.amf_io.specs.ReadEnds.{IsFaultedEnd, Goes}
 use Rattle.amf_io.specs.Field.{Field, flat}
 use Rattle.amf_io.specs.declared.reason.Reason.{Reason}
 use Rattle.amf_io.specs.Verdict.{IsRefused, IsCutOff, IsInputRefused, refused, trailing}
@@ -25,7 +24,8 @@ use Rattle.amf3_spelling.specs.Reads3.{Grows, IsRead3, IsReading3, IsValue3}
 use Rattle.amf3_layout.proofs.Values3Layout.{no_arena_built, values3_is_layout}
 use Rattle.amf3_layout.specs.Layout3State.{no_state}
 use Rattle.amf3_layout.specs.Layout3.{value_layout}
-use Rattle.amf3_read.specs.Answer.{IsTaken, IsInterrupted, Answers3, AnswersOf, stretch}
+use Rattle.amf_io.specs.Stretch.{IsTaken, IsInterrupted, AnswersOf, stretch}
+use Rattle.amf3_read.specs.Answer.{Answers3}
 use Rattle.amf0_tables.specs.KeptTables0.{KeptTables0, no_kept_tables0, tables0_of}
 use Rattle.amf0_tables.specs.Reads0.{IsReading0}
 use Rattle.amf0_read.specs.Answer0.{IsReadWith}

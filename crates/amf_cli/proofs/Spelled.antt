@@ -18,7 +18,7 @@ use Rattle.amf_graph.proofs.Isomorphisms.{isomorphic_sym, isomorphic_trans}
 use Rattle.amf_packet.specs.Packet.{IsPacketReading}
 use Rattle.amf_packet.proofs.PacketVerdicts.{packet_verdicts}
 use Rattle.amf_packet_show.proofs.Laws.{packet_laws}
-use Rattle.amf_packet_show.proofs.Listed.{counted_alike, listed_alike}
+use Rattle.amf_show.proofs.Alike.{counted_alike, listed_alike}
 use Rattle.amf_sol.specs.SharedObject.{IsFileReading}
 use Rattle.amf_sol.proofs.FileVerdicts.{files_judged_once}
 use Rattle.amf_sol_show.proofs.Laws.{file_laws}

@@ -5,7 +5,8 @@ use Rattle.amf_graph.specs.Rooted.{content}
 use Rattle.amf_packet.specs.Content.{packet_of}
 use Rattle.amf_packet.specs.Packet.{Packet}
 use Rattle.amf_packet_show.specs.PacketListing.{IsPacketListing}
-use Rattle.amf_packet_show.specs.PacketNodes.{HasNodes as GraphHasNodes, PacketHasNodes}
+use Rattle.amf_show.specs.Counting.{HasNodes as GraphHasNodes}
+use Rattle.amf_packet_show.specs.PacketNodes.{PacketHasNodes}
 use Rattle.amf_show.specs.Listing.{IsListing}
 use Rattle.amf_sol.specs.SharedObject.{Shared}
 use Rattle.amf_sol.specs.StoredFile.{shared}

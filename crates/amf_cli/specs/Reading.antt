@@ -6,7 +6,7 @@ use Rattle.amf_io.specs.declared.reason.Reason.TheVariants.{Trailing}
 use Rattle.amf_io.specs.declared.ends.ReadEnd.{ReadEnd}
 use Rattle.amf_io.specs.declared.ends.ReadEnd.TheVariants.{Refused, ReadFault, Memory}
 use Rattle.amf_packet.specs.Packet.{Packet, SpellsPacket}
-use Rattle.amf3_read.specs.Answer.{IsTaken, AnswersOf, stretch}
+use Rattle.amf_io.specs.Stretch.{IsTaken, AnswersOf, stretch}
 use Rattle.amf_cli.specs.declared.format.Format.{Format}
 use Rattle.amf_cli.specs.declared.format.Format.TheVariants.{Amf3, Amf0}
 use Rattle.amf_cli.specs.Commands.{goes_to}

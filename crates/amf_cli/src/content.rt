@@ -3,8 +3,8 @@ ghost use Rattle.amf_cli.specs.Content.{content_of, HasNodes, IsListed};
 
 use amf_graph::Rooted;
 use amf_packet::Packet;
-use amf_packet_show::{count_nodes, count_packet_nodes, show_packet};
-use amf_show::show;
+use amf_packet_show::{count_packet_nodes, show_packet};
+use amf_show::{count_nodes, show};
 use amf_sol::SharedObject;
 use amf_sol_show::show_file;
 use amf_wire::Memory;

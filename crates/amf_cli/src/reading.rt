@@ -1,7 +1,7 @@
 ghost use Rattle.std.specs.Prelude.{◌≡◌, ◌≢◌, ◌+◌, ◌≤◌, List, OnOk, IfOk, length, false};
 ghost use Rattle.std.specs.List.{AllByRecursion};
 ghost use Rattle.amf_io.specs.Cursor.{source_of, place, bound, unread};
-ghost use Rattle.amf_io.specs.CursorReads.{Goes};
+ghost use Rattle.amf_io.specs.ReadEnds.{Goes};
 ghost use Rattle.amf_io.specs.Field.{Field};
 ghost use Rattle.amf_wire.specs.Style.{free};
 ghost use Rattle.amf_graph.specs.Arena.{Names};

@@ -90,7 +90,8 @@ impl Desk {
         Ok(answer)
     }
 
-    /// Splits off a pass, which may make `share` of the calls and has seen what the first one has. It takes no memory.
+    /// Splits off a pass, which may make `share` of the calls and has seen what the first one has. The pass is the first, the
+    /// desk its own, and `share` at most its budget. It takes no memory.
     pub fn split(&self, pass: &mut Pass, share: u64) -> Pass
         requires desk { pass.old.desk ≡ self.now }
         requires first { pass.old.number ≡ 0 }
@@ -108,7 +109,8 @@ impl Desk {
         }
     }
 
-    /// Takes in a pass that was split off, with the calls that it may still make. It takes no memory.
+    /// Takes in a pass that was split off, with the calls that it may still make. The desk is that of both passes, and the one
+    /// taken in is not the first. It takes no memory.
     pub fn join(&self, into: &mut Pass, from: Pass)
         requires desk { (into.old.desk ≡ self.now) × (from.desk ≡ self.now) }
         requires second { from.number ≢ 0 }
@@ -123,7 +125,8 @@ impl Desk {
         into.budget += budget;
     }
 
-    /// Waits for a turn as a call does, and tells of the history as it then is. It takes no memory.
+    /// Waits for a turn as a call does, and tells of the history as it then is. The desk is the pass's own, and its budget is
+    /// not 0. It takes no memory.
     pub fn close<R: Wait>(self, rt: &R, pass: Pass) -> Closed
         requires desk { pass.desk ≡ self }
         requires budget { 0 < pass.budget }

@@ -109,7 +109,7 @@ impl Builder {
         Ok(TraitsId(place as u32))
     }
 
-    /// Keeps a node without parts. It is complete.
+    /// Keeps a node without parts (AMF 3, 3.9 to 3.16). It is complete.
     ///
     /// `Full` comes exactly where there are [`MAX_COUNT`] nodes already or it holds more bytes or items than that, and
     /// `Memory` where there is no room. After an end the builder is as before.
@@ -129,7 +129,7 @@ impl Builder {
         Ok(NodeId(place as u32))
     }
 
-    /// Keeps a node that is open: it has no parts yet.
+    /// Keeps a node that is open: it has no parts yet (AMF 3, 3.9 to 3.16).
     ///
     /// `Full` comes exactly where there are [`MAX_COUNT`] nodes already, and `Memory` where there is no room. After an end
     /// the builder is as before.
@@ -148,7 +148,7 @@ impl Builder {
         Ok(NodeId(place as u32))
     }
 
-    /// Adds a part to a node that is open.
+    /// Adds a part to a node that is open (AMF 3, 3.9 to 3.16).
     ///
     /// `Full` comes exactly where the node has [`MAX_COUNT`] items, names and parts together, and `Memory` where there is no
     /// room. After an end the builder is as before.
@@ -182,7 +182,7 @@ impl Builder {
     /// the graph, their copies share.
     ///
     /// It adds a node for each node that is reached, and a text and a traits for each number of theirs that is used. `Full` comes
-    /// exactly where the builder has no room for these, and `Memory` where there is none. After an end the builder is as before.
+    /// only where the builder has no room for these. Where it has none, or memory is wanting, nothing is added.
     pub fn graft_values(&mut self, graph: &Rooted, values: &[Value]) -> Result<Vec<Value>, BuildEnd>
         requires { AllByRecursion (Names graph.now.arena) values.now }
         ensures ok { IfOk result (λ copies. Grafted graph.now.arena values.now self.old self.new copies.items) }
@@ -215,7 +215,7 @@ impl Builder {
         Ok(copies[0])
     }
 
-    /// The kind of a node.
+    /// The kind of a node, which has to be there.
     pub fn kind_of(&self, node: NodeId) -> NodeKind
         requires { node.0 < length self.now.nodes }
         ensures { result ≡ kind_of (stored_at self.now node.0).head }
@@ -223,7 +223,7 @@ impl Builder {
         self.store.kind(node)
     }
 
-    /// The bytes of a text.
+    /// The bytes of a text, which has to be there.
     pub fn text_of(&self, text: TextId) -> &[u8]
         requires { text.0 < length self.now.texts }
         ensures { result.now ≡ text_at self.now text.0 }
@@ -231,7 +231,7 @@ impl Builder {
         self.store.text(text)
     }
 
-    /// The traits at a place.
+    /// The traits at a place, which have to be there.
     pub fn traits_of(&self, traits: TraitsId) -> TraitsView<'_>
         requires { traits.0 < length self.now.traits }
         ensures { ShowsTraits (get_or self.now.traits traits.0 no_traits) result }

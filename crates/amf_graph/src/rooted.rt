@@ -62,7 +62,7 @@ impl Rooted {
         self.root
     }
 
-    /// The same graph with another root.
+    /// The same graph with another root, which names what is there. It takes no memory.
     pub fn rooted_at(self, root: Value) -> Rooted
         requires { Names self.arena root }
         ensures arena { result.arena ≡ self.arena }
@@ -100,7 +100,7 @@ impl Rooted {
         self.store.body(node)
     }
 
-    /// The kind of a node.
+    /// The kind of a node, which has to be there.
     pub fn kind_of(&self, node: NodeId) -> NodeKind
         requires { node.0 < length self.now.arena.nodes }
         ensures { result ≡ kind_of (stored_at self.now.arena node.0).head }
@@ -108,7 +108,7 @@ impl Rooted {
         self.store.kind(node)
     }
 
-    /// What a node holds.
+    /// What a node holds. It has to be there.
     pub fn node(&self, node: NodeId) -> NodeView<'_>
         requires { node.0 < length self.now.arena.nodes }
         ensures { Shows self.now.arena (stored_at self.now.arena node.0) result }
@@ -116,7 +116,7 @@ impl Rooted {
         self.store.node(node)
     }
 
-    /// The bytes of a text.
+    /// The bytes of a text, which has to be there.
     pub fn text(&self, text: TextId) -> &[u8]
         requires { text.0 < length self.now.arena.texts }
         ensures { result.now ≡ text_at self.now.arena text.0 }
@@ -124,7 +124,7 @@ impl Rooted {
         self.store.text(text)
     }
 
-    /// The traits at a place.
+    /// The traits at a place, which have to be there.
     pub fn traits(&self, traits: TraitsId) -> TraitsView<'_>
         requires { traits.0 < length self.now.arena.traits }
         ensures { ShowsTraits (get_or self.now.arena.traits traits.0 no_traits) result }
@@ -133,7 +133,8 @@ impl Rooted {
     }
 
     /// The graph of these nodes alone, each under the number of its place in the list; texts and traits keep their places.
-    /// It gives up where there is no memory.
+    /// The list has nodes of the graph alone, none twice, and all that the root and these nodes name. It gives up where there is
+    /// no memory.
     pub fn renumbered(&self, alloc: Global, order: &[NodeId]) -> Result<Rooted, Memory>
         requires { IsPart self.now (numbers_of order.now) }
         ensures { IfOk result (λ graph. graph ≡ renumbered (numbers_of order.now) self.now) }
@@ -146,7 +147,8 @@ impl Rooted {
 
     /// The graph with doubles for integers, and for each node among its values the one that stands in for it, by its number.
     /// Each class takes further members and has no sealed ones: an object's sealed pairs stand before its members. Texts,
-    /// classes and nodes keep their places. It gives up where there is no memory.
+    /// classes and nodes keep their places. There is one value of the graph for each of its nodes. It gives up where there is no
+    /// memory.
     pub fn standing_in(&self, alloc: Global, stand_ins: &[Value]) -> Result<Rooted, Memory>
         requires all { length stand_ins.now ≡ length self.now.arena.nodes }
         requires names { AllByRecursion (Names self.now.arena) stand_ins.now }

@@ -14,3 +14,8 @@ pub mod Inputs
 pub mod NextKind
 pub mod LayoutAnswers
 pub mod CursorReads
+pub mod VerdictLayouts
+pub mod SharedPaths
+pub mod Repeats
+pub mod TreeVerdicts
+pub mod RepeatedVerdicts

@@ -7,14 +7,16 @@ pub mod Plans
 pub mod Field
 pub mod Verdict
 pub mod ReadEnds
+pub mod Stretch
+pub mod Standard
 pub mod Halls
 pub mod Front
 pub mod Fronts
--- Devices of the proofs: no clause of a public call needs them.
+-- Devices of the proofs. Of the public items only Format and the laws about layouts need them.
 pub mod Layout
 pub mod Reading
 pub mod LayoutAnswer
 pub mod CursorReads
+pub mod Repeated
 pub mod Worked
-pub mod Standard
 pub mod Rests

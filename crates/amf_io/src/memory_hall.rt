@@ -76,7 +76,8 @@ impl<L: Drop> MemoryHall<L> {
     ghost use Rattle.amf_io.specs.Plans.{IsPlanned};
 
     /// A hall of these links. Moments and words are 0 once their lists are used up. The calls of
-    /// `next` whose numbers stand in `failing` fail.
+    /// `next` whose numbers stand in `failing` fail. Calls are counted from 0. It gives up where there
+    /// is no memory.
     pub fn new(
         alloc: Global,
         links: Vec<L>,
@@ -236,7 +237,8 @@ impl<L: Drop> FaultlessHall<L> {
     ghost use Rattle.std.specs.Prelude.{◌≡◌, ◌≤◌, [], length, IfOk};
     ghost use Rattle.amf_io.specs.Halls.{coming_of, served_of, links_room, HasAll, given, listed, TellsNumbers};
 
-    /// A hall of these links. Moments and words are 0 once their lists are used up.
+    /// A hall of these links. Moments and words are 0 once their lists are used up. It gives up where
+    /// there is no memory.
     pub fn new(
         alloc: Global,
         links: Vec<L>,

@@ -1,6 +1,6 @@
 use amf_graph::{
     BuildEnd, Builder, Lack, LackKind, Leaf, NodeId, NodeKind, NodeView, Part, Shape, TextId,
-    TraitsId, Value, Wrapped, WriteEnd, finished_facts, fit_rows, graph_rows,
+    TraitsId, Value, WriteEnd, finished_facts, fit_rows, graph_rows,
 };
 use amf_wire::{Pattern, is_amf_text};
 use std::test::Fail;
@@ -89,66 +89,6 @@ fn builds_an_object(rt: HostRuntime) -> Result<(), Fail> {
             assert_eq!(rt; members, [(name, Value::Null)].as_slice());
         }
         _ => Err("no object")?,
-    }
-    Ok(())
-}
-
-#[test]
-fn builds_a_wrapper(rt: HostRuntime) -> Result<(), Fail> {
-    let mut builder = Builder::new(rt.alloc())?;
-    let wrapper = builder.open_node(Shape::Wrapper(Wrapped::ArrayList))?;
-    builder.put(wrapper, Part::Item(Value::Bool(true)))?;
-    builder.close_node(wrapper);
-    let graph = builder
-        .finish(Value::Node(wrapper))
-        .ok()
-        .ok_or("an open node")?;
-    match graph.node(wrapper) {
-        NodeView::Wrapper { class, value } => {
-            assert_eq!(rt; class, Wrapped::ArrayList);
-            assert_eq!(rt; value, Value::Bool(true));
-        }
-        _ => Err("no wrapper")?,
-    }
-    Ok(())
-}
-
-#[test]
-fn builds_a_dictionary(rt: HostRuntime) -> Result<(), Fail> {
-    let mut builder = Builder::new(rt.alloc())?;
-    let dictionary = builder.open_node(Shape::Dictionary(true))?;
-    builder.put(dictionary, Part::Entry(Value::Null, Value::Bool(true)))?;
-    builder.close_node(dictionary);
-    let graph = builder
-        .finish(Value::Node(dictionary))
-        .ok()
-        .ok_or("an open node")?;
-    match graph.node(dictionary) {
-        NodeView::Dictionary { weak, entries } => {
-            assert!(rt; weak);
-            assert_eq!(rt; entries, [(Value::Null, Value::Bool(true))].as_slice());
-        }
-        _ => Err("no dictionary")?,
-    }
-    Ok(())
-}
-
-#[test]
-fn builds_leaves(rt: HostRuntime) -> Result<(), Fail> {
-    let mut builder = Builder::new(rt.alloc())?;
-    let bytes = builder.leaf(Leaf::Bytes(vec![in rt.alloc(); 1, 2]?))?;
-    let ints = builder.leaf(Leaf::Ints(true, vec![in rt.alloc(); -1, 2]?))?;
-    assert_eq!(rt; ints, NodeId(1));
-    let graph = builder
-        .finish(Value::Node(bytes))
-        .ok()
-        .ok_or("an open node")?;
-    match graph.node(ints) {
-        NodeView::Ints { fixed, items } => {
-            assert!(rt; fixed);
-            assert_eq!(rt; items, [-1, 2].as_slice());
-        }
-        _ => Err("no integers")?,
     }
     Ok(())
 }

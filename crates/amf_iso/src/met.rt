@@ -35,7 +35,7 @@ pub(crate) fn push_entries(
 }
 
 /// The values of a node in the order in which they are met: named pairs in by-name order, an array's before its items, an
-/// object's members behind its sealed values. It gives up where there is no memory.
+/// object's members behind its sealed values. The node is the graph's. It gives up where there is no memory.
 pub fn values_met(alloc: Global, node: NodeId, graph: &Rooted) -> Result<Vec<Value>, Memory>
     requires { node.0 < length graph.now.arena.nodes }
     ensures values { IfOk result (λ met. values_of graph.now.arena met.items ≡ values_met (node_at (content graph.now) node.0)) }

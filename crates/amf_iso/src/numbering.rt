@@ -62,7 +62,7 @@ impl Numbering {
         self.nodes.len() as u32
     }
 
-    /// The node with this number.
+    /// The node with this number, which is below `count`.
     pub fn node_at(&self, number: u32) -> NodeId
         requires { number < length self.now }
         ensures { slice_get self.now number ≡ Some result.0 }

@@ -38,6 +38,7 @@ fn a_reader_finds_what_it_entered(rt: HostRuntime) -> Result<(), Fail> {
 #[test]
 fn a_writer_finds_first_places(rt: HostRuntime) -> Result<(), Fail> {
     let mut tables = WriterTables::new(rt.alloc())?;
+    assert!(rt; tables.are_placed());
     for text in [b"a", b"b", b"a"] {
         tables.add_text(text)?;
     }
@@ -58,6 +59,8 @@ fn a_writer_finds_first_places(rt: HostRuntime) -> Result<(), Fail> {
     ] {
         assert_eq!(rt; tables.place_of_wrapped(class), place, "{class:?}");
     }
+    tables.add_done(NodeId(5))?;
+    assert!(rt; !tables.are_placed() && tables.is_done(NodeId(5)) && !tables.is_done(NodeId(1)));
     Ok(())
 }
 

@@ -10,7 +10,8 @@ use Rattle.amf_io.specs.declared.reason.Reason.TheVariants.{BadVersion}
 use Rattle.amf_io.specs.declared.ends.ReadEnd.{ReadEnd}
 use Rattle.amf_io.specs.declared.ends.ReadEnd.TheVariants.{Refused}
 use Rattle.amf_io.specs.Cursor.{place, unread}
-use Rattle.amf_io.specs.CursorReads.{Goes, Answers, AnswersField, Ends}
+use Rattle.amf_io.specs.ReadEnds.{Goes}
+use Rattle.amf_io.specs.CursorReads.{Answers, AnswersField, Ends}
 use Rattle.amf_io.specs.Field.{Size, Kind, Field, flat, field, whole, contents, raw_kind, text_kind, u16_kind, u32_kind, no_refusal, AreBytes}
 use Rattle.amf_io.specs.Layout.{Layout, give, want, Runs}
 use Rattle.amf_io.proofs.Bytes.{bytes_front}

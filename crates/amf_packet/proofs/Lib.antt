@@ -2,7 +2,6 @@
 pub mod PacketRows
 pub mod Lighter
 pub mod Bytes0
-pub mod VerdictLayouts
 pub mod CallItems
 pub mod PacketLayout
 pub mod PacketVerdicts

@@ -5,11 +5,12 @@ use Rattle.amf_io.specs.declared.window.Window.{Window}
 use Rattle.amf_io.specs.declared.cursor.Cursor.{Cursor}
 use Rattle.amf_io.specs.declared.ends.ReadEnd.{ReadEnd}
 use Rattle.amf_io.specs.Cursor.{source_of, place, bound, unread}
-use Rattle.amf_io.specs.CursorReads.{Goes, Ends}
+use Rattle.amf_io.specs.ReadEnds.{Goes}
+use Rattle.amf_io.specs.CursorReads.{Ends}
 use Rattle.amf_io.specs.Field.{Field}
 use Rattle.amf_io.proofs.CursorReads.{end_reads}
 use Rattle.amf_wire.specs.Style.{free}
-use Rattle.amf3_read.specs.Ready.{left_of}
+use Rattle.amf3_read.specs.Answer.{left_of}
 use Rattle.amf3_read.proofs.LayoutVerdicts.{answers_taken, answers_ended}
 use Rattle.amf_packet.specs.declared.packet.Header.{Header as KeptHeader}
 use Rattle.amf_packet.specs.declared.packet.Message.{Message as KeptMessage}

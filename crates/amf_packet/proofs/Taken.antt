@@ -5,13 +5,14 @@ use Rattle.amf_io.specs.declared.window.Window.{Window}
 use Rattle.amf_io.specs.declared.cursor.Cursor.{Cursor}
 use Rattle.amf_io.specs.declared.ends.ReadEnd.{ReadEnd}
 use Rattle.amf_io.specs.Cursor.{place, bound, unread}
-use Rattle.amf_io.specs.CursorReads.{IsPlaced, Goes, Answers, Ends}
+use Rattle.amf_io.specs.ReadEnds.{IsPlaced, Goes}
+use Rattle.amf_io.specs.CursorReads.{Answers, Ends}
 use Rattle.amf_io.specs.Field.{Field, flat}
 use Rattle.amf_io.specs.Layout.{Layout, give, bind, Path}
 use Rattle.amf_io.proofs.Ables.{bytes_flat}
 use Rattle.amf_io.proofs.CursorReads.{goes_nowhere, goes_then, then_reads, leads_end, end_reads}
 use Rattle.amf_io.proofs.Paths.{runs_bind, path_join, path_bind, flat-append}
-use Rattle.amf3_read.specs.Ready.{left_of}
+use Rattle.amf3_read.specs.Answer.{left_of}
 use Rattle.amf_packet.specs.Packet.{Beside, Each}
 use Rattle.amf_packet.specs.LayoutPacket.{Part, times}
 use Rattle.amf_packet.specs.ReadParts.{Took, ListSo}

@@ -5,7 +5,8 @@ use Rattle.amf_io.specs.declared.window.Window.{Window}
 use Rattle.amf_io.specs.declared.cursor.Cursor.{Cursor}
 use Rattle.amf_io.specs.declared.ends.ReadEnd.{ReadEnd}
 use Rattle.amf_io.specs.Cursor.{source_of, place, bound, unread}
-use Rattle.amf_io.specs.CursorReads.{IsPlaced, Goes, Ends}
+use Rattle.amf_io.specs.ReadEnds.{IsPlaced, Goes}
+use Rattle.amf_io.specs.CursorReads.{Ends}
 use Rattle.amf_io.specs.Field.{Field, flat, AreBytes}
 use Rattle.amf_io.proofs.CursorReads.{end_reads}
 use Rattle.amf_wire.specs.Style.{free}
@@ -23,8 +24,8 @@ use Rattle.amf0_tables.specs.Layout0.{value0_layout}
 use Rattle.amf0_tables.proofs.Layout0Format.{values0_is_layout}
 use Rattle.amf0_read.specs.declared.formed.Read0.{Read0}
 use Rattle.amf0_read.specs.Answer0.{IsReadWith, Answers0}
-use Rattle.amf3_read.specs.Answer.{AnswersOf, Raises, between}
-use Rattle.amf3_read.specs.Ready.{left_of}
+use Rattle.amf_io.specs.Stretch.{AnswersOf, between}
+use Rattle.amf3_read.specs.Answer.{Raises, left_of}
 use Rattle.amf_packet.specs.declared.body.Body.{Body}
 use Rattle.amf_packet.specs.declared.body.Body.TheVariants.{Call, Amf3, Plain}
 use Rattle.amf_packet.specs.Content.{body_of}
@@ -36,7 +37,7 @@ use Rattle.amf_packet.specs.ReadParts.{Took}
 use Rattle.amf_packet.proofs.Bytes0.{bytes0}
 use Rattle.amf_packet.proofs.ReadValues.{all_closed, has_item, body_spelled}
 use Rattle.amf_packet.proofs.Taken.{took_of}
-use Rattle.amf_packet.proofs.VerdictLayouts.{taken_done, ended_ends}
+use Rattle.amf_io.proofs.VerdictLayouts.{taken_done, ended_ends}
 
 value_bytes : (fs : List Field) → IsValue0 fs → AreBytes (flat fs)
 value_bytes fs p = bytes0 free (graph_of p.graph p.value) (value_content p.graph p.value) no_tables0 fs p.after p.spelled

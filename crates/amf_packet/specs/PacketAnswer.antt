@@ -6,7 +6,7 @@ use Rattle.amf_io.specs.declared.ends.ReadEnd.{ReadEnd}
 use Rattle.amf_io.specs.Cursor.{source_of, place, bound, unread}
 use Rattle.amf_wire.specs.Style.{free}
 use Rattle.amf_graph.specs.Bounds.{weight}
-use Rattle.amf3_read.specs.Answer.{AnswersOf, between}
+use Rattle.amf_io.specs.Stretch.{AnswersOf, between}
 use Rattle.amf_packet.specs.declared.body.Body.{Body}
 use Rattle.amf_packet.specs.declared.body.Body.TheVariants.{Call, Amf3, Plain}
 use Rattle.amf_packet.specs.declared.packet.Header.{Header}

@@ -4,12 +4,13 @@ use Rattle.amf_io.specs.declared.window.Window.{Window}
 use Rattle.amf_io.specs.declared.cursor.Cursor.{Cursor}
 use Rattle.amf_io.specs.declared.ends.ReadEnd.{ReadEnd}
 use Rattle.amf_io.specs.Cursor.{source_of, place, bound, unread}
-use Rattle.amf_io.specs.CursorReads.{IsPlaced, Goes, Ends}
+use Rattle.amf_io.specs.ReadEnds.{IsPlaced, Goes}
+use Rattle.amf_io.specs.CursorReads.{Ends}
 use Rattle.amf_io.specs.Field.{Field, u16_kind, no_refusal}
 use Rattle.amf_io.specs.Layout.{Layout, give, want}
 use Rattle.amf_io.specs.LayoutAnswer.{DoneBy, LeadsBy}
 use Rattle.std.specs.Int.{from_be_bytes, w16}
-use Rattle.amf3_read.specs.Ready.{left_of}
+use Rattle.amf3_read.specs.Answer.{left_of}
 use Rattle.amf_packet.specs.Packet.{Each}
 use Rattle.amf_packet.specs.LayoutPacket.{Part, times}
 

@@ -1,8 +1,8 @@
 ghost use Rattle.std.specs.Prelude.{◌+◌, ◌≤◌, ◌<◌, ◌^◌, IfOk, OnOk};
 ghost use Rattle.amf_io.specs.Cursor.{place};
-ghost use Rattle.amf_io.specs.CursorReads.{IsPlaced, Goes};
+ghost use Rattle.amf_io.specs.ReadEnds.{IsPlaced, Goes};
 ghost use Rattle.amf_wire.specs.Style.{free};
-ghost use Rattle.amf3_read.specs.Ready.{left_of};
+ghost use Rattle.amf3_read.specs.Answer.{left_of};
 ghost use Rattle.amf_packet.specs.Content.{header_of, message_of};
 ghost use Rattle.amf_packet.specs.LayoutPacket.{header_layout, message_layout, list_layout};
 ghost use Rattle.amf_packet.specs.Packet.{HeaderBy, MessageBy, ListBy};

@@ -1,11 +1,11 @@
 ghost use Rattle.std.specs.Prelude.{◌≡◌, ℕ, ◌+◌, ◌<◌, ◌≤◌, ◌^◌, List, [], ◌∷◌, length, IfOk, OnOk, false};
 ghost use Rattle.std.specs.List.{AllByRecursion};
 ghost use Rattle.amf_io.specs.Cursor.{place};
-ghost use Rattle.amf_io.specs.CursorReads.{IsPlaced, Goes};
+ghost use Rattle.amf_io.specs.ReadEnds.{IsPlaced, Goes};
 ghost use Rattle.amf_graph.specs.Arena.{Names};
 ghost use Rattle.amf_graph.specs.declared.value.Value.{Value as Stored};
 ghost use Rattle.amf_wire.specs.Style.{free};
-ghost use Rattle.amf3_read.specs.Ready.{left_of};
+ghost use Rattle.amf3_read.specs.Answer.{left_of};
 ghost use Rattle.amf_packet.specs.Content.{body_of};
 ghost use Rattle.amf_packet.specs.LayoutPacket.{sized_layout, body_layout};
 ghost use Rattle.amf_packet.specs.Packet.{BodyBy, SizedBy};

@@ -1,6 +1,6 @@
 ghost use Rattle.std.specs.Prelude.{◌≡◌, ◌≤◌, OnOk};
 ghost use Rattle.amf_io.specs.Cursor.{place};
-ghost use Rattle.amf_io.specs.CursorReads.{IsPlaced, Goes};
+ghost use Rattle.amf_io.specs.ReadEnds.{IsPlaced, Goes};
 ghost use Rattle.amf_wire.specs.Style.{free};
 ghost use Rattle.amf0_tables.specs.Parts0.{Short};
 ghost use Rattle.amf_packet.specs.LayoutPacket.{name_layout, must_layout, length_layout, version_layout};

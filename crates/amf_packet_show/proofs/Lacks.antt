@@ -22,7 +22,7 @@ use Rattle.amf_packet.specs.PacketLacks.{bodies, IsBodyLack, IsPacketLack}
 use Rattle.amf_packet.specs.WriteParts.{IsSpelledBody}
 use Rattle.amf_packet.proofs.WriteLacks.{header_spelled, message_spelled, each_spelled}
 use Rattle.amf_packet_show.specs.SamePacket.{BodiesMatch, PacketsMatch, SamePacket, IsFittedGraph, IsLoweredPacket}
-use Rattle.amf_packet_show.proofs.LoweredAgain.{lowered_again}
+use Rattle.amf0_tables.proofs.LoweredAgain.{lowered_again}
 use Rattle.amf_packet_show.proofs.Lowerings.{Lifted, lifted}
 use Rattle.amf_packet_show.proofs.Matched.{Rel, bodies_match, zip_left, zip_right}
 

@@ -2,7 +2,6 @@ pub mod Fronts
 pub mod Lacks
 pub mod Laws
 pub mod Listed
-pub mod LoweredAgain
 pub mod Lowerings
 pub mod Matched
 pub mod ReadPackets

@@ -1,39 +1,19 @@
 -- A packet has one listing and one number of nodes, and the same packets have the same.
-use Rattle.std.proofs.Common.{◌≡◌, ℕ, ◌+◌, Bool, List, [], ◌∷◌, ◌++◌, length, refl, sym, ap, ◌∙◌, subst}
+use Rattle.std.proofs.Common.{◌≡◌, ℕ, ◌+◌, List, [], ◌∷◌, ◌++◌, sym, ap, ◌∙◌}
 use Rattle.std.specs.Prelude.{codes}
 use Rattle.std.specs.List.{AllZip}
-use Rattle.amf_graph.specs.Graph.{Graph}
 use Rattle.amf_graph.specs.Isomorphic.{Isomorphic}
-use Rattle.amf_graph.specs.Order.{IsOrder}
-use Rattle.amf_graph.proofs.Places.{order_along, to_places}
-use Rattle.amf_graph.proofs.Walks.{walks_fixed}
 use Rattle.amf_packet.specs.Packet.{Body, Header, Message, Packet}
 use Rattle.amf_packet.specs.PacketLacks.{bodies}
 use Rattle.amf_show.specs.Shown.{line_feed, shown_text}
-use Rattle.amf_show.specs.Listing.{IsListing, shown_graph}
-use Rattle.amf_show.proofs.Alike.{one_listing as one_graph_listing, same_listing as same_graph_listing}
+use Rattle.amf_show.proofs.Alike.{one_listing as one_graph_listing, listed_alike, counted_alike, one_count}
 use Rattle.amf_packet_show.specs.SamePacket.{BodiesMatch, HeadersMatch, MessagesMatch, SamePacket}
 use Rattle.amf_packet_show.specs.PacketListing.{form_name, shown_must, header_line, message_line, packet_line, AreListed, IsPacketListing}
-use Rattle.amf_packet_show.specs.PacketNodes.{HasNodes, HaveNodes, PacketHasNodes}
+use Rattle.amf_packet_show.specs.PacketNodes.{HaveNodes, PacketHasNodes}
 use Rattle.amf_packet_show.proofs.Matched.{Rel, bodies_match}
 
 abbrev Iso : Rel
 Iso = λ form. Isomorphic
-
--- isomorphic graphs have one listing
-pub listed_alike : (g h : Graph) (b : List ℕ) → Isomorphic g h → IsListing g b → IsListing h b
-listed_alike g h b i l =
-    let p = order_along g h l.0 l.1 i in
-    (p.0, p.1, same_graph_listing g h b (shown_graph h p.0) i l (p.0, p.1, refl))
-
--- and as many nodes to which the root leads
-pub counted_alike : (g h : Graph) (n : ℕ) → Isomorphic g h → HasNodes g n → HasNodes h n
-counted_alike g h n i (order, o, is) =
-    let p = order_along g h order o i in
-    (p.0, p.1, is ∙ (to_places g h order p.0 o p.1 i).size)
-
-one_count : (g : Graph) (n m : ℕ) → HasNodes g n → HasNodes g m → n ≡ m
-one_count g n m (order, o, e) (other, w, d) = e ∙ ap length (walks_fixed o w) ∙ sym d
 
 each_one : {X : Type 0} (line : X → List ℕ) (body : X → Body) (xs : List X) (b c : List ℕ) → AreListed line body xs b → AreListed line body xs c → b ≡ c
 each_one line body [] b c p q = p ∙ sym q

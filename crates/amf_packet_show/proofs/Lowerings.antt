@@ -16,7 +16,7 @@ use Rattle.amf_packet_show.specs.SamePacket.{BodiesMatch, HeadersMatch, Messages
 use Rattle.amf_packet_show.specs.PacketLaws.{IsAlikePacket}
 use Rattle.amf_packet_show.specs.PacketParts.{HasLoweredBody, HaveLoweredHeaders, HaveLoweredMessages}
 use Rattle.amf_packet_show.proofs.Fronts.{same_bytes}
-use Rattle.amf_packet_show.proofs.LoweredAgain.{lowered_again}
+use Rattle.amf0_tables.proofs.LoweredAgain.{lowered_again}
 use Rattle.amf_packet_show.proofs.Matched.{Rel, turned, composed}
 use Rattle.amf_packet_show.proofs.Turns.{Lowly, carry, forget}
 

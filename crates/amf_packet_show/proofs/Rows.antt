@@ -9,7 +9,8 @@ use Rattle.amf_show.specs.Shown.{hex_byte, shown_byte, shown_text}
 use Rattle.amf_show.specs.Listing.{shown_number, shown_contents, shown_node, IsListing}
 use Rattle.amf_show.specs.WorkedListings.{line}
 use Rattle.amf_packet_show.specs.PacketListing.{header_line, message_line, packet_line, IsPacketListing}
-use Rattle.amf_packet_show.specs.PacketNodes.{HasNodes, PacketHasNodes}
+use Rattle.amf_show.specs.Counting.{HasNodes}
+use Rattle.amf_packet_show.specs.PacketNodes.{PacketHasNodes}
 use Rattle.amf_packet_show.specs.WorkedPacketListings.{called, PacketListingRows}
 
 hi_listed : IsListing hi (line (codes "root #0") ++ line (codes "#0 array [\"hi\"] {}"))

@@ -8,7 +8,8 @@ use Rattle.amf_packet.specs.Packet.{Body, Packet}
 use Rattle.amf_packet.specs.PacketLacks.{bodies}
 use Rattle.amf_show.specs.Listing.{IsListing, AppendsListing}
 use Rattle.amf_packet_show.specs.PacketListing.{packet_line, AreListed, AreHeaders, AreMessages, AppendsPacketListing}
-use Rattle.amf_packet_show.specs.PacketNodes.{HasNodes, HaveNodes}
+use Rattle.amf_show.specs.Counting.{HasNodes}
+use Rattle.amf_packet_show.specs.PacketNodes.{HaveNodes}
 use Rattle.amf_packet_show.specs.PacketParts.{Appended}
 
 module _ {K X : Type 0} (view : K → X) (ks : List K) (i : ℕ) (k : K) (lt : i < length ks) (is : k ≡ get_or ks i k) where

@@ -28,7 +28,7 @@ use Rattle.amf0_tables.proofs.Forget0.{forget0}
 use Rattle.amf0_tables.proofs.LowLaws.{one_lowering}
 use Rattle.amf_packet.specs.Packet.{Body, Header, Message, Packet, Beside, Each, call_fields, CallBy, FormBy, BodyBy, LengthBy, MustBy, SizedBy, HeaderBy, MessageBy, VersionBy, CountBy, ListBy, SpellsPacket, SpelledPacket}
 use Rattle.amf_packet_show.specs.SamePacket.{BodiesMatch, HeadersMatch, MessagesMatch, PacketsMatch, IsFittedGraph, IsLoweredPacket}
-use Rattle.amf_packet_show.proofs.LoweredAgain.{lowered_again}
+use Rattle.amf0_tables.proofs.LoweredAgain.{lowered_again}
 use Rattle.amf_packet_show.proofs.Matched.{Rel}
 use Rattle.amf_packet_show.proofs.Switches.{never_switches}
 

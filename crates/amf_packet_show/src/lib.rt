@@ -13,4 +13,4 @@ mod tests;
 pub use facts::{packet_laws, packet_listing_rows};
 pub use listing::show_packet;
 pub use lowering::packet_has_lowering;
-pub use nodes::{count_nodes, count_packet_nodes};
+pub use nodes::count_packet_nodes;

@@ -1,23 +1,13 @@
-ghost use Rattle.std.specs.Prelude.{◌≡◌, ◌*◌, ◌≤◌, length, map, IfOk};
-ghost use Rattle.amf_graph.specs.Rooted.{content};
+ghost use Rattle.std.specs.Prelude.{◌*◌, ◌≤◌, length, map, IfOk};
 ghost use Rattle.amf_packet.specs.Content.{header_of, message_of, packet_of};
 ghost use Rattle.amf_packet.specs.WriteParts.{header_bodies, message_bodies};
-ghost use Rattle.amf_packet_show.specs.PacketNodes.{HasNodes, HaveNodes, PacketHasNodes};
+ghost use Rattle.amf_packet_show.specs.PacketNodes.{HaveNodes, PacketHasNodes};
 
 use crate::body::graph;
-use amf_graph::Rooted;
-use amf_iso::Numbering;
 use amf_packet::{Header, Message, Packet};
+use amf_show::count_nodes;
 use amf_wire::Memory;
 use std::alloc::Global;
-
-/// How many nodes the root of a graph leads to. It gives up where there is no memory.
-pub fn count_nodes(alloc: Global, graph: &Rooted) -> Result<u32, Memory>
-    ensures { IfOk result (λ nodes. HasNodes (content graph.now) nodes) }
-{
-    let numbering = Numbering::of(alloc, graph)?;
-    Ok(numbering.count())
-}
 
 /// How many nodes the roots of a packet's values lead to, added over the values. It gives up where there is no memory.
 pub fn count_packet_nodes(alloc: Global, packet: &Packet) -> Result<u128, Memory>

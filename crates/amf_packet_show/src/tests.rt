@@ -1,8 +1,6 @@
 use crate::{
-    count_nodes, count_packet_nodes, packet_has_lowering, packet_laws, packet_listing_rows,
-    show_packet,
+    count_packet_nodes, packet_has_lowering, packet_laws, packet_listing_rows, show_packet,
 };
-use amf_graph::{Builder, Value};
 use amf_io::{Cursor, MemorySource};
 use amf_packet::{Packet, read_packet};
 use std::alloc::Global;
@@ -45,15 +43,5 @@ fn lists_and_counts(rt: HostRuntime) -> Result<(), Fail> {
     show_packet(rt.alloc(), &packet, &mut out)?;
     assert_eq!(rt; out.as_slice(), LISTING);
     assert_eq!(rt; count_packet_nodes(rt.alloc(), &packet)?, 3);
-    Ok(())
-}
-
-#[test]
-fn counts_nodes(rt: HostRuntime) -> Result<(), Fail> {
-    let graph = Builder::new(rt.alloc())?
-        .finish(Value::Null)
-        .ok()
-        .ok_or("an open node")?;
-    assert_eq!(rt; count_nodes(rt.alloc(), &graph)?, 0);
     Ok(())
 }

@@ -8,8 +8,7 @@ use Rattle.amf_graph.specs.Graph.{Graph}
 use Rattle.amf_graph.specs.Rooted.{RootedArena}
 use Rattle.amf_service.specs.declared.service.ServiceEnd.{ServiceEnd}
 use Rattle.amf_service.specs.declared.service.ServiceEnd.TheVariants.{Unknown, Fault, Memory}
-use Rattle.amf_service.specs.Meaning.{Given, result, fault, Meanings, Called, no_operation, given, asked, IsFault, Answers}
-use Rattle.amf_service.specs.Made.{FaultsWith}
+use Rattle.amf_service.specs.Meaning.{Given, result, fault, Meanings, Called, no_operation, given, asked, IsFault, Answers, FaultsWith}
 use Rattle.amf_service.specs.Shipped.{wrong_arguments, too_large}
 
 pub known : (m : Meanings) (o : List ℕ) (a : Graph) (r : Result RootedArena ServiceEnd) → m.knows o ≡ true → Answers (given (m.gives o a)) r → Answers (asked m o a) r

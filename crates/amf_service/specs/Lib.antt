@@ -1,9 +1,8 @@
 -- The definitions that contracts cite.
 pub mod Meaning
 pub mod Registry
-pub mod Whole
 pub mod Shipped
 pub mod ServiceLaws
 pub mod WorkedServices
--- Devices of proofs: what the calls below the services give.
+-- Devices of the proofs: no clause of a public call needs them.
 pub mod Made

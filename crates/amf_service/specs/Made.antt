@@ -1,19 +1,11 @@
--- A device of proofs. What the functions below the services make: faults, sums and lists of texts.
+-- A device of proofs. What the functions below the services make: sums and lists of texts.
 use Rattle.std.specs.Prelude.{◌≡◌, ℕ, ℤ, List, map, Option, None, Some}
 use Rattle.std.specs.List.{AllByRecursion}
 use Rattle.amf_graph.specs.declared.value.TextId.{TextId}
 use Rattle.amf_graph.specs.Graph.{Value}
 use Rattle.amf_graph.specs.Arena.{Arena, IsTextId, text_at}
-use Rattle.amf_service.specs.declared.service.ServiceEnd.{ServiceEnd}
-use Rattle.amf_service.specs.declared.service.ServiceEnd.TheVariants.{Unknown, Fault, Memory}
 use Rattle.amf_service.specs.Shipped.{total_of}
 use denote.Ref.{Bor}
-
--- the fault with this text, or want of memory
-abbrev pub FaultsWith : List ℕ → ServiceEnd → Type 0
-FaultsWith x Unknown = ⊥
-FaultsWith x (Fault y) = y ≡ x
-FaultsWith x Memory = Unit {0}
 
 abbrev pub texts_of : Arena → List TextId → List (List ℕ)
 texts_of a ts = map (λ t. text_at a t.0) ts

@@ -1,5 +1,5 @@
 -- What a service means: whether it knows an operation, and what it gives for an operation and a graph of arguments.
-use Rattle.std.specs.Prelude.{◌≡◌, ℕ, ◌≤◌, Bool, List, length, Result, Ok, Err, if◌then◌else◌}
+use Rattle.std.specs.Prelude.{◌≡◌, ℕ, ◌^◌, ◌≤◌, Bool, List, length, Result, Ok, Err, if◌then◌else◌}
 use Rattle.amf_wire.specs.Text.{IsText}
 use Rattle.amf_graph.specs.Graph.{Graph}
 use Rattle.amf_graph.specs.Isomorphic.{Isomorphic}
@@ -17,6 +17,14 @@ pub data Given : Type 0 where
 pub record Meanings : Type 0 where
   pub knows : List ℕ → Bool
   pub gives : List ℕ → Graph → Given
+
+-- the arguments of a call weigh no more
+abbrev pub heaviest_arguments : ℕ
+heaviest_arguments = 2 ^ 21
+
+-- nor does a result
+abbrev pub heaviest_result : ℕ
+heaviest_result = 2 ^ 26
 
 -- what a call comes to
 pub data Called : Type 0 where
@@ -37,6 +45,12 @@ Answers c (Ok graph) = (g : Graph) × (c ≡ given (result g)) × Isomorphic g (
 Answers c (Err Unknown) = c ≡ no_operation
 Answers c (Err (Fault x)) = (c ≡ given (fault x)) × IsFault x
 Answers c (Err Memory) = Unit {0}
+
+-- the fault with this text, or want of memory
+abbrev pub FaultsWith : List ℕ → ServiceEnd → Type 0
+FaultsWith x Unknown = ⊥
+FaultsWith x (Fault y) = y ≡ x
+FaultsWith x Memory = Unit {0}
 
 -- isomorphic graphs, or the same fault
 abbrev pub GivenMatch : Given → Given → Type 0

@@ -5,7 +5,7 @@ use Rattle.std.specs.Ordering.{is_lt, nat_cmp}
 use Rattle.std.specs.Cmp.Lexicographic.{slice_cmp}
 use Rattle.amf_graph.specs.Graph.{Value, leaf, node, integer, double, text, Traits, Head, array, object, Node, Graph, node_at}
 use Rattle.amf_graph.specs.ByName.{stable_sort}
-use Rattle.amf_service.specs.Whole.{whole_of, signed_pattern}
+use Rattle.amf_wire.specs.WholeNumbers.{whole_of, signed_pattern}
 use Rattle.amf_service.specs.Meaning.{Given, result, fault, Meanings}
 use Rattle.amf_service.specs.Registry.{Entry}
 

@@ -16,7 +16,8 @@ pub fn is_named(operation: &Name, name: &[u8]) -> bool
     name == operation.as_bytes()
 }
 
-/// The items of the arguments, where they are an array without names; else `None`.
+/// The items of the arguments, where they are an array without names; else `None`. There are fewer than the weight of the
+/// arguments.
 pub fn items(args: &Rooted) -> Option<&[Value]>
     ensures items { option_map (λ vs. map (value_content args.now.arena) vs.now) result ≡ items_of (content args.now) }
     ensures names { IfSome result (λ vs. AllByRecursion (Names args.now.arena) vs.now) }

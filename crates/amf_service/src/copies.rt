@@ -34,7 +34,8 @@ pub fn whole(builder: Builder, root: Value) -> Rooted
     }
 }
 
-/// A copy of what a value of the graph reaches, with the copy of the value as its root. It gives up where there is no memory.
+/// A copy of what a value of the graph reaches, with the copy of the value as its root. It weighs no more than the graph. It
+/// gives up where there is no memory.
 pub fn copied(alloc: Global, graph: &Rooted, value: Value) -> Result<Rooted, Memory>
     requires { Names graph.now.arena value }
     ensures same { IfOk result (λ copy. Isomorphic (rooted_at (content graph.now) (value_content graph.now.arena value)) (content copy)) }

@@ -1,5 +1,4 @@
 ghost use Rattle.amf_service.specs.ServiceLaws.{ServiceLaws};
-ghost use Rattle.amf_service.specs.Whole.{WholeNumbers};
 ghost use Rattle.amf_service.specs.WorkedServices.{ServiceRows};
 
 /// Worked facts of the shipped services and of the registry.
@@ -10,9 +9,4 @@ pub fn service_rows()
 /// The shipped services, and every registry of lawful services, give isomorphic results and equal ends for isomorphic arguments.
 pub fn service_laws()
     ensures { ServiceLaws }
-{}
-
-/// The functions from doubles to whole numbers and back say what the relation says.
-pub fn whole_numbers()
-    ensures { WholeNumbers }
 {}

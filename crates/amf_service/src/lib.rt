@@ -17,7 +17,7 @@ mod texts;
 pub use arguments::{is_named, items, one_item};
 pub use copies::{copied, whole};
 pub use echo::Echo;
-pub use facts::{service_laws, service_rows, whole_numbers};
+pub use facts::{service_laws, service_rows};
 pub use faults::fault;
 pub use names::Names;
 pub use registry::{CallEnd, Registry, RegistryEnd};

@@ -5,7 +5,7 @@ ghost use Rattle.amf_graph.specs.Bounds.{weight};
 ghost use Rattle.amf_graph.specs.Rooted.{content};
 ghost use Rattle.amf_service.specs.Made.{texts_of, AreTextsOf};
 ghost use Rattle.amf_graph.specs.ByName.{stable_sort};
-ghost use Rattle.amf_service.specs.Meaning.{Answers, given, result as Gave};
+ghost use Rattle.amf_service.specs.Meaning.{Answers, given, result as Gave, heaviest_arguments, heaviest_result};
 ghost use Rattle.amf_service.specs.Shipped.{names_name, named, names_at, or_fault, is_before, texts_graph};
 
 use crate::texts::{array_of_texts, in_order};
@@ -56,9 +56,9 @@ fn member_names(alloc: Global, graph: &Rooted, value: Value) -> Result<Option<Ve
 /// The answer with the names of the members of this value.
 fn names_of(alloc: Global, args: &Rooted, item: Value) -> Result<Rooted, ServiceEnd>
     requires names { NamesIn args.now.arena item }
-    requires light { weight args.now.arena ≤ 2097152 }
+    requires light { weight args.now.arena ≤ heaviest_arguments }
     ensures answer { Answers (given (or_fault (names_at (content args.now) (value_content args.now.arena item)) (λ xs. Gave (texts_graph (stable_sort is_before xs))))) result }
-    ensures light { IfOk result (λ graph. weight graph.arena ≤ 67108864) }
+    ensures light { IfOk result (λ graph. weight graph.arena ≤ heaviest_result) }
 {
     match member_names(alloc, args, item)? {
         Some(names) => {

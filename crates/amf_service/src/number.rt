@@ -1,7 +1,7 @@
 ghost use Rattle.std.specs.Prelude.{◌≡◌, ◌≤ℤ◌, pos, negsuc, false, true, nat_lt, IfSome, IsNone};
 ghost use Rattle.amf_graph.specs.Arena.{Arena, value_content};
 ghost use Rattle.amf_service.specs.Shipped.{number_of, size_of};
-ghost use Rattle.amf_service.specs.Whole.{whole_of, signed_pattern};
+ghost use Rattle.amf_wire.specs.WholeNumbers.{whole_of, signed_pattern};
 
 use amf_graph::Value;
 use amf_wire::{Pattern, pattern_of};

@@ -1,7 +1,7 @@
 ghost use Rattle.std.specs.Prelude.{◌≡◌, ◌≤◌, map, List, ℕ, IfOk, OnOk, IsErrOf};
 ghost use Rattle.amf_graph.specs.Bounds.{weight};
 ghost use Rattle.amf_graph.specs.Rooted.{content};
-ghost use Rattle.amf_service.specs.Meaning.{IsLawful, asked};
+ghost use Rattle.amf_service.specs.Meaning.{IsLawful, asked, heaviest_arguments, heaviest_result};
 ghost use Rattle.amf_service.specs.Registry.{Entry, called, AnswersCall, AreDistinct, IsFirstRepeated};
 ghost use Rattle.amf_service.specs.ServiceLaws.{CallsMatch};
 ghost use Rattle.amf_service.specs.declared.registry.RegistryEnd.TheVariants as registry_end;
@@ -64,9 +64,9 @@ fn answered(
     operation: &Name,
     args: &Rooted,
 ) -> Result<Rooted, CallEnd>
-    requires { weight args.now.arena ≤ 2097152 }
+    requires { weight args.now.arena ≤ heaviest_arguments }
     ensures answer { AnswersCall (asked (record { knows = knows service.now; gives = gives service.now }) operation.now (content args.now)) result }
-    ensures light { IfOk result (λ graph. weight graph.arena ≤ 67108864) }
+    ensures light { IfOk result (λ graph. weight graph.arena ≤ heaviest_result) }
 {
     match service.answers(alloc, operation, args) {
         Ok(graph) => Ok(graph),
@@ -114,9 +114,9 @@ impl Registry {
         operation: &Name,
         args: &Rooted,
     ) -> Result<Rooted, CallEnd>
-        requires { weight args.now.arena ≤ 2097152 }
+        requires { weight args.now.arena ≤ heaviest_arguments }
         ensures answer { let means : List Entry = map (λ e. record { name = e.0.items; means = record { knows = knows e.1; gives = gives e.1 } }) self.now.services.entries in AnswersCall (called means service.now operation.now (content args.now)) result }
-        ensures light { IfOk result (λ graph. weight graph.arena ≤ 67108864) }
+        ensures light { IfOk result (λ graph. weight graph.arena ≤ heaviest_result) }
     {
         match self.services.get(service.as_bytes()) {
             Some(found) => answered(alloc, found, operation, args),

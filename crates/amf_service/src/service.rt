@@ -2,7 +2,7 @@ ghost use Rattle.std.specs.Prelude.{◌≡◌, ◌≤◌, ℕ, List, Bool, IfOk}
 ghost use Rattle.amf_graph.specs.Bounds.{weight};
 ghost use Rattle.amf_graph.specs.Graph.{Graph};
 ghost use Rattle.amf_graph.specs.Rooted.{content};
-ghost use Rattle.amf_service.specs.Meaning.{Given, Answers, IsLawful, asked};
+ghost use Rattle.amf_service.specs.Meaning.{Given, Answers, IsLawful, asked, heaviest_arguments, heaviest_result};
 ghost use Rattle.amf_service.specs.declared.service.ServiceEnd.TheVariants.{Memory as NoMemory};
 
 use amf_graph::Rooted;
@@ -41,11 +41,11 @@ pub trait Service: Send + Sync + Drop {
     /// the service does not know the operation, `Fault` exactly where the operation gives that fault, and `Memory` where
     /// there is no room.
     fn answers(&self, alloc: Global, operation: &Name, args: &Rooted) -> Result<Rooted, ServiceEnd>
-        requires { weight args.now.arena ≤ 2097152 }
+        requires { weight args.now.arena ≤ heaviest_arguments }
         ensures answer { Answers (asked (record { knows = knows self.now; gives = gives self.now }) operation.now (content args.now)) result }
-        ensures light { IfOk result (λ graph. weight graph.arena ≤ 67108864) };
+        ensures light { IfOk result (λ graph. weight graph.arena ≤ heaviest_result) };
 
-    /// Isomorphic arguments give isomorphic results and equal faults. It does nothing.
+    /// Whole isomorphic arguments give isomorphic results and equal faults. It does nothing.
     fn is_lawful(&self)
         ensures { IsLawful (gives self.now) };
 }

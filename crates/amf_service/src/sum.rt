@@ -1,7 +1,7 @@
 ghost use Rattle.std.specs.Prelude.{◌≡◌, ◌≤◌, length, map, bytes_eq, IfOk};
 ghost use Rattle.amf_graph.specs.Arena.{Arena, value_content};
 ghost use Rattle.amf_graph.specs.Bounds.{weight};
-ghost use Rattle.amf_service.specs.Meaning.{Answers, given};
+ghost use Rattle.amf_service.specs.Meaning.{Answers, given, heaviest_arguments, heaviest_result};
 ghost use Rattle.amf_graph.specs.Rooted.{content};
 ghost use Rattle.amf_service.specs.Made.{totalled};
 ghost use Rattle.amf_service.specs.Shipped.{items_of, sum_name, summed, summed_total, total_of};
@@ -20,7 +20,7 @@ pub struct Sum;
 
 /// The sum of the numbers, if all are such.
 fn total(items: &[Value]) -> Option<i128>
-    requires { length items.now ≤ 2097152 }
+    requires { length items.now ≤ heaviest_arguments }
     ensures { (a : Arena) → result ≡ total_of (map (value_content a) items.now) }
 {
     let mut total: i128 = 0;
@@ -33,7 +33,7 @@ fn total(items: &[Value]) -> Option<i128>
 
 /// The sum of the items of the arguments, if these are an array of numbers without names.
 fn total_in(args: &Rooted) -> Option<i128>
-    requires { weight args.now.arena ≤ 2097152 }
+    requires { weight args.now.arena ≤ heaviest_arguments }
     ensures { result ≡ totalled (items_of (content args.now)) }
 {
     total(items(args)?)
@@ -42,7 +42,7 @@ fn total_in(args: &Rooted) -> Option<i128>
 /// The answer with this sum.
 fn summed(alloc: Global, total: i128) -> Result<Rooted, ServiceEnd>
     ensures answer { Answers (given (summed_total total)) result }
-    ensures light { IfOk result (λ graph. weight graph.arena ≤ 67108864) }
+    ensures light { IfOk result (λ graph. weight graph.arena ≤ heaviest_result) }
 {
     match double_of(total) {
         Some(sum) => Ok(whole(Builder::new(alloc)?, Value::Double(sum))),

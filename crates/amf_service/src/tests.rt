@@ -4,7 +4,7 @@ ghost use Rattle.amf_graph.specs.Arena.{Names as NamesIn};
 ghost use Rattle.amf_graph.specs.Bounds.{weight};
 ghost use Rattle.amf_graph.specs.Building.{no_arena, kept_text};
 ghost use Rattle.amf_graph.specs.Graph.{leaf, integer};
-ghost use Rattle.amf_service.specs.Meaning.{result as Gave};
+ghost use Rattle.amf_service.specs.Meaning.{result as Gave, heaviest_arguments};
 ghost use Rattle.amf_service.specs.Shipped.{items_of, or_fault};
 
 use crate::texts::add_array;
@@ -17,7 +17,7 @@ use std::test::Fail;
 
 /// How many items there are.
 fn count_of(items: &[Value]) -> i32
-    requires { length items.now < 2097152 }
+    requires { length items.now < heaviest_arguments }
     ensures { result ≡ pos (length items.now) }
 {
     items.len() as i32
@@ -88,7 +88,7 @@ fn are_small(items: &[Value]) -> bool
 
 /// An array of these numbers, which are few and small.
 fn arguments(alloc: Global, items: &[Value]) -> Result<Rooted, Fail>
-    ensures { IfOk result (λ args. weight args.arena ≤ 2097152) }
+    ensures { IfOk result (λ args. weight args.arena ≤ heaviest_arguments) }
 {
     if items.len() > 1000 || !are_small(items) {
         return Err("other items")?;
@@ -196,7 +196,7 @@ fn text(builder: &mut Builder, bytes: &[u8]) -> Result<TextId, Fail>
 
 /// Arguments that are one object with the members b and a.
 fn two_members(alloc: Global) -> Result<Rooted, Fail>
-    ensures { IfOk result (λ args. weight args.arena ≤ 2097152) }
+    ensures { IfOk result (λ args. weight args.arena ≤ heaviest_arguments) }
 {
     let mut builder = Builder::new(alloc)?;
     let b = text(&mut builder, b"b")?;
@@ -240,5 +240,4 @@ fn names_are_ordered(rt: HostRuntime) -> Result<(), Fail> {
 fn facts_stand(_rt: HostRuntime) {
     service_rows();
     service_laws();
-    whole_numbers();
 }

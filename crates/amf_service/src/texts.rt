@@ -6,7 +6,9 @@ ghost use Rattle.amf_graph.specs.Building.{kept_node, closed};
 ghost use Rattle.amf_graph.specs.ByName.{stable_sort};
 ghost use Rattle.amf_graph.specs.Isomorphic.{Isomorphic};
 ghost use Rattle.amf_graph.specs.Rooted.{content};
+ghost use Rattle.amf_graph.specs.declared.limits.TheConstants.{MAX_COUNT};
 ghost use Rattle.amf_service.specs.Made.{texts_of, AreTextsOf, AreBytesOf, seconds_of};
+ghost use Rattle.amf_service.specs.Meaning.{heaviest_arguments};
 ghost use Rattle.amf_service.specs.Shipped.{is_before, texts_graph};
 
 use crate::copies::{kept, whole};
@@ -61,7 +63,7 @@ pub(crate) fn in_order(
 /// Adds an array of these values.
 pub(crate) fn add_array(builder: &mut Builder, items: &[Value]) -> Result<NodeId, Memory>
     requires names { AllByRecursion (Names builder.old) items.now }
-    requires room { length builder.old.nodes + length items.now < 268435455 }
+    requires room { length builder.old.nodes + length items.now < MAX_COUNT }
     ensures id { IfOk result (λ n. n.0 ≡ length builder.old.nodes) }
     ensures ok { OnOk result (builder.new ≡ kept_node builder.old (closed array [] items.now)) }
 {
@@ -88,7 +90,7 @@ pub(crate) fn array_of_texts(
     texts: &[TextId],
 ) -> Result<Rooted, Memory>
     requires there { AreTextsOf graph.now.arena texts.now }
-    requires few { length texts.now ≤ 2097152 }
+    requires few { length texts.now ≤ heaviest_arguments }
     ensures same { IfOk result (λ made. Isomorphic (texts_graph (texts_of graph.now.arena texts.now)) (content made)) }
     ensures light { IfOk result (λ made. weight made.arena ≤ weight graph.now.arena + length texts.now + 1) }
 {

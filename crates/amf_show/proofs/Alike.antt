@@ -7,10 +7,11 @@ use Rattle.amf_graph.specs.ByName.{by_name}
 use Rattle.amf_graph.specs.Isomorphic.{ValuesMatch, PairsMatch, NodesMatch, Isomorphic}
 use Rattle.amf_graph.specs.Order.{IsDistinct, IsOrder}
 use Rattle.amf_graph.proofs.PlaceOf.{place_there}
-use Rattle.amf_graph.proofs.Places.{SamePlace, to_places}
+use Rattle.amf_graph.proofs.Places.{SamePlace, order_along, to_places}
 use Rattle.amf_graph.proofs.Reaching.{order_once}
 use Rattle.amf_graph.proofs.Walks.{walks_fixed}
 use Rattle.amf_show.specs.Shown.{joined, braced, bracketed, line_feed, shown_text, shown_leaf, shown_fixed, shown_weak}
+use Rattle.amf_show.specs.Counting.{HasNodes}
 use Rattle.amf_show.specs.Listing.{shown_number, shown_value, shown_pair, entries_in, shown_contents, contents_of, shown_node, shown_graph, IsListing}
 
 -- two lists that show alike, place by place
@@ -101,3 +102,18 @@ one_listing g b c l m = l.2 ∙ ap (shown_graph g) (walks_fixed l.1 m.1) ∙ sym
 
 pub same_listing : (g h : Graph) (b c : List ℕ) → Isomorphic g h → IsListing g b → IsListing h c → b ≡ c
 same_listing g h b c i l m = l.2 ∙ graph_alike l.0 m.0 (order_once g l.0 l.1) (order_once h m.0 m.1) g h l.1 m.1 i ∙ sym m.2
+
+-- isomorphic graphs have one listing
+pub listed_alike : (g h : Graph) (b : List ℕ) → Isomorphic g h → IsListing g b → IsListing h b
+listed_alike g h b i l =
+    let p = order_along g h l.0 l.1 i in
+    (p.0, p.1, same_listing g h b (shown_graph h p.0) i l (p.0, p.1, refl))
+
+-- and as many nodes to which the root leads
+pub counted_alike : (g h : Graph) (n : ℕ) → Isomorphic g h → HasNodes g n → HasNodes h n
+counted_alike g h n i (order, o, is) =
+    let p = order_along g h order o i in
+    (p.0, p.1, is ∙ (to_places g h order p.0 o p.1 i).size)
+
+pub one_count : (g : Graph) (n m : ℕ) → HasNodes g n → HasNodes g m → n ≡ m
+one_count g n m (order, o, e) (other, w, d) = e ∙ ap length (walks_fixed o w) ∙ sym d

@@ -1,7 +1,9 @@
-//! Lists graphs as text: a line for the root, and a line for each node to which it leads, in canonical order.
+//! Lists graphs as text: a line for the root, and a line for each node to which it leads, in canonical order; and counts those
+//! nodes.
 #![tactic(auto)]
 
 mod contents;
+mod counting;
 mod entries;
 mod facts;
 mod lister;
@@ -15,6 +17,7 @@ mod text;
 mod value;
 mod vectors;
 
+pub use counting::count_nodes;
 pub use facts::{listing_laws, listing_rows};
 pub use listing::show;
 pub use text::show_text;

@@ -2,7 +2,7 @@ ghost use Rattle.std.specs.Prelude.{◌≡◌, length, IfOk, OnOk};
 ghost use Rattle.amf_graph.specs.Arena.{Names};
 ghost use Rattle.amf_graph.specs.Building.{kept_text};
 
-use crate::{listing_laws, listing_rows, show, show_text};
+use crate::{count_nodes, listing_laws, listing_rows, show, show_text};
 use amf_graph::{Builder, Leaf, Part, Rooted, Shape, TextId, Value, Wrapped};
 use amf_wire::{Pattern, is_amf_text};
 use std::alloc::Global;
@@ -107,10 +107,12 @@ fn shows_graphs(rt: HostRuntime) -> Result<(), Fail> {
         &ring(alloc)?,
         "root #0\n#0 array [#1, null] {\"\\22n\\5c\"=undefined}\n#1 wrapper \"flex.messaging.io.ArrayList\" #0\n",
     )?;
+    let dictionary = dictionary(alloc)?;
+    assert_eq!(rt; count_nodes(alloc, &dictionary)?, 3);
     shows(
         &rt,
         alloc,
-        &dictionary(alloc)?,
+        &dictionary,
         "root #0\n#0 dict strong {#1=d4014000000000000, false=#2}\n#1 bytes x0aff\n#2 ints fixed [-1, 2]\n",
     )
 }

@@ -9,7 +9,8 @@ use Rattle.amf_io.specs.declared.reason.Reason.{Reason}
 use Rattle.amf_io.specs.declared.ends.ReadEnd.{ReadEnd}
 use Rattle.amf_io.specs.declared.ends.ReadEnd.TheVariants.{Refused, ReadFault, Memory}
 use Rattle.amf_io.specs.Cursor.{source_of, place, bound, unread}
-use Rattle.amf_io.specs.CursorReads.{IsPlaced, Goes, Answers, AnswersField, Ends}
+use Rattle.amf_io.specs.ReadEnds.{IsPlaced, Goes}
+use Rattle.amf_io.specs.CursorReads.{Answers, AnswersField, Ends}
 use Rattle.amf_io.specs.Field.{Field, Kind, fixed, AreBytes, whole, flat, raw_kind}
 use Rattle.amf_io.specs.Layout.{Layout, give, want, Runs}
 use Rattle.amf_io.specs.LayoutAnswer.{DoneBy, EndsBy, Came}

@@ -18,7 +18,7 @@ use Rattle.amf_sol.specs.declared.sol_version.SolVersion.{SolVersion}
 use Rattle.amf_sol.specs.declared.sol_version.SolVersion.TheVariants.{Amf0, Amf3}
 use Rattle.amf_sol.specs.SharedObject.{signature, second_signature, padding, pair_end, version_kind}
 use Rattle.amf_sol.specs.FileLayout.{FileState, file, no_pairs, version_of, behind_name, head_layout, with_pair, behind_pair, pair_by, pair_layout}
-use Rattle.amf_sol.specs.Repeated.{steps, after_head}
+use Rattle.amf_io.specs.Repeated.{steps, after_head}
 
 u16_filled : Filled (u16_kind no_refusal)
 u16_filled = record { bytes = 0 ∷ 0 ∷ []; is_whole = refl; clean = refl; are_bytes = (omega arith, (omega arith, tt)) }

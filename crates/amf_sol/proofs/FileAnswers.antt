@@ -10,7 +10,8 @@ use Rattle.amf_io.specs.declared.reason.Reason.TheVariants.{BadLength}
 use Rattle.amf_io.specs.declared.ends.ReadEnd.{ReadEnd}
 use Rattle.amf_io.specs.declared.ends.ReadEnd.TheVariants.{Refused, ReadFault, Memory}
 use Rattle.amf_io.specs.Cursor.{source_of, place, bound, unread}
-use Rattle.amf_io.specs.CursorReads.{Goes, Answers, Ends}
+use Rattle.amf_io.specs.ReadEnds.{Goes}
+use Rattle.amf_io.specs.CursorReads.{Answers, Ends}
 use Rattle.amf_io.specs.Field.{Field, AreBytes, flat, u32_kind, no_refusal}
 use Rattle.amf_io.specs.Layout.{give, want, Path, Runs}
 use Rattle.amf_io.specs.LayoutAnswer.{EndsBy}
@@ -24,8 +25,8 @@ use Rattle.amf_io.proofs.Whole.{whole_fixed}
 use Rattle.amf_wire.specs.Style.{free}
 use Rattle.amf_wire.specs.Text.{IsText}
 use Rattle.amf_graph.specs.Rooted.{RootedArena, content}
-use Rattle.amf3_read.specs.Answer.{Stretch, between, stretch}
-use Rattle.amf3_read.specs.Ready.{left_of}
+use Rattle.amf_io.specs.Stretch.{Stretch, between, stretch}
+use Rattle.amf3_read.specs.Answer.{left_of}
 use Rattle.amf0_tables.specs.Layout0State.{state0_of}
 use Rattle.amf_sol.specs.declared.head.Head.{Head}
 use Rattle.amf_sol.specs.declared.sol_version.SolVersion.{SolVersion}
@@ -35,13 +36,13 @@ use Rattle.amf_sol.specs.FileAnswer.{AnswersFile}
 use Rattle.amf_sol.specs.FileLayout.{FileState, file, no_pairs, head_layout, pair_layout, HasPairs}
 use Rattle.amf_sol.specs.FileReading.{length_layout, rest_layout, closed_holder, PairsEnded, GoesPast, AnswersHolder}
 use Rattle.amf_sol.specs.FileVerdict.{HasItsLength, refused, bad_length}
-use Rattle.amf_sol.specs.Repeated.{steps, after_head}
+use Rattle.amf_io.specs.Repeated.{steps, after_head}
 use Rattle.amf_sol.proofs.FileRepeats.{files_repeat, file_layouts}
 use Rattle.amf_sol.proofs.FileSound.{HeadSound, head_sound, closed_pairs, pairs_sound, file_spelled, file_of, PairsRead}
 use Rattle.amf_sol.proofs.FileVerdicts.{file_refused, file_cut}
-use Rattle.amf_sol.proofs.Repeats.{fewer_first}
-use Rattle.amf_sol.proofs.RepeatedVerdicts.{refusal_lifted, cut_any}
-use Rattle.amf_sol.proofs.SharedPaths.{given}
+use Rattle.amf_io.proofs.Repeats.{fewer_first}
+use Rattle.amf_io.proofs.RepeatedVerdicts.{refusal_lifted, cut_any}
+use Rattle.amf_io.proofs.SharedPaths.{given}
 use Rattle.amf3_layout.proofs.Layout3SoundTexts.{give_is}
 
 -- The verdicts of ends.

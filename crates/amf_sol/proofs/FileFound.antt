@@ -33,7 +33,7 @@ use Rattle.amf_sol.specs.declared.sol_version.SolVersion.{SolVersion}
 use Rattle.amf_sol.specs.declared.sol_version.SolVersion.TheVariants.{Amf0, Amf3}
 use Rattle.amf_sol.specs.SharedObject.{signature, length_field, second_signature, padding, pair_end, version_number, version_kind, version_field, PairsBy, file_tables, file_tables0, PairsOf}
 use Rattle.amf_sol.specs.FileLayout.{FileState, file, no_pairs, version_of, behind_name, head_layout, with_pair, behind_pair, pair_by, pair_layout, HasPairs}
-use Rattle.amf_sol.specs.Repeated.{steps, after_head}
+use Rattle.amf_io.specs.Repeated.{steps, after_head}
 
 -- the fields of names are whole and not refused
 

@@ -39,7 +39,7 @@ use Rattle.amf_sol.specs.declared.sol_version.SolVersion.{SolVersion}
 use Rattle.amf_sol.specs.declared.sol_version.SolVersion.TheVariants.{Amf0, Amf3}
 use Rattle.amf_sol.specs.SharedObject.{exact_kind, exactly, pair_end, PairsBy}
 use Rattle.amf_sol.specs.FileLayout.{FileState, file, with_pair, behind_pair, pair_by, pair_layout}
-use Rattle.amf_sol.specs.Repeated.{steps}
+use Rattle.amf_io.specs.Repeated.{steps}
 
 -- a fixed field that was taken has its bytes
 pub exact_is : (reason : Reason) (bytes : List ℕ) (f : Field) → Takes (exact_kind reason bytes) f → f ≡ exactly reason bytes

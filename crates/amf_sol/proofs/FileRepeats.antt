@@ -4,7 +4,7 @@ use Rattle.amf_io.specs.Field.{Field}
 use Rattle.amf_io.specs.Layout.{IsLayout}
 use Rattle.amf_sol.specs.SharedObject.{IsFileReading}
 use Rattle.amf_sol.specs.FileLayout.{head_layout, pair_layout, HasPairs}
-use Rattle.amf_sol.specs.Repeated.{after_head, IsRepeated, AnyNumber}
+use Rattle.amf_io.specs.Repeated.{after_head, IsRepeated, AnyNumber}
 use Rattle.amf_sol.proofs.FileAble.{file_able, file_grows, file_takes}
 use Rattle.amf_sol.proofs.FileFound.{file_found}
 use Rattle.amf_sol.proofs.FileSound.{file_sound}

@@ -37,9 +37,9 @@ use Rattle.amf_sol.specs.declared.sol_version.SolVersion.{SolVersion}
 use Rattle.amf_sol.specs.declared.sol_version.SolVersion.TheVariants.{Amf0, Amf3}
 use Rattle.amf_sol.specs.SharedObject.{IsPairHolder, signature, length_field, second_signature, padding, version_kind, version_field, PairsBy, PairsOf, SpellsFile}
 use Rattle.amf_sol.specs.FileLayout.{FileState, file, holder_arena, no_pairs, version_of, behind_name, head_layout, pair_layout, HasPairs}
-use Rattle.amf_sol.specs.Repeated.{steps, after_head}
+use Rattle.amf_io.specs.Repeated.{steps, after_head}
 use Rattle.amf_sol.proofs.FilePairs.{exact_is, Ways, Many, ways0, ways3, many0, many3}
-use Rattle.amf_sol.proofs.SharedPaths.{given}
+use Rattle.amf_io.proofs.SharedPaths.{given}
 
 -- Up to the first pair.
 

@@ -12,9 +12,9 @@ use Rattle.amf_sol.specs.SharedObject.{IsFileReading}
 use Rattle.amf_sol.specs.FileLaws.{FilesJudged, FilesJudgedOnce, FilesFixNext, FileFaultsAreFirst}
 use Rattle.amf_sol.specs.FileLayout.{head_layout, pair_layout, HasPairs}
 use Rattle.amf_sol.specs.FileVerdict.{HasItsLength, IsWholeFile, IsFileAccepted, IsFileRefused, refused, bad_length}
-use Rattle.amf_sol.specs.Repeated.{AnyNumber, IsAcceptedToEnd, IsJudgedToEnd}
+use Rattle.amf_io.specs.Repeated.{AnyNumber, IsAcceptedToEnd, IsJudgedToEnd}
 use Rattle.amf_sol.proofs.FileRepeats.{files_repeat, some_pairs, any_pairs}
-use Rattle.amf_sol.proofs.RepeatedVerdicts as repeated
+use Rattle.amf_io.proofs.RepeatedVerdicts as repeated
 
 -- two formats that accept the same lists have the same verdicts
 module _ (P Q : List Field → Type 0) (to : (fs : List Field) → P fs → Q fs) (back : (fs : List Field) → Q fs → P fs) where

@@ -8,7 +8,8 @@ use Rattle.amf_io.specs.declared.window.Window.{Window}
 use Rattle.amf_io.specs.declared.cursor.Cursor.{Cursor}
 use Rattle.amf_io.specs.declared.reason.Reason.TheVariants.{BadSignature, BadPadding, BadVersion}
 use Rattle.amf_io.specs.declared.ends.ReadEnd.{ReadEnd}
-use Rattle.amf_io.specs.CursorReads.{IsPlaced, Goes, Answers, AnswersField, Ends, EndsField}
+use Rattle.amf_io.specs.ReadEnds.{IsPlaced, Goes}
+use Rattle.amf_io.specs.CursorReads.{Answers, AnswersField, Ends, EndsField}
 use Rattle.amf_io.specs.Field.{fixed, whole, text_kind, u16_kind, u32_kind, no_refusal}
 use Rattle.amf_io.specs.Layout.{give, want, bind}
 use Rattle.amf_io.proofs.CursorReads.{gives, then_reads, end_reads, field_reads, field_ended}

@@ -1,7 +1,3 @@
-pub mod SharedPaths
-pub mod Repeats
-pub mod TreeVerdicts
-pub mod RepeatedVerdicts
 pub mod Holders
 pub mod FileRows
 pub mod FilePairs

@@ -6,7 +6,8 @@ use Rattle.amf_io.specs.declared.cursor.Cursor.{Cursor}
 use Rattle.amf_io.specs.declared.ends.ReadEnd.{ReadEnd}
 use Rattle.amf_io.specs.declared.ends.ReadEnd.TheVariants.{Refused, ReadFault, Memory}
 use Rattle.amf_io.specs.Cursor.{source_of, place, bound, unread}
-use Rattle.amf_io.specs.CursorReads.{IsPlaced, Goes, Answers, Ends, Leads}
+use Rattle.amf_io.specs.ReadEnds.{IsPlaced, Goes}
+use Rattle.amf_io.specs.CursorReads.{Answers, Ends, Leads}
 use Rattle.amf_io.specs.Field.{Kind, Field, AreBytes, flat}
 use Rattle.amf_io.specs.Layout.{Layout, give, want, bind, Path, Runs}
 use Rattle.amf_io.specs.Reading.{Short, after, field_whole, run}
@@ -15,7 +16,8 @@ use Rattle.amf_io.proofs.Paths.{bind_runs, runs_bind}
 use Rattle.amf_graph.specs.Arena.{Arena}
 use Rattle.amf_graph.specs.Rooted.{RootedArena}
 use Rattle.amf3_layout.proofs.Layout3SoundTexts.{give_is}
-use Rattle.amf3_read.specs.Ready.{Ready, left_of}
+use Rattle.amf3_read.specs.Answer.{left_of}
+use Rattle.amf3_read.specs.Ready.{Ready}
 use Rattle.amf0_read.specs.Ready0.{Ready0}
 use Rattle.amf3_spelling.specs.KeptTables.{KeptTables, no_kept_tables}
 use Rattle.amf_graph.proofs.Lists.{no_entry}
@@ -26,10 +28,10 @@ use Rattle.amf_sol.specs.declared.sol_version.SolVersion.{SolVersion}
 use Rattle.amf_sol.specs.declared.sol_version.SolVersion.TheVariants.{Amf0, Amf3}
 use Rattle.amf_sol.specs.FileLayout.{FileState, file, holder_arena, no_pairs, pair_by, pair_layout}
 use Rattle.amf_sol.specs.FileReading.{IsOpenHolder, PairsEnded, GoesPast, AnswersPairs, AnswersHolder}
-use Rattle.amf_sol.specs.Repeated.{steps}
+use Rattle.amf_io.specs.Repeated.{steps}
 use Rattle.amf_sol.proofs.FileSound.{holder_built, holder_tables}
-use Rattle.amf_sol.proofs.RepeatedVerdicts.{none_whole}
-use Rattle.amf_sol.proofs.SharedPaths.{given}
+use Rattle.amf_io.proofs.RepeatedVerdicts.{none_whole}
+use Rattle.amf_io.proofs.SharedPaths.{given}
 
 -- behind so many steps stands one more
 pub steps_on : {S : Type 0} (step : S → Layout S) (m : ℕ) (s x : S) (fs : List Field) → Runs (steps step m s) fs x → Path (steps step (suc m) s) fs (bind (step x) (λ u. give u))

@@ -5,7 +5,8 @@ use Rattle.amf_io.specs.declared.window.Window.{Window}
 use Rattle.amf_io.specs.declared.cursor.Cursor.{Cursor}
 use Rattle.amf_io.specs.declared.ends.ReadEnd.{ReadEnd}
 use Rattle.amf_io.specs.Cursor.{place, bound}
-use Rattle.amf_io.specs.CursorReads.{IsPlaced, Goes, Answers, Ends}
+use Rattle.amf_io.specs.ReadEnds.{IsPlaced, Goes}
+use Rattle.amf_io.specs.CursorReads.{Answers, Ends}
 use Rattle.amf_io.specs.Layout.{give, bind}
 use Rattle.amf_io.proofs.CursorReads.{gives, then_reads, end_reads}
 use Rattle.amf_graph.specs.declared.value.Value.{Value as Stored}
@@ -26,7 +27,8 @@ use Rattle.amf0_tables.specs.Layout0.{read0, short_layout, value0_layout}
 use Rattle.amf0_tables.specs.Layout0State.{State0, state0_of, in_amf3}
 use Rattle.amf0_tables.proofs.Layout0Format.{reads0}
 use Rattle.amf3_read.specs.Opened.{KeptText}
-use Rattle.amf3_read.specs.Ready.{Ready, Continues, left_of, text_read}
+use Rattle.amf3_read.specs.Answer.{left_of}
+use Rattle.amf3_read.specs.Ready.{Ready, Continues, text_read}
 use Rattle.amf0_read.specs.Ready0 as ready0
 use Rattle.amf0_read.specs.Ready0.{Ready0, Kept0}
 use Rattle.amf0_read.proofs.TextReads0.{text_grows, text_there, text_tables, text_more}

@@ -4,7 +4,7 @@ use Rattle.amf_io.specs.declared.ends.ReadEnd.{ReadEnd}
 use Rattle.amf_io.specs.declared.ends.ReadEnd.TheVariants.{Refused, ReadFault, Memory}
 use Rattle.amf_io.specs.Field.{Field, flat}
 use Rattle.amf_wire.specs.Style.{free}
-use Rattle.amf3_read.specs.Answer.{IsInterrupted, Stretch}
+use Rattle.amf_io.specs.Stretch.{IsInterrupted, Stretch}
 use Rattle.amf_sol.specs.FileVerdict.{HasItsLength, IsFileRefused}
 use Rattle.amf_sol.specs.SharedObject.{SpellsFile, IsFileReading}
 use Rattle.amf_sol.specs.StoredFile.{StoredFile, shared}

@@ -25,7 +25,7 @@ use Rattle.amf0_tables.specs.Layout0State.{state0_of}
 use Rattle.amf_sol.specs.declared.sol_version.SolVersion.{SolVersion}
 use Rattle.amf_sol.specs.SharedObject.{exact_kind, signature, second_signature, version_kind}
 use Rattle.amf_sol.specs.FileLayout.{FileState, file, no_pairs, version_of, behind_name, pair_layout}
-use Rattle.amf_sol.specs.Repeated.{steps}
+use Rattle.amf_io.specs.Repeated.{steps}
 
 -- Layouts of the parts.
 

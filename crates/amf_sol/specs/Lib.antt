@@ -9,7 +9,6 @@ pub mod FileAnswer
 pub mod WorkedFiles
 -- Devices of the proofs: no clause of a public call needs them.
 pub mod HolderTest
-pub mod Repeated
 pub mod FileLayout
 pub mod FileReading
 pub mod FileParts

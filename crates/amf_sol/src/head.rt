@@ -1,6 +1,7 @@
 ghost use Rattle.std.specs.Prelude.{◌≡◌, ◌<◌, ◌≤◌, ◌^◌, List, ℕ, length, OnOk, IfOk};
 ghost use Rattle.amf_io.specs.Cursor.{place};
-ghost use Rattle.amf_io.specs.CursorReads.{IsPlaced, Goes, Answers};
+ghost use Rattle.amf_io.specs.ReadEnds.{IsPlaced, Goes};
+ghost use Rattle.amf_io.specs.CursorReads.{Answers};
 ghost use Rattle.amf_sol.specs.FileLayout.{file, no_pairs};
 ghost use Rattle.amf_sol.specs.FileReading.{exact_layout, length_layout, name_layout, version_layout, rest_layout, end_layout};
 

@@ -1,12 +1,13 @@
 ghost use Rattle.std.specs.Prelude.{◌≡◌, ◌+◌, ◌<◌, ◌↔◌, ℕ, List, [], IsTrue, OnOk, IfOk, IfErr};
 ghost use Rattle.amf_io.specs.Cursor.{source_of, place, unread};
-ghost use Rattle.amf_io.specs.CursorReads.{IsPlaced, Goes, Answers};
+ghost use Rattle.amf_io.specs.ReadEnds.{IsPlaced, Goes};
+ghost use Rattle.amf_io.specs.CursorReads.{Answers};
 ghost use Rattle.amf_graph.specs.Building.{no_arena};
 ghost use Rattle.amf0_tables.specs.Layout0State.{state0_of};
 ghost use Rattle.amf0_tables.specs.TableParts0.{shown_tables};
 ghost use Rattle.amf0_read.specs.Ready0.{Ready0};
-ghost use Rattle.amf3_read.specs.Answer.{room_end};
-ghost use Rattle.amf3_read.specs.Ready.{Ready, left_of};
+ghost use Rattle.amf3_read.specs.Answer.{room_end, left_of};
+ghost use Rattle.amf3_read.specs.Ready.{Ready};
 ghost use Rattle.amf_sol.specs.FileLayout.{file, holder_arena, pair_by};
 ghost use Rattle.amf_sol.specs.FileReading.{tables3, IsOpenHolder, AnswersPairs, AnswersHolder, closed_holder};
 

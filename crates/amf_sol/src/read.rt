@@ -1,7 +1,7 @@
 ghost use Rattle.std.specs.Prelude.{◌<◌};
-ghost use Rattle.amf_io.specs.CursorReads.{Goes};
-ghost use Rattle.amf3_read.specs.Answer.{between, room_end};
-ghost use Rattle.amf3_read.specs.Ready.{left_of};
+ghost use Rattle.amf_io.specs.ReadEnds.{Goes};
+ghost use Rattle.amf_io.specs.Stretch.{between};
+ghost use Rattle.amf3_read.specs.Answer.{room_end, left_of};
 ghost use Rattle.amf_sol.specs.FileAnswer.{AnswersFile};
 
 use crate::SharedObject;

@@ -34,8 +34,8 @@ use Rattle.amf_sol.specs.SharedObject.{Shared, IsPairHolder, HasHolder, signatur
 use Rattle.amf_sol.proofs.OneFile.{files_or_lacks}
 use Rattle.amf_sol.proofs.Unheld.{has_holder}
 use Rattle.amf_sol_show.specs.SameFile.{SameFile, IsFittedHolder, IsLoweredFile, IsAlikeFile}
-use Rattle.amf_sol_show.proofs.Carry0.{Joined0, carried_spells0}
-use Rattle.amf_sol_show.proofs.Carry3.{Joined, carried_spells}
+use Rattle.amf3_spelling.proofs.Carried3.{Joined, carried_spells}
+use Rattle.amf0_tables.proofs.Carried0.{Joined as Joined0, carried_spells0}
 use Rattle.amf_sol_show.proofs.Members.{pairs_imply, pairs_carried}
 use Rattle.amf_sol_show.proofs.Parts.{forget_name}
 use Rattle.amf_sol_show.proofs.SameBytes.{rest_flat, same_bytes}

@@ -1,40 +1,27 @@
 -- The lack of a shared object: none where it is spelled, that of its lowering, and the same for the same shared objects.
-use Rattle.std.proofs.Common.{◌≡◌, ◌≢◌, ℕ, ◌<◌, true, List, [], ◌∷◌, length, slice_get, Some, sym, refl, ap, ◌∙◌, subst, arith}
-use Rattle.std.specs.List.{AllZip, AllByRecursion}
-use Rattle.std.proofs.lemmas.Option.{slice_get_within}
-use Rattle.amf_io.specs.Field.{Field, flat}
+use Rattle.std.proofs.Common.{◌≡◌, ℕ, ◌<◌, List, length, sym, refl, ap, subst, arith}
 use Rattle.amf_wire.specs.Style.{canonical}
 use Rattle.amf_graph.specs.declared.lack.LackKind.{LackKind}
 use Rattle.amf_graph.specs.declared.lack.LackKind.TheVariants.{EmptyName, NoForm, LongName, Shared as SharedNode, FarReference, LongFile}
-use Rattle.amf_graph.specs.ByName.{by_name}
-use Rattle.amf_graph.specs.Graph.{AllNamed, Value, node, Head, xml_document, date, array, object, wrapper, xml, bytes, ints, uints, doubles, values, dictionary, Node, Graph, node_at}
-use Rattle.amf_graph.specs.Isomorphic.{PairsMatch, NodesMatch, Isomorphic}
+use Rattle.amf_graph.specs.Graph.{Graph}
+use Rattle.amf_graph.specs.Isomorphic.{Isomorphic}
 use Rattle.amf_graph.specs.Lacks.{IsFirstLack}
-use Rattle.amf_graph.specs.Order.{Walks, again, first, IsOrder}
-use Rattle.amf_graph.proofs.Alls.{each_at}
+use Rattle.amf_graph.specs.Order.{first, IsOrder}
 use Rattle.amf_graph.proofs.Isomorphisms.{isomorphic_sym}
-use Rattle.amf_graph.proofs.Lists.{entry, no_entry}
-use Rattle.amf_graph.proofs.NameOrder.{by_name_all, by_name_all_back}
-use Rattle.amf_graph.proofs.Places.{SamePlace, order_along, to_places}
-use Rattle.amf_graph.proofs.Reaching.{order_once, order_reached}
-use Rattle.amf_graph.proofs.Walks.{walk_stays}
-use Rattle.amf3_spelling.specs.Lacks3.{NodeLacks3, Lacks3}
-use Rattle.amf3_spelling.proofs.LacksAlike.{lack_is}
-use Rattle.amf0_tables.specs.Lacks0.{enters0, is_loose0, Lacks0}
-use Rattle.amf0_tables.specs.LacksMet.{LacksMet}
-use Rattle.amf0_tables.proofs.Found0.{FineNode, FineAgain}
-use Rattle.amf0_tables.proofs.LackTwice0.{met_again_is_twice}
+use Rattle.amf_graph.proofs.Places.{order_along}
+use Rattle.amf3_spelling.specs.Lacks3.{Lacks3}
+use Rattle.amf3_spelling.proofs.LacksAlike.{lack_is, lacks_along}
+use Rattle.amf0_tables.specs.Lacks0.{Lacks0}
+use Rattle.amf0_tables.proofs.LacksAlike0.{lacks_along0}
 use Rattle.amf0_tables.proofs.LowLaws.{one_lowering}
-use Rattle.amf0_tables.proofs.Meeting.{walk_meets, meets_fixed}
 use Rattle.amf_sol.specs.declared.sol_version.SolVersion.{SolVersion}
 use Rattle.amf_sol.specs.declared.sol_version.SolVersion.TheVariants.{Amf0, Amf3}
 use Rattle.amf_sol.specs.FileLacks.{Unless0, IsHolderLack, IsFileLack, in_holder, too_long}
-use Rattle.amf_sol.specs.SharedObject.{Shared, PairsOf, HolderBy, SpelledFile}
+use Rattle.amf_sol.specs.SharedObject.{Shared, PairsOf, SpelledFile}
 use Rattle.amf_sol.proofs.OneFile.{files_or_lacks}
 use Rattle.amf_sol.proofs.Unheld.{has_holder}
 use Rattle.amf_sol_show.specs.SameFile.{SameFile, IsFittedHolder, IsLoweredFile}
 use Rattle.amf_sol_show.proofs.Canonical.{holder, pairs_free, held_pairs, pairs_held, behind_turned, pairs_turn}
-use Rattle.amf_sol_show.proofs.LacksOver0.{lacks_along0}
 
 unless_is : (L : ℕ → LackKind → Type 0) (n : ℕ) (k : LackKind) → ((m : ℕ) (l : LackKind) → L m l → l ≡ EmptyName) → Unless0 L n k → (0 < n) × L n k
 unless_is L n EmptyName only u = u
@@ -63,23 +50,6 @@ not_both o b n k (fs, x, e) l = let law = files_or_lacks o (holder o b (fs, x, e
 
 first_over : (L M : ℕ → LackKind → Type 0) → ((n : ℕ) (k : LackKind) → L n k → M n k) → ((n : ℕ) (k : LackKind) → M n k → L n k) → (n : ℕ) (k : LackKind) → IsFirstLack L n k → IsFirstLack M n k
 first_over L M to back n k f = record { lacks = to n k f.lacks; least = λ m l x. f.least m l (back m l x); first = λ l x. f.first l (back n l x) }
-
--- names that match are empty together
-zip_named : (P : ℕ → ℕ → Type 0) (ps qs : List (List ℕ × Value)) → AllZip (PairsMatch P) ps qs → AllNamed qs → AllNamed ps
-zip_named P [] [] m h = tt
-zip_named P [] (q ∷ qs) m h = absurd m
-zip_named P (p ∷ ps) [] m h = absurd m
-zip_named P (p ∷ ps) (q ∷ qs) m h = (λ e. h.0 (sym m.0.0 ∙ e), zip_named P ps qs m.1 h.1)
-
-named_back : (P : ℕ → ℕ → Type 0) (a b : Node) → NodesMatch P a b → AllNamed b.names → AllNamed a.names
-named_back P a b m h = by_name_all_back (λ p. p.0 ≢ []) a.names (zip_named P (by_name a.names) (by_name b.names) m.names (by_name_all (λ p. p.0 ≢ []) b.names h))
-
-lacks_along : (g h : Graph) (xs ys : List ℕ) → IsOrder g xs → IsOrder h ys → Isomorphic g h → (n : ℕ) (kind : LackKind) → Lacks3 g xs n kind → Lacks3 h ys n kind
-lacks_along g h xs ys a b i n kind (j, e, l) =
-    let m = to_places g h xs ys a b i in
-    let other = entry ys n (subst (λ w. n < w) m.size (slice_get_within xs n j e)) in
-    let o = lack_is g j kind l in
-    (other.0, other.1, subst (λ k. NodeLacks3 h other.0 k) (sym o.0) (λ named. o.1 (named_back (SamePlace xs ys) (node_at g j) (node_at h other.0) (m.nodes n j other.0 e other.1) named)))
 
 unless_along : (g h : Graph) (xs ys : List ℕ) → IsOrder g xs → IsOrder h ys → Isomorphic g h → (n : ℕ) (kind : LackKind) → Unless0 (Lacks3 g xs) n kind → Unless0 (Lacks3 h ys) n kind
 unless_along g h xs ys a b i n kind u = let x = unless_is (Lacks3 g xs) n kind (only_empty g xs) u in unless_of (Lacks3 h ys) n kind x.0 (lacks_along g h xs ys a b i n kind x.1)

@@ -1,10 +1,7 @@
 pub mod Members
-pub mod Carry3
-pub mod Carry0
 pub mod Parts
 pub mod SameBytes
 pub mod Canonical
-pub mod LacksOver0
 pub mod Lacking
 pub mod Listed
 pub mod Laws

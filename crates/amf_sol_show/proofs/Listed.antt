@@ -1,10 +1,6 @@
 -- A shared object has one listing, and the same shared objects have the same.
-use Rattle.std.proofs.Common.{◌≡◌, ℕ, List, ◌++◌, refl, sym, ap, ◌∙◌}
-use Rattle.amf_graph.specs.Graph.{Graph}
-use Rattle.amf_graph.specs.Isomorphic.{Isomorphic}
-use Rattle.amf_graph.proofs.Places.{order_along}
-use Rattle.amf_show.specs.Listing.{IsListing, shown_graph}
-use Rattle.amf_show.proofs.Alike.{one_listing as one_graph_listing, same_listing as same_graph_listing}
+use Rattle.std.proofs.Common.{◌≡◌, ℕ, List, ◌++◌, sym, ap, ◌∙◌}
+use Rattle.amf_show.proofs.Alike.{one_listing as one_graph_listing, listed_alike}
 use Rattle.amf_sol.specs.SharedObject.{Shared}
 use Rattle.amf_sol_show.specs.FileListing.{file_line, IsFileListing}
 use Rattle.amf_sol_show.specs.SameFile.{SameFile}
@@ -12,10 +8,5 @@ use Rattle.amf_sol_show.specs.SameFile.{SameFile}
 pub one_listing : (o : Shared) (b c : List ℕ) → IsFileListing o b → IsFileListing o c → b ≡ c
 one_listing o b c (l, is, e) (k, also, d) = e ∙ ap (λ w. file_line o.name o.version ++ w) (one_graph_listing o.holder l k is also) ∙ sym d
 
-listed_along : (g h : Graph) (b : List ℕ) → Isomorphic g h → IsListing g b → IsListing h b
-listed_along g h b i l =
-    let p = order_along g h l.0 l.1 i in
-    (p.0, p.1, same_graph_listing g h b (shown_graph h p.0) i l (p.0, p.1, refl))
-
 pub same_listing : (o k : Shared) (b : List ℕ) → SameFile o k → IsFileListing o b → IsFileListing k b
-same_listing o k b m (l, is, e) = (l, listed_along o.holder k.holder l m.holder is, e ∙ ap (λ n. file_line n o.version ++ l) m.name ∙ ap (λ v. file_line k.name v ++ l) m.version)
+same_listing o k b m (l, is, e) = (l, listed_alike o.holder k.holder l m.holder is, e ∙ ap (λ n. file_line n o.version ++ l) m.name ∙ ap (λ v. file_line k.name v ++ l) m.version)

@@ -23,6 +23,6 @@ fn vectors_of_both_kinds(rt: HostRuntime) -> Result<(), Fail> {
     let canonical = vectors()
         .iter()
         .filter(|vector| vector.input == vector.output);
-    assert_eq!(rt; canonical.count(), 8);
+    assert_eq!(rt; canonical.count(), 18);
     Ok(())
 }

@@ -13,7 +13,7 @@ pub fn vectors() -> &'static [Vector] {
     &VECTORS
 }
 
-static VECTORS: [Vector; 14] = [
+static VECTORS: [Vector; 24] = [
     Vector {
         input: b"\x01",
         output: b"\x01",
@@ -69,5 +69,45 @@ static VECTORS: [Vector; 14] = [
     Vector {
         input: b"\x11\x03\x00\x04\x01\x06\x03a",
         output: b"\x11\x03\x00\x04\x01\x06\x03a",
+    },
+    Vector {
+        input: b"\x04\x7F",
+        output: b"\x04\x7F",
+    },
+    Vector {
+        input: b"\x04\x81\x00",
+        output: b"\x04\x81\x00",
+    },
+    Vector {
+        input: b"\x05\x3F\xF0\x00\x00\x00\x00\x00\x00",
+        output: b"\x05\x3F\xF0\x00\x00\x00\x00\x00\x00",
+    },
+    Vector {
+        input: b"\x08\x01\x3F\xF0\x00\x00\x00\x00\x00\x00",
+        output: b"\x08\x01\x3F\xF0\x00\x00\x00\x00\x00\x00",
+    },
+    Vector {
+        input: b"\x0C\x05\x01\x02",
+        output: b"\x0C\x05\x01\x02",
+    },
+    Vector {
+        input: b"\x0D\x03\x01\xFF\xFF\xFF\xFE",
+        output: b"\x0D\x03\x01\xFF\xFF\xFF\xFE",
+    },
+    Vector {
+        input: b"\x0E\x03\x00\x00\x00\x01\x02",
+        output: b"\x0E\x03\x00\x00\x00\x01\x02",
+    },
+    Vector {
+        input: b"\x0F\x03\x00\x3F\xF0\x00\x00\x00\x00\x00\x00",
+        output: b"\x0F\x03\x00\x3F\xF0\x00\x00\x00\x00\x00\x00",
+    },
+    Vector {
+        input: b"\x09\x05\x01\x07\x03a\x0B\x03a",
+        output: b"\x09\x05\x01\x07\x03a\x0B\x03a",
+    },
+    Vector {
+        input: b"\x11\x01\x01",
+        output: b"\x11\x01\x01",
     },
 ];

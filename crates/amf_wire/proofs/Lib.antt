@@ -8,3 +8,4 @@ pub mod U29Fields
 pub mod Integers
 pub mod TextFront
 pub mod Doubles
+pub mod WholeNumbers

@@ -4,6 +4,7 @@ pub mod U29
 pub mod U29Answer
 pub mod Integer
 pub mod Whole
+pub mod WholeNumbers
 pub mod Text
 pub mod OneShortest
 pub mod WorkedFacts

@@ -19,7 +19,7 @@ pub use facts::{one_shortest_u29, worked_facts};
 pub use integer::{sign29, unsign29};
 pub use memory::Memory;
 pub use name::{Name, NameEnd};
-pub use pattern::{Pattern, pattern_of, patterns_are_inverse, whole_of};
+pub use pattern::{Pattern, pattern_of, patterns_are_inverse, whole_numbers, whole_of};
 pub use text::{first_bad, is_amf_text};
 pub use u29::U29;
 pub use u29_bytes::{U29Bytes, write_u29};

@@ -1,5 +1,6 @@
 ghost use Rattle.std.specs.Prelude.{◌≡◌, ◌<◌, ◌^◌, ◌/◌, ◌%◌, ℕ, ℤ, ◌↔◌, IfSome, IsSome, IsNone};
 ghost use Rattle.amf_wire.specs.Whole.{IsPatternOf, HasPattern, HasParts, IsSize, PatternsAreInverse};
+ghost use Rattle.amf_wire.specs.WholeNumbers.{WholeNumbers};
 
 /// The bits of a 64-bit double (AMF 3 specification, 3.7; AMF 0 specification, 2.2).
 #[derive(Clone, Copy, Debug, PartialEq, Eq)]
@@ -11,7 +12,8 @@ const UNIT: u64 = 1 << 52;
 /// The bit of a double's sign.
 const SIGN: u64 = 1 << 63;
 
-/// The whole number that the double is, or `None` where it is none, where its size is 2^53 or more, and for minus zero.
+/// The whole number that the double is (IEEE 754, 3.4, binary64), or `None` where it is none, where its size is 2^53 or more,
+/// and for minus zero.
 pub fn whole_of(p: Pattern) -> Option<i64>
     ensures some { IfSome result (λ v. IsPatternOf p.0 v) }
     ensures none { IsNone result → (v : ℤ) → IsPatternOf p.0 v → ⊥ }
@@ -58,7 +60,7 @@ fn power_of_two(power: u64) -> u64
     1 << power
 }
 
-/// The double that is this whole number, or `None` exactly where its size is 2^53 or more.
+/// The double that is this whole number (IEEE 754, 3.4, binary64), or `None` exactly where its size is 2^53 or more.
 pub fn pattern_of(v: i64) -> Option<Pattern>
     ensures some { IfSome result (λ p. IsPatternOf p.0 v) }
     ensures none { IsSome result ↔ HasPattern v }
@@ -88,4 +90,9 @@ fn magnitude_of(size: u64) -> u64
 /// A whole number below 2^53 in size has one pattern, and a pattern is that of at most one whole number.
 pub fn patterns_are_inverse()
     ensures { PatternsAreInverse }
+{}
+
+/// The functions from doubles to whole numbers and back say what the relation says.
+pub fn whole_numbers()
+    ensures { WholeNumbers }
 {}

@@ -129,5 +129,6 @@ fn keeps_names(rt: HostRuntime) -> Result<(), Fail> {
     }
     worked_facts();
     one_shortest_u29();
+    whole_numbers();
     Ok(())
 }

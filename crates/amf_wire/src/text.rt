@@ -12,7 +12,8 @@ pub fn is_amf_text(bytes: &[u8]) -> bool
     first_bad(bytes).is_none()
 }
 
-/// Where the longest front of whole characters ends, or `None` exactly where that is all of `bytes`.
+/// The offset, in bytes from 0, at which the longest front of whole characters ends, or `None` exactly where that is all of
+/// `bytes` (AMF 3 specification, 1.3.2; RFC 3629, section 4).
 pub fn first_bad(bytes: &[u8]) -> Option<usize>
     ensures whole { IsNone result ↔ IsText bytes.now }
     ensures front { IfSome result (λ n. (n < length bytes.now) × EndsText bytes.now n) }

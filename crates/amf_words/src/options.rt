@@ -7,7 +7,9 @@ use clap::error::ErrorKind;
 use clap::{Arg, ArgMatches, Command};
 use std::alloc::{AllocError, Global};
 
-/// What the words give these options, each at most once, as `--x v` or `--x=v`: `None` where they give no such options.
+/// What the words give these options, each at most once, in any order, as `--x=v`, or as `--x v` where v does not begin with
+/// `-`: `None` where they give no such options. The options' names have a byte and no `=`. It gives up where there is no
+/// memory.
 pub fn options_of<'a>(
     alloc: Global,
     name: &'a str,

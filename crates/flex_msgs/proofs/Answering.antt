@@ -15,8 +15,7 @@ use Rattle.flex_msgs.specs.declared.reply.FaultText.{FaultText}
 use Rattle.flex_msgs.specs.Built.{Adds, Syncs}
 use Rattle.flex_msgs.specs.Writing.{Writes, WritesNames, WritesOne, AreValues}
 use Rattle.flex_msgs.specs.Classes.{command_traits, async_traits}
-use Rattle.flex_msgs.specs.Messages.{text_of, client_value, number_value, null_value, reply_values, fault_values, message_node, headers_node, items_node, command_node, common_values, sync_nodes, published_node}
-use Rattle.flex_msgs.specs.Whole.{stamp_of}
+use Rattle.flex_msgs.specs.Messages.{text_of, client_value, number_value, null_value, reply_values, fault_values, message_node, headers_node, items_node, command_node, common_values, sync_nodes, published_node, stamp_of}
 use Rattle.flex_msgs.proofs.Written.{earlier, writes_then, writes_as, after_names, same_nodes, adds}
 
 pub values_push : (a : Arena) (vs ws : List Stored) (f g : Arena → List Value) → AreValues a vs f → AreValues a ws g → AreValues a (vs ++ ws) (λ h. f h ++ g h)

@@ -1,5 +1,4 @@
 -- The definitions that contracts cite.
-pub mod Whole
 pub mod Lookup
 pub mod Classes
 pub mod Asked

@@ -1,9 +1,9 @@
 -- The nodes of messages that are written, by content.
-use Rattle.std.specs.Prelude.{ℕ, suc, List, [], ◌∷◌, ◌++◌, pos}
+use Rattle.std.specs.Prelude.{ℕ, suc, List, [], ◌∷◌, ◌++◌, pos, nat_lt, if◌then◌else◌}
+use Rattle.amf_wire.specs.WholeNumbers.{pattern_of}
 use Rattle.amf_graph.specs.Graph.{Value, leaf, node, null, integer, double, text, Traits, array, object, Node}
 use Rattle.flex_msgs.specs.declared.reply.Reply.{Reply}
 use Rattle.flex_msgs.specs.declared.reply.FaultText.{FaultText}
-use Rattle.flex_msgs.specs.Whole.{stamp_of}
 use Rattle.flex_msgs.specs.Classes.{acknowledge_traits, async_traits, command_traits, error_traits, plain_traits, ds_id_name}
 
 abbrev pub text_of : List ℕ → Value
@@ -19,6 +19,10 @@ client_value (b ∷ x) = text_of (b ∷ x)
 
 abbrev pub number_value : ℕ → Value
 number_value n = leaf (integer (pos n))
+
+-- a moment of 2^53 or more is written as 0
+abbrev pub stamp_of : ℕ → ℕ
+stamp_of moment = pattern_of (if nat_lt moment 9007199254740992 then moment else 0)
 
 -- the eight values that every message has, in the order of its sealed names
 abbrev pub common_values : (body client : Value) (destination : List ℕ) (headers : Value) (message : List ℕ) (moment : ℕ) (correlation : List ℕ) → List Value

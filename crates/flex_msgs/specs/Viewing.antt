@@ -5,7 +5,7 @@ use Rattle.flex_msgs.specs.declared.request.Member.{Member}
 use Rattle.flex_msgs.specs.declared.request.Member.TheVariants as member
 use Rattle.flex_msgs.specs.declared.not_a_message.NotAMessage.{NotAMessage}
 use Rattle.flex_msgs.specs.declared.not_a_message.NotAMessage.TheVariants.{NotObject, NotServed, WrongKind, Memory}
-use Rattle.flex_msgs.specs.Whole.{whole_of}
+use Rattle.amf_wire.specs.WholeNumbers.{whole_of}
 use Rattle.flex_msgs.specs.Lookup.{value_named, members_of, pairs_of}
 use Rattle.flex_msgs.specs.declared.class.Served.{Served}
 use Rattle.flex_msgs.specs.declared.class.Served.TheVariants as served

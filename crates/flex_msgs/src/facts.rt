@@ -1,5 +1,4 @@
 ghost use Rattle.flex_msgs.specs.FlexLaws.{AcknowledgeLaw, AnswersAlike, BatchLaw, DeliveredLaw, ErrorLaw, InvalidateLaw, JoinLaw, PublishedLaw, SyncLaw, ViewLaw};
-ghost use Rattle.flex_msgs.specs.Whole.{WholeNumbers as AreWholeNumbers};
 ghost use Rattle.flex_msgs.specs.WorkedFlex.{FlexRows};
 
 /// Worked facts of messages.
@@ -55,9 +54,4 @@ pub fn answers_alike()
 /// Two graphs that stand apart in one are there as the second behind the first.
 pub fn join_law()
     ensures { JoinLaw }
-{}
-
-/// Whole numbers and their doubles as the definitions of messages compute them are those of amf_wire.
-pub fn whole_numbers()
-    ensures { AreWholeNumbers }
 {}

@@ -2,7 +2,8 @@ ghost use Rattle.std.specs.Prelude.{◌≡◌, ◌<◌, ◌^◌, ℕ, pos};
 ghost use Rattle.amf_graph.specs.declared.value.Value.TheVariants.{Integer};
 ghost use Rattle.amf_graph.specs.Arena.{Arena, value_content};
 ghost use Rattle.flex_msgs.specs.Viewing.{whole_number};
-ghost use Rattle.flex_msgs.specs.Whole.{whole_of, pattern_of, stamp_of};
+ghost use Rattle.amf_wire.specs.WholeNumbers.{whole_of, pattern_of};
+ghost use Rattle.flex_msgs.specs.Messages.{stamp_of};
 
 use amf_graph::Value;
 use amf_wire::{Pattern, pattern_of};

@@ -73,10 +73,10 @@ pub(crate) fn add_command(
     add_message(alloc, builder, Class::Command, &values)
 }
 
-/// Adds an AcknowledgeMessage and gives it.
+/// Adds an AcknowledgeMessage and gives it (the AMF profile of Flex messaging: flex.messaging.messages).
 ///
-/// `Full` comes only where the builder has no room for what is added or a name has more than [`MAX_COUNT`] bytes, and `Memory`
-/// where there is none. After an end the builder is only dropped.
+/// The names are texts, and the values the builder's. `Full` comes only where the builder has no room for what is added or a
+/// name has more than [`MAX_COUNT`] bytes, and `Memory` where there is none. After an end the builder is only dropped.
 pub fn acknowledge(alloc: Global, builder: &mut Builder, reply: &Reply) -> Result<Value, BuildEnd>
     requires reply { IsReply reply.now }
     requires body { Names builder.old reply.now.body }
@@ -90,10 +90,10 @@ pub fn acknowledge(alloc: Global, builder: &mut Builder, reply: &Reply) -> Resul
     add_message(alloc, builder, Class::Acknowledge, &values)
 }
 
-/// Adds an ErrorMessage and gives it. Its body is null.
+/// Adds an ErrorMessage and gives it (the AMF profile of Flex messaging: flex.messaging.messages). Its body is null.
 ///
-/// `Full` comes only where the builder has no room for what is added or a name has more than [`MAX_COUNT`] bytes, and `Memory`
-/// where there is none. After an end the builder is only dropped.
+/// The names are texts, and the values the builder's. `Full` comes only where the builder has no room for what is added or a
+/// name has more than [`MAX_COUNT`] bytes, and `Memory` where there is none. After an end the builder is only dropped.
 pub fn error(
     alloc: Global,
     builder: &mut Builder,
@@ -117,10 +117,11 @@ pub fn error(
     add_message(alloc, builder, Class::Error, &values)
 }
 
-/// Adds the CommandMessage of operation 4, whose body is the array of a batch, and gives it.
+/// Adds the CommandMessage of operation 4, whose body is the array of a batch, and gives it (the AMF profile of Flex messaging:
+/// flex.messaging.messages).
 ///
-/// `Full` comes only where the builder has no room for what is added or a name has more than [`MAX_COUNT`] bytes, and `Memory`
-/// where there is none. After an end the builder is only dropped.
+/// The names are texts, and the values the builder's. `Full` comes only where the builder has no room for what is added or a
+/// name has more than [`MAX_COUNT`] bytes, and `Memory` where there is none. After an end the builder is only dropped.
 pub fn sync(
     alloc: Global,
     builder: &mut Builder,
@@ -139,10 +140,11 @@ pub fn sync(
     add_command(alloc, builder, reply, 4, body, headers)
 }
 
-/// Adds the CommandMessage of operation 10, by which a subscription ends, and gives it. Its body is null.
+/// Adds the CommandMessage of operation 10, by which a subscription ends, and gives it (the AMF profile of Flex messaging:
+/// flex.messaging.messages). Its body is null.
 ///
-/// `Full` comes only where the builder has no room for what is added or a name has more than [`MAX_COUNT`] bytes, and `Memory`
-/// where there is none. After an end the builder is only dropped.
+/// The names are texts, and the values the builder's. `Full` comes only where the builder has no room for what is added or a
+/// name has more than [`MAX_COUNT`] bytes, and `Memory` where there is none. After an end the builder is only dropped.
 pub fn invalidate(alloc: Global, builder: &mut Builder, reply: &Reply) -> Result<Value, BuildEnd>
     requires reply { IsReply reply.now }
     ensures ok { IfOk result (λ v. Invalidates reply.now builder.old builder.new v) }

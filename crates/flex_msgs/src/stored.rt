@@ -18,10 +18,10 @@ use amf_graph::{BuildEnd, Builder, NodeView, Rooted, Value};
 use amf_wire::{Memory, Name};
 use std::alloc::Global;
 
-/// Adds the AsyncMessage that is stored of a message that is published, and gives it: with copies of the body and of the headers,
-/// what they share kept.
+/// Adds the AsyncMessage that is stored of a message that is published (the AMF profile of Flex messaging:
+/// flex.messaging.messages), and gives it: with copies of the body and of the headers, what they share kept.
 ///
-/// `Full` comes only where the builder has no room for what is added or a name has more than [`MAX_COUNT`] bytes, and `Memory`
+/// The names are texts, and the values the graph's. `Full` comes only where the builder has no room for what is added or a name has more than [`MAX_COUNT`] bytes, and `Memory`
 /// where there is none. After an end the builder is only dropped.
 pub fn published(
     alloc: Global,
@@ -58,7 +58,8 @@ pub fn published(
     add_message(alloc, builder, Class::Async, &values)
 }
 
-/// Whether the root of a graph is a stored message: an object with the traits of an AsyncMessage, as [`published`] adds it.
+/// Whether the root of a graph is a stored message: an object with the traits of an AsyncMessage, as [`published`] adds it (the
+/// AMF profile of Flex messaging: flex.messaging.messages).
 pub fn is_stored(graph: &Rooted) -> bool
     ensures { IsTrue result ↔ IsStored graph.now }
 {
@@ -92,9 +93,10 @@ fn other_members(alloc: Global, stored: &Rooted) -> Result<Vec<Value>, Memory>
     Ok(others)
 }
 
-/// Adds a stored message as it is delivered, and gives it: with copies of its values, and with this client.
+/// Adds a stored message as it is delivered, and gives it: with copies of its values, and with this client (the AMF profile of
+/// Flex messaging: flex.messaging.messages).
 ///
-/// `Full` comes only where the builder has no room for what is added or the client has more than [`MAX_COUNT`] bytes, and `Memory`
+/// The client is a text. `Full` comes only where the builder has no room for what is added or the client has more than [`MAX_COUNT`] bytes, and `Memory`
 /// where there is none. After an end the builder is only dropped.
 pub fn delivered(
     alloc: Global,

@@ -304,3 +304,33 @@ fn other_graphs_are_no_messages(rt: HostRuntime) -> Result<(), Fail> {
     assert_eq!(rt; view(alloc, &graph).err(), Some(NotAMessage::NotObject));
     Ok(())
 }
+
+#[test]
+fn says_why(rt: HostRuntime) -> Result<(), Fail> {
+    for (end, words) in [
+        (NotAMessage::NotObject, "no object"),
+        (NotAMessage::NotServed, "a class that is not served"),
+        (
+            NotAMessage::WrongKind(Member::DsId),
+            "DSId is of another kind",
+        ),
+        (NotAMessage::Memory, "no memory"),
+    ] {
+        let said = format!(in rt.alloc(); "{end}")?;
+        assert_eq!(rt; said.as_str(), words);
+    }
+    for (member, words) in [
+        (Member::Headers, "headers"),
+        (Member::DsId, "DSId"),
+        (Member::DsSubtopic, "DSSubtopic"),
+        (Member::Destination, "destination"),
+        (Member::MessageId, "messageId"),
+        (Member::ClientId, "clientId"),
+        (Member::CorrelationId, "correlationId"),
+        (Member::Operation, "operation"),
+    ] {
+        let said = format!(in rt.alloc(); "{member}")?;
+        assert_eq!(rt; said.as_str(), words);
+    }
+    Ok(())
+}

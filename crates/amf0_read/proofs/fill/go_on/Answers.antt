@@ -1,8 +1,8 @@
-use Rattle.std.proofs.Common.{◌≡◌, suc, ◌-◌, true, false, eqb, length, Ok, refl, sym, ap, ◌∙◌, subst, arith}
+use Rattle.std.proofs.Common.{◌≡◌, suc, ◌-◌, true, false, eqb, length, Ok, refl, sym, ap, ◌∙◌, subst, arith, Some}
 use Rattle.std.proofs.lemmas.Grind.{common_steps}
 use Rattle.amf_graph.specs.Arena.{head_content, text_at}
 use Rattle.amf_graph.specs.Building.{stored_at}
-use Rattle.amf3_read.specs.Ready.{left_of}
+use Rattle.amf3_read.specs.Answer.{left_of}
 use Rattle.amf0_tables.specs.TableParts0.{shown_tables}
 use Rattle.amf0_tables.specs.Parts0.{is_empty}
 use Rattle.amf0_tables.specs.Layout0State.{state0_of}
@@ -10,7 +10,6 @@ use Rattle.amf0_tables.specs.Layout0.{value0_layout}
 use Rattle.amf0_read.specs.declared.frame.Todo.TheVariants.{Items, Pairs}
 use Rattle.amf0_read.specs.declared.frame.Slot.TheVariants.{Item, Named}
 use Rattle.amf0_read.specs.declared.fill.Step.TheVariants as step
-use Rattle.amf0_read.specs.Markers0.{form, form_or_end}
 use Rattle.amf0_read.specs.Frames0.{todo, Lacks, GoesOn}
 use Rattle.amf0_read.proofs.GoesOn0.{item_goes, item_ends, name_ends, pair_goes, pair_ends, pairs_closed, items_closed}
 use Rattle.amf0_read.proofs.TextReads0.{name_kept, name_waits}
@@ -138,7 +137,7 @@ returns-then-not-is_empty-clause-answers g c = λ f lt.
     let m = c.in_ok-marker-in-Pairs.ensures in
     let w = c.in_ok-marker-in-Pairs.marker in
     subst (λ p. GoesOn S.tells S.left (todo (value0_layout f.values) f.pairs i p (state0_of a t)) i (state0_of y t) k h (Ok (step.Wait (Named x) w))) (sym is)
-    (pair_goes S.tells S.left S.faults i a y t k d x e.goes (e.answers t c.requires.ready.amf3.tables) false named h (let p = e.goes.same_bound in let q = e.moves in let r = m.moves in let s = m.goes.same_bound in let w = m.placed.within in omega arith) form w w refl m.answers f lt)
+    (pair_goes S.tells S.left S.faults i a y t k d x e.goes (e.answers t c.requires.ready.amf3.tables) false named h (let p = e.goes.same_bound in let q = e.moves in let r = m.moves in let s = m.goes.same_bound in let w = m.placed.within in omega arith) (λ m. Some m) w w refl m.answers f lt)
 
 pub returns-then-not-is_empty-clause-kept : goal.returns-then-not-is_empty-clause-kept
 returns-then-not-is_empty-clause-kept g c =
@@ -176,7 +175,7 @@ returns-in-Some-clause-answers g c = λ f lt.
     let m = c.in_ok-marker-in-Pairs-2.ensures in
     let w = c.in-Some.marker in
     subst (λ p. GoesOn S.tells S.left (todo (value0_layout f.values) f.pairs i p (state0_of a t)) i (state0_of y t) k h (Ok (step.Wait (Named x) w))) (sym is)
-    (pair_goes S.tells S.left S.faults i a y t k d x e.goes (e.answers t c.requires.ready.amf3.tables) true named h (let p = e.goes.same_bound in let q = e.moves in let r = m.moves in let s = m.goes.same_bound in let w = m.placed.within in omega arith) form_or_end c.in_ok-marker-in-Pairs-2.field-0 w (ap form_or_end c.in-Some.is) m.answers f lt)
+    (pair_goes S.tells S.left S.faults i a y t k d x e.goes (e.answers t c.requires.ready.amf3.tables) true named h (let p = e.goes.same_bound in let q = e.moves in let r = m.moves in let s = m.goes.same_bound in let w = m.placed.within in omega arith) (λ m. m) c.in_ok-marker-in-Pairs-2.field-0 w (ap (λ m. m) c.in-Some.is) m.answers f lt)
 
 pub returns-in-Some-clause-kept : goal.returns-in-Some-clause-kept
 returns-in-Some-clause-kept g c =

@@ -1,8 +1,8 @@
-use Rattle.std.proofs.Common.{rules, ◌≡◌, true, false, [], ◌∷◌, List, reverse, sym, ap, ◌∙◌, subst, arith}
+use Rattle.std.proofs.Common.{rules, ◌≡◌, true, false, [], ◌∷◌, List, reverse, sym, ap, ◌∙◌, subst, arith, Some}
 use Rattle.amf0_tables.specs.TableParts0.{shown_tables}
 use Rattle.amf0_tables.specs.Layout0State.{state0_of}
-use Rattle.amf0_tables.specs.Layout0.{behind0, value0_layout, strict}
-use Rattle.amf3_read.specs.Ready.{left_of}
+use Rattle.amf0_tables.specs.Layout0.{behind0, value0_layout}
+use Rattle.amf3_read.specs.Answer.{left_of}
 use Rattle.amf0_read.specs.declared.frame.Frame.{Frame}
 use Rattle.amf0_read.specs.declared.frame.Now.TheVariants as now
 use Rattle.amf0_read.specs.declared.frame.Todo.TheVariants.{Items}
@@ -14,8 +14,8 @@ use Rattle.amf0_read.proofs.FrontStarts0.{front_ended, items_open, item_not, ite
 use Rattle.amf0_read.proofs.NodeStarts0.{array_kept, array_items}
 use Rattle.amf0_read.specs.declared.node.Start.TheVariants as start
 use denote.Enum.Bare.{same_true, sameb}
-use Rattle.amf0_read.specs.declared.marker.Marker.TheVariants as marker
-use Rattle.amf0_read.specs.contracts.marker.Marker.{the_type}
+use Rattle.amf0_tables.specs.declared.marker.Marker0.TheVariants as marker
+use Rattle.amf0_tables.specs.contracts.marker.Marker0.{the_type}
 use Rattle.amf0_read.proofs.front.read_items.Goals as goal
 
 pub returns-then-count-ne1-clause-leads : goal.returns-then-count-ne1-clause-leads
@@ -28,7 +28,7 @@ returns-then-count-ne1-clause-leads g c = λ n lt.
     let count = c.in_ok-count.count in
     let node = c.in_ok-node.node in
     let o = c.in_ok-node.ensures.ok in
-    subst (λ (fs : List Frame). BeginsBy S.tells S.left (behind0 (value0_layout n) n (state0_of a t) strict) (0x0A ∷ []) false (now.Open node (Items count)) (reverse fs) (state0_of b u) k d) (sym c.new.ensures.items)
+    subst (λ (fs : List Frame). BeginsBy S.tells S.left (behind0 (value0_layout n) n (state0_of a t) (Some marker.Strict)) (0x0A ∷ []) false (now.Open node (Items count)) (reverse fs) (state0_of b u) k d) (sym c.new.ensures.items)
     (items_open S.tells S.left S.faults a b t u k d node c.requires o count h.goes h.answers c.if-count-ne1.true n lt)
 
 pub returns-then-count-ne1-clause-kept : goal.returns-then-count-ne1-clause-kept
@@ -69,7 +69,7 @@ returns-in_err-item-clause-leads g c = λ n lt.
     let e = c.read_marker.new.cursor in
     let one : count ≡ 1 = omega arith in
     let end = c.in_err-item.field-0.0 in
-    front_ended S.tells S.left S.faults (behind0 (value0_layout n) n (state0_of a t) strict) (0x0A ∷ []) (state0_of b u) k e c.from_residual-in_err-item.result end c.from_residual-in_err-item.ensures.1
+    front_ended S.tells S.left S.faults (behind0 (value0_layout n) n (state0_of a t) (Some marker.Strict)) (0x0A ∷ []) (state0_of b u) k e c.from_residual-in_err-item.result end c.from_residual-in_err-item.ensures.1
     (item_not S.tells S.left S.faults a b t u k d node c.requires o count h.goes h.answers one e end c.in_err-item.ensures.answers n lt)
 
 pub returns-clause-leads : goal.returns-clause-leads
@@ -86,7 +86,7 @@ returns-clause-leads g c = λ n lt.
     let one : count ≡ 1 = omega arith in
     let m = c.in_ok-item.item in
     let w = c.in_ok-item.ensures in
-    subst (λ (fs : List Frame). BeginsBy S.tells S.left (behind0 (value0_layout n) n (state0_of a t) strict) (0x0A ∷ []) c.eq.result (now.Begun m) fs (state0_of b u) k e) (sym (pushed c.push.new.self.items c.new-frames.result.items c.push.result c.in_ok-push.field-0 (record { node = node; slot = Item 0 }) c.in_ok-push.was c.push.ensures.items ∙ ap (λ (l : List Frame). (let f : Frame = record { node = node; slot = Item 0 } in f) ∷ reverse l) c.new-frames.ensures.items))
+    subst (λ (fs : List Frame). BeginsBy S.tells S.left (behind0 (value0_layout n) n (state0_of a t) (Some marker.Strict)) (0x0A ∷ []) c.eq.result (now.Begun m) fs (state0_of b u) k e) (sym (pushed c.push.new.self.items c.new-frames.result.items c.push.result c.in_ok-push.field-0 (record { node = node; slot = Item 0 }) c.in_ok-push.was c.push.ensures.items ∙ ap (λ (l : List Frame). (let f : Frame = record { node = node; slot = Item 0 } in f) ∷ reverse l) c.new-frames.ensures.items))
     (item_begins S.tells S.left S.faults a b t u k d node c.requires o count h.goes h.answers one e m w.answers (let p = w.goes.same_bound in let q = w.moves in let r = w.placed.within in omega arith) c.eq.result (λ h. same_true the_type (search rules) m marker.Switch (sym c.eq.ensures ∙ h)) (λ h s. let x : c.eq.result ≡ true = c.eq.ensures ∙ ap (λ v. sameb the_type v marker.Switch) s in cc) n lt)
 
 pub returns-clause-kept : goal.returns-clause-kept

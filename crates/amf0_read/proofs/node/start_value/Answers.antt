@@ -14,7 +14,7 @@ use Rattle.amf0_tables.specs.TableParts0.{shown_tables}
 use Rattle.amf0_tables.specs.Layout0.{TextRead0, new_text0, read0, short_layout, long_layout, with_members}
 use Rattle.amf0_tables.specs.Layout0State.{State0, state0_of}
 use Rattle.amf0_read.specs.declared.frame.Todo.TheVariants.{Pairs}
-use Rattle.amf0_read.specs.declared.marker.Marker.TheVariants as marker
+use Rattle.amf0_tables.specs.declared.marker.Marker0.TheVariants as marker
 use Rattle.amf0_read.specs.declared.node.Start.TheVariants as start
 use Rattle.amf0_read.specs.Leaves0.{place_layout}
 use Rattle.amf0_read.specs.Ready0.{text_read}

@@ -1,7 +1,7 @@
 use Rattle.std.proofs.Common.{Result, refl, sym, subst, arith}
 use Rattle.amf_io.specs.declared.ends.ReadEnd.{ReadEnd}
 use Rattle.amf_io.specs.Cursor.{source_of, place, bound, unread}
-use Rattle.amf_io.specs.CursorReads.{Goes}
+use Rattle.amf_io.specs.ReadEnds.{Goes}
 use Rattle.amf_graph.specs.Rooted.{RootedArena}
 use Rattle.amf_packet.specs.declared.packet.Packet.{Packet as KeptPacket}
 use Rattle.amf_packet.specs.Content.{packet_of}

@@ -1,6 +1,7 @@
 -- The function is what amf_wire answers.
 use Rattle.std.proofs.Common.{◌<◌, ◌^◌, rules}
-use Rattle.amf_service.proofs.WholeNumbers.{answered, bounded}
+use Rattle.amf_wire.proofs.WholeNumbers.{answered}
+use Rattle.amf_service.proofs.WholeNumbers.{bounded}
 use Rattle.amf_service.proofs.number.whole_of.Goals as goal
 
 pub returns-clause-value : goal.returns-clause-value

@@ -7,7 +7,7 @@ use Rattle.amf_graph.specs.Graph.{leaf, double, Graph}
 use Rattle.amf_graph.specs.Rooted.{RootedArena, content}
 use Rattle.amf_service.specs.Meaning.{result, fault, given}
 use Rattle.amf_service.specs.Shipped.{number_graph, summed_total, size_of, too_large}
-use Rattle.amf_service.specs.Whole.{signed_pattern}
+use Rattle.amf_wire.specs.WholeNumbers.{signed_pattern}
 use Rattle.amf_service.proofs.Answering.{faulted, large_is_fault}
 use Rattle.amf_service.proofs.Lawful.{leaf_alike}
 use Rattle.amf_service.proofs.sum.summed.Goals as goal

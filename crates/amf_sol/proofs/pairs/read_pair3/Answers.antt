@@ -1,7 +1,7 @@
 use Rattle.std.proofs.Common.{◌≡◌, ◌≤◌, sym, ap, ◌∙◌, subst, arith}
 use Rattle.amf_graph.specs.declared.part.Part.TheVariants.{Named}
 use Rattle.amf_graph.specs.Building.{changed, more_part, stored_at, HasRoom}
-use Rattle.amf3_read.specs.Ready.{left_of}
+use Rattle.amf3_read.specs.Answer.{left_of}
 use Rattle.amf3_read.proofs.LayoutBinds.{passed_on}
 use Rattle.amf3_read.proofs.Stack.{done}
 use Rattle.amf_sol.proofs.HolderPut.{holder_room}

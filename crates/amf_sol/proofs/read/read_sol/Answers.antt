@@ -1,5 +1,5 @@
 use Rattle.std.proofs.Common.{sym, subst, arith}
-use Rattle.amf3_read.specs.Answer.{between}
+use Rattle.amf_io.specs.Stretch.{between}
 use Rattle.amf_sol.specs.FileAnswer.{IsFileTaken}
 use Rattle.amf_sol.specs.StoredFile.{StoredFile}
 use Rattle.amf_sol.proofs.FileAnswers.{length_sized, file_passed, length_end, rest_end, pairs_end, file_came, file_taken, file_other, name_text, name_short}

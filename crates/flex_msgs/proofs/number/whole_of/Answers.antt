@@ -1,6 +1,6 @@
 -- The function is what amf_wire answers.
 use Rattle.std.proofs.Common.{◌<◌, ◌^◌, rules}
-use Rattle.flex_msgs.proofs.WholeNumbers.{answered}
+use Rattle.amf_wire.proofs.WholeNumbers.{answered}
 use Rattle.flex_msgs.proofs.number.whole_of.Goals as goal
 
 pub returns : goal.returns

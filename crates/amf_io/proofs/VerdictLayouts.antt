@@ -17,7 +17,7 @@ use Rattle.amf_io.proofs.Paths.{flat-append, runs_run}
 use Rattle.amf_io.proofs.Readings.{read_took, read_bad, read_short, read_stuck, cut_from}
 use Rattle.amf_io.proofs.Unique.{fault_run}
 use Rattle.amf_io.proofs.Verdicts.{short_run, more_fuel, not_stuck}
-use Rattle.amf3_read.specs.Answer.{IsTaken, AnswersOf, stretch}
+use Rattle.amf_io.specs.Stretch.{IsTaken, AnswersOf, stretch}
 
 module _ {Y : Type 0} (t : ℕ → Layout Y) (P : List Field → Type 0) (g : IsLayout t P) (bytes : (fs : List Field) → P fs → AreBytes (flat fs)) where
   -- with more fuel than bytes the layout says what it says with much fuel

@@ -13,9 +13,9 @@ use Rattle.amf_io.proofs.Bytes.{bytes_take, bytes_taken}
 use Rattle.amf_io.proofs.Paths.{flat-append}
 use Rattle.amf_io.proofs.Stops.{run_done}
 use Rattle.amf_io.proofs.Verdicts as verdicts
-use Rattle.amf_sol.specs.Repeated.{after_head, IsRepeated, AnyNumber, IsJudgedToEnd, IsJudgedOnceToEnd}
-use Rattle.amf_sol.proofs.Repeats.{fewer_first, parts_few, one_tree}
-use Rattle.amf_sol.proofs.TreeVerdicts as tree
+use Rattle.amf_io.specs.Repeated.{after_head, IsRepeated, AnyNumber, IsJudgedToEnd, IsJudgedOnceToEnd}
+use Rattle.amf_io.proofs.Repeats.{fewer_first, parts_few, one_tree}
+use Rattle.amf_io.proofs.TreeVerdicts as tree
 
 -- a field is not whole where nothing is left
 pub none_whole : (k : Kind) → whole k.size [] ≡ None
