@@ -22,6 +22,7 @@ mod rooted;
 mod shape;
 mod stand_ins;
 mod store;
+mod text_ranks;
 mod uses;
 mod value;
 mod views;

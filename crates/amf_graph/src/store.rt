@@ -1,5 +1,7 @@
 ghost use Rattle.std.specs.Prelude.{[], ◌≡◌, ◌<◌, ◌≤◌, length, map, slice_get, get_or, false, IfOk, OnOk, OnErr, IsErrOf, MatchOption, Some};
 ghost use Rattle.std.specs.List.{AllByRecursion, AllZip};
+ghost use Rattle.std.specs.Cmp.Lexicographic.{slice_cmp};
+ghost use Rattle.std.specs.Ordering.{nat_cmp};
 ghost use Rattle.amf_graph.specs.Arena.{text_at, no_traits, HeadNames, IsNodeIn, IsBuilt};
 ghost use Rattle.amf_graph.specs.Building.{no_arena, no_stored, kept_text, kept_traits, kept_node, stored_traits, stored_at, changed, more_part, shut, closed, leaf_head, kind_of, size_of, IsFirstOpen};
 ghost use Rattle.amf_graph.specs.Bodies.{TakesPart, body_node};
@@ -17,6 +19,7 @@ use crate::stand_ins::{opened_classes, stand_in_nodes};
 use crate::{Leaf, NodeId, NodeKind, NodeView, Part, TextId, TraitsId, TraitsView, Value};
 use amf_wire::{Memory, Name};
 use std::alloc::Global;
+use std::cmp::Ordering;
 use std::marker::Model;
 
 /// Texts, traits and nodes by their places.
@@ -33,6 +36,16 @@ impl Model for Store {
     ghost Value = { Arena };
 
     ghost view = { λ s. record { texts = s.texts.items; traits = s.traits.items; nodes = s.nodes.items } };
+}
+
+/// The bytes of a text, or none where there is no such text.
+fn bytes_at(texts: &[Name], text: TextId) -> &[u8]
+    ensures { result.now ≡ get_or texts.now text.0 [] }
+{
+    match texts.get(text.0 as usize) {
+        Some(name) => name.as_bytes(),
+        None => &[],
+    }
 }
 
 impl Store {
@@ -149,6 +162,13 @@ impl Store {
         ensures { result.now ≡ text_at self.now text.0 }
     {
         self.texts[text.0 as usize].as_bytes()
+    }
+
+    /// How two texts stand to one another by their bytes. A place with no text counts as an empty one.
+    pub(crate) fn compare_texts(&self, x: TextId, y: TextId) -> Ordering
+        ensures { result ≡ slice_cmp nat_cmp (text_at self.now x.0) (text_at self.now y.0) }
+    {
+        bytes_at(&self.texts, x).cmp(bytes_at(&self.texts, y))
     }
 
     pub(crate) fn traits(&self, traits: TraitsId) -> TraitsView<'_>
