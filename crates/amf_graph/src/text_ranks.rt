@@ -38,11 +38,7 @@ fn long_texts(alloc: Global, store: &Store) -> Result<Vec<TextId>, Memory>
 }
 
 /// By text its rank, of texts that are sorted by their bytes.
-fn ranks_of(
-    alloc: Global,
-    store: &Store,
-    sorted: &[TextId],
-) -> Result<Vec<Option<u32>>, Memory>
+fn ranks_of(alloc: Global, store: &Store, sorted: &[TextId]) -> Result<Vec<Option<u32>>, Memory>
     requires there { AllByRecursion (λ x. IsTextId store.now x.0) sorted.now }
     requires sorted { IsSortedBy (text_before store.now) sorted.now }
     requires few { length sorted.now < count_end }

@@ -34,10 +34,10 @@ loop-text-preserved c =
     let up : is_lt (bytes_cmp next last) ≡ false = subst (λ w. is_lt (bytes_cmp w last) ≡ false) (sym is) (h.risen d within) in
     let got : c.is_lt.result ≡ is_lt (bytes_cmp last next) = c.is_lt.ensures ∙ ap is_lt c.cmp.ensures in
     let ranked : RankedTo a.texts ranks next c.if-is_lt.rank =
-        elim c.if-is_lt.branch [
-          | then-is_lt w ↦ subst (RankedTo a.texts ranks next) (sym w.rank-is) (rank_more a.texts ranks last next c.loop-text.rank (sym got ∙ w.if-is_lt.true) h.ranked)
-          | else-is_lt w ↦ subst (RankedTo a.texts ranks next) (sym w.rank-is) (rank_kept a.texts ranks last next c.loop-text.rank (sym got ∙ w.if-is_lt.false) up h.ranked)
-        ]
+    elim c.if-is_lt.branch [
+      | then-is_lt w ↦ subst (RankedTo a.texts ranks next) (sym w.rank-is) (rank_more a.texts ranks last next c.loop-text.rank (sym got ∙ w.if-is_lt.true) h.ranked)
+      | else-is_lt w ↦ subst (RankedTo a.texts ranks next) (sym w.rank-is) (rank_kept a.texts ranks last next c.loop-text.rank (sym got ∙ w.if-is_lt.false) up h.ranked)
+    ]
     in
     let room : k < length ranks = subst (λ n. k < n) (sym h.count) there in
     let entered : RankedTo a.texts (set ranks k (Some c.if-is_lt.rank)) (text_at a k) c.if-is_lt.rank = rank_entered a.texts ranks k c.if-is_lt.rank room (subst (λ w. RankedTo a.texts ranks w c.if-is_lt.rank) is ranked) in
