@@ -17,7 +17,7 @@ use Rattle.amf_graph.specs.declared.value.TextId.{TextId}
 use Rattle.amf_graph.specs.Arena.{Arena, text_at, IsTextId}
 use Rattle.amf_graph.specs.TextRanks.{text_before, AreRanks}
 use Rattle.amf_graph.proofs.Placing.{set_at, set_elsewhere}
-use Rattle.amf_graph.proofs.StableSort.{stable_sort_is, sort_all, sort_length}
+use Rattle.amf_graph.proofs.StableSort.{stable_sort_is, sort_all}
 
 -- two texts by their bytes
 abbrev pub bytes_cmp : List ℕ → List ℕ → Ordering

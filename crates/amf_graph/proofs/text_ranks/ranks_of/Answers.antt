@@ -1,5 +1,5 @@
 -- A text is entered at its rank, and none before it has a rank behind.
-use Rattle.std.proofs.Common.{rules, ◌≡◌, ◌<◌, ◌≤◌, ◌+◌, true, false, [], length, get_or, set, Some, sym, ap, ◌∙◌, subst, arith}
+use Rattle.std.proofs.Common.{rules, ◌≡◌, ◌<◌, ◌+◌, false, [], length, get_or, set, Some, sym, ap, ◌∙◌, subst, arith}
 use Rattle.std.proofs.lemmas.List.{length-set}
 use Rattle.std.specs.Ordering.{is_lt}
 use Rattle.amf_graph.specs.declared.value.TextId.{TextId}

@@ -1,5 +1,5 @@
 -- Texts that are sorted get their ranks in order.
-use Rattle.std.proofs.Common.{rules, length, sym, subst, arith}
+use Rattle.std.proofs.Common.{rules, sym, subst}
 use Rattle.std.proofs.lemmas.Fn.{always_returns_same}
 use Rattle.std.specs.List.{AllByRecursion}
 use Rattle.std.specs.List.Sorted.{IsSortedBy}
