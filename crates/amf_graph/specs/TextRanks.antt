@@ -1,4 +1,4 @@
--- The order of long texts, by numbers.
+-- The order of long names, by numbers. A device of proofs.
 use Rattle.std.specs.Prelude.{◌≡◌, ℕ, Bool, List, [], get_or, slice_get, Option, Some}
 use Rattle.std.specs.Cmp.Lexicographic.{slice_cmp}
 use Rattle.std.specs.Ordering.{is_lt, nat_cmp}

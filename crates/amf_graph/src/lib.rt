@@ -12,6 +12,7 @@ mod kind;
 mod lack;
 mod leaf;
 mod limits;
+mod name_marks;
 mod node;
 mod number_set;
 mod part;

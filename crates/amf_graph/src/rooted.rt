@@ -27,7 +27,7 @@ use std::marker::Model;
 pub struct Rooted {
     store: Store,
     root: Value,
-    /// Those of its long texts.
+    /// Those of its long names.
     ranks: TextRanks,
 }
 
@@ -133,9 +133,9 @@ impl Rooted {
         self.store.text(text)
     }
 
-    /// How two texts stand to one another by their bytes. However long they are, it takes no longer than for texts of 64
-    /// bytes, but where there was no memory for the order of the long texts when the graph was made. A place with no text
-    /// counts as an empty one.
+    /// How two texts stand to one another by their bytes. For names of pairs and of sealed members it goes through 64 bytes
+    /// at most, however long they are, but where there was no memory for the order of long names when the graph was made.
+    /// A place with no text counts as an empty one.
     pub fn compare_texts(&self, x: TextId, y: TextId) -> Ordering
         ensures { result ≡ slice_cmp nat_cmp (text_at self.now.arena x.0) (text_at self.now.arena y.0) }
     {

@@ -1,4 +1,4 @@
-//! The order of long texts.
+//! The order of long names.
 
 ghost use Rattle.std.specs.Prelude.{◌≡◌, ◌<◌, ◌≤◌, length, slice_get, Some, IfOk, IfSome};
 ghost use Rattle.std.specs.List.{AllByRecursion};
@@ -13,24 +13,25 @@ use crate::store::Store;
 use amf_wire::Memory;
 use std::alloc::Global;
 
-/// The ranks of long texts: two of them stand to one another by their bytes as their ranks. All texts of more than
-/// [`MAX_COMPARED`] bytes have ranks, or none has.
+/// The ranks of long names: two of them stand to one another by their bytes as their ranks. All names of pairs and of sealed
+/// members that have more than [`MAX_COMPARED`] bytes have ranks, or none has.
 #[derive(Drop)]
 pub(crate) struct TextRanks {
     /// By text its rank, where it has one. Empty where no text has one.
     by_text: Vec<Option<u32>>,
 }
 
-/// The texts that are long.
-fn long_texts(alloc: Global, store: &Store) -> Result<Vec<TextId>, Memory>
-    requires { length store.now.texts < count_end }
+/// The long texts among those that are marked.
+fn long_texts(alloc: Global, store: &Store, marks: &[bool]) -> Result<Vec<TextId>, Memory>
+    requires all { length marks.now ≡ length store.now.texts }
+    requires few { length store.now.texts < count_end }
     ensures there { IfOk result (λ long. AllByRecursion (λ x. IsTextId store.now x.0) long.items) }
     ensures few { IfOk result (λ long. length long.items ≤ length store.now.texts) }
 {
     let mut long = Vec::new(alloc);
-    for place in 0..store.text_count() {
+    for (place, mark) in marks.iter().enumerate() {
         let text = TextId(place as u32);
-        if store.text(text).len() > MAX_COMPARED {
+        if *mark && store.text(text).len() > MAX_COMPARED {
             long.push(text)?;
         }
     }
@@ -68,12 +69,16 @@ impl TextRanks {
         }
     }
 
-    /// The ranks of the long texts.
+    /// The ranks of the long names.
     fn made(alloc: Global, store: &Store) -> Result<TextRanks, Memory>
         requires { length store.now.texts < count_end }
         ensures { IfOk result (λ ranks. AreRanks store.now.texts ranks.by_text.items) }
     {
-        let mut long = long_texts(alloc, store)?;
+        if !store.has_long_text() {
+            return Ok(TextRanks::none(alloc));
+        }
+        let marks = store.marked_names(alloc)?;
+        let mut long = long_texts(alloc, store, &marks)?;
         if long.is_empty() {
             return Ok(TextRanks::none(alloc));
         }
@@ -82,7 +87,7 @@ impl TextRanks {
         Ok(TextRanks { by_text })
     }
 
-    /// The ranks of the long texts. Where there is no memory for them, no text has one.
+    /// The ranks of the long names. Where there is no memory for them, no text has one.
     pub(crate) fn of(alloc: Global, store: &Store) -> TextRanks
         requires { length store.now.texts < count_end }
         ensures { AreRanks store.now.texts result.by_text.items }
