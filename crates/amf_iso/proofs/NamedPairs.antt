@@ -51,22 +51,22 @@ module _ {X Y : Type 0} (f : X → Y) (less : Y → Y → Bool) where
   sort_map (x ∷ xs) = insert_map x (stable_sort (λ x y. less (f x) (f y)) xs) ∙ ap (λ w. insert_stable less (f x) w) (sort_map xs)
 
 module _ (a : Arena) where
-  abbrev content : TextId × Stored → List ℕ × Value
-  content p = (text_at a p.0.0, value_content a p.1)
+  abbrev pub stored_content : TextId × Stored → List ℕ × Value
+  stored_content p = (text_at a p.0.0, value_content a p.1)
 
-  contents : (ps : List (TextId × Stored)) → map content ps ≡ pairs_of a ps
+  contents : (ps : List (TextId × Stored)) → map stored_content ps ≡ pairs_of a ps
   contents [] = refl
-  contents (p ∷ ps) = ap (λ w. content p ∷ w) (contents ps)
+  contents (p ∷ ps) = ap (λ w. stored_content p ∷ w) (contents ps)
 
   abbrev pub precedes : TextId × Stored → TextId × Stored → Bool
-  precedes p q = before (content p) (content q)
+  precedes p q = before (stored_content p) (stored_content q)
 
   pub ranks : IsStrictWeakOrder precedes
   ranks = ranks_by nat_list_cmp_total (λ (p : TextId × Stored). text_at a p.0.0)
 
   pub sorted_content : (xs ys : List (TextId × Stored)) → IsSortedBy precedes ys → IsStableBy precedes xs ys → pairs_of a ys ≡ by_name (pairs_of a xs)
   sorted_content xs ys s t =
-      sym (contents ys) ∙ ap (map content) (stable_sort_is precedes ranks xs ys s t) ∙ sort_map content before xs ∙ ap by_name (contents xs)
+      sym (contents ys) ∙ ap (map stored_content) (stable_sort_is precedes ranks xs ys s t) ∙ sort_map stored_content before xs ∙ ap by_name (contents xs)
 
   abbrev IsPair : TextId × Stored → Type 0
   IsPair p = IsTextId a p.0.0 × Names a p.1
