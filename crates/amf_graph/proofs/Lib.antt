@@ -29,6 +29,7 @@ pub mod Pairing
 pub mod Behind
 pub mod Matched
 pub mod Placing
+pub mod Ranks
 pub mod Gathering
 pub mod Weights
 pub mod KeptBuilt

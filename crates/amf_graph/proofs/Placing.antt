@@ -12,12 +12,12 @@ use Rattle.amf_graph.proofs.Lists.{at_left, at_end, at_push}
 use Rattle.amf_graph.proofs.PlaceOf.{place_there, place_absent, few_distinct}
 use Rattle.amf_graph.specs.Gather.{ArePlaces, with_entry}
 
-set_at : {X : Type 0} (xs : List X) (i : ℕ) (x y : X) → slice_get xs i ≡ Some x → slice_get (set xs i y) i ≡ Some y
+pub set_at : {X : Type 0} (xs : List X) (i : ℕ) (x y : X) → slice_get xs i ≡ Some x → slice_get (set xs i y) i ≡ Some y
 set_at [] i x y e = cc
 set_at (z ∷ xs) zero x y e = refl
 set_at (z ∷ xs) (suc i) x y e = set_at xs i x y e
 
-set_elsewhere : {X : Type 0} (xs : List X) (i j : ℕ) (y : X) → (j ≡ i → ⊥) → slice_get (set xs i y) j ≡ slice_get xs j
+pub set_elsewhere : {X : Type 0} (xs : List X) (i j : ℕ) (y : X) → (j ≡ i → ⊥) → slice_get (set xs i y) j ≡ slice_get xs j
 set_elsewhere [] i j y n = refl
 set_elsewhere (z ∷ xs) zero zero y n = absurd (n refl)
 set_elsewhere (z ∷ xs) zero (suc j) y n = refl

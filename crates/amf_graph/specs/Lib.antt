@@ -26,3 +26,4 @@ pub mod Bodies
 pub mod Gather
 pub mod Copying
 pub mod HaveStandIns
+pub mod TextRanks

@@ -4,6 +4,7 @@ ghost use Rattle.amf_graph.specs.Bounds.{parts_of, items_of, count_end};
 ghost use Rattle.amf_graph.specs.Building.{kind_of, shape_head};
 ghost use Rattle.amf_graph.specs.Bodies.{body_head, body_names, body_values, TakesItem, TakesName, TakesEntry};
 ghost use Rattle.amf_graph.specs.Renumbered.{renumbered_names, renumbered_values, number_in, HasNumber};
+ghost use Rattle.amf_graph.specs.Views.{named};
 
 use crate::renumber::{renumbered_entries, renumbered_option, renumbered_pairs, renumbered_values};
 use crate::{Leaf, NodeKind, Shape, TextId, TraitsId, Value, Wrapped};
@@ -65,6 +66,17 @@ impl Body {
                 weak,
                 entries: Vec::new(alloc),
             },
+        }
+    }
+
+    /// Its named pairs.
+    pub(crate) fn names(&self) -> &[(TextId, Value)]
+        ensures { named result.now ≡ body_names self.now }
+    {
+        match self {
+            Body::Array { names, .. } => names,
+            Body::Object { members, .. } => members,
+            _ => &[],
         }
     }
 

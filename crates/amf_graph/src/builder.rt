@@ -12,6 +12,7 @@ use crate::copying::Copying;
 use crate::limits::{MAX_COUNT, MAX_SEALED, MAX_TRAITS};
 use crate::node::Node;
 use crate::store::Store;
+use crate::text_ranks::TextRanks;
 use crate::{
     BuildEnd, Leaf, NodeId, NodeKind, Part, Rooted, Shape, TextId, TraitsId, TraitsView, Value,
 };
@@ -240,7 +241,7 @@ impl Builder {
     }
 
     /// The graph with this root. `Unfinished` comes exactly where a node is open: it names the least, and gives the builder
-    /// back. It takes no memory.
+    /// back. It asks for memory only where a text has more than 64 bytes, and does without where there is none.
     pub fn finish(self, root: Value) -> Result<Rooted, Unfinished>
         requires { Names self root }
         ensures graph { IfOk result (λ graph. graph ≡ record { arena = self; root = root }) }
@@ -253,7 +254,10 @@ impl Builder {
                 node: NodeId(place as u32),
                 builder: self,
             }),
-            None => Ok(Rooted::new(self.store, root)),
+            None => {
+                let ranks = TextRanks::of(self.alloc, &self.store);
+                Ok(Rooted::new(self.store, root, ranks))
+            }
         }
     }
 }

@@ -7,3 +7,6 @@ pub const MAX_TRAITS: u32 = 134_217_727;
 
 /// The most sealed names of one class: 2^25-1.
 pub const MAX_SEALED: u32 = 33_554_431;
+
+/// The most bytes of a text that is compared byte by byte with any other.
+pub(crate) const MAX_COMPARED: usize = 64;

@@ -3,9 +3,10 @@ ghost use Rattle.amf_graph.specs.Building.{kind_of, leaf_head, shape_head, begun
 ghost use Rattle.amf_graph.specs.Bodies.{TakesPart, body_node};
 ghost use Rattle.amf_graph.specs.Renumbered.{renumbered_node, number_in, HaveNumbers};
 ghost use Rattle.amf_graph.specs.Bounds.{count_end};
+ghost use Rattle.amf_graph.specs.Views.{named};
 
 use crate::body::Body;
-use crate::{Leaf, NodeKind, Part, Shape};
+use crate::{Leaf, NodeKind, Part, Shape, TextId, Value};
 use amf_wire::Memory;
 use std::alloc::Global;
 use std::marker::Model;
@@ -64,6 +65,13 @@ impl Node {
         ensures { self.now ≡ body_node self.now.is_open result.now }
     {
         &self.body
+    }
+
+    /// Its named pairs.
+    pub(crate) fn names(&self) -> &[(TextId, Value)]
+        ensures { named result.now ≡ self.now.names }
+    {
+        self.body.names()
     }
 
     pub(crate) fn kind(&self) -> NodeKind

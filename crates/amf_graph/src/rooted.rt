@@ -1,20 +1,25 @@
 ghost use Rattle.std.specs.Prelude.{◌≡◌, ◌<◌, false, length, get_or, IfOk};
+ghost use Rattle.std.specs.Cmp.Lexicographic.{slice_cmp};
 ghost use Rattle.std.specs.List.{AllByRecursion};
+ghost use Rattle.std.specs.Ordering.{nat_cmp};
 ghost use Rattle.amf_graph.specs.Arena.{IsFinished, Names, text_at, no_traits};
 ghost use Rattle.amf_graph.specs.Bodies.{body_node};
 ghost use Rattle.amf_graph.specs.Bounds.{IsWithinBounds, count_end};
 ghost use Rattle.amf_graph.specs.Building.{stored_at, kind_of};
 ghost use Rattle.amf_graph.specs.Renumbered.{numbers_of, renumbered, IsPart};
 ghost use Rattle.amf_graph.specs.StandIns.{GraphStandsFor};
+ghost use Rattle.amf_graph.specs.TextRanks.{AreRanks};
 ghost use Rattle.amf_graph.specs.Views.{Shows, ShowsTraits};
 
 use crate::body::Body;
 use crate::renumber::{places_by_node, renumbered};
 use crate::stand_ins::stand_in;
 use crate::store::Store;
+use crate::text_ranks::TextRanks;
 use crate::{NodeId, NodeKind, NodeView, TextId, TraitsId, TraitsView, Value};
 use amf_wire::Memory;
 use std::alloc::Global;
+use std::cmp::Ordering;
 use std::marker::Model;
 
 /// A graph with its root. Every node of it is complete.
@@ -22,28 +27,32 @@ use std::marker::Model;
 pub struct Rooted {
     store: Store,
     root: Value,
+    /// Those of its long names.
+    ranks: TextRanks,
 }
 
 impl Model for Rooted {
     ghost use Rattle.amf_graph.specs.Arena.{IsFinished, Names};
     ghost use Rattle.amf_graph.specs.Bounds.{IsWithinBounds};
     ghost use Rattle.amf_graph.specs.Rooted.{RootedArena};
+    ghost use Rattle.amf_graph.specs.TextRanks.{AreRanks};
 
     ghost Value = { RootedArena };
 
     ghost view = { λ g. record { arena = g.store; root = g.root } };
 
-    ghost invariant = { λ g. IsFinished g.store × IsWithinBounds g.store × Names g.store g.root };
+    ghost invariant = { λ g. IsFinished g.store × IsWithinBounds g.store × Names g.store g.root × AreRanks g.store.texts g.ranks.by_text.items };
 }
 
 impl Rooted {
-    pub(crate) fn new(store: Store, root: Value) -> Rooted
+    pub(crate) fn new(store: Store, root: Value, ranks: TextRanks) -> Rooted
         requires finished { IsFinished store }
         requires bounds { IsWithinBounds store }
         requires names { Names store root }
+        requires ranks { AreRanks store.texts ranks.by_text.items }
         ensures { result ≡ record { arena = store; root = root } }
     {
-        Rooted { store, root }
+        Rooted { store, root, ranks }
     }
 
     /// What is true of every graph. It does nothing.
@@ -68,7 +77,7 @@ impl Rooted {
         ensures arena { result.arena ≡ self.arena }
         ensures root { result.root ≡ root }
     {
-        Rooted::new(self.store, root)
+        Rooted::new(self.store, root, self.ranks)
     }
 
     /// How many nodes it has, also such that the root does not reach.
@@ -124,6 +133,18 @@ impl Rooted {
         self.store.text(text)
     }
 
+    /// How two texts stand to one another by their bytes. For names of pairs and of sealed members it goes through 64 bytes
+    /// at most, however long they are, but where there was no memory for the order of long names when the graph was made.
+    /// A place with no text counts as an empty one.
+    pub fn compare_texts(&self, x: TextId, y: TextId) -> Ordering
+        ensures { result ≡ slice_cmp nat_cmp (text_at self.now.arena x.0) (text_at self.now.arena y.0) }
+    {
+        match (self.ranks.rank(x), self.ranks.rank(y)) {
+            (Some(x), Some(y)) => x.cmp(&y),
+            _ => self.store.compare_texts(x, y),
+        }
+    }
+
     /// The traits at a place, which have to be there.
     pub fn traits(&self, traits: TraitsId) -> TraitsView<'_>
         requires { traits.0 < length self.now.arena.traits }
@@ -142,7 +163,8 @@ impl Rooted {
         let numbers = places_by_node(alloc, order, self.store.node_count())?;
         let store = self.store.renumbered(alloc, order, &numbers)?;
         let root = renumbered(self.root, &numbers);
-        Ok(Rooted::new(store, root))
+        let ranks = self.ranks.copy(alloc)?;
+        Ok(Rooted::new(store, root, ranks))
     }
 
     /// The graph with doubles for integers, and for each node among its values the one that stands in for it, by its number.
@@ -155,6 +177,7 @@ impl Rooted {
         ensures { IfOk result (λ graph. GraphStandsFor stand_ins.now self.now graph) }
     {
         let store = self.store.standing_in(alloc, stand_ins)?;
-        Ok(Rooted::new(store, stand_in(self.root, stand_ins)))
+        let ranks = self.ranks.copy(alloc)?;
+        Ok(Rooted::new(store, stand_in(self.root, stand_ins), ranks))
     }
 }

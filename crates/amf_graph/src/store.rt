@@ -1,5 +1,7 @@
-ghost use Rattle.std.specs.Prelude.{[], ◌≡◌, ◌<◌, ◌≤◌, length, map, slice_get, get_or, false, IfOk, OnOk, OnErr, IsErrOf, MatchOption, Some};
-ghost use Rattle.std.specs.List.{AllByRecursion, AllZip};
+ghost use Rattle.std.specs.Prelude.{[], ◌≡◌, ◌<◌, ◌≤◌, length, map, slice_get, get_or, nat_lt, false, IfOk, OnOk, OnErr, IsErrOf, MatchOption, Some};
+ghost use Rattle.std.specs.List.{AllByRecursion, AllZip, list_any};
+ghost use Rattle.std.specs.Cmp.Lexicographic.{slice_cmp};
+ghost use Rattle.std.specs.Ordering.{nat_cmp};
 ghost use Rattle.amf_graph.specs.Arena.{text_at, no_traits, HeadNames, IsNodeIn, IsBuilt};
 ghost use Rattle.amf_graph.specs.Building.{no_arena, no_stored, kept_text, kept_traits, kept_node, stored_traits, stored_at, changed, more_part, shut, closed, leaf_head, kind_of, size_of, IsFirstOpen};
 ghost use Rattle.amf_graph.specs.Bodies.{TakesPart, body_node};
@@ -12,11 +14,14 @@ ghost use Rattle.amf_graph.specs.Bounds.{count_end};
 
 use crate::body::Body;
 use crate::class::Class;
+use crate::limits::MAX_COMPARED;
+use crate::name_marks::{mark_pairs, mark_sealed};
 use crate::node::{Node, first_open};
 use crate::stand_ins::{opened_classes, stand_in_nodes};
 use crate::{Leaf, NodeId, NodeKind, NodeView, Part, TextId, TraitsId, TraitsView, Value};
 use amf_wire::{Memory, Name};
 use std::alloc::Global;
+use std::cmp::Ordering;
 use std::marker::Model;
 
 /// Texts, traits and nodes by their places.
@@ -33,6 +38,16 @@ impl Model for Store {
     ghost Value = { Arena };
 
     ghost view = { λ s. record { texts = s.texts.items; traits = s.traits.items; nodes = s.nodes.items } };
+}
+
+/// The bytes of a text, or none where there is no such text.
+fn bytes_at(texts: &[Name], text: TextId) -> &[u8]
+    ensures { result.now ≡ get_or texts.now text.0 [] }
+{
+    match texts.get(text.0 as usize) {
+        Some(name) => name.as_bytes(),
+        None => &[],
+    }
 }
 
 impl Store {
@@ -149,6 +164,32 @@ impl Store {
         ensures { result.now ≡ text_at self.now text.0 }
     {
         self.texts[text.0 as usize].as_bytes()
+    }
+
+    /// How two texts stand to one another by their bytes. A place with no text counts as an empty one.
+    pub(crate) fn compare_texts(&self, x: TextId, y: TextId) -> Ordering
+        ensures { result ≡ slice_cmp nat_cmp (text_at self.now x.0) (text_at self.now y.0) }
+    {
+        bytes_at(&self.texts, x).cmp(bytes_at(&self.texts, y))
+    }
+
+    /// Whether a text is too long to be compared byte by byte each time.
+    pub(crate) fn has_long_text(&self) -> bool
+        ensures { result ≡ list_any (λ x. nat_lt MAX_COMPARED (length x)) self.now.texts }
+    {
+        self.texts
+            .iter()
+            .any(|text| text.as_bytes().len() > MAX_COMPARED)
+    }
+
+    /// By text whether it names a pair of a node or a sealed member of traits.
+    pub(crate) fn marked_names(&self, alloc: Global) -> Result<Vec<bool>, Memory>
+        ensures { IfOk result (λ marks. length marks.items ≡ length self.now.texts) }
+    {
+        let mut marks = vec![in alloc; false; self.texts.len()]?;
+        mark_pairs(&self.nodes, &mut marks);
+        mark_sealed(&self.traits, &mut marks);
+        Ok(marks)
     }
 
     pub(crate) fn traits(&self, traits: TraitsId) -> TraitsView<'_>

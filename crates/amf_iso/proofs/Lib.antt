@@ -1,6 +1,5 @@
 -- Lemmas.
-mod NamedPairs
-mod NamedIds
+pub mod NamedPairs
 mod Entries
 mod MetValues
 mod Numbers

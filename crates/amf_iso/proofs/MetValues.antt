@@ -17,7 +17,7 @@ use Rattle.amf_graph.specs.declared.views.NodeView.{NodeView}
 use Rattle.amf_graph.specs.declared.views.NodeView.TheVariants as view
 use Rattle.amf_graph.specs.Views.{named, Shows}
 use Rattle.amf_graph.proofs.NameOrder.{by_name_length}
-use Rattle.amf_iso.specs.Contents.{values_of, AreValues, pairs_of, named_pairs, AreNamedPairs}
+use Rattle.amf_iso.specs.Contents.{values_of, AreValues, pairs_of, ArePairs}
 use denote.Ref.{Bor}
 
 pub each_there : {X : Type 0} (P : X → Type 0) (xs : List X) (i : ℕ) (d : X) → AllByRecursion P xs → i < length xs → P (get_or xs i d)
@@ -43,19 +43,19 @@ node_in a i f l = each_there (IsNodeIn a) a.nodes i no_stored f.built.nodes l
 pub values_in : (a : Arena) (i : ℕ) (n : StoredNode) → IsFinished a → i < length a.nodes → stored_at a i ≡ n → AreValues a n.values
 values_in a i n f l e = subst (λ (m : StoredNode). AreValues a m.values) e (node_in a i f l).values
 
-seconds_in : (a : Arena) (ps : List (Bor (List ℕ) × Stored)) → AreNamedPairs a ps → AreValues a (map (λ p. p.1) ps)
+seconds_in : (a : Arena) (ps : List (TextId × Stored)) → ArePairs a ps → AreValues a (map (λ p. p.1) ps)
 seconds_in a [] h = tt
-seconds_in a (p ∷ ps) h = (h.0.2, seconds_in a ps h.1)
+seconds_in a (p ∷ ps) h = (h.0.1, seconds_in a ps h.1)
 
-seconds_content : (a : Arena) (ps : List (Bor (List ℕ) × Stored)) → values_of a (map (λ p. p.1) ps) ≡ seconds (named_pairs a ps)
+seconds_content : (a : Arena) (ps : List (TextId × Stored)) → values_of a (map (λ p. p.1) ps) ≡ seconds (pairs_of a ps)
 seconds_content a [] = refl
 seconds_content a (p ∷ ps) = ap (λ w. value_content a p.1 ∷ w) (seconds_content a ps)
 
-pub met_array : (a : Arena) (root : Stored) (i : ℕ) (items : List Stored) (names : List (TextId × Stored)) (ps : List (Bor (List ℕ) × Stored)) → stored_at a i ≡ closed array (named names) items → named_pairs a ps ≡ by_name (pairs_of a names) → values_of a (map (λ p. p.1) ps ++ items) ≡ values_met (node_at (graph_of a root) i)
+pub met_array : (a : Arena) (root : Stored) (i : ℕ) (items : List Stored) (names : List (TextId × Stored)) (ps : List (TextId × Stored)) → stored_at a i ≡ closed array (named names) items → pairs_of a ps ≡ by_name (pairs_of a names) → values_of a (map (λ p. p.1) ps ++ items) ≡ values_met (node_at (graph_of a root) i)
 met_array a root i items names ps e s =
     map-append (value_content a) (map (λ p. p.1) ps) items ∙ ap (λ w. w ++ values_of a items) (seconds_content a ps ∙ ap seconds s) ∙ sym (ap values_met (shown a root i (closed array (named names) items) e))
 
-pub met_object : (a : Arena) (root : Stored) (i t : ℕ) (sealed : List Stored) (members : List (TextId × Stored)) (ps : List (Bor (List ℕ) × Stored)) → stored_at a i ≡ closed (object t) (named members) sealed → named_pairs a ps ≡ by_name (pairs_of a members) → values_of a (sealed ++ map (λ p. p.1) ps) ≡ values_met (node_at (graph_of a root) i)
+pub met_object : (a : Arena) (root : Stored) (i t : ℕ) (sealed : List Stored) (members : List (TextId × Stored)) (ps : List (TextId × Stored)) → stored_at a i ≡ closed (object t) (named members) sealed → pairs_of a ps ≡ by_name (pairs_of a members) → values_of a (sealed ++ map (λ p. p.1) ps) ≡ values_met (node_at (graph_of a root) i)
 met_object a root i t sealed members ps e s =
     map-append (value_content a) sealed (map (λ p. p.1) ps) ∙ ap (λ w. values_of a sealed ++ w) (seconds_content a ps ∙ ap seconds s) ∙ sym (ap values_met (shown a root i (closed (object t) (named members) sealed) e))
 
@@ -95,10 +95,10 @@ met_none a root i (view.Wrapper x y) s n = absurd n
 met_none a root i (view.Values x y z) s n = absurd n
 met_none a root i (view.Dictionary x y) s n = absurd n
 
-pub array_in : (a : Arena) (ps : List (Bor (List ℕ) × Stored)) (vs : List Stored) → AreNamedPairs a ps → AreValues a vs → AreValues a (map (λ p. p.1) ps ++ vs)
+pub array_in : (a : Arena) (ps : List (TextId × Stored)) (vs : List Stored) → ArePairs a ps → AreValues a vs → AreValues a (map (λ p. p.1) ps ++ vs)
 array_in a ps vs h k = all_append (Names a) (map (λ p. p.1) ps) vs (seconds_in a ps h) k
 
-pub object_in : (a : Arena) (ps : List (Bor (List ℕ) × Stored)) (vs : List Stored) → AreNamedPairs a ps → AreValues a vs → AreValues a (vs ++ map (λ p. p.1) ps)
+pub object_in : (a : Arena) (ps : List (TextId × Stored)) (vs : List Stored) → ArePairs a ps → AreValues a vs → AreValues a (vs ++ map (λ p. p.1) ps)
 object_in a ps vs h k = all_append (Names a) vs (map (λ p. p.1) ps) k (seconds_in a ps h)
 
 -- a node's values are fewer than 2^29

@@ -10,13 +10,13 @@ use Rattle.std.proofs.lemmas.List.Sorted.{ranks_by}
 use Rattle.amf_graph.specs.declared.value.Value.{Value as Stored}
 use Rattle.amf_graph.specs.declared.value.TextId.{TextId}
 use Rattle.amf_wire.specs.Text.{IsText}
+use Rattle.amf_graph.specs.Graph.{Value}
 use Rattle.amf_graph.specs.Arena.{Arena, Names, IsTextId, IsFinished, text_at, value_content}
 use Rattle.amf_graph.specs.Bounds.{IsWithinBounds}
 use Rattle.amf_graph.specs.ByName.{insert_stable, stable_sort, before, by_name}
 use Rattle.amf_graph.proofs.StableSort.{stable_sort_is, sort_all}
 use Rattle.amf_iso.proofs.MetValues.{each_there}
-use Rattle.amf_iso.specs.Contents.{pairs_of, ArePairs, pair_content, named_pairs, AreNamedPairs}
-use denote.Ref.{Bor}
+use Rattle.amf_iso.specs.Contents.{pairs_of, ArePairs}
 
 pub all_push : {X : Type 0} (P : X → Type 0) (xs : List X) (x : X) → AllByRecursion P xs → P x → AllByRecursion P (xs ++ x ∷ [])
 all_push P [] x h p = (p, tt)
@@ -51,14 +51,33 @@ module _ {X Y : Type 0} (f : X → Y) (less : Y → Y → Bool) where
   sort_map (x ∷ xs) = insert_map x (stable_sort (λ x y. less (f x) (f y)) xs) ∙ ap (λ w. insert_stable less (f x) w) (sort_map xs)
 
 module _ (a : Arena) where
-  abbrev pub precedes : Bor (List ℕ) × Stored → Bor (List ℕ) × Stored → Bool
-  precedes p q = before (pair_content a p) (pair_content a q)
+  abbrev pub stored_content : TextId × Stored → List ℕ × Value
+  stored_content p = (text_at a p.0.0, value_content a p.1)
+
+  contents : (ps : List (TextId × Stored)) → map stored_content ps ≡ pairs_of a ps
+  contents [] = refl
+  contents (p ∷ ps) = ap (λ w. stored_content p ∷ w) (contents ps)
+
+  abbrev pub precedes : TextId × Stored → TextId × Stored → Bool
+  precedes p q = before (stored_content p) (stored_content q)
 
   pub ranks : IsStrictWeakOrder precedes
-  ranks = ranks_by nat_list_cmp_total (λ (p : Bor (List ℕ) × Stored). p.0.now)
+  ranks = ranks_by nat_list_cmp_total (λ (p : TextId × Stored). text_at a p.0.0)
 
-  pub sorted_content : (xs ys : List (Bor (List ℕ) × Stored)) → IsSortedBy precedes ys → IsStableBy precedes xs ys → named_pairs a ys ≡ by_name (named_pairs a xs)
-  sorted_content xs ys s t = ap (named_pairs a) (stable_sort_is precedes ranks xs ys s t) ∙ sort_map (pair_content a) before xs
+  pub sorted_content : (xs ys : List (TextId × Stored)) → IsSortedBy precedes ys → IsStableBy precedes xs ys → pairs_of a ys ≡ by_name (pairs_of a xs)
+  sorted_content xs ys s t =
+      sym (contents ys) ∙ ap (map stored_content) (stable_sort_is precedes ranks xs ys s t) ∙ sort_map stored_content before xs ∙ ap by_name (contents xs)
 
-  pub sorted_named : (xs ys : List (Bor (List ℕ) × Stored)) → IsSortedBy precedes ys → IsStableBy precedes xs ys → AreNamedPairs a xs → AreNamedPairs a ys
-  sorted_named xs ys s t h = subst (λ w. AreNamedPairs a w) (sym (stable_sort_is precedes ranks xs ys s t)) (sort_all precedes _ xs h)
+  abbrev IsPair : TextId × Stored → Type 0
+  IsPair p = IsTextId a p.0.0 × Names a p.1
+
+  each_pair : (ps : List (TextId × Stored)) → ArePairs a ps → AllByRecursion IsPair ps
+  each_pair [] h = tt
+  each_pair (p ∷ ps) h = (h.0, each_pair ps h.1)
+
+  are_pairs : (ps : List (TextId × Stored)) → AllByRecursion IsPair ps → ArePairs a ps
+  are_pairs [] h = tt
+  are_pairs (p ∷ ps) h = (h.0, are_pairs ps h.1)
+
+  pub sorted_pairs : (xs ys : List (TextId × Stored)) → IsSortedBy precedes ys → IsStableBy precedes xs ys → ArePairs a xs → ArePairs a ys
+  sorted_pairs xs ys s t h = are_pairs ys (subst (AllByRecursion IsPair) (sym (stable_sort_is precedes ranks xs ys s t)) (sort_all precedes IsPair xs (each_pair xs h)))

@@ -4,4 +4,3 @@ pub mod Numbers
 -- Devices of the proofs: no clause of a public call needs them.
 pub mod Joined
 pub mod Matches
-pub mod NamedIds

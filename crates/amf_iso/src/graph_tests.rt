@@ -31,6 +31,32 @@ fn facts_stand(_rt: HostRuntime) {
 }
 
 #[test]
+fn compares_texts(rt: HostRuntime) -> Result<(), Fail> {
+    let rows: [(&[u8], u32); 7] = [
+        (&[b'b'; 65], 5),
+        (b"b", 4),
+        (&[b'a'; 66], 3),
+        (&[b'a'; 65], 2),
+        (&[b'a'; 64], 1),
+        (&[b'a'; 65], 2),
+        (b"a", 0),
+    ];
+    let mut builder = Builder::new(rt.alloc())?;
+    for (bytes, _) in rows {
+        assert!(rt; is_amf_text(bytes));
+        builder.text(bytes)?;
+    }
+    let graph = builder.finish(Value::Null).ok().ok_or("an open node")?;
+    for (x, (_, left)) in rows.iter().enumerate() {
+        for (y, (_, right)) in rows.iter().enumerate() {
+            let found = graph.compare_texts(TextId(x as u32), TextId(y as u32));
+            assert_eq!(rt; found, left.cmp(right), "{x} and {y}");
+        }
+    }
+    Ok(())
+}
+
+#[test]
 fn builds_an_array(rt: HostRuntime) -> Result<(), Fail> {
     let mut builder = Builder::new(rt.alloc())?;
     assert!(rt; is_amf_text(b"a"));

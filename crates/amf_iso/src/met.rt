@@ -5,13 +5,13 @@ ghost use Rattle.amf_graph.specs.Rooted.{content};
 ghost use Rattle.amf_graph.specs.Views.{flat};
 ghost use Rattle.amf_iso.specs.Contents.{values_of, AreValues};
 
-use crate::pairs::by_name;
+use crate::pairs::ids_by_name;
 use amf_graph::{NodeId, NodeView, Rooted, TextId, Value};
 use amf_wire::Memory;
 use std::alloc::Global;
 
 /// Appends the values of pairs.
-fn push_seconds(pairs: &[(&[u8], Value)], values: &mut Vec<Value>) -> Result<(), Memory>
+fn push_seconds(pairs: &[(TextId, Value)], values: &mut Vec<Value>) -> Result<(), Memory>
     ensures { OnOk result (values.new.items ≡ values.old.items ++ map (λ p. p.1) pairs.now) }
 {
     for (_, value) in pairs {
@@ -45,7 +45,7 @@ pub fn values_met(alloc: Global, node: NodeId, graph: &Rooted) -> Result<Vec<Val
     let mut met = Vec::new(alloc);
     match graph.node(node) {
         NodeView::Array { items, names } => {
-            push_seconds(&by_name(alloc, names, graph)?, &mut met)?;
+            push_seconds(&ids_by_name(alloc, names, graph)?, &mut met)?;
             met.extend_from_slice(items)?;
         }
         NodeView::Object {
@@ -54,7 +54,7 @@ pub fn values_met(alloc: Global, node: NodeId, graph: &Rooted) -> Result<Vec<Val
             ..
         } => {
             met.extend_from_slice(sealed)?;
-            push_seconds(&by_name(alloc, members, graph)?, &mut met)?;
+            push_seconds(&ids_by_name(alloc, members, graph)?, &mut met)?;
         }
         NodeView::Wrapper { value, .. } => met.push(value)?,
         NodeView::Values { items, .. } => met.extend_from_slice(items)?,

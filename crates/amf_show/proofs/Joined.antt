@@ -8,7 +8,7 @@ use Rattle.amf_graph.specs.declared.value.TextId.{TextId}
 use Rattle.amf_graph.specs.Graph.{Value}
 use Rattle.amf_graph.specs.Arena.{Arena, text_at, value_content}
 use Rattle.amf_graph.specs.Views.{flat}
-use Rattle.amf_iso.specs.Contents.{values_of}
+use Rattle.amf_iso.specs.Contents.{values_of, pairs_of}
 use Rattle.amf_tables.specs.ShownTraits.{texts_at}
 use Rattle.amf_tables.proofs.ShownTexts.{texts_more}
 use Rattle.amf_show.specs.Joining.{separator_before}
@@ -51,6 +51,20 @@ joined_step_of f g before one two three xs i d l a b c =
     part_more before one two three (map f (map g (take i xs))) (map f (map g (take (i + 1) xs))) i (f (g (get_or xs i d)))
     (length-map (map g (take i xs)) f ∙ map_long g xs i l)
     (ap (map f) (map_more g xs i d l) ∙ map-append f (map g (take i xs)) (g (get_or xs i d) ∷ [])) a b c
+
+-- Pairs.
+
+module _ (f : List ℕ × Value → List ℕ) (a : Arena) where
+  abbrev content : TextId × Stored → List ℕ × Value
+  content p = (text_at a p.0.0, value_content a p.1)
+
+  contents : (ps : List (TextId × Stored)) → map content ps ≡ pairs_of a ps
+  contents [] = refl
+  contents (p ∷ ps) = ap (λ w. content p ∷ w) (contents ps)
+
+  pub pairs_step : (before one two three : List ℕ) (ps : List (TextId × Stored)) (i : ℕ) (d : TextId × Stored) → i < length ps → one ≡ before ++ joined (map f (pairs_of a (take i ps))) → two ≡ one ++ separator_before i → three ≡ two ++ f (content (get_or ps i d)) → three ≡ before ++ joined (map f (pairs_of a (take (i + 1) ps)))
+  pairs_step before one two three ps i d l p b c =
+      joined_step_of f content before one two three ps i d l (p ∙ ap (λ w. before ++ joined (map f w)) (sym (contents (take i ps)))) b c ∙ ap (λ w. before ++ joined (map f w)) (contents (take (i + 1) ps))
 
 -- Keys and values.
 

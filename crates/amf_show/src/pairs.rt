@@ -2,7 +2,7 @@ ghost use Rattle.std.specs.Prelude.{◌≡◌, ◌++◌, codes, length, map, OnO
 ghost use Rattle.std.specs.List.{zip};
 ghost use Rattle.amf_graph.specs.Arena.{Names, value_content};
 ghost use Rattle.amf_graph.specs.ByName.{by_name};
-ghost use Rattle.amf_iso.specs.Contents.{values_of, AreValues, pairs_of, ArePairs, named_pairs, AreNamedPairs};
+ghost use Rattle.amf_iso.specs.Contents.{values_of, AreValues, pairs_of, ArePairs};
 ghost use Rattle.amf_show.specs.Listing.{shown_pair, shown_pairs};
 ghost use Rattle.amf_show.specs.Shown.{joined};
 ghost use Rattle.amf_tables.specs.ShownTraits.{AreTextIds, texts_at};
@@ -11,7 +11,7 @@ use crate::lister::Lister;
 use crate::numbers::{push_separator, push_word};
 use crate::text::push_text;
 use amf_graph::{TextId, Value};
-use amf_iso::by_name;
+use amf_iso::ids_by_name;
 use amf_wire::Memory;
 
 impl Lister<'_> {
@@ -26,21 +26,21 @@ impl Lister<'_> {
     }
 
     /// Appends pairs, joined.
-    fn push_each(&self, pairs: &[(&[u8], Value)], out: &mut Vec<u8>) -> Result<(), Memory>
-        requires { AreNamedPairs self.now.graph.now.arena pairs.now }
-        ensures { OnOk result (out.new.items ≡ out.old.items ++ joined (map (shown_pair self.now.numbering.now) (named_pairs self.now.graph.now.arena pairs.now))) }
+    fn push_each(&self, pairs: &[(TextId, Value)], out: &mut Vec<u8>) -> Result<(), Memory>
+        requires { ArePairs self.now.graph.now.arena pairs.now }
+        ensures { OnOk result (out.new.items ≡ out.old.items ++ joined (map (shown_pair self.now.numbering.now) (pairs_of self.now.graph.now.arena pairs.now))) }
     {
         for (place, pair) in pairs.iter().enumerate() {
             push_separator(place, out)?;
-            self.push_pair(pair.0, pair.1, out)?;
+            self.push_pair(self.graph.text(pair.0), pair.1, out)?;
         }
         Ok(())
     }
 
     /// Appends pairs between braces.
-    fn push_pairs(&self, pairs: &[(&[u8], Value)], out: &mut Vec<u8>) -> Result<(), Memory>
-        requires { AreNamedPairs self.now.graph.now.arena pairs.now }
-        ensures { OnOk result (out.new.items ≡ out.old.items ++ shown_pairs self.now.numbering.now (named_pairs self.now.graph.now.arena pairs.now)) }
+    fn push_pairs(&self, pairs: &[(TextId, Value)], out: &mut Vec<u8>) -> Result<(), Memory>
+        requires { ArePairs self.now.graph.now.arena pairs.now }
+        ensures { OnOk result (out.new.items ≡ out.old.items ++ shown_pairs self.now.numbering.now (pairs_of self.now.graph.now.arena pairs.now)) }
     {
         push_word(b"{", out)?;
         self.push_each(pairs, out)?;
@@ -56,7 +56,7 @@ impl Lister<'_> {
         requires { ArePairs self.now.graph.now.arena pairs.now }
         ensures { OnOk result (out.new.items ≡ out.old.items ++ shown_pairs self.now.numbering.now (by_name (pairs_of self.now.graph.now.arena pairs.now))) }
     {
-        let sorted = by_name(self.alloc, pairs, self.graph)?;
+        let sorted = ids_by_name(self.alloc, pairs, self.graph)?;
         self.push_pairs(&sorted, out)
     }
 

@@ -1,14 +1,7 @@
 use Rattle.std.proofs.Common.{◌≡◌, true, false, ◌-◌, ◌<◌, length, arith, sym, ◌∙◌}
 use Rattle.amf_graph.specs.declared.value.Value.TheVariants.{Undefined}
 use Rattle.amf3_write.proofs.InOrder.{one_more, out_of_order, all_in_order}
-use Rattle.amf3_write.proofs.NamedPairs.{pair_there}
 use Rattle.amf3_write.proofs.pairs.are_by_name.Goals as goal
-
-pub is_before-requires-clause-name : goal.is_before-requires-clause-name
-is_before-requires-clause-name c = let within : c.loop-index.index < length c.args.pairs.now = omega arith in (pair_there c.args.graph.now.arena c.args.pairs.now c.loop-index.index _ c.requires within).0
-
-pub is_before-requires-clause-other : goal.is_before-requires-clause-other
-is_before-requires-clause-other c = let within : c.loop-index.index - 1 < length c.args.pairs.now = omega arith in (pair_there c.args.graph.now.arena c.args.pairs.now (c.loop-index.index - 1) _ c.requires within).0
 
 pub returns-then-is_before : goal.returns-then-is_before
 returns-then-is_before c =

@@ -3,6 +3,7 @@ use Rattle.std.proofs.Common.{◌≡◌, length, sym, subst}
 use Rattle.std.specs.List.{AllByRecursion}
 use Rattle.amf_graph.specs.Arena.{Names}
 use Rattle.amf_graph.specs.Rooted.{RootedArena}
+use Rattle.amf_graph.specs.TextRanks.{AreRanks}
 use Rattle.amf_graph.proofs.StandInGraphs.{has_stand_in, all_have, names_stand, finished_stands, bounds_stand, graph_stands}
 use Rattle.amf_graph.proofs.rooted.Rooted.standing_in.Goals as goal
 
@@ -41,3 +42,7 @@ pub returns : goal.returns
 returns c =
     let g : RootedArena = record { arena = c.self.inside.store; root = c.self.inside.root } in
     graph_stands c.args.stand_ins.now g c.args.self.now c.new.result c.in_ok-store.store c.stand_in.result c.new.ensures c.self.view_is c.stand_in.ensures c.in_ok-store.ensures.texts c.in_ok-store.ensures.traits c.in_ok-store.ensures.nodes
+
+pub new-requires-clause-ranks : goal.new-requires-clause-ranks
+new-requires-clause-ranks c =
+    subst (λ w. AreRanks w c.in_ok-ranks.ranks.by_text.items) (sym c.in_ok-store.ensures.texts) (subst (AreRanks c.self.inside.store.texts) (sym c.in_ok-ranks.ensures) c.self.invariant.3)

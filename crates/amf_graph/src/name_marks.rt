@@ -1,0 +1,38 @@
+//! Which texts are names.
+
+ghost use Rattle.std.specs.Prelude.{◌≡◌, length};
+
+use crate::TextId;
+use crate::class::Class;
+use crate::node::Node;
+
+/// Marks a text.
+fn mark(text: TextId, marks: &mut [bool])
+    ensures { length marks.new ≡ length marks.old }
+{
+    if let Some(mark) = marks.get_mut(text.0 as usize) {
+        *mark = true;
+    }
+}
+
+/// Marks the names of the pairs of nodes.
+pub(crate) fn mark_pairs(nodes: &[Node], marks: &mut [bool])
+    ensures { length marks.new ≡ length marks.old }
+{
+    for node in nodes {
+        for (name, _) in node.names() {
+            mark(*name, marks);
+        }
+    }
+}
+
+/// Marks the names of sealed members.
+pub(crate) fn mark_sealed(classes: &[Class], marks: &mut [bool])
+    ensures { length marks.new ≡ length marks.old }
+{
+    for class in classes {
+        for name in class.view().sealed {
+            mark(*name, marks);
+        }
+    }
+}
