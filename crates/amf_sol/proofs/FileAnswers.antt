@@ -24,6 +24,7 @@ use Rattle.amf_io.proofs.Paths.{runs_bind, flat-append}
 use Rattle.amf_io.proofs.Whole.{whole_fixed}
 use Rattle.amf_wire.specs.Style.{free}
 use Rattle.amf_wire.specs.Text.{IsText}
+use Rattle.amf_graph.specs.Bounds.{weight}
 use Rattle.amf_graph.specs.Rooted.{RootedArena, content}
 use Rattle.amf_io.specs.Stretch.{Stretch, between, stretch}
 use Rattle.amf3_read.specs.Answer.{left_of}
@@ -39,6 +40,7 @@ use Rattle.amf_sol.specs.FileVerdict.{HasItsLength, refused, bad_length}
 use Rattle.amf_io.specs.Repeated.{steps, after_head}
 use Rattle.amf_sol.proofs.FileRepeats.{files_repeat, file_layouts}
 use Rattle.amf_sol.proofs.FileSound.{HeadSound, head_sound, closed_pairs, pairs_sound, file_spelled, file_of, PairsRead}
+use Rattle.amf_sol.proofs.FileWeights.{holder_weighs}
 use Rattle.amf_sol.proofs.FileVerdicts.{file_refused, file_cut}
 use Rattle.amf_io.proofs.Repeats.{fewer_first}
 use Rattle.amf_io.proofs.RepeatedVerdicts.{refusal_lifted, cut_any}
@@ -255,3 +257,16 @@ module _ {S : Type 0} (tells : S → Type 0) (left : S → List ℕ) (faults : S
             taken = let a = al.taken in let b = ah.taken in let z = y.taken in let l = front_length in omega arith;
             within = let w = y.within in let q = gs.same_bound in let r = gh.same_bound in omega arith;
           }
+
+      -- what they hold weighs no more than the bytes
+      pub file_weighs : (h : RootedArena) (g : Cursor S Window) → ((n : ℕ) (name : List ℕ) → left_of f < n → AnswersHolder tells left x.version n name f g (Ok h)) → place c + weight h.arena ≤ place g
+      file_weighs h g a =
+          let n = suc (left_of f) in
+          let k = a n x.name (omega arith) in
+          let p = k.pairs in
+          let w = holder_weighs n p.many x.version x.name k.arena p.tables p.done.fields p.done.runs in
+          let six = (length_sized al.fields size al.runs).six in
+          let l = al.taken in
+          let m = ah.taken in
+          let q = p.done.taken in
+          omega (arith, w, six, ap (λ (r : RootedArena). weight r.arena) k.is)

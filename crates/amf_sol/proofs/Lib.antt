@@ -12,6 +12,7 @@ pub mod HeadReads
 pub mod HolderPut
 pub mod PairReads
 pub mod PairLoops
+pub mod FileWeights
 pub mod FileAnswers
 pub mod Walked3
 pub mod WrittenPairs

@@ -1,6 +1,8 @@
-ghost use Rattle.std.specs.Prelude.{◌<◌};
+ghost use Rattle.std.specs.Prelude.{◌+◌, ◌<◌, ◌≤◌, IfOk};
+ghost use Rattle.amf_io.specs.Cursor.{place};
 ghost use Rattle.amf_io.specs.ReadEnds.{Goes};
 ghost use Rattle.amf_io.specs.Stretch.{between};
+ghost use Rattle.amf_graph.specs.Bounds.{weight};
 ghost use Rattle.amf3_read.specs.Answer.{room_end, left_of};
 ghost use Rattle.amf_sol.specs.FileAnswer.{AnswersFile};
 
@@ -29,6 +31,7 @@ pub fn read_sol<S: Source>(
     requires room { left_of cursor.old < room_end }
     ensures goes { Goes S.tells S.left S.faults cursor.old cursor.new result }
     ensures answers { AnswersFile (between S.tells S.left cursor.old cursor.new) result }
+    ensures weighs { IfOk result (λ file. place cursor.old + weight file.holder.arena ≤ place cursor.new) }
 {
     let start = cursor.at();
     let length = read_length(alloc, cursor)?;

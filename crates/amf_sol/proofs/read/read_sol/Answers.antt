@@ -1,8 +1,10 @@
-use Rattle.std.proofs.Common.{sym, subst, arith}
+use Rattle.std.proofs.Common.{◌+◌, ◌≤◌, sym, subst, arith}
+use Rattle.amf_io.specs.Cursor.{place}
 use Rattle.amf_io.specs.Stretch.{between}
+use Rattle.amf_graph.specs.Bounds.{weight}
 use Rattle.amf_sol.specs.FileAnswer.{IsFileTaken}
 use Rattle.amf_sol.specs.StoredFile.{StoredFile}
-use Rattle.amf_sol.proofs.FileAnswers.{length_sized, file_passed, length_end, rest_end, pairs_end, file_came, file_taken, file_other, name_text, name_short}
+use Rattle.amf_sol.proofs.FileAnswers.{length_sized, file_passed, length_end, rest_end, pairs_end, file_came, file_weighs, file_taken, file_other, name_text, name_short}
 use Rattle.amf_sol.proofs.Unheld.{file_holder}
 use Rattle.amf_sol.proofs.read.read_sol.Goals as goal
 
@@ -101,3 +103,13 @@ returns-clause-answers g c =
     let start = c.at-start.ensures.place in
     let stop = c.at.ensures.place in
     subst (λ (o : StoredFile). IsFileTaken o (between S.tells S.left k e)) (sym c.of_parts.ensures) (file_taken _ c.in_ok-length.length (between S.tells S.left k e) came (let same = c.if-length-at.false in omega arith))
+
+pub returns-clause-weighs : goal.returns-clause-weighs
+returns-clause-weighs g c =
+    let S = g.S.Source in
+    let l = c.in_ok-length.ensures in
+    let h = c.in_ok-head.ensures in
+    let k = c.args.cursor.now in
+    let e = c.read_holder.new.cursor in
+    let weighs = file_weighs S.tells S.left S.faults k c.in_ok-length.length c.read_length.new.cursor l.goes l.answers c.in_ok-head.head c.read_head.new.cursor h.goes h.answers c.in_ok-holder.holder e c.in_ok-holder.ensures.answers in
+    subst (λ (o : StoredFile). place k + weight o.holder.arena ≤ place e) (sym c.of_parts.ensures) weighs
