@@ -20,12 +20,10 @@ use Rattle.amf3_spelling.specs.Words3.{Text}
 use Rattle.amf3_spelling.proofs.BytesOf.{to_spells}
 use Rattle.amf3_spelling.proofs.FieldsOf.{from_spells}
 use Rattle.amf3_spelling.proofs.Forget.{forget3}
-use Rattle.amf3_spelling.proofs.Kept3.{Proper as Proper3}
 use Rattle.amf0_tables.specs.Parts0.{Short}
 use Rattle.amf0_tables.specs.Spells0.{Spells0}
 use Rattle.amf0_tables.specs.Tables0.{Tables0}
 use Rattle.amf0_tables.proofs.Forget0.{forget0}
-use Rattle.amf0_tables.proofs.Kept0.{Proper as Proper0}
 use Rattle.amf0_tables.proofs.Low.{kept as low_kept}
 use Rattle.amf0_tables.proofs.LowLaws.{one_lowering}
 use Rattle.amf_sol.specs.declared.sol_version.SolVersion.{SolVersion}

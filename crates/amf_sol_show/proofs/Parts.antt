@@ -1,7 +1,7 @@
 -- Names and values on the tables of a file: what each does to them, and what two spellings of each have in common.
 use Rattle.std.proofs.Common.{◌≡◌, ℕ, ◌<◌, ◌*◌, false, List, [], ◌∷◌, ◌++◌, length, sym, ap, ◌∙◌, subst, append-nil}
 use Rattle.amf_io.specs.Field.{Kind, Field, field, flat}
-use Rattle.amf_wire.specs.Style.{Style, free, canonical}
+use Rattle.amf_wire.specs.Style.{Style, free}
 use Rattle.amf_wire.specs.U29.{IsU29}
 use Rattle.amf_graph.specs.Graph.{Value, Graph}
 use Rattle.amf_graph.specs.Isomorphic.{ValuesMatch}
