@@ -152,22 +152,3 @@ fn says_why(rt: HostRuntime) -> Result<(), Fail> {
     }
     Ok(())
 }
-
-#[test]
-fn keeps_a_part_under_other_numbers(rt: HostRuntime) -> Result<(), Fail> {
-    let mut builder = Builder::new(rt.alloc())?;
-    builder.leaf(Leaf::Date(Pattern(1)))?;
-    let second = builder.leaf(Leaf::Date(Pattern(2)))?;
-    let graph = builder
-        .finish(Value::Node(second))
-        .ok()
-        .ok_or("an open node")?;
-    let part = graph.renumbered(rt.alloc(), &[second])?;
-    assert_eq!(rt; part.node_count(), 1);
-    assert_eq!(rt; part.root(), Value::Node(NodeId(0)));
-    match part.node(NodeId(0)) {
-        NodeView::Date(time) => assert_eq!(rt; time, Pattern(2)),
-        _ => Err("no date")?,
-    }
-    Ok(())
-}
