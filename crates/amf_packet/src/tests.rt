@@ -8,7 +8,7 @@ use crate::{
     Body, Headers, Message, Messages, Packet, PacketEnd, packet_rows, packet_verdict_rows,
     packets_have_one_verdict, read_packet, write_packet,
 };
-use amf_graph::{Builder, Lack, LackKind, Value};
+use amf_graph::{Builder, Lack, LackKind, Rooted, Value};
 use amf_io::{Cursor, MemorySource, ReadEnd, Reason, Refusal};
 use amf_wire::{Name, is_amf_text};
 use std::alloc::Global;
@@ -128,16 +128,20 @@ fn letters(alloc: Global, size: usize) -> Result<Vec<u8>, Fail>
     }
 }
 
-/// A packet of one message, of null, with this target.
-fn targeted(alloc: Global, target: &[u8]) -> Result<Packet, Fail>
-    requires { IsText target.now }
-    ensures version { IfOk result (λ packet. is_version packet.version ≡ true) }
-    ensures texts { IfOk result (λ packet. HasTexts (packet_of packet)) }
-{
+fn null(alloc: Global) -> Result<Rooted, Fail> {
     let graph = Builder::new(alloc)?
         .finish(Value::Null)
         .ok()
         .ok_or("an open node")?;
+    Ok(graph)
+}
+
+/// A packet of one message with this target.
+fn targeted(alloc: Global, target: &[u8], graph: Rooted) -> Result<Packet, Fail>
+    requires { IsText target.now }
+    ensures version { IfOk result (λ packet. is_version packet.version ≡ true) }
+    ensures texts { IfOk result (λ packet. HasTexts (packet_of packet)) }
+{
     let mut messages = Vec::new(alloc);
     messages.push(Message {
         target: Name::of_bytes(alloc, target)?,
@@ -162,7 +166,7 @@ fn tells_which_value_is_not_written(rt: HostRuntime) -> Result<(), Fail> {
     assert_eq!(rt; out.as_slice(), b"\xAA".as_slice());
     // A text of one byte too many.
     let target = letters(rt.alloc(), 65536)?;
-    let packet = targeted(rt.alloc(), &target)?;
+    let packet = targeted(rt.alloc(), &target, null(rt.alloc())?)?;
     let mut out = vec![in rt.alloc(); 0xAA]?;
     let end = write_packet(rt.alloc(), &packet, &mut out);
     assert_eq!(rt; end, Err(PacketEnd::LongText(0)));
