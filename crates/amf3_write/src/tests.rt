@@ -55,30 +55,56 @@ fn item(graph: &Rooted, place: usize) -> Option<Value>
     }
 }
 
+/// What is written of the text and the items of a graph by tables that are given, behind a byte.
+fn by_given_tables(alloc: Global, graph: &Rooted, text: TextId) -> Result<Vec<u8>, Fail>
+    requires { IsTextId graph.now.arena text.0 }
+{
+    let part = item(graph, 0).ok_or("no item")?;
+    let again = item(graph, 1).ok_or("no item")?;
+    let mut tables = WriterTables::new(alloc)?;
+    let mut out = vec![in alloc; 0xAA]?;
+    write3_text(alloc, graph, text, &mut tables, &mut out)?;
+    write3_part(alloc, graph, part, &mut tables, &mut out)?;
+    write3_part(alloc, graph, again, &mut tables, &mut out)?;
+    Ok(out)
+}
+
+/// The same by the tables of a graph, an item first.
+fn by_tables_of_a_graph(alloc: Global, graph: &Rooted, text: TextId) -> Result<Vec<u8>, Fail>
+    requires { IsTextId graph.now.arena text.0 }
+{
+    let part = item(graph, 0).ok_or("no item")?;
+    let again = item(graph, 1).ok_or("no item")?;
+    let mut tables = GraphTables::of(alloc, WriterTables::new(alloc)?);
+    let mut out = vec![in alloc; 0xAA]?;
+    write3_part_of(alloc, graph, part, &mut tables, &mut out)?;
+    write3_text_of(alloc, graph, text, &mut tables, &mut out)?;
+    write3_part_of(alloc, graph, again, &mut tables, &mut out)?;
+    Ok(out)
+}
+
 #[test]
 fn graphs_and_their_parts(rt: HostRuntime) -> Result<(), Fail> {
     let alloc = rt.alloc();
     let (graph, text) = shared(alloc)?;
-    let part = item(&graph, 0).ok_or("no item")?;
-    let again = item(&graph, 1).ok_or("no item")?;
     let mut out = vec![in alloc; 0xAA]?;
     write3(alloc, &graph, &mut out)?;
     write3_keyed(alloc, None, &graph, &mut out)?;
-    let mut given = WriterTables::new(alloc)?;
-    write3_text(alloc, &graph, text, &mut given, &mut out)?;
-    write3_part(alloc, &graph, part, &mut given, &mut out)?;
-    write3_part(alloc, &graph, again, &mut given, &mut out)?;
-    let mut tables = GraphTables::of(alloc, WriterTables::new(alloc)?);
-    write3_part_of(alloc, &graph, part, &mut tables, &mut out)?;
-    write3_text_of(alloc, &graph, text, &mut tables, &mut out)?;
-    write3_part_of(alloc, &graph, again, &mut tables, &mut out)?;
     assert_eq!(rt;
         out.as_slice(),
         b"\xAA\x09\x05\x01\x09\x03\x01\x06\x03a\x09\x02\
-            \x09\x05\x01\x09\x03\x01\x06\x03a\x09\x02\
-            \x03a\x09\x03\x01\x06\x00\x09\x00\
-            \x09\x03\x01\x06\x03a\x00\x09\x00"
+            \x09\x05\x01\x09\x03\x01\x06\x03a\x09\x02"
             .as_slice()
+    );
+    let given = by_given_tables(alloc, &graph, text)?;
+    assert_eq!(rt;
+        given.as_slice(),
+        b"\xAA\x03a\x09\x03\x01\x06\x00\x09\x00".as_slice()
+    );
+    let own = by_tables_of_a_graph(alloc, &graph, text)?;
+    assert_eq!(rt;
+        own.as_slice(),
+        b"\xAA\x09\x03\x01\x06\x03a\x00\x09\x00".as_slice()
     );
     Ok(())
 }
