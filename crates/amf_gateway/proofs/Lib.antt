@@ -17,3 +17,10 @@ pub mod Known
 pub mod WholeTest
 pub mod Speller
 pub mod BytePackets
+pub mod Digits
+pub mod Dots
+pub mod Texts
+pub mod Filled
+pub mod Building
+pub mod Spelling
+pub mod Doing

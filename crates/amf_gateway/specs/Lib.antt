@@ -16,6 +16,8 @@ pub mod Begun
 pub mod Respond
 pub mod RespondLaws
 pub mod Serving
+pub mod Did
+pub mod Kept
 pub mod Tried
 pub mod WorkedTexts
 pub mod WorkedClient

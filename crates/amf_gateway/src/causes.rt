@@ -1,0 +1,61 @@
+//! Why a request fails, as its fault says it.
+
+ghost use Rattle.std.specs.Prelude.{◌≡◌, true, IfOk, IfSome, IsNone, Some, None, length, ◌<◌};
+ghost use Rattle.amf_wire.specs.Text.{is_text};
+ghost use Rattle.amf_gateway.specs.Causes.{refusal, no_form as no_form_cause};
+ghost use Rattle.amf_gateway.specs.Kept.{FaultFits};
+
+use amf_broker::Reply;
+use amf_wire::{Memory, Name};
+use flex_msgs::FaultText;
+use std::alloc::Global;
+
+/// A cause. It gives up where there is no memory.
+fn cause(alloc: Global, code: &[u8], text: &[u8]) -> Result<FaultText, Memory>
+    ensures { IfOk result (λ f. f ≡ record { code = code.now; text = text.now }) }
+{
+    Ok(FaultText {
+        code: Name::of_bytes(alloc, code)?,
+        text: Name::of_bytes(alloc, text)?,
+    })
+}
+
+/// The cause of an answer, or of a message to publish, that has no spelling. It gives up where there is no memory.
+pub(crate) fn no_form(alloc: Global) -> Result<FaultText, Memory>
+    ensures cause { IfOk result (λ f. f ≡ no_form_cause) }
+    ensures fits { IfOk result (λ f. FaultFits f) }
+{
+    cause(alloc, b"Server.NoForm", b"no form")
+}
+
+/// The code and the text of a refusal of the desk.
+fn refusal_texts(reply: &Reply) -> Option<(&'static [u8], &'static [u8])>
+    ensures some { IfSome result (λ p. refusal reply.now ≡ Some (record { code = p.0.now; text = p.1.now })) }
+    ensures texts { IfSome result (λ p. (is_text p.0.now ≡ true) × (is_text p.1.now ≡ true)) }
+    ensures short { IfSome result (λ p. (length p.0.now < 64) × (length p.1.now < 64)) }
+    ensures none { IsNone result → refusal reply.now ≡ None }
+{
+    match reply {
+        Reply::Full(_) => Some((b"Server.Full", b"too many clients")),
+        Reply::TooManySubs(_) => Some((b"Client.TooManySubs", b"too many subscriptions")),
+        Reply::NoClient(_) => Some((b"Client.NoClient", b"no such client")),
+        Reply::NoSub(_) => Some((b"Client.NoSub", b"no such subscription")),
+        Reply::NoTopic(_) => Some((b"Client.NoTopic", b"no such destination")),
+        Reply::TooLong(_) => Some((b"Client.TooLong", b"too long")),
+        Reply::BadNumber(_) => Some((b"Client.BadNumber", b"bad poll number")),
+        Reply::Client(_) | Reply::Subscribed(_) | Reply::Unsubscribed(_) => None,
+        Reply::Published { .. } | Reply::Batch { .. } | Reply::Numbered { .. } => None,
+        Reply::Again { .. } | Reply::Bye => None,
+    }
+}
+
+/// The cause of a refusal of the desk, if the reply is one. It gives up where there is no memory.
+pub(crate) fn refusal(alloc: Global, reply: &Reply) -> Result<Option<FaultText>, Memory>
+    ensures cause { IfOk result (λ f. f ≡ refusal reply.now) }
+    ensures fits { IfOk result (λ f. IfSome f (λ f. FaultFits f)) }
+{
+    match refusal_texts(reply) {
+        Some((code, text)) => Ok(Some(cause(alloc, code, text)?)),
+        None => Ok(None),
+    }
+}
