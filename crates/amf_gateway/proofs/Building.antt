@@ -1,5 +1,5 @@
 -- What a message that was built says.
-use Rattle.std.proofs.Common.{◌≡◌, ℕ, List, [], ◌∷◌, refl, sym, subst}
+use Rattle.std.proofs.Common.{◌≡◌, [], ◌∷◌, refl, sym, subst}
 use Rattle.amf_graph.specs.declared.value.Value.{Value as Stored}
 use Rattle.amf_graph.specs.declared.value.Value.TheVariants.{Null}
 use Rattle.amf_graph.specs.Arena.{Arena, IsFinished, graph_of, value_content}

@@ -8,12 +8,12 @@ use Rattle.flex_msgs.specs.declared.reply.Reply.{Reply}
 use Rattle.amf_gateway.specs.declared.replies.FlexAnswer.{FlexAnswer}
 use Rattle.amf_gateway.specs.Begun.{Begun}
 use Rattle.amf_gateway.specs.Commands.{ask}
-use Rattle.amf_gateway.specs.Did.{none_taken, moment_taken, word_taken, entry_taken, both_taken, Ran, Stopped, AnswersFlex, Tells, Says}
-use Rattle.amf_gateway.specs.Plan.{Plan, gives, ◌>>=◌}
+use Rattle.amf_gateway.specs.Did.{none_taken, moment_taken, word_taken, entry_taken, both_taken, Ran, Stopped, Tells, Says}
+use Rattle.amf_gateway.specs.Plan.{Plan, ◌>>=◌}
 use Rattle.amf_gateway.specs.Replies.{Answer, Context, reply_with, fresh}
 use Rattle.amf_gateway.specs.Runs.{Supply, Done, nothing, and_call, Outcome, gave, Runs}
 use Rattle.amf_gateway.specs.Serving.{Taken, supply_of, did, none_left, more}
-use Rattle.amf_gateway.proofs.Composed.{both, runs_then, runs_more, begun_more, begun_first, begun_then, none_begun}
+use Rattle.amf_gateway.proofs.Composed.{both, runs_then, runs_more, begun_first, begun_then, none_begun}
 
 replies_of : List Event → List Replied
 replies_of es = map (λ e. e.answer.reply) es

@@ -1,4 +1,4 @@
-use Rattle.std.proofs.Common.{◌≡◌, ℕ, List, [], refl, subst, OnErr}
+use Rattle.std.proofs.Common.{ℕ, List, [], refl, subst}
 use Rattle.std.proofs.lemmas.Result.{IfOk-weaker}
 use Rattle.flex_msgs.specs.declared.reply.Reply.{Reply}
 use Rattle.amf_gateway.specs.Did.{Ran}
