@@ -1,5 +1,5 @@
 -- The texts of a graph, one after another.
-use Rattle.std.specs.Prelude.{◌≡◌, ◌≢◌, ℕ, zero, suc, ◌+◌, ◌<◌, List, [], ◌∷◌, ◌++◌, length, take}
+use Rattle.std.specs.Prelude.{◌≡◌, ◌≢◌, ℕ, zero, suc, ◌+◌, ◌<◌, List, [], ◌∷◌, ◌++◌, length, take, slice_get, Some}
 use Rattle.std.proofs.Common.{refl, arith, add-one, get_or}
 use Rattle.std.proofs.Math.Seq.{take-suc}
 use Rattle.std.proofs.lemmas.List.{map-append}
@@ -16,6 +16,12 @@ id_within a (i ∷ ids) (suc k) d all within = id_within a ids k d all.1 (omega 
 -- one text more
 pub texts_more : (a : Arena) (ids : List TextId) (k : ℕ) (d : TextId) → k < length ids → texts_at a (take (k + 1) ids) ≡ texts_at a (take k ids) ++ text_at a (get_or ids k d).0 ∷ []
 texts_more a ids k d within = rw (add-one, take-suc ids k d within, map-append, map-append) refl
+
+-- the text of the id at a place
+pub text_here : (a : Arena) (ids : List TextId) (k : ℕ) (d : TextId) → k < length ids → slice_get (texts_at a ids) k ≡ Some (text_at a (get_or ids k d).0)
+text_here a [] k d within = absurd (omega arith)
+text_here a (i ∷ ids) zero d within = refl
+text_here a (i ∷ ids) (suc k) d within = text_here a ids k d (omega arith)
 
 -- where so many are alike, all of them are where the remaining ones are
 pub record Remains (a : Arena) (texts : List (List ℕ)) (ids : List TextId) (more : List (List ℕ)) (more_ids : List TextId) : Type 0 where

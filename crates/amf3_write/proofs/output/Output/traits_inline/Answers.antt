@@ -19,4 +19,4 @@ returns-clause-ok c =
     c.in_ok-add_traits.ensures.ok refl
 
 pub returns-clause-ready : goal.returns-clause-ready
-returns-clause-ready c = ready_with_entry c.args.graph.now.arena c.texts_of.new.self.tables c.add_traits.new.self c.texts_of.new.self.known c.texts_of.new.self.known _ c.in_ok-texts_of.ensures.ready c.in_ok-add_traits.ensures.ok refl
+returns-clause-ready c = ready_with_entry c.args.graph.now.arena c.texts_of.new.self.tables c.add_traits.new.tables c.texts_of.new.self.known c.texts_of.new.self.known _ c.in_ok-texts_of.ensures.ready c.in_ok-add_traits.ensures.ok refl
