@@ -37,6 +37,7 @@ impl Model for KnownWords {
 }
 
 /// Notes the place of a text of the graph. It says whether one is known then, or the text is empty.
+#[tactic(none)]
 fn note_text(known: &mut KnownPlaces, text: TextId, graph: &Rooted, tables: &WriterTables) -> bool
     requires id { IsTextId graph.now.arena text.0 }
     requires known { AreKnown (text_at graph.now.arena) tables.now.words.texts known.old }
@@ -56,6 +57,7 @@ fn note_text(known: &mut KnownPlaces, text: TextId, graph: &Rooted, tables: &Wri
 }
 
 /// Notes the places of texts of the graph, one after another, up to the first that has none.
+#[tactic(none)]
 fn note_texts(known: &mut KnownPlaces, ids: &[TextId], graph: &Rooted, tables: &WriterTables)
     requires ids { AreTextIds graph.now.arena ids.now }
     requires known { AreKnown (text_at graph.now.arena) tables.now.words.texts known.old }
@@ -65,6 +67,22 @@ fn note_texts(known: &mut KnownPlaces, ids: &[TextId], graph: &Rooted, tables: &
         if !note_text(known, *id, graph, tables) {
             return;
         }
+    }
+}
+
+/// Notes the places of the texts of traits, up to the first that has none.
+fn note_traits(
+    known: &mut KnownPlaces,
+    traits: &TraitsView<'_>,
+    graph: &Rooted,
+    tables: &WriterTables,
+)
+    requires shown { AreTraitsOf graph.now.arena traits.now }
+    requires known { AreKnown (text_at graph.now.arena) tables.now.words.texts known.old }
+    ensures { AreKnown (text_at graph.now.arena) tables.now.words.texts known.new }
+{
+    if note_text(known, traits.class, graph, tables) {
+        note_texts(known, traits.sealed, graph, tables);
     }
 }
 
@@ -105,6 +123,7 @@ impl KnownWords {
     }
 
     /// The first place of traits of the graph: `None` exactly where they have none.
+    #[tactic(none)]
     pub fn place_of_traits(
         &mut self,
         traits: TraitsId,
@@ -122,9 +141,7 @@ impl KnownWords {
         }
         graph.is_finished();
         let shown = graph.traits(traits);
-        if note_text(&mut self.texts, shown.class, graph, tables) {
-            note_texts(&mut self.texts, shown.sealed, graph, tables);
-        }
+        note_traits(&mut self.texts, &shown, graph, tables);
         let place = tables.place_of_known(&shown, graph, &self.texts)?;
         self.traits.keep(traits.0, place);
         Some(place)
@@ -132,6 +149,7 @@ impl KnownWords {
 
     /// Enters traits of the graph that are of a class that is not externalizable. After an error nothing has changed. It
     /// looks up by their bytes only those of their texts whose places are not known.
+    #[tactic(none)]
     pub fn add_traits(
         &self,
         traits: &TraitsView<'_>,

@@ -60,6 +60,7 @@ fn first_same(entries: &[WrittenEntry], entry: &WrittenEntry) -> Option<u32>
 }
 
 /// The first place of traits with members among these. It goes through the bytes of their texts.
+#[tactic(none)]
 fn first_plain(
     entries: &[WrittenEntry],
     traits: &TraitsView<'_>,
@@ -106,6 +107,7 @@ impl TraitsTable {
     }
 
     /// The first place of traits of a class that is not externalizable: `None` exactly where they have none.
+    #[tactic(none)]
     pub(crate) fn place_of(
         &self,
         traits: &TraitsView<'_>,
@@ -131,6 +133,7 @@ impl TraitsTable {
     }
 
     /// The first place of an externalizable class: `None` exactly where it has none.
+    #[tactic(none)]
     pub(crate) fn place_of_wrapped(&self, class: Wrapped) -> Option<u32>
         ensures first { IfSome result (IsFirstPlace self.now (wrapped class)) }
         ensures none { IfNone result (Absent self.now (wrapped class)) }
@@ -139,6 +142,7 @@ impl TraitsTable {
     }
 
     /// Enters traits of a class that is not externalizable. After an error nothing has changed.
+    #[tactic(none)]
     pub(crate) fn push(
         &mut self,
         traits: &TraitsView<'_>,
@@ -168,6 +172,7 @@ impl TraitsTable {
         self.push_entry(WrittenEntry::external(class))
     }
 
+    #[tactic(none)]
     fn push_entry(&mut self, entry: WrittenEntry) -> Result<(), Memory>
         ensures ok { OnOk result (self.new ≡ self.old ++ entry ∷ []) }
         ensures err { OnErr result (self.new ≡ self.old) }

@@ -53,6 +53,7 @@ impl Model for WrittenEntry {
 
 impl WrittenEntry {
     /// That of traits with members, by the codes of their texts: `None` exactly where one of these has none.
+    #[tactic(none)]
     pub(crate) fn coded(
         alloc: Global,
         traits: &TraitsView<'_>,
@@ -127,6 +128,7 @@ impl WrittenEntry {
     }
 
     /// Whether it is this entry, which has no copies.
+    #[tactic(none)]
     pub(crate) fn is_same(&self, other: &WrittenEntry) -> bool
         requires { IsNoCopy other.now }
         ensures { IsTrue result ↔ (self.now ≡ other.now) }
@@ -150,6 +152,7 @@ impl WrittenEntry {
     }
 
     /// Whether it stands for these traits. It goes through the bytes of all texts.
+    #[tactic(none)]
     pub(crate) fn is_plain(
         &self,
         traits: &TraitsView<'_>,
