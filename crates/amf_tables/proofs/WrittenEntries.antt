@@ -1,5 +1,5 @@
 -- What a writer's table of traits keeps, against the entries that it stands for.
-use Rattle.std.specs.Prelude.{◌≡◌, ◌≢◌, ℕ, zero, suc, ◌<◌, List, [], ◌∷◌, ◌++◌, length, map, slice_get, Option, Some, None, IfSome, IfNone}
+use Rattle.std.specs.Prelude.{◌≡◌, ◌≢◌, ℕ, zero, suc, ◌<◌, List, [], ◌∷◌, ◌++◌, length, map, slice_get, Option, Some, None, Result, Ok, Err, IfSome, IfNone, IfOk, OnOk, OnErr, MatchOption}
 use Rattle.std.specs.List.{AllByRecursion}
 use Rattle.std.proofs.Common.{refl, ap, sym, subst, ◌∙◌}
 use Rattle.std.proofs.lemmas.List.{map-append}
@@ -9,10 +9,12 @@ use Rattle.amf_graph.proofs.Matched.{map_get}
 use Rattle.amf_graph.specs.Graph.{Traits}
 use Rattle.amf_graph.specs.declared.wrapped.Wrapped.{Wrapped}
 use Rattle.amf_graph.specs.Order.{Absent}
-use Rattle.amf3_spelling.specs.Tables.{Entry, plain, external}
+use Rattle.amf3_spelling.specs.Tables.{Entry, plain, external, Tables, with_words, add_text, add_entry}
 use Rattle.amf_tables.specs.FirstPlace.{IsFirstPlace}
 use Rattle.amf_tables.specs.TextCodes.{text_of, IsCodeOf, IsCode, IsUncoded, AreCodesOf, HasUncoded}
 use Rattle.amf_tables.specs.WrittenParts.{Written, coded, copied, wrapped, entry_of, IsWritten, IsNoCopy, IsWrittenFor, IsUnwritten, IsPushed}
+use Rattle.amf_tables.specs.SpelledNodes.{Spelled}
+use Rattle.amf_tables.specs.TableParts.{written_tables}
 use Rattle.amf_tables.specs.TextPlaces.{IsEntered}
 use Rattle.amf_tables.specs.declared.text_place.TextPlace.{TextPlace}
 use Rattle.amf_tables.specs.declared.text_place.TextPlace.TheVariants.{Old, New}
@@ -56,7 +58,8 @@ sealed_unwritten texts t none (wrapped c) for = let h = for.same in cc
 -- traits whose texts have codes
 pub written_for : (texts : List (List ℕ)) (t : Traits) (c : ℕ) (s : List ℕ) → IsCodeOf texts t.class c → AreCodesOf texts t.sealed s → IsWrittenFor texts (plain t) (coded c t.dynamic s)
 written_for texts t c s class sealed = record {
-  same = let e = named texts t.class c class in let f = sealed.named in cc;
+  same = ap (λ (w : List ℕ). plain (record { class = w; dynamic = t.dynamic; sealed = map (text_of texts) s })) (named texts t.class c class)
+      ∙ ap (λ (w : List (List ℕ)). plain (record { class = t.class; dynamic = t.dynamic; sealed = w })) sealed.named;
   codes = (is_code texts t.class c class, sealed.codes);
   own = tt;
 }
@@ -173,3 +176,68 @@ written_again texts x new (New k) ws h all = subst (λ w. AllByRecursion (IsWrit
 pub entries_again : (texts : List (List ℕ)) (x : List ℕ) (new : List (List ℕ)) (found : TextPlace) (ws : List Written) → IsEntered texts x new found → AllByRecursion (IsWritten texts) ws → map (entry_of new) ws ≡ map (entry_of texts) ws
 entries_again texts x new (Old k) ws h all = ap (λ w. map (entry_of w) ws) h.1
 entries_again texts x new (New k) ws h all = ap (λ w. map (entry_of w) ws) h.2 ∙ entries_stay texts x ws all
+
+-- What calls leave behind, as they end.
+
+pub none_of : {X A : Type 0} {B : X → Type 0} (r : Option X) → r ≡ None → MatchOption r A B → A
+none_of (Some x) e h = cc
+none_of None e h = h
+
+pub coded_on : {T E : Type 0} (r : Result T E) (texts : List (List ℕ)) (old : List Written) (e : Entry) (w : Written) (new : List Written) → IsWrittenFor texts e w → OnOk r (new ≡ old ++ w ∷ []) → OnOk r (IsPushed texts old e new)
+coded_on (Ok v) texts old e w new for h = coded_pushed texts old e w new for h
+coded_on (Err x) texts old e w new for h = tt
+
+pub copied_on : {T E : Type 0} (r : Result T E) (texts : List (List ℕ)) (old : List Written) (t : Traits) (w : Written) (new : List Written) → w ≡ copied t → OnOk r (new ≡ old ++ w ∷ []) → OnOk r (IsPushed texts old (plain t) new)
+copied_on (Ok v) texts old t w new same h = copied_pushed texts old t w new same h
+copied_on (Err x) texts old t w new same h = tt
+
+pub wrapped_on : {T E : Type 0} (r : Result T E) (texts : List (List ℕ)) (old : List Written) (c : Wrapped) (new : List Written) → OnOk r (new ≡ old ++ wrapped c ∷ []) → OnOk r (IsPushed texts old (external c) new)
+wrapped_on (Ok v) texts old c new h = wrapped_pushed texts old c new h
+wrapped_on (Err x) texts old c new h = tt
+
+-- A text entered behind all.
+
+pub written_grown : {T E : Type 0} (r : Result T E) (texts : List (List ℕ)) (x : List ℕ) (new : List (List ℕ)) (ws : List Written) → OnOk r (new ≡ texts ++ x ∷ []) → OnErr r (new ≡ texts) → AllByRecursion (IsWritten texts) ws → AllByRecursion (IsWritten new) ws
+written_grown (Ok v) texts x new ws h k all = subst (λ w. AllByRecursion (IsWritten w) ws) (sym h) (all_stay texts x ws all)
+written_grown (Err e) texts x new ws h k all = subst (λ w. AllByRecursion (IsWritten w) ws) (sym k) all
+
+pub text_added : {T E : Type 0} (r : Result T E) (texts : List (List ℕ)) (x : List ℕ) (new : List (List ℕ)) (ws : List Written) (nodes : Spelled) (old : Tables) → OnOk r (new ≡ texts ++ x ∷ []) → AllByRecursion (IsWritten texts) ws → written_tables texts ws nodes ≡ old → OnOk r (written_tables new ws nodes ≡ with_words old (add_text old.words x))
+text_added (Ok v) texts x new ws nodes old h all is =
+    subst (λ (t : Tables). written_tables new ws nodes ≡ with_words t (add_text t.words x)) is
+    (ap (λ (w : List (List ℕ)). written_tables w ws nodes) h ∙ ap (λ (es : List Entry). with_words (written_tables texts ws nodes) (record { texts = texts ++ x ∷ []; traits = es })) (entries_stay texts x ws all))
+text_added (Err e) texts x new ws nodes old h all is = tt
+
+pub text_kept : {T E : Type 0} (r : Result T E) (texts new : List (List ℕ)) (ws : List Written) (nodes : Spelled) (old : Tables) → OnErr r (new ≡ texts) → written_tables texts ws nodes ≡ old → OnErr r (written_tables new ws nodes ≡ old)
+text_kept (Ok v) texts new ws nodes old h is = tt
+text_kept (Err e) texts new ws nodes old h is = ap (λ (w : List (List ℕ)). written_tables w ws nodes) h ∙ is
+
+-- A text looked up, and entered where it is new.
+
+pub written_found : {E : Type 0} (r : Result TextPlace E) (texts : List (List ℕ)) (x : List ℕ) (new : List (List ℕ)) (ws : List Written) → IfOk r (IsEntered texts x new) → OnErr r (new ≡ texts) → AllByRecursion (IsWritten texts) ws → AllByRecursion (IsWritten new) ws
+written_found (Ok p) texts x new ws h k all = written_again texts x new p ws h all
+written_found (Err e) texts x new ws h k all = subst (λ w. AllByRecursion (IsWritten w) ws) (sym k) all
+
+entries_found : {E : Type 0} (r : Result TextPlace E) (texts : List (List ℕ)) (x : List ℕ) (new : List (List ℕ)) (ws : List Written) → IfOk r (IsEntered texts x new) → OnErr r (new ≡ texts) → AllByRecursion (IsWritten texts) ws → map (entry_of new) ws ≡ map (entry_of texts) ws
+entries_found (Ok p) texts x new ws h k all = entries_again texts x new p ws h all
+entries_found (Err e) texts x new ws h k all = ap (λ w. map (entry_of w) ws) k
+
+pub rest_found : {E : Type 0} (r : Result TextPlace E) (texts : List (List ℕ)) (x : List ℕ) (new : List (List ℕ)) (ws : List Written) (nodes : Spelled) (old : Tables) → IfOk r (IsEntered texts x new) → OnErr r (new ≡ texts) → AllByRecursion (IsWritten texts) ws → written_tables texts ws nodes ≡ old → written_tables new ws nodes ≡ with_words old (record { texts = new; traits = old.words.traits })
+rest_found r texts x new ws nodes old h k all is =
+    subst (λ (t : Tables). written_tables new ws nodes ≡ with_words t (record { texts = new; traits = t.words.traits })) is
+    (ap (λ (es : List Entry). with_words (written_tables texts ws nodes) (record { texts = new; traits = es })) (entries_found r texts x new ws h k all))
+
+-- An entry pushed.
+
+pub written_pushed : {T E : Type 0} (r : Result T E) (texts : List (List ℕ)) (ws : List Written) (e : Entry) (new : List Written) → OnOk r (IsPushed texts ws e new) → OnErr r (new ≡ ws) → AllByRecursion (IsWritten texts) ws → AllByRecursion (IsWritten texts) new
+written_pushed (Ok v) texts ws e new h k all = pushed_written texts ws e new all h
+written_pushed (Err x) texts ws e new h k all = subst (AllByRecursion (IsWritten texts)) (sym k) all
+
+pub entry_added : {T E : Type 0} (r : Result T E) (texts : List (List ℕ)) (ws : List Written) (e : Entry) (new : List Written) (nodes : Spelled) (old : Tables) → OnOk r (IsPushed texts ws e new) → written_tables texts ws nodes ≡ old → OnOk r (written_tables texts new nodes ≡ with_words old (add_entry old.words e))
+entry_added (Ok v) texts ws e new nodes old h is =
+    subst (λ (t : Tables). written_tables texts new nodes ≡ with_words t (add_entry t.words e)) is
+    (ap (λ (es : List Entry). with_words (written_tables texts ws nodes) (record { texts = texts; traits = es })) (pushed_entries texts ws e new h))
+entry_added (Err x) texts ws e new nodes old h is = tt
+
+pub entries_kept : {T E : Type 0} (r : Result T E) (texts : List (List ℕ)) (ws new : List Written) (nodes : Spelled) (old : Tables) → OnErr r (new ≡ ws) → written_tables texts ws nodes ≡ old → OnErr r (written_tables texts new nodes ≡ old)
+entries_kept (Ok v) texts ws new nodes old h is = tt
+entries_kept (Err e) texts ws new nodes old h is = ap (λ (w : List Written). written_tables texts w nodes) h ∙ is

@@ -37,7 +37,6 @@ impl Model for KnownWords {
 }
 
 /// Notes the place of a text of the graph. It says whether one is known then, or the text is empty.
-#[tactic(none)]
 fn note_text(known: &mut KnownPlaces, text: TextId, graph: &Rooted, tables: &WriterTables) -> bool
     requires id { IsTextId graph.now.arena text.0 }
     requires known { AreKnown (text_at graph.now.arena) tables.now.words.texts known.old }
@@ -57,7 +56,6 @@ fn note_text(known: &mut KnownPlaces, text: TextId, graph: &Rooted, tables: &Wri
 }
 
 /// Notes the places of texts of the graph, one after another, up to the first that has none.
-#[tactic(none)]
 fn note_texts(known: &mut KnownPlaces, ids: &[TextId], graph: &Rooted, tables: &WriterTables)
     requires ids { AreTextIds graph.now.arena ids.now }
     requires known { AreKnown (text_at graph.now.arena) tables.now.words.texts known.old }
@@ -123,7 +121,6 @@ impl KnownWords {
     }
 
     /// The first place of traits of the graph: `None` exactly where they have none.
-    #[tactic(none)]
     pub fn place_of_traits(
         &mut self,
         traits: TraitsId,
@@ -149,7 +146,6 @@ impl KnownWords {
 
     /// Enters traits of the graph that are of a class that is not externalizable. After an error nothing has changed. It
     /// looks up by their bytes only those of their texts whose places are not known.
-    #[tactic(none)]
     pub fn add_traits(
         &self,
         traits: &TraitsView<'_>,

@@ -1,4 +1,4 @@
-ghost use Rattle.std.specs.Prelude.{◌≡◌, ◌<◌, ◌≤◌, ◌++◌, ◌∷◌, [], length, map, IfOk, IfSome, IfNone, OnOk, OnErr};
+ghost use Rattle.std.specs.Prelude.{◌≡◌, ◌<◌, ◌≤◌, ◌↔◌, ◌++◌, ◌∷◌, [], length, map, IsTrue, IfOk, IfSome, IfNone, OnOk, OnErr};
 ghost use Rattle.amf_graph.specs.Order.{Absent};
 ghost use Rattle.amf_tables.specs.ContentHash.{text_hash};
 ghost use Rattle.amf_tables.specs.FirstPlace.{IsFirstPlace};
@@ -79,7 +79,7 @@ impl TextTable {
     }
 
     /// The text of a code, and the empty one where a number is no code.
-    pub(crate) fn text_of(&self, code: u32) -> &[u8]
+    fn text_of(&self, code: u32) -> &[u8]
         ensures { result.now ≡ text_of self.now code }
     {
         if code == EMPTY {
@@ -89,6 +89,13 @@ impl TextTable {
             Some(text) => text.as_bytes(),
             None => &[],
         }
+    }
+
+    /// Whether these bytes are the text of a code.
+    pub(crate) fn is_named(&self, code: u32, bytes: &[u8]) -> bool
+        ensures { IsTrue result ↔ (text_of self.now code ≡ bytes.now) }
+    {
+        self.text_of(code) == bytes
     }
 
     /// The first place of a text: `None` exactly where it has none. It takes no memory.

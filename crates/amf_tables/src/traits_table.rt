@@ -72,10 +72,12 @@ fn first_plain(
     ensures first { IfSome result (IsFirstPlace (map (entry_of texts.now) entries.now) (shown_entry graph.now.arena traits.now)) }
     ensures none { IfNone result (Absent (map (entry_of texts.now) entries.now) (shown_entry graph.now.arena traits.now)) }
 {
-    let place = entries
-        .iter()
-        .position(|entry| entry.is_plain(traits, graph, texts))?;
-    Some(place as u32)
+    for (place, entry) in entries.iter().enumerate() {
+        if entry.is_plain(traits, graph, texts) {
+            return Some(place as u32);
+        }
+    }
+    None
 }
 
 impl TraitsTable {
@@ -107,7 +109,6 @@ impl TraitsTable {
     }
 
     /// The first place of traits of a class that is not externalizable: `None` exactly where they have none.
-    #[tactic(none)]
     pub(crate) fn place_of(
         &self,
         traits: &TraitsView<'_>,
@@ -133,7 +134,6 @@ impl TraitsTable {
     }
 
     /// The first place of an externalizable class: `None` exactly where it has none.
-    #[tactic(none)]
     pub(crate) fn place_of_wrapped(&self, class: Wrapped) -> Option<u32>
         ensures first { IfSome result (IsFirstPlace self.now (wrapped class)) }
         ensures none { IfNone result (Absent self.now (wrapped class)) }
@@ -142,7 +142,6 @@ impl TraitsTable {
     }
 
     /// Enters traits of a class that is not externalizable. After an error nothing has changed.
-    #[tactic(none)]
     pub(crate) fn push(
         &mut self,
         traits: &TraitsView<'_>,
@@ -172,7 +171,6 @@ impl TraitsTable {
         self.push_entry(WrittenEntry::external(class))
     }
 
-    #[tactic(none)]
     fn push_entry(&mut self, entry: WrittenEntry) -> Result<(), Memory>
         ensures ok { OnOk result (self.new ≡ self.old ++ entry ∷ []) }
         ensures err { OnErr result (self.new ≡ self.old) }

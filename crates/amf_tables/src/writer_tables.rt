@@ -117,18 +117,17 @@ impl WriterTables {
     /// The first place of traits of a class that is not externalizable, as a graph shows them: `None`
     /// exactly where they have none. Where there is no memory for a list of places, the bytes of all
     /// traits are compared. Each of their texts is looked up by its bytes: `KnownWords` does so once.
-    #[tactic(none)]
     pub fn place_of_traits(&self, traits: &TraitsView<'_>, graph: &Rooted) -> Option<u32>
         requires { AreTraitsOf graph.now.arena traits.now }
         ensures first { IfSome result
             (IsFirstPlace self.now.words.traits (shown_entry graph.now.arena traits.now)) }
         ensures none { IfNone result (Absent self.now.words.traits (shown_entry graph.now.arena traits.now)) }
     {
-        self.place_of_known(traits, graph, &KnownPlaces::new(self.alloc))
+        let known = KnownPlaces::new(self.alloc);
+        self.place_of_known(traits, graph, &known)
     }
 
     /// Does what `place_of_traits` does. The places of the graph's texts that are known are not looked up.
-    #[tactic(none)]
     pub(crate) fn place_of_known(
         &self,
         traits: &TraitsView<'_>,
@@ -145,7 +144,6 @@ impl WriterTables {
 
     /// The first place of an externalizable class: `None` exactly where it has none. It takes no
     /// memory.
-    #[tactic(none)]
     pub fn place_of_wrapped(&self, class: Wrapped) -> Option<u32>
         ensures first { IfSome result (IsFirstPlace self.now.words.traits (external class)) }
         ensures none { IfNone result (Absent self.now.words.traits (external class)) }
@@ -154,7 +152,6 @@ impl WriterTables {
     }
 
     /// Enters a text. After an error nothing has changed.
-    #[tactic(none)]
     pub fn add_text(&mut self, bytes: &[u8]) -> Result<(), Memory>
         ensures ok { OnOk result (self.new ≡ with_words self.old (add_text self.old.words bytes.now)) }
         ensures err { OnErr result (self.new ≡ self.old) }
@@ -163,7 +160,6 @@ impl WriterTables {
     }
 
     /// The first place of a text, which is entered where it is new. After an error nothing has changed.
-    #[tactic(none)]
     pub fn place_or_add_text(&mut self, bytes: &[u8]) -> Result<TextPlace, Memory>
         ensures ok { IfOk result (IsEntered self.old.words.texts bytes.now self.new.words.texts) }
         ensures rest { self.new ≡ with_words self.old (record { texts = self.new.words.texts; traits = self.old.words.traits }) }
@@ -197,7 +193,6 @@ impl WriterTables {
 
     /// Enters traits of a class that is not externalizable, as a graph shows them. After an error
     /// nothing has changed.
-    #[tactic(none)]
     pub fn add_traits(&mut self, traits: &TraitsView<'_>, graph: &Rooted) -> Result<(), Memory>
         requires { AreTraitsOf graph.now.arena traits.now }
         ensures ok { OnOk result
@@ -210,7 +205,6 @@ impl WriterTables {
     }
 
     /// Does what `add_traits` does. The places of the graph's texts that are known are not looked up.
-    #[tactic(none)]
     pub(crate) fn add_known(
         &mut self,
         traits: &TraitsView<'_>,
@@ -226,7 +220,6 @@ impl WriterTables {
     }
 
     /// Enters the traits of an externalizable class. After an error nothing has changed.
-    #[tactic(none)]
     pub fn add_wrapped(&mut self, class: Wrapped) -> Result<(), Memory>
         ensures ok { OnOk result
             (self.new ≡ with_words self.old (add_entry self.old.words (external class))) }

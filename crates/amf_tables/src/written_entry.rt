@@ -53,7 +53,6 @@ impl Model for WrittenEntry {
 
 impl WrittenEntry {
     /// That of traits with members, by the codes of their texts: `None` exactly where one of these has none.
-    #[tactic(none)]
     pub(crate) fn coded(
         alloc: Global,
         traits: &TraitsView<'_>,
@@ -128,7 +127,6 @@ impl WrittenEntry {
     }
 
     /// Whether it is this entry, which has no copies.
-    #[tactic(none)]
     pub(crate) fn is_same(&self, other: &WrittenEntry) -> bool
         requires { IsNoCopy other.now }
         ensures { IsTrue result ↔ (self.now ≡ other.now) }
@@ -152,7 +150,6 @@ impl WrittenEntry {
     }
 
     /// Whether it stands for these traits. It goes through the bytes of all texts.
-    #[tactic(none)]
     pub(crate) fn is_plain(
         &self,
         traits: &TraitsView<'_>,
@@ -168,7 +165,7 @@ impl WrittenEntry {
                 dynamic,
                 sealed,
             } => {
-                texts.text_of(*class) == graph.text(traits.class)
+                texts.is_named(*class, graph.text(traits.class))
                     && *dynamic == traits.dynamic
                     && are_named(sealed, traits.sealed, graph, texts)
             }

@@ -45,7 +45,7 @@ pub(crate) fn are_texts(texts: &[Name], ids: &[TextId], graph: &Rooted) -> bool
 }
 
 /// Whether the texts of these codes are those of a graph, in order.
-#[tactic(auto, using(crate::proofs::ShownTexts::compared))]
+#[tactic(auto, using(crate::proofs::ShownTexts::named))]
 pub(crate) fn are_named(codes: &[u32], ids: &[TextId], graph: &Rooted, texts: &TextTable) -> bool
     requires { AreTextIds graph.now.arena ids.now }
     ensures { IsTrue result ↔ (map (text_of texts.now) codes.now ≡ texts_at graph.now.arena ids.now) }
@@ -54,7 +54,7 @@ pub(crate) fn are_named(codes: &[u32], ids: &[TextId], graph: &Rooted, texts: &T
         return false;
     }
     for (code, id) in codes.iter().zip(ids) {
-        if texts.text_of(*code) != graph.text(*id) {
+        if !texts.is_named(*code, graph.text(*id)) {
             return false;
         }
     }
