@@ -1,15 +1,16 @@
 -- What a writer's table of traits keeps, against the entries that it stands for.
-use Rattle.std.specs.Prelude.{◌≡◌, ◌≢◌, ℕ, zero, suc, ◌<◌, List, [], ◌∷◌, ◌++◌, length, map, slice_get, Option, Some, None, Result, Ok, Err, IfSome, IfNone, IfOk, OnOk, OnErr, MatchOption}
+use Rattle.std.specs.Prelude.{◌≡◌, ◌≢◌, ℕ, zero, suc, ◌+◌, ◌<◌, ◌≤◌, List, [], ◌∷◌, ◌++◌, length, map, slice_get, get_or, Option, Some, None, Result, Ok, Err, IfSome, IfNone, IfOk, OnOk, OnErr, MatchOption}
 use Rattle.std.specs.List.{AllByRecursion}
-use Rattle.std.proofs.Common.{refl, ap, sym, subst, ◌∙◌}
-use Rattle.std.proofs.lemmas.List.{map-append}
-use Rattle.std.proofs.lemmas.Option.{same_Some}
+use Rattle.std.proofs.Common.{refl, ap, sym, subst, ◌∙◌, arith, below_more}
+use Rattle.std.proofs.lemmas.List.{map-append, length-map}
+use Rattle.std.proofs.lemmas.Option.{same_Some, slice_get_read, slice_get_within}
 use Rattle.amf_graph.proofs.Alls.{each_at, all_push}
 use Rattle.amf_graph.proofs.Matched.{map_get}
 use Rattle.amf_graph.specs.Graph.{Traits}
 use Rattle.amf_graph.specs.declared.wrapped.Wrapped.{Wrapped}
 use Rattle.amf_graph.specs.Order.{Absent}
 use Rattle.amf3_spelling.specs.Tables.{Entry, plain, external, Tables, with_words, add_text, add_entry}
+use Rattle.amf3_spelling.specs.Words3.{NoPlaceBelow}
 use Rattle.amf_tables.specs.FirstPlace.{IsFirstPlace}
 use Rattle.amf_tables.specs.TextCodes.{text_of, IsCodeOf, IsCode, IsUncoded, AreCodesOf, HasUncoded}
 use Rattle.amf_tables.specs.WrittenParts.{Written, coded, copied, wrapped, entry_of, IsWritten, IsNoCopy, IsWrittenFor, IsUnwritten, IsPushed}
@@ -241,3 +242,20 @@ entry_added (Err x) texts ws e new nodes old h is = tt
 pub entries_kept : {T E : Type 0} (r : Result T E) (texts : List (List ℕ)) (ws new : List Written) (nodes : Spelled) (old : Tables) → OnErr r (new ≡ ws) → written_tables texts ws nodes ≡ old → OnErr r (written_tables texts new nodes ≡ old)
 entries_kept (Ok v) texts ws new nodes old h is = tt
 entries_kept (Err e) texts ws new nodes old h is = ap (λ (w : List Written). written_tables texts w nodes) h ∙ is
+
+-- Traits by their bytes, entry after entry.
+
+entry_read : (texts : List (List ℕ)) (ws : List Written) (i : ℕ) (w : Written) → i < length ws → w ≡ get_or ws i w → slice_get (map (entry_of texts) ws) i ≡ Some (entry_of texts w)
+entry_read texts ws i w within is = map_get (entry_of texts) ws i w (slice_get_read ws (length ws) i w refl within is)
+
+pub plain_here : (texts : List (List ℕ)) (ws : List Written) (e : Entry) (i : ℕ) (w : Written) → i < length ws → w ≡ get_or ws i w → entry_of texts w ≡ e → NoPlaceBelow i (map (entry_of texts) ws) e → IsFirstPlace (map (entry_of texts) ws) e i
+plain_here texts ws e i w within is same below = (entry_read texts ws i w within is ∙ ap (λ y. Some y) same, below)
+
+pub plain_not_here : (texts : List (List ℕ)) (ws : List Written) (e : Entry) (i : ℕ) (w : Written) → i < length ws → w ≡ get_or ws i w → entry_of texts w ≢ e → NoPlaceBelow i (map (entry_of texts) ws) e → NoPlaceBelow (i + 1) (map (entry_of texts) ws) e
+plain_not_here texts ws e i w within is other below = below_more (λ k. slice_get (map (entry_of texts) ws) k ≢ Some e) i below (λ d. other (same_Some (entry_of texts w) e (sym (entry_read texts ws i w within is) ∙ d)))
+
+pub plain_nowhere : (texts : List (List ℕ)) (ws : List Written) (e : Entry) (i : ℕ) → length ws ≤ i → NoPlaceBelow i (map (entry_of texts) ws) e → Absent (map (entry_of texts) ws) e
+plain_nowhere texts ws e i past below k d =
+    let within = slice_get_within (map (entry_of texts) ws) k e d in
+    let long = length-map ws (entry_of texts) in
+    below k (omega arith) d

@@ -60,7 +60,6 @@ fn first_same(entries: &[WrittenEntry], entry: &WrittenEntry) -> Option<u32>
 }
 
 /// The first place of traits with members among these. It goes through the bytes of their texts.
-#[tactic(none)]
 fn first_plain(
     entries: &[WrittenEntry],
     traits: &TraitsView<'_>,
