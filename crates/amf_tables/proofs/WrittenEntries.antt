@@ -111,9 +111,8 @@ absent_wrapped texts ws c = absent_of (entry_of texts) ws (external c) (wrapped 
 
 entry_stays : (texts : List (List ℕ)) (z : List ℕ) (w : Written) → IsWritten texts w → entry_of (texts ++ z ∷ []) w ≡ entry_of texts w
 entry_stays texts z (coded c d s) a =
-    let class = text_stays texts z c a.0 in
-    let sealed = texts_stay texts z s a.1 in
-    cc
+    ap (λ (w : List ℕ). plain (record { class = w; dynamic = d; sealed = map (text_of (texts ++ z ∷ [])) s })) (text_stays texts z c a.0)
+    ∙ ap (λ (w : List (List ℕ)). plain (record { class = text_of texts c; dynamic = d; sealed = w })) (texts_stay texts z s a.1)
 entry_stays texts z (copied t) a = refl
 entry_stays texts z (wrapped c) a = refl
 
