@@ -179,13 +179,13 @@ entries_again texts x new (New k) ws h all = ap (λ w. map (entry_of w) ws) h.2 
 
 -- What calls leave behind, as they end.
 
-pub none_of : {X A : Type 0} {B : X → Type 0} (r : Option X) → r ≡ None → MatchOption r A B → A
-none_of (Some x) e h = cc
-none_of None e h = h
+pub none_of : {X : Type 0} (A : Type 0) (B : X → Type 0) (r : Option X) → r ≡ None → MatchOption r A B → A
+none_of A B (Some x) e h = cc
+none_of A B None e h = h
 
-pub some_of : {X A : Type 0} {B : X → Type 0} (r : Option X) (x : X) → r ≡ Some x → MatchOption r A B → B x
-some_of {B = B} (Some y) x e h = subst B (same_Some y x e) h
-some_of None x e h = cc
+pub some_of : {X : Type 0} (A : Type 0) (B : X → Type 0) (r : Option X) (x : X) → r ≡ Some x → MatchOption r A B → B x
+some_of A B (Some y) x e h = subst B (same_Some y x e) h
+some_of A B None x e h = cc
 
 pub coded_on : {T E : Type 0} (r : Result T E) (texts : List (List ℕ)) (old : List Written) (e : Entry) (w : Written) (new : List Written) → IsWrittenFor texts e w → OnOk r (new ≡ old ++ w ∷ []) → OnOk r (IsPushed texts old e new)
 coded_on (Ok v) texts old e w new for h = coded_pushed texts old e w new for h
