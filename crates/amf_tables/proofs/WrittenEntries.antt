@@ -12,7 +12,7 @@ use Rattle.amf_graph.specs.Order.{Absent}
 use Rattle.amf3_spelling.specs.Tables.{Entry, plain, external, Tables, with_words, add_text, add_entry}
 use Rattle.amf3_spelling.specs.Words3.{NoPlaceBelow}
 use Rattle.amf_tables.specs.FirstPlace.{IsFirstPlace}
-use Rattle.amf_tables.specs.TextCodes.{text_of, IsCodeOf, IsCode, IsUncoded, AreCodesOf, HasUncoded}
+use Rattle.amf_tables.specs.TextCodes.{text_of, IsCodeOf, IsUncoded, AreCodesOf, HasUncoded}
 use Rattle.amf_tables.specs.WrittenParts.{Written, coded, copied, wrapped, entry_of, IsWritten, IsNoCopy, IsWrittenFor, IsUnwritten, IsPushed}
 use Rattle.amf_tables.specs.SpelledNodes.{Spelled}
 use Rattle.amf_tables.specs.TableParts.{written_tables}

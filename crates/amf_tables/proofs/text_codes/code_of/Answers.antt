@@ -1,4 +1,4 @@
-use Rattle.std.proofs.Common.{◌≡◌, ◌≢◌, ℕ, List, [], sym, ◌∙◌}
+use Rattle.std.proofs.Common.{◌≢◌, [], sym, ◌∙◌}
 use Rattle.amf_graph.specs.Arena.{text_at}
 use Rattle.amf_tables.proofs.TextCodes.{no_bytes, some_bytes, empty_coded, place_coded, absent_uncoded, last_uncoded}
 use Rattle.amf_tables.proofs.text_codes.code_of.Goals as goal

@@ -1,4 +1,4 @@
-use Rattle.std.proofs.Common.{◌≡◌, List, [], ◌∷◌, ◌++◌, take, get_or, sym, subst}
+use Rattle.std.proofs.Common.{[], ◌∷◌, ◌++◌, take, get_or, sym, subst}
 use Rattle.amf_graph.specs.Arena.{text_at}
 use Rattle.amf_tables.specs.ShownTraits.{texts_at}
 use Rattle.amf_tables.specs.TextCodes.{AreCodesOf}
