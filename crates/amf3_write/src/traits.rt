@@ -114,7 +114,7 @@ impl Output {
         self.number(16 * traits.sealed.len() as u32 + flags)?;
         self.text_of(traits.class, graph)?;
         self.texts_of(traits.sealed, graph)?;
-        self.tables.add_traits(traits, graph)?;
+        self.known.add_traits(traits, graph, &mut self.tables)?;
         Ok(())
     }
 

@@ -1,5 +1,5 @@
 -- Places by id: one more id, one more place, more entries.
-use Rattle.std.specs.Prelude.{◌≡◌, ◌≢◌, ℕ, zero, suc, List, [], ◌∷◌, ◌++◌, slice_get, Some}
+use Rattle.std.specs.Prelude.{◌≡◌, ◌≢◌, ℕ, zero, suc, List, [], ◌∷◌, ◌++◌, slice_get, Some, Result, Ok, Err, OnOk, OnErr}
 use Rattle.std.proofs.Common.{set, sym, subst, ◌∙◌, inl, inr}
 use Rattle.std.proofs.lemmas.Bool.{cases_eq}
 use Rattle.std.proofs.lemmas.Option.{same_Some}
@@ -8,7 +8,7 @@ use Rattle.amf_graph.proofs.Lists.{at_push}
 use Rattle.amf_tables.specs.FirstPlace.{IsFirstPlace}
 use Rattle.amf_tables.specs.KnownPlaces.{AreKnown, Knows}
 use Rattle.amf_tables.specs.KnownWords.{Known, entry_at, AreKnownOf, nothing_known}
-use Rattle.amf3_spelling.specs.Tables.{Entry, Words, add_text, add_entry}
+use Rattle.amf3_spelling.specs.Tables.{Entry, Words, Tables, with_words, add_text, add_entry}
 use Rattle.amf_tables.specs.TextPlaces.{IsEntered}
 use Rattle.amf_tables.specs.declared.text_place.TextPlace.{TextPlace}
 use Rattle.amf_tables.specs.declared.text_place.TextPlace.TheVariants.{Old, New}
@@ -71,3 +71,12 @@ known_new a w w' known i place (New k) more s h e t m =
       texts = known_more (text_at a) w'.texts known.texts more i place before (subst (λ n. IsFirstPlace w'.texts (text_at a i) n) same e.1) m;
       traits = subst (λ es. AreKnown (entry_at a) es known.traits) (sym t) h.traits;
     }
+
+-- nothing is known by a list without entries
+pub none_known : {X : Type 0} (named : ℕ → X) (entries : List X) (places : List ℕ) → places ≡ [] → AreKnown named entries places
+none_known named entries places none i k e there = let h : slice_get [] i ≡ Some k = subst (λ w. slice_get w i ≡ Some k) none e in cc
+
+-- traits were entered, or not
+pub known_after : {T E : Type 0} (r : Result T E) (a : Arena) (t new : Tables) (e : Entry) (known : Known) → OnOk r (new ≡ with_words t (add_entry t.words e)) → OnErr r (new ≡ t) → AreKnownOf a t.words known → AreKnownOf a new.words known
+known_after (Ok v) a t new e known h k right = subst (λ (w : Tables). AreKnownOf a w.words known) (sym h) (known_with_entry a t.words e known right)
+known_after (Err x) a t new e known h k right = subst (λ (w : Tables). AreKnownOf a w.words known) (sym k) right

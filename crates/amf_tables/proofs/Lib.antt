@@ -4,3 +4,5 @@ pub mod NodePlaces
 pub mod KnownPlaces
 pub mod SpelledNodes
 pub mod ShownTexts
+pub mod TextCodes
+pub mod WrittenEntries

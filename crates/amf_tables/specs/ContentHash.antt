@@ -1,24 +1,32 @@
--- The hash of what an entry of a writer's table holds: of a text, and of traits by their flag, class and sealed names. A device of proofs.
-use Rattle.std.specs.Prelude.{ℕ, List, [], ◌∷◌, cond}
+-- The hash of what a writer's table keeps: of a text by its bytes, and of traits by their flag and the codes of their texts. A device of proofs.
+use Rattle.std.specs.Prelude.{ℕ, Bool, List, [], ◌∷◌, cond}
 use Rattle.std.specs.List.{fold}
+use Rattle.std.specs.Hash as fed
 use Rattle.std.specs.Hash.DefaultHasher.{write, finish}
 use Rattle.std.specs.declared.hash.DefaultHasher.{DefaultHasher}
 use Rattle.amf_graph.specs.declared.wrapped.Wrapped.{Wrapped}
 use Rattle.amf_graph.specs.declared.wrapped.Wrapped.TheVariants.{ArrayCollection, ArrayList, ObjectProxy}
-use Rattle.amf3_spelling.specs.Tables.{Entry, plain, external}
+use Rattle.amf_tables.specs.WrittenParts.{Written, coded, copied, wrapped}
 
 abbrev pub text_hash : DefaultHasher → List ℕ → ℕ
 text_hash start x = finish (write start x)
 
--- one text of several, ended by a byte that no text has
-abbrev pub write_text : DefaultHasher → List ℕ → DefaultHasher
-write_text s x = write (write s x) (255 ∷ [])
+abbrev pub write_code : DefaultHasher → ℕ → DefaultHasher
+write_code s k = fold write s (fed.u32 k)
 
 abbrev pub class_number : Wrapped → ℕ
 class_number ArrayCollection = 2
 class_number ArrayList = 3
 class_number ObjectProxy = 4
 
-abbrev pub entry_hash : DefaultHasher → Entry → ℕ
-entry_hash start (plain t) = finish (fold write_text (write_text (write start (cond t.dynamic 1 0 ∷ [])) t.class) t.sealed)
-entry_hash start (external c) = finish (write start (class_number c ∷ []))
+abbrev pub coded_hash : DefaultHasher → ℕ → Bool → List ℕ → ℕ
+coded_hash start class dynamic sealed = finish (fold write_code (write_code (write start (cond dynamic 1 0 ∷ [])) class) sealed)
+
+abbrev pub class_hash : DefaultHasher → Wrapped → ℕ
+class_hash start c = finish (write start (class_number c ∷ []))
+
+-- copies are not looked up by it
+abbrev pub written_hash : DefaultHasher → Written → ℕ
+written_hash start (coded class dynamic sealed) = coded_hash start class dynamic sealed
+written_hash start (copied t) = finish start
+written_hash start (wrapped c) = class_hash start c

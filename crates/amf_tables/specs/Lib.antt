@@ -11,4 +11,6 @@ pub mod ContentHash
 pub mod HashedPlaces
 pub mod NodePlaces
 pub mod SpelledNodes
+pub mod TextCodes
 pub mod WrittenParts
+pub mod WrittenContent

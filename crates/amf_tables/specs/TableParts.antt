@@ -4,8 +4,9 @@ use Rattle.amf_graph.specs.declared.value.TextId.{TextId}
 use Rattle.amf_graph.specs.declared.value.NodeId.{NodeId}
 use Rattle.amf_graph.specs.declared.value.TraitsId.{TraitsId}
 use Rattle.amf_graph.specs.declared.wrapped.Wrapped.{Wrapped}
-use Rattle.amf3_spelling.specs.Tables.{Entry, Tables}
+use Rattle.amf3_spelling.specs.Tables.{Tables}
 use Rattle.amf_tables.specs.SpelledNodes.{Spelled}
+use Rattle.amf_tables.specs.WrittenParts.{Written, entry_of}
 use Rattle.amf3_spelling.specs.KeptTables.{KeptEntry, plain, external, KeptTables}
 
 -- Ids as numbers.
@@ -29,9 +30,9 @@ abbrev pub kept_tables : List TextId → List KeptEntry → List NodeId → Kept
 kept_tables texts traits nodes = record { texts = map text_number texts; traits = traits; nodes = map node_number nodes }
 
 -- a writer's tables
-abbrev pub written_tables : List (List ℕ) → List Entry → Spelled → Tables
+abbrev pub written_tables : List (List ℕ) → List Written → Spelled → Tables
 written_tables texts traits spelled = record {
-  words = record { texts = texts; traits = traits };
+  words = record { texts = texts; traits = map (entry_of texts) traits };
   nodes = spelled.nodes;
   done = spelled.done;
 }

@@ -1,10 +1,8 @@
 ghost use Rattle.std.specs.Prelude.{◌≡◌};
 ghost use Rattle.std.specs.List.{fold};
-ghost use Rattle.amf_tables.specs.ContentHash.{text_hash, entry_hash, write_text};
-ghost use Rattle.amf_tables.specs.ShownTraits.{AreTextIds, AreTraitsOf, shown_entry, texts_at};
-ghost use Rattle.amf3_spelling.specs.Tables.{external};
+ghost use Rattle.amf_tables.specs.ContentHash.{text_hash, coded_hash, class_hash, write_code};
 
-use amf_graph::{Rooted, TextId, TraitsView, Wrapped};
+use amf_graph::Wrapped;
 use std::hash::{DefaultHasher, Hasher};
 
 /// The hash of a text, from this start.
@@ -16,40 +14,29 @@ pub(crate) fn hash_of_text(start: DefaultHasher, bytes: &[u8]) -> u64
     state.finish()
 }
 
-/// Takes in one text of several: no text has the byte FF, so it ends there.
-fn take_text(state: &mut DefaultHasher, bytes: &[u8])
-    ensures { state.new ≡ write_text state.old bytes.now }
+/// Takes in codes of texts, one after another.
+fn take_codes(state: &mut DefaultHasher, codes: &[u32])
+    ensures { state.new ≡ fold write_code state.old codes.now }
 {
-    state.write(bytes);
-    state.write(&[0xFF]);
-}
-
-/// Takes in texts of a graph, one after another.
-#[tactic(auto, using(crate::proofs::ShownTexts::copied))]
-fn take_texts(state: &mut DefaultHasher, ids: &[TextId], graph: &Rooted)
-    requires { AreTextIds graph.now.arena ids.now }
-    ensures { state.new ≡ fold write_text state.old (texts_at graph.now.arena ids.now) }
-{
-    for id in ids {
-        take_text(state, graph.text(*id));
+    for code in codes {
+        state.write_u32(*code);
     }
 }
 
-/// The hash of traits with members, which a graph shows.
-pub(crate) fn hash_of_traits(start: DefaultHasher, traits: &TraitsView<'_>, graph: &Rooted) -> u64
-    requires { AreTraitsOf graph.now.arena traits.now }
-    ensures { result ≡ entry_hash start (shown_entry graph.now.arena traits.now) }
+/// The hash of traits with members, by the codes of their texts.
+pub(crate) fn hash_of_codes(start: DefaultHasher, class: u32, dynamic: bool, sealed: &[u32]) -> u64
+    ensures { result ≡ coded_hash start class dynamic sealed.now }
 {
     let mut state = start;
-    state.write(&[u8::from(traits.dynamic)]);
-    take_text(&mut state, graph.text(traits.class));
-    take_texts(&mut state, traits.sealed, graph);
+    state.write(&[u8::from(dynamic)]);
+    state.write_u32(class);
+    take_codes(&mut state, sealed);
     state.finish()
 }
 
 /// The hash of the traits of an externalizable class.
 pub(crate) fn hash_of_class(start: DefaultHasher, class: Wrapped) -> u64
-    ensures { result ≡ entry_hash start (external class) }
+    ensures { result ≡ class_hash start class }
 {
     let mut state = start;
     state.write(&[match class {

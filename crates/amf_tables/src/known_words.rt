@@ -1,15 +1,17 @@
-ghost use Rattle.std.specs.Prelude.{◌≡◌, ◌<◌, length, IfOk, IfSome, IfNone, OnErr};
+ghost use Rattle.std.specs.Prelude.{◌≡◌, ◌<◌, length, IfOk, IfSome, IfNone, OnOk, OnErr};
 ghost use Rattle.amf_graph.specs.Arena.{IsTextId, text_at};
 ghost use Rattle.amf_graph.specs.Order.{Absent};
 ghost use Rattle.amf_tables.specs.FirstPlace.{IsFirstPlace};
+ghost use Rattle.amf_tables.specs.KnownPlaces.{AreKnown};
 ghost use Rattle.amf_tables.specs.KnownWords.{nothing_known, entry_at, AreKnownOf};
-ghost use Rattle.amf3_spelling.specs.Tables.{with_words};
+ghost use Rattle.amf_tables.specs.ShownTraits.{AreTextIds, AreTraitsOf, shown_entry};
+ghost use Rattle.amf3_spelling.specs.Tables.{with_words, add_entry};
 ghost use Rattle.amf_tables.specs.TextPlaces.{IsEntered};
 
 use crate::known_places::KnownPlaces;
 use crate::text_place::TextPlace;
 use crate::writer_tables::WriterTables;
-use amf_graph::{Rooted, TextId, TraitsId};
+use amf_graph::{Rooted, TextId, TraitsId, TraitsView};
 use amf_wire::Memory;
 use std::alloc::Global;
 use std::marker::Model;
@@ -26,11 +28,60 @@ pub struct KnownWords {
 }
 
 impl Model for KnownWords {
+    ghost use Rattle.amf_tables.specs.KnownPlaces.{AreKnown};
     ghost use Rattle.amf_tables.specs.KnownWords.{Known};
 
     ghost Value = { Known };
 
     ghost view = { λ k. record { texts = k.texts; traits = k.traits } };
+}
+
+/// Notes the place of a text of the graph. It says whether one is known then, or the text is empty.
+fn note_text(known: &mut KnownPlaces, text: TextId, graph: &Rooted, tables: &WriterTables) -> bool
+    requires id { IsTextId graph.now.arena text.0 }
+    requires known { AreKnown (text_at graph.now.arena) tables.now.words.texts known.old }
+    ensures { AreKnown (text_at graph.now.arena) tables.now.words.texts known.new }
+{
+    if known.place_of(text.0).is_some() {
+        return true;
+    }
+    let bytes = graph.text(text);
+    match tables.place_of_text(bytes) {
+        Some(place) => {
+            known.keep(text.0, place);
+            true
+        }
+        None => bytes.is_empty(),
+    }
+}
+
+/// Notes the places of texts of the graph, one after another, up to the first that has none.
+fn note_texts(known: &mut KnownPlaces, ids: &[TextId], graph: &Rooted, tables: &WriterTables)
+    requires ids { AreTextIds graph.now.arena ids.now }
+    requires known { AreKnown (text_at graph.now.arena) tables.now.words.texts known.old }
+    ensures { AreKnown (text_at graph.now.arena) tables.now.words.texts known.new }
+{
+    for id in ids {
+        if !note_text(known, *id, graph, tables) {
+            return;
+        }
+    }
+}
+
+/// Notes the places of the texts of traits, up to the first that has none.
+fn note_traits(
+    known: &mut KnownPlaces,
+    traits: &TraitsView<'_>,
+    graph: &Rooted,
+    tables: &WriterTables,
+)
+    requires shown { AreTraitsOf graph.now.arena traits.now }
+    requires known { AreKnown (text_at graph.now.arena) tables.now.words.texts known.old }
+    ensures { AreKnown (text_at graph.now.arena) tables.now.words.texts known.new }
+{
+    if note_text(known, traits.class, graph, tables) {
+        note_texts(known, traits.sealed, graph, tables);
+    }
 }
 
 impl KnownWords {
@@ -86,8 +137,27 @@ impl KnownWords {
             return Some(place);
         }
         graph.is_finished();
-        let place = tables.place_of_traits(&graph.traits(traits), graph)?;
+        let shown = graph.traits(traits);
+        note_traits(&mut self.texts, &shown, graph, tables);
+        let place = tables.place_of_known(&shown, graph, &self.texts)?;
         self.traits.keep(traits.0, place);
         Some(place)
+    }
+
+    /// Enters traits of the graph that are of a class that is not externalizable. After an error nothing has changed. It
+    /// looks up by their bytes only those of their texts whose places are not known.
+    pub fn add_traits(
+        &self,
+        traits: &TraitsView<'_>,
+        graph: &Rooted,
+        tables: &mut WriterTables,
+    ) -> Result<(), Memory>
+        requires shown { AreTraitsOf graph.now.arena traits.now }
+        requires known { AreKnownOf graph.now.arena tables.old.words self.now }
+        ensures ok { OnOk result (tables.new ≡ with_words tables.old (add_entry tables.old.words (shown_entry graph.now.arena traits.now))) }
+        ensures known { AreKnownOf graph.now.arena tables.new.words self.now }
+        ensures err { OnErr result (tables.new ≡ tables.old) }
+    {
+        tables.add_known(traits, graph, &self.texts)
     }
 }

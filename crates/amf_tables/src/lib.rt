@@ -8,6 +8,7 @@ mod known_words;
 mod node_table;
 mod spelled_nodes;
 mod tables3;
+mod text_codes;
 mod text_place;
 mod text_table;
 mod traits_entry;

@@ -1,12 +1,14 @@
-ghost use Rattle.std.specs.Prelude.{◌≡◌, ◌<◌, ◌≤◌, ◌++◌, ◌∷◌, [], length, map, IfOk, IfSome, IfNone, OnOk, OnErr};
+ghost use Rattle.std.specs.Prelude.{◌≡◌, ◌<◌, ◌≤◌, ◌↔◌, ◌++◌, ◌∷◌, [], length, map, IsTrue, IfOk, IfSome, IfNone, OnOk, OnErr};
 ghost use Rattle.amf_graph.specs.Order.{Absent};
 ghost use Rattle.amf_tables.specs.ContentHash.{text_hash};
 ghost use Rattle.amf_tables.specs.FirstPlace.{IsFirstPlace};
 ghost use Rattle.amf_tables.specs.HashedPlaces.{AreFirstPlaces};
+ghost use Rattle.amf_tables.specs.TextCodes.{text_of};
 ghost use Rattle.amf_tables.specs.TextPlaces.{IsEntered};
 
 use crate::content_hash::hash_of_text;
 use crate::first_places::{MAX_ENTRIES, enter, first_with};
+use crate::text_codes::EMPTY;
 use crate::text_place::TextPlace;
 use crate::written_texts::is_text;
 use amf_wire::{Memory, Name};
@@ -74,6 +76,26 @@ impl TextTable {
             texts: Vec::new(alloc),
             places: IndexMap::new(alloc),
         }
+    }
+
+    /// The text of a code, and the empty one where a number is no code.
+    fn text_of(&self, code: u32) -> &[u8]
+        ensures { result.now ≡ text_of self.now code }
+    {
+        if code == EMPTY {
+            return &[];
+        }
+        match self.texts.get(code as usize) {
+            Some(text) => text.as_bytes(),
+            None => &[],
+        }
+    }
+
+    /// Whether these bytes are the text of a code.
+    pub(crate) fn is_named(&self, code: u32, bytes: &[u8]) -> bool
+        ensures { IsTrue result ↔ (text_of self.now code ≡ bytes.now) }
+    {
+        self.text_of(code) == bytes
     }
 
     /// The first place of a text: `None` exactly where it has none. It takes no memory.

@@ -1,11 +1,16 @@
-ghost use Rattle.std.specs.Prelude.{◌≡◌, ◌<◌, ◌≤◌, ◌++◌, ◌∷◌, [], length, IfSome, IfNone, OnOk, OnErr};
+ghost use Rattle.std.specs.Prelude.{◌≡◌, ◌≤◌, ◌++◌, ◌∷◌, [], length, map, IfSome, IfNone, OnOk, OnErr};
+ghost use Rattle.std.specs.List.{AllByRecursion};
+ghost use Rattle.amf_graph.specs.Arena.{text_at};
 ghost use Rattle.amf_graph.specs.Order.{Absent};
 ghost use Rattle.amf_tables.specs.FirstPlace.{IsFirstPlace};
+ghost use Rattle.amf_tables.specs.KnownPlaces.{AreKnown};
 ghost use Rattle.amf_tables.specs.ShownTraits.{AreTraitsOf, shown_entry};
+ghost use Rattle.amf_tables.specs.WrittenParts.{Written, wrapped, entry_of, IsWritten, IsNoCopy, IsPushed};
 ghost use Rattle.amf3_spelling.specs.Tables.{external};
 
-use crate::content_hash::{hash_of_class, hash_of_traits};
 use crate::first_places::{MAX_ENTRIES, enter, first_with};
+use crate::known_places::KnownPlaces;
+use crate::text_table::TextTable;
 use crate::written_entry::WrittenEntry;
 use amf_graph::{Rooted, TraitsView, Wrapped};
 use amf_wire::Memory;
@@ -14,51 +19,64 @@ use std::alloc::Global;
 use std::hash::DefaultHasher;
 use std::marker::Model;
 
-/// The traits of a writer's tables, in the order of their places, with the first place of each hash.
+/// The traits of a writer's tables, in the order of their places, with the first place of each hash. They name the texts of
+/// a table of texts, which each call is passed.
 #[derive(Drop)]
 pub(crate) struct TraitsTable {
     alloc: Global,
     start: DefaultHasher,
     entries: Vec<WrittenEntry>,
     places: IndexMap<u64, u32>,
+    /// Whether some entry has copies of its texts.
+    has_copies: bool,
 }
 
 impl Model for TraitsTable {
-    ghost use Rattle.std.specs.Prelude.{◌≤◌, List, map, length};
-    ghost use Rattle.amf_tables.specs.ContentHash.{entry_hash};
+    ghost use Rattle.std.specs.Prelude.{◌≡◌, ◌≤◌, false, List, map, length};
+    ghost use Rattle.std.specs.List.{AllByRecursion};
+    ghost use Rattle.amf_tables.specs.ContentHash.{written_hash};
     ghost use Rattle.amf_tables.specs.HashedPlaces.{AreFirstPlaces};
-    ghost use Rattle.amf3_spelling.specs.Tables.{Entry};
+    ghost use Rattle.amf_tables.specs.WrittenParts.{Written, IsNoCopy};
     ghost use Rattle.amf_tables.specs.declared.first_places.TheConstants.{MAX_ENTRIES};
 
-    ghost Value = { List Entry };
+    ghost Value = { List Written };
 
     ghost view = { λ t. t.entries.items };
 
     ghost invariant = { λ t. (length t.entries.items ≤ MAX_ENTRIES)
-        × AreFirstPlaces (map (entry_hash t.start) t.entries.items) t.places };
+        × AreFirstPlaces (map (written_hash t.start) t.entries.items) t.places
+        × (t.has_copies ≡ false → AllByRecursion IsNoCopy t.entries.items) };
 }
 
-/// The first place of traits with members among these.
-fn first_plain(entries: &[WrittenEntry], traits: &TraitsView<'_>, graph: &Rooted) -> Option<u32>
+/// The first place of this entry, which has no copies, among these.
+fn first_same(entries: &[WrittenEntry], entry: &WrittenEntry) -> Option<u32>
+    requires few { length entries.now ≤ MAX_ENTRIES }
+    requires own { IsNoCopy entry.now }
+    ensures first { IfSome result (IsFirstPlace entries.now entry.now) }
+    ensures none { IfNone result (Absent entries.now entry.now) }
+{
+    let place = entries.iter().position(|other| other.is_same(entry))?;
+    Some(place as u32)
+}
+
+/// The first place of traits with members among these. It goes through the bytes of their texts.
+fn first_plain(
+    entries: &[WrittenEntry],
+    traits: &TraitsView<'_>,
+    graph: &Rooted,
+    texts: &TextTable,
+) -> Option<u32>
     requires few { length entries.now ≤ MAX_ENTRIES }
     requires shown { AreTraitsOf graph.now.arena traits.now }
-    ensures first { IfSome result (IsFirstPlace entries.now (shown_entry graph.now.arena traits.now)) }
-    ensures none { IfNone result (Absent entries.now (shown_entry graph.now.arena traits.now)) }
+    ensures first { IfSome result (IsFirstPlace (map (entry_of texts.now) entries.now) (shown_entry graph.now.arena traits.now)) }
+    ensures none { IfNone result (Absent (map (entry_of texts.now) entries.now) (shown_entry graph.now.arena traits.now)) }
 {
-    let place = entries
-        .iter()
-        .position(|entry| entry.is_plain(traits, graph))?;
-    Some(place as u32)
-}
-
-/// The first place of an externalizable class among these.
-fn first_external(entries: &[WrittenEntry], class: Wrapped) -> Option<u32>
-    requires { length entries.now ≤ MAX_ENTRIES }
-    ensures first { IfSome result (IsFirstPlace entries.now (external class)) }
-    ensures none { IfNone result (Absent entries.now (external class)) }
-{
-    let place = entries.iter().position(|entry| entry.is_external(class))?;
-    Some(place as u32)
+    for (place, entry) in entries.iter().enumerate() {
+        if entry.is_plain(traits, graph, texts) {
+            return Some(place as u32);
+        }
+    }
+    None
 }
 
 impl TraitsTable {
@@ -71,54 +89,97 @@ impl TraitsTable {
             start,
             entries: Vec::new(alloc),
             places: IndexMap::new(alloc),
+            has_copies: false,
         }
     }
 
-    /// The first place of traits of a class that is not externalizable: `None` exactly where they have none.
-    pub(crate) fn place_of(&self, traits: &TraitsView<'_>, graph: &Rooted) -> Option<u32>
-        requires { AreTraitsOf graph.now.arena traits.now }
-        ensures first { IfSome result (IsFirstPlace self.now (shown_entry graph.now.arena traits.now)) }
-        ensures none { IfNone result (Absent self.now (shown_entry graph.now.arena traits.now)) }
+    /// The first place of an entry without copies.
+    fn place_of_entry(&self, entry: &WrittenEntry) -> Option<u32>
+        requires { IsNoCopy entry.now }
+        ensures first { IfSome result (IsFirstPlace self.now entry.now) }
+        ensures none { IfNone result (Absent self.now entry.now) }
     {
-        let place = first_with(&self.places, hash_of_traits(self.start, traits, graph))?;
-        if self.entries[place as usize].is_plain(traits, graph) {
+        let place = first_with(&self.places, entry.hash(self.start))?;
+        if self.entries[place as usize].is_same(entry) {
             return Some(place);
         }
-        // Other traits have the same hash.
-        first_plain(&self.entries, traits, graph)
+        // Another entry has the same hash.
+        first_same(&self.entries, entry)
+    }
+
+    /// The first place of traits of a class that is not externalizable: `None` exactly where they have none.
+    pub(crate) fn place_of(
+        &self,
+        traits: &TraitsView<'_>,
+        graph: &Rooted,
+        texts: &TextTable,
+        known: &KnownPlaces,
+    ) -> Option<u32>
+        requires shown { AreTraitsOf graph.now.arena traits.now }
+        requires codes { AllByRecursion (IsWritten texts.now) self.now }
+        requires known { AreKnown (text_at graph.now.arena) texts.now known.now }
+        ensures first { IfSome result (IsFirstPlace (map (entry_of texts.now) self.now) (shown_entry graph.now.arena traits.now)) }
+        ensures none { IfNone result (Absent (map (entry_of texts.now) self.now) (shown_entry graph.now.arena traits.now)) }
+    {
+        if self.has_copies {
+            return first_plain(&self.entries, traits, graph, texts);
+        }
+        match WrittenEntry::coded(self.alloc, traits, graph, texts, known) {
+            Ok(Some(entry)) => self.place_of_entry(&entry),
+            Ok(None) => None,
+            // There is no room for the codes.
+            Err(Memory) => first_plain(&self.entries, traits, graph, texts),
+        }
     }
 
     /// The first place of an externalizable class: `None` exactly where it has none.
     pub(crate) fn place_of_wrapped(&self, class: Wrapped) -> Option<u32>
-        ensures first { IfSome result (IsFirstPlace self.now (external class)) }
-        ensures none { IfNone result (Absent self.now (external class)) }
+        ensures first { IfSome result (IsFirstPlace self.now (wrapped class)) }
+        ensures none { IfNone result (Absent self.now (wrapped class)) }
     {
-        let place = first_with(&self.places, hash_of_class(self.start, class))?;
-        if self.entries[place as usize].is_external(class) {
-            return Some(place);
-        }
-        // Other traits have the same hash.
-        first_external(&self.entries, class)
+        self.place_of_entry(&WrittenEntry::external(class))
     }
 
     /// Enters traits of a class that is not externalizable. After an error nothing has changed.
-    pub(crate) fn push(&mut self, traits: &TraitsView<'_>, graph: &Rooted) -> Result<(), Memory>
-        requires { AreTraitsOf graph.now.arena traits.now }
-        ensures ok { OnOk result (self.new ≡ self.old ++ shown_entry graph.now.arena traits.now ∷ []) }
+    pub(crate) fn push(
+        &mut self,
+        traits: &TraitsView<'_>,
+        graph: &Rooted,
+        texts: &TextTable,
+        known: &KnownPlaces,
+    ) -> Result<(), Memory>
+        requires shown { AreTraitsOf graph.now.arena traits.now }
+        requires known { AreKnown (text_at graph.now.arena) texts.now known.now }
+        ensures ok { OnOk result (IsPushed texts.now self.old (shown_entry graph.now.arena traits.now) self.new) }
         ensures err { OnErr result (self.new ≡ self.old) }
     {
-        let entry = WrittenEntry::plain(self.alloc, traits, graph)?;
-        let hash = hash_of_traits(self.start, traits, graph);
-        enter(&mut self.entries, &mut self.places, entry, hash)
+        match WrittenEntry::coded(self.alloc, traits, graph, texts, known)? {
+            Some(entry) => self.push_entry(entry),
+            None => {
+                let entry = WrittenEntry::copied(self.alloc, traits, graph)?;
+                self.push_entry(entry)
+            }
+        }
     }
 
     /// Enters the traits of an externalizable class. After an error nothing has changed.
     pub(crate) fn push_wrapped(&mut self, class: Wrapped) -> Result<(), Memory>
-        ensures ok { OnOk result (self.new ≡ self.old ++ external class ∷ []) }
+        ensures ok { OnOk result (self.new ≡ self.old ++ wrapped class ∷ []) }
         ensures err { OnErr result (self.new ≡ self.old) }
     {
-        let hash = hash_of_class(self.start, class);
-        let entry = WrittenEntry::external(class);
-        enter(&mut self.entries, &mut self.places, entry, hash)
+        self.push_entry(WrittenEntry::external(class))
+    }
+
+    fn push_entry(&mut self, entry: WrittenEntry) -> Result<(), Memory>
+        ensures ok { OnOk result (self.new ≡ self.old ++ entry ∷ []) }
+        ensures err { OnErr result (self.new ≡ self.old) }
+    {
+        let hash = entry.hash(self.start);
+        let is_copy = entry.is_copy();
+        enter(&mut self.entries, &mut self.places, entry, hash)?;
+        if is_copy {
+            self.has_copies = true;
+        }
+        Ok(())
     }
 }

@@ -1,12 +1,15 @@
 ghost use Rattle.std.specs.Prelude.{◌≡◌, ◌<◌, ◌≤◌, ◌↔◌, length, map, IsTrue, IfOk, IfNone, IfSome, OnOk, OnErr};
+ghost use Rattle.amf_graph.specs.Arena.{text_at};
 ghost use Rattle.amf_graph.specs.Order.{Absent};
 ghost use Rattle.amf_tables.specs.FirstPlace.{IsFirstPlace};
+ghost use Rattle.amf_tables.specs.KnownPlaces.{AreKnown};
 ghost use Rattle.amf_tables.specs.SpelledAlone.{IsSpelledAlone};
 ghost use Rattle.amf_tables.specs.TextPlaces.{IsEntered};
 ghost use Rattle.amf_tables.specs.ShownTraits.{AreTraitsOf, shown_entry};
 ghost use Rattle.amf3_spelling.specs.Tables.{no_tables, with_words, external};
 ghost use Rattle.amf3_spelling.specs.Tables.{add_text, add_entry, add_node, add_done};
 
+use crate::known_places::KnownPlaces;
 use crate::node_table::MAX_NODES;
 use crate::spelled_nodes::SpelledNodes;
 use crate::text_place::TextPlace;
@@ -25,6 +28,7 @@ use std::marker::Model;
 /// as is what there is no memory for.
 #[derive(Drop)]
 pub struct WriterTables {
+    alloc: Global,
     texts: TextTable,
     traits: TraitsTable,
     nodes: SpelledNodes,
@@ -38,6 +42,11 @@ impl Model for WriterTables {
     ghost use Rattle.amf_tables.specs.TableParts.{written_tables};
 
     ghost view = { λ t. written_tables t.texts t.traits t.nodes };
+
+    ghost use Rattle.std.specs.List.{AllByRecursion};
+    ghost use Rattle.amf_tables.specs.WrittenParts.{IsWritten};
+
+    ghost invariant = { λ t. AllByRecursion (IsWritten t.texts) t.traits };
 }
 
 impl WriterTables {
@@ -59,6 +68,7 @@ impl WriterTables {
         ensures { result ≡ no_tables }
     {
         WriterTables {
+            alloc,
             texts: TextTable::new(alloc, start),
             traits: TraitsTable::new(alloc, start),
             nodes: SpelledNodes::new(alloc),
@@ -105,14 +115,31 @@ impl WriterTables {
     }
 
     /// The first place of traits of a class that is not externalizable, as a graph shows them: `None`
-    /// exactly where they have none. It takes no memory.
+    /// exactly where they have none. Where there is no memory for a list of places, the bytes of all
+    /// traits are compared. Each of their texts is looked up by its bytes: `KnownWords` does so once.
     pub fn place_of_traits(&self, traits: &TraitsView<'_>, graph: &Rooted) -> Option<u32>
         requires { AreTraitsOf graph.now.arena traits.now }
         ensures first { IfSome result
             (IsFirstPlace self.now.words.traits (shown_entry graph.now.arena traits.now)) }
         ensures none { IfNone result (Absent self.now.words.traits (shown_entry graph.now.arena traits.now)) }
     {
-        self.traits.place_of(traits, graph)
+        let known = KnownPlaces::new(self.alloc);
+        self.place_of_known(traits, graph, &known)
+    }
+
+    /// Does what `place_of_traits` does. The places of the graph's texts that are known are not looked up.
+    pub(crate) fn place_of_known(
+        &self,
+        traits: &TraitsView<'_>,
+        graph: &Rooted,
+        known: &KnownPlaces,
+    ) -> Option<u32>
+        requires shown { AreTraitsOf graph.now.arena traits.now }
+        requires known { AreKnown (text_at graph.now.arena) self.now.words.texts known.now }
+        ensures first { IfSome result (IsFirstPlace self.now.words.traits (shown_entry graph.now.arena traits.now)) }
+        ensures none { IfNone result (Absent self.now.words.traits (shown_entry graph.now.arena traits.now)) }
+    {
+        self.traits.place_of(traits, graph, &self.texts, known)
     }
 
     /// The first place of an externalizable class: `None` exactly where it has none. It takes no
@@ -173,7 +200,23 @@ impl WriterTables {
             (add_entry self.old.words (shown_entry graph.now.arena traits.now))) }
         ensures err { OnErr result (self.new ≡ self.old) }
     {
-        self.traits.push(traits, graph)
+        let known = KnownPlaces::new(self.alloc);
+        self.add_known(traits, graph, &known)
+    }
+
+    /// Does what `add_traits` does. The places of the graph's texts that are known are not looked up.
+    pub(crate) fn add_known(
+        &mut self,
+        traits: &TraitsView<'_>,
+        graph: &Rooted,
+        known: &KnownPlaces,
+    ) -> Result<(), Memory>
+        requires shown { AreTraitsOf graph.now.arena traits.now }
+        requires known { AreKnown (text_at graph.now.arena) self.old.words.texts known.now }
+        ensures ok { OnOk result (self.new ≡ with_words self.old (add_entry self.old.words (shown_entry graph.now.arena traits.now))) }
+        ensures err { OnErr result (self.new ≡ self.old) }
+    {
+        self.traits.push(traits, graph, &self.texts, known)
     }
 
     /// Enters the traits of an externalizable class. After an error nothing has changed.

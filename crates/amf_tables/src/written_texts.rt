@@ -1,6 +1,8 @@
-ghost use Rattle.std.specs.Prelude.{◌≡◌, ◌↔◌, IfOk, IsTrue};
+ghost use Rattle.std.specs.Prelude.{◌≡◌, ◌↔◌, map, IfOk, IsTrue};
 ghost use Rattle.amf_tables.specs.ShownTraits.{AreTextIds, texts_at};
+ghost use Rattle.amf_tables.specs.TextCodes.{text_of};
 
+use crate::text_table::TextTable;
 use amf_graph::{Rooted, TextId};
 use amf_wire::{Memory, Name};
 use std::alloc::Global;
@@ -36,6 +38,23 @@ pub(crate) fn are_texts(texts: &[Name], ids: &[TextId], graph: &Rooted) -> bool
     }
     for (text, id) in texts.iter().zip(ids) {
         if !is_text(text, graph.text(*id)) {
+            return false;
+        }
+    }
+    true
+}
+
+/// Whether the texts of these codes are those of a graph, in order.
+#[tactic(auto, using(crate::proofs::ShownTexts::named))]
+pub(crate) fn are_named(codes: &[u32], ids: &[TextId], graph: &Rooted, texts: &TextTable) -> bool
+    requires { AreTextIds graph.now.arena ids.now }
+    ensures { IsTrue result ↔ (map (text_of texts.now) codes.now ≡ texts_at graph.now.arena ids.now) }
+{
+    if codes.len() != ids.len() {
+        return false;
+    }
+    for (code, id) in codes.iter().zip(ids) {
+        if !texts.is_named(*code, graph.text(*id)) {
             return false;
         }
     }

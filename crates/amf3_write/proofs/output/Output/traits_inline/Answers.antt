@@ -6,6 +6,9 @@ use Rattle.amf3_write.proofs.Wrote.{wrote_entry, wrote_first_text, flags_are}
 use Rattle.amf3_write.proofs.output.Output.traits_inline.Goals as goal
 use Rattle.amf3_write.proofs.output.Output.traits_inline.Goals.{then-traits, else-traits}
 
+pub add_traits-requires-clause-known : goal.add_traits-requires-clause-known
+add_traits-requires-clause-known c = c.in_ok-texts_of.ensures.ready.known
+
 pub returns-clause-ok : goal.returns-clause-ok
 returns-clause-ok c =
     let a = c.args.graph.now.arena in
@@ -19,4 +22,4 @@ returns-clause-ok c =
     c.in_ok-add_traits.ensures.ok refl
 
 pub returns-clause-ready : goal.returns-clause-ready
-returns-clause-ready c = ready_with_entry c.args.graph.now.arena c.texts_of.new.self.tables c.add_traits.new.self c.texts_of.new.self.known c.texts_of.new.self.known _ c.in_ok-texts_of.ensures.ready c.in_ok-add_traits.ensures.ok refl
+returns-clause-ready c = ready_with_entry c.args.graph.now.arena c.texts_of.new.self.tables c.add_traits.new.tables c.texts_of.new.self.known c.texts_of.new.self.known _ c.in_ok-texts_of.ensures.ready c.in_ok-add_traits.ensures.ok refl

@@ -1,28 +1,28 @@
-use Rattle.std.proofs.Common.{◌≡◌, ◌<◌, length, slice_get, map, Some, refl, sym, ap, ◌∙◌, subst}
-use Rattle.std.proofs.lemmas.Option.{slice_get_read}
-use Rattle.amf_tables.specs.ContentHash.{entry_hash}
+use Rattle.std.proofs.Common.{subst}
+use Rattle.std.specs.List.{AllByRecursion}
 use Rattle.amf_tables.specs.ShownTraits.{shown_entry}
-use Rattle.amf_tables.proofs.HashedPlaces.{absent_by_hash, first_by_hash, within_by_hash}
+use Rattle.amf_tables.specs.WrittenParts.{IsNoCopy, IsWrittenFor}
+use Rattle.amf_tables.proofs.WrittenEntries.{none_of, some_of, found_coded, missed_coded, absent_unwritten}
 use Rattle.amf_tables.proofs.traits_table.TraitsTable.place_of.Goals as goal
 
-pub returns-in_err-place-clause-none : goal.returns-in_err-place-clause-none
-returns-in_err-place-clause-none c =
-    let f = entry_hash c.self.inside.start in
-    let xs = c.self.inside.entries.items in
-    rw (c.from_residual.ensures, ← c.self.view_is) (absent_by_hash f xs (shown_entry c.args.graph.now.arena c.args.traits.now) c.hash_of_traits.result c.hash_of_traits.ensures (c.in_err-place.ensures (map f xs) c.self.invariant.1))
+pub place_of_entry-requires : goal.place_of_entry-requires
+place_of_entry-requires c =
+    let for : IsWrittenFor c.args.texts.now (shown_entry c.args.graph.now.arena c.args.traits.now) c.in-Ok-Some.entry = some_of _ _ c.in-Ok-Some.field-0 c.in-Ok-Some.entry c.in-Ok-Some.field-0-is c.in-Ok-Some.ensures in
+    rw (c.in-Ok-Some.field-0-is) for.own
 
-pub index-requires : goal.index-requires
-index-requires c =
-    let f = entry_hash c.self.inside.start in
-    let xs = c.self.inside.entries.items in
-    subst (λ n. c.in_ok-place.place < n) (sym c.self.inside.entries.ok.0) (within_by_hash f xs c.hash_of_traits.result c.in_ok-place.place (c.in_ok-place.ensures (map f xs) c.self.invariant.1))
+pub returns-in-Ok-Some-clause-first : goal.returns-in-Ok-Some-clause-first
+returns-in-Ok-Some-clause-first c =
+    let own = subst (AllByRecursion IsNoCopy) c.self.view_is (c.self.invariant.2 c.if-self.false) in
+    let for : IsWrittenFor c.args.texts.now (shown_entry c.args.graph.now.arena c.args.traits.now) c.in-Ok-Some.entry = some_of _ _ c.in-Ok-Some.field-0 c.in-Ok-Some.entry c.in-Ok-Some.field-0-is c.in-Ok-Some.ensures in
+    found_coded c.args.texts.now c.args.self.now (shown_entry c.args.graph.now.arena c.args.traits.now) c.in-Ok-Some.entry c.place_of_entry.result c.requires.codes own for (rw c.in-Ok-Some.field-0-is at c.place_of_entry.ensures.first)
 
-pub returns-then-is_plain-clause-first : goal.returns-then-is_plain-clause-first
-returns-then-is_plain-clause-first c =
-    let f = entry_hash c.self.inside.start in
-    let xs = c.self.inside.entries.items in
-    let k = c.in_ok-place.place in
-    let first = c.in_ok-place.ensures (map f xs) c.self.invariant.1 in
-    let read : slice_get xs k ≡ Some c.index.result.now = slice_get_read xs (length xs) k c.index.result.now refl (within_by_hash f xs c.hash_of_traits.result k first) c.index.ensures in
-    let there : c.index.result.now ≡ shown_entry c.args.graph.now.arena c.args.traits.now = c.if-is_plain.ensures.0 refl in
-    rw (← c.self.view_is) (first_by_hash f xs (shown_entry c.args.graph.now.arena c.args.traits.now) c.hash_of_traits.result k c.hash_of_traits.ensures first (read ∙ ap (λ w. Some w) there))
+pub returns-in-Ok-Some-clause-none : goal.returns-in-Ok-Some-clause-none
+returns-in-Ok-Some-clause-none c =
+    let own = subst (AllByRecursion IsNoCopy) c.self.view_is (c.self.invariant.2 c.if-self.false) in
+    let for : IsWrittenFor c.args.texts.now (shown_entry c.args.graph.now.arena c.args.traits.now) c.in-Ok-Some.entry = some_of _ _ c.in-Ok-Some.field-0 c.in-Ok-Some.entry c.in-Ok-Some.field-0-is c.in-Ok-Some.ensures in
+    missed_coded c.args.texts.now c.args.self.now (shown_entry c.args.graph.now.arena c.args.traits.now) c.in-Ok-Some.entry c.place_of_entry.result c.requires.codes own for (rw c.in-Ok-Some.field-0-is at c.place_of_entry.ensures.none)
+
+pub returns-in-Ok-None-clause-none : goal.returns-in-Ok-None-clause-none
+returns-in-Ok-None-clause-none c =
+    let own = subst (AllByRecursion IsNoCopy) c.self.view_is (c.self.invariant.2 c.if-self.false) in
+    absent_unwritten c.args.texts.now c.args.self.now (shown_entry c.args.graph.now.arena c.args.traits.now) c.requires.codes own (none_of _ _ c.in-Ok-None.field-0 c.in-Ok-None.field-0-is c.in-Ok-None.ensures)
