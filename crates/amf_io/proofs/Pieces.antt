@@ -15,16 +15,21 @@ reads left rest front tail (Ok n) some within gave =
     (sym (rw (take-append-le n front tail within, gave.front, gave.gone) (take-append-drop n left)), gave.progress some)
 reads left rest front tail (Err e) some within gave = gave
 
+-- a part of the buffer without so many bytes at its front
+pub passed : (items : List ℕ) (start end n : ℕ) → n ≤ end - start → take (end - (start + n)) (drop (start + n) items) ≡ drop n (take (end - start) (drop start items))
+passed items start end n small =
+    let left : end - start ≡ n + (end - (start + n)) = omega arith in
+    sym (ap (λ k. drop n (take k (drop start items))) left ∙ drop-take n (end - (start + n)) (drop start items) ∙ ap (take (end - (start + n))) (drop-drop n start items))
+
 -- a piece was taken out of the front of a part of the buffer
 pub emptied : (items before now : List ℕ) (start end n : ℕ) → start ≤ end → end ≤ length items → n ≤ end - start → now ≡ before ++ take n (drop start items)
     → IsEmptied (take (end - start) (drop start items)) (take (end - (start + n)) (drop (start + n) items)) before now n
 emptied items before now start end n le fits small added =
     let there : end - start ≤ length (drop start items) = omega (arith, length-drop start items) in
-    let left : end - start ≡ n + (end - (start + n)) = omega arith in
     record {
       there = rw (length-take-le (end - start) (drop start items) there) small;
       appended = rw (take-take n (end - start) (drop start items) small) added;
-      gone = sym (ap (λ k. drop n (take k (drop start items))) left ∙ drop-take n (end - (start + n)) (drop start items) ∙ ap (take (end - (start + n))) (drop-drop n start items));
+      gone = passed items start end n small;
     }
 
 two_takes : (k m : ℕ) (u : List ℕ) → take (k + m) u ≡ take k u ++ take m (drop k u)

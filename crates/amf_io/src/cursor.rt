@@ -36,7 +36,7 @@ impl From<Failed> for CursorEnd {
 }
 
 impl<'a, S: Source> Cursor<'a, S> {
-    ghost use Rattle.std.specs.Prelude.{◌≡◌, ◌+◌, ◌<◌, ◌≤◌, ◌↔◌, IsTrue, length, OnOk, IfOk};
+    ghost use Rattle.std.specs.Prelude.{◌≡◌, ◌+◌, ◌<◌, ◌≤◌, ◌↔◌, IsTrue, length, take, drop, OnOk, IfOk};
     ghost use Rattle.amf_io.specs.Window.{Begins};
     ghost use Rattle.amf_io.specs.Cursor.{source_of, place, bound, ahead, unread, GivesByte, GivesBytes, GivesEnd, Counts, IsFaultedAt, TakesNoMemory, EndsByFault, Sees, GivesPiece};
 
@@ -95,6 +95,32 @@ impl<'a, S: Source> Cursor<'a, S> {
             self.look()?;
         }
         Ok(self.window.byte())
+    }
+
+    /// The bytes that are read ahead and may be given now: a front of those that follow. It reads nothing, so there may be none
+    /// where more follow.
+    #[inline]
+    pub fn ahead(&self) -> &[u8]
+        ensures front { result.now ≡ take (length result.now) (unread S.left self.now) }
+        ensures there { length result.now ≤ ahead self.now }
+        ensures within { place self.now + length result.now ≤ bound self.now }
+    {
+        self.window.ready()
+    }
+
+    /// Gives the next `n` bytes, which are `ahead`. It reads nothing, and takes no memory.
+    #[inline]
+    pub fn pass(&mut self, n: u32)
+        requires there { n ≤ ahead self.old }
+        requires within { place self.old + n ≤ bound self.old }
+        ensures source { (source_of self.new).now ≡ (source_of self.old).now }
+        ensures same_reference { (source_of self.new).ghost_name ≡ (source_of self.old).ghost_name }
+        ensures bound { bound self.new ≡ bound self.old }
+        ensures gives { unread S.left self.new ≡ drop n (unread S.left self.old) }
+        ensures place { place self.new ≡ place self.old + n }
+        ensures ahead { ahead self.new + n ≡ ahead self.old }
+    {
+        self.window.pass(n);
     }
 
     /// Appends the next `n` bytes. It ends as `byte` does, and with `Memory` where there is no room for them. It grows `out`

@@ -28,7 +28,7 @@ pub struct Window {
 }
 
 impl Window {
-    ghost use Rattle.std.specs.Prelude.{◌≡◌, ◌+◌, ◌-◌, ◌<◌, ◌≤◌, ◌∷◌, ◌↔◌, [], IsTrue, length, OnErr, IfOk};
+    ghost use Rattle.std.specs.Prelude.{◌≡◌, ◌+◌, ◌-◌, ◌<◌, ◌≤◌, ◌∷◌, ◌↔◌, [], IsTrue, length, take, drop, OnErr, IfOk};
     ghost use Rattle.amf_io.specs.Outside.{HasCause};
     ghost use Rattle.amf_io.specs.Window.{waiting, size, given, Fills, Begins, IsEmptied, IsUnmoved};
 
@@ -107,6 +107,31 @@ impl Window {
         let byte = self.buffer[self.start];
         self.start += 1;
         byte
+    }
+
+    /// The bytes that it holds and the limit allows to be given.
+    #[inline]
+    pub(crate) fn ready(&self) -> &[u8]
+        ensures front { result.now ≡ take (length result.now) (waiting self.now) }
+        ensures there { length result.now ≤ length (waiting self.now) }
+        ensures size { length result.now ≤ size self.now }
+        ensures within { given self.now + length result.now ≤ self.now.limit }
+    {
+        &self.buffer[self.start..self.stop]
+    }
+
+    /// Gives so many of the bytes that it holds.
+    #[inline]
+    pub(crate) fn pass(&mut self, n: u32)
+        requires there { n ≤ size self.old }
+        requires within { given self.old + n ≤ self.old.limit }
+        ensures there { n ≤ length (waiting self.old) }
+        ensures gone { waiting self.new ≡ drop n (waiting self.old) }
+        ensures size { size self.new + n ≡ size self.old }
+        ensures place { given self.new ≡ given self.old + n }
+        ensures bound { self.new.limit ≡ self.old.limit }
+    {
+        self.start += n as usize;
     }
 
     /// Appends the next bytes that it holds: at least one, and at most so many.
