@@ -1,10 +1,11 @@
 -- A unit at the front of bytes, and the longest front that is a text.
-use Rattle.std.proofs.Common.{◌≡◌, ℕ, zero, suc, ◌+◌, ◌-◌, ◌≤◌, ◌<◌, ◌↔◌, Bool, true, false, IsTrue, List, [], ◌∷◌, ◌++◌, length, take, drop, get_or, slice_get, replicate, Some, None, refl, ap, sym, ◌∙◌, subst, arith, append_assoc, append-nil, length-append, length-drop, inl, inr}
+use Rattle.std.proofs.Common.{◌≡◌, ℕ, zero, suc, ◌+◌, ◌-◌, ◌≤◌, ◌<◌, ◌↔◌, Bool, true, false, IsTrue, List, [], ◌∷◌, ◌++◌, length, take, drop, get_or, slice_get, replicate, Option, Some, None, IfSome, refl, ap, sym, ◌∙◌, subst, arith, append_assoc, append-nil, length-append, length-drop, inl, inr}
 use Rattle.std.proofs.lemmas.List.{length-take, take_all, take-append-drop}
 use Rattle.std.proofs.lemmas.List.Folds.{concat-append}
 use Rattle.std.specs.List.{concat, AllByRecursion, AllZip}
+use Rattle.std.specs.Str.{IsAscii}
 use Rattle.amf_wire.specs.Text.{Range, rest_byte, rows, IsWithin, IsUnit, IsText, EndsText, following, is_text_after, is_text}
-use Rattle.amf_wire.specs.Front.{IsFrontUnit, ranges_of}
+use Rattle.amf_wire.specs.Front.{IsFrontUnit, IsFrontText, ranges_of}
 use Rattle.amf_wire.proofs.TextTest.{unit_of, unit_passes, passes, some_is, is_text-is}
 use Rattle.amf_wire.proofs.Digits.{below}
 
@@ -85,12 +86,12 @@ row_some k row e = all_some rows (omega arith, (omega arith, (omega arith, (omeg
 unit_some : (unit : List ℕ) → IsUnit unit → 1 ≤ length unit
 unit_some unit u = omega (arith, as_many u.1 unit u.3, row_some u.0 u.1 u.2)
 
--- a text and a unit are a text
-pub text_and_unit : (text unit : List ℕ) → IsText text → IsUnit unit → IsText (text ++ unit)
-text_and_unit text unit t u = (t.0 ++ unit ∷ [], all t.0 t.1, ap (λ xs. xs ++ unit) t.2 ∙ ap (λ xs. concat t.0 ++ xs) (sym (append-nil unit)) ∙ sym (concat-append t.0 (unit ∷ [])))
+-- two texts are a text
+text_and_text : (text more : List ℕ) → IsText text → IsText more → IsText (text ++ more)
+text_and_text text more t u = (t.0 ++ u.0, all t.0 t.1, ap (λ xs. xs ++ more) t.2 ∙ ap (λ xs. concat t.0 ++ xs) u.2 ∙ sym (concat-append t.0 u.0))
   where
-    all : (units : List (List ℕ)) → AllByRecursion IsUnit units → AllByRecursion IsUnit (units ++ unit ∷ [])
-    all [] h = (u, tt)
+    all : (units : List (List ℕ)) → AllByRecursion IsUnit units → AllByRecursion IsUnit (units ++ u.0)
+    all [] h = u.1
     all (x ∷ units) (p, h) = (p, all units h)
 
 take_nothing : (k : ℕ) → ◌≡◌ {A = List ℕ} [] (take k [])
@@ -136,9 +137,28 @@ ends_text bytes at l t none = record { within = l; front = t; longest = λ m h w
         = first_unit (take (m - at) (drop at bytes)) (drop (m - at) (drop at bytes)) (omega (arith, length-take (m - at) (drop at bytes), length-drop at bytes)) v in
         none u.0 (subst (λ xs. IsFrontUnit xs u.0) (take-append-drop (m - at) (drop at bytes)) u.1)
 
--- one unit more
-pub one_more : (bytes : List ℕ) (at n : ℕ) → IsText (take at bytes) → IsFrontUnit (drop at bytes) n → IsText (take (at + n) bytes)
-one_more bytes at n t u = subst IsText (sym (take_parts at (at + n) bytes (omega arith) ∙ ap (λ k. take at bytes ++ take k (drop at bytes)) (omega arith))) (text_and_unit (take at bytes) (take n (drop at bytes)) t u.unit)
+-- more of it
+pub more_text : (bytes : List ℕ) (at n : ℕ) → IsText (take at bytes) → IsFrontText (drop at bytes) n → IsText (take (at + n) bytes)
+more_text bytes at n t u = subst IsText (sym (take_parts at (at + n) bytes (omega arith) ∙ ap (λ k. take at bytes ++ take k (drop at bytes)) (omega arith))) (text_and_text (take at bytes) (take n (drop at bytes)) t u.text)
+
+-- a unit is a text
+unit_front : (bytes : List ℕ) (n : ℕ) → IsFrontUnit bytes n → IsFrontText bytes n
+unit_front bytes n u = record { some = u.some; there = u.there; text = (take n bytes ∷ [], (u.unit, tt), sym (append-nil (take n bytes))) }
+
+pub some_front : (bytes : List ℕ) (o : Option ℕ) → IfSome o (λ n. IsFrontUnit bytes n) → IfSome o (IsFrontText bytes)
+some_front bytes None h = tt
+some_front bytes (Some n) h = unit_front bytes n h
+
+-- bytes below 80 are units
+ascii_text : (bytes : List ℕ) → IsAscii bytes → IsText bytes
+ascii_text [] h = ([], tt, refl)
+ascii_text (b ∷ bytes) h =
+    let t : IsText bytes = ascii_text bytes (λ i. h (suc i)) in
+    let small : b < 128 = h 0 in
+    ((b ∷ []) ∷ t.0, ((0, _, refl, ((omega arith, omega arith), tt)), t.1), ap (λ xs. b ∷ xs) t.2)
+
+pub ascii_front : (bytes : List ℕ) (n : ℕ) → 1 ≤ n → n ≤ length bytes → IsAscii (take n bytes) → IsFrontText bytes n
+ascii_front bytes n some there h = record { some = some; there = there; text = ascii_text (take n bytes) h }
 
 pub empty_text : IsText []
 empty_text = ([], tt, refl)

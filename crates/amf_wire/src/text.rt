@@ -1,7 +1,10 @@
 ghost use Rattle.std.specs.Prelude.{◌≡◌, ℕ, ◌<◌, ◌≤◌, ◌↔◌, length, take, IsTrue, IsNone, IfSome, IfNone};
 ghost use Rattle.std.specs.List.{AllZip};
 ghost use Rattle.amf_wire.specs.Text.{IsText, EndsText, is_text, following, IsWithin, rest_byte};
-ghost use Rattle.amf_wire.specs.Front.{IsFrontUnit, ranges_of};
+ghost use Rattle.amf_wire.specs.Front.{IsFrontUnit, IsFrontText, ranges_of};
+
+/// How many bytes are judged at once where they are ASCII.
+const WORD: usize = 8;
 
 /// Whether `bytes` are a text: UTF-8, and with it surrogates by three bytes each and `C0 80` for a zero (AMF 3
 /// specification, 1.3.2; AMF 0 specification, 1.3.1; RFC 3629, section 4).
@@ -20,12 +23,24 @@ pub fn first_bad(bytes: &[u8]) -> Option<usize>
 {
     let mut at = 0;
     while at < bytes.len() {
-        match unit_length(&bytes[at..]) {
+        match front_length(&bytes[at..]) {
             Some(length) => at += length,
             None => return Some(at),
         }
     }
     None
+}
+
+/// How many bytes at the front of `bytes` are a text: a word of ASCII, or one unit. `None` where no unit stands there.
+fn front_length(bytes: &[u8]) -> Option<usize>
+    requires { 0 < length bytes.now }
+    ensures text { IfSome result (IsFrontText bytes.now) }
+    ensures none { IfNone result ((n : ℕ) → ¬ IsFrontUnit bytes.now n) }
+{
+    if bytes.len() >= WORD && bytes[..WORD].is_ascii() {
+        return Some(WORD);
+    }
+    unit_length(bytes)
 }
 
 /// How many bytes the unit at the front of `bytes` has, or `None` where no unit stands there.

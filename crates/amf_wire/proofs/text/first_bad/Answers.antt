@@ -1,16 +1,16 @@
--- A unit more is a text, and where no unit follows the longest text ends.
+-- More of a text is a text, and where no unit follows the longest text ends.
 use Rattle.std.proofs.Common.{ℕ, drop, subst, arith, length-drop}
-use Rattle.amf_wire.specs.Front.{IsFrontUnit}
-use Rattle.amf_wire.proofs.TextFront.{one_more, ends_text, no_end, rest_is}
+use Rattle.amf_wire.specs.Front.{IsFrontUnit, IsFrontText}
+use Rattle.amf_wire.proofs.TextFront.{more_text, ends_text, no_end, rest_is}
 use Rattle.amf_wire.proofs.text.first_bad.Goals as goal
 
 pub loop-at-preserved : goal.loop-at-preserved
 loop-at-preserved c =
-    let u : IsFrontUnit (drop c.loop-at.at c.args.bytes.now) c.in-Some.length
-    = subst (λ xs. IsFrontUnit xs c.in-Some.length) (rest_is c.loop-at.at c.args.bytes.now) c.in-Some.ensures.unit in
+    let u : IsFrontText (drop c.loop-at.at c.args.bytes.now) c.in-Some.length
+    = subst (λ xs. IsFrontText xs c.in-Some.length) (rest_is c.loop-at.at c.args.bytes.now) c.in-Some.ensures.text in
     record {
       within = omega (arith, u.there, length-drop c.loop-at.at c.args.bytes.now);
-      front = one_more c.args.bytes.now c.loop-at.at c.in-Some.length c.loop-at.invariant.front u;
+      front = more_text c.args.bytes.now c.loop-at.at c.in-Some.length c.loop-at.invariant.front u;
     }
 
 pub returns-in-None-clause-whole : goal.returns-in-None-clause-whole
