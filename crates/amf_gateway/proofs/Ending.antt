@@ -59,20 +59,20 @@ module _ {O : Type 0} (handed : O → O → Taken → Type 0) (none : HandsNone 
         let last : Ahead handed (invalidates k ended) (invalidates k []) start now (map invalidate_graph rs) = subst (λ (xs : List ℕ). Ahead handed (invalidates k ended) (invalidates k xs) start now (map invalidate_graph rs)) (drop_all i ended l) ahead in
         subst (λ (hs : List Graph). Ran handed (invalidates k ended) start now hs) (append-nil (map invalidate_graph rs)) (last.all now [] (ran_nothing handed none (invalidates k []) now [] (refl, refl)))
 
-    module _ (about : Context) (is : about ≡ about_poll k) (l : i < length ended) where
-      one : Ahead handed (invalidates k ended) (invalidates k (get_or ended i 0 ∷ drop (i + 1) ended)) start now (map invalidate_graph rs)
-      one = subst (λ (xs : List ℕ). Ahead handed (invalidates k ended) (invalidates k xs) start now (map invalidate_graph rs)) (drop_more ended i 0 l) ahead
+    module _ (about : Context) (is : about ≡ about_poll k) (l : i < length ended) (sub : ℕ) (there : sub ≡ get_or ended i sub) where
+      one : Ahead handed (invalidates k ended) (invalidates k (sub ∷ drop (i + 1) ended)) start now (map invalidate_graph rs)
+      one = subst (λ (xs : List ℕ). Ahead handed (invalidates k ended) (invalidates k xs) start now (map invalidate_graph rs)) (drop_more ended i sub l ∙ ap (λ (n : ℕ). n ∷ drop (i + 1) ended) (sym there)) ahead
 
-      pub loop_more : (next : O) (r : Reply) (new : List Reply) → Ran handed (fresh about (decimal (get_or ended i 0))) now next r → new ≡ rs ++ r ∷ [] → Ahead handed (invalidates k ended) (invalidates k (drop (i + 1) ended)) start next (map invalidate_graph new)
+      pub loop_more : (next : O) (r : Reply) (new : List Reply) → Ran handed (fresh about (decimal sub)) now next r → new ≡ rs ++ r ∷ [] → Ahead handed (invalidates k ended) (invalidates k (drop (i + 1) ended)) start next (map invalidate_graph new)
       loop_more next r new ran e =
           subst (λ (hs : List Graph). Ahead handed (invalidates k ended) (invalidates k (drop (i + 1) ended)) start next hs) (sym (ap (map invalidate_graph) e ∙ map_push invalidate_graph rs r))
-          (ahead_more (invalidates k ended) k (get_or ended i 0) (drop (i + 1) ended) start now (map invalidate_graph rs) one next r (subst (λ (c : Context). Ran handed (fresh c (decimal (get_or ended i 0))) now next r) is ran))
+          (ahead_more (invalidates k ended) k sub (drop (i + 1) ended) start now (map invalidate_graph rs) one next r (subst (λ (c : Context). Ran handed (fresh c (decimal sub)) now next r) is ran))
 
-      pub loop_stopped : (c : O) → Stopped handed (fresh about (decimal (get_or ended i 0))) now c → Stopped handed (invalidates k ended) start c
-      loop_stopped c s = ahead_stopped (invalidates k ended) k (get_or ended i 0) (drop (i + 1) ended) start now (map invalidate_graph rs) one c (subst (λ (x : Context). Stopped handed (fresh x (decimal (get_or ended i 0))) now c) is s)
+      pub loop_stopped : (c : O) → Stopped handed (fresh about (decimal sub)) now c → Stopped handed (invalidates k ended) start c
+      loop_stopped c s = ahead_stopped (invalidates k ended) k sub (drop (i + 1) ended) start now (map invalidate_graph rs) one c (subst (λ (x : Context). Stopped handed (fresh x (decimal sub)) now c) is s)
 
-      pub loop_between : (c : O) (r : Reply) → Ran handed (fresh about (decimal (get_or ended i 0))) now c r → Stopped handed (invalidates k ended) start c
-      loop_between c r ran = ahead_between (invalidates k ended) k (get_or ended i 0) (drop (i + 1) ended) start now (map invalidate_graph rs) one c r (subst (λ (x : Context). Ran handed (fresh x (decimal (get_or ended i 0))) now c r) is ran)
+      pub loop_between : (c : O) (r : Reply) → Ran handed (fresh about (decimal sub)) now c r → Stopped handed (invalidates k ended) start c
+      loop_between c r ran = ahead_between (invalidates k ended) k sub (drop (i + 1) ended) start now (map invalidate_graph rs) one c r (subst (λ (x : Context). Ran handed (fresh x (decimal sub)) now c r) is ran)
 
   -- The sync: its words and moment, the invalidates, and then what is said.
 
@@ -96,13 +96,13 @@ module _ {O : Type 0} (handed : O → O → Taken → Type 0) (none : HandsNone 
 
 -- a batch with something in it is answered by a sync
 pub some_batch : (k : Context) (ds : List Delivery) (ended : List ℕ) → ((ds ≡ []) × (ended ≡ []) → ⊥) → sync k ds ended ≡ batch k ds ended
-some_batch k [] [] no = absurd (no (refl, refl))
-some_batch k [] (sub ∷ ended) no = refl
-some_batch k (d ∷ ds) ended no = refl
+some_batch k [] [] never = absurd (never (refl, refl))
+some_batch k [] (sub ∷ ended) never = refl
+some_batch k (d ∷ ds) ended never = refl
 
 -- and one with nothing in it by an acknowledge
 pub none_batch : (k : Context) (client : List ℕ) (ds : List Delivery) (ended : List ℕ) → client ≡ [] → ds ≡ [] → ended ≡ [] → acknowledge_null k client ≡ batch k ds ended
 none_batch k client ds ended e f h = ap (acknowledge_null k) e ∙ ap (λ (z : List Delivery). batch k z []) (sym f) ∙ ap (λ (z : List ℕ). batch k ds z) (sym h)
 
 pub sync_batch : (k : Context) (ds es : List Delivery) (ended ends : List ℕ) → ds ≡ es → ended ≡ ends → ((ds ≡ []) × (ended ≡ []) → ⊥) → sync k ds ended ≡ batch k es ends
-sync_batch k ds es ended ends e f no = some_batch k ds ended no ∙ ap (λ (z : List Delivery). batch k z ended) e ∙ ap (λ (z : List ℕ). batch k es z) f
+sync_batch k ds es ended ends e f never = some_batch k ds ended never ∙ ap (λ (z : List Delivery). batch k z ended) e ∙ ap (λ (z : List ℕ). batch k es z) f

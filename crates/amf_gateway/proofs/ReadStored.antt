@@ -148,14 +148,14 @@ pub stored_none : (g : RootedArena) (b : List ℕ) → Spelled3 free (content g)
 stored_none g b s never h is = never (holds_stored g (async_alike h (content g) (same_bytes_isomorphic h (content g) b is.0 s) is.1))
 
 -- no read of bytes in memory fails
-pub no_fault : {T : Type 0} (e : CursorEnd) → EndsByFault {T = T} (Err e) → Counts {T = T} 0 0 (Err e) → ⊥
-no_fault Ended h k = h
-no_fault TooLarge h k = h
-no_fault CursorFault h k = omega (arith, k.1)
-no_fault CursorMemory h k = h
+pub no_fault : (T : Type 0) (e : CursorEnd) → EndsByFault {T = T} (Err e) → Counts {T = T} 0 0 (Err e) → ⊥
+no_fault T Ended h k = h
+no_fault T TooLarge h k = h
+no_fault T CursorFault h k = omega (arith, k.1)
+no_fault T CursorMemory h k = h
 
-pub no_read_fault : {T : Type 0} → CountsRead {T = T} 0 0 (Err ReadFault) → ⊥
-no_read_fault k = omega (arith, k.1)
+pub no_read_fault : (T : Type 0) → CountsRead {T = T} 0 0 (Err ReadFault) → ⊥
+no_read_fault T k = omega (arith, k.1)
 
 pub none_stored : (b : List ℕ) → ((h : Graph) → Spelled3 free h b → ⊥) → (h : Graph) → IsStored h b → ⊥
 none_stored b none h s = none h s.0

@@ -11,18 +11,18 @@ use Rattle.amf_gateway.proofs.Doing.{at_err, not_begun}
 use Rattle.amf_gateway.proofs.Ending.{none_batch, sync_batch}
 use Rattle.amf_gateway.proofs.batches.batch.Goals as goal
 
-pub returns-in_err-empty-then-is_nothing-clause-stopped : goal.returns-in_err-empty-then-is_nothing-clause-stopped
-returns-in_err-empty-then-is_nothing-clause-stopped g c = at_err c.from_residual.result (not_begun g.O.Outside.handed g.met.O.Outside.hands_none (batch (context_in c.args.context.now) c.args.deliveries.now c.args.ended.now) c.args.outside.now)
+pub returns-in_err-empty-clause-stopped : goal.returns-in_err-empty-clause-stopped
+returns-in_err-empty-clause-stopped g c = at_err c.from_residual.result (not_begun g.O.Outside.handed g.met.O.Outside.hands_none (batch (context_in c.args.context.now) c.args.deliveries.now c.args.ended.now) c.args.outside.now)
 
-pub returns-in_ok-empty-then-is_nothing-clause-says : goal.returns-in_ok-empty-then-is_nothing-clause-says
-returns-in_ok-empty-then-is_nothing-clause-says g c =
+pub returns-then-is_nothing-clause-says : goal.returns-then-is_nothing-clause-says
+returns-then-is_nothing-clause-says g c =
     let k = context_in c.args.context.now in
     let both = c.is_nothing.ensures.empty c.if-is_nothing.true in
     let same : acknowledge_null k c.in_ok-empty.empty ≡ batch k c.args.deliveries.now c.args.ended.now = none_batch k c.in_ok-empty.empty c.args.deliveries.now c.args.ended.now c.in_ok-empty.ensures (sym c.as_slice-messages.ensures ∙ both.0) (sym c.as_slice-subs.ensures ∙ both.1) in
     IfOk-weaker c.acknowledge_null.result _ _ (λ a h. subst (λ (p : Plan Answer). Says g.O.Outside.handed p c.args.outside.now c.acknowledge_null.new.outside a) same h) c.acknowledge_null.ensures.says
 
-pub returns-in_ok-empty-then-is_nothing-clause-stopped : goal.returns-in_ok-empty-then-is_nothing-clause-stopped
-returns-in_ok-empty-then-is_nothing-clause-stopped g c =
+pub returns-then-is_nothing-clause-stopped : goal.returns-then-is_nothing-clause-stopped
+returns-then-is_nothing-clause-stopped g c =
     let k = context_in c.args.context.now in
     let both = c.is_nothing.ensures.empty c.if-is_nothing.true in
     let same : acknowledge_null k c.in_ok-empty.empty ≡ batch k c.args.deliveries.now c.args.ended.now = none_batch k c.in_ok-empty.empty c.args.deliveries.now c.args.ended.now c.in_ok-empty.ensures (sym c.as_slice-messages.ensures ∙ both.0) (sym c.as_slice-subs.ensures ∙ both.1) in

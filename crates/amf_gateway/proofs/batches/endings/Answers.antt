@@ -32,7 +32,7 @@ loop-sub-preserved g c =
     let h = c.in_ok-reply.ensures in
     let e = c.in_ok-push.ensures.items in
     record {
-      ahead = loop_more g.O.Outside.handed g.met.O.Outside.hands_none g.met.O.Outside.hands_both (context_in c.args.context.now) c.args.ended.now l.sub-index c.args.outside.now l.outside rs l.invariant.ahead (context_in c.in_ok-about.about) c.in_ok-about.ensures.context c.loop-sub-test.true c.ending.new.outside r _ h.ran e;
+      ahead = loop_more g.O.Outside.handed g.met.O.Outside.hands_none g.met.O.Outside.hands_both (context_in c.args.context.now) c.args.ended.now l.sub-index c.args.outside.now l.outside rs l.invariant.ahead (context_in c.in_ok-about.about) c.in_ok-about.ensures.context c.loop-sub-test.true c.sub-item.result c.sub-item.is c.ending.new.outside r _ h.ran e;
       texts = subst (AllByRecursion IsReply) (sym e) (all_push IsReply rs r l.invariant.texts h.texts);
       short = subst (AllByRecursion IsShortReply) (sym e) (all_push IsShortReply rs r l.invariant.short h.short);
       count = omega (arith, ap length e, length-append rs (r ∷ []), l.invariant.count);
@@ -41,12 +41,12 @@ loop-sub-preserved g c =
 pub returns-in_err-reply-clause-stopped : goal.returns-in_err-reply-clause-stopped
 returns-in_err-reply-clause-stopped g c =
     let l = c.loop-sub in
-    at_err c.from_residual-in_err-reply.result (loop_stopped g.O.Outside.handed g.met.O.Outside.hands_none g.met.O.Outside.hands_both (context_in c.args.context.now) c.args.ended.now l.sub-index c.args.outside.now l.outside l.replies.items l.invariant.ahead (context_in c.in_ok-about.about) c.in_ok-about.ensures.context c.loop-sub-test.true c.ending.new.outside c.in_err-reply.ensures.stopped)
+    at_err c.from_residual-in_err-reply.result (loop_stopped g.O.Outside.handed g.met.O.Outside.hands_none g.met.O.Outside.hands_both (context_in c.args.context.now) c.args.ended.now l.sub-index c.args.outside.now l.outside l.replies.items l.invariant.ahead (context_in c.in_ok-about.about) c.in_ok-about.ensures.context c.loop-sub-test.true c.sub-item.result c.sub-item.is c.ending.new.outside c.in_err-reply.ensures.stopped)
 
 pub returns-in_err-push-clause-stopped : goal.returns-in_err-push-clause-stopped
 returns-in_err-push-clause-stopped g c =
     let l = c.loop-sub in
-    at_err c.from_residual-in_err-push.result (loop_between g.O.Outside.handed g.met.O.Outside.hands_none g.met.O.Outside.hands_both (context_in c.args.context.now) c.args.ended.now l.sub-index c.args.outside.now l.outside l.replies.items l.invariant.ahead (context_in c.in_ok-about.about) c.in_ok-about.ensures.context c.loop-sub-test.true c.ending.new.outside c.in_ok-reply.reply c.in_ok-reply.ensures.ran)
+    at_err c.from_residual-in_err-push.result (loop_between g.O.Outside.handed g.met.O.Outside.hands_none g.met.O.Outside.hands_both (context_in c.args.context.now) c.args.ended.now l.sub-index c.args.outside.now l.outside l.replies.items l.invariant.ahead (context_in c.in_ok-about.about) c.in_ok-about.ensures.context c.loop-sub-test.true c.sub-item.result c.sub-item.is c.ending.new.outside c.in_ok-reply.reply c.in_ok-reply.ensures.ran)
 
 pub returns-clause-ran : goal.returns-clause-ran
 returns-clause-ran g c =

@@ -1,4 +1,4 @@
-use Rattle.std.proofs.Common.{◌≡◌, sym, subst}
+use Rattle.std.proofs.Common.{◌≡◌, ◌∙◌, ap, decimal, sym, subst}
 use Rattle.std.proofs.lemmas.Result.{IfOk-weaker}
 use Rattle.amf_graph.specs.Arena.{Names}
 use Rattle.amf_gateway.proofs.Batched.{never_full, delivered_grew, delivered_adds}
@@ -13,7 +13,7 @@ kept-requires c full =
 pub returns-clause-adds : goal.returns-clause-adds
 returns-clause-adds c =
     let adds = rw c.in_ok-value.ensures at c.delivered.ensures.ok in
-    delivered_adds c.args.message.now c.in_ok-client.client c.args.sub c.args.self.now.builder _ c.args.self.now.values.items _ c.in_ok-value.value c.is_finished.ensures.finished c.is_built.ensures.built c.is_finished.ensures.names c.requires.stored c.in_ok-client.ensures.name adds c.in_ok-push.ensures.items
+    delivered_adds c.args.message.now c.in_ok-client.client c.args.sub c.args.self.now.builder _ c.args.self.now.values.items _ c.in_ok-value.value c.is_finished.ensures.finished c.is_built.ensures.built c.is_finished.ensures.names c.requires.stored (c.in_ok-client.ensures.name ∙ ap decimal c.sub.view_is) adds c.in_ok-push.ensures.items
 
 pub returns-clause-grew : goal.returns-clause-grew
 returns-clause-grew c =
