@@ -1,19 +1,24 @@
 -- One plan after another, by what was handed over.
-use Rattle.std.proofs.Common.{◌≡◌, ◌∙◌, ℕ, List, [], ◌∷◌, ◌++◌, map, refl, sym, ap, subst, inl, inr, Result, Ok, Err, OnErr}
+use Rattle.std.proofs.Common.{◌≡◌, ◌∙◌, ℕ, List, [], ◌∷◌, ◌++◌, map, refl, sym, ap, subst, inl, inr, Result, Ok, Err, OnErr, Option, Bool, true, false, decimal}
+use Rattle.std.specs.Prelude.{if◌then◌else◌}
 use Rattle.std.proofs.lemmas.List.{map-append}
 use Rattle.amf_broker.specs.declared.call.Call.{Call}
 use Rattle.amf_broker.specs.declared.reply.Reply.{Reply as Replied}
 use Rattle.amf_broker.specs.History.{Entry as Event}
+use Rattle.amf_graph.specs.Graph.{Graph}
+use Rattle.flex_msgs.specs.Asked.{Told}
 use Rattle.flex_msgs.specs.declared.reply.Reply.{Reply}
 use Rattle.amf_gateway.specs.declared.replies.FlexAnswer.{FlexAnswer}
 use Rattle.amf_gateway.specs.Begun.{Begun}
-use Rattle.amf_gateway.specs.Commands.{ask}
-use Rattle.amf_gateway.specs.Did.{none_taken, moment_taken, word_taken, entry_taken, both_taken, Ran, Stopped, Tells, Says}
-use Rattle.amf_gateway.specs.Plan.{Plan, ◌>>=◌}
-use Rattle.amf_gateway.specs.Replies.{Answer, Context, reply_with, fresh}
-use Rattle.amf_gateway.specs.Runs.{Supply, Done, nothing, and_call, Outcome, gave, Runs}
+use Rattle.amf_broker.specs.declared.reply.Reply.TheVariants.{Client, Subscribed}
+use Rattle.amf_gateway.specs.Commands.{ask, acknowledged, say_subscribed, say_connected, is_new, connect, ping}
+use Rattle.amf_gateway.specs.Kept.{connect_in}
+use Rattle.amf_gateway.specs.Did.{none_taken, moment_taken, word_taken, entry_taken, both_taken, Ran, Stopped, AnswersFlex, Tells, Says}
+use Rattle.amf_gateway.specs.Plan.{Plan, whole, gives, ◌>>=◌, moment, reply_to, spelling_of}
+use Rattle.amf_gateway.specs.Replies.{Answer, Context, context_of, with_client, reply_with, fresh, acknowledge_null}
+use Rattle.amf_gateway.specs.Runs.{Supply, Done, nothing, and_call, Outcome, gave, Runs, Finds, IsSpelling}
 use Rattle.amf_gateway.specs.Serving.{Taken, supply_of, did, none_left, more}
-use Rattle.amf_gateway.proofs.Composed.{both, runs_then, runs_more, begun_first, begun_then, none_begun}
+use Rattle.amf_gateway.proofs.Composed.{both, runs_then, runs_more, begun_more, begun_first, begun_then, none_begun}
 
 replies_of : List Event → List Replied
 replies_of es = map (λ e. e.answer.reply) es
@@ -131,3 +136,77 @@ asked_stopped handed hands a b c m call first second = record {
   was_handed = hands a b c (moment_taken m) none_taken first second;
   begun = inr (inl refl);
 }
+
+-- A call whose moment was taken before.
+
+pub replied_ran : {O : Type 0} (handed : O → O → Taken → Type 0) (a b : O) (m : ℕ) (call : Call) (e : Event) (r : Replied) → handed a b (entry_taken e) → e.moment ≡ m → e.call ≡ call → e.answer.reply ≡ r → Ran handed (reply_to m call) a b r
+replied_ran handed a b m call e r given same_moment same_call same_reply = record {
+  took = entry_taken e;
+  was_handed = given;
+  runs = (nothing, (refl, ap (λ (z : Replied). gave z none_left) (sym same_reply)), same_step e.moment m e.call call same_moment same_call);
+}
+
+pub replied_stopped : {O : Type 0} (handed : O → O → Taken → Type 0) (a b : O) (m : ℕ) (call : Call) → handed a b none_taken → Stopped handed (reply_to m call) a b
+replied_stopped handed a b m call given = record { took = none_taken; was_handed = given; begun = inl refl }
+
+-- A moment alone, and a spelling.
+
+pub moment_ran : {O : Type 0} (handed : O → O → Taken → Type 0) (a b : O) (m : ℕ) → handed a b (moment_taken m) → Ran handed moment a b m
+moment_ran handed a b m given = record { took = moment_taken m; was_handed = given; runs = (refl, refl) }
+
+pub spelled_says : {O : Type 0} (handed : O → O → Taken → Type 0) (g : Graph) (found : Option (List ℕ)) (f : Option (List ℕ) → Plan Answer) (a b : O) (x : FlexAnswer) → Finds (IsSpelling whole g) found → Says handed (f found) a b x → Says handed (◌>>=◌ (spelling_of whole g) f) a b x
+spelled_says handed g found f a b x finds s = record {
+  answer = s.answer;
+  is = s.is;
+  ran = record { took = s.ran.took; was_handed = s.ran.was_handed; runs = (found, finds, s.ran.runs) };
+}
+
+pub spelled_stopped : {O : Type 0} (handed : O → O → Taken → Type 0) (g : Graph) (found : Option (List ℕ)) (f : Option (List ℕ) → Plan Answer) (a b : O) → Finds (IsSpelling whole g) found → Stopped handed (f found) a b → Stopped handed (◌>>=◌ (spelling_of whole g) f) a b
+spelled_stopped handed g found f a b finds s = record { took = s.took; was_handed = s.was_handed; begun = inr (found, finds, s.begun) }
+
+-- What follows a call.
+
+pub made_says : {O : Type 0} (handed : O → O → Taken → Type 0) → HandsBoth handed → (asks : Call → Plan Replied) (call made : Call) (f : Replied → Plan Answer) (p : Plan Answer) (a b c : O) (r : Replied) (x : FlexAnswer) → made ≡ call → p ≡ f r → Ran handed (asks made) a b r → Says handed p b c x → Says handed (◌>>=◌ (asks call) f) a c x
+made_says handed hands asks call made f p a b c r x e same ran says =
+    says_then handed hands (asks call) f a b c r x (subst (λ (z : Call). Ran handed (asks z) a b r) e ran) (subst (λ (z : Plan Answer). Says handed z b c x) same says)
+
+pub made_ended : {O : Type 0} (handed : O → O → Taken → Type 0) → HandsBoth handed → (asks : Call → Plan Replied) (call made : Call) (f : Replied → Plan Answer) (p : Plan Answer) (a b c : O) (r : Replied) → made ≡ call → p ≡ f r → Ran handed (asks made) a b r → Stopped handed p b c → Stopped handed (◌>>=◌ (asks call) f) a c
+made_ended handed hands asks call made f p a b c r e same ran s =
+    stopped_then handed hands (asks call) f a b c r (subst (λ (z : Call). Ran handed (asks z) a b r) e ran) (subst (λ (z : Plan Answer). Stopped handed z b c) same s)
+
+pub made_first : {O : Type 0} (handed : O → O → Taken → Type 0) (asks : Call → Plan Replied) (call made : Call) (f : Replied → Plan Answer) (a b : O) → made ≡ call → Stopped handed (asks made) a b → Stopped handed (◌>>=◌ (asks call) f) a b
+made_first handed asks call made f a b e s = stopped_first handed (asks call) f a b (subst (λ (z : Call). Stopped handed (asks z) a b) e s)
+
+pub asked_says : {O : Type 0} (handed : O → O → Taken → Type 0) → HandsBoth handed → (call made : Call) (f : Replied → Plan Answer) (p : Plan Answer) (a b c : O) (r : Replied) (x : FlexAnswer) → made ≡ call → p ≡ f r → Ran handed (ask made) a b r → Says handed p b c x → Says handed (◌>>=◌ (ask call) f) a c x
+asked_says handed hands = made_says handed hands ask
+
+pub asked_ended : {O : Type 0} (handed : O → O → Taken → Type 0) → HandsBoth handed → (call made : Call) (f : Replied → Plan Answer) (p : Plan Answer) (a b c : O) (r : Replied) → made ≡ call → p ≡ f r → Ran handed (ask made) a b r → Stopped handed p b c → Stopped handed (◌>>=◌ (ask call) f) a c
+asked_ended handed hands = made_ended handed hands ask
+
+pub asked_first : {O : Type 0} (handed : O → O → Taken → Type 0) (call made : Call) (f : Replied → Plan Answer) (a b : O) → made ≡ call → Stopped handed (ask made) a b → Stopped handed (◌>>=◌ (ask call) f) a b
+asked_first handed = made_first handed ask
+
+-- Replies of which nothing else is said.
+
+pub other_subscribed : (k : Context) (r : Replied) → ((id : ℕ) → r ≡ Subscribed id → ⊥) → acknowledged k [] r ≡ say_subscribed k r
+other_subscribed k (Subscribed id) never = absurd (never id refl)
+other_subscribed k r never = refl
+
+pub other_connected : (k : Context) (r : Replied) → ((id : ℕ) → r ≡ Client id → ⊥) → acknowledged k [] r ≡ say_connected k r
+other_connected k (Client id) never = absurd (never id refl)
+other_connected k r never = refl
+
+pub said_subscribed : (k : Context) (r : Replied) (id : ℕ) (x : List ℕ) → r ≡ Subscribed id → x ≡ decimal id → acknowledge_null k x ≡ say_subscribed k r
+said_subscribed k r id x e n = ap (λ (y : List ℕ). acknowledge_null k y) n ∙ sym (ap (λ (z : Replied). say_subscribed k z) e)
+
+pub said_connected : (k later : Context) (r : Replied) (id : ℕ) (client empty : List ℕ) → r ≡ Client id → later ≡ with_client client k → client ≡ decimal id → empty ≡ [] → acknowledge_null later empty ≡ say_connected k r
+said_connected k later r id client empty e l n none =
+    ap (λ (z : Context). acknowledge_null z empty) (l ∙ ap (λ (y : List ℕ). with_client y k) n) ∙ (ap (λ (y : List ℕ). acknowledge_null (with_client (decimal id) k) y) none ∙ sym (ap (λ (z : Replied). say_connected k z) e))
+
+-- Pings.
+
+pub ping_new : (t : Told) (k : Context) → k ≡ context_of t → is_new t.ds_id ≡ true → connect_in k ≡ ping t
+ping_new t k e h = ap connect_in e ∙ sym (ap (λ (b : Bool). if b then connect t else acknowledge_null (context_of t) []) h)
+
+pub ping_old : (t : Told) (k : Context) (x : List ℕ) → k ≡ context_of t → x ≡ [] → is_new t.ds_id ≡ false → acknowledge_null k x ≡ ping t
+ping_old t k x e n h = ap (λ (z : Context). acknowledge_null z x) e ∙ (ap (λ (y : List ℕ). acknowledge_null (context_of t) y) n ∙ sym (ap (λ (b : Bool). if b then connect t else acknowledge_null (context_of t) []) h))

@@ -1,5 +1,5 @@
 -- A reply that is filled has texts that fit.
-use Rattle.std.proofs.Common.{ℕ, List}
+use Rattle.std.proofs.Common.{◌≡◌, ℕ, List}
 use Rattle.flex_msgs.specs.Built.{IsReply, IsShortReply}
 use Rattle.amf_gateway.specs.Kept.{Fits, ContextFits}
 use Rattle.amf_gateway.specs.Replies.{Context, reply_with}

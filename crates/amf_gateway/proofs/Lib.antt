@@ -21,6 +21,37 @@ pub mod Digits
 pub mod Dots
 pub mod Texts
 pub mod Filled
+pub mod Closed
+pub mod Uses
 pub mod Building
 pub mod Spelling
+pub mod Erring
 pub mod Doing
+pub mod Handing
+pub mod ReadStored
+pub mod Batched
+pub mod Reading
+pub mod Ending
+pub mod Polled
+pub mod ViewedShort
+mod SmallReplies
+mod Fitting
+mod Operations
+pub mod CallsAlike
+pub mod NoLacks
+pub mod InArray
+pub mod Plain
+pub mod Faulty
+pub mod Answering
+pub mod Arguments
+pub mod Remote
+pub mod Writable
+pub mod MessageAnswers
+pub mod Unpacked
+pub mod BodyAnswers
+pub mod Answered
+pub mod Stepped
+pub mod ReadNext
+pub mod Coming
+pub mod SoFar
+pub mod ServedEnds

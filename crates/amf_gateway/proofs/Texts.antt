@@ -1,6 +1,11 @@
 -- Texts that the gateway writes.
-use Rattle.std.proofs.Common.{◌≡◌, ◌∙◌, ℕ, suc, ◌<◌, ◌≤◌, Bool, true, false, List, [], ◌∷◌, ◌++◌, length, get_or, refl, ap, arith, inl, Some}
-use Rattle.std.specs.Prelude.{nat_le, if◌then◌else◌}
+use Rattle.std.proofs.Common.{rules, ◌≡◌, ◌∙◌, ℕ, zero, suc, ◌+◌, ◌-◌, ◌*◌, ◌^◌, ◌<◌, ◌≤◌, Bool, true, false, List, [], ◌∷◌, ◌++◌, length, get_or, refl, ap, arith, inl, Some}
+use Rattle.std.specs.Prelude.{nat_le, decimal, if◌then◌else◌}
+use Rattle.std.specs.Str.{all_ascii_digits}
+use Rattle.std.specs.Char.{is_ascii_digit}
+use Rattle.std.proofs.lemmas.Bool.{and_parts, leb-true}
+use Rattle.std.proofs.lemmas.Fmt.{digits_decimal, length-decimal-le}
+use Rattle.std.proofs.lemmas.Str.Parse.{IsNumeralModel, numerals_by_fold}
 use Rattle.std.proofs.lemmas.Bool.Decides.{nat_tests}
 use Rattle.amf_wire.specs.Text.{following, is_text_after, is_text, IsText}
 use Rattle.amf_wire.proofs.TextTest.{is_text-is}
@@ -10,6 +15,7 @@ use Rattle.uuid.specs.declared.Version.TheVariants.{Random}
 use Rattle.uuid.specs.Parts.{with_variant, with_version}
 use Rattle.uuid.specs.Text.{hex_digit, nibble, digit_place, is_hyphen_place, lower, hyphenated_text}
 use Rattle.uuid.proofs.TextLemmas.{by_index_ascii, by_index_length, hex_digit_ascii, nibble_small}
+use Rattle.flex_msgs.specs.declared.reply.FaultText.{FaultText}
 use Rattle.amf_gateway.specs.Kept.{Fits, FaultFits}
 use Rattle.amf_gateway.specs.Numbers.{identifier}
 use Rattle.amf_gateway.specs.Replies.{nil, or_nil}
@@ -64,3 +70,26 @@ nil_fits = tested nil refl (omega arith)
 pub or_nil_fits : (x : List ℕ) → Fits x → Fits (or_nil x)
 or_nil_fits [] f = nil_fits
 or_nil_fits (b ∷ x) f = f
+
+-- Numbers.
+
+abbrev read_on : ℕ → List ℕ → ℕ
+read_on n [] = n
+read_on n (c ∷ cs) = read_on (10 * n + (c - 48)) cs
+
+own : IsNumeralModel (λ ds. all_ascii_digits ds ≡ true) (read_on 0)
+own = numerals_by_fold _ (search rules) read_on (search rules)
+
+digits_ascii : (x : List ℕ) → all_ascii_digits x ≡ true → Ascii x
+digits_ascii [] h = λ i. omega arith
+digits_ascii (b ∷ x) h = let parts = and_parts (is_ascii_digit b) (all_ascii_digits x) h in at parts.0 (digits_ascii x parts.1)
+  where
+    at : is_ascii_digit b ≡ true → Ascii x → Ascii (b ∷ x)
+    at p q zero = let bounds = and_parts (nat_le 48 b) (nat_le b 57) p in omega (arith, leb-true b 57 bounds.1)
+    at p q (suc i) = q i
+
+pub number_fits : (n : ℕ) → n < 2 ^ 64 → Fits (decimal n)
+number_fits n h = record {
+  text = ascii_text (decimal n) (digits_ascii (decimal n) (digits_decimal own n h));
+  short = omega (arith, length-decimal-le 20 n (omega arith) (omega arith) h);
+}

@@ -1,8 +1,10 @@
 -- What a plan came to between two states of the outside, and how much of one was begun.
-use Rattle.std.specs.Prelude.{◌≡◌, ℕ, [], ◌∷◌, ◌++◌}
+use Rattle.std.specs.Prelude.{◌≡◌, ℕ, List, [], ◌∷◌, ◌++◌}
 use Rattle.amf_broker.specs.History.{Entry as Event}
+use Rattle.amf_graph.specs.declared.lack.LackKind.{LackKind}
 use Rattle.amf_graph.specs.Isomorphic.{Isomorphic}
 use Rattle.amf_graph.specs.Rooted.{content}
+use Rattle.amf3_spelling.specs.Lacks3.{IsLack3}
 use Rattle.amf0_tables.specs.declared.form.Form.TheVariants.{Amf3}
 use Rattle.amf_gateway.specs.declared.replies.FlexAnswer.{FlexAnswer}
 use Rattle.amf_gateway.specs.Begun.{Begun}
@@ -45,6 +47,8 @@ pub record AnswersFlex (x : FlexAnswer) (y : Answer) : Type 0 where
   pub well : x.well ≡ y.well
   pub form : y.body.form ≡ Amf3
   pub graph : Isomorphic y.body.graph (content x.graph)
+  -- no node of it is without a spelling
+  pub spelled : (number : ℕ) (kind : LackKind) → IsLack3 (content x.graph) number kind → ⊥
 
 -- the plan takes nothing, and gives this answer
 pub record Tells (p : Plan Answer) (x : FlexAnswer) : Type 0 where

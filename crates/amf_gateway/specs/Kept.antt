@@ -4,10 +4,15 @@ use Rattle.amf_wire.specs.Text.{IsText}
 use Rattle.flex_msgs.specs.Built.{IsShort}
 use Rattle.flex_msgs.specs.declared.reply.FaultText.{FaultText}
 use Rattle.flex_msgs.specs.declared.request.Common.{Common}
+use Rattle.flex_msgs.specs.declared.request.Request.{Request}
+use Rattle.flex_msgs.specs.declared.request.Request.TheVariants.{Remoting, Command, Async}
 use Rattle.flex_msgs.specs.Asked.{Told, told}
 use Rattle.amf_graph.specs.Building.{no_arena}
 use Rattle.amf_gateway.specs.declared.context.Context.{Context as KeptContext}
-use Rattle.amf_gateway.specs.Replies.{Context}
+use Rattle.amf_broker.specs.declared.call.Call.TheVariants.{Connect}
+use Rattle.amf_gateway.specs.Commands.{ask, say_connected}
+use Rattle.amf_gateway.specs.Plan.{Plan, ◌>>=◌}
+use Rattle.amf_gateway.specs.Replies.{Answer, Context}
 
 abbrev pub context_in : KeptContext → Context
 context_in k = record { destination = k.destination; ds_id = k.ds_id; correlation = k.correlation }
@@ -33,6 +38,17 @@ pub record CommonFits (c : Common) : Type 0 where
   pub ds_id : Fits c.ds_id
   pub subtopic : Fits c.subtopic
 
+abbrev pub RequestFits : Request → Type 0
+RequestFits (Remoting c operation) = CommonFits c × Fits operation
+RequestFits (Command c operation) = CommonFits c
+RequestFits (Async c correlation) = CommonFits c × Fits correlation
+
 -- what a request tells but for its body and its headers
 abbrev pub names_told : Common → Told
 names_told c = told no_arena c
+
+-- the plan of a connect, by what its answer says of its request
+abbrev pub connect_in : Context → Plan Answer
+connect_in k = do
+  r ← ask Connect
+  say_connected k r

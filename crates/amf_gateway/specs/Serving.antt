@@ -5,6 +5,7 @@ use Rattle.amf_broker.specs.History.{Entry as Event}
 use Rattle.amf_service.specs.Registry.{Entry}
 use Rattle.amf_gateway.specs.Begun.{Begun}
 use Rattle.amf_gateway.specs.Links.{LinkEnd, link}
+use Rattle.amf_gateway.specs.Plan.{Plan}
 use Rattle.amf_gateway.specs.Respond.{Told, Responds, joined, written}
 use Rattle.amf_gateway.specs.RespondLaws.{AreLawful, IsBeginning}
 use Rattle.amf_gateway.specs.Runs.{Supply, Done, gave, Runs}
@@ -43,25 +44,29 @@ did k answers = record { calls = calls_of k; answers = answers }
 abbrev pub none_left : Supply
 none_left = record { moments = []; words = []; replies = [] }
 
--- what these bytes are answered, whole, and nothing is left of what was taken
-abbrev pub Wholly : List Entry → (bytes : List ℕ) → Taken → (answers : List (List ℕ)) → LinkEnd → Type 0
-Wholly services bytes k answers end = Runs (link services bytes) (supply_of k) (did k answers) (gave end none_left)
+-- what the plan for these bytes says, whole, and nothing is left of what was taken
+abbrev pub Wholly : Plan LinkEnd → Taken → (answers : List (List ℕ)) → LinkEnd → Type 0
+Wholly plan k answers end = Runs plan (supply_of k) (did k answers) (gave end none_left)
 
--- the first of what the bytes that the link had left are answered
-abbrev pub Partly : List Entry → LinkBytes → Taken → (answers : List (List ℕ)) → Type 0
-Partly services b k answers = Begun (link services b.left) (supply_of k) (did k answers)
+-- the first of what it says
+abbrev pub Partly : Plan LinkEnd → Taken → (answers : List (List ℕ)) → Type 0
+Partly plan k answers = Begun plan (supply_of k) (did k answers)
 
 -- the answers are the bytes that were written
 abbrev pub AreWritten : LinkBytes → (bytes : List ℕ) → Type 0
 AreWritten b bytes = b.now ≡ b.held ++ bytes
 
--- where the link gives no more, what it gave is answered; where it takes no more, the last answer may be cut
+-- What was done by a plan for the bytes that a link has left. Where the link gives no more, what it gave is answered; where it takes no more, the last answer may be cut.
+abbrev pub ServesBy : (List ℕ → Plan LinkEnd) → LinkBytes → Taken → ServeEnd → Type 0
+ServesBy plan b k (ended end) = (answers : List (List ℕ)) × Wholly (plan b.left) k answers end × AreWritten b (joined answers)
+ServesBy plan b k read_fault = (answers : List (List ℕ)) × (came : List ℕ) × (end : LinkEnd) × (b.left ≡ came ++ b.leaves) × Wholly (plan came) k answers end × Partly (plan b.left) k answers × AreWritten b (joined answers)
+ServesBy plan b k write_fault = (answers : List (List ℕ)) × (front : List ℕ) × (back : List ℕ) × Partly (plan b.left) k (answers ++ (front ++ back) ∷ []) × AreWritten b (joined answers ++ front)
+ServesBy plan b k no_memory = (answers : List (List ℕ)) × Partly (plan b.left) k answers × AreWritten b (joined answers)
+ServesBy plan b k spent = (answers : List (List ℕ)) × Partly (plan b.left) k answers × AreWritten b (joined answers)
+
+-- what the services answer to a link
 abbrev pub Serves : List Entry → LinkBytes → Taken → ServeEnd → Type 0
-Serves services b k (ended end) = (answers : List (List ℕ)) × Wholly services b.left k answers end × AreWritten b (joined answers)
-Serves services b k read_fault = (answers : List (List ℕ)) × (came : List ℕ) × (end : LinkEnd) × (b.left ≡ came ++ b.leaves) × Wholly services came k answers end × Partly services b k answers × AreWritten b (joined answers)
-Serves services b k write_fault = (answers : List (List ℕ)) × (front : List ℕ) × (back : List ℕ) × Partly services b k (answers ++ (front ++ back) ∷ []) × AreWritten b (joined answers ++ front)
-Serves services b k no_memory = (answers : List (List ℕ)) × Partly services b k answers × AreWritten b (joined answers)
-Serves services b k spent = (answers : List (List ℕ)) × Partly services b k answers × AreWritten b (joined answers)
+Serves services b k end = ServesBy (link services) b k end
 
 -- a supply, and more behind it
 abbrev pub more : Supply → Supply → Supply

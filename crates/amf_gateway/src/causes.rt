@@ -2,7 +2,9 @@
 
 ghost use Rattle.std.specs.Prelude.{◌≡◌, true, IfOk, IfSome, IsNone, Some, None, length, ◌<◌};
 ghost use Rattle.amf_wire.specs.Text.{is_text};
-ghost use Rattle.amf_gateway.specs.Causes.{refusal, no_form as no_form_cause};
+ghost use Rattle.amf_gateway.specs.Causes.{refusal, no_form as no_form_cause, not_served as not_served_cause};
+ghost use Rattle.amf_service.specs.Meaning.{IsFault};
+ghost use Rattle.amf_gateway.specs.Causes.{bad_message as bad_message_cause, no_service as no_service_cause, no_operation as no_operation_cause, service_fault as service_fault_cause};
 ghost use Rattle.amf_gateway.specs.Kept.{FaultFits};
 
 use amf_broker::Reply;
@@ -26,6 +28,49 @@ pub(crate) fn no_form(alloc: Global) -> Result<FaultText, Memory>
     ensures fits { IfOk result (λ f. FaultFits f) }
 {
     cause(alloc, b"Server.NoForm", b"no form")
+}
+
+/// The cause of an operation that is not served. It gives up where there is no memory.
+pub(crate) fn not_served(alloc: Global) -> Result<FaultText, Memory>
+    ensures cause { IfOk result (λ f. f ≡ not_served_cause) }
+    ensures fits { IfOk result (λ f. FaultFits f) }
+{
+    cause(alloc, b"Client.NotServed", b"operation not served")
+}
+
+/// The cause of what is no message, or has no list of arguments. It gives up where there is no memory.
+pub(crate) fn bad_message(alloc: Global) -> Result<FaultText, Memory>
+    ensures cause { IfOk result (λ f. f ≡ bad_message_cause) }
+    ensures fits { IfOk result (λ f. FaultFits f) }
+{
+    cause(alloc, b"Client.BadMessage", b"not a message")
+}
+
+/// The cause of a call of a service that there is not. It gives up where there is no memory.
+pub(crate) fn no_service(alloc: Global) -> Result<FaultText, Memory>
+    ensures cause { IfOk result (λ f. f ≡ no_service_cause) }
+    ensures fits { IfOk result (λ f. FaultFits f) }
+{
+    cause(alloc, b"Client.NoService", b"no such service")
+}
+
+/// The cause of a call of an operation that its service does not know. It gives up where there is no memory.
+pub(crate) fn no_operation(alloc: Global) -> Result<FaultText, Memory>
+    ensures cause { IfOk result (λ f. f ≡ no_operation_cause) }
+    ensures fits { IfOk result (λ f. FaultFits f) }
+{
+    cause(alloc, b"Client.NoOperation", b"no such operation")
+}
+
+/// The cause that a service gives. It gives up where there is no memory.
+pub(crate) fn service_fault(alloc: Global, text: Name) -> Result<FaultText, Memory>
+    ensures cause { IfOk result (λ f. f ≡ service_fault_cause text) }
+    ensures fits { IfOk result (λ f. IsFault text → FaultFits f) }
+{
+    Ok(FaultText {
+        code: Name::of_bytes(alloc, b"Service.Fault")?,
+        text,
+    })
 }
 
 /// The code and the text of a refusal of the desk.

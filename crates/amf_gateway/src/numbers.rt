@@ -1,9 +1,10 @@
 //! Numbers and identifiers as texts.
 
-ghost use Rattle.std.specs.Prelude.{◌≡◌, ◌^◌, ◌≤◌, IsTrue, IfOk, IfSome, IsNone};
+ghost use Rattle.std.specs.Prelude.{◌≡◌, ◌^◌, ◌≤◌, IsTrue, IfOk, IfSome, IsNone, decimal};
 ghost use Rattle.std.specs.Char.{is_ascii_digit};
 ghost use Rattle.std.specs.List.{list_all};
 ghost use Rattle.std.specs.Str.Parse.{digits_value};
+ghost use Rattle.amf_gateway.specs.Kept.{Fits};
 ghost use Rattle.amf_gateway.specs.Numbers.{identifier, is_numeral, number_in};
 
 use amf_wire::{Memory, Name};
@@ -68,5 +69,14 @@ pub fn identifier(alloc: Global, high: u64, low: u64) -> Result<Name, Memory>
     let id = Builder::from_random_bytes(bytes).into_uuid();
     let mut buffer = Uuid::encode_buffer();
     let text = id.hyphenated().encode_lower(&mut buffer);
+    Name::of_bytes(alloc, text.as_bytes())
+}
+
+/// The decimal digits of a number. It gives up where there is no memory.
+pub(crate) fn numeral(alloc: Global, number: u64) -> Result<Name, Memory>
+    ensures name { IfOk result (λ name. name ≡ decimal number) }
+    ensures fits { IfOk result (λ name. Fits name) }
+{
+    let text = number.to_string(alloc)?;
     Name::of_bytes(alloc, text.as_bytes())
 }

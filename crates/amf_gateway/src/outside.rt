@@ -2,6 +2,7 @@ ghost use Rattle.std.specs.Prelude.{◌≡◌, IfOk, OnErr};
 ghost use Rattle.amf_broker.specs.History.{Entry as Event};
 ghost use Rattle.amf_gateway.specs.Did.{none_taken, moment_taken, word_taken, entry_taken, both_taken};
 ghost use Rattle.amf_gateway.specs.Serving.{Taken};
+ghost use Rattle.amf_gateway.specs.Small.{IsSmall};
 
 use amf_broker::{Call, Reply};
 use amf_wire::Memory;
@@ -54,6 +55,7 @@ pub trait Outside {
     fn call(&mut self, moment: u64, call: Call) -> Result<Reply, Unanswered>
         requires { may_call self.old }
         ensures reply { IfOk result (λ reply. (e : Event) × handed self.old self.new (entry_taken e) × (e.moment ≡ moment) × (e.call ≡ call) × (e.answer.reply ≡ reply)) }
+        ensures small { IfOk result (λ reply. IsSmall reply) }
         ensures none { OnErr result (handed self.old self.new none_taken) };
 
     /// Where nothing happens, nothing is given.

@@ -51,7 +51,7 @@ fn reply_of(
 }
 
 /// A reply of fresh words and of the moment now. It gives up where there is no memory.
-fn fresh<O: Outside>(
+pub(crate) fn fresh<O: Outside>(
     alloc: Global,
     outside: &mut O,
     context: &Context,
@@ -72,7 +72,11 @@ fn fresh<O: Outside>(
 }
 
 /// The error with this cause in the place of a reply. It gives up where there is no memory.
-fn failed(alloc: Global, mut reply: Reply, fault: &FaultText) -> Result<FlexAnswer, Memory>
+pub(crate) fn failed(
+    alloc: Global,
+    mut reply: Reply,
+    fault: &FaultText,
+) -> Result<FlexAnswer, Memory>
     requires texts { IsReply reply }
     requires short { IsShortReply reply }
     requires fault { FaultFits fault.now }
@@ -86,7 +90,7 @@ fn failed(alloc: Global, mut reply: Reply, fault: &FaultText) -> Result<FlexAnsw
 }
 
 /// The answer with this graph, or where it has no spelling the error that says so. It gives up where there is no memory.
-fn answered(alloc: Global, reply: Reply, graph: Rooted) -> Result<FlexAnswer, Memory>
+pub(crate) fn answered(alloc: Global, reply: Reply, graph: Rooted) -> Result<FlexAnswer, Memory>
     requires texts { IsReply reply }
     requires short { IsShortReply reply }
     ensures { IfOk result (λ a. (g : Graph) → Isomorphic g (content graph) → Tells (answered_plan reply g) a) }

@@ -6,9 +6,11 @@ ghost use Rattle.std.specs.Option.{option_map};
 ghost use Rattle.amf_graph.specs.Arena.{Names, no_traits, value_content};
 ghost use Rattle.amf_graph.specs.Rooted.{content};
 ghost use Rattle.amf_graph.specs.Views.{named};
-ghost use Rattle.flex_msgs.specs.Lookup.{value_named, pairs_of};
+ghost use Rattle.flex_msgs.specs.Asked.{IsCommon};
+ghost use Rattle.flex_msgs.specs.Lookup.{value_named, pairs_of, named_in};
 ghost use Rattle.flex_msgs.specs.KeptPairs.{pairs_content, stored_pairs, IsPairIn};
 
+use crate::Common;
 use amf_graph::{NodeView, Rooted, TextId, TraitsId, Value};
 use amf_wire::Memory;
 use std::alloc::Global;
@@ -72,5 +74,19 @@ pub(crate) fn pairs_of(
             _ => Ok(None),
         },
         _ => Ok(None),
+    }
+}
+
+/// The value of the last header of this name, or null where there is none. It gives up where there is no memory.
+///
+/// The values of the request are the graph's.
+pub fn header(alloc: Global, graph: &Rooted, common: &Common, name: &[u8]) -> Result<Value, Memory>
+    requires { IsCommon graph.now.arena common.now }
+    ensures value { IfOk result (λ value. value_content graph.now.arena value ≡ named_in name.now (pairs_of (content graph.now) (value_content graph.now.arena common.now.headers))) }
+    ensures names { IfOk result (λ value. Names graph.now.arena value) }
+{
+    match pairs_of(alloc, graph, common.headers)? {
+        Some(pairs) => Ok(value_named(graph, &pairs, name)),
+        None => Ok(Value::Null),
     }
 }

@@ -1,4 +1,4 @@
-use Rattle.std.proofs.Common.{codes, refl, sym, subst, arith}
+use Rattle.std.proofs.Common.{◌≡◌, IfOk, codes, refl, sym, subst, arith}
 use Rattle.std.proofs.lemmas.Result.{IfOk-weaker}
 use Rattle.amf_gateway.specs.Kept.{FaultFits}
 use Rattle.amf_gateway.proofs.Texts.{cause_fits}

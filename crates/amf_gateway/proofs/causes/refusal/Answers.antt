@@ -1,4 +1,4 @@
-use Rattle.std.proofs.Common.{sym, subst, arith}
+use Rattle.std.proofs.Common.{◌≡◌, sym, subst, arith}
 use Rattle.amf_gateway.specs.Kept.{FaultFits}
 use Rattle.amf_gateway.proofs.Texts.{cause_fits}
 use Rattle.amf_gateway.proofs.causes.refusal.Goals as goal

@@ -1,3 +1,4 @@
+use Rattle.std.proofs.Common.{◌≡◌, IfOk}
 use Rattle.amf_gateway.proofs.Building.{acknowledge_built}
 use Rattle.amf_gateway.proofs.messages.acknowledge_of.Goals as goal
 

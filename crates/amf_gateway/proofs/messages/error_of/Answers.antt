@@ -1,3 +1,5 @@
+use Rattle.std.proofs.Common.{◌≡◌, IfOk}
+use Rattle.flex_msgs.specs.Built.{Errors}
 use Rattle.amf_gateway.proofs.Building.{error_built}
 use Rattle.amf_gateway.proofs.messages.error_of.Goals as goal
 

@@ -1,4 +1,4 @@
-use Rattle.std.proofs.Common.{arith}
+use Rattle.std.proofs.Common.{◌≡◌, arith}
 use Rattle.amf_gateway.proofs.Dots.{parted_none, parted_some}
 use Rattle.amf_gateway.proofs.target.parted.Goals as goal
 

@@ -1,4 +1,4 @@
-use Rattle.std.proofs.Common.{sym, subst}
+use Rattle.std.proofs.Common.{◌≡◌, sym, subst}
 use Rattle.amf_gateway.specs.Kept.{Fits}
 use Rattle.amf_gateway.proofs.Texts.{or_nil_fits}
 use Rattle.amf_gateway.proofs.context.Context.of.Goals as goal

@@ -1,0 +1,15 @@
+-- An error with a fresh reply.
+use Rattle.std.proofs.Common.{◌≡◌, ℕ, List, [], refl, subst}
+use Rattle.flex_msgs.specs.declared.reply.FaultText.{FaultText}
+use Rattle.flex_msgs.specs.declared.reply.Reply.{Reply}
+use Rattle.amf_gateway.specs.declared.replies.FlexAnswer.{FlexAnswer}
+use Rattle.amf_gateway.specs.Did.{Ran, AnswersFlex, Says}
+use Rattle.amf_gateway.specs.Plan.{gives}
+use Rattle.amf_gateway.specs.Replies.{Context, fresh, failed, error}
+use Rattle.amf_gateway.specs.Serving.{Taken}
+use Rattle.amf_gateway.proofs.Doing.{HandsNone, HandsBoth, says_told}
+
+pub error_says : {O : Type 0} (handed : O → O → Taken → Type 0) → HandsNone handed → HandsBoth handed → (k : Context) (f : FaultText) (client : List ℕ) (a b : O) (r : Reply) (x : FlexAnswer) → client ≡ [] → Ran handed (fresh k client) a b r → AnswersFlex x (failed r f) → Says handed (error k f) a b x
+error_says handed none both k f client a b r x e ran is =
+    says_told handed none both (fresh k []) (λ (s : Reply). gives (failed s f)) a b r x (subst (λ (n : List ℕ). Ran handed (fresh k n) a b r) e ran)
+    (record { answer = failed r f; is = is; runs = (refl, refl) })

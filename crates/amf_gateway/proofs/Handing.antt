@@ -1,0 +1,69 @@
+-- What was given, step by step.
+use Rattle.std.proofs.Common.{◌≡◌, ◌∙◌, ℕ, ◌+◌, List, [], ◌∷◌, ◌++◌, length, refl, sym, ap, subst, arith, append-nil}
+use Rattle.amf_io.specs.Outside.{Keeps}
+use Rattle.amf_broker.specs.declared.call.Call.{Call}
+use Rattle.amf_broker.specs.declared.reply.Answer.{Answer}
+use Rattle.amf_broker.specs.History.{Entry as Event, IsLegal}
+use Rattle.amf_desk.specs.Histories.{own}
+use Rattle.amf_desk.specs.declared.closed.DeskEnd.{DeskEnd}
+use Rattle.amf_desk.specs.declared.closed.DeskEnd.TheVariants.{Spent, Memory}
+use Rattle.amf_desk.specs.Ends.{Ended}
+use Rattle.amf_desk.specs.Passes.{Held, Explains, Called, Looked}
+use Rattle.amf_desk.proofs.Own.{called_own, looked_own, called_begins, looked_begins}
+use Rattle.amf_gateway.specs.Did.{moment_taken, word_taken, entry_taken}
+use Rattle.amf_gateway.specs.Handed.{Given, AidGoesOn, PassGoesOn}
+use Rattle.amf_gateway.specs.HandedLaws.{given_self, pass_none}
+use Rattle.amf_gateway.specs.Serving.{Taken}
+use Rattle.amf_gateway.specs.Small.{IsSmall}
+use Rattle.amf_gateway.proofs.SmallReplies.{last_small}
+
+given_none : (told tells : Type 0) (before now : List ℕ) → Keeps told tells before now → Given told tells before now []
+given_none told tells before now k = record { since = k.since; same = λ t. k.same (k.since t) ∙ sym (append-nil before) }
+
+module _ {A : Type 0} (tells_moments : A → Type 0) (moments : A → List ℕ) (tells_words : A → Type 0) (words : A → List ℕ) (Same : A → A → Type 0) where
+  abbrev Goes : A → A → Taken → Type 0
+  Goes = AidGoesOn tells_moments moments tells_words words Same
+
+  pub aid_moment : (a b : A) (m : ℕ) → (tells_moments b → tells_moments a) → (tells_moments b → moments b ≡ moments a ++ m ∷ []) → Keeps (tells_words a) (tells_words b) (words a) (words b) → Same a b → Goes a b (moment_taken m)
+  aid_moment a b m since gives k s = record { moments_given = record { since = since; same = gives }; words_given = given_none (tells_words a) (tells_words b) (words a) (words b) k; same = s }
+
+  pub aid_word : (a b : A) (w : ℕ) → (tells_words b → tells_words a) → (tells_words b → words b ≡ words a ++ w ∷ []) → Keeps (tells_moments a) (tells_moments b) (moments a) (moments b) → Same a b → Goes a b (word_taken w)
+  aid_word a b w since gives k s = record { words_given = record { since = since; same = gives }; moments_given = given_none (tells_moments a) (tells_moments b) (moments a) (moments b) k; same = s }
+
+  pub aid_entry : (a : A) (e : Event) → Same a a → Goes a a (entry_taken e)
+  aid_entry a e s = record { moments_given = given_self (tells_moments a) (moments a); words_given = given_self (tells_words a) (words a); same = s }
+
+-- The pass.
+
+pub pass_called : (p q : Held) (moment : ℕ) (call : Call) (answer : Answer) → Called p moment call answer q → PassGoesOn p q (record { caller = p.number; moment = moment; call = call; answer = answer } ∷ [])
+pass_called p q moment call answer c = record {
+  desk = c.desk;
+  destinations = c.destinations;
+  number = c.number;
+  splits = c.splits;
+  own_entries = called_own p q moment call answer c;
+  begins = called_begins p q moment call answer c;
+  budget = c.budget;
+  explained = λ e. subst (λ (d : List (List ℕ)). Explains d q.seen) (sym c.destinations) c.explained;
+}
+
+-- the reply of the last entry of a legal history
+pub called_small : (p q : Held) (moment : ℕ) (call : Call) (answer : Answer) → Called p moment call answer q → IsSmall answer.reply
+called_small p q moment call answer c = last_small p.destinations (p.seen ++ c.between) (record { caller = p.number; moment = moment; call = call; answer = answer }) (subst (IsLegal p.destinations) c.seen c.explained.legal)
+
+pub pass_looked : (p q : Held) → Looked p q → PassGoesOn p q []
+pass_looked p q l = record {
+  desk = l.desk;
+  destinations = l.destinations;
+  number = l.number;
+  splits = l.splits;
+  own_entries = looked_own p q l ∙ sym (append-nil (own p.number p.seen));
+  begins = looked_begins p q l;
+  budget = omega (arith, l.budget);
+  explained = λ e. subst (λ (d : List (List ℕ)). Explains d q.seen) (sym l.destinations) l.explained;
+}
+
+-- whyever a call has no answer
+pub pass_ended : (p q : Held) (moment : ℕ) (call : Call) (e : DeskEnd) → Ended p moment call q e → PassGoesOn p q []
+pass_ended p q moment call Spent e = subst (λ (z : Held). PassGoesOn p z []) (sym e.1) (pass_none p)
+pass_ended p q moment call Memory e = pass_looked p q e.1

@@ -1,0 +1,156 @@
+-- From what was read of a link and what was written to what a step came to.
+use Rattle.std.proofs.Common.{◌≡◌, ◌∙◌, ℕ, ◌≤◌, Bool, true, false, List, [], ◌∷◌, ◌++◌, length, take, drop, Result, Ok, Err, refl, sym, ap, subst, inl, inr, append_assoc, append-nil}
+use Rattle.std.proofs.lemmas.List.{take-append-drop}
+use Rattle.amf_http.specs.declared.ends.AnswerEnd.{AnswerEnd}
+use Rattle.amf_http.specs.declared.ends.AnswerEnd.TheVariants as unwritten_by
+use Rattle.amf_http.specs.Response.{response, AddsFront, Writes}
+use Rattle.amf_service.specs.Registry.{Entry}
+use Rattle.amf_gateway.specs.declared.links.Answer.{Answer}
+use Rattle.amf_gateway.specs.declared.links.Answer.TheVariants.{Packet, Status}
+use Rattle.amf_gateway.specs.declared.links.LinkEnd.{LinkEnd as Ending}
+use Rattle.amf_gateway.specs.declared.links.LinkEnd.TheVariants.{Closed, Refused, Truncated, ReadFault, WriteFault, Spent, Memory}
+use Rattle.amf_gateway.specs.Answering.{Next, over, status_alone, packet, next, goes_on, one_more}
+use Rattle.amf_gateway.specs.Begun.{Begun}
+use Rattle.amf_gateway.specs.Links.{LinkEnd, closed, refused, truncated, turn_away, closed_or}
+use Rattle.amf_gateway.specs.LinkSteps.{AnswersRequest, Gives, Begins, ComesBy, Comes, CountsReads, StepsBy, Steps, written_as, ends_with, end_of, unwritten}
+use Rattle.amf_gateway.specs.ServesLink.{CountsLink}
+use Rattle.amf_gateway.specs.Plan.{Plan}
+use Rattle.amf_gateway.specs.Respond.{joined}
+use Rattle.amf_gateway.specs.Runs.{Supply, Done, nothing, and_answer, Outcome, gave, Runs}
+use Rattle.amf_gateway.specs.Serving.{LinkBytes, Taken, supply_of, did, none_left, ServesBy}
+use Rattle.amf_gateway.proofs.Composed.{both, runs_then, begun_first, begun_then, none_begun, runs_begun}
+
+module _ (services : List Entry) (last : Bool) (after : List ℕ → Plan LinkEnd) (bytes : List ℕ) (k : Taken) where
+  -- the link ended before an answer
+  over_runs : (end : LinkEnd) → Gives services last bytes k (over end) → Runs (one_more services last after bytes) (supply_of k) (did k []) (gave end none_left)
+  over_runs end g = subst (λ (d : Done). Runs (one_more services last after bytes) (supply_of k) d (gave end none_left)) (λ i. record { calls = append-nil (did k []).calls i; answers = [] })
+      (runs_then (next services last bytes) (goes_on after) (supply_of k) none_left (did k []) nothing (over end) (gave end none_left) g (refl, refl))
+
+  begins_more : Begins services last bytes k → Begun (one_more services last after bytes) (supply_of k) (did k [])
+  begins_more b = begun_first (next services last bytes) (goes_on after) (supply_of k) (did k []) b
+
+  -- an answer was made, and none or all of it was written
+  answer_done : (answer : List ℕ) → both (did k []) (and_answer answer nothing) ≡ did k (answer ∷ [])
+  answer_done answer = λ i. record { calls = append-nil (did k []).calls i; answers = answer ∷ [] }
+
+  written_begun : (n : Next) (answer : List ℕ) → Gives services last bytes k n → Begun (goes_on after n) none_left (and_answer answer nothing) → Begun (one_more services last after bytes) (supply_of k) (did k (answer ∷ []))
+  written_begun n answer g b = subst (λ (d : Done). Begun (one_more services last after bytes) (supply_of k) d) (answer_done answer)
+      (begun_then (next services last bytes) (goes_on after) (supply_of k) none_left (did k []) (and_answer answer nothing) n g b)
+
+  unwritten_begun : (n : Next) → Gives services last bytes k n → Begun (one_more services last after bytes) (supply_of k) (did k [])
+  unwritten_begun n g = begins_more (runs_begun (next services last bytes) (supply_of k) (did k []) (gave n none_left) g)
+
+  written_runs : (n : Next) (answer : List ℕ) (end : LinkEnd) → Gives services last bytes k n → Runs (goes_on after n) none_left (and_answer answer nothing) (gave end none_left) → Runs (one_more services last after bytes) (supply_of k) (did k (answer ∷ [])) (gave end none_left)
+  written_runs n answer end g r = subst (λ (d : Done). Runs (one_more services last after bytes) (supply_of k) d (gave end none_left)) (answer_done answer)
+      (runs_then (next services last bytes) (goes_on after) (supply_of k) none_left (did k []) (and_answer answer nothing) n (gave end none_left) g r)
+
+held_still : (held now : List ℕ) → now ≡ held → now ≡ held ++ []
+held_still held now e = e ∙ sym (append-nil held)
+
+-- the link ended before an answer, or the answer could not be made
+pub unanswered_steps : (services : List Entry) (last : Bool) (b : LinkBytes) (rest : List ℕ) (k : Taken) (end : Ending) → ComesBy services last b.left rest b.leaves k (Err end) → b.now ≡ b.held → StepsBy services last b rest k (Err end)
+unanswered_steps services last b rest k Closed c e after = ([], over_runs services last after b.left k closed c, held_still b.held b.now e)
+unanswered_steps services last b rest k Truncated c e after = ([], over_runs services last after b.left k truncated c, held_still b.held b.now e)
+unanswered_steps services last b rest k ReadFault (came, end, split, g, p) e after = ([], came, end, split, over_runs services last after came k end g, begins_more services last after b.left k p, held_still b.held b.now e)
+unanswered_steps services last b rest k Spent c e after = ([], begins_more services last after b.left k c, held_still b.held b.now e)
+unanswered_steps services last b rest k Memory c e after = ([], begins_more services last after b.left k c, held_still b.held b.now e)
+unanswered_steps services last b rest k (Refused status) c e after = absurd c
+unanswered_steps services last b rest k WriteFault c e after = absurd c
+
+one_answer : (answer : List ℕ) → joined (answer ∷ []) ≡ answer
+one_answer answer = append-nil answer
+
+-- the answer that was made, as the plan has it
+pub unwritten_steps : (services : List Entry) (last : Bool) (b : LinkBytes) (rest : List ℕ) (k : Taken) (a : Answer) → ComesBy services last b.left rest b.leaves k (Ok a) → b.now ≡ b.held → StepsBy services last b rest k (Err Memory)
+unwritten_steps services last b rest k (Packet bytes close) (used, split, g) e after =
+    ([], unwritten_begun services last after b.left k (packet bytes.items close rest) (subst (λ (z : List ℕ). Gives services last z k (packet bytes.items close rest)) (sym split) (g rest)), held_still b.held b.now e)
+unwritten_steps services last b rest k (Status status) c e after = ([], unwritten_begun services last after b.left k (status_alone status) c, held_still b.held b.now e)
+
+pub faulty_steps : (services : List Entry) (last : Bool) (b : LinkBytes) (rest : List ℕ) (k : Taken) (a : Answer) → ComesBy services last b.left rest b.leaves k (Ok a) → AddsFront b.held b.now (written_as a) → StepsBy services last b rest k (Err WriteFault)
+faulty_steps services last b rest k (Packet bytes close) (used, split, g) f after =
+    let answer = response 200 bytes.items close in
+    let here = subst (λ (z : List ℕ). Gives services last z k (packet bytes.items close rest)) (sym split) (g rest) in (
+      [],
+      take f.count answer,
+      drop f.count answer,
+      subst (λ (z : List ℕ). Begun (one_more services last after b.left) (supply_of k) (did k (z ∷ []))) (sym (take-append-drop f.count answer))
+          (written_begun services last after b.left k (packet bytes.items close rest) answer here (inr (nothing, none_begun (closed_or close (after rest)) none_left nothing refl, refl))),
+      f.added,
+    )
+faulty_steps services last b rest k (Status status) c f after =
+    let answer = response status [] true in (
+      [],
+      take f.count answer,
+      drop f.count answer,
+      subst (λ (z : List ℕ). Begun (one_more services last after b.left) (supply_of k) (did k (z ∷ []))) (sym (take-append-drop f.count answer))
+          (written_begun services last after b.left k (status_alone status) answer c (inr (nothing, refl, refl))),
+      f.added,
+    )
+
+pub answered_steps : (services : List Entry) (last : Bool) (b : LinkBytes) (rest : List ℕ) (k : Taken) (a : Answer) → ComesBy services last b.left rest b.leaves k (Ok a) → b.now ≡ b.held ++ written_as a → StepsBy services last b rest k (ends_with a)
+answered_steps services last b rest k (Packet bytes false) (used, split, g) e = (used, bytes.items, split, g, e)
+answered_steps services last b rest k (Packet bytes true) (used, split, g) e = λ after.
+    let answer = response 200 bytes.items true in
+    let here = subst (λ (z : List ℕ). Gives services last z k (packet bytes.items true rest)) (sym split) (g rest) in
+    (answer ∷ [], written_runs services last after b.left k (packet bytes.items true rest) answer closed here (nothing, (refl, refl), refl), e ∙ ap (λ (z : List ℕ). b.held ++ z) (sym (one_answer answer)))
+answered_steps services last b rest k (Status status) c e = λ after.
+    let answer = response status [] true in
+    (answer ∷ [], written_runs services last after b.left k (status_alone status) answer (refused status) c (nothing, (refl, refl), refl), e ∙ ap (λ (z : List ℕ). b.held ++ z) (sym (one_answer answer)))
+
+-- With what was handed over. Writing leaves what the link has left as it was.
+
+module _ {O : Type 0} (handed : O → O → Taken → Type 0) (services : List Entry) (last : Bool) (old new : O) (tells_left tells_held : Type 0) (bytes keeps leaves held now : List ℕ) where
+  pub stepped_none : (end : Ending) → Comes handed services last old new tells_left bytes (keeps ++ leaves) leaves (Err end) → (tells_held → now ≡ held)
+      → Steps handed services last old new tells_left tells_held (record { left = bytes; leaves = leaves; held = held; now = now }) (keeps ++ leaves) (Err end)
+  stepped_none end c same = record {
+    took = c.took;
+    was_handed = c.was_handed;
+    steps = λ t h. unanswered_steps services last (record { left = bytes; leaves = leaves; held = held; now = now }) (keeps ++ leaves) c.took end (c.comes t) (same h);
+  }
+
+  module _ (a : Answer) (read_leaves read_held : List ℕ) (c : Comes handed services last old new tells_left bytes (keeps ++ read_leaves) read_leaves (Ok a)) (same_left : tells_left → leaves ≡ read_leaves) (same_held : tells_held → read_held ≡ held) where
+    answer_comes : tells_left → ComesBy services last bytes (keeps ++ leaves) leaves c.took (Ok a)
+    answer_comes t = subst (λ (l : List ℕ). ComesBy services last bytes (keeps ++ l) l c.took (Ok a)) (sym (same_left t)) (c.comes t)
+
+    abbrev Bytes : LinkBytes
+    Bytes = record { left = bytes; leaves = leaves; held = held; now = now }
+
+    pub stepped_unwritten : (e : AnswerEnd) → (tells_held → Writes read_held now (written_as a) (Err e)) → Steps handed services last old new tells_left tells_held Bytes (keeps ++ leaves) (Err (unwritten e))
+    stepped_unwritten unwritten_by.WriteFault w = record {
+      took = c.took;
+      was_handed = c.was_handed;
+      steps = λ t h. faulty_steps services last Bytes (keeps ++ leaves) c.took a (answer_comes t) (subst (λ (l : List ℕ). AddsFront l now (written_as a)) (same_held h) (w h));
+    }
+    stepped_unwritten unwritten_by.Memory w = record {
+      took = c.took;
+      was_handed = c.was_handed;
+      steps = λ t h. unwritten_steps services last Bytes (keeps ++ leaves) c.took a (answer_comes t) (w h ∙ same_held h);
+    }
+
+    pub stepped_written : (tells_held → now ≡ read_held ++ written_as a) → Steps handed services last old new tells_left tells_held Bytes (keeps ++ leaves) (ends_with a)
+    stepped_written w = record {
+      took = c.took;
+      was_handed = c.was_handed;
+      steps = λ t h. answered_steps services last Bytes (keeps ++ leaves) c.took a (answer_comes t) (subst (λ (l : List ℕ). now ≡ l ++ written_as a) (same_held h) (w h));
+    }
+
+-- The counts.
+
+pub counts_none : (reads reads_now writes writes_now : ℕ) (end : Ending) → CountsReads reads reads_now (Err end) → writes_now ≡ writes → CountsLink reads reads_now writes writes_now (end_of end)
+counts_none reads reads_now writes writes_now Closed c w = (c, w)
+counts_none reads reads_now writes writes_now (Refused status) c w = (c, w)
+counts_none reads reads_now writes writes_now Truncated c w = (c, w)
+counts_none reads reads_now writes writes_now ReadFault c w = (c.0, c.1, w)
+counts_none reads reads_now writes writes_now WriteFault c w = absurd c
+counts_none reads reads_now writes writes_now Spent c w = (c, w)
+counts_none reads reads_now writes writes_now Memory c w = (c, w)
+
+pub counts_request : {O : Type 0} (handed : O → O → Taken → Type 0) (services : List Entry) (body : List ℕ) (close : Bool) (old new : O) (reads reads_now : ℕ) (r : Result Answer Ending) → AnswersRequest handed services body close old new r → reads_now ≡ reads → CountsReads reads reads_now r
+counts_request handed services body close old new reads reads_now (Ok a) s e = e
+counts_request handed services body close old new reads reads_now (Err Closed) s e = e
+counts_request handed services body close old new reads reads_now (Err (Refused status)) s e = e
+counts_request handed services body close old new reads reads_now (Err Truncated) s e = e
+counts_request handed services body close old new reads reads_now (Err ReadFault) s e = absurd s
+counts_request handed services body close old new reads reads_now (Err WriteFault) s e = absurd s
+counts_request handed services body close old new reads reads_now (Err Spent) s e = e
+counts_request handed services body close old new reads reads_now (Err Memory) s e = e

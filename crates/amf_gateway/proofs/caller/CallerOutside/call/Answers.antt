@@ -1,0 +1,48 @@
+use Rattle.std.proofs.Common.{◌≡◌, refl, sym, ap, subst, Ok, Err, [], ◌∷◌}
+use Rattle.amf_io.specs.Outside.{SameLinks}
+use Rattle.amf_broker.specs.History.{Entry as Event}
+use Rattle.amf_gateway.specs.HandedLaws.{aid_none, links_self}
+use Rattle.amf_gateway.proofs.Handing.{aid_entry, pass_called, pass_ended, called_small}
+use Rattle.amf_gateway.proofs.caller.CallerOutside.call.Goals as goal
+
+pub returns-in-Ok-clause-reply : goal.returns-in-Ok-clause-reply
+returns-in-Ok-clause-reply g c =
+    let p = c.args.self.now.pass.now in
+    let called = c.in-Ok.ensures.answer in
+    let e : Event = record { caller = p.number; moment = c.args.moment; call = c.args.call; answer = c.in-Ok.answer } in (
+      e,
+      (
+        aid_entry g.A.Clock.tells_moments g.A.Clock.moments g.A.Dice.tells_words g.A.Dice.words (λ x y. SameLinks (g.A.Hall.tells_links x) (g.A.Hall.tells_links y) (g.A.Hall.coming x) (g.A.Hall.coming y) (g.A.Hall.served x) (g.A.Hall.served y) (g.A.Hall.faults x) (g.A.Hall.faults y)) c.args.self.now.aid.now e (links_self (g.A.Hall.tells_links c.args.self.now.aid.now) (g.A.Hall.coming c.args.self.now.aid.now) (g.A.Hall.served c.args.self.now.aid.now) (g.A.Hall.faults c.args.self.now.aid.now)),
+        pass_called p c.call-answer.new.pass c.args.moment c.args.call c.in-Ok.answer called,
+        refl,
+        refl,
+        refl,
+        refl,
+      ),
+      refl,
+      refl,
+      refl,
+    )
+
+pub returns-in-Ok-clause-small : goal.returns-in-Ok-clause-small
+returns-in-Ok-clause-small g c = called_small c.args.self.now.pass.now c.call-answer.new.pass c.args.moment c.args.call c.in-Ok.answer c.in-Ok.ensures.answer
+
+pub returns-in-Err-Spent-clause-none : goal.returns-in-Err-Spent-clause-none
+returns-in-Err-Spent-clause-none g c = (
+  aid_none g.A.Clock.tells_moments g.A.Clock.moments g.A.Dice.tells_words g.A.Dice.words (λ x y. SameLinks (g.A.Hall.tells_links x) (g.A.Hall.tells_links y) (g.A.Hall.coming x) (g.A.Hall.coming y) (g.A.Hall.served x) (g.A.Hall.served y) (g.A.Hall.faults x) (g.A.Hall.faults y)) c.args.self.now.aid.now (links_self (g.A.Hall.tells_links c.args.self.now.aid.now) (g.A.Hall.coming c.args.self.now.aid.now) (g.A.Hall.served c.args.self.now.aid.now) (g.A.Hall.faults c.args.self.now.aid.now)),
+  pass_ended c.args.self.now.pass.now c.call-answer.new.pass c.args.moment c.args.call c.in-Err-Spent.field-0 c.in-Err-Spent.ensures-1.end,
+  refl,
+  refl,
+  refl,
+  refl,
+)
+
+pub returns-in-Err-Memory-clause-none : goal.returns-in-Err-Memory-clause-none
+returns-in-Err-Memory-clause-none g c = (
+  aid_none g.A.Clock.tells_moments g.A.Clock.moments g.A.Dice.tells_words g.A.Dice.words (λ x y. SameLinks (g.A.Hall.tells_links x) (g.A.Hall.tells_links y) (g.A.Hall.coming x) (g.A.Hall.coming y) (g.A.Hall.served x) (g.A.Hall.served y) (g.A.Hall.faults x) (g.A.Hall.faults y)) c.args.self.now.aid.now (links_self (g.A.Hall.tells_links c.args.self.now.aid.now) (g.A.Hall.coming c.args.self.now.aid.now) (g.A.Hall.served c.args.self.now.aid.now) (g.A.Hall.faults c.args.self.now.aid.now)),
+  pass_ended c.args.self.now.pass.now c.call-answer.new.pass c.args.moment c.args.call c.in-Err-Memory.field-0 c.in-Err-Memory.ensures-1.end,
+  refl,
+  refl,
+  refl,
+  refl,
+)

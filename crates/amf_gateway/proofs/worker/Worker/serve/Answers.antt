@@ -1,0 +1,24 @@
+use Rattle.std.proofs.Common.{◌∙◌, arith, rules}
+use Rattle.amf_gateway.proofs.SoFar.{sofar_none, sofar_next, served_each, served_all, served_until}
+use Rattle.amf_gateway.proofs.worker.Worker.serve.Goals as goal
+
+pub loop-init : goal.loop-init
+loop-init g c = sofar_none _ _ _ _ _
+
+pub returns-in-Ok-None : goal.returns-in-Ok-None
+returns-in-Ok-None g c =
+    let e = c.in-Ok-None.ensures in
+    served_all _ _ _ _ _ _ _ _ _ _ _ (omega arith) c.loop.invariant (record { tells = e.tells; served = e.served; moments = e.moments; words = e.words }) (rw c.in-Ok-None.field-0-is at e.gives) e.cause
+
+pub returns-in-Err : goal.returns-in-Err
+returns-in-Err g c =
+    let e = c.in-Err.ensures in
+    served_until _ _ _ _ _ _ _ _ _ _ _ (omega arith) c.loop.invariant (record { tells = e.tells; served = e.served; moments = e.moments; words = e.words }) e.gives e.cause
+
+pub returns : goal.returns
+returns g c = served_each _ _ _ _ _ _ _ _ _ _ (omega arith) c.loop.invariant
+
+pub loop-preserved : goal.loop-preserved
+loop-preserved g c =
+    let e = c.in-Ok-Some.ensures in
+    rw c.either-starved.ensures (sofar_next _ _ _ _ _ _ _ _ _ _ _ c.in-Ok-Some.link _ _ c.loop.invariant (record { tells = e.tells; served = e.served; moments = e.moments; words = e.words }) (rw c.in-Ok-Some.field-0-is at e.gives) e.cause c.serve_next-hungry.ensures)

@@ -1,0 +1,10 @@
+use Rattle.amf_gateway.specs.LinkSteps.{end_of}
+use Rattle.amf_gateway.proofs.SoFar.{served_next}
+use Rattle.amf_gateway.proofs.worker.Worker.serve_next.Goals as goal
+
+pub returns : goal.returns
+returns g c =
+    let s = c.serve_link-end.ensures in
+    let b = c.back.ensures in
+    served_next _ _ _ _ _ _ c.serve_link-end.new.aid _ (record { came = c.args.link; left = c.serve_link-end.new.link; took = s.0; end = end_of c.serve_link-end.result }) _ s.1
+    (record { tells = b.tells; coming = b.coming; served = b.served; faults = b.faults; moments = b.moments; words = b.words }) c.is_starved.ensures

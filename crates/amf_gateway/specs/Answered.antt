@@ -1,0 +1,97 @@
+-- What the messages of a packet were answered, as it is kept.
+use Rattle.std.specs.Prelude.{◌≡◌, ◌<◌, ◌≤◌, ◌^◌, ℕ, Bool, true, if◌then◌else◌, List, [], length, map, Option, Some, None}
+use Rattle.std.specs.List.{AllByRecursion, AllZip}
+use Rattle.amf_wire.specs.Text.{IsText}
+use Rattle.amf_packet.specs.declared.packet.Message.{Message as KeptMessage}
+use Rattle.amf_packet.specs.declared.packet.Packet.{Packet as KeptPacket}
+use Rattle.amf_packet.specs.Content.{body_of, message_of, packet_of}
+use Rattle.amf_packet.specs.Packet.{Message, Packet, is_version}
+use Rattle.amf_packet.specs.PacketAnswer.{body_weight}
+use Rattle.amf_service.specs.Registry.{Entry}
+use Rattle.amf_gateway.specs.declared.plain_call.MessageAnswer.{MessageAnswer}
+use Rattle.amf_gateway.specs.Alike.{MessagesMatch, PacketsMatch}
+use Rattle.amf_gateway.specs.Calls.{LacksNothing, AnswersMessage}
+use Rattle.amf_gateway.specs.Did.{Ran}
+use Rattle.amf_gateway.specs.Packets.{answers_to, has_long}
+use Rattle.amf_gateway.specs.Plan.{Plan, gives, ◌>>=◌, bytes_of, packet_in}
+use Rattle.amf_gateway.specs.Replies.{Answer}
+use Rattle.amf_gateway.specs.Runs.{IsUnpacked, Finds}
+use Rattle.amf_gateway.specs.Serving.{Taken}
+
+-- the most bytes of a body
+abbrev pub most_body : ℕ
+most_body = 1048576
+
+-- the plan was done, and gave this answer
+pub record SaysMessage {O : Type 0} (handed : O → O → Taken → Type 0) (p : Plan Answer) (old new : O) (x : MessageAnswer) : Type 0 where
+  pub answer : Answer
+  pub is : AnswersMessage x answer
+  pub ran : Ran handed p old new answer
+
+-- messages that can be written
+pub record IsWritable (m : KeptMessage) : Type 0 where
+  pub target : IsText m.target
+  pub response : IsText m.response
+  pub short_target : length m.target < 2 ^ 16
+  pub short_response : length m.response < 2 ^ 16
+  pub spelled : LacksNothing (body_of m.body)
+
+abbrev pub AreWritable : List KeptMessage → Type 0
+AreWritable ms = AllByRecursion IsWritable ms
+
+-- the plan was done, and gave these messages, up to the numbers of nodes
+pub record SaysMessages {O : Type 0} (handed : O → O → Taken → Type 0) (p : Plan (List Message)) (old new : O) (back : List KeptMessage) : Type 0 where
+  pub messages : List Message
+  pub match : AllZip MessagesMatch messages (map message_of back)
+  pub ran : Ran handed p old new messages
+
+pub record SaysPacket {O : Type 0} (handed : O → O → Taken → Type 0) (p : Plan Packet) (old new : O) (back : KeptPacket) : Type 0 where
+  pub packet : Packet
+  pub match : PacketsMatch packet (packet_of back)
+  pub ran : Ran handed p old new packet
+
+-- a response URI that is a text with room for a suffix
+pub record HasRoom (m : KeptMessage) : Type 0 where
+  pub text : IsText m.response
+  pub short : length m.response < 65527
+
+-- a packet that can be written
+pub record IsWritablePacket (p : KeptPacket) : Type 0 where
+  pub version : is_version p.version ≡ true
+  pub no_headers : p.headers ≡ []
+  pub few : length p.messages < 2 ^ 16
+  pub messages : AreWritable p.messages
+
+-- a packet that was read: a version, a count and URIs that its fields have, and graphs that are light
+pub record IsReadable (p : KeptPacket) : Type 0 where
+  pub version : is_version p.version ≡ true
+  pub few : length p.messages < 2 ^ 16
+  pub texts : AllByRecursion (λ m. IsText m.response) p.messages
+  pub light : AllByRecursion (λ m. body_weight m.body ≤ most_body) p.messages
+
+-- and no response URI of it is too long
+pub record IsAnswerable (p : KeptPacket) : Type 0 where
+  pub readable : IsReadable p
+  pub uris : AllByRecursion HasRoom p.messages
+
+-- the packet that the bytes spell, if they spell one
+abbrev pub Unpacks : List ℕ → Option KeptPacket → Type 0
+Unpacks b None = Finds (λ q. IsUnpacked q b) None
+Unpacks b (Some p) = IsUnpacked (packet_of p) b × IsReadable p
+
+-- What a body is answered: the bytes of a packet, unless it is no packet or a response URI is too long.
+
+abbrev pub packet_bytes : List Entry → Packet → Plan (Option (List ℕ))
+packet_bytes services p = do
+  back ← answers_to services p
+  bytes ← bytes_of back
+  gives (Some bytes)
+
+abbrev pub if_packet : List Entry → Option Packet → Plan (Option (List ℕ))
+if_packet services None = gives None
+if_packet services (Some p) = if has_long p then gives None else packet_bytes services p
+
+abbrev pub body_bytes : List Entry → (body : List ℕ) → Plan (Option (List ℕ))
+body_bytes services body = do
+  p ← packet_in body
+  if_packet services p

@@ -1,0 +1,79 @@
+-- Where nothing happens nothing is given; and one thing is given after another.
+use Rattle.std.proofs.Common.{◌≡◌, ◌∙◌, ℕ, ◌+◌, List, [], ◌∷◌, ◌++◌, length, refl, sym, ap, subst, arith, append_assoc, append-nil, length-append}
+use Rattle.amf_io.specs.Outside.{Keeps, SameLinks}
+use Rattle.amf_broker.specs.History.{Entry as Event}
+use Rattle.amf_desk.specs.Histories.{own, Begins}
+use Rattle.amf_desk.specs.Passes.{Held}
+use Rattle.amf_gateway.specs.Did.{none_taken, both_taken}
+use Rattle.amf_gateway.specs.Handed.{Given, AidGoesOn, PassGoesOn}
+use Rattle.amf_gateway.specs.Serving.{Taken}
+
+pub given_self : (told : Type 0) (before : List ℕ) → Given told told before before []
+given_self told before = record { since = λ t. t; same = λ t. sym (append-nil before) }
+
+given_then : (a b c : Type 0) (x y z g h : List ℕ) → Given a b x y g → Given b c y z h → Given a c x z (g ++ h)
+given_then a b c x y z g h m n = record { since = λ t. m.since (n.since t); same = λ t. n.same t ∙ ap (λ (w : List ℕ). w ++ h) (m.same (n.since t)) ∙ append_assoc x g h }
+
+keeps_self : {X : Type 0} (told : Type 0) (x : X) → Keeps told told x x
+keeps_self told x = record { still = λ t. t; since = λ t. t; same = λ t. refl }
+
+keeps_then : {X : Type 0} (a b c : Type 0) (x y z : X) → Keeps a b x y → Keeps b c y z → Keeps a c x z
+keeps_then a b c x y z m n = record { still = λ t. n.still (m.still t); since = λ t. m.since (n.since t); same = λ t. n.same (m.still t) ∙ m.same t }
+
+pub links_self : {L : Type 0} (told : Type 0) (coming served : List L) (n : ℕ) → SameLinks told told coming coming served served n n
+links_self told coming served n = record { coming_same = keeps_self told coming; served_same = keeps_self told served; count_same = refl }
+
+pub links_then : {L : Type 0} (a b c : Type 0) (x y z u v w : List L) (l m n : ℕ) → SameLinks a b x y u v l m → SameLinks b c y z v w m n → SameLinks a c x z u w l n
+links_then a b c x y z u v w l m n p q = record {
+  coming_same = keeps_then a b c x y z p.coming_same q.coming_same;
+  served_same = keeps_then a b c u v w p.served_same q.served_same;
+  count_same = q.count_same ∙ p.count_same;
+}
+
+module _ {A : Type 0} (tells_moments : A → Type 0) (moments : A → List ℕ) (tells_words : A → Type 0) (words : A → List ℕ) (Same : A → A → Type 0) where
+  abbrev Goes : A → A → Taken → Type 0
+  Goes = AidGoesOn tells_moments moments tells_words words Same
+
+  pub aid_none : (a : A) → Same a a → Goes a a none_taken
+  aid_none a s = record { moments_given = given_self (tells_moments a) (moments a); words_given = given_self (tells_words a) (words a); same = s }
+
+  pub aid_both : (a b c : A) (k l : Taken) → (Same a b → Same b c → Same a c) → Goes a b k → Goes b c l → Goes a c (both_taken k l)
+  aid_both a b c k l trans p q = record {
+    moments_given = given_then (tells_moments a) (tells_moments b) (tells_moments c) (moments a) (moments b) (moments c) k.moments l.moments p.moments_given q.moments_given;
+    words_given = given_then (tells_words a) (tells_words b) (tells_words c) (words a) (words b) (words c) k.words l.words p.words_given q.words_given;
+    same = trans p.same q.same;
+  }
+
+-- The pass.
+
+begins_self : (xs : List Event) → Begins xs xs
+begins_self xs = ([], sym (append-nil xs))
+
+begins_trans : (xs ys zs : List Event) → Begins xs ys → Begins ys zs → Begins xs zs
+begins_trans xs ys zs a b = (a.0 ++ b.0, b.1 ∙ (ap (λ (l : List Event). l ++ b.0) a.1 ∙ append_assoc xs a.0 b.0))
+
+pub pass_none : (p : Held) → PassGoesOn p p []
+pass_none p = record {
+  desk = refl;
+  destinations = refl;
+  number = refl;
+  splits = refl;
+  own_entries = sym (append-nil (own p.number p.seen));
+  begins = begins_self p.seen;
+  budget = omega arith;
+  explained = λ e. e;
+}
+
+pub pass_both : (p q r : Held) (es fs : List Event) → PassGoesOn p q es → PassGoesOn q r fs → PassGoesOn p r (es ++ fs)
+pass_both p q r es fs m n = record {
+  desk = n.desk ∙ m.desk;
+  destinations = n.destinations ∙ m.destinations;
+  number = n.number ∙ m.number;
+  splits = n.splits ∙ m.splits;
+  own_entries =
+      let later : own p.number r.seen ≡ own p.number q.seen ++ fs = subst (λ (i : ℕ). own i r.seen ≡ own i q.seen ++ fs) m.number n.own_entries in
+      later ∙ ap (λ (xs : List Event). xs ++ fs) m.own_entries ∙ append_assoc (own p.number p.seen) es fs;
+  begins = begins_trans p.seen q.seen r.seen m.begins n.begins;
+  budget = omega (arith, m.budget, n.budget, length-append es fs);
+  explained = λ e. n.explained (m.explained e);
+}

@@ -1,0 +1,28 @@
+-- What the steps of a worker come to. A device of proofs.
+use Rattle.std.specs.Prelude.{◌≡◌, ℕ, Bool, List, [], ◌∷◌, ◌++◌, ⊤}
+use Rattle.amf_desk.specs.Passes.{Held}
+use Rattle.amf_service.specs.Registry.{Entry}
+use Rattle.amf_gateway.specs.Handed.{Given, PassGoesOn}
+use Rattle.amf_gateway.specs.ServesLink.{Service, IsServed, is_starved}
+use Rattle.amf_gateway.specs.Serving.{ServeEnd, ended, read_fault, write_fault, no_memory, spent}
+use Rattle.amf_gateway.specs.Tells.{OfLink, OfHall}
+
+-- as long as it is not known why a link was not answered whole, it counts as want of memory
+abbrev pub unknown : ServeEnd → ServeEnd
+unknown spent = no_memory
+unknown end = end
+
+-- a link of the hall was served and given back
+pub record ServedNext {H L : Type 0} (hall : OfHall H L) (link : OfLink L) (services : List Entry) (p q : Held) (a b : H) (came : L) (starved : Bool) : Type 0 where
+  pub service : Service L
+  pub came_is : service.came ≡ came
+  pub is_served : IsServed link services service
+  pub moments : Given (hall.tells_moments a) (hall.tells_moments b) (hall.moments a) (hall.moments b) service.took.moments
+  pub words : Given (hall.tells_words a) (hall.tells_words b) (hall.words a) (hall.words b) service.took.words
+  pub pass : PassGoesOn p q service.took.entries
+  pub tells : hall.tells_links b → hall.tells_links a
+  pub coming : hall.tells_links b → hall.coming b ≡ hall.coming a
+  pub took_back : hall.tells_links b → hall.served b ≡ hall.served a ++ service.left ∷ []
+  pub faults : hall.faults b ≡ hall.faults a
+  pub starved_is : starved ≡ is_starved service.end
+  pub budget : service.end ≡ spent → q.budget ≡ 0

@@ -1,0 +1,222 @@
+//! How the requests of a link are answered, one after the other.
+
+ghost use Rattle.std.specs.Prelude.{◌≡◌, ◌≤◌, ◌++◌, length, ◌==◌, ◌||◌, [], List, IfOk};
+ghost use Rattle.amf_io.specs.Outside.{Keeps};
+ghost use Rattle.amf_http.specs.Response.{Writes, CountsWrites};
+ghost use Rattle.amf_service.specs.Registry.{Entry};
+ghost use Rattle.amf_gateway.specs.Calls.{services_by};
+ghost use Rattle.amf_gateway.specs.Answered.{most_body};
+ghost use Rattle.amf_gateway.specs.ServesLink.{CountsLink, is_starved};
+ghost use Rattle.amf_gateway.specs.LinkSteps.{end_of, ServedLink, AnswersRequest, Comes, IsAnswer, written_as, ends_with, Steps, CountsStep, CountsReads};
+
+use crate::bodies::answer_body;
+use crate::outside::{Outside, Unanswered};
+use amf_http::{AnswerEnd, HttpBuffer, HttpEnd, HttpRequest, next_request, write_response};
+use amf_io::Link;
+use amf_service::Registry;
+use std::alloc::Global;
+
+/// How a link ended.
+#[derive(Clone, Copy, Debug, PartialEq, Eq)]
+pub enum LinkEnd {
+    /// The peer ended between requests, or the last answer said that it is the last.
+    Closed,
+    /// A request was answered with this status.
+    Refused(u16),
+    /// The peer ended inside a request.
+    Truncated,
+    /// A read of the link failed.
+    ReadFault,
+    /// A write or a flush of the link failed.
+    WriteFault,
+    /// No more calls of the desk may be made.
+    Spent,
+    /// There was no memory left.
+    Memory,
+}
+
+impl LinkEnd {
+    /// Whether it ended for want of memory.
+    pub(crate) fn is_starved(self) -> bool
+        ensures { result ≡ is_starved (end_of self) }
+    {
+        matches!(self, LinkEnd::Memory)
+    }
+}
+
+impl From<AnswerEnd> for LinkEnd {
+    ghost use Rattle.std.specs.Prelude.{◌≡◌};
+    ghost use Rattle.amf_gateway.specs.LinkSteps.{unwritten};
+
+    ghost from_gives = { λ e end. end ≡ unwritten e };
+
+    fn from(end: AnswerEnd) -> LinkEnd {
+        match end {
+            AnswerEnd::WriteFault => LinkEnd::WriteFault,
+            AnswerEnd::Memory => LinkEnd::Memory,
+        }
+    }
+}
+
+/// The most requests of a link.
+const MOST_REQUESTS: u32 = 1000;
+
+/// What a request is answered with.
+#[derive(Drop)]
+pub(crate) enum Answer {
+    /// The bytes of a packet, after which the link ends or goes on.
+    Packet { bytes: Vec<u8>, close: bool },
+    /// A status alone, which ends the link.
+    Status(u16),
+}
+
+impl Answer {
+    /// Writes it.
+    fn write<L: Link>(&self, alloc: Global, link: &mut L) -> Result<(), AnswerEnd>
+        requires { IsAnswer self.now }
+        ensures tells { L.tells_held link.new → L.tells_held link.old }
+        ensures writes { L.tells_held link.new → Writes (L.held link.old) (L.held link.new) (written_as self.now) result }
+        ensures cause { CountsWrites (L.write_faults link.old) (L.write_faults link.new) result }
+        ensures other_side { Keeps (L.tells_left link.old) (L.tells_left link.new) (L.left link.old) (L.left link.new) }
+        ensures other_count { L.read_faults link.new ≡ L.read_faults link.old }
+    {
+        match self {
+            Answer::Packet { bytes, close } => {
+                write_response(alloc, link, 200, bytes.as_slice(), *close)
+            }
+            Answer::Status(status) => write_response(alloc, link, *status, &[], true),
+        }
+    }
+
+    /// How the link ends after it, if it does.
+    fn end(&self) -> Result<(), LinkEnd>
+        ensures { result ≡ ends_with self.now }
+    {
+        match self {
+            Answer::Packet { close: false, .. } => Ok(()),
+            Answer::Packet { close: true, .. } => Err(LinkEnd::Closed),
+            Answer::Status(status) => Err(LinkEnd::Refused(*status)),
+        }
+    }
+}
+
+/// Whether the link ends after the answer to a request.
+fn closes(request: &HttpRequest, last: bool) -> bool
+    ensures { result ≡ (request.now.close || last) }
+{
+    request.close || last
+}
+
+/// What a request is answered with: a packet, or 400 where its body is none.
+fn answer_request<O: Outside>(
+    alloc: Global,
+    outside: &mut O,
+    registry: &Registry,
+    request: &HttpRequest,
+    last: bool,
+) -> Result<Answer, LinkEnd>
+    requires short { length request.now.body ≤ most_body }
+    requires ready { O.may_call outside.old }
+    ensures { let services : List Entry = services_by registry.now.services.entries (λ x. x.items) (λ s. knows (s.vtable, s.value)) (λ s. gives (s.vtable, s.value)) in AnswersRequest O.handed services request.now.body (request.now.close || last) outside.old outside.new result }
+{
+    let close = closes(request, last);
+    match answer_body(alloc, outside, registry, request.body.as_slice()) {
+        Ok(Some(bytes)) => Ok(Answer::Packet { bytes, close }),
+        Ok(None) => Ok(Answer::Status(400)),
+        Err(Unanswered::Spent) => Err(LinkEnd::Spent),
+        Err(Unanswered::Memory) => Err(LinkEnd::Memory),
+    }
+}
+
+/// Reads the next request of a link, and gives what it is answered with. The last request is answered with close.
+fn next_answer<O: Outside, L: Link>(
+    alloc: Global,
+    outside: &mut O,
+    registry: &Registry,
+    link: &mut L,
+    buffer: &mut HttpBuffer,
+    last: bool,
+) -> Result<Answer, LinkEnd>
+    requires { O.may_call outside.old }
+    ensures tells { L.tells_left link.old → L.tells_left link.new }
+    ensures comes { let services : List Entry = services_by registry.now.services.entries (λ x. x.items) (λ s. knows (s.vtable, s.value)) (λ s. gives (s.vtable, s.value)) in Comes O.handed services last outside.old outside.new (L.tells_left link.old) (buffer.old ++ L.left link.old) (buffer.new ++ L.left link.new) (L.left link.new) result }
+    ensures status { IfOk result (λ answer. IsAnswer answer) }
+    ensures cause { CountsReads (L.read_faults link.old) (L.read_faults link.new) result }
+    ensures other_side { Keeps (L.tells_held link.old) (L.tells_held link.new) (L.held link.old) (L.held link.new) }
+    ensures other_count { L.write_faults link.new ≡ L.write_faults link.old }
+{
+    match next_request(alloc, link, buffer) {
+        Ok(Some(request)) => answer_request(alloc, outside, registry, &request, last),
+        Ok(None) => Err(LinkEnd::Closed),
+        Err(HttpEnd::Status(status)) => Ok(Answer::Status(status)),
+        Err(HttpEnd::Truncated) => Err(LinkEnd::Truncated),
+        Err(HttpEnd::ReadFault) => Err(LinkEnd::ReadFault),
+        Err(HttpEnd::Memory) => Err(LinkEnd::Memory),
+    }
+}
+
+/// Answers the next request of a link. An error is how the link ended.
+fn answer_next<O: Outside, L: Link>(
+    alloc: Global,
+    outside: &mut O,
+    registry: &Registry,
+    link: &mut L,
+    buffer: &mut HttpBuffer,
+    last: bool,
+) -> Result<(), LinkEnd>
+    requires { O.may_call outside.old }
+    ensures tells_left { L.tells_left link.old → L.tells_left link.new }
+    ensures tells_held { L.tells_held link.new → L.tells_held link.old }
+    ensures steps { let services : List Entry = services_by registry.now.services.entries (λ x. x.items) (λ s. knows (s.vtable, s.value)) (λ s. gives (s.vtable, s.value)) in Steps O.handed services last outside.old outside.new (L.tells_left link.old) (L.tells_held link.new) (record { left = buffer.old ++ L.left link.old; leaves = L.left link.new; held = L.held link.old; now = L.held link.new }) (buffer.new ++ L.left link.new) result }
+    ensures cause { CountsStep (L.read_faults link.old) (L.read_faults link.new) (L.write_faults link.old) (L.write_faults link.new) result }
+{
+    let answer = next_answer(alloc, outside, registry, link, buffer, last)?;
+    answer.write(alloc, link)?;
+    answer.end()
+}
+
+/// Answers the requests of a link, one after the other, and says how it ended. The buffer keeps nothing yet.
+fn answer_requests<O: Outside, L: Link>(
+    alloc: Global,
+    outside: &mut O,
+    registry: &Registry,
+    link: &mut L,
+    buffer: &mut HttpBuffer,
+) -> LinkEnd
+    requires ready { O.may_call outside.old }
+    requires empty { buffer.old ≡ [] }
+    ensures tells_left { L.tells_left link.old → L.tells_left link.new }
+    ensures tells_held { L.tells_held link.new → L.tells_held link.old }
+    ensures served { let services : List Entry = services_by registry.now.services.entries (λ x. x.items) (λ s. knows (s.vtable, s.value)) (λ s. gives (s.vtable, s.value)) in ServedLink O.handed services outside.old outside.new (L.tells_left link.old) (L.tells_held link.new) (record { left = L.left link.old; leaves = L.left link.new; held = L.held link.old; now = L.held link.new }) result }
+    ensures cause { CountsLink (L.read_faults link.old) (L.read_faults link.new) (L.write_faults link.old) (L.write_faults link.new) (end_of result) }
+{
+    let mut more = MOST_REQUESTS;
+    while more > 0 {
+        more -= 1;
+        match answer_next(alloc, outside, registry, link, buffer, more == 0) {
+            Ok(()) => {}
+            Err(end) => return end,
+        }
+    }
+    LinkEnd::Closed
+}
+
+/// Answers the requests of a link, one after the other, and says how it ended. At most 1,000 are answered, and each before the
+/// next is read.
+pub(crate) fn answer_link<O: Outside, L: Link>(
+    alloc: Global,
+    outside: &mut O,
+    registry: &Registry,
+    link: &mut L,
+) -> LinkEnd
+    requires { O.may_call outside.old }
+    ensures tells_left { L.tells_left link.old → L.tells_left link.new }
+    ensures tells_held { L.tells_held link.new → L.tells_held link.old }
+    ensures served { let services : List Entry = services_by registry.now.services.entries (λ x. x.items) (λ s. knows (s.vtable, s.value)) (λ s. gives (s.vtable, s.value)) in ServedLink O.handed services outside.old outside.new (L.tells_left link.old) (L.tells_held link.new) (record { left = L.left link.old; leaves = L.left link.new; held = L.held link.old; now = L.held link.new }) result }
+    ensures cause { CountsLink (L.read_faults link.old) (L.read_faults link.new) (L.write_faults link.old) (L.write_faults link.new) (end_of result) }
+{
+    match HttpBuffer::new(alloc) {
+        Ok(mut buffer) => answer_requests(alloc, outside, registry, link, &mut buffer),
+        Err(_) => LinkEnd::Memory,
+    }
+}

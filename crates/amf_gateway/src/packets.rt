@@ -1,0 +1,171 @@
+//! How a packet is answered: message by message, in order.
+
+ghost use Rattle.std.specs.Prelude.{◌≡◌, ◌≤◌, ◌++◌, List, length, map, bytes_eq, IfOk, OnErr};
+ghost use Rattle.std.specs.List.{AllByRecursion};
+ghost use Rattle.amf_packet.specs.Content.{body_of, message_of, packet_of};
+ghost use Rattle.amf_packet.specs.PacketAnswer.{body_weight};
+ghost use Rattle.amf_service.specs.Registry.{Entry};
+ghost use Rattle.amf_gateway.specs.Answered.{SaysMessage, SaysMessages, SaysPacket, AreWritable, IsWritablePacket, IsAnswerable, HasRoom, most_body};
+ghost use Rattle.amf_gateway.specs.Calls.{services_by, TellsMessage};
+ghost use Rattle.amf_gateway.specs.Did.{Stopped};
+ghost use Rattle.amf_gateway.specs.Flex.{flex as flex_plan};
+ghost use Rattle.amf_gateway.specs.PlainCalls.{at_last_dot, plain_call as plain_plan};
+ghost use Rattle.amf_gateway.specs.Packets.{answer_to as answer_plan, answers_to as answers_plan, messages_back as messages_plan, suffix as suffix_of, null_uri, is_long as is_long_content, has_long as has_long_content};
+
+use crate::flex::flex;
+use crate::outside::{Outside, Unanswered};
+use crate::plain_call::{MessageAnswer, plain_call};
+use amf_packet::{Body, Headers, Message, Messages, Packet};
+use amf_service::Registry;
+use amf_wire::{Memory, Name};
+use std::alloc::Global;
+
+/// The most bytes that a response URI has: it leaves room for a suffix in 16 bits.
+const MOST_URI: usize = 65_526;
+
+/// Whether a message with this target is a Flex request.
+fn is_flex(target: &Name) -> bool
+    ensures { result ≡ bytes_eq target.now null_uri }
+{
+    target.as_bytes() == b"null".as_slice()
+}
+
+/// Answers a Flex request, in AMF 3.
+fn answer_flex<O: Outside>(
+    alloc: Global,
+    outside: &mut O,
+    registry: &Registry,
+    body: &Body,
+) -> Result<MessageAnswer, Unanswered>
+    requires light { body_weight body.now ≤ most_body }
+    requires ready { O.may_call outside.old }
+    ensures says { let services : List Entry = services_by registry.now.services.entries (λ x. x.items) (λ s. knows (s.vtable, s.value)) (λ s. gives (s.vtable, s.value)) in IfOk result (λ x. SaysMessage O.handed (flex_plan services (body_of body.now)) outside.old outside.new x) }
+    ensures stopped { let services : List Entry = services_by registry.now.services.entries (λ x. x.items) (λ s. knows (s.vtable, s.value)) (λ s. gives (s.vtable, s.value)) in OnErr result (Stopped O.handed (flex_plan services (body_of body.now)) outside.old outside.new) }
+{
+    let answer = flex(alloc, outside, registry, body)?;
+    Ok(MessageAnswer {
+        well: answer.well,
+        body: Body::Amf3(answer.graph),
+    })
+}
+
+/// Answers a call that names a service and an operation by its target. It asks for nothing outside.
+fn answer_call(
+    alloc: Global,
+    registry: &Registry,
+    message: &Message,
+) -> Result<MessageAnswer, Unanswered>
+    requires { body_weight message.now.body ≤ most_body }
+    ensures { let services : List Entry = services_by registry.now.services.entries (λ x. x.items) (λ s. knows (s.vtable, s.value)) (λ s. gives (s.vtable, s.value)) in IfOk result (λ x. TellsMessage (plain_plan services (body_of message.now.body) (at_last_dot message.now.target)) x) }
+{
+    Ok(plain_call(alloc, registry, &message.target, &message.body)?)
+}
+
+/// Answers a message: a Flex request where its target is `null`, and else a call that the target names.
+fn answer_to<O: Outside>(
+    alloc: Global,
+    outside: &mut O,
+    registry: &Registry,
+    message: &Message,
+) -> Result<MessageAnswer, Unanswered>
+    requires light { body_weight message.now.body ≤ most_body }
+    requires ready { O.may_call outside.old }
+    ensures says { let services : List Entry = services_by registry.now.services.entries (λ x. x.items) (λ s. knows (s.vtable, s.value)) (λ s. gives (s.vtable, s.value)) in IfOk result (λ x. SaysMessage O.handed (answer_plan services (message_of message.now)) outside.old outside.new x) }
+    ensures stopped { let services : List Entry = services_by registry.now.services.entries (λ x. x.items) (λ s. knows (s.vtable, s.value)) (λ s. gives (s.vtable, s.value)) in OnErr result (Stopped O.handed (answer_plan services (message_of message.now)) outside.old outside.new) }
+{
+    let is_request = is_flex(&message.target);
+    if is_request {
+        answer_flex(alloc, outside, registry, &message.body)
+    } else {
+        answer_call(alloc, registry, message)
+    }
+}
+
+/// What stands behind the response URI in the target of an answer.
+fn suffix(well: bool) -> &'static [u8]
+    ensures { result.now ≡ suffix_of well }
+{
+    if well { b"/onResult" } else { b"/onStatus" }
+}
+
+/// The URI that an answer goes to. It gives up where there is no memory.
+fn answer_uri(alloc: Global, response: &Name, well: bool) -> Result<Name, Memory>
+    ensures { IfOk result (λ uri. uri ≡ response.now ++ suffix_of well) }
+{
+    let mut bytes = response.as_bytes().to_vec(alloc)?;
+    bytes.extend_from_slice(suffix(well))?;
+    Name::of_bytes(alloc, bytes.as_slice())
+}
+
+/// The message that answers one with this response URI. It gives up where there is no memory.
+fn message_back(alloc: Global, response: &Name, answer: MessageAnswer) -> Result<Message, Memory>
+    ensures target { IfOk result (λ m. m.target ≡ response.now ++ suffix_of answer.well) }
+    ensures response { IfOk result (λ m. m.response ≡ null_uri) }
+    ensures body { IfOk result (λ m. m.body ≡ answer.body) }
+{
+    Ok(Message {
+        target: answer_uri(alloc, response, answer.well)?,
+        response: Name::of_bytes(alloc, b"null")?,
+        body: answer.body,
+    })
+}
+
+/// Answers messages, in order.
+fn messages_back<O: Outside>(
+    alloc: Global,
+    outside: &mut O,
+    registry: &Registry,
+    messages: &[Message],
+) -> Result<Vec<Message>, Unanswered>
+    requires light { AllByRecursion (λ m. body_weight m.body ≤ most_body) messages.now }
+    requires uris { AllByRecursion HasRoom messages.now }
+    requires ready { O.may_call outside.old }
+    ensures says { let services : List Entry = services_by registry.now.services.entries (λ x. x.items) (λ s. knows (s.vtable, s.value)) (λ s. gives (s.vtable, s.value)) in IfOk result (λ back. SaysMessages O.handed (messages_plan services (map message_of messages.now)) outside.old outside.new back.items) }
+    ensures writable { IfOk result (λ back. AreWritable back.items) }
+    ensures count { IfOk result (λ back. length back.items ≡ length messages.now) }
+    ensures stopped { let services : List Entry = services_by registry.now.services.entries (λ x. x.items) (λ s. knows (s.vtable, s.value)) (λ s. gives (s.vtable, s.value)) in OnErr result (Stopped O.handed (messages_plan services (map message_of messages.now)) outside.old outside.new) }
+{
+    let mut back = Vec::new(alloc);
+    for message in messages {
+        let answer = answer_to(alloc, outside, registry, message)?;
+        let made = message_back(alloc, &message.response, answer)?;
+        back.push(made)?;
+    }
+    Ok(back)
+}
+
+/// The packet that answers one: it has the same version, and no headers.
+pub(crate) fn answers_to<O: Outside>(
+    alloc: Global,
+    outside: &mut O,
+    registry: &Registry,
+    packet: &Packet,
+) -> Result<Packet, Unanswered>
+    requires packet { IsAnswerable packet.now }
+    requires ready { O.may_call outside.old }
+    ensures says { let services : List Entry = services_by registry.now.services.entries (λ x. x.items) (λ s. knows (s.vtable, s.value)) (λ s. gives (s.vtable, s.value)) in IfOk result (λ back. SaysPacket O.handed (answers_plan services (packet_of packet.now)) outside.old outside.new back) }
+    ensures writable { IfOk result (λ back. IsWritablePacket back) }
+    ensures stopped { let services : List Entry = services_by registry.now.services.entries (λ x. x.items) (λ s. knows (s.vtable, s.value)) (λ s. gives (s.vtable, s.value)) in OnErr result (Stopped O.handed (answers_plan services (packet_of packet.now)) outside.old outside.new) }
+{
+    let messages = messages_back(alloc, outside, registry, packet.messages.as_slice())?;
+    Ok(Packet {
+        version: packet.version,
+        headers: Headers::of_vec(Vec::new(alloc)),
+        messages: Messages::of_vec(messages),
+    })
+}
+
+/// Whether the response URI of a message leaves no room for a suffix.
+fn is_long(message: &Message) -> bool
+    ensures { result ≡ is_long_content (message_of message.now) }
+{
+    message.response.as_bytes().len() > MOST_URI
+}
+
+/// Whether a response URI leaves no room for a suffix.
+pub(crate) fn has_long_uri(packet: &Packet) -> bool
+    ensures { result ≡ has_long_content (packet_of packet.now) }
+{
+    let messages = packet.messages.as_slice();
+    messages.iter().any(|message| is_long(message))
+}

@@ -1,0 +1,127 @@
+//! Workers at a desk, each with a pass and a hall of its own.
+
+ghost use Rattle.std.specs.Prelude.{◌≡◌, ◌||◌, List};
+ghost use Rattle.amf_service.specs.Registry.{Entry};
+ghost use Rattle.amf_gateway.specs.Calls.{services_by};
+ghost use Rattle.amf_gateway.specs.Served.{Served};
+ghost use Rattle.amf_gateway.specs.WorkerSteps.{ServedNext};
+
+use crate::serve::serve_link;
+use amf_desk::{Desk, Pass};
+use amf_io::{Failed, Gate, Hall};
+use amf_service::Registry;
+use std::alloc::Global;
+use std::sync::Wait;
+
+/// A worker at a desk, which serves the links of its hall.
+pub struct Worker<H: Hall> {
+    /// Its number among the workers.
+    pub number: u32,
+    pub pass: Pass,
+    pub hall: H,
+    /// How many calls of the desk it has made, up to 2^64 - 1.
+    pub calls: u64,
+}
+
+/// Why a worker ended, and whether a link of it ended for want of memory.
+#[derive(Clone, Copy, Debug, PartialEq, Eq)]
+pub enum WorkerEnd {
+    /// It has served all links that it was to serve, or the hall has no more.
+    Done { starved: bool },
+    /// The hall failed.
+    FrontFault { starved: bool },
+}
+
+/// Whether a link ended for want of memory, before or now.
+fn either(before: bool, now: bool) -> bool
+    ensures { result ≡ (before || now) }
+{
+    before || now
+}
+
+impl<H: Hall> Worker<H> {
+    /// A worker that has made no calls.
+    pub fn new(number: u32, pass: Pass, hall: H) -> Worker<H>
+        ensures number { result.number ≡ number }
+        ensures pass { result.pass ≡ pass }
+        ensures hall { result.hall ≡ hall }
+    {
+        Worker {
+            number,
+            pass,
+            hall,
+            calls: 0,
+        }
+    }
+
+    /// Its pass and its hall.
+    pub fn into_parts(self) -> (Pass, H)
+        ensures pass { result.0 ≡ self.pass }
+        ensures hall { result.1 ≡ self.hall }
+    {
+        let Worker {
+            number: _,
+            pass,
+            hall,
+            calls: _,
+        } = self;
+        (pass, hall)
+    }
+
+    /// Serves a link and gives it back to the hall. Tells whether it ended for want of memory.
+    fn serve_next<R: Wait, G: Gate>(
+        &mut self,
+        rt: &R,
+        alloc: Global,
+        desk: &Desk,
+        registry: &Registry,
+        gate: &G,
+        mut link: H::Link,
+    ) -> bool
+        requires { self.old.pass.desk ≡ desk.now }
+        ensures { let services : List Entry = services_by registry.now.services.entries (λ x. x.items) (λ s. knows (s.vtable, s.value)) (λ s. gives (s.vtable, s.value)) in ServedNext (record { tells_links = H.tells_links; coming = H.coming; served = H.served; faults = H.faults; tells_moments = H.tells_moments; moments = H.moments; tells_words = H.tells_words; words = H.words }) (record { tells_left = H.Link.tells_left; left = H.Link.left; tells_held = H.Link.tells_held; held = H.Link.held; read_faults = H.Link.read_faults; write_faults = H.Link.write_faults }) services self.old.pass self.new.pass self.old.hall self.new.hall link result }
+    {
+        let end = serve_link(
+            rt,
+            alloc,
+            &mut link,
+            registry,
+            desk,
+            &mut self.pass,
+            &mut self.hall,
+            gate,
+            self.number,
+            &mut self.calls,
+        );
+        self.hall.back(link);
+        end.is_starved()
+    }
+
+    /// Serves up to `each` links of the hall, one after the other, and gives each back to it. A link's end does not stop the
+    /// worker. The desk is that of its pass.
+    pub fn serve<R: Wait, G: Gate>(
+        &mut self,
+        rt: &R,
+        alloc: Global,
+        desk: &Desk,
+        registry: &Registry,
+        gate: &G,
+        each: u64,
+    ) -> WorkerEnd
+        requires { self.old.pass.desk ≡ desk.now }
+        ensures { let services : List Entry = services_by registry.now.services.entries (λ x. x.items) (λ s. knows (s.vtable, s.value)) (λ s. gives (s.vtable, s.value)) in Served (record { tells_links = H.tells_links; coming = H.coming; served = H.served; faults = H.faults; tells_moments = H.tells_moments; moments = H.moments; tells_words = H.tells_words; words = H.words }) (record { tells_left = H.Link.tells_left; left = H.Link.left; tells_held = H.Link.tells_held; held = H.Link.held; read_faults = H.Link.read_faults; write_faults = H.Link.write_faults }) services each self.old.pass self.new.pass self.old.hall self.new.hall result }
+    {
+        let mut starved = false;
+        for _ in 0..each {
+            match self.hall.next() {
+                Ok(Some(link)) => {
+                    let hungry = self.serve_next(rt, alloc, desk, registry, gate, link);
+                    starved = either(starved, hungry);
+                }
+                Ok(None) => return WorkerEnd::Done { starved },
+                Err(Failed) => return WorkerEnd::FrontFault { starved },
+            }
+        }
+        WorkerEnd::Done { starved }
+    }
+}
