@@ -10,7 +10,7 @@ use Rattle.amf_io.specs.declared.ends.ReadEnd.{ReadEnd}
 use Rattle.amf_io.specs.Layout.{Layout}
 use Rattle.amf_io.specs.ReadEnds.{IsPlaced}
 use Rattle.amf_io.specs.CursorReads.{Ends}
-use Rattle.amf0_tables.specs.Parts0.{is_empty}
+use Rattle.amf0_tables.specs.Segments0.{is_empty}
 use Rattle.amf0_tables.specs.Layout0State.{State0}
 use Rattle.amf0_tables.specs.Layout0.{Read0}
 use Rattle.amf0_read.specs.declared.fill.Step.{Step}
@@ -28,15 +28,15 @@ use Rattle.amf3_read.specs.Answer.{left_of}
 use Rattle.amf3_read.specs.Frames.{Suits, IsNext}
 use Rattle.amf3_read.proofs.PartPut.{stays, same_head}
 use Rattle.amf3_read.proofs.Stack.{opened_less, opened_grown}
-use Rattle.amf3_read.proofs.GoesOn.{suits_behind, closed_there, closed_fits, closed_kept, closed_holds}
+use Rattle.amf3_read.proofs.GoesOn.{suits_behind, closed_there, closed_fits, closed_still_ready, closed_holds}
 use Rattle.amf0_read.specs.declared.frame.Todo.TheVariants.{Items, Pairs}
 use Rattle.amf0_read.specs.declared.frame.Slot.TheVariants.{Item}
 use Rattle.amf0_tables.specs.declared.marker.Marker0.{Marker0}
 use Rattle.amf0_read.specs.declared.fill.Step.TheVariants as step
-use Rattle.amf0_read.specs.Ready0.{Ready0, Kept0}
+use Rattle.amf0_read.specs.Ready0.{Ready0, StillReady0}
 use Rattle.amf0_read.specs.Frames0.{Lacks, GoesOn, StepHolds}
-use Rattle.amf0_read.proofs.Stack0.{are_tables, ready_on, kept_twice}
-use Rattle.amf0_read.proofs.TextReads0.{text_grows, name_kept}
+use Rattle.amf0_read.proofs.Stack0.{are_tables, ready_on, ready_twice}
+use Rattle.amf0_read.proofs.TextReads0.{text_grows, name_still_ready}
 
 -- the parts of AMF 3 that it lacks then
 pub record Nothing (h : graph.Head) (n : StoredNode) : Type 0 where
@@ -62,9 +62,9 @@ module _ {S : Type 0} (i : ℕ) (y : Arena) (t : KeptTables0) (e : Cursor S Wind
     same : length b.nodes ≡ length y.nodes
     same = ap (λ (z : Arena). length z.nodes) eq ∙ length-set y.nodes i (shut (stored_at y i))
 
-    pub shut_kept : Kept0 0 0 y b t e e
-    shut_kept =
-        let k = closed_kept i n.todo y b t.amf3 e r.amf3 o n.suits n.none eq in
+    pub shut_still_ready : StillReady0 0 0 y b t e e
+    shut_still_ready =
+        let k = closed_still_ready i n.todo y b t.amf3 e r.amf3 o n.suits n.none eq in
         let p = k.texts in let q = k.traits in let s = k.nodes in
         record {
           built = k.built;
@@ -82,21 +82,21 @@ module _ {S : Type 0} (i : ℕ) (y : Arena) (t : KeptTables0) (e : Cursor S Wind
 pub item_waits : (a : Arena) (i n : ℕ) (m : Marker0) → Lacks (head_content a (stored_at a i).head) (stored_at a i) (Items (suc n)) → StepHolds a a i (step.Wait (Item n) m)
 item_waits a i n m s = (grows_itself a, tt, s)
 
-pub item_kept : {S : Type 0} (a : Arena) (t : KeptTables0) (c d : Cursor S Window) → Ready0 0 a t c → IsPlaced d → bound d ≡ bound c → place c < place d → Kept0 1 0 a a t c d
-item_kept a t c d r p same lt =
+pub item_still_ready : {S : Type 0} (a : Arena) (t : KeptTables0) (c d : Cursor S Window) → Ready0 0 a t c → IsPlaced d → bound d ≡ bound c → place c < place d → StillReady0 1 0 a a t c d
+item_still_ready a t c d r p same lt =
     let w = p.within in
     record { built = r.amf3.built; tables = are_tables 0 a t c r; placed = p; texts = omega arith; traits = omega arith; nodes = omega arith }
 
 -- Behind an empty name and the end of pairs.
 module _ {S : Type 0} (a y : Arena) (t : KeptTables0) (x i : ℕ) (c d e : Cursor S Window) (r : Ready0 0 a t c) (built : IsBuilt y) (k : KeptText a y x) (two : place c + 2 ≤ place d) (more : place d < place e) (same : bound e ≡ bound c) (p : IsPlaced e) where
-  end_kept : Kept0 0 0 a y t c e
-  end_kept =
-      let n = name_kept a y t x c d e r built k two more same p in
+  end_still_ready : StillReady0 0 0 a y t c e
+  end_still_ready =
+      let n = name_still_ready a y t x c d e r built k two more same p in
       let u = n.texts in let v = n.traits in let w = n.nodes in
       record { built = n.built; tables = n.tables; placed = n.placed; texts = omega arith; traits = omega arith; nodes = omega arith }
 
   pub end_ready : Ready0 0 y t e
-  end_ready = ready_on 0 0 a y t t c e r end_kept
+  end_ready = ready_on 0 0 a y t t c e r end_still_ready
 
   less : left_of e ≤ left_of c
   less = let w = p.within in omega arith
@@ -112,8 +112,8 @@ module _ {S : Type 0} (a y : Arena) (t : KeptTables0) (x i : ℕ) (c d e : Curso
         (subst (λ h. Lacks h (stored_at y i) Pairs) (sym (same_head i (left_of c) a y o g r.amf3.built)) (subst (λ n. Lacks (head_content a (stored_at a i).head) n Pairs) (sym (stays i (left_of c) a y o g)) l))
 
     module _ (b : Arena) (eq : b ≡ changed_arena shut i y) where
-      pub end_shut : Kept0 0 0 a b t c e
-      end_shut = kept_twice 0 0 0 a y b t t c e e end_kept (shut_kept i y t e end_ready end_opened end_lacks b eq)
+      pub end_shut : StillReady0 0 0 a b t c e
+      end_shut = ready_twice 0 0 0 a y b t t c e e end_still_ready (shut_still_ready i y t e end_ready end_opened end_lacks b eq)
 
       pub end_holds : StepHolds a b i step.Closed
       end_holds =

@@ -32,7 +32,7 @@ use Rattle.amf0_read.specs.declared.node.Start.TheVariants as start
 use Rattle.amf0_read.specs.Markers0.{marker_layout}
 use Rattle.amf0_read.specs.Leaves0.{count_layout}
 use Rattle.amf0_read.specs.Opens0.{Opens}
-use Rattle.amf0_read.specs.Ready0.{Ready0, Kept0}
+use Rattle.amf0_read.specs.Ready0.{Ready0, StillReady0}
 use Rattle.amf0_read.specs.Frames0.{todo, resume, rest, current, Holds, now_of, owed, StartsBy, StartHolds, OpenedFrom}
 use Rattle.amf0_read.specs.Fronts0.{LeadsWith, TellsCall, BeginsBy, LeadsBy, LeadsFront, LeadsItems}
 use Rattle.amf0_read.proofs.GoesOn0.{todo_item, marker_ends}
@@ -51,13 +51,13 @@ marker_ready a t c d r p same lt =
       distinct = r.distinct;
     }
 
-pub marker_kept : {S : Type 0} (o : ℕ) (a b : Arena) (u : KeptTables0) (c d e : Cursor S Window) → IsPlaced d → bound d ≡ bound c → place c < place d → Kept0 o 1 a b u d e → Kept0 o 0 a b u c e
-marker_kept o a b u c d e p same lt k =
+pub marker_still_ready : {S : Type 0} (o : ℕ) (a b : Arena) (u : KeptTables0) (c d e : Cursor S Window) → IsPlaced d → bound d ≡ bound c → place c < place d → StillReady0 o 1 a b u d e → StillReady0 o 0 a b u c e
+marker_still_ready o a b u c d e p same lt k =
     let x = k.texts in let y = k.traits in let z = k.nodes in
     let w = p.within in
     record { built = k.built; tables = k.tables; placed = k.placed; texts = omega arith; traits = omega arith; nodes = omega arith }
 
-pub marker_owed : {S : Type 0} (o : ℕ) (a b : Arena) (u : KeptTables0) (c d e : Cursor S Window) → IsPlaced e → bound e ≡ bound d → place d < place e → Kept0 0 o a b u c d → Kept0 1 o a b u c e
+pub marker_owed : {S : Type 0} (o : ℕ) (a b : Arena) (u : KeptTables0) (c d e : Cursor S Window) → IsPlaced e → bound e ≡ bound d → place d < place e → StillReady0 0 o a b u c d → StillReady0 1 o a b u c e
 marker_owed o a b u c d e p same lt k =
     let x = k.texts in let y = k.traits in let z = k.nodes in
     let w = p.within in

@@ -15,7 +15,7 @@ use Rattle.amf_graph.specs.Building.{changed as changed_arena, shut, more_value,
 use Rattle.amf3_layout.specs.Layout3State.{state_of}
 use Rattle.amf3_layout.proofs.Reader3States.{shut_state}
 use Rattle.amf0_tables.specs.KeptTables0.{KeptTables0}
-use Rattle.amf0_tables.specs.Parts0.{is_empty}
+use Rattle.amf0_tables.specs.Segments0.{is_empty}
 use Rattle.amf0_tables.specs.Layout0State.{State0, state0_of, changed0}
 use Rattle.amf0_tables.specs.Layout0.{TextRead0, Read0, read0, Reader0, short_layout, items0, pairs0, shut0, behind0, value0_layout}
 use Rattle.amf3_read.specs.Answer.{left_of}

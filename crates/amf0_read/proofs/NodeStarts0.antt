@@ -31,11 +31,11 @@ use Rattle.std.proofs.Math.Seq.{get_or-append_seam}
 use Rattle.amf_graph.specs.Arena.{traits_content, traits_at, no_traits}
 use Rattle.amf0_read.specs.declared.frame.Todo.TheVariants.{Items, Pairs}
 use Rattle.amf0_read.specs.Opens0.{KeepsLeaf, Opens, OpensObject, dynamic_traits}
-use Rattle.amf0_read.specs.Ready0.{Ready0, Kept0}
+use Rattle.amf0_read.specs.Ready0.{Ready0, StillReady0}
 use Rattle.amf0_read.specs.Frames0.{todo, Lacks, OpenedFrom}
 use Rattle.amf0_read.proofs.States0.{leaf_state, open_state, object_state}
 use Rattle.amf0_read.proofs.Stack0.{are_tables}
-use Rattle.amf0_read.proofs.Opened0.{open_kept, open_from}
+use Rattle.amf0_read.proofs.Opened0.{open_still_ready, open_from}
 use Rattle.amf0_read.proofs.TextReads0.{text_tables, text_grows, text_there, text_more}
 
 -- traits that were kept last
@@ -44,8 +44,8 @@ traits_there y class = ap (traits_content (kept_traits y (dynamic_traits class))
 
 -- An array.
 module _ {S : Type 0} (a b : Arena) (t u : KeptTables0) (c d : Cursor S Window) (i : ℕ) (r : Ready0 1 a t c) (o : Opens a b t u array i) where
-  pub array_kept : IsPlaced d → left_of d ≤ left_of c → Kept0 0 1 a b u c d
-  array_kept p less = open_kept a a b t u c d shape.Array i o r.amf3.built (are_tables 1 a t c r) tt p less (omega arith) (omega arith) (omega arith)
+  pub array_still_ready : IsPlaced d → left_of d ≤ left_of c → StillReady0 0 1 a b u c d
+  array_still_ready p less = open_still_ready a a b t u c d shape.Array i o r.amf3.built (are_tables 1 a t c r) tt p less (omega arith) (omega arith) (omega arith)
 
   few : left_of c < 2 ^ 27
   few = let x = r.amf3.few_nodes in omega arith
@@ -92,8 +92,8 @@ module _ {S : Type 0} (a y b : Arena) (t u : KeptTables0) (c d : Cursor S Window
   there : length y.traits < length z.traits
   there = omega (arith, length-append y.traits (dynamic_traits class ∷ []))
 
-  pub object_kept : IsPlaced d → left_of d ≤ left_of c → Kept0 0 1 a b u c d
-  object_kept p less = open_kept a z b t u c d head i o with_traits tables_with there p less (omega (arith, text_more a y class k)) (omega (arith, more_traits)) (omega (arith, same_nodes))
+  pub object_still_ready : IsPlaced d → left_of d ≤ left_of c → StillReady0 0 1 a b u c d
+  object_still_ready p less = open_still_ready a z b t u c d head i o with_traits tables_with there p less (omega (arith, text_more a y class k)) (omega (arith, more_traits)) (omega (arith, same_nodes))
 
   -- it lacks names and no sealed ones
   lacks : Lacks (head_content z (object (length y.traits))) (begun (object (length y.traits))) Pairs
@@ -124,8 +124,8 @@ module _ {S : Type 0} (a y b : Arena) (t : KeptTables0) (c d : Cursor S Window) 
     distinct = tables.distinct;
   }
 
-  pub leaf_kept : IsPlaced d → length y.texts + left_of d ≤ length a.texts + left_of c + 1 → length y.traits + left_of d ≤ length a.traits + left_of c + 1 → length y.nodes + left_of d ≤ length a.nodes + left_of c → Kept0 0 1 a b t c d
-  leaf_kept p texts traits nodes = record {
+  pub leaf_still_ready : IsPlaced d → length y.texts + left_of d ≤ length a.texts + left_of c + 1 → length y.traits + left_of d ≤ length a.traits + left_of c + 1 → length y.nodes + left_of d ≤ length a.nodes + left_of c → StillReady0 0 1 a b t c d
+  leaf_still_ready p texts traits nodes = record {
     built = is;
     tables = leaf_tables;
     placed = p;
@@ -148,8 +148,8 @@ module _ {S : Type 0} (a b : Arena) (t : KeptTables0) (k : KeptTables) (c d : Cu
   more_nodes : length a.nodes ≤ length b.nodes
   more_nodes = omega (arith, ap length w.grows.nodes, length-append a.nodes w.grows.more_nodes)
 
-  pub switched_kept : (u : KeptTables0) → u ≡ switched_tables → Kept0 0 1 a b u c d
-  switched_kept u e =
+  pub switched_still_ready : (u : KeptTables0) → u ≡ switched_tables → StillReady0 0 1 a b u c d
+  switched_still_ready u e =
       let x = w.texts in let y = w.traits in let z = w.nodes in
       record {
         built = w.built;

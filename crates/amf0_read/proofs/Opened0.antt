@@ -10,7 +10,7 @@ use Rattle.amf_graph.specs.Building.{kept_node, stored_at, begun, shape_head, si
 use Rattle.amf_graph.proofs.Built.{built_node}
 use Rattle.amf_graph.proofs.Begun.{begun_in}
 use Rattle.amf3_spelling.specs.Reads3.{Grows}
-use Rattle.amf3_layout.proofs.Layout3Contents.{Larger, head_kept, all_append, all_more, distinct_more}
+use Rattle.amf3_layout.proofs.Layout3Contents.{Larger, head_stays, all_append, all_more, distinct_more}
 use Rattle.amf3_layout.proofs.Reader3Tables.{larger_node, open_there, tables_after_node}
 use Rattle.amf3_layout.proofs.Reader3Calls.{node_opened}
 use Rattle.amf0_tables.specs.KeptTables0.{KeptTables0, AreTables0In}
@@ -19,7 +19,7 @@ use Rattle.amf3_read.specs.Filling.{IsOpened}
 use Rattle.amf3_read.specs.Answer.{left_of}
 use Rattle.amf0_read.specs.declared.frame.Todo.{Todo}
 use Rattle.amf0_read.specs.Opens0.{Opens}
-use Rattle.amf0_read.specs.Ready0.{Kept0}
+use Rattle.amf0_read.specs.Ready0.{StillReady0}
 use Rattle.amf0_read.specs.Frames0.{Lacks, OpenedFrom}
 
 empty_size : (h : Shape) → size_of (begun (shape_head h)) ≡ 0
@@ -53,8 +53,8 @@ module _ {S : Type 0} (a z b : Arena) (t u : KeptTables0) (c d : Cursor S Window
   one_more = ap (λ (y : Arena). length y.nodes) o.kept ∙ length-append z.nodes (q ∷ [])
 
   -- each number was raised by what was spare
-  pub open_kept : IsPlaced d → left_of d ≤ left_of c → length z.texts + left_of d ≤ length a.texts + left_of c + 1 → length z.traits + left_of d ≤ length a.traits + left_of c + 1 → length z.nodes + left_of d ≤ length a.nodes + left_of c → Kept0 0 1 a b u c d
-  open_kept placed less texts traits nodes = record {
+  pub open_still_ready : IsPlaced d → left_of d ≤ left_of c → length z.texts + left_of d ≤ length a.texts + left_of c + 1 → length z.traits + left_of d ≤ length a.traits + left_of c + 1 → length z.nodes + left_of d ≤ length a.nodes + left_of c → StillReady0 0 1 a b u c d
+  open_still_ready placed less texts traits nodes = record {
     built = open_built;
     tables = open_tables;
     placed = placed;
@@ -67,7 +67,7 @@ module _ {S : Type 0} (a z b : Arena) (t u : KeptTables0) (c d : Cursor S Window
   there = ap (stored_at b) o.place ∙ open_there z q b (node_opened z b q o.kept)
 
   same_kind : head_content b (stored_at b i).head ≡ head_content z (shape_head h)
-  same_kind = ap (λ (m : StoredNode). head_content b m.head) there ∙ head_kept z b (subst (Larger z) (sym o.kept) (larger_node z q)) (shape_head h) built.traits names
+  same_kind = ap (λ (m : StoredNode). head_content b m.head) there ∙ head_stays z b (subst (Larger z) (sym o.kept) (larger_node z q)) (shape_head h) built.traits names
 
   is_opened : (left : ℕ) → left < 2 ^ 27 → IsOpened b i left
   is_opened left few = record {

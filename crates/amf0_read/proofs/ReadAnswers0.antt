@@ -25,7 +25,7 @@ use Rattle.amf0_read.specs.declared.frame.Frame.{Frame}
 use Rattle.amf0_read.specs.declared.frame.Now.{Now}
 use Rattle.amf0_read.specs.declared.formed.Read0.{Read0 as Formed}
 use Rattle.amf0_read.specs.Answer0.{Answers0, IsReadWith}
-use Rattle.amf0_read.specs.Ready0.{Kept0}
+use Rattle.amf0_read.specs.Ready0.{StillReady0}
 use Rattle.amf0_read.specs.Fronts0.{TellsCall, BeginsBy, form_of}
 use Rattle.amf0_read.specs.Frames0.{current, rest}
 use Rattle.amf_io.proofs.CursorReads.{leads_end}
@@ -60,7 +60,7 @@ module _ {S : Type 0} (tells : S → Type 0) (left : S → List ℕ) (faults : S
         })
 
     -- what it weighs, and how many there are
-    pub raised : place c ≤ bound c → bound d ≡ bound c → Kept0 0 0 a b u c d → Raises a b (place d - place c)
+    pub raised : place c ≤ bound c → bound d ≡ bound c → StillReady0 0 0 a b u c d → Raises a b (place d - place c)
     raised le same k =
         let costs = value0_costs n false (state0_of a t) y.fields (read0 x (state0_of b u)) y.runs in
         let p = y.taken in
@@ -85,7 +85,7 @@ module _ {S : Type 0} (tells : S → Type 0) (left : S → List ℕ) (faults : S
           let w = with_done tells left faults (λ (z : Value). read0 z (state0_of b u)) (first n) behind y.bytes c m d x got g y.leads h in
           answered n got w.0 is_call y.bytes w.1 w.2 y.call f e
 
-      pub whole_raised : place c ≤ bound c → bound d ≡ bound c → Kept0 0 0 a b u c d → Raises a b (place d - place c)
+      pub whole_raised : place c ≤ bound c → bound d ≡ bound c → StillReady0 0 0 a b u c d → Raises a b (place d - place c)
       whole_raised le same k =
           let w = with_done tells left faults (λ (z : Value). read0 z (state0_of b u)) (first n) behind y.bytes c m d x got g y.leads h in
           raised n got w.0 is_call y.bytes w.1 w.2 y.call le same k

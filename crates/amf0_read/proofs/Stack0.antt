@@ -41,7 +41,7 @@ use Rattle.amf0_tables.specs.declared.marker.Marker0.{Marker0}
 use Rattle.amf0_read.specs.declared.node.Start.{Start}
 use Rattle.amf0_read.specs.declared.node.Start.TheVariants as start
 use Rattle.amf0_read.specs.declared.fill.Step.TheVariants as step
-use Rattle.amf0_read.specs.Ready0.{Ready0, Kept0}
+use Rattle.amf0_read.specs.Ready0.{Ready0, StillReady0}
 use Rattle.amf0_read.specs.Frames0.{part_of, todo_behind, todo, resume, rest, current, HaveFuel, Lacks, LacksFor, SlotNames, Nested, Holds, now_of, StartsBy, StartHolds, GoesOn, StepHolds, owed, IsAt, StackSo}
 
 -- The frames below are left alone.
@@ -126,7 +126,7 @@ pushed xs ys (Err y) x f e h = absurd cc
 
 -- The steps of the loop.
 
-pub ready_on : {S : Type 0} (o p : ℕ) (b b1 : Arena) (u u1 : KeptTables0) (d e : Cursor S Window) → Ready0 o b u d → Kept0 p o b b1 u1 d e → Ready0 p b1 u1 e
+pub ready_on : {S : Type 0} (o p : ℕ) (b b1 : Arena) (u u1 : KeptTables0) (d e : Cursor S Window) → Ready0 o b u d → StillReady0 p o b b1 u1 d e → Ready0 p b1 u1 e
 ready_on o p b b1 u u1 d e r k = record {
   amf3 = record {
     built = k.built;
@@ -140,8 +140,8 @@ ready_on o p b b1 u u1 d e r k = record {
   distinct = k.tables.distinct;
 }
 
-pub kept_twice : {S : Type 0} (o p q : ℕ) (a b b1 : Arena) (u u1 : KeptTables0) (c d e : Cursor S Window) → Kept0 p o a b u c d → Kept0 q p b b1 u1 d e → Kept0 q o a b1 u1 c e
-kept_twice o p q a b b1 u u1 c d e h k = record {
+pub ready_twice : {S : Type 0} (o p q : ℕ) (a b b1 : Arena) (u u1 : KeptTables0) (c d e : Cursor S Window) → StillReady0 p o a b u c d → StillReady0 q p b b1 u1 d e → StillReady0 q o a b1 u1 c e
+ready_twice o p q a b b1 u u1 c d e h k = record {
   built = k.built;
   tables = k.tables;
   placed = k.placed;
@@ -162,7 +162,7 @@ module _ {S : Type 0} (tells : S → Type 0) (left : S → List ℕ) (faults : S
   so_begin r h = record {
     goes = goes_nowhere tells left faults c tt r.amf3.placed;
     ready = r;
-    kept = record { built = r.amf3.built; tables = are_tables (owed old) a t c r; placed = r.amf3.placed; texts = omega arith; traits = omega arith; nodes = omega arith };
+    still_ready = record { built = r.amf3.built; tables = are_tables (owed old) a t c r; placed = r.amf3.placed; texts = omega arith; traits = omega arith; nodes = omega arith };
     holds = h;
     at = λ fuel fuels lt f. record { fuel = fuel; fuels = fuels; enough = lt; fueled = f; leads = leads_nowhere tells left faults (first fuel fuels) c r.amf3.placed };
   }
@@ -177,13 +177,13 @@ module _ {S : Type 0} (tells : S → Type 0) (left : S → List ℕ) (faults : S
           leads_end tells left faults (first fuel fuels) (bind w (rest y.fuels fs)) c d e tt end so.goes y.leads
           (end_reads tells left faults w (rest y.fuels fs) d e end (h (value0_layout y.fuel.values) y.fuel.pairs y.enough.1))
 
-      module _ (k : Kept0 0 1 b b1 u1 d e) (same : left_of e ≤ left_of d) where
+      module _ (k : StillReady0 0 1 b b1 u1 d e) (same : left_of e ≤ left_of d) where
         so_value : (v : Stored) → Goes tells left faults d e (Ok (start.Value v)) → ((w : Reader0) (n : ℕ) → left_of d < n → StartsBy tells left w n (behind0 w n (state0_of b u) (Some m)) (state0_of b1 u1) d e (Ok (start.Value v))) → StartHolds b b1 (left_of e) (start.Value v)
             → StackSo tells left faults old es a b1 t u1 c e (now.Given v) fs
         so_value v g h (names, grows) = record {
           goes = goes_then tells left faults c d e tt (Ok tt) so.goes (goes_other tells left faults d e (start.Value v) tt g);
           ready = ready_on 1 0 b b1 u u1 d e so.ready k;
-          kept = kept_twice (owed old) 1 0 a b b1 u u1 c d e so.kept k;
+          still_ready = ready_twice (owed old) 1 0 a b b1 u u1 c d e so.still_ready k;
           holds = (nested_less (suc (left_of e)) (suc (left_of d)) fs b1 (omega arith) (nested_grows (suc (left_of d)) fs b b1 so.ready.amf3.built grows so.holds), names);
           at = λ fuel fuels lt f.
               let y = so.at fuel fuels lt f in
@@ -203,7 +203,7 @@ module _ {S : Type 0} (tells : S → Type 0) (left : S → List ℕ) (faults : S
         so_open i p g h o = record {
           goes = goes_then tells left faults c d e tt (Ok tt) so.goes (goes_other tells left faults d e (start.Open i p) tt g);
           ready = ready_on 1 0 b b1 u u1 d e so.ready k;
-          kept = kept_twice (owed old) 1 0 a b b1 u u1 c d e so.kept k;
+          still_ready = ready_twice (owed old) 1 0 a b b1 u u1 c d e so.still_ready k;
           holds = record {
             over = record {
               opened = o.opened;
@@ -242,12 +242,12 @@ module _ {S : Type 0} (tells : S → Type 0) (left : S → List ℕ) (faults : S
           leads_end tells left faults (first fuel fuels) (bind (still y.fuel) (rest y.fuels fs)) c d e tt end so.goes y.leads
           (end_reads tells left faults (still y.fuel) (rest y.fuels fs) d e end (h y.fuel y.enough))
 
-      pub go_wait : (x : Slot) (m : Marker0) → Kept0 1 0 b b1 u d e → suc (left_of e) ≤ left_of d → Goes tells left faults d e (Ok (step.Wait x m)) → ((f : Fuel) → Enough (left_of d) f → GoesOn tells left (still f) i.0 (state0_of b1 u) d e (Ok (step.Wait x m))) → StepHolds b b1 i.0 (step.Wait x m)
+      pub go_wait : (x : Slot) (m : Marker0) → StillReady0 1 0 b b1 u d e → suc (left_of e) ≤ left_of d → Goes tells left faults d e (Ok (step.Wait x m)) → ((f : Fuel) → Enough (left_of d) f → GoesOn tells left (still f) i.0 (state0_of b1 u) d e (Ok (step.Wait x m))) → StepHolds b b1 i.0 (step.Wait x m)
           → StackSo tells left faults old es a b1 t u c e (now.Begun m) (record { node = i; slot = x } ∷ fs)
       go_wait x m k less g h (grows, names, lacks) = record {
         goes = goes_then tells left faults c d e tt (Ok tt) so.goes (goes_other tells left faults d e (step.Wait x m) tt g);
         ready = ready_on 0 1 b b1 u u d e so.ready k;
-        kept = kept_twice (owed old) 0 1 a b b1 u u c d e so.kept k;
+        still_ready = ready_twice (owed old) 0 1 a b b1 u u c d e so.still_ready k;
         holds = record {
           over = record {
             opened = opened_less b1 i.0 (suc (left_of e)) (left_of d) less (opened_grown b b1 i.0 (left_of d) grows so.holds.over.opened);
@@ -272,14 +272,14 @@ module _ {S : Type 0} (tells : S → Type 0) (left : S → List ℕ) (faults : S
             };
       }
 
-      pub go_closed : Kept0 0 0 b b1 u d e → left_of e ≤ left_of d → Goes tells left faults d e (Ok step.Closed) → ((f : Fuel) → Enough (left_of d) f → GoesOn tells left (still f) i.0 (state0_of b1 u) d e (Ok step.Closed)) → StepHolds b b1 i.0 step.Closed
+      pub go_closed : StillReady0 0 0 b b1 u d e → left_of e ≤ left_of d → Goes tells left faults d e (Ok step.Closed) → ((f : Fuel) → Enough (left_of d) f → GoesOn tells left (still f) i.0 (state0_of b1 u) d e (Ok step.Closed)) → StepHolds b b1 i.0 step.Closed
           → StackSo tells left faults old es a b1 t u c e (now.Given (value.Node i)) fs
       go_closed k same g h (there, closes) =
           let o = so.holds.over in
           record {
             goes = goes_then tells left faults c d e tt (Ok tt) so.goes (goes_other tells left faults d e step.Closed tt g);
             ready = ready_on 0 0 b b1 u u d e so.ready k;
-            kept = kept_twice (owed old) 0 0 a b b1 u u c d e so.kept k;
+            still_ready = ready_twice (owed old) 0 0 a b b1 u u c d e so.still_ready k;
             holds = (nested_grows (suc (left_of e)) fs o.opened.before b1 o.built (closes o.opened.before (stored_at b i.0) o.opened.place o.opened.within) (nested_less (suc (left_of e)) (suc (left_of d)) fs o.opened.before (omega arith) o.below), there);
             at = λ fuel fuels lt f.
                 let y = so.at fuel fuels lt f in
@@ -325,7 +325,7 @@ module _ {S : Type 0} (tells : S → Type 0) (left : S → List ℕ) (faults : S
               nodes = nodes;
               distinct = so.ready.distinct;
             };
-            kept = record { built = built; tables = whole; placed = so.ready.amf3.placed; texts = let x = so.kept.texts in omega arith; traits = let x = so.kept.traits in omega arith; nodes = let x = so.kept.nodes in omega arith };
+            still_ready = record { built = built; tables = whole; placed = so.ready.amf3.placed; texts = let x = so.still_ready.texts in omega arith; traits = let x = so.still_ready.traits in omega arith; nodes = let x = so.still_ready.nodes in omega arith };
             holds = record {
               over = record {
                 opened = put_opened i l b b o g p b2 e (left_of d) (let s = more_size (stored_at b i) (part_names p) (part_values p) in let n = ap size_of node in let k = part_small f.slot v in omega arith);

@@ -5,7 +5,7 @@ use Rattle.amf_graph.specs.Arena as arena
 use Rattle.amf_graph.specs.Building.{kept_text, kept_traits, kept_node, begun}
 use Rattle.amf3_spelling.specs.KeptTables.{KeptTables, AreTablesIn, tables_of}
 use Rattle.amf3_layout.specs.Layout3State.{State3, state_of, with_nodes, takes_parts}
-use Rattle.amf3_layout.proofs.Layout3Contents.{marks_of, marks_more, words_kept}
+use Rattle.amf3_layout.proofs.Layout3Contents.{marks_of, marks_more, words_stay}
 use Rattle.amf3_layout.proofs.Reader3Tables.{larger_traits, tables_after_traits}
 use Rattle.amf3_layout.proofs.Reader3States.{contents_state}
 use Rattle.amf0_tables.specs.KeptTables0.{KeptTables0}
@@ -23,7 +23,7 @@ loose_state a t n v = ap (λ ms. let s : State3 = record { arena = kept_node a n
 
 -- traits that stand in the arena alone
 traits_state : (a : Arena) (t : KeptTables) (st : StoredTraits) → IsBuilt a → AreTablesIn a t → state_of (kept_traits a st) t ≡ with_traits (state_of a t) st
-traits_state a t st b v = ap (λ w. let s : State3 = record { arena = kept_traits a st; tables = t; words = w; marks = marks_of a t.nodes } in s) (words_kept a (kept_traits a st) t (larger_traits a st) b.traits v)
+traits_state a t st b v = ap (λ w. let s : State3 = record { arena = kept_traits a st; tables = t; words = w; marks = marks_of a t.nodes } in s) (words_stay a (kept_traits a st) t (larger_traits a st) b.traits v)
 
 -- a text
 pub text_state : (a z : Arena) (t : KeptTables0) (x : List ℕ) → IsBuilt a → AreTablesIn a t.amf3 → z ≡ kept_text a x → state0_of z t ≡ with_text0 (state0_of a t) x

@@ -34,7 +34,7 @@ use Rattle.amf0_read.specs.declared.frame.Slot.TheVariants.{Named}
 use Rattle.amf0_tables.specs.declared.marker.Marker0.{Marker0}
 use Rattle.amf0_read.specs.declared.fill.Step.TheVariants as step
 use Rattle.amf0_read.specs.Frames0.{Lacks, LacksFor, StepHolds}
-use Rattle.amf0_read.specs.Ready0.{Ready0, Kept0, text_read}
+use Rattle.amf0_read.specs.Ready0.{Ready0, StillReady0, text_read}
 use Rattle.amf0_read.proofs.Stack0.{are_tables}
 use Rattle.amf0_read.proofs.States0.{text_state}
 
@@ -71,8 +71,8 @@ pub text_more : (a z : Arena) (i : ℕ) → KeptText a z i → length z.texts �
 text_more a z i k = let c = text_at z i in ap (λ (y : Arena). length y.texts) k.kept ∙ length-append a.texts (c ∷ [])
 
 -- a name and a marker were read
-pub name_kept : {S : Type 0} (a z : Arena) (t : KeptTables0) (i : ℕ) (c d e : Cursor S Window) → Ready0 0 a t c → IsBuilt z → KeptText a z i → place c + 2 ≤ place d → place d < place e → bound e ≡ bound c → IsPlaced e → Kept0 1 0 a z t c e
-name_kept a z t i c d e r built k two more same p =
+pub name_still_ready : {S : Type 0} (a z : Arena) (t : KeptTables0) (i : ℕ) (c d e : Cursor S Window) → Ready0 0 a t c → IsBuilt z → KeptText a z i → place c + 2 ≤ place d → place d < place e → bound e ≡ bound c → IsPlaced e → StillReady0 1 0 a z t c e
+name_still_ready a z t i c d e r built k two more same p =
     let within = p.within in
     let left : left_of e + 3 ≤ left_of c = omega arith in
     record {
@@ -96,8 +96,8 @@ name_waits a z i left x m o b k s =
     by h n (inr w) = inr (suits_name h n (parts.Object 0 true) x refl w)
 
 -- a text that is a value
-pub text_kept : {S : Type 0} (a z : Arena) (t : KeptTables0) (i : ℕ) (c d : Cursor S Window) → Ready0 1 a t c → IsBuilt z → KeptText a z i → IsPlaced d → left_of d ≤ left_of c → Kept0 0 1 a z t c d
-text_kept a z t i c d r built k p less = record {
+pub text_still_ready : {S : Type 0} (a z : Arena) (t : KeptTables0) (i : ℕ) (c d : Cursor S Window) → Ready0 1 a t c → IsBuilt z → KeptText a z i → IsPlaced d → left_of d ≤ left_of c → StillReady0 0 1 a z t c d
+text_still_ready a z t i c d r built k p less = record {
   built = built;
   tables = text_tables a z t i r.amf3.built (are_tables 1 a t c r) k;
   placed = p;

@@ -33,7 +33,7 @@ use Rattle.amf0_read.specs.declared.node.Start.{Start}
 use Rattle.amf0_read.specs.declared.node.Start.TheVariants as start
 use Rattle.amf0_read.specs.declared.fill.Step.{Step}
 use Rattle.amf0_read.specs.declared.fill.Step.TheVariants as step
-use Rattle.amf0_read.specs.Ready0.{Ready0, Kept0}
+use Rattle.amf0_read.specs.Ready0.{Ready0, StillReady0}
 
 -- The part that a value is, and what is still to be read behind it.
 
@@ -193,6 +193,6 @@ pub record IsAt {S : Type 0} (tells : S → Type 0) (left : S → List ℕ) (t :
 pub record StackSo {S : Type 0} (tells : S → Type 0) (left : S → List ℕ) (faults : S → ℕ) (old : Now) (es : List Frame) (a b : Arena) (t u : KeptTables0) (c d : Cursor S Window) (now : Now) (fs : List Frame) : Type 0 where
   pub goes : Goes {X = Unit {0}} tells left faults c d (Ok tt)
   pub ready : Ready0 (owed now) b u d
-  pub kept : Kept0 (owed now) (owed old) a b u c d
+  pub still_ready : StillReady0 (owed now) (owed old) a b u c d
   pub holds : Holds (left_of d) now fs b
   pub at : (fuel : Fuel) (fuels : List Fuel) → Enough (left_of c) fuel → HaveFuel (left_of c) fuels es → IsAt tells left (bind (current fuel old (state0_of a t)) (rest fuels es)) now fs (state0_of b u) c d

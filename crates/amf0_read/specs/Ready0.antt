@@ -20,7 +20,7 @@ pub record Ready0 {S : Type 0} (spare : ℕ) (a : Arena) (t : KeptTables0) (c : 
   pub distinct : IsDistinct t.nodes
 
 -- the tables are the builder's again, which grew by no more than the bytes that came, less those that are owed, and so many before them
-pub record Kept0 {S : Type 0} (owed spare : ℕ) (a b : Arena) (t : KeptTables0) (c d : Cursor S Window) : Type 0 where
+pub record StillReady0 {S : Type 0} (owed spare : ℕ) (a b : Arena) (t : KeptTables0) (c d : Cursor S Window) : Type 0 where
   pub built : IsBuilt b
   pub tables : AreTables0In b t
   pub placed : IsPlaced d

@@ -9,7 +9,7 @@ ghost use Rattle.amf0_tables.specs.TableParts0.{shown_tables};
 ghost use Rattle.amf3_read.specs.Filling.{IsOpened};
 ghost use Rattle.amf3_read.specs.Answer.{left_of};
 ghost use Rattle.amf3_read.specs.Frames.{Fuel, Enough};
-ghost use Rattle.amf0_read.specs.Ready0.{Ready0, Kept0};
+ghost use Rattle.amf0_read.specs.Ready0.{Ready0, StillReady0};
 ghost use Rattle.amf0_read.specs.Frames0.{todo as still, Lacks, GoesOn, StepHolds, StepMoves, owed_at};
 
 use crate::frame::{Slot, Todo};
@@ -43,7 +43,7 @@ pub fn go_on<S: Source>(
     requires lacks { Lacks (head_content builder.old (stored_at builder.old node.0).head) (stored_at builder.old node.0) todo }
     ensures goes { Goes S.tells S.left S.faults cursor.old cursor.new result }
     ensures answers { (fuel : Fuel) → Enough (left_of cursor.old) fuel → GoesOn S.tells S.left (still (value0_layout fuel.values) fuel.pairs node.0 todo (state0_of builder.old (shown_tables tables.now))) node.0 (state0_of builder.new (shown_tables tables.now)) cursor.old cursor.new result }
-    ensures kept { IfOk result (λ step. Kept0 (owed_at step) 0 builder.old builder.new (shown_tables tables.now) cursor.old cursor.new) }
+    ensures still_ready { IfOk result (λ step. StillReady0 (owed_at step) 0 builder.old builder.new (shown_tables tables.now) cursor.old cursor.new) }
     ensures holds { IfOk result (StepHolds builder.old builder.new node.0) }
     ensures moves { IfOk result (StepMoves (place cursor.old) (place cursor.new)) }
 {

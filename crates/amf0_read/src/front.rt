@@ -4,7 +4,7 @@ ghost use Rattle.amf0_tables.specs.Layout0.{value0_layout};
 ghost use Rattle.amf0_tables.specs.Layout0State.{state0_of};
 ghost use Rattle.amf0_tables.specs.TableParts0.{shown_tables};
 ghost use Rattle.amf3_read.specs.Answer.{left_of};
-ghost use Rattle.amf0_read.specs.Ready0.{Ready0, Kept0};
+ghost use Rattle.amf0_read.specs.Ready0.{Ready0, StillReady0};
 ghost use Rattle.amf0_read.specs.Frames0.{Holds, owed};
 ghost use Rattle.amf0_read.specs.Fronts0.{LeadsFront, LeadsItems};
 
@@ -36,7 +36,7 @@ pub fn read_front<S: Source>(
     requires { Ready0 0 builder.old (shown_tables tables.old) cursor.old }
     ensures goes { Goes S.tells S.left S.faults cursor.old cursor.new result }
     ensures leads { (n : ℕ) → left_of cursor.old < n → LeadsFront S.tells S.left n (state0_of builder.old (shown_tables tables.old)) (state0_of builder.new (shown_tables tables.new)) cursor.old cursor.new result }
-    ensures kept { IfOk result (λ front. Kept0 (owed front.now) 0 builder.old builder.new (shown_tables tables.new) cursor.old cursor.new) }
+    ensures still_ready { IfOk result (λ front. StillReady0 (owed front.now) 0 builder.old builder.new (shown_tables tables.new) cursor.old cursor.new) }
     ensures holds { IfOk result (λ front. Holds (left_of cursor.new) front.now (reverse front.frames.items) builder.new) }
 {
     match read_marker(cursor, tables)? {
@@ -62,7 +62,7 @@ fn read_items<S: Source>(
     requires { Ready0 1 builder.old (shown_tables tables.old) cursor.old }
     ensures goes { Goes S.tells S.left S.faults cursor.old cursor.new result }
     ensures leads { (n : ℕ) → left_of cursor.old < n → LeadsItems S.tells S.left n (state0_of builder.old (shown_tables tables.old)) (state0_of builder.new (shown_tables tables.new)) cursor.old cursor.new result }
-    ensures kept { IfOk result (λ front. Kept0 (owed front.now) 1 builder.old builder.new (shown_tables tables.new) cursor.old cursor.new) }
+    ensures still_ready { IfOk result (λ front. StillReady0 (owed front.now) 1 builder.old builder.new (shown_tables tables.new) cursor.old cursor.new) }
     ensures holds { IfOk result (λ front. Holds (left_of cursor.new) front.now (reverse front.frames.items) builder.new) }
 {
     let count = read_count(cursor)?;

@@ -10,7 +10,7 @@ ghost use Rattle.amf0_tables.specs.Layout0.{Reader0, behind0};
 ghost use Rattle.amf0_tables.specs.Layout0State.{state0_of};
 ghost use Rattle.amf0_tables.specs.TableParts0.{shown_tables};
 ghost use Rattle.amf0_read.specs.Opens0.{KeepsLeaf, Opens, OpensObject};
-ghost use Rattle.amf0_read.specs.Ready0.{Ready0, Kept0};
+ghost use Rattle.amf0_read.specs.Ready0.{Ready0, StillReady0};
 ghost use Rattle.amf0_read.specs.Frames0.{now_of, StartsBy, StartHolds};
 
 use crate::frame::{Now, Todo};
@@ -54,7 +54,7 @@ pub fn start_value<S: Source>(
     requires { Ready0 1 builder.old (shown_tables tables.old) cursor.old }
     ensures goes { Goes S.tells S.left S.faults cursor.old cursor.new result }
     ensures starts { (v : Reader0) (n : ℕ) → left_of cursor.old < n → StartsBy S.tells S.left v n (behind0 v n (state0_of builder.old (shown_tables tables.old)) (Some marker)) (state0_of builder.new (shown_tables tables.new)) cursor.old cursor.new result }
-    ensures kept { OnOk result (Kept0 0 1 builder.old builder.new (shown_tables tables.new) cursor.old cursor.new) }
+    ensures still_ready { OnOk result (StillReady0 0 1 builder.old builder.new (shown_tables tables.new) cursor.old cursor.new) }
     ensures holds { IfOk result (StartHolds builder.old builder.new (left_of cursor.new)) }
     ensures stays { OnOk result (place cursor.old ≤ place cursor.new) }
 {
@@ -97,7 +97,7 @@ fn read_date<S: Source>(
     requires { Ready0 1 builder.old (shown_tables tables.now) cursor.old }
     ensures goes { Goes S.tells S.left S.faults cursor.old cursor.new result }
     ensures starts { (v : Reader0) (n : ℕ) → left_of cursor.old < n → StartsBy S.tells S.left v n (behind0 v n (state0_of builder.old (shown_tables tables.now)) (Some marker0.Date)) (state0_of builder.new (shown_tables tables.now)) cursor.old cursor.new result }
-    ensures kept { OnOk result (Kept0 0 1 builder.old builder.new (shown_tables tables.now) cursor.old cursor.new) }
+    ensures still_ready { OnOk result (StillReady0 0 1 builder.old builder.new (shown_tables tables.now) cursor.old cursor.new) }
     ensures holds { IfOk result (StartHolds builder.old builder.new (left_of cursor.new)) }
     ensures stays { OnOk result (place cursor.old ≤ place cursor.new) }
 {
@@ -116,7 +116,7 @@ fn read_document<S: Source>(
     requires { Ready0 1 builder.old (shown_tables tables.now) cursor.old }
     ensures goes { Goes S.tells S.left S.faults cursor.old cursor.new result }
     ensures starts { (v : Reader0) (n : ℕ) → left_of cursor.old < n → StartsBy S.tells S.left v n (behind0 v n (state0_of builder.old (shown_tables tables.now)) (Some marker0.Document)) (state0_of builder.new (shown_tables tables.now)) cursor.old cursor.new result }
-    ensures kept { OnOk result (Kept0 0 1 builder.old builder.new (shown_tables tables.now) cursor.old cursor.new) }
+    ensures still_ready { OnOk result (StillReady0 0 1 builder.old builder.new (shown_tables tables.now) cursor.old cursor.new) }
     ensures holds { IfOk result (StartHolds builder.old builder.new (left_of cursor.new)) }
     ensures stays { OnOk result (place cursor.old ≤ place cursor.new) }
 {
@@ -137,7 +137,7 @@ fn start_typed<S: Source>(
     requires { Ready0 1 builder.old (shown_tables tables.old) cursor.old }
     ensures goes { Goes S.tells S.left S.faults cursor.old cursor.new result }
     ensures starts { (v : Reader0) (n : ℕ) → left_of cursor.old < n → StartsBy S.tells S.left v n (behind0 v n (state0_of builder.old (shown_tables tables.old)) (Some marker0.Typed)) (state0_of builder.new (shown_tables tables.new)) cursor.old cursor.new result }
-    ensures kept { OnOk result (Kept0 0 1 builder.old builder.new (shown_tables tables.new) cursor.old cursor.new) }
+    ensures still_ready { OnOk result (StillReady0 0 1 builder.old builder.new (shown_tables tables.new) cursor.old cursor.new) }
     ensures holds { IfOk result (StartHolds builder.old builder.new (left_of cursor.new)) }
     ensures stays { OnOk result (place cursor.old ≤ place cursor.new) }
 {
@@ -157,7 +157,7 @@ fn start_names<S: Source>(
     requires { Ready0 1 builder.old (shown_tables tables.old) cursor.old }
     ensures goes { Goes S.tells S.left S.faults cursor.old cursor.new result }
     ensures starts { (v : Reader0) (n : ℕ) → left_of cursor.old < n → StartsBy S.tells S.left v n (behind0 v n (state0_of builder.old (shown_tables tables.old)) (Some marker0.Names)) (state0_of builder.new (shown_tables tables.new)) cursor.old cursor.new result }
-    ensures kept { OnOk result (Kept0 0 1 builder.old builder.new (shown_tables tables.new) cursor.old cursor.new) }
+    ensures still_ready { OnOk result (StillReady0 0 1 builder.old builder.new (shown_tables tables.new) cursor.old cursor.new) }
     ensures holds { IfOk result (StartHolds builder.old builder.new (left_of cursor.new)) }
     ensures stays { OnOk result (place cursor.old ≤ place cursor.new) }
 {
@@ -175,7 +175,7 @@ fn start_strict<S: Source>(
     requires { Ready0 1 builder.old (shown_tables tables.old) cursor.old }
     ensures goes { Goes S.tells S.left S.faults cursor.old cursor.new result }
     ensures starts { (v : Reader0) (n : ℕ) → left_of cursor.old < n → StartsBy S.tells S.left v n (behind0 v n (state0_of builder.old (shown_tables tables.old)) (Some marker0.Strict)) (state0_of builder.new (shown_tables tables.new)) cursor.old cursor.new result }
-    ensures kept { OnOk result (Kept0 0 1 builder.old builder.new (shown_tables tables.new) cursor.old cursor.new) }
+    ensures still_ready { OnOk result (StillReady0 0 1 builder.old builder.new (shown_tables tables.new) cursor.old cursor.new) }
     ensures holds { IfOk result (StartHolds builder.old builder.new (left_of cursor.new)) }
     ensures stays { OnOk result (place cursor.old ≤ place cursor.new) }
 {
@@ -194,7 +194,7 @@ fn read_switched<S: Source>(
     requires { Ready0 1 builder.old (shown_tables tables.old) cursor.old }
     ensures goes { Goes S.tells S.left S.faults cursor.old cursor.new result }
     ensures starts { (v : Reader0) (n : ℕ) → left_of cursor.old < n → StartsBy S.tells S.left v n (behind0 v n (state0_of builder.old (shown_tables tables.old)) (Some marker0.Switch)) (state0_of builder.new (shown_tables tables.new)) cursor.old cursor.new result }
-    ensures kept { OnOk result (Kept0 0 1 builder.old builder.new (shown_tables tables.new) cursor.old cursor.new) }
+    ensures still_ready { OnOk result (StillReady0 0 1 builder.old builder.new (shown_tables tables.new) cursor.old cursor.new) }
     ensures holds { IfOk result (StartHolds builder.old builder.new (left_of cursor.new)) }
     ensures stays { OnOk result (place cursor.old ≤ place cursor.new) }
 {

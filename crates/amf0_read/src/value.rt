@@ -12,7 +12,7 @@ ghost use Rattle.amf3_read.specs.Answer.{HasRoomFor, Raises, left_of};
 ghost use Rattle.amf3_read.specs.Frames.{Fuel, Enough};
 ghost use Rattle.amf0_read.specs.Answer0.{Answers0};
 ghost use Rattle.amf0_read.specs.Fronts0.{form_of};
-ghost use Rattle.amf0_read.specs.Ready0.{Ready0, Kept0};
+ghost use Rattle.amf0_read.specs.Ready0.{Ready0, StillReady0};
 ghost use Rattle.amf0_read.specs.Frames0.{current, rest, HaveFuel, Holds, owed};
 
 use crate::fill::{Step, go_on};
@@ -74,7 +74,7 @@ pub fn read_value0<S: Source>(
     requires { Ready0 0 builder.old (shown_tables tables.old) cursor.old }
     ensures goes { Goes S.tells S.left S.faults cursor.old cursor.new result }
     ensures answers { (n : ℕ) → left_of cursor.old < n → Answers S.tells S.left (λ v. read0 v (state0_of builder.new (shown_tables tables.new))) (value0_layout n false (state0_of builder.old (shown_tables tables.old))) cursor.old cursor.new result }
-    ensures kept { OnOk result (Kept0 0 0 builder.old builder.new (shown_tables tables.new) cursor.old cursor.new) }
+    ensures still_ready { OnOk result (StillReady0 0 0 builder.old builder.new (shown_tables tables.new) cursor.old cursor.new) }
 {
     let Front { frames, now, .. } = read_front(alloc, cursor, builder, tables)?;
     read_on(alloc, cursor, builder, tables, frames, now)
@@ -104,7 +104,7 @@ fn read_on<S: Source>(
     requires holds { Holds (left_of cursor.old) now (reverse frames.items) builder.old }
     ensures goes { Goes S.tells S.left S.faults cursor.old cursor.new result }
     ensures answers { (fuel : Fuel) (fuels : List Fuel) → Enough (left_of cursor.old) fuel → HaveFuel (left_of cursor.old) fuels (reverse frames.items) → Answers S.tells S.left (λ v. read0 v (state0_of builder.new (shown_tables tables.new))) (bind (current fuel now (state0_of builder.old (shown_tables tables.old))) (rest fuels (reverse frames.items))) cursor.old cursor.new result }
-    ensures kept { OnOk result (Kept0 0 (owed now) builder.old builder.new (shown_tables tables.new) cursor.old cursor.new) }
+    ensures still_ready { OnOk result (StillReady0 0 (owed now) builder.old builder.new (shown_tables tables.new) cursor.old cursor.new) }
 {
     loop {
         match now {

@@ -14,15 +14,15 @@ use Rattle.amf_graph.proofs.Lists.{cons_same, entry, at_left, at_end, at_push, l
 use Rattle.amf_graph.proofs.Matching.{Implies, values_more, nodes_more, by_name_match}
 use Rattle.amf3_spelling.specs.Tables.{Tables}
 use Rattle.amf3_spelling.specs.Then.{Spelling, Then, Plain}
-use Rattle.amf3_spelling.specs.Parts3.{IsFlag}
+use Rattle.amf3_spelling.specs.Segments3.{IsFlag}
 use Rattle.amf3_spelling.specs.Spells3.{Spells3}
 use Rattle.amf3_spelling.proofs.Alike3.{Paired as Paired3, Tied as Tied3, After as After3, alike}
 use Rattle.amf3_spelling.proofs.BytesOf.{to_spells}
 use Rattle.amf0_tables.specs.Tables0.{Tables0, add_node0, add_done0, switched_to}
-use Rattle.amf0_tables.specs.Parts0.{Short, Marked0, LeafBy0, Values0, Pairs0, Count0, PairsBy0, is_empty}
+use Rattle.amf0_tables.specs.Segments0.{Short, Marked0, LeafBy0, Values0, Pairs0, Count0, PairsBy0, is_empty}
 use Rattle.amf0_tables.specs.Spells0.{IsOpenTraits, NodeBy0, Named0, Begun0, Switched, InlineIn0, SpellsIn0, Spells0}
 use Rattle.amf0_tables.proofs.Bytes.{be16, be32, be64, cut, one_flat, short_same, long_same, count_same}
-use Rattle.amf0_tables.proofs.Kept0.{Kept, kept_same, Keeps, keeps3, leaf_still, keeps_plain, keeps_values, keeps_pairs, keeps_pairs_by, keeps_then, keeps_values_in}
+use Rattle.amf0_tables.proofs.Stays0.{Stays, stays_same, Keeps, keeps3, leaf_still, keeps_plain, keeps_values, keeps_pairs, keeps_pairs_by, keeps_then, keeps_values_in}
 
 -- two spellings of one input in AMF 3
 alike3 : (g h : Graph) (v w : Value) (t u : Tables) (fs gs : List Field) (r q : List ℕ) (t' u' : Tables) → Tied3 t u → Spells3 free g v t fs t' → Spells3 free h w u gs u' → flat fs ++ r ≡ flat gs ++ q → After3 g h t u t' u' r q (λ P. ValuesMatch P v w)
@@ -197,11 +197,11 @@ stays_node g R kR s i (dictionary p) ps vs m t fs t' z = elim z [ ]
 two_flat : (k l : Kind) (b c r : List ℕ) (fs : List Field) → fs ≡ field k b ∷ field l c ∷ [] → flat fs ++ r ≡ b ++ (c ++ r)
 two_flat k l b c r fs e = ap (λ w. flat w ++ r) e ∙ append_assoc b (c ++ []) r ∙ ap (λ w. b ++ w) (append_assoc c [] r)
 
-kept_marked : (g : Graph) (t : Tables0) (fs : List Field) (t' : Tables0) → Marked0 true 0x09 (λ rest. rest ≡ []) t fs t' → Kept g t t'
-kept_marked g t fs t' x = kept_same g t t' x.3
+stays_marked : (g : Graph) (t : Tables0) (fs : List Field) (t' : Tables0) → Marked0 true 0x09 (λ rest. rest ≡ []) t fs t' → Stays g t t'
+stays_marked g t fs t' x = stays_same g t t' x.3
 
 module _ (g h : Graph) where
-  paired_more : (t u t' u' : Tables0) → Kept g t t' → Kept h u u' → Implies (Paired t u) (Paired t' u')
+  paired_more : (t u t' u' : Tables0) → Stays g t t' → Stays h u u' → Implies (Paired t u) (Paired t' u')
   paired_more t u t' u' a b i j p = (p.0, a.stays p.0 i p.1, b.stays p.0 j p.2)
 
   alike_weaker : (A B : Spelling Tables0) (Q S : (ℕ → ℕ → Type 0) → Type 0) → ((P : ℕ → ℕ → Type 0) → Q P → S P) → Alike g h A B Q → Alike g h A B S
@@ -223,7 +223,7 @@ module _ (g h : Graph) where
         says = (mono (Paired x.mid y.mid) (Paired t' u') more o.says, n.says);
       }
     where
-      join : (m n t' u' : Tables0) (before : ℕ) (r q r' q' : List ℕ) (Q S : (ℕ → ℕ → Type 0) → Type 0) → After g h before m n r' q' Q → After g h (length m.amf3.done) t' u' r q S → Kept g m t' → Kept h n u' →
+      join : (m n t' u' : Tables0) (before : ℕ) (r q r' q' : List ℕ) (Q S : (ℕ → ℕ → Type 0) → Type 0) → After g h before m n r' q' Q → After g h (length m.amf3.done) t' u' r q S → Stays g m t' → Stays h n u' →
           (k i j : ℕ) → before ≤ k → slice_get t'.amf3.done k ≡ Some i → slice_get u'.amf3.done k ≡ Some j → NodesMatch (Paired t' u') (node_at g i) (node_at h j)
       join m n t' u' before r q r' q' Q S o s kept kept' k i j l a b =
           elim (cases_lt k (length m.amf3.done)) [
@@ -308,13 +308,13 @@ module _ (g h : Graph) where
     both_pairs : (ps qs : List (List ℕ × Value)) → Alike g h (Pairs0 R ps) (Pairs0 R' qs) (λ P. AllZip (PairsMatch P) ps qs)
     both_pairs [] [] =
         alike_weaker (Pairs0 R []) (Pairs0 R' []) (λ P. ([] ≡ []) × Unit {0}) (λ P. Unit {0}) (λ P o. tt)
-        (alike_then (Plain (Short [])) (Plain (Short [])) (Marked0 true 0x09 (λ rest. rest ≡ [])) (Marked0 true 0x09 (λ rest. rest ≡ [])) (λ P. [] ≡ []) (λ P. Unit {0}) (λ t fs t' x. kept_marked g t fs t' x) (λ t fs t' x. kept_marked h t fs t' x) (λ P S i e. e) (both_names [] []) (λ P o. alike_marked true true 0x09 0x09 (λ rest. rest ≡ []) (λ rest. rest ≡ []) (Unit {0}) nothing_same))
+        (alike_then (Plain (Short [])) (Plain (Short [])) (Marked0 true 0x09 (λ rest. rest ≡ [])) (Marked0 true 0x09 (λ rest. rest ≡ [])) (λ P. [] ≡ []) (λ P. Unit {0}) (λ t fs t' x. stays_marked g t fs t' x) (λ t fs t' x. stays_marked h t fs t' x) (λ P S i e. e) (both_names [] []) (λ P o. alike_marked true true 0x09 0x09 (λ rest. rest ≡ []) (λ rest. rest ≡ []) (Unit {0}) nothing_same))
     both_pairs [] (w ∷ ws) =
         alike_weaker (Pairs0 R []) (Pairs0 R' (w ∷ ws)) (λ P. ([] ≡ w.0) × ⊥) (λ P. AllZip (PairsMatch P) [] (w ∷ ws)) (λ P o. absurd o.1)
-        (alike_then (Plain (Short [])) (Plain (Short w.0)) (Marked0 true 0x09 (λ rest. rest ≡ [])) (Then (R' (is_empty w.0) w.1) (Pairs0 R' ws)) (λ P. [] ≡ w.0) (λ P. ⊥) (λ t fs t' x. kept_marked g t fs t' x) (keeps_then h (R' (is_empty w.0) w.1) (Pairs0 R' ws) (kR' (is_empty w.0) w.1) (keeps_pairs h R' kR' ws)) (λ P S i e. e) (both_names [] w.0) (λ P o. end_not (Pairs0 R' ws) (is_empty w.0) w.1 (λ rest. rest ≡ [])))
+        (alike_then (Plain (Short [])) (Plain (Short w.0)) (Marked0 true 0x09 (λ rest. rest ≡ [])) (Then (R' (is_empty w.0) w.1) (Pairs0 R' ws)) (λ P. [] ≡ w.0) (λ P. ⊥) (λ t fs t' x. stays_marked g t fs t' x) (keeps_then h (R' (is_empty w.0) w.1) (Pairs0 R' ws) (kR' (is_empty w.0) w.1) (keeps_pairs h R' kR' ws)) (λ P S i e. e) (both_names [] w.0) (λ P o. end_not (Pairs0 R' ws) (is_empty w.0) w.1 (λ rest. rest ≡ [])))
     both_pairs (v ∷ vs) [] =
         alike_weaker (Pairs0 R (v ∷ vs)) (Pairs0 R' []) (λ P. (v.0 ≡ []) × ⊥) (λ P. AllZip (PairsMatch P) (v ∷ vs) []) (λ P o. absurd o.1)
-        (alike_then (Plain (Short v.0)) (Plain (Short [])) (Then (R (is_empty v.0) v.1) (Pairs0 R vs)) (Marked0 true 0x09 (λ rest. rest ≡ [])) (λ P. v.0 ≡ []) (λ P. ⊥) (keeps_then g (R (is_empty v.0) v.1) (Pairs0 R vs) (kR (is_empty v.0) v.1) (keeps_pairs g R kR vs)) (λ t fs t' x. kept_marked h t fs t' x) (λ P S i e. e) (both_names v.0 []) (λ P o. not_end (Pairs0 R vs) (is_empty v.0) v.1 (λ rest. rest ≡ [])))
+        (alike_then (Plain (Short v.0)) (Plain (Short [])) (Then (R (is_empty v.0) v.1) (Pairs0 R vs)) (Marked0 true 0x09 (λ rest. rest ≡ [])) (λ P. v.0 ≡ []) (λ P. ⊥) (keeps_then g (R (is_empty v.0) v.1) (Pairs0 R vs) (kR (is_empty v.0) v.1) (keeps_pairs g R kR vs)) (λ t fs t' x. stays_marked h t fs t' x) (λ P S i e. e) (both_names v.0 []) (λ P o. not_end (Pairs0 R vs) (is_empty v.0) v.1 (λ rest. rest ≡ [])))
     both_pairs (v ∷ vs) (w ∷ ws) =
         let B = Then (R (is_empty v.0) v.1) (Pairs0 R vs) in
         let B' = Then (R' (is_empty w.0) w.1) (Pairs0 R' ws) in

@@ -11,7 +11,7 @@ use Rattle.amf3_spelling.specs.Spells3.{Spells3}
 use Rattle.amf3_spelling.proofs.Build.{Built, both}
 use Rattle.amf0_tables.specs.Tables0.{Tables0, no_tables0, switched_to}
 use Rattle.amf0_tables.specs.Refusals0.{index0_kind}
-use Rattle.amf0_tables.specs.Parts0.{marker0_field, Short, Marked0, LeafBy0, Values0, Pairs0, is_empty}
+use Rattle.amf0_tables.specs.Segments0.{marker0_field, Short, Marked0, LeafBy0, Values0, Pairs0, is_empty}
 use Rattle.amf0_tables.specs.Spells0.{NodeBy0, Switched, Spelled0, SpellsIn0}
 
 abbrev pub spelled0_by : (n : ℕ) (s : Style) (g : Graph) (x : Built (SpellsIn0 n s g false g.root) no_tables0) → Spelled0 s g (flat x.fields)

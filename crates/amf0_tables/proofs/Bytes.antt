@@ -6,7 +6,7 @@ use Rattle.amf_io.specs.Field.{Kind, Field, flat, field, contents, text_kind}
 use Rattle.amf_wire.specs.Style.{Style}
 use Rattle.amf_graph.proofs.Lists.{split_same}
 use Rattle.amf3_spelling.proofs.BytesOf.{flat_append, flat_contents}
-use Rattle.amf0_tables.specs.Parts0.{Short, Long, Count0}
+use Rattle.amf0_tables.specs.Segments0.{Short, Long, Count0}
 
 pub be16 : (n m : ℕ) (x y : List ℕ) → n < 2 ^ 16 → m < 2 ^ 16 → to_be_bytes w16 n ++ x ≡ to_be_bytes w16 m ++ y → (n ≡ m) × (x ≡ y)
 be16 n m x y l k e =

@@ -16,7 +16,7 @@ use Rattle.amf3_spelling.specs.Then.{Spelling, Then, Plain}
 use Rattle.amf3_spelling.proofs.BytesOf.{fits_too}
 use Rattle.amf0_tables.specs.Tables0.{Tables0, no_tables0, add_node0, add_done0}
 use Rattle.amf0_tables.specs.Refusals0.{marker0_kind, index0_kind}
-use Rattle.amf0_tables.specs.Parts0.{marker0_field, Short, Long, Marked0, LeafBy0, Values0, Pairs0, Count0, PairsBy0, is_empty}
+use Rattle.amf0_tables.specs.Segments0.{marker0_field, Short, Long, Marked0, LeafBy0, Values0, Pairs0, Count0, PairsBy0, is_empty}
 use Rattle.amf0_tables.specs.Spells0.{NodeBy0, Named0, Begun0, InlineIn0, SpellsIn0, Spells0, IsSpelling0, Spelled0}
 use Rattle.amf0_tables.proofs.Zips.{zip_length}
 

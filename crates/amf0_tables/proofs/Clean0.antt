@@ -10,7 +10,7 @@ use Rattle.amf3_spelling.specs.Then.{Spelling, Then, Plain}
 use Rattle.amf3_spelling.proofs.Clean.{AllClean, Cleans, clean_append, clean_as, clean_then, contents_clean, raw_field, text_field, below_length, clean3}
 use Rattle.amf0_tables.specs.Tables0.{Tables0, add_node0}
 use Rattle.amf0_tables.specs.Refusals0.{is_no_marker0, marker0_refusal, index0_refusal}
-use Rattle.amf0_tables.specs.Parts0.{marker0_field, Short, Long, Marked0, LeafBy0, Values0, Pairs0, Count0, PairsBy0, is_empty}
+use Rattle.amf0_tables.specs.Segments0.{marker0_field, Short, Long, Marked0, LeafBy0, Values0, Pairs0, Count0, PairsBy0, is_empty}
 use Rattle.amf0_tables.specs.Spells0.{NodeBy0, Named0, Switched, ValueBy0, InlineIn0, SpellsIn0, Spells0}
 
 marker_clean : (may_end : Bool) (t : Tables0) (m : ℕ) → marker0_refusal may_end (length t.nodes) m ≡ None → IsClean (marker0_field may_end t m)

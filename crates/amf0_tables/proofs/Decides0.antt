@@ -8,7 +8,7 @@ use Rattle.amf3_spelling.proofs.Decides3.{same_canonical, same_bytes_isomorphic,
 use Rattle.amf0_tables.specs.Spells0.{Spelled0}
 use Rattle.amf0_tables.specs.Lowered.{IsLoweringOf}
 use Rattle.amf0_tables.specs.LawsCanonical0.{CanonicalIsAlone0, IsomorphicHaveSameCanonical0, SameBytesAreIsomorphic0, CanonicalDecides0, Decides, CanonicalConverts}
-use Rattle.amf0_tables.proofs.Low.{kept}
+use Rattle.amf0_tables.proofs.Low.{lowered_alike}
 use Rattle.amf0_tables.proofs.Fixed0.{one_spelling, one_alone}
 use Rattle.amf0_tables.proofs.Carried0.{isomorphic_spelling, isomorphic_bytes}
 use Rattle.amf0_tables.proofs.SameBytes0.{same_bytes0}
@@ -33,7 +33,7 @@ canonical_decides0 = record {
 
 -- the lowerings of isomorphic graphs
 lowered0 : (read low g k : Graph) (b : List ℕ) → Isomorphic read g → IsLoweringOf read low → IsLoweringOf g k → Spelled0 canonical low b → Decides (Spelled0 canonical) k b
-lowered0 read low g k b i x y p = every0 k b (isomorphic_bytes low k b (kept read g low k i x y) p)
+lowered0 read low g k b i x y p = every0 k b (isomorphic_bytes low k b (lowered_alike read g low k i x y) p)
 
 pub converts : CanonicalConverts
 converts = record {

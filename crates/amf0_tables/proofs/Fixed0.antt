@@ -6,12 +6,12 @@ use Rattle.amf_wire.specs.Style.{canonical}
 use Rattle.amf_graph.specs.Graph.{Leaf, undefined, null, boolean, integer, double, text, Value, leaf, node, Head, xml_document, date, array, object, wrapper, xml, bytes, ints, uints, doubles, values, dictionary, Graph, node_at}
 use Rattle.amf_graph.specs.Order.{Absent}
 use Rattle.amf3_spelling.specs.Then.{Spelling, Then, Plain}
-use Rattle.amf3_spelling.specs.Parts3.{IsFlag}
+use Rattle.amf3_spelling.specs.Segments3.{IsFlag}
 use Rattle.amf0_tables.specs.Tables0.{Tables0, no_tables0, add_node0}
-use Rattle.amf0_tables.specs.Parts0.{marker0_field, Short, Long, Marked0, LeafBy0, Values0, Pairs0, Count0, PairsBy0, is_empty}
+use Rattle.amf0_tables.specs.Segments0.{marker0_field, Short, Long, Marked0, LeafBy0, Values0, Pairs0, Count0, PairsBy0, is_empty}
 use Rattle.amf0_tables.specs.Spells0.{NodeBy0, Named0, Begun0, InlineIn0, SpellsIn0, Spells0, IsSpelling0, Spelled0}
 use Rattle.amf0_tables.specs.Refusals0.{index0_kind}
-use Rattle.amf0_tables.proofs.Kept0.{Keeps, Proper, proper_none, kept_node, keeps_plain, keeps_values_in}
+use Rattle.amf0_tables.proofs.Stays0.{Keeps, Proper, proper_none, stays_entered, keeps_plain, keeps_values_in}
 
 one_flag : (b : Bool) (m n : ℕ) → IsFlag canonical b m → IsFlag canonical b n → m ≡ n
 one_flag true m n x y = omega (arith, x.0, x.2, y.0, y.2)
@@ -72,21 +72,21 @@ module _ (g : Graph) where
 
     fixed_node : (i : ℕ) (a : Head) (names : List (List ℕ × Value)) (vs : List Value) (m n : ℕ) (t : Tables0) (fs gs : List Field) (t' u' : Tables0) → i < length g.nodes → Absent t.amf3.done i → Proper g t →
         NodeBy0 R canonical i a names vs m t fs t' → NodeBy0 R' canonical i a names vs n t gs u' → (m ≡ n) × (fs ≡ gs) × (t' ≡ u')
-    fixed_node i (object c) names vs m n t fs gs t' u' l new d (o, inl x) (p, inl y) = let r = fixed_pairs_by names (add_node0 t i) fs gs t' u' ((kept_node g t i l new).proper d) x.2 y.2 in (x.0 ∙ sym y.0, r.0, r.1)
+    fixed_node i (object c) names vs m n t fs gs t' u' l new d (o, inl x) (p, inl y) = let r = fixed_pairs_by names (add_node0 t i) fs gs t' u' ((stays_entered g t i l new).proper d) x.2 y.2 in (x.0 ∙ sym y.0, r.0, r.1)
     fixed_node i (object c) names vs m n t fs gs t' u' l new d (o, inl x) (p, inr y) = absurd (y.1 x.1)
     fixed_node i (object c) names vs m n t fs gs t' u' l new d (o, inr x) (p, inl y) = absurd (x.1 y.1)
     fixed_node i (object c) names vs m n t fs gs t' u' l new d (o, inr x) (p, inr y) =
-        let r = fixed_then (Plain (Short c.class)) (Plain (Short c.class)) (PairsBy0 R canonical names) (PairsBy0 R' canonical names) (keeps_plain g (Short c.class)) (fixed_plain (Short c.class) (one_short c.class)) (fixed_pairs_by names) (add_node0 t i) fs gs t' u' ((kept_node g t i l new).proper d) x.2 y.2 in
+        let r = fixed_then (Plain (Short c.class)) (Plain (Short c.class)) (PairsBy0 R canonical names) (PairsBy0 R' canonical names) (keeps_plain g (Short c.class)) (fixed_plain (Short c.class) (one_short c.class)) (fixed_pairs_by names) (add_node0 t i) fs gs t' u' ((stays_entered g t i l new).proper d) x.2 y.2 in
         (x.0 ∙ sym y.0, r.0, r.1)
     fixed_node i array names vs m n t fs gs t' u' l new d (inl x) (inl y) =
         let C = Count0 canonical (length names) in
-        let r = fixed_then (Plain C) (Plain C) (PairsBy0 R canonical names) (PairsBy0 R' canonical names) (keeps_plain g C) (fixed_plain C (one_count (length names))) (fixed_pairs_by names) (add_node0 t i) fs gs t' u' ((kept_node g t i l new).proper d) x.3 y.3 in
+        let r = fixed_then (Plain C) (Plain C) (PairsBy0 R canonical names) (PairsBy0 R' canonical names) (keeps_plain g C) (fixed_plain C (one_count (length names))) (fixed_pairs_by names) (add_node0 t i) fs gs t' u' ((stays_entered g t i l new).proper d) x.3 y.3 in
         (x.0 ∙ sym y.0, r.0, r.1)
     fixed_node i array names vs m n t fs gs t' u' l new d (inl x) (inr y) = absurd (x.2 y.1)
     fixed_node i array names vs m n t fs gs t' u' l new d (inr x) (inl y) = absurd (y.2 x.1)
     fixed_node i array names vs m n t fs gs t' u' l new d (inr x) (inr y) =
         let r = fixed_then (Plain (λ count. count ≡ field (u32_kind no_refusal) (to_be_bytes w32 (length vs)) ∷ [])) (Plain (λ count. count ≡ field (u32_kind no_refusal) (to_be_bytes w32 (length vs)) ∷ [])) (Values0 R vs) (Values0 R' vs)
-        (keeps_plain g (λ count. count ≡ field (u32_kind no_refusal) (to_be_bytes w32 (length vs)) ∷ [])) (fixed_plain (λ count. count ≡ field (u32_kind no_refusal) (to_be_bytes w32 (length vs)) ∷ []) (λ fs gs e f. e ∙ sym f)) (fixed_values vs) (add_node0 t i) fs gs t' u' ((kept_node g t i l new).proper d) x.3 y.3 in
+        (keeps_plain g (λ count. count ≡ field (u32_kind no_refusal) (to_be_bytes w32 (length vs)) ∷ [])) (fixed_plain (λ count. count ≡ field (u32_kind no_refusal) (to_be_bytes w32 (length vs)) ∷ []) (λ fs gs e f. e ∙ sym f)) (fixed_values vs) (add_node0 t i) fs gs t' u' ((stays_entered g t i l new).proper d) x.3 y.3 in
         (x.0 ∙ sym y.0, r.0, r.1)
     fixed_node i (date p) names vs m n t fs gs t' u' l new d (e, zone, lt, o, f, z) (e', zone', lt', o', f', z') =
         (e ∙ sym e', f ∙ ap (λ w. field (raw_kind 8) (to_be_bytes w64 p) ∷ field (raw_kind 2) (to_be_bytes w16 w) ∷ []) (o ∙ sym o') ∙ sym f', z ∙ sym z')

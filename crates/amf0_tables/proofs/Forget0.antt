@@ -5,7 +5,7 @@ use Rattle.amf_wire.specs.Style.{Style, free}
 use Rattle.amf_graph.specs.Graph.{Leaf, undefined, null, boolean, integer, double, text, Value, leaf, node, Head, xml_document, date, array, object, wrapper, xml, bytes, ints, uints, doubles, values, dictionary, Graph, node_at}
 use Rattle.amf3_spelling.specs.Then.{Spelling, Then, Plain}
 use Rattle.amf0_tables.specs.Tables0.{Tables0, add_node0}
-use Rattle.amf0_tables.specs.Parts0.{Short, LeafBy0, Values0, Pairs0, Count0, PairsBy0, is_empty}
+use Rattle.amf0_tables.specs.Segments0.{Short, LeafBy0, Values0, Pairs0, Count0, PairsBy0, is_empty}
 use Rattle.amf0_tables.specs.Spells0.{NodeBy0, ValueBy0, InlineIn0, SpellsIn0, Spells0, Spelled0}
 
 -- A implies B

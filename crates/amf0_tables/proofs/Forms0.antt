@@ -10,7 +10,7 @@ use Rattle.amf_graph.proofs.Lists.{cons_same, same_list, split_same}
 use Rattle.amf0_tables.specs.declared.form.Form.{Form}
 use Rattle.amf0_tables.specs.declared.form.Form.TheVariants as form
 use Rattle.amf0_tables.specs.Form.{call_front, IsForm, OneForm}
-use Rattle.amf0_tables.specs.Parts0.{Values0}
+use Rattle.amf0_tables.specs.Segments0.{Values0}
 use Rattle.amf0_tables.specs.Spells0.{NodeBy0, SpellsIn0, Spells0}
 use Rattle.amf0_tables.specs.Tables0.{Tables0}
 use Rattle.amf0_tables.proofs.Alike0.{first_kind, Start, start_leaf, start_named, start_inline}

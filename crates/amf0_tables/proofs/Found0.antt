@@ -19,12 +19,12 @@ use Rattle.amf0_tables.specs.Tables0.{Tables0, no_tables0, add_node0, add_done0}
 use Rattle.amf0_tables.specs.Lowered.{IsLowHead}
 use Rattle.amf0_tables.specs.Lacks0.{HasNoForm, HasShortNames, IsShortName, enters0, entered, place0}
 use Rattle.amf0_tables.specs.Refusals0.{index0_kind}
-use Rattle.amf0_tables.specs.Parts0.{marker0_field, Short, Long, Marked0, LeafBy0, Values0, Pairs0, Count0, PairsBy0, is_empty}
+use Rattle.amf0_tables.specs.Segments0.{marker0_field, Short, Long, Marked0, LeafBy0, Values0, Pairs0, Count0, PairsBy0, is_empty}
 use Rattle.amf0_tables.specs.Spells0.{NodeBy0, Named0, InlineIn0, SpellsIn0, IsSpelling0, IsOpenTraits, Spells0}
 use Rattle.amf0_tables.specs.Meets.{Meets, past, again, first, IsMet}
 use Rattle.amf0_tables.proofs.Entered.{entered_push, entered_at, take_front, at_right}
 use Rattle.amf0_tables.proofs.Meeting.{meets_prefix, meets_first}
-use Rattle.amf0_tables.proofs.Kept0.{Keeps, Proper, proper_none, kept_node, kept_done, keeps_values_in}
+use Rattle.amf0_tables.proofs.Stays0.{Keeps, Proper, proper_none, stays_entered, stays_done, keeps_values_in}
 
 -- what a graph within bounds gives of each value and node
 abbrev pub GoodLeaf : Leaf → Type 0
@@ -243,7 +243,7 @@ module _ (g : Graph) (skip : List ℕ) (all : List ℕ) (good : (k i : ℕ) → 
       let less = missing_push (length g.nodes) i t.amf3.done there new in
       let at = meets_first t.amf3.done i w in
       let o = behind n (SpellsIn0 n canonical g) (keeps_values_in g canonical n) (value_found n n (inline_found n)) i a.head a.names a.values refl (good (length t.amf3.done) i at) (fine (length t.amf3.done) i at) t
-      ((kept_done g t i there new).proper p) (λ e. (kept_node g t i there new).proper p) l (omega (arith, less, m)) ws ks w f in
+      ((stays_done g t i there new).proper p) (λ e. (stays_entered g t i there new).proper p) l (omega (arith, less, m)) ws ks w f in
       record {
         fields = marker0_field b t o.marker ∷ o.rest;
         after = o.after;

@@ -18,7 +18,7 @@ use Rattle.amf3_spelling.proofs.Build.{Built, absent_nil, absent_cons}
 use Rattle.amf0_tables.specs.Lacks0.{enters0, is_loose0, entered, place0, NodeLacks0, Lacks0, IsLack0}
 use Rattle.amf0_tables.specs.LacksMet.{NodeLacksMet}
 use Rattle.amf0_tables.specs.Meets.{Meets, over, again, first, IsMet, IsAgain}
-use Rattle.amf0_tables.specs.Parts0.{is_empty}
+use Rattle.amf0_tables.specs.Segments0.{is_empty}
 use Rattle.amf0_tables.specs.Spells0.{IsSpelling0, SpellsIn0}
 use Rattle.amf0_tables.specs.Tables0.{no_tables0, add_node0}
 use Rattle.amf0_tables.specs.WorkedLacks0.{date_twice, mixed, nodes_from, far, Lacks0Rows}

@@ -15,7 +15,7 @@ use Rattle.amf3_layout.specs.Layout3Words.{chunk}
 use Rattle.amf3_layout.specs.Layout3.{ValueRead, value_layout}
 use Rattle.amf3_layout.proofs.Layout3Able.{value_able}
 use Rattle.amf3_layout.proofs.Layout3Fills.{Filled, text_filled, raw_filled, able_field, able_chunk}
-use Rattle.amf0_tables.specs.Parts0.{is_empty}
+use Rattle.amf0_tables.specs.Segments0.{is_empty}
 use Rattle.amf0_tables.specs.Refusals0.{marker0_kind, marker0_refusal, index0_kind}
 use Rattle.amf0_tables.specs.Layout0State.{State0, switched, with_text0, with_class, class_head, with_node0, changed0}
 use Rattle.amf0_tables.specs.Layout0.{new_text0, short_layout, long_layout, Read0, read0, end0, Reader0, items0, pairs0, shut0, with_pairs, with_items, whole0, with_members, behind0, value0_layout}

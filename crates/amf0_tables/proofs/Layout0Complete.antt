@@ -24,7 +24,7 @@ use Rattle.amf3_layout.proofs.Layout3Parts.{Like, parts_length, chunk_runs}
 use Rattle.amf3_layout.proofs.Layout3Complete.{spelled_read}
 use Rattle.amf0_tables.specs.Tables0.{Tables0, add_node0, add_done0, switched_to}
 use Rattle.amf0_tables.specs.Refusals0.{marker0_kind, index0_kind}
-use Rattle.amf0_tables.specs.Parts0.{marker0_field, Short, Long, LeafBy0, Values0, Pairs0, PairsBy0, is_empty}
+use Rattle.amf0_tables.specs.Segments0.{marker0_field, Short, Long, LeafBy0, Values0, Pairs0, PairsBy0, is_empty}
 use Rattle.amf0_tables.specs.Spells0.{NodeBy0, Named0, Begun0, Switched, SpellsIn0, Spells0}
 use Rattle.amf0_tables.specs.Layout0State.{State0, switched, with_text0, with_class, class_head, with_done0, with_node0, changed0}
 use Rattle.amf0_tables.specs.Layout0.{new_text0, short_layout, long_layout, Read0, read0, end0, Reader0, items0, pairs0, shut0, with_pairs, with_items, whole0, with_members, behind0, value0_layout}

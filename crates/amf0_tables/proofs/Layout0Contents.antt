@@ -11,7 +11,7 @@ use Rattle.amf_graph.proofs.Lists.{length_pushed}
 use Rattle.amf3_spelling.specs.KeptTables.{below}
 use Rattle.amf3_spelling.specs.Tables.{Tables}
 use Rattle.amf3_layout.specs.Layout3State.{State3, begun}
-use Rattle.amf3_layout.proofs.Layout3Contents.{all_append, all_more, Larger, larger_itself, traits_in, node_more, KeptNode, Good, words_kept, tables_more, good_contents, marks_more, distinct_more}
+use Rattle.amf3_layout.proofs.Layout3Contents.{all_append, all_more, Larger, larger_itself, traits_in, node_more, KeptNode, Good, words_stay, tables_more, good_contents, marks_more, distinct_more}
 use Rattle.amf3_layout.proofs.Layout3SoundParts.{table, table_changed}
 use Rattle.amf0_tables.specs.Tables0.{Tables0, add_node0, add_done0}
 use Rattle.amf0_tables.specs.Layout0State.{State0, with_text0, with_traits, with_loose, with_done0, with_node0, changed0, with_class}
@@ -55,7 +55,7 @@ good_traits s t h g =
         nodes = all_more (KeptNode a) (KeptNode b) a.nodes (node_more a b l g.kept.traits) g.kept.nodes;
       };
       tables = tables_more a b s.tables l g.kept.traits g.tables;
-      words = g.words ∙ sym (words_kept a b s.tables l g.kept.traits g.tables);
+      words = g.words ∙ sym (words_stay a b s.tables l g.kept.traits g.tables);
       marks = g.marks;
     }
 
@@ -80,7 +80,7 @@ good_loose s head g named fits =
         nodes = all_append (KeptNode b) a.nodes (q ∷ []) (all_more (KeptNode a) (KeptNode b) a.nodes (node_more a b l g.kept.traits) g.kept.nodes) (node_more a b l g.kept.traits q n, tt);
       };
       tables = tables_more a b s.tables l g.kept.traits g.tables;
-      words = g.words ∙ sym (words_kept a b s.tables l g.kept.traits g.tables);
+      words = g.words ∙ sym (words_stay a b s.tables l g.kept.traits g.tables);
       marks = g.marks ∙ sym (marks_more a b q s.tables.nodes refl g.tables.nodes);
     }
 

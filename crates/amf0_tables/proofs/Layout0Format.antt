@@ -11,7 +11,7 @@ use Rattle.amf3_spelling.specs.KeptTables.{below}
 use Rattle.amf3_spelling.specs.Tables.{Words}
 use Rattle.amf3_layout.proofs.Layout3Contents.{names_more}
 use Rattle.amf3_layout.proofs.Layout3Filled.{filling}
-use Rattle.amf3_layout.proofs.Layout3Marks.{marks_kept}
+use Rattle.amf3_layout.proofs.Layout3Marks.{marks_stay}
 use Rattle.amf3_layout.proofs.Layout3Reads.{good_start, grown_built}
 use Rattle.amf3_layout.proofs.Values3Layout.{no_arena_built, no_tables_in}
 use Rattle.amf0_tables.specs.Tables0.{Tables0, no_tables0}
@@ -70,7 +70,7 @@ accepted_read0 : (n : ℕ) (a : Arena) (t : KeptTables0) (fs : List Field) → A
 accepted_read0 n a t fs valid p lt =
     let g = p.graph in
     let f : Found0 (graph_of g p.value) (value0_layout n false (state0_of a t)) fs p.after =
-    spelled_read0 (graph_of g p.value) n (value_content g p.value) (tables0_of a t) fs p.after (state0_of a t) (record { amf3 = record { words = refl; marks = marks_kept a g p.value t.amf3.nodes p.completes.nodes valid.amf3.nodes }; size = refl }) lt p.spelled in
+    spelled_read0 (graph_of g p.value) n (value_content g p.value) (tables0_of a t) fs p.after (state0_of a t) (record { amf3 = record { words = refl; marks = marks_stay a g p.value t.amf3.nodes p.completes.nodes valid.amf3.nodes }; size = refl }) lt p.spelled in
     (f.result, f.runs)
 
 pub is_layout0 : Layout0OfSpellings

@@ -8,7 +8,7 @@ use Rattle.amf_graph.specs.Arena.{StoredHead, array}
 use Rattle.amf_graph.specs.Building.{more_value, more_name}
 use Rattle.amf3_layout.specs.Layout3.{ValueRead, value_layout}
 use Rattle.amf3_layout.proofs.Layout3Grows.{value_grows}
-use Rattle.amf0_tables.specs.Parts0.{is_empty}
+use Rattle.amf0_tables.specs.Segments0.{is_empty}
 use Rattle.amf0_tables.specs.Layout0State.{State0, switched, with_class, class_head, with_node0, changed0}
 use Rattle.amf0_tables.specs.Layout0.{TextRead0, new_text0, short_layout, Read0, read0, Reader0, items0, pairs0, shut0, with_pairs, with_items, with_members, behind0, value0_layout}
 use Rattle.amf0_tables.specs.declared.marker.Marker0.{Marker0}

@@ -22,14 +22,14 @@ use Rattle.amf_graph.specs.declared.value.Value.TheVariants.{Undefined, Null, Bo
 use Rattle.amf_graph.specs.Arena.{Arena, text_at, value_content, graph_of, Names, Completes}
 use Rattle.amf_graph.specs.Arena as arena
 use Rattle.amf3_layout.specs.Layout3.{ValueRead, value_layout}
-use Rattle.amf3_spelling.specs.Parts3.{IsFlag}
+use Rattle.amf3_spelling.specs.Segments3.{IsFlag}
 use Rattle.amf3_layout.proofs.Layout3Contents.{Larger, larger_itself, larger_twice, all_place, text_larger}
 use Rattle.amf3_layout.proofs.Layout3Sound.{one_byte, value_sound}
 use Rattle.amf3_layout.proofs.Layout3SoundOpenings.{all_below, eight_is}
 use Rattle.amf3_layout.proofs.Layout3SoundParts.{table, pairs_content}
 use Rattle.amf3_layout.proofs.Layout3SoundTexts.{taken, give_is}
 use Rattle.amf0_tables.specs.Refusals0.{marker0_kind, marker0_refusal, index0_kind, index0_refusal}
-use Rattle.amf0_tables.specs.Parts0.{marker0_field, Short, Long, LeafBy0}
+use Rattle.amf0_tables.specs.Segments0.{marker0_field, Short, Long, LeafBy0}
 use Rattle.amf0_tables.specs.Spells0.{Switched, SpellsIn0}
 use Rattle.amf0_tables.specs.Layout0State.{State0, switched, with_text0}
 use Rattle.amf0_tables.specs.Layout0.{TextRead0, short_layout, long_layout, Read0, read0, end0, whole0, with_members, behind0, value0_layout}

@@ -15,12 +15,12 @@ use Rattle.amf_graph.specs.Arena.{Arena, StoredHead, StoredTraits, StoredNode, t
 use Rattle.amf_graph.specs.Building.{stored_at, shut}
 use Rattle.amf3_spelling.specs.Then.{Spelling}
 use Rattle.amf3_layout.specs.Layout3State.{begun, takes_parts}
-use Rattle.amf3_layout.proofs.Layout3Contents.{Larger, larger_itself, larger_twice, head_kept, text_larger, KeptNode, good_changed}
+use Rattle.amf3_layout.proofs.Layout3Contents.{Larger, larger_itself, larger_twice, head_stays, text_larger, KeptNode, good_changed}
 use Rattle.amf3_layout.proofs.Layout3SoundInline.{closed_at, shut_completes, content_at, absent_below}
 use Rattle.amf3_layout.proofs.Layout3SoundParts.{grown, spot, kept_spot, spot_changed, nodes_changed, completes_before, pairs_content}
 use Rattle.amf3_layout.proofs.Layout3SoundTexts.{give_is}
 use Rattle.amf0_tables.specs.Tables0.{Tables0, add_node0, add_done0}
-use Rattle.amf0_tables.specs.Parts0.{marker0_field, Pairs0, PairsBy0}
+use Rattle.amf0_tables.specs.Segments0.{marker0_field, Pairs0, PairsBy0}
 use Rattle.amf0_tables.specs.Spells0.{NodeBy0, SpellsIn0}
 use Rattle.amf0_tables.specs.Layout0State.{State0, with_text0, with_class, class_head, with_done0, with_node0, changed0}
 use Rattle.amf0_tables.specs.Layout0.{new_text0, Read0, Reader0, items0, pairs0, shut0, with_pairs, with_items, whole0, with_members}
@@ -56,7 +56,7 @@ module _ (N m : ℕ) (b : Bool) (s : State0) (g : Good0 s) (head : StoredHead) (
   to_w = larger_itself u.amf3.arena w.amf3.arena refl refl (omega (arith, length-set u.amf3.arena.nodes i (shut (stored_at u.amf3.arena i))))
 
   fits_in : (e : Arena) → Larger s.amf3.arena e → Fits (head_content e head) (pairs_content e a.adds.names) (map (value_content e) a.adds.values)
-  fits_in e l = subst (λ k. Fits k (pairs_content e a.adds.names) (map (value_content e) a.adds.values)) (sym (head_kept s.amf3.arena e l head g.amf3.kept.traits named)) (fits a.adds.names a.adds.values a.count e)
+  fits_in e l = subst (λ k. Fits k (pairs_content e a.adds.names) (map (value_content e) a.adds.values)) (sym (head_stays s.amf3.arena e l head g.amf3.kept.traits named)) (fits a.adds.names a.adds.values a.count e)
 
   here : w.amf3.arena.nodes ≡ pre ++ shut q ∷ a.adds.more
   here = spot_changed shut pre a.adds.more q u.amf3 a.adds.nodes
@@ -89,7 +89,7 @@ module _ (N m : ℕ) (b : Bool) (s : State0) (g : Good0 s) (head : StoredHead) (
         let parts = subst (λ t. A e r a.adds.names a.adds.values t fs (table0 u)) (table0_node s head) (a.spelled e r before) in
         let by = behind e r before parts in
         let by2 : NodeBy0 R free i (head_content e head) (pairs_content e a.adds.names) (map (value_content e) a.adds.values) m (table0 s) rest (table0 w) =
-        subst (λ k. NodeBy0 R free i k (pairs_content e a.adds.names) (map (value_content e) a.adds.values) m (table0 s) rest (table0 w)) (sym (head_kept s.amf3.arena e lo head g.amf3.kept.traits named))
+        subst (λ k. NodeBy0 R free i k (pairs_content e a.adds.names) (map (value_content e) a.adds.values) m (table0 s) rest (table0 w)) (sym (head_stays s.amf3.arena e lo head g.amf3.kept.traits named))
         (subst (λ t. NodeBy0 R free i (head_content s.amf3.arena head) (pairs_content e a.adds.names) (map (value_content e) a.adds.values) m (table0 s) rest t) (sym (table0_changed shut i u)) by) in
         inl (inr (record {
           there = subst (λ k. i < k) (sym (length-map e.nodes (node_content e))) there.0;
@@ -132,7 +132,7 @@ whole_sound N m b s g head named closed fits rest behind f is =
           let ca = closed_at e s.amf3.arena.nodes [] e.nodes (begun head) closed c.nodes in
           let na : node_at (graph_of e r) i ≡ node_content e (begun head) = content_at e e.nodes i ca.0 ∙ ap (node_content e) ca.1 in
           let lo = larger_twice s.amf3.arena z.amf3.arena e (loose_larger s.amf3 head) (completed_larger z.amf3.arena e c) in
-          let same = head_kept s.amf3.arena e lo head g.amf3.kept.traits named in
+          let same = head_stays s.amf3.arena e lo head g.amf3.kept.traits named in
           let R = spell0 N e r in
           let by : NodeBy0 R free i (head_content e head) [] [] m (table0 s) rest (table0 z) =
           subst (λ k. NodeBy0 R free i k [] [] m (table0 s) rest (table0 z)) (sym same) (subst (λ t. NodeBy0 R free i (head_content s.amf3.arena head) [] [] m (table0 s) rest t) (sym (table0_done s head)) (behind R)) in

@@ -18,12 +18,12 @@ use Rattle.std.specs.List.{AllByRecursion}
 use Rattle.amf_graph.specs.Arena.{Arena, StoredNode, text_at, value_content, IsTextId, Names, NodesComplete, Completes}
 use Rattle.amf_graph.specs.Building.{stored_at, more_value, more_name}
 use Rattle.amf3_spelling.specs.Then.{Spelling, Then}
-use Rattle.amf3_layout.proofs.Layout3Contents.{Larger, larger_twice, text_id, text_larger, text_kept}
+use Rattle.amf3_layout.proofs.Layout3Contents.{Larger, larger_twice, text_id, text_larger, text_stays}
 use Rattle.amf3_layout.proofs.Layout3SoundTexts.{taken, give_is, texts_are}
 use Rattle.amf3_layout.proofs.Layout3SoundOpenings.{all_below, Chunk, chunk_taken}
 use Rattle.amf3_layout.proofs.Layout3SoundParts.{AllClosed, nodes_append, completes_before, completes_larger, nodes_longer, grown, Adds, same_node, adds_nothing, adds_more, good_more, here, to_changed, mid_completes, pairs_content}
 use Rattle.amf0_tables.specs.Tables0.{Tables0}
-use Rattle.amf0_tables.specs.Parts0.{marker0_field, Short, Long, Values0, Pairs0, is_empty}
+use Rattle.amf0_tables.specs.Segments0.{marker0_field, Short, Long, Values0, Pairs0, is_empty}
 use Rattle.amf0_tables.specs.Layout0State.{State0, with_text0, changed0}
 use Rattle.amf0_tables.specs.Layout0.{TextRead0, new_text0, short_layout, long_layout, Read0, Reader0, items0, pairs0}
 use Rattle.amf0_tables.proofs.Layout0Contents.{Good0, table0, good0_moved, good_text0, table0_changed}
@@ -78,7 +78,7 @@ long_sound s (f ∷ fs) x b r =
 -- the text in each graph that completes
 pub text_there : (s : State0) (x : List ℕ) (g : Arena) → Larger (with_text0 s x).amf3.arena g → text_at g (length s.amf3.arena.texts) ≡ x
 text_there s x g l =
-    text_kept (with_text0 s x).amf3.arena g l (length s.amf3.arena.texts) (omega (arith, length-append s.amf3.arena.texts (x ∷ []))) ∙ get_or-append_seam s.amf3.arena.texts x [] []
+    text_stays (with_text0 s x).amf3.arena g l (length s.amf3.arena.texts) (omega (arith, length-append s.amf3.arena.texts (x ∷ []))) ∙ get_or-append_seam s.amf3.arena.texts x [] []
 
 pub completed_larger : (a g : Arena) → Completes a g → Larger a g
 completed_larger a g c = completes_larger a g (nodes_longer a.nodes g.nodes c.nodes) c

@@ -13,7 +13,7 @@ use Rattle.amf3_spelling.proofs.Amf3Rows.{spelled_by}
 use Rattle.amf3_spelling.proofs.Build.{Built, a_leaf, an_integer}
 use Rattle.amf3_spelling.proofs.BytesOf.{flat_contents}
 use Rattle.amf0_tables.specs.Tables0.{no_tables0}
-use Rattle.amf0_tables.specs.Parts0.{marker0_field, LeafBy0}
+use Rattle.amf0_tables.specs.Segments0.{marker0_field, LeafBy0}
 use Rattle.amf0_tables.specs.Spells0.{SpellsIn0, Spelled0, Switched}
 use Rattle.amf0_tables.specs.WorkedRows0.{the_a, five, Leaves0}
 use Rattle.amf0_tables.proofs.Build0.{spelled0_by, a_leaf0, a_null0, a_double0, a_switch}

@@ -9,7 +9,7 @@ pub mod Low
 pub mod LowLaws
 pub mod LowBounds
 pub mod BuiltLowering
-pub mod Kept0
+pub mod Stays0
 pub mod Fixed0
 pub mod Forget0
 pub mod Bytes

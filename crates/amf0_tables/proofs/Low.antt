@@ -123,8 +123,8 @@ module _ (g h : Graph) (P : ℕ → ℕ → Type 0) (nodes : (i j : ℕ) → P i
   }
 
 -- isomorphic graphs have isomorphic lowerings: the same pairs
-pub kept : (g h low other : Graph) → Isomorphic g h → IsLoweringOf g low → IsLoweringOf h other → Isomorphic low other
-kept g h low other o x y = record {
+pub lowered_alike : (g h low other : Graph) → Isomorphic g h → IsLoweringOf g low → IsLoweringOf h other → Isomorphic low other
+lowered_alike g h low other o x y = record {
   pairs = o.pairs;
   left = o.left;
   right = o.right;

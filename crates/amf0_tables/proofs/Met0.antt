@@ -15,11 +15,11 @@ use Rattle.amf_graph.proofs.NameOrder.{by_name_all_back}
 use Rattle.amf3_spelling.specs.Then.{Spelling, Then, Plain}
 use Rattle.amf0_tables.specs.Tables0.{Tables0, no_tables0, add_node0, add_done0}
 use Rattle.amf0_tables.specs.Lacks0.{IsShortName, enters0, entered}
-use Rattle.amf0_tables.specs.Parts0.{Short, Marked0, Values0, Pairs0, Count0, PairsBy0, is_empty}
+use Rattle.amf0_tables.specs.Segments0.{Short, Marked0, Values0, Pairs0, Count0, PairsBy0, is_empty}
 use Rattle.amf0_tables.specs.Spells0.{NodeBy0, Named0, Begun0, InlineIn0, SpellsIn0, IsSpelling0, Spells0}
 use Rattle.amf0_tables.specs.Meets.{Meets, over, past, again, first, IsMet}
 use Rattle.amf0_tables.proofs.Entered.{entered_enters, entered_distinct}
-use Rattle.amf0_tables.proofs.Kept0.{Keeps, Proper, proper_none, kept_node, keeps_plain, keeps_values, keeps_pairs, keeps_pairs_by, keeps_then, keeps_values_in, leaf_still}
+use Rattle.amf0_tables.proofs.Stays0.{Keeps, Proper, proper_none, stays_entered, keeps_plain, keeps_values, keeps_pairs, keeps_pairs_by, keeps_then, keeps_values_in, leaf_still}
 use Rattle.amf0_tables.proofs.Found0.{FineNode, FineAgain, Level, level_node, level_done}
 use Rattle.amf0_tables.proofs.Entered.{entered_at, take_front, right_at}
 use Rattle.amf0_tables.proofs.Meeting.{meets_prefix}
@@ -169,7 +169,7 @@ module _ (g : Graph) (skip : List ℕ) where
     covers_begun : (b : Bool) (i : ℕ) → Covers (Begun0 R canonical b g i) (node i ∷ [])
     covers_begun b i t fs t' p l x =
         let a = node_at g i in
-        let d = cover_node i a.head a.names a.values refl x.fits x.marker t x.rest t' ((kept_node g t i x.there x.new).proper p) l x.behind in
+        let d = cover_node i a.head a.names a.values refl x.fits x.marker t x.rest t' ((stays_entered g t i x.there x.new).proper p) l x.behind in
         record {
           level = d.covered.level;
           onward = λ ws all ks w f. let o = d.covered.onward ws all ks w f in (o.0, first i x.there x.new (subst (λ z. Meets g (t.amf3.done ++ i ∷ []) (z ++ ws) all o.0) d.order o.1), o.2);

@@ -9,16 +9,16 @@ use Rattle.amf_graph.specs.Graph.{null, Value, leaf, node, date, xml_document, o
 use Rattle.amf_graph.specs.Order.{Absent}
 use Rattle.amf_graph.proofs.Lists.{cons_same}
 use Rattle.amf3_spelling.specs.Headers3.{HeaderBy}
-use Rattle.amf3_spelling.specs.Parts3.{Lifted, word, value}
+use Rattle.amf3_spelling.specs.Segments3.{Lifted, word, value}
 use Rattle.amf3_spelling.specs.Spells3.{InlineIn, SpellsIn, Spelled3}
 use Rattle.amf3_spelling.specs.Tables.{plain, Words, no_words, add_entry, Tables, no_tables, with_words, add_node}
 use Rattle.amf3_spelling.specs.Then.{Spelling, Then, Plain}
 use Rattle.amf3_spelling.specs.Words3.{Text, given}
 use Rattle.amf3_spelling.specs.WorkedRows3.{items}
 use Rattle.amf3_spelling.proofs.Amf3Rows.{spelled_by, an_empty_array}
-use Rattle.amf3_spelling.proofs.Build.{Built, both, lifted, no_text, new_text, a_null, a_reference, a_node, no_parts, word_part, value_part, absent_nil, absent_cons, unnamed}
+use Rattle.amf3_spelling.proofs.Build.{Built, both, lifted, no_text, new_text, a_null, a_reference, a_node, no_segments, word_segment, value_segment, absent_nil, absent_cons, unnamed}
 use Rattle.amf0_tables.specs.Tables0.{Tables0, no_tables0, add_node0, add_done0, switched_to}
-use Rattle.amf0_tables.specs.Parts0.{marker0_field, Short, Values0, Pairs0, Count0, PairsBy0, is_empty}
+use Rattle.amf0_tables.specs.Segments0.{marker0_field, Short, Values0, Pairs0, Count0, PairsBy0, is_empty}
 use Rattle.amf0_tables.specs.Spells0.{NodeBy0, Switched, SpellsIn0, Spelled0}
 use Rattle.amf0_tables.specs.WorkedRows0.{the_a, the_c, open_traits, member, array_of, named_array, twice, only, five, Nodes0}
 use Rattle.amf0_tables.proofs.Build0.{spelled0_by, plainly, short, no_name, a_null0, a_reference0, a_node0, no_values, value_then, no_pairs, pair_then, a_switch}
@@ -153,9 +153,9 @@ object3 n c v b x w last =
     let h : Built (Lifted (HeaderBy canonical (object (open_traits c)) [] 11)) t = traits3 c b in
     a_node n canonical g 0 no_tables ((the_a, v) ∷ []) 11 (omega arith) (absent_nil 0) (refl, tt) refl refl (a_is, tt) (omega arith)
     (both _ _ t h
-    (word_part R canonical the_a (value v ∷ word [] ∷ []) h.after x
-    (value_part R canonical v (word [] ∷ []) (with_words h.after x.after) w
-    (word_part R canonical [] [] w.after last (no_parts R canonical (with_words w.after last.after))))))
+    (word_segment R canonical the_a (value v ∷ word [] ∷ []) h.after x
+    (value_segment R canonical v (word [] ∷ []) (with_words h.after x.after) w
+    (word_segment R canonical [] [] w.after last (no_segments R canonical (with_words w.after last.after))))))
 
 abbrev pub new_a : (w : Words) → Absent w.texts the_a → Built (Text canonical the_a) w
 new_a w h = new_text canonical the_a w a_is a_text_is (unnamed _ w.texts the_a h) (omega arith)

@@ -10,7 +10,7 @@ use Rattle.amf_graph.proofs.Lists.{no_entry}
 use Rattle.amf_graph.proofs.Places.{zipped, zipped_at, at_zipped}
 use Rattle.amf0_tables.specs.Tables0.{no_tables0}
 use Rattle.amf0_tables.specs.Spells0.{Spelled0}
-use Rattle.amf0_tables.proofs.Kept0.{proper_none, keeps_values_in}
+use Rattle.amf0_tables.proofs.Stays0.{proper_none, keeps_values_in}
 use Rattle.amf0_tables.proofs.Alike0.{Paired, alike0}
 
 -- two graphs that one list of bytes spells are isomorphic, in any two styles

@@ -1,7 +1,7 @@
 -- The worked verdicts: each is what reading the input computes to.
 use Rattle.std.proofs.Common.{◌≡◌, ℕ, true, false, List, [], ◌∷◌, length, refl, arith, nat_lt}
 use Rattle.std.proofs.lemmas.List.{length-take}
-use Rattle.amf_io.specs.Reading.{Decides, read}
+use Rattle.amf_io.specs.Outcomes.{Decides, read}
 use Rattle.amf_io.proofs.Inputs.{outcome_decides}
 use Rattle.amf_graph.specs.Building.{no_arena}
 use Rattle.amf3_layout.proofs.VerdictRows.{all_bytes, both_hold, are_bytes, is_short}

@@ -29,12 +29,12 @@ pub record IsReadyLowering (g h : Graph) : Type 0 where
   pub small : IsSmall h
   pub room : HasRoom h
 
-pub record LoweringIsKept : Type 0 where
+pub record GraphsHaveOneLowering : Type 0 where
   pub exist : (g : Graph) → IsSound g → (h : Graph) × IsLoweringOf g h
   pub alone : (g h k : Graph) → IsLoweringOf g h → IsLoweringOf g k → h ≡ k
   pub lowered : (g h : Graph) → IsLoweringOf g h → IsLowered h
   -- isomorphic graphs have isomorphic lowerings
-  pub kept : (g h low other : Graph) → Isomorphic g h → IsLoweringOf g low → IsLoweringOf h other → Isomorphic low other
+  pub lowered_alike : (g h low other : Graph) → Isomorphic g h → IsLoweringOf g low → IsLoweringOf h other → Isomorphic low other
   -- what is lowered already is isomorphic to its lowering
   pub same : (g h : Graph) → IsWhole g → IsLowered g → IsLoweringOf g h → Isomorphic g h
   pub whole : (g h : Graph) → IsWhole g → IsLoweringOf g h → IsWhole h

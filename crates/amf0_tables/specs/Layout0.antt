@@ -13,7 +13,7 @@ use Rattle.amf3_layout.specs.Layout3.{value_layout}
 use Rattle.amf0_tables.specs.declared.marker.Marker0.{Marker0}
 use Rattle.amf0_tables.specs.declared.marker.Marker0.TheVariants as marker
 use Rattle.amf0_tables.specs.Markers0.{marker0_at}
-use Rattle.amf0_tables.specs.Parts0.{is_empty}
+use Rattle.amf0_tables.specs.Segments0.{is_empty}
 use Rattle.amf0_tables.specs.Refusals0.{marker0_kind, index0_kind}
 use Rattle.amf0_tables.specs.Layout0State.{State0, switched, with_text0, with_class, class_head, with_done0, with_node0, changed0}
 

@@ -2,7 +2,7 @@
 pub mod Tables0
 pub mod Markers0
 pub mod Refusals0
-pub mod Parts0
+pub mod Segments0
 pub mod Spells0
 pub mod Lowered
 pub mod Met

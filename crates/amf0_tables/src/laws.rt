@@ -1,12 +1,12 @@
 ghost use Rattle.amf0_tables.specs.Form.{OneForm};
 ghost use Rattle.amf0_tables.specs.LawsCanonical0.{CanonicalConverts, CanonicalDecides0, CanonicalIsAlone0, IsomorphicHaveSameCanonical0, SameBytesAreIsomorphic0};
 ghost use Rattle.amf0_tables.specs.LawsLack0.{MetAgainIsTwice, SpellingOrLack0};
-ghost use Rattle.amf0_tables.specs.LawsLowering.{LoweringIsKept};
+ghost use Rattle.amf0_tables.specs.LawsLowering.{GraphsHaveOneLowering};
 
 /// A graph whose values the formats have has one lowering, which is lowered; isomorphic graphs have isomorphic ones, and a
 /// lowered graph is isomorphic to its own. What a builder finishes within its bounds has a lowering within them.
-pub fn lowering_is_kept()
-    ensures { LoweringIsKept }
+pub fn graphs_have_one_lowering()
+    ensures { GraphsHaveOneLowering }
 {}
 
 /// No graph has two canonical spellings in AMF 0.

@@ -14,9 +14,9 @@ mod verdict_laws;
 pub use facts::{fields_agree0, forgets0, lack_rows0, leaves0, lowerings, nodes0, verdict_rows0};
 pub use form::Form;
 pub use laws::{
-    canonical_converts, canonical0_decides, canonical0_is_alone, isomorphic_have_same_canonical0,
-    lowering_is_kept, met_again_is_twice, same_bytes0_are_isomorphic, spelling_or_lack0,
-    values_have_one_form,
+    canonical_converts, canonical0_decides, canonical0_is_alone, graphs_have_one_lowering,
+    isomorphic_have_same_canonical0, met_again_is_twice, same_bytes0_are_isomorphic,
+    spelling_or_lack0, values_have_one_form,
 };
 pub use layout_laws::{layouts0_are_of_spellings, layouts0_are_sound, values0_are_spellings};
 pub use marker::Marker0;

@@ -1,4 +1,4 @@
--- Parts one after the other are the values, or the pairs, of a node.
+-- Segments one after the other are the values, or the pairs, of a node.
 use Rattle.std.proofs.Common.{◌≡◌, ℕ, ◌+◌, ◌<◌, ◌^◌, Bool, true, false, List, [], ◌∷◌, ◌++◌, length, sym, refl, ap, ◌∙◌, subst, arith, append_assoc, append-nil}
 use Rattle.std.specs.Int.{to_be_bytes, w16}
 use Rattle.amf_io.specs.Field.{Field, flat, field, contents, u16_kind, text_kind, no_refusal}
@@ -8,9 +8,9 @@ use Rattle.amf_wire.specs.Text.{IsText}
 use Rattle.amf_graph.specs.Graph.{Value, Graph}
 use Rattle.amf3_spelling.specs.Then.{Spelling, Then}
 use Rattle.amf0_tables.specs.Tables0.{Tables0}
-use Rattle.amf0_tables.specs.Parts0.{marker0_field, Short, Values0, Pairs0, is_empty}
+use Rattle.amf0_tables.specs.Segments0.{marker0_field, Short, Values0, Pairs0, is_empty}
 use Rattle.amf0_tables.specs.Spells0.{SpellsIn0}
-use Rattle.amf0_write.specs.Writes0.{Part, values_then, pairs_then, IsCanonical, Parts}
+use Rattle.amf0_write.specs.Writes0.{Segment, values_then, pairs_then, IsCanonical, Segments}
 use Rattle.amf0_write.proofs.Heights0.{higher, values_more, pairs_more}
 
 pub contents_flat : (x : List ℕ) → flat (contents text_kind x) ≡ x
@@ -21,7 +21,7 @@ contents_flat (b ∷ x) = ap (λ w. b ∷ w) (append-nil x)
 pub name_fields : (x : List ℕ) → IsText x → length x < 2 ^ 16 → (fs : List Field) × Short x fs × (flat fs ≡ to_be_bytes w16 (length x) ++ x)
 name_fields x t l = (field (u16_kind no_refusal) (to_be_bytes w16 (length x)) ∷ contents text_kind x, (t, l, refl), ap (λ w. to_be_bytes w16 (length x) ++ w) (contents_flat x))
 
--- fields with the bytes of a part
+-- fields with the bytes of a segment
 pub record Fielded (A : Spelling Tables0) (t : Tables0) (b : List ℕ) (t' : Tables0) : Type 0 where
   pub fields : List Field
   pub spelled : A t fields t'
@@ -48,14 +48,14 @@ module _ (g : Graph) where
   canonical_fields : (may_end : Bool) (v : Value) (t : Tables0) (b : List ℕ) (t' : Tables0) → IsCanonical g v t b t' → (n : ℕ) × Fielded (At n may_end v) t b t'
   canonical_fields may_end v t b t' h = let o = h may_end in (o.0, record { fields = o.1; spelled = o.2; is = o.3 })
 
-  pub values_closed : (vs : List Value) (t : Tables0) (b : List ℕ) (t' : Tables0) → Parts g (values_then vs) t b t' → (n : ℕ) × Fielded (Values0 (At n) vs) t b t'
+  pub values_closed : (vs : List Value) (t : Tables0) (b : List ℕ) (t' : Tables0) → Segments g (values_then vs) t b t' → (n : ℕ) × Fielded (Values0 (At n) vs) t b t'
   values_closed [] t b t' h = (0, record { fields = []; spelled = (refl, h.1); is = h.0 })
   values_closed (v ∷ vs) t b t' h =
       let x = canonical_fields false v t h.front h.mid h.first in
       let y = values_closed vs h.mid h.back t' h.second in
       two x.0 y.0 false v (λ n. Values0 (At n) vs) (λ k. values_more (At y.0) (At (y.0 + k)) (higher g y.0 k) vs) t h.mid t' h.front h.back b x.1 y.1 h.joined
 
-  pub pairs_closed : (ps : List (List ℕ × Value)) (t : Tables0) (b : List ℕ) (t' : Tables0) → Parts g (pairs_then ps) t b t' → (n : ℕ) × Fielded (Pairs0 (At n) ps) t b t'
+  pub pairs_closed : (ps : List (List ℕ × Value)) (t : Tables0) (b : List ℕ) (t' : Tables0) → Segments g (pairs_then ps) t b t' → (n : ℕ) × Fielded (Pairs0 (At n) ps) t b t'
   pairs_closed [] t b t' h =
       let x = name_fields [] h.first.0 h.first.1 in
       let same : h.mid ≡ t = h.first.3 in
@@ -83,19 +83,19 @@ module _ (g : Graph) where
         },
       )
 
-  -- parts in two pieces
-  pub record Split (ps qs : List Part) (t : Tables0) (b : List ℕ) (t' : Tables0) : Type 0 where
+  -- segments in two runs
+  pub record Split (ps qs : List Segment) (t : Tables0) (b : List ℕ) (t' : Tables0) : Type 0 where
     pub front : List ℕ
     pub back : List ℕ
     pub mid : Tables0
     pub joined : b ≡ front ++ back
-    pub first : Parts g ps t front mid
-    pub second : Parts g qs mid back t'
+    pub first : Segments g ps t front mid
+    pub second : Segments g qs mid back t'
 
-  pub parts_split : (ps qs : List Part) (t : Tables0) (b : List ℕ) (t' : Tables0) → Parts g (ps ++ qs) t b t' → Split ps qs t b t'
-  parts_split [] qs t b t' h = record { front = []; back = b; mid = t; joined = refl; first = (refl, refl); second = h }
-  parts_split (p ∷ ps) qs t b t' h =
-      let o = parts_split ps qs h.mid h.back t' h.second in record {
+  pub segments_split : (ps qs : List Segment) (t : Tables0) (b : List ℕ) (t' : Tables0) → Segments g (ps ++ qs) t b t' → Split ps qs t b t'
+  segments_split [] qs t b t' h = record { front = []; back = b; mid = t; joined = refl; first = (refl, refl); second = h }
+  segments_split (p ∷ ps) qs t b t' h =
+      let o = segments_split ps qs h.mid h.back t' h.second in record {
         front = h.front ++ o.front;
         back = o.back;
         mid = o.mid;

@@ -24,7 +24,7 @@ use Rattle.amf0_tables.specs.Spells0.{Spells0}
 use Rattle.amf0_tables.specs.Tables0.{Tables0, no_tables0}
 use Rattle.amf0_tables.proofs.Entered.{take_front}
 use Rattle.amf0_tables.proofs.Found0.{Level}
-use Rattle.amf0_tables.proofs.Kept0.{Proper, proper_none, kept_done, keeps_values_in}
+use Rattle.amf0_tables.proofs.Stays0.{Proper, proper_none, stays_done, keeps_values_in}
 use Rattle.amf0_tables.proofs.LackTwice0.{met_again_is_twice}
 use Rattle.amf0_tables.proofs.Met0.{covers_spells}
 use Rattle.amf0_tables.proofs.Meeting.{meets_prefix, meets_stays, meets_first, meets_fixed, walk_meets}
@@ -149,7 +149,7 @@ begun {g} {all} {ks} h (first i l n w) = subst (λ z. Meets g (h ∷ []) z all k
 pub file_begins : (g : Graph) (h : ℕ) (order : List ℕ) → g.root ≡ node h → h < length g.nodes → enters0 (node_at g h).head ≡ true → IsOrder g order → FileLeft g h (tables0 (add_done no_tables h)) (values_met (node_at g h))
 file_begins g h order root there enters o =
     let w = walk_meets o in record {
-      proper = (kept_done g no_tables0 h there (λ k e. no_entry k h e)).proper (proper_none g);
+      proper = (stays_done g no_tables0 h there (λ k e. no_entry k h e)).proper (proper_none g);
       level = ap (λ b. cond b (h ∷ []) []) (sym enters);
       order = order;
       more = w.0;

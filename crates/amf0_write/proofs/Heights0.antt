@@ -4,7 +4,7 @@ use Rattle.amf_wire.specs.Style.{canonical}
 use Rattle.amf_graph.specs.Graph.{Value, leaf, node, Head, xml_document, date, array, object, wrapper, xml, bytes, ints, uints, doubles, values, dictionary, Graph, node_at}
 use Rattle.amf3_spelling.specs.Then.{Spelling, Then, Plain}
 use Rattle.amf0_tables.specs.Tables0.{Tables0, add_node0}
-use Rattle.amf0_tables.specs.Parts0.{Short, Values0, Pairs0, Count0, PairsBy0, is_empty}
+use Rattle.amf0_tables.specs.Segments0.{Short, Values0, Pairs0, Count0, PairsBy0, is_empty}
 use Rattle.amf0_tables.specs.Spells0.{NodeBy0, InlineIn0, SpellsIn0}
 use Rattle.amf0_tables.proofs.Forget0.{Implies}
 

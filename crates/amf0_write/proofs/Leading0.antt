@@ -1,4 +1,4 @@
--- From parts that were to be written to those that are left, step by step, and where a writer stops.
+-- From segments that were to be written to those that are left, step by step, and where a writer stops.
 use Rattle.std.proofs.Common.{◌≡◌, ℕ, suc, ◌+◌, ◌-◌, ◌<◌, ◌≤◌, ◌^◌, Bool, true, false, cond, List, [], ◌∷◌, ◌++◌, length, take, slice_get, Some, sym, refl, ap, ◌∙◌, subst, inl, inr, arith, append_assoc, append-nil}
 use Rattle.std.specs.Int.{to_be_bytes, w16, w32, w64}
 use Rattle.std.proofs.lemmas.Bool.{cases_lt}
@@ -19,7 +19,7 @@ use Rattle.amf_graph.proofs.Walks.{distinct_push}
 use Rattle.amf_tables.specs.FirstPlace.{IsFirstPlace}
 use Rattle.amf0_tables.specs.Lacks0.{HasNoForm, HasShortNames, enters0, is_loose0, entered}
 use Rattle.amf0_tables.specs.Meets.{Meets, past, again, first, IsAgain}
-use Rattle.amf0_tables.specs.Parts0.{marker0_field, Long}
+use Rattle.amf0_tables.specs.Segments0.{marker0_field, Long}
 use Rattle.amf0_tables.specs.Refusals0.{index0_kind}
 use Rattle.amf0_tables.specs.Spells0.{Spells0}
 use Rattle.amf0_tables.specs.Tables0.{Tables0, add_node0, add_done0}
@@ -28,7 +28,7 @@ use Rattle.amf0_tables.proofs.Meeting.{meets_prefix, meets_stays, meets_first}
 use Rattle.amf0_write.specs.declared.output.Output.{Output}
 use Rattle.amf0_write.specs.PartLacks0.{outside_of, HasNoIndex, PlaceLacks0}
 use Rattle.amf0_write.specs.Written0.{AreTables0}
-use Rattle.amf0_write.specs.Writes0.{tables_of, done_of, IsDone, Adds, AddsBy, Part, name, value, ending, part_values, IsLeafSpelled, IsCanonical, Parts, Leads, Stops}
+use Rattle.amf0_write.specs.Writes0.{tables_of, done_of, IsDone, Adds, AddsBy, Segment, name, value, ending, segment_values, IsLeafSpelled, IsCanonical, Segments, Leads, Stops}
 use Rattle.amf0_write.proofs.Closing0.{contents_flat, name_fields}
 use Rattle.amf0_write.proofs.Grown0.{grown_still, grown_then, same_outside, count_outside, rank_is, entered_in}
 
@@ -63,7 +63,7 @@ met_first n (first i l m w) = w
 again_more : (n : ℕ) (rest ks : List ℕ) → ks ≡ n ∷ rest → (k : ℕ) → IsAgain rest k → IsAgain ks k
 again_more n rest ks e k a = (suc a.0, ap (λ w. slice_get w (suc a.0)) e ∙ a.1)
 
-pub values_append : (ps qs : List Part) → part_values (ps ++ qs) ≡ part_values ps ++ part_values qs
+pub values_append : (ps qs : List Segment) → segment_values (ps ++ qs) ≡ segment_values ps ++ segment_values qs
 values_append [] qs = refl
 values_append (name x ∷ ps) qs = values_append ps qs
 values_append (value v ∷ ps) qs = ap (λ w. v ∷ w) (values_append ps qs)
@@ -112,59 +112,59 @@ plain_done a (NodeRef i) o m n f = absurd (n i refl)
 pub adds_then : (b c : List ℕ) (o m n : Output) → Adds b o m → Adds c m n → Adds (b ++ c) o n
 adds_then b c o m n h k = record { bytes = k.bytes ∙ ap (λ w. w ++ c) h.bytes ∙ append_assoc o.bytes.items b c; tables = k.tables ∙ h.tables; loose = k.loose ∙ h.loose }
 
--- What leads from parts to parts.
+-- What leads from segments to segments.
 
 module _ (g : Graph) where
-  pub leads_same : (ps qs : List Part) (o : Output) → ps ≡ qs → Leads g ps qs o o
+  pub leads_same : (ps qs : List Segment) (o : Output) → ps ≡ qs → Leads g ps qs o o
   leads_same ps qs o e = record {
     bytes = [];
     appended = sym (append-nil o.bytes.items);
-    completes = λ more t h. subst (λ w. Parts g w (tables_of o) more t) (sym e) h;
-    meets = λ all ks w. (ks, subst (λ z. Meets g (done_of o) (part_values z) all ks) e w, λ k a. a);
+    completes = λ more t h. subst (λ w. Segments g w (tables_of o) more t) (sym e) h;
+    meets = λ all ks w. (ks, subst (λ z. Meets g (done_of o) (segment_values z) all ks) e w, λ k a. a);
     later = omega arith;
     grown = grown_still g o o (refl, refl);
     sound = λ h. h;
   }
 
-  pub leads_then : (ps qs rs : List Part) (o m n : Output) → Leads g ps qs o m → Leads g qs rs m n → Leads g ps rs o n
+  pub leads_then : (ps qs rs : List Segment) (o m n : Output) → Leads g ps qs o m → Leads g qs rs m n → Leads g ps rs o n
   leads_then ps qs rs o m n h k = record {
     bytes = h.bytes ++ k.bytes;
     appended = k.appended ∙ ap (λ w. w ++ k.bytes) h.appended ∙ append_assoc o.bytes.items h.bytes k.bytes;
-    completes = λ more t d. subst (λ w. Parts g ps (tables_of o) w t) (sym (append_assoc h.bytes k.bytes more)) (h.completes (k.bytes ++ more) t (k.completes more t d));
+    completes = λ more t d. subst (λ w. Segments g ps (tables_of o) w t) (sym (append_assoc h.bytes k.bytes more)) (h.completes (k.bytes ++ more) t (k.completes more t d));
     meets = λ all ks w. let x = h.meets all ks w in let y = k.meets all x.0 x.1 in (y.0, y.1, λ j a. x.2 j (y.2 j a));
     later = omega (arith, h.later, k.later);
     grown = grown_then g o m n h.grown k.grown;
     sound = λ s. k.sound (h.sound s);
   }
 
-  pub leads_from : (ps qs rs : List Part) (o m : Output) → ps ≡ qs → Leads g qs rs o m → Leads g ps rs o m
+  pub leads_from : (ps qs rs : List Segment) (o m : Output) → ps ≡ qs → Leads g qs rs o m → Leads g ps rs o m
   leads_from ps qs rs o m e h = subst (λ w. Leads g w rs o m) (sym e) h
 
-  pub leads_to : (ps qs rs : List Part) (o m : Output) → qs ≡ rs → Leads g ps qs o m → Leads g ps rs o m
+  pub leads_to : (ps qs rs : List Segment) (o m : Output) → qs ≡ rs → Leads g ps qs o m → Leads g ps rs o m
   leads_to ps qs rs o m e h = subst (λ w. Leads g ps w o m) e h
 
-  -- one part that is no node
-  leads_part : (p : Part) (b : List ℕ) (ps : List Part) (o m : Output) → Adds b o m → ((all ks : List ℕ) → Meets g (done_of o) (part_values (p ∷ ps)) all ks → Meets g (done_of o) (part_values ps) all ks) → ((more : List ℕ) (t u : Tables0) → Parts g ps t more u → Parts g (p ∷ ps) t (b ++ more) u) → Leads g (p ∷ ps) ps o m
-  leads_part p b ps o m h pass whole = record {
+  -- one segment that is no node
+  leads_segment : (p : Segment) (b : List ℕ) (ps : List Segment) (o m : Output) → Adds b o m → ((all ks : List ℕ) → Meets g (done_of o) (segment_values (p ∷ ps)) all ks → Meets g (done_of o) (segment_values ps) all ks) → ((more : List ℕ) (t u : Tables0) → Segments g ps t more u → Segments g (p ∷ ps) t (b ++ more) u) → Leads g (p ∷ ps) ps o m
+  leads_segment p b ps o m h pass whole = record {
     bytes = b;
     appended = h.bytes;
-    completes = λ more t d. subst (λ u. Parts g (p ∷ ps) u (b ++ more) t) h.tables (whole more (tables_of m) t d);
-    meets = λ all ks w. (ks, subst (λ z. Meets g z (part_values ps) all ks) (sym (same_done o m h.tables)) (pass all ks w), λ k a. a);
+    completes = λ more t d. subst (λ u. Segments g (p ∷ ps) u (b ++ more) t) h.tables (whole more (tables_of m) t d);
+    meets = λ all ks w. (ks, subst (λ z. Meets g z (segment_values ps) all ks) (sym (same_done o m h.tables)) (pass all ks w), λ k a. a);
     later = omega (arith, ap length (same_done o m h.tables));
     grown = grown_still g o m (h.tables, h.loose);
     sound = λ s. subst (AreTables0 g) (sym h.tables) s;
   }
 
-  pub leads_name : (x b : List ℕ) (ps : List Part) (o m : Output) → IsText x → length x < 2 ^ 16 → b ≡ to_be_bytes w16 (length x) ++ x → Adds b o m → Leads g (name x ∷ ps) ps o m
-  leads_name x b ps o m t l e h = leads_part (name x) b ps o m h (λ all ks w. w) (λ more u v d. record { front = b; back = more; mid = u; joined = refl; first = (t, l, e, refl); second = d })
+  pub leads_name : (x b : List ℕ) (ps : List Segment) (o m : Output) → IsText x → length x < 2 ^ 16 → b ≡ to_be_bytes w16 (length x) ++ x → Adds b o m → Leads g (name x ∷ ps) ps o m
+  leads_name x b ps o m t l e h = leads_segment (name x) b ps o m h (λ all ks w. w) (λ more u v d. record { front = b; back = more; mid = u; joined = refl; first = (t, l, e, refl); second = d })
 
-  pub leads_end : (ps : List Part) (o m : Output) → Adds (0x09 ∷ []) o m → Leads g (ending ∷ ps) ps o m
-  leads_end ps o m h = leads_part ending (0x09 ∷ []) ps o m h (λ all ks w. w) (λ more u v d. record { front = 0x09 ∷ []; back = more; mid = u; joined = refl; first = (refl, refl); second = d })
+  pub leads_end : (ps : List Segment) (o m : Output) → Adds (0x09 ∷ []) o m → Leads g (ending ∷ ps) ps o m
+  leads_end ps o m h = leads_segment ending (0x09 ∷ []) ps o m h (λ all ks w. w) (λ more u v d. record { front = 0x09 ∷ []; back = more; mid = u; joined = refl; first = (refl, refl); second = d })
 
-  pub leads_leaf : (x : Leaf) (b : List ℕ) (ps : List Part) (o m : Output) → IsLeafSpelled x b → Adds b o m → Leads g (value (leaf x) ∷ ps) ps o m
-  leads_leaf x b ps o m l h = leads_part (value (leaf x)) b ps o m h (λ all ks w. past_leaf w) (λ more u v d. record { front = b; back = more; mid = u; joined = refl; first = leaf_canonical g x u b l; second = d })
+  pub leads_leaf : (x : Leaf) (b : List ℕ) (ps : List Segment) (o m : Output) → IsLeafSpelled x b → Adds b o m → Leads g (value (leaf x) ∷ ps) ps o m
+  leads_leaf x b ps o m l h = leads_segment (value (leaf x)) b ps o m h (λ all ks w. past_leaf w) (λ more u v d. record { front = b; back = more; mid = u; joined = refl; first = leaf_canonical g x u b l; second = d })
 
-  pub leads_plain : (a : Arena) (v : Stored) (ps : List Part) (o m : Output) → ((n : NodeId) → v ≡ NodeRef n → ⊥) → ((x : Leaf) → value_content a v ≡ leaf x → AddsBy (IsLeafSpelled x) o m) → Leads g (value (value_content a v) ∷ ps) ps o m
+  pub leads_plain : (a : Arena) (v : Stored) (ps : List Segment) (o m : Output) → ((n : NodeId) → v ≡ NodeRef n → ⊥) → ((x : Leaf) → value_content a v ≡ leaf x → AddsBy (IsLeafSpelled x) o m) → Leads g (value (value_content a v) ∷ ps) ps o m
   leads_plain a Undefined ps o m n f = let h = f undefined refl in leads_leaf undefined h.0 ps o m h.1 h.2
   leads_plain a Null ps o m n f = let h = f null refl in leads_leaf null h.0 ps o m h.1 h.2
   leads_plain a (Flag b) ps o m n f = let h = f (boolean b) refl in leads_leaf (boolean b) h.0 ps o m h.1 h.2
@@ -174,7 +174,7 @@ module _ (g : Graph) where
   leads_plain a (NodeRef i) ps o m n f = absurd (n i refl)
 
   -- a node by its index
-  pub leads_named : (i place : ℕ) (ps : List Part) (o m : Output) → AreTables0 g (tables_of o) → slice_get (tables_of o).nodes place ≡ Some i → place < 2 ^ 16 → Adds (0x07 ∷ to_be_bytes w16 place) o m → Leads g (value (node i) ∷ ps) ps o m
+  pub leads_named : (i place : ℕ) (ps : List Segment) (o m : Output) → AreTables0 g (tables_of o) → slice_get (tables_of o).nodes place ≡ Some i → place < 2 ^ 16 → Adds (0x07 ∷ to_be_bytes w16 place) o m → Leads g (value (node i) ∷ ps) ps o m
   leads_named i place ps o m s at l h =
       let t = tables_of o in
       let k = named_done g t place i s at in
@@ -187,7 +187,7 @@ module _ (g : Graph) where
         bytes = 0x07 ∷ to_be_bytes w16 place;
         appended = h.bytes;
         completes = λ more u d. record { front = 0x07 ∷ to_be_bytes w16 place; back = more; mid = tables_of m; joined = refl; first = spelled; second = d };
-        meets = λ all ks w. let x = met_again k.0 k.1 w in (x.1, subst (λ z. Meets g z (part_values ps) all x.1) (sym (same_done o m h.tables)) x.3, again_more x.0 x.1 ks x.4);
+        meets = λ all ks w. let x = met_again k.0 k.1 w in (x.1, subst (λ z. Meets g z (segment_values ps) all x.1) (sym (same_done o m h.tables)) x.3, again_more x.0 x.1 ks x.4);
         later = omega (arith, ap length (same_done o m h.tables));
         grown = grown_still g o m (h.tables, h.loose);
         sound = λ q. subst (AreTables0 g) (sym h.tables) q;
@@ -211,16 +211,16 @@ module _ (g : Graph) where
   more_again outside before all rest ks f place i FarReference z = (z.0, z.1, f place z.2)
   more_again outside before all rest ks f place i LongFile z = z
 
-  pub stops_behind : (ps qs : List Part) (o m : Output) → Leads g ps qs o m → Stops g qs m → Stops g ps o
+  pub stops_behind : (ps qs : List Segment) (o m : Output) → Leads g ps qs o m → Stops g qs m → Stops g ps o
   stops_behind ps qs o m h s before l all ks w =
       let x = h.meets all ks w in
       let z = s before (omega (arith, l, h.later)) all x.0 x.1 in
       (z.0, z.1, z.2, z.3, subst (λ outside. PlaceLacks0 g outside before all ks z.0 z.1 z.2) (same_outside g o m h.grown) (more_again (outside_of g (tables_of m)) before all x.0 ks x.2 z.0 z.1 z.2 z.4))
 
-  pub stops_form : (i : ℕ) (ps : List Part) (o : Output) → Absent (done_of o) i → HasNoForm (node_at g i) (node_at g i).head → Stops g (value (node i) ∷ ps) o
+  pub stops_form : (i : ℕ) (ps : List Segment) (o : Output) → Absent (done_of o) i → HasNoForm (node_at g i) (node_at g i).head → Stops g (value (node i) ∷ ps) o
   stops_form i ps o new h before l all ks w = (length (done_of o), i, NoForm, meets_first (done_of o) i (met_first new w), (l, h))
 
-  pub stops_name : (i : ℕ) (ps : List Part) (o : Output) → Absent (done_of o) i → (HasShortNames (node_at g i) → ⊥) → Stops g (value (node i) ∷ ps) o
+  pub stops_name : (i : ℕ) (ps : List Segment) (o : Output) → Absent (done_of o) i → (HasShortNames (node_at g i) → ⊥) → Stops g (value (node i) ∷ ps) o
   stops_name i ps o new h before l all ks w = (length (done_of o), i, LongName, meets_first (done_of o) i (met_first new w), (l, h))
 
   -- how many of those that can be named come before a node that was done
@@ -230,7 +230,7 @@ module _ (g : Graph) where
       let within = slice_get_within d k i e in
       ap (λ z. length (entered g z)) (ap (λ z. take k z) pre.1 ∙ take_front d pre.0 k (omega (arith, within)))
 
-  pub stops_loose : (i : ℕ) (ps : List Part) (o : Output) → AreTables0 g (tables_of o) → IsDone (done_of o) i → Absent (tables_of o).nodes i → Stops g (value (node i) ∷ ps) o
+  pub stops_loose : (i : ℕ) (ps : List Segment) (o : Output) → AreTables0 g (tables_of o) → IsDone (done_of o) i → Absent (tables_of o).nodes i → Stops g (value (node i) ∷ ps) o
   stops_loose i ps o s (k, e) none before l all ks w =
       let x = met_again k e w in
       (x.0, i, Shared, meets_stays x.3 x.0 i x.2, (go (enters0 (node_at g i).head) refl x.0 x.2 (rank_then (done_of o) x.0 i x.2 x.3), (0, ap (λ z. slice_get z 0) x.4)))
@@ -245,7 +245,7 @@ module _ (g : Graph) where
             absurd (none q (at_right s.outside (tables_of o).nodes (length (entered g (take n (done_of o)))) q i p (subst (λ z. slice_get z (length (entered g (take n (done_of o)))) ≡ Some i) (sym s.level) (entered_at g (done_of o) n i at f)))))
       ]
 
-  pub stops_far : (i place : ℕ) (ps : List Part) (o : Output) → AreTables0 g (tables_of o) → IsFirstPlace (tables_of o).nodes i place → 2 ^ 16 ≤ place → Stops g (value (node i) ∷ ps) o
+  pub stops_far : (i place : ℕ) (ps : List Segment) (o : Output) → AreTables0 g (tables_of o) → IsFirstPlace (tables_of o).nodes i place → 2 ^ 16 ≤ place → Stops g (value (node i) ∷ ps) o
   stops_far i place ps o s at far before l all ks w =
       let d = done_of o in
       let done = named_done g (tables_of o) place i s at.0 in

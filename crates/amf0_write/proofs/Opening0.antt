@@ -14,29 +14,29 @@ use Rattle.amf_graph.proofs.Lists.{length_pushed}
 use Rattle.amf_graph.proofs.NameOrder.{by_name_again}
 use Rattle.amf0_tables.specs.Lacks0.{enters0, is_loose0}
 use Rattle.amf0_tables.specs.Meets.{Meets}
-use Rattle.amf0_tables.specs.Parts0.{marker0_field}
+use Rattle.amf0_tables.specs.Segments0.{marker0_field}
 use Rattle.amf0_tables.specs.Spells0.{NodeBy0, SpellsIn0, IsOpenTraits}
 use Rattle.amf0_tables.specs.Tables0.{Tables0, add_node0, add_done0}
 use Rattle.amf0_write.specs.declared.output.Output.{Output}
 use Rattle.amf0_write.specs.Written0.{AreTables0}
-use Rattle.amf0_write.specs.Writes0.{tables_of, done_of, Adds, Part, value, values_then, pairs_then, part_values, IsCanonical, Parts, Leads, Opens, plain, typed, ecma, strict, Opened}
+use Rattle.amf0_write.specs.Writes0.{tables_of, done_of, Adds, Segment, value, values_then, pairs_then, segment_values, IsCanonical, Segments, Leads, Opens, plain, typed, ecma, strict, Opened}
 use Rattle.amf0_write.proofs.Grown0.{grown_node, grown_loose}
-use Rattle.amf0_write.proofs.Closing0.{name_fields, values_closed, pairs_closed, parts_split}
+use Rattle.amf0_write.proofs.Closing0.{name_fields, values_closed, pairs_closed, segments_split}
 use Rattle.amf0_write.proofs.Leading0.{long_fields, met_first, values_append, sound_node, sound_done}
 
-values_there : (vs : List Value) → part_values (values_then vs) ≡ vs
+values_there : (vs : List Value) → segment_values (values_then vs) ≡ vs
 values_there [] = refl
 values_there (v ∷ vs) = ap (λ w. v ∷ w) (values_there vs)
 
-pairs_there : (ps : List (List ℕ × Value)) → part_values (pairs_then ps) ≡ seconds ps
+pairs_there : (ps : List (List ℕ × Value)) → segment_values (pairs_then ps) ≡ seconds ps
 pairs_there [] = refl
 pairs_there (p ∷ ps) = ap (λ w. p.1 ∷ w) (pairs_there ps)
 
 pub no_sealed : (a : Node) (c : Traits) → a.head ≡ object c → IsOpenTraits c → Fits a.head a.names a.values → a.values ≡ []
 no_sealed a c e o f = nil_from_length a.values ((subst (λ h. Fits h a.names a.values) e f).0 ∙ ap length o.unsealed)
 
--- the parts meet what the node's values are
-opens_values : (a : Node) (b : List ℕ) (ps : List Part) → Opens a b ps → Fits a.head a.names a.values → part_values ps ≡ values_met a
+-- the segments meet what the node's values are
+opens_values : (a : Node) (b : List ℕ) (ps : List Segment) → Opens a b ps → Fits a.head a.names a.values → segment_values ps ≡ values_met a
 opens_values a b ps (plain c e o n) f = pairs_there (by_name a.names) ∙ sym (object_met a c e (no_sealed a c e o f))
   where
     object_met : (a : Node) (c : Traits) → a.head ≡ object c → a.values ≡ [] → values_met a ≡ seconds (by_name a.names)
@@ -55,7 +55,7 @@ opens_values a b ps (strict e n l) f = values_there a.values ∙ sym (array_met 
     array_met a e n = rw (e, n) refl
 
 -- an array or an object enters
-opens_enters : (a : Node) (b : List ℕ) (ps : List Part) → Opens a b ps → enters0 a.head ≡ true
+opens_enters : (a : Node) (b : List ℕ) (ps : List Segment) → Opens a b ps → enters0 a.head ≡ true
 opens_enters a b ps (plain c e o n) = ap enters0 e
 opens_enters a b ps (typed c e o n t l) = ap enters0 e
 opens_enters a b ps (ecma e n m l) = ap enters0 e
@@ -69,7 +69,7 @@ record Behind (g : Graph) (i : ℕ) (a : Node) (t : Tables0) (b : List ℕ) (t' 
   spelled : NodeBy0 (SpellsIn0 height canonical g) canonical i a.head a.names a.values marker t rest t'
   is : b ≡ marker ∷ flat rest
 
-behind : (g : Graph) (i : ℕ) (a : Node) (b c : List ℕ) (ps : List Part) (t t' : Tables0) → Opens a b ps → Parts g ps (add_node0 t i) c t' → Behind g i a t (b ++ c) t'
+behind : (g : Graph) (i : ℕ) (a : Node) (b c : List ℕ) (ps : List Segment) (t t' : Tables0) → Opens a b ps → Segments g ps (add_node0 t i) c t' → Behind g i a t (b ++ c) t'
 behind g i a b c ps t t' (plain k e o n) h =
     let x = pairs_closed g (by_name a.names) (add_node0 t i) c t' h in
     record {
@@ -163,39 +163,39 @@ module _ (g : Graph) (i : ℕ) (there : i < length g.nodes) (fits : Fits (node_a
     x.is,
   )
 
-  -- an array or an object that begins: its parts are left
-  pub leads_opened : (before after : List Part) (o p n : Output) → Absent (done_of o) i → tables_of p ≡ add_node0 (tables_of o) i → p.loose ≡ o.loose → p.bytes ≡ o.bytes → Opened (node_at g i) before after p n → Leads g (value (node i) ∷ before) after o n
+  -- an array or an object that begins: its segments are left
+  pub leads_opened : (before after : List Segment) (o p n : Output) → Absent (done_of o) i → tables_of p ≡ add_node0 (tables_of o) i → p.loose ≡ o.loose → p.bytes ≡ o.bytes → Opened (node_at g i) before after p n → Leads g (value (node i) ∷ before) after o n
   leads_opened before after o p n new e q b x =
       let same : tables_of n ≡ add_node0 (tables_of o) i = x.adds.tables ∙ e in
       let done : done_of n ≡ done_of o ++ i ∷ [] = ap (λ (t : Tables0). t.amf3.done) same in
-      let met : part_values after ≡ values_met (node_at g i) ++ part_values before = ap part_values x.left ∙ values_append x.parts before ∙ ap (λ w. w ++ part_values before) (opens_values (node_at g i) x.bytes x.parts x.is fits) in record {
+      let met : segment_values after ≡ values_met (node_at g i) ++ segment_values before = ap segment_values x.left ∙ values_append x.segments before ∙ ap (λ w. w ++ segment_values before) (opens_values (node_at g i) x.bytes x.segments x.is fits) in record {
         bytes = x.bytes;
         appended = x.adds.bytes ∙ ap (λ w. w.items ++ x.bytes) b;
         completes = λ more t d.
-            let s = parts_split g x.parts before (tables_of n) more t (subst (λ w. Parts g w (tables_of n) more t) x.left d) in record {
+            let s = segments_split g x.segments before (tables_of n) more t (subst (λ w. Segments g w (tables_of n) more t) x.left d) in record {
               front = x.bytes ++ s.front;
               back = s.back;
               mid = s.mid;
               joined = ap (λ w. x.bytes ++ w) s.joined ∙ sym (append_assoc x.bytes s.front s.back);
-              first = begun (tables_of o) (x.bytes ++ s.front) s.mid new (behind g i (node_at g i) x.bytes s.front x.parts (tables_of o) s.mid x.is (subst (λ u. Parts g x.parts u s.front s.mid) same s.first));
+              first = begun (tables_of o) (x.bytes ++ s.front) s.mid new (behind g i (node_at g i) x.bytes s.front x.segments (tables_of o) s.mid x.is (subst (λ u. Segments g x.segments u s.front s.mid) same s.first));
               second = s.second;
             };
-        meets = λ all ks w. (ks, subst (λ z. Meets g z (part_values after) all ks) (sym done) (subst (λ z. Meets g (done_of o ++ i ∷ []) z all ks) (sym met) (met_first new w)), λ k a. a);
+        meets = λ all ks w. (ks, subst (λ z. Meets g z (segment_values after) all ks) (sym done) (subst (λ z. Meets g (done_of o ++ i ∷ []) z all ks) (sym met) (met_first new w)), λ k a. a);
         later = omega (arith, ap length done, length_pushed (done_of o) i);
-        grown = grown_node g i o n (opens_enters (node_at g i) x.bytes x.parts x.is) same (x.adds.loose ∙ ap (λ w. w.items) q);
-        sound = λ s. subst (AreTables0 g) (sym same) (sound_node g (tables_of o) i (opens_enters (node_at g i) x.bytes x.parts x.is) new s);
+        grown = grown_node g i o n (opens_enters (node_at g i) x.bytes x.segments x.is) same (x.adds.loose ∙ ap (λ w. w.items) q);
+        sound = λ s. subst (AreTables0 g) (sym same) (sound_node g (tables_of o) i (opens_enters (node_at g i) x.bytes x.segments x.is) new s);
       }
 
   -- a date or an XML document
-  pub leads_loose : (b : List ℕ) (before : List Part) (o p n : Output) (id : NodeId) → id.0 ≡ i → Absent (done_of o) i → tables_of p ≡ add_done0 (tables_of o) i → p.loose.items ≡ o.loose.items ++ id ∷ [] → p.bytes ≡ o.bytes → Loose (node_at g i) b → Adds b p n → Leads g (value (node i) ∷ before) before o n
+  pub leads_loose : (b : List ℕ) (before : List Segment) (o p n : Output) (id : NodeId) → id.0 ≡ i → Absent (done_of o) i → tables_of p ≡ add_done0 (tables_of o) i → p.loose.items ≡ o.loose.items ++ id ∷ [] → p.bytes ≡ o.bytes → Loose (node_at g i) b → Adds b p n → Leads g (value (node i) ∷ before) before o n
   leads_loose b before o p n id k new e q same_bytes x h =
       let same : tables_of n ≡ add_done0 (tables_of o) i = h.tables ∙ e in
       let done : done_of n ≡ done_of o ++ i ∷ [] = ap (λ (t : Tables0). t.amf3.done) same in
-      let met : part_values before ≡ values_met (node_at g i) ++ part_values before = ap (λ w. w ++ part_values before) (sym (loose_values (node_at g i) b x fits)) in record {
+      let met : segment_values before ≡ values_met (node_at g i) ++ segment_values before = ap (λ w. w ++ segment_values before) (sym (loose_values (node_at g i) b x fits)) in record {
         bytes = b;
         appended = h.bytes ∙ ap (λ w. w.items ++ b) same_bytes;
         completes = λ more t d. record { front = b; back = more; mid = tables_of n; joined = refl; first = subst (λ u. IsCanonical g (node i) (tables_of o) b u) (sym same) (begun (tables_of o) b (add_done0 (tables_of o) i) new (loose_behind g i (node_at g i) b (tables_of o) x)); second = d };
-        meets = λ all ks w. (ks, subst (λ z. Meets g z (part_values before) all ks) (sym done) (subst (λ z. Meets g (done_of o ++ i ∷ []) z all ks) (sym met) (met_first new w)), λ k a. a);
+        meets = λ all ks w. (ks, subst (λ z. Meets g z (segment_values before) all ks) (sym done) (subst (λ z. Meets g (done_of o ++ i ∷ []) z all ks) (sym met) (met_first new w)), λ k a. a);
         later = omega (arith, ap length done, length_pushed (done_of o) i);
         grown = grown_loose g i o n id k (loose_enters (node_at g i) b x) same (h.loose ∙ q);
         sound = λ s. subst (AreTables0 g) (sym same) (sound_done g (tables_of o) i (loose_enters (node_at g i) b x) (loose_is (node_at g i) b x) new s);

@@ -15,8 +15,8 @@ use Rattle.amf0_write.specs.declared.output.Output.{Output}
 use Rattle.amf0_write.specs.declared.stop.Stop.{Stop}
 use Rattle.amf0_write.specs.declared.stop.Stop.TheVariants.{Lack}
 use Rattle.amf0_write.specs.declared.unwritten.Unwritten.{Unwritten}
-use Rattle.amf0_write.specs.Unwritten0.{run_parts, next_parts, parts_left, IsRunOf, AreRunsOf, run_turns, turns_left, Falls}
-use Rattle.amf0_write.specs.Writes0.{Part, name, value, pairs_then, Leads}
+use Rattle.amf0_write.specs.Unwritten0.{run_segments, next_segments, segments_left, IsRunOf, AreRunsOf, run_turns, turns_left, Falls}
+use Rattle.amf0_write.specs.Writes0.{Segment, name, value, pairs_then, Leads}
 use Rattle.amf0_write.proofs.Leading0.{leads_then, leads_from}
 use denote.Ref.{Bor}
 
@@ -42,16 +42,16 @@ rest_of P all ws v e h = each_left P ws (v ∷ []) (subst (λ w. AllByRecursion 
 pub top_of : {X : Type 0} (P : X → Type 0) (all ws : List X) (v : X) → all ≡ ws ++ v ∷ [] → AllByRecursion P all → P v
 top_of P all ws v e h = (each_right P ws (v ∷ []) (subst (λ w. AllByRecursion P w) e h)).0
 
-parts_push : (a : Arena) (runs : List Unwritten) (run : Unwritten) → parts_left a (runs ++ run ∷ []) ≡ run_parts a run ++ parts_left a runs
-parts_push a [] run = sym (append-nil (run_parts a run))
-parts_push a (r ∷ runs) run = ap (λ w. w ++ run_parts a r) (parts_push a runs run) ∙ append_assoc (run_parts a run) (parts_left a runs) (run_parts a r)
+segments_push : (a : Arena) (runs : List Unwritten) (run : Unwritten) → segments_left a (runs ++ run ∷ []) ≡ run_segments a run ++ segments_left a runs
+segments_push a [] run = sym (append-nil (run_segments a run))
+segments_push a (r ∷ runs) run = ap (λ w. w ++ run_segments a r) (segments_push a runs run) ∙ append_assoc (run_segments a run) (segments_left a runs) (run_segments a r)
 
 turns_push : (runs : List Unwritten) (run : Unwritten) → turns_left (runs ++ run ∷ []) ≡ run_turns run + turns_left runs
 turns_push [] run = refl
 turns_push (r ∷ runs) run = omega (arith, turns_push runs run)
 
-pub parts_pushed : (a : Arena) (runs now : List Unwritten) (run : Unwritten) → now ≡ runs ++ run ∷ [] → parts_left a now ≡ run_parts a run ++ parts_left a runs
-parts_pushed a runs now run e = ap (parts_left a) e ∙ parts_push a runs run
+pub segments_pushed : (a : Arena) (runs now : List Unwritten) (run : Unwritten) → now ≡ runs ++ run ∷ [] → segments_left a now ≡ run_segments a run ++ segments_left a runs
+segments_pushed a runs now run e = ap (segments_left a) e ∙ segments_push a runs run
 
 pub turns_pushed : (runs now : List Unwritten) (run : Unwritten) → now ≡ runs ++ run ∷ [] → turns_left now ≡ run_turns run + turns_left runs
 turns_pushed runs now run e = ap turns_left e ∙ turns_push runs run
@@ -64,11 +64,11 @@ pub runs_pushed : (g : RootedArena) (runs now : List Unwritten) (run : Unwritten
 runs_pushed g runs now run e h k = subst (λ w. AreRunsOf g w) (sym e) (each_append (IsRunOf g) runs (run ∷ []) h (k, tt))
 
 -- one run taken off the stack, and written up to its next value
-pub turned : (g : Graph) (a : Arena) (whole : List Part) (runs all left : List Unwritten) (top : Unwritten) (next : Option Stored) (o m n : Output) → all ≡ runs ++ top ∷ [] → Leads g whole (parts_left a all) o m
-    → Leads g (run_parts a top ++ parts_left a runs) (next_parts a next ++ parts_left a left) m n → Leads g whole (next_parts a next ++ parts_left a left) o n
+pub turned : (g : Graph) (a : Arena) (whole : List Segment) (runs all left : List Unwritten) (top : Unwritten) (next : Option Stored) (o m n : Output) → all ≡ runs ++ top ∷ [] → Leads g whole (segments_left a all) o m
+    → Leads g (run_segments a top ++ segments_left a runs) (next_segments a next ++ segments_left a left) m n → Leads g whole (next_segments a next ++ segments_left a left) o n
 turned g a whole runs all left top next o m n e h k =
-    let behind = next_parts a next ++ parts_left a left in
-    leads_then g whole (parts_left a all) behind o m n h (leads_from g (parts_left a all) (run_parts a top ++ parts_left a runs) behind m n (parts_pushed a runs all top e) k)
+    let behind = next_segments a next ++ segments_left a left in
+    leads_then g whole (segments_left a all) behind o m n h (leads_from g (segments_left a all) (run_segments a top ++ segments_left a runs) behind m n (segments_pushed a runs all top e) k)
 
 pub falls_less : (n : ℕ) (old new : List ℕ) (before after : ℕ) → Falls n old new before after → missing n new * 1073741824 + after ≤ missing n old * 1073741824 + before
 falls_less n old new before after (inl (e, l)) = omega (arith, ap (missing n) e, l)

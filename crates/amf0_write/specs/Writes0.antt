@@ -74,65 +74,65 @@ IsLeafSpelled (double p) b = (p < 2 ^ 64) × (b ≡ 0x00 ∷ to_be_bytes w64 p)
 IsLeafSpelled (text x) b = IsText x × (((length x < 2 ^ 16) × (b ≡ 0x02 ∷ to_be_bytes w16 (length x) ++ x)) ⊎ ((2 ^ 16 ≤ length x) × (length x < 2 ^ 32) × (b ≡ 0x0C ∷ to_be_bytes w32 (length x) ++ x)))
 
 -- what stands behind the marker and the count of a node, or behind its class
-pub data Part : Type 0 where
-  name : (x : List ℕ) → Part
-  value : (v : Value) → Part
-  ending : Part
+pub data Segment : Type 0 where
+  name : (x : List ℕ) → Segment
+  value : (v : Value) → Segment
+  ending : Segment
 
-abbrev pub values_then : List Value → List Part
+abbrev pub values_then : List Value → List Segment
 values_then [] = []
 values_then (v ∷ vs) = value v ∷ values_then vs
 
 -- pairs, ended by the empty name and the marker of the end
-abbrev pub pairs_then : List (List ℕ × Value) → List Part
+abbrev pub pairs_then : List (List ℕ × Value) → List Segment
 pairs_then [] = name [] ∷ ending ∷ []
 pairs_then (p ∷ w) = name p.0 ∷ value p.1 ∷ pairs_then w
 
--- the values among the parts
-abbrev pub part_values : List Part → List Value
-part_values [] = []
-part_values (name x ∷ ps) = part_values ps
-part_values (value v ∷ ps) = v ∷ part_values ps
-part_values (ending ∷ ps) = part_values ps
+-- the values among the segments
+abbrev pub segment_values : List Segment → List Value
+segment_values [] = []
+segment_values (name x ∷ ps) = segment_values ps
+segment_values (value v ∷ ps) = v ∷ segment_values ps
+segment_values (ending ∷ ps) = segment_values ps
 
 -- the bytes of the canonical case of a value, also right behind an empty name
 abbrev pub IsCanonical : Graph → Value → Tables0 → List ℕ → Tables0 → Type 0
 IsCanonical g v t b t' = (may_end : Bool) → (height : ℕ) × (fs : List Field) × SpellsIn0 height canonical g may_end v t fs t' × (b ≡ flat fs)
 
-abbrev pub PartBy : Graph → Part → Tables0 → List ℕ → Tables0 → Type 0
-PartBy g (name x) t b t' = IsText x × (length x < 2 ^ 16) × (b ≡ to_be_bytes w16 (length x) ++ x) × (t' ≡ t)
-PartBy g (value v) t b t' = IsCanonical g v t b t'
-PartBy g ending t b t' = (b ≡ 0x09 ∷ []) × (t' ≡ t)
+abbrev pub SegmentBy : Graph → Segment → Tables0 → List ℕ → Tables0 → Type 0
+SegmentBy g (name x) t b t' = IsText x × (length x < 2 ^ 16) × (b ≡ to_be_bytes w16 (length x) ++ x) × (t' ≡ t)
+SegmentBy g (value v) t b t' = IsCanonical g v t b t'
+SegmentBy g ending t b t' = (b ≡ 0x09 ∷ []) × (t' ≡ t)
 
--- parts one after the other
-abbrev pub Parts : Graph → List Part → Tables0 → List ℕ → Tables0 → Type 0
-Parts g [] t b t' = (b ≡ []) × (t' ≡ t)
-Parts g (p ∷ ps) t b t' = Then (PartBy g p) (Parts g ps) t b t'
+-- segments one after the other
+abbrev pub Segments : Graph → List Segment → Tables0 → List ℕ → Tables0 → Type 0
+Segments g [] t b t' = (b ≡ []) × (t' ≡ t)
+Segments g (p ∷ ps) t b t' = Then (SegmentBy g p) (Segments g ps) t b t'
 
--- from parts that were to be written to those that are left: what spells those that are left spells all, behind the bytes that were appended, and what is met again over those that are left is met again over all
-pub record Leads (g : Graph) (whole left : List Part) (old new : Output) : Type 0 where
+-- from segments that were to be written to those that are left: what spells those that are left spells all, behind the bytes that were appended, and what is met again over those that are left is met again over all
+pub record Leads (g : Graph) (whole left : List Segment) (old new : Output) : Type 0 where
   pub bytes : List ℕ
   pub appended : new.bytes.items ≡ old.bytes.items ++ bytes
-  pub completes : (more : List ℕ) (t : Tables0) → Parts g left (tables_of new) more t → Parts g whole (tables_of old) (bytes ++ more) t
-  pub meets : (all again : List ℕ) → Meets g (done_of old) (part_values whole) all again → (rest : List ℕ) × Meets g (done_of new) (part_values left) all rest × ((k : ℕ) → IsAgain rest k → IsAgain again k)
+  pub completes : (more : List ℕ) (t : Tables0) → Segments g left (tables_of new) more t → Segments g whole (tables_of old) (bytes ++ more) t
+  pub meets : (all again : List ℕ) → Meets g (done_of old) (segment_values whole) all again → (rest : List ℕ) × Meets g (done_of new) (segment_values left) all rest × ((k : ℕ) → IsAgain rest k → IsAgain again k)
   pub later : length (done_of old) ≤ length (done_of new)
   pub grown : Grown g old new
   pub sound : AreTables0 g (tables_of old) → AreTables0 g (tables_of new)
 
--- a writer of these parts meets something that has no canonical spelling
-abbrev pub Stops : Graph → List Part → Output → Type 0
-Stops g parts old = (before : ℕ) → before ≤ length (done_of old) → (all again : List ℕ) → Meets g (done_of old) (part_values parts) all again → (place : ℕ) × (i : ℕ) × (kind : LackKind) × (slice_get all place ≡ Some i) × PlaceLacks0 g (outside_of g (tables_of old)) before all again place i kind
+-- a writer of these segments meets something that has no canonical spelling
+abbrev pub Stops : Graph → List Segment → Output → Type 0
+Stops g segments old = (before : ℕ) → before ≤ length (done_of old) → (all again : List ℕ) → Meets g (done_of old) (segment_values segments) all again → (place : ℕ) × (i : ℕ) × (kind : LackKind) × (slice_get all place ≡ Some i) × PlaceLacks0 g (outside_of g (tables_of old)) before all again place i kind
 
--- the first bytes of an array or an object, and the parts behind them
-pub data Opens (a : Node) : List ℕ → List Part → Type 0 where
+-- the first bytes of an array or an object, and the segments behind them
+pub data Opens (a : Node) : List ℕ → List Segment → Type 0 where
   plain : (c : Traits) → a.head ≡ object c → IsOpenTraits c → c.class ≡ [] → Opens a (0x03 ∷ []) (pairs_then (by_name a.names))
   typed : (c : Traits) → a.head ≡ object c → IsOpenTraits c → c.class ≢ [] → IsText c.class → length c.class < 2 ^ 16 → Opens a (0x10 ∷ to_be_bytes w16 (length c.class) ++ c.class) (pairs_then (by_name a.names))
   ecma : a.head ≡ array → a.values ≡ [] → a.names ≢ [] → length a.names < 2 ^ 32 → Opens a (0x08 ∷ to_be_bytes w32 (length a.names)) (pairs_then (by_name a.names))
   strict : a.head ≡ array → a.names ≡ [] → length a.values < 2 ^ 32 → Opens a (0x0A ∷ to_be_bytes w32 (length a.values)) (values_then a.values)
 
-pub record Opened (a : Node) (before after : List Part) (old new : Output) : Type 0 where
+pub record Opened (a : Node) (before after : List Segment) (old new : Output) : Type 0 where
   pub bytes : List ℕ
-  pub parts : List Part
-  pub is : Opens a bytes parts
+  pub segments : List Segment
+  pub is : Opens a bytes segments
   pub adds : Adds bytes old new
-  pub left : after ≡ parts ++ before
+  pub left : after ≡ segments ++ before

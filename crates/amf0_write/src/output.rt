@@ -29,7 +29,7 @@ impl Output {
         ensures tables { IfOk result (λ output. output.tables ≡ tables.old) }
         ensures loose { IfOk result (λ output. output.loose.items ≡ []) }
         ensures bytes { IfOk result (λ output. output.bytes ≡ bytes.old) }
-        ensures kept { OnErr result ((tables.new ≡ tables.old) × (bytes.new ≡ bytes.old)) }
+        ensures untouched { OnErr result ((tables.new ≡ tables.old) × (bytes.new ≡ bytes.old)) }
     {
         let empty = WriterTables::new(alloc)?;
         Ok(Output {
@@ -84,7 +84,7 @@ impl Output {
 
     pub(crate) fn byte(&mut self, byte: u8) -> Result<(), Memory>
         ensures adds { OnOk result (Adds (byte ∷ []) self.old self.new) }
-        ensures kept { Keeps self.old self.new }
+        ensures keeps { Keeps self.old self.new }
     {
         self.bytes.push(byte)?;
         Ok(())
@@ -93,7 +93,7 @@ impl Output {
     /// Bytes as they are.
     pub(crate) fn raw(&mut self, bytes: &[u8]) -> Result<(), Memory>
         ensures adds { OnOk result (Adds bytes.now self.old self.new) }
-        ensures kept { Keeps self.old self.new }
+        ensures keeps { Keeps self.old self.new }
     {
         self.bytes.extend_from_slice(bytes)?;
         Ok(())
@@ -102,7 +102,7 @@ impl Output {
     /// The bits of a double (2.2).
     pub(crate) fn double(&mut self, double: Pattern) -> Result<(), Memory>
         ensures adds { OnOk result (Adds (to_be_bytes w64 double.0) self.old self.new) }
-        ensures kept { Keeps self.old self.new }
+        ensures keeps { Keeps self.old self.new }
     {
         self.raw(&double.0.to_be_bytes())
     }
@@ -110,7 +110,7 @@ impl Output {
     /// A count of 32 bits (1.3).
     pub(crate) fn count(&mut self, count: u32) -> Result<(), Memory>
         ensures adds { OnOk result (Adds (to_be_bytes w32 count) self.old self.new) }
-        ensures kept { Keeps self.old self.new }
+        ensures keeps { Keeps self.old self.new }
     {
         self.raw(&count.to_be_bytes())
     }
@@ -119,7 +119,7 @@ impl Output {
     pub(crate) fn short(&mut self, text: &[u8]) -> Result<(), Memory>
         requires { length text.now < 2 ^ 16 }
         ensures adds { OnOk result (Adds (to_be_bytes w16 (length text.now) ++ text.now) self.old self.new) }
-        ensures kept { Keeps self.old self.new }
+        ensures keeps { Keeps self.old self.new }
     {
         self.raw(&(text.len() as u16).to_be_bytes())?;
         self.raw(text)
@@ -129,7 +129,7 @@ impl Output {
     pub(crate) fn long(&mut self, text: &[u8]) -> Result<(), Memory>
         requires { length text.now < 2 ^ 32 }
         ensures adds { OnOk result (Adds (to_be_bytes w32 (length text.now) ++ text.now) self.old self.new) }
-        ensures kept { Keeps self.old self.new }
+        ensures keeps { Keeps self.old self.new }
     {
         self.count(text.len() as u32)?;
         self.raw(text)

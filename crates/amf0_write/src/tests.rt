@@ -5,7 +5,7 @@ use crate::{first_lack0, lower, write0, write0_part};
 use amf_graph::{Builder, Lack, LackKind, Leaf, Part, Rooted, Shape, Value, Wrapped, WriteEnd};
 use amf_tables::WriterTables;
 use amf_wire::{Pattern, is_amf_text};
-use amf0_tables::lowering_is_kept;
+use amf0_tables::graphs_have_one_lowering;
 use std::alloc::Global;
 use std::process::Abort;
 use std::test::Fail;
@@ -16,7 +16,7 @@ const ONE: Pattern = Pattern(0x3FF0_0000_0000_0000);
 /// What is written of the lowered graph, behind a byte that was there.
 fn written(alloc: Global, graph: &Rooted) -> Result<Vec<u8>, WriteEnd> {
     // What is lowered is a lowered graph.
-    lowering_is_kept();
+    graphs_have_one_lowering();
     let low = lower(alloc, graph)?;
     let mut out = vec![in alloc; 0xAA]?;
     write0(alloc, &low, &mut out)?;
@@ -33,7 +33,7 @@ fn lack(alloc: Global, graph: &Rooted) -> Option<Lack> {
 
 /// What is written of the lowered graph's root as two parts, one after the other, behind a byte that was there.
 fn twice(alloc: Global, graph: &Rooted) -> Result<Vec<u8>, WriteEnd> {
-    lowering_is_kept();
+    graphs_have_one_lowering();
     let low = lower(alloc, graph)?;
     low.is_finished();
     let mut tables = WriterTables::new(alloc)?;

@@ -3,7 +3,7 @@ ghost use Rattle.std.specs.List.{AllByRecursion};
 ghost use Rattle.amf_graph.specs.Arena.{Arena};
 ghost use Rattle.amf_graph.specs.Rooted.{RootedArena, content};
 ghost use Rattle.amf_iso.specs.Contents.{values_of, named_pairs};
-ghost use Rattle.amf0_write.specs.Unwritten0.{IsMetValue, IsMetPair, IsRunOf, AreRunsOf, IsNextOf, run_parts, next_parts, parts_left, run_turns, turns_left};
+ghost use Rattle.amf0_write.specs.Unwritten0.{IsMetValue, IsMetPair, IsRunOf, AreRunsOf, IsNextOf, run_segments, next_segments, segments_left, run_turns, turns_left};
 ghost use Rattle.amf0_write.specs.Writes0.{values_then, pairs_then, tables_of, Leads, Keeps};
 
 use crate::output::Output;
@@ -30,11 +30,11 @@ impl Output {
         waiting: &mut Vec<Unwritten<'g>>,
     ) -> Result<Option<Value>, Memory>
         requires { (g : RootedArena) × IsRunOf g run }
-        ensures leads { (g : RootedArena) → IsRunOf g run.entry → IfOk result (λ next. Leads (content g) (run_parts g.arena run.entry ++ parts_left g.arena waiting.old.items) (next_parts g.arena next ++ parts_left g.arena waiting.new.items) self.old self.new) }
+        ensures leads { (g : RootedArena) → IsRunOf g run.entry → IfOk result (λ next. Leads (content g) (run_segments g.arena run.entry ++ segments_left g.arena waiting.old.items) (next_segments g.arena next ++ segments_left g.arena waiting.new.items) self.old self.new) }
         ensures runs { (g : RootedArena) → IsRunOf g run.entry → AreRunsOf g waiting.old.items → IfOk result (λ next. IsNextOf g next × AreRunsOf g waiting.new.items) }
         ensures turns { OnOk result (turns_left waiting.new.items + 1 ≤ run_turns run.entry + turns_left waiting.old.items) }
         ensures tables { OnOk result (tables_of self.new ≡ tables_of self.old) }
-        ensures kept { Keeps self.old self.new }
+        ensures keeps { Keeps self.old self.new }
     {
         match run {
             Unwritten::One(value) => Ok(Some(value)),
@@ -50,11 +50,11 @@ impl Output {
         waiting: &mut Vec<Unwritten<'g>>,
     ) -> Result<Option<Value>, Memory>
         requires { (g : RootedArena) × AllByRecursion (IsMetPair g) pairs.items }
-        ensures leads { (g : RootedArena) → AllByRecursion (IsMetPair g) pairs.entry.items → IfOk result (λ next. Leads (content g) (pairs_then (named_pairs g.arena (reverse pairs.entry.items)) ++ parts_left g.arena waiting.old.items) (next_parts g.arena next ++ parts_left g.arena waiting.new.items) self.old self.new) }
+        ensures leads { (g : RootedArena) → AllByRecursion (IsMetPair g) pairs.entry.items → IfOk result (λ next. Leads (content g) (pairs_then (named_pairs g.arena (reverse pairs.entry.items)) ++ segments_left g.arena waiting.old.items) (next_segments g.arena next ++ segments_left g.arena waiting.new.items) self.old self.new) }
         ensures runs { (g : RootedArena) → AllByRecursion (IsMetPair g) pairs.entry.items → AreRunsOf g waiting.old.items → IfOk result (λ next. IsNextOf g next × AreRunsOf g waiting.new.items) }
         ensures turns { OnOk result (turns_left waiting.new.items ≤ length pairs.entry.items + turns_left waiting.old.items) }
         ensures tables { OnOk result (tables_of self.new ≡ tables_of self.old) }
-        ensures kept { Keeps self.old self.new }
+        ensures keeps { Keeps self.old self.new }
     {
         match pairs.pop() {
             Some((name, value)) => {
@@ -76,7 +76,7 @@ fn next_item<'g>(
     values: &'g [Value],
     waiting: &mut Vec<Unwritten<'g>>,
 ) -> Result<Option<Value>, Memory>
-    ensures left { (a : Arena) → IfOk result (λ next. next_parts a next ++ parts_left a waiting.new.items ≡ values_then (values_of a values.now) ++ parts_left a waiting.old.items) }
+    ensures left { (a : Arena) → IfOk result (λ next. next_segments a next ++ segments_left a waiting.new.items ≡ values_then (values_of a values.now) ++ segments_left a waiting.old.items) }
     ensures runs { (g : RootedArena) → AllByRecursion (IsMetValue g) values.now → AreRunsOf g waiting.old.items → IfOk result (λ next. IsNextOf g next × AreRunsOf g waiting.new.items) }
     ensures turns { OnOk result (turns_left waiting.new.items ≤ length values.now + turns_left waiting.old.items) }
 {

@@ -10,8 +10,8 @@ ghost use Rattle.amf_graph.specs.Rooted.{content};
 ghost use Rattle.amf_wire.specs.Text.{IsText};
 ghost use Rattle.amf0_tables.specs.Lowered.{IsLowered};
 ghost use Rattle.amf0_write.specs.declared.stop.Stop.TheVariants.{Lack};
-ghost use Rattle.amf0_write.specs.Unwritten0.{IsMetValue, AreRunsOf, parts_left, turns_left, Falls};
-ghost use Rattle.amf0_write.specs.Writes0 as part;
+ghost use Rattle.amf0_write.specs.Unwritten0.{IsMetValue, AreRunsOf, segments_left, turns_left, Falls};
+ghost use Rattle.amf0_write.specs.Writes0 as segment;
 ghost use Rattle.amf0_write.specs.Writes0.{tables_of, done_of, IsLeafSpelled, Adds, AddsBy, Still, Grown, Leads, Keeps, Stops};
 ghost use Rattle.amf0_write.specs.Written0.{AreTables0};
 
@@ -34,10 +34,10 @@ impl Output {
         requires low { IsLowered (content graph.now) }
         requires met { IsMetValue graph.now value }
         requires tables { AreTables0 (content graph.now) (tables_of self.old) }
-        ensures leads { OnOk result (Leads (content graph.now) (part.value (value_content graph.now.arena value) ∷ []) [] self.old self.new) }
-        ensures lack { IsErrOf result Lack → Stops (content graph.now) (part.value (value_content graph.now.arena value) ∷ []) self.old }
+        ensures leads { OnOk result (Leads (content graph.now) (segment.value (value_content graph.now.arena value) ∷ []) [] self.old self.new) }
+        ensures lack { IsErrOf result Lack → Stops (content graph.now) (segment.value (value_content graph.now.arena value) ∷ []) self.old }
         ensures grown { IsErrOf result Lack → Grown (content graph.now) self.old self.new × AreTables0 (content graph.now) (tables_of self.new) }
-        ensures kept { Keeps self.old self.new }
+        ensures keeps { Keeps self.old self.new }
     {
         let mut waiting = vec![in self.alloc; Unwritten::One(value)]?;
         while let Some(top) = waiting.pop() {
@@ -60,12 +60,12 @@ impl Output {
         requires met { IsMetValue graph.now value }
         requires tables { AreTables0 (content graph.now) (tables_of self.old) }
         requires runs { AreRunsOf graph.now waiting.old.items }
-        ensures leads { OnOk result (Leads (content graph.now) (part.value (value_content graph.now.arena value) ∷ parts_left graph.now.arena waiting.old.items) (parts_left graph.now.arena waiting.new.items) self.old self.new) }
-        ensures lack { IsErrOf result Lack → Stops (content graph.now) (part.value (value_content graph.now.arena value) ∷ parts_left graph.now.arena waiting.old.items) self.old }
+        ensures leads { OnOk result (Leads (content graph.now) (segment.value (value_content graph.now.arena value) ∷ segments_left graph.now.arena waiting.old.items) (segments_left graph.now.arena waiting.new.items) self.old self.new) }
+        ensures lack { IsErrOf result Lack → Stops (content graph.now) (segment.value (value_content graph.now.arena value) ∷ segments_left graph.now.arena waiting.old.items) self.old }
         ensures still { IsErrOf result Lack → Still self.old self.new }
         ensures runs { OnOk result (AreRunsOf graph.now waiting.new.items) }
         ensures falls { OnOk result (Falls (length graph.now.arena.nodes) (done_of self.old) (done_of self.new) (turns_left waiting.old.items) (turns_left waiting.new.items)) }
-        ensures kept { Keeps self.old self.new }
+        ensures keeps { Keeps self.old self.new }
     {
         match value {
             Value::Node(node) => self.node(node, graph, waiting),
@@ -82,7 +82,7 @@ impl Output {
         requires met { IsMetValue graph.now value }
         requires leaf { (n : NodeId) → value ≢ NodeRef n }
         ensures adds { (x : graph_of_values.Leaf) → value_content graph.now.arena value ≡ graph_of_values.leaf x → OnOk result (AddsBy (IsLeafSpelled x) self.old self.new) }
-        ensures kept { Keeps self.old self.new }
+        ensures keeps { Keeps self.old self.new }
     {
         match value {
             Value::Undefined => self.byte(0x06),
@@ -106,7 +106,7 @@ impl Output {
         requires is_text { IsText text.now }
         requires fits { length text.now < 2 ^ 32 }
         ensures adds { OnOk result (AddsBy (IsLeafSpelled (graph_of_values.text text.now)) self.old self.new) }
-        ensures kept { Keeps self.old self.new }
+        ensures keeps { Keeps self.old self.new }
     {
         if text.len() <= MAX_SHORT {
             self.byte(0x02)?;
@@ -129,12 +129,12 @@ impl Output {
         requires met { IsMetValue graph.now (NodeRef node) }
         requires tables { AreTables0 (content graph.now) (tables_of self.old) }
         requires runs { AreRunsOf graph.now waiting.old.items }
-        ensures leads { OnOk result (Leads (content graph.now) (part.value (graph_of_values.node node.0) ∷ parts_left graph.now.arena waiting.old.items) (parts_left graph.now.arena waiting.new.items) self.old self.new) }
-        ensures lack { IsErrOf result Lack → Stops (content graph.now) (part.value (graph_of_values.node node.0) ∷ parts_left graph.now.arena waiting.old.items) self.old }
+        ensures leads { OnOk result (Leads (content graph.now) (segment.value (graph_of_values.node node.0) ∷ segments_left graph.now.arena waiting.old.items) (segments_left graph.now.arena waiting.new.items) self.old self.new) }
+        ensures lack { IsErrOf result Lack → Stops (content graph.now) (segment.value (graph_of_values.node node.0) ∷ segments_left graph.now.arena waiting.old.items) self.old }
         ensures still { IsErrOf result Lack → Still self.old self.new }
         ensures runs { OnOk result (AreRunsOf graph.now waiting.new.items) }
         ensures falls { OnOk result (Falls (length graph.now.arena.nodes) (done_of self.old) (done_of self.new) (turns_left waiting.old.items) (turns_left waiting.new.items)) }
-        ensures kept { Keeps self.old self.new }
+        ensures keeps { Keeps self.old self.new }
     {
         match self.tables.place_of_node(node) {
             Some(place) => self.index(place),
@@ -151,7 +151,7 @@ impl Output {
     fn index(&mut self, place: u32) -> Result<(), Stop>
         ensures adds { OnOk result ((place < 2 ^ 16) × Adds (0x07 ∷ to_be_bytes w16 place) self.old self.new) }
         ensures lack { IsErrOf result Lack → (2 ^ 16 ≤ place) × Still self.old self.new }
-        ensures kept { Keeps self.old self.new }
+        ensures keeps { Keeps self.old self.new }
     {
         if place >= FAR {
             return Err(Stop::Lack);
@@ -173,12 +173,12 @@ impl Output {
         requires met { IsMetValue graph.now (NodeRef node) }
         requires new { Absent (done_of self.old) node.0 }
         requires runs { AreRunsOf graph.now waiting.old.items }
-        ensures leads { OnOk result (Leads (content graph.now) (part.value (graph_of_values.node node.0) ∷ parts_left graph.now.arena waiting.old.items) (parts_left graph.now.arena waiting.new.items) self.old self.new) }
-        ensures lack { IsErrOf result Lack → Stops (content graph.now) (part.value (graph_of_values.node node.0) ∷ parts_left graph.now.arena waiting.old.items) self.old }
+        ensures leads { OnOk result (Leads (content graph.now) (segment.value (graph_of_values.node node.0) ∷ segments_left graph.now.arena waiting.old.items) (segments_left graph.now.arena waiting.new.items) self.old self.new) }
+        ensures lack { IsErrOf result Lack → Stops (content graph.now) (segment.value (graph_of_values.node node.0) ∷ segments_left graph.now.arena waiting.old.items) self.old }
         ensures still { IsErrOf result Lack → Still self.old self.new }
         ensures runs { OnOk result (AreRunsOf graph.now waiting.new.items) }
         ensures falls { OnOk result (Falls (length graph.now.arena.nodes) (done_of self.old) (done_of self.new) (turns_left waiting.old.items) (turns_left waiting.new.items)) }
-        ensures kept { Keeps self.old self.new }
+        ensures keeps { Keeps self.old self.new }
     {
         graph.is_finished();
         if has_no_form(node, graph) {

@@ -40,7 +40,7 @@ fn write_value(
     ensures tables { OnOk result (AreTables0 (content graph.now) (tables0 tables.new)) }
     ensures lack { IsErrOf result Stopped → HasPartLack0 (content graph.now) (value_content graph.now.arena value) (tables0 tables.old) }
     ensures grown { IsErrOf result Stopped → AreGrownTables (content graph.now) (tables0 tables.old) (tables0 tables.new) loose.new.items }
-    ensures kept { OnErr result (out.new.items ≡ out.old.items) }
+    ensures untouched { OnErr result (out.new.items ≡ out.old.items) }
 {
     let start = out.len();
     let mut output = Output::taking(alloc, tables, out)?;
@@ -90,7 +90,7 @@ pub fn write0_part(
     ensures written { OnOk result (AppendsPart0 (content graph.now) (value_content graph.now.arena value) (tables0 tables.old) (tables0 tables.new) out.old.items out.new.items) }
     ensures tables { OnOk result (AreTables0 (content graph.now) (tables0 tables.new)) }
     ensures lack { (l : Lack) → IsErrOf result (WriteEnd.NoSpelling l) → IsPartLack0 (content graph.now) (value_content graph.now.arena value) (tables0 tables.old) l.node l.kind }
-    ensures kept { OnErr result (out.new.items ≡ out.old.items) }
+    ensures untouched { OnErr result (out.new.items ≡ out.old.items) }
 {
     let count = tables.node_count();
     let mut loose = Vec::new(alloc);
@@ -112,7 +112,7 @@ pub fn write0(alloc: Global, graph: &Rooted, out: &mut Vec<u8>) -> Result<(), Wr
     requires { IsLowered (content graph.now) }
     ensures written { OnOk result (AppendsCanonical0 (content graph.now) out.old.items out.new.items) }
     ensures lack { (l : Lack) → IsErrOf result (WriteEnd.NoSpelling l) → IsLack0 (content graph.now) l.node l.kind }
-    ensures kept { OnErr result (out.new.items ≡ out.old.items) }
+    ensures untouched { OnErr result (out.new.items ≡ out.old.items) }
 {
     graph.is_finished();
     let mut tables = WriterTables::new(alloc)?;

@@ -17,7 +17,7 @@ use Rattle.amf3_spelling.specs.Tables.{Entry, plain, external, Words, Tables, wi
 use Rattle.amf3_spelling.specs.Then.{Spelling, Then}
 use Rattle.amf3_spelling.specs.Refusals3.{marker, markers, marker_kind, header_refusal, text_header_refusal}
 use Rattle.amf3_spelling.specs.Words3.{Text, TraitsBy, given, placed}
-use Rattle.amf3_spelling.specs.Parts3.{Part, flag, four, word, Parts, Lifted, layout, values_then, fours, signed_fours, eights}
+use Rattle.amf3_spelling.specs.Segments3.{Segment, flag, four, word, Segments, Lifted, segments_of, values_then, fours, signed_fours, eights}
 use Rattle.amf3_spelling.specs.Headers3.{HeaderBy, marker_field, header_field}
 use Rattle.amf3_spelling.specs.Nodes3.{Placed, Begun}
 use Rattle.amf3_spelling.specs.Spells3.{ValueBy, InlineIn, SpellsIn, Spells3}
@@ -61,7 +61,7 @@ pub record Opened (R : Value → Spelling Tables) (h : Head) (n : ℕ) (s : Stat
   pub words : mid.words ≡ begun.state.words
   pub nodes : mid.nodes ≡ t.nodes
   pub marks : begun.state.marks ≡ s.marks
-  pub rest : Parts R free (behind begun.first begun.last qs vs) mid back u
+  pub rest : Segments R free (behind begun.first begun.last qs vs) mid back u
 
 module _ (R : Value → Spelling Tables) (n : ℕ) (s : State3) (qs : List (List ℕ × Value)) (vs : List Value) (t u : Tables) where
   -- a node without pairs and values
@@ -80,7 +80,7 @@ module _ (R : Value → Spelling Tables) (n : ℕ) (s : State3) (qs : List (List
         words = words;
         nodes = nodes;
         marks = marks;
-        rest = subst (λ l. Parts R free (values_then l []) mid back u) (sym none) p;
+        rest = subst (λ l. Segments R free (values_then l []) mid back u) (sym none) p;
       }
 
   -- a chunk of bytes
@@ -96,9 +96,9 @@ module _ (R : Value → Spelling Tables) (n : ℕ) (s : State3) (qs : List (List
       whole_opened h fs front m (z x) (head x) none (mark x) runs (ap (λ w. w.words) first.1 ∙ same ∙ sym (words x)) (ap (λ w. w.nodes) first.1 ∙ nodes) (marks x) back joined second
 
   -- a flag and numbers
-  numbers_opened : (h : Head) (l : Layout ℕ) (ps : List Part) (k : ℕ) (f : Bool) (head : Bool → List ℕ → arena.StoredHead) → vs ≡ [] → ((f : Bool) (y : List ℕ) → stored_marker (head f y) ≡ marker h)
-      → ((j : ℕ) → opening (kind_of h) j s ≡ bind flag_layout (λ f. bind (many (j / 2) l) (λ ns. give (whole_node s (head f ns))))) → ((w : Tables) (fs : List Field) (v : Tables) → AllClean fs → Parts R free ps w fs v → FoundMany l k w fs v)
-      → (fs : List Field) (mid : Tables) → n ≡ 2 * k + 1 → mid.words ≡ s.words → mid.nodes ≡ t.nodes → AllClean fs → Parts R free (flag f ∷ ps) mid fs u → Opened R h n s qs vs t fs u
+  numbers_opened : (h : Head) (l : Layout ℕ) (ps : List Segment) (k : ℕ) (f : Bool) (head : Bool → List ℕ → arena.StoredHead) → vs ≡ [] → ((f : Bool) (y : List ℕ) → stored_marker (head f y) ≡ marker h)
+      → ((j : ℕ) → opening (kind_of h) j s ≡ bind flag_layout (λ f. bind (many (j / 2) l) (λ ns. give (whole_node s (head f ns))))) → ((w : Tables) (fs : List Field) (v : Tables) → AllClean fs → Segments R free ps w fs v → FoundMany l k w fs v)
+      → (fs : List Field) (mid : Tables) → n ≡ 2 * k + 1 → mid.words ≡ s.words → mid.nodes ≡ t.nodes → AllClean fs → Segments R free (flag f ∷ ps) mid fs u → Opened R h n s qs vs t fs u
   numbers_opened h l ps k f head none mark is found fs mid number same nodes c p =
       let half : n / 2 ≡ k = omega arith in
       let a = flag_half R f ps mid fs u c p in
@@ -112,18 +112,18 @@ module _ (R : Value → Spelling Tables) (n : ℕ) (s : State3) (qs : List (List
       same nodes refl [] (sym (append-nil fs)) (refl, b.same)
 
 -- four bytes of a signed number are four bytes
-signed_are : (R : Value → Spelling Tables) (ns : List ℤ) (t : Tables) (fs : List Field) (u : Tables) → Parts R free (signed_fours ns) t fs u → Parts R free (fours (map (cast_unsigned w32) ns)) t fs u
-signed_are R ns t fs u p = subst (λ l. Parts R free l t fs u) (same ns) p
+signed_are : (R : Value → Spelling Tables) (ns : List ℤ) (t : Tables) (fs : List Field) (u : Tables) → Segments R free (signed_fours ns) t fs u → Segments R free (fours (map (cast_unsigned w32) ns)) t fs u
+signed_are R ns t fs u p = subst (λ l. Segments R free l t fs u) (same ns) p
   where
     same : (ns : List ℤ) → signed_fours ns ≡ fours (map (cast_unsigned w32) ns)
     same [] = refl
     same (n ∷ ns) = ap (λ l. four (cast_unsigned w32 n) ∷ l) (same ns)
 
-signed_complete : (R : Value → Spelling Tables) (ns : List ℤ) (t : Tables) (fs : List Field) (u : Tables) → AllClean fs → Parts R free (signed_fours ns) t fs u → FoundMany four_layout (length ns) t fs u
+signed_complete : (R : Value → Spelling Tables) (ns : List ℤ) (t : Tables) (fs : List Field) (u : Tables) → AllClean fs → Segments R free (signed_fours ns) t fs u → FoundMany four_layout (length ns) t fs u
 signed_complete R ns t fs u c p = subst (λ k. FoundMany four_layout k t fs u) (length-map ns (cast_unsigned w32)) (fours_complete R (map (cast_unsigned w32) ns) t fs u c (signed_are R ns t fs u p))
 
 abbrev Behind : (Value → Spelling Tables) → Head → List (List ℕ × Value) → List Value → ℕ → Spelling Tables
-Behind R h qs vs n = Then (Lifted (HeaderBy free h vs n)) (Parts R free (layout h qs vs))
+Behind R h qs vs n = Then (Lifted (HeaderBy free h vs n)) (Segments R free (segments_of h qs vs))
 
 -- a header that has no fields of its own
 abbrev counted_words : (t mid : Tables) (w : Words) (s : State3) → t.words ≡ s.words → w ≡ t.words → mid ≡ with_words t w → mid.words ≡ s.words
@@ -179,7 +179,7 @@ open_complete R (graph.object k) names n s qs vs t fs u fit same c p =
       marks = a.marks;
       words = ap (λ m. m.words) f.2 ∙ a.after;
       nodes = ap (λ m. m.nodes) f.2;
-      rest = subst (λ b. Parts R free (behind b a.read.last qs vs) p.mid p.back u) (sym a.first) (subst (λ b. Parts R free (behind false b qs vs) p.mid p.back u) (sym a.last) p.second);
+      rest = subst (λ b. Segments R free (behind b a.read.last qs vs) p.mid p.back u) (sym a.first) (subst (λ b. Segments R free (behind false b qs vs) p.mid p.back u) (sym a.last) p.second);
     }
 open_complete R (graph.wrapper k) names n s qs vs t fs u fit same c p =
     let f = p.first in
@@ -197,7 +197,7 @@ open_complete R (graph.wrapper k) names n s qs vs t fs u fit same c p =
       marks = a.marks;
       words = ap (λ m. m.words) f.2 ∙ a.after;
       nodes = ap (λ m. m.nodes) f.2;
-      rest = subst (λ b. Parts R free (behind b a.read.last qs vs) p.mid p.back u) (sym a.first) (subst (λ b. Parts R free (behind false b qs vs) p.mid p.back u) (sym a.last) p.second);
+      rest = subst (λ b. Segments R free (behind b a.read.last qs vs) p.mid p.back u) (sym a.first) (subst (λ b. Segments R free (behind false b qs vs) p.mid p.back u) (sym a.last) p.second);
     }
 open_complete R (graph.xml x) names n s qs vs t fs u fit same c p =
     let f = p.first in
@@ -213,17 +213,17 @@ open_complete R (graph.ints b ns) names n s qs vs t fs u fit same c p =
     let f = p.first in
     let e = no_front fs p.front p.back p.joined f.1.1.0 in
     numbers_opened R n s qs vs t u (graph.ints b ns) four_layout (signed_fours ns) (length ns) b (λ f ms. arena.ints f (map (cast_signed w32) ms)) fit.2 (λ f y. refl) (λ j. refl) (signed_complete R ns) fs p.mid f.1.0
-    (counted_words t p.mid f.0 s same f.1.1.1 f.2) (ap (λ m. m.nodes) f.2) c (subst (λ l. Parts R free (flag b ∷ signed_fours ns) p.mid l u) (sym e) p.second)
+    (counted_words t p.mid f.0 s same f.1.1.1 f.2) (ap (λ m. m.nodes) f.2) c (subst (λ l. Segments R free (flag b ∷ signed_fours ns) p.mid l u) (sym e) p.second)
 open_complete R (graph.uints b ns) names n s qs vs t fs u fit same c p =
     let f = p.first in
     let e = no_front fs p.front p.back p.joined f.1.1.0 in
     numbers_opened R n s qs vs t u (graph.uints b ns) four_layout (fours ns) (length ns) b arena.uints fit.2 (λ f y. refl) (λ j. refl) (fours_complete R ns) fs p.mid f.1.0
-    (counted_words t p.mid f.0 s same f.1.1.1 f.2) (ap (λ m. m.nodes) f.2) c (subst (λ l. Parts R free (flag b ∷ fours ns) p.mid l u) (sym e) p.second)
+    (counted_words t p.mid f.0 s same f.1.1.1 f.2) (ap (λ m. m.nodes) f.2) c (subst (λ l. Segments R free (flag b ∷ fours ns) p.mid l u) (sym e) p.second)
 open_complete R (graph.doubles b ns) names n s qs vs t fs u fit same c p =
     let f = p.first in
     let e = no_front fs p.front p.back p.joined f.1.1.0 in
     numbers_opened R n s qs vs t u (graph.doubles b ns) eight_layout (eights ns) (length ns) b arena.doubles fit.2 (λ f y. refl) (λ j. refl) (eights_complete R ns) fs p.mid f.1.0
-    (counted_words t p.mid f.0 s same f.1.1.1 f.2) (ap (λ m. m.nodes) f.2) c (subst (λ l. Parts R free (flag b ∷ eights ns) p.mid l u) (sym e) p.second)
+    (counted_words t p.mid f.0 s same f.1.1.1 f.2) (ap (λ m. m.nodes) f.2) c (subst (λ l. Segments R free (flag b ∷ eights ns) p.mid l u) (sym e) p.second)
 open_complete R (graph.values b x) names n s qs vs t fs u fit same c p =
     let f = p.first in
     let number = f.1.0 in

@@ -71,30 +71,30 @@ module _ (a b : Arena) (l : Larger a b) where
   pub traits_id : (i : ℕ) → i < length a.traits → i < length b.traits
   traits_id i h = omega (arith, ap length l.traits, length-append a.traits l.more_traits)
 
-  pub text_kept : (i : ℕ) → IsTextId a i → text_at b i ≡ text_at a i
-  text_kept i h = ap (λ x. get_or x i []) l.texts ∙ get_or_append_left a.texts l.more_texts [] i h
+  pub text_stays : (i : ℕ) → IsTextId a i → text_at b i ≡ text_at a i
+  text_stays i h = ap (λ x. get_or x i []) l.texts ∙ get_or_append_left a.texts l.more_texts [] i h
 
-  pub texts_kept : (ids : List ℕ) → AllByRecursion (IsTextId a) ids → map (text_at b) ids ≡ map (text_at a) ids
-  texts_kept [] h = refl
-  texts_kept (i ∷ ids) h = ap (λ x. x ∷ map (text_at b) ids) (text_kept i h.0) ∙ ap (λ x. text_at a i ∷ x) (texts_kept ids h.1)
+  pub texts_stay : (ids : List ℕ) → AllByRecursion (IsTextId a) ids → map (text_at b) ids ≡ map (text_at a) ids
+  texts_stay [] h = refl
+  texts_stay (i ∷ ids) h = ap (λ x. x ∷ map (text_at b) ids) (text_stays i h.0) ∙ ap (λ x. text_at a i ∷ x) (texts_stay ids h.1)
 
-  content_kept : (t : StoredTraits) → IsTraitsIn a t → traits_content b t ≡ traits_content a t
-  content_kept t h = ap (λ x. let k : Traits = record { class = x; dynamic = t.dynamic; sealed = map (text_at b) t.sealed } in k) (text_kept t.class h.class) ∙ ap (λ x. let k : Traits = record { class = text_at a t.class; dynamic = t.dynamic; sealed = x } in k) (texts_kept t.sealed h.sealed)
+  content_stays : (t : StoredTraits) → IsTraitsIn a t → traits_content b t ≡ traits_content a t
+  content_stays t h = ap (λ x. let k : Traits = record { class = x; dynamic = t.dynamic; sealed = map (text_at b) t.sealed } in k) (text_stays t.class h.class) ∙ ap (λ x. let k : Traits = record { class = text_at a t.class; dynamic = t.dynamic; sealed = x } in k) (texts_stay t.sealed h.sealed)
 
-  pub traits_kept : (i : ℕ) → AllByRecursion (IsTraitsIn a) a.traits → i < length a.traits → traits_at b i ≡ traits_at a i
-  traits_kept i all h = ap (traits_content b) (ap (λ x. get_or x i no_traits) l.traits ∙ get_or_append_left a.traits l.more_traits no_traits i h) ∙ content_kept (get_or a.traits i no_traits) (all_at (IsTraitsIn a) a.traits i no_traits all h)
+  pub traits_stay : (i : ℕ) → AllByRecursion (IsTraitsIn a) a.traits → i < length a.traits → traits_at b i ≡ traits_at a i
+  traits_stay i all h = ap (traits_content b) (ap (λ x. get_or x i no_traits) l.traits ∙ get_or_append_left a.traits l.more_traits no_traits i h) ∙ content_stays (get_or a.traits i no_traits) (all_at (IsTraitsIn a) a.traits i no_traits all h)
 
   pub traits_in : (t : StoredTraits) → IsTraitsIn a t → IsTraitsIn b t
   traits_in t h = record { class = text_id t.class h.class; sealed = all_more (IsTextId a) (IsTextId b) t.sealed text_id h.sealed }
 
-  pub value_kept : (v : Stored) → Names a v → value_content b v ≡ value_content a v
-  value_kept Undefined h = refl
-  value_kept Null h = refl
-  value_kept (Flag f) h = refl
-  value_kept (Integer n) h = refl
-  value_kept (Double p) h = refl
-  value_kept (Text t) h = ap (λ x. graph.leaf (graph.text x)) (text_kept t.0 h)
-  value_kept (NodeRef n) h = refl
+  pub value_stays : (v : Stored) → Names a v → value_content b v ≡ value_content a v
+  value_stays Undefined h = refl
+  value_stays Null h = refl
+  value_stays (Flag f) h = refl
+  value_stays (Integer n) h = refl
+  value_stays (Double p) h = refl
+  value_stays (Text t) h = ap (λ x. graph.leaf (graph.text x)) (text_stays t.0 h)
+  value_stays (NodeRef n) h = refl
 
   pub names_more : (v : Stored) → Names a v → Names b v
   names_more Undefined h = tt
@@ -105,30 +105,30 @@ module _ (a b : Arena) (l : Larger a b) where
   names_more (Text t) h = text_id t.0 h
   names_more (NodeRef n) h = (let m = l.nodes in omega arith)
 
-  pub values_kept : (vs : List Stored) → AllByRecursion (Names a) vs → map (value_content b) vs ≡ map (value_content a) vs
-  values_kept [] h = refl
-  values_kept (v ∷ vs) h = ap (λ x. x ∷ map (value_content b) vs) (value_kept v h.0) ∙ ap (λ x. value_content a v ∷ x) (values_kept vs h.1)
+  pub values_stay : (vs : List Stored) → AllByRecursion (Names a) vs → map (value_content b) vs ≡ map (value_content a) vs
+  values_stay [] h = refl
+  values_stay (v ∷ vs) h = ap (λ x. x ∷ map (value_content b) vs) (value_stays v h.0) ∙ ap (λ x. value_content a v ∷ x) (values_stay vs h.1)
 
-  pair_kept : (p : ℕ × Stored) → IsTextId a p.0 × Names a p.1 → (let q : List ℕ × graph.Value = (text_at b p.0, value_content b p.1) in q) ≡ (let q : List ℕ × graph.Value = (text_at a p.0, value_content a p.1) in q)
-  pair_kept p h = ap (λ x. let q : List ℕ × graph.Value = (x, value_content b p.1) in q) (text_kept p.0 h.0) ∙ ap (λ x. let q : List ℕ × graph.Value = (text_at a p.0, x) in q) (value_kept p.1 h.1)
+  pair_stays : (p : ℕ × Stored) → IsTextId a p.0 × Names a p.1 → (let q : List ℕ × graph.Value = (text_at b p.0, value_content b p.1) in q) ≡ (let q : List ℕ × graph.Value = (text_at a p.0, value_content a p.1) in q)
+  pair_stays p h = ap (λ x. let q : List ℕ × graph.Value = (x, value_content b p.1) in q) (text_stays p.0 h.0) ∙ ap (λ x. let q : List ℕ × graph.Value = (text_at a p.0, x) in q) (value_stays p.1 h.1)
 
-  pub pairs_kept : (ps : List (ℕ × Stored)) → AllByRecursion (λ p. IsTextId a p.0 × Names a p.1) ps → map {B = List ℕ × graph.Value} (λ p. (text_at b p.0, value_content b p.1)) ps ≡ map {B = List ℕ × graph.Value} (λ p. (text_at a p.0, value_content a p.1)) ps
-  pairs_kept [] h = refl
-  pairs_kept (p ∷ ps) h = ap (λ x. x ∷ map {B = List ℕ × graph.Value} (λ p. (text_at b p.0, value_content b p.1)) ps) (pair_kept p h.0) ∙ ap (λ x. (text_at a p.0, value_content a p.1) ∷ x) (pairs_kept ps h.1)
+  pub pairs_stay : (ps : List (ℕ × Stored)) → AllByRecursion (λ p. IsTextId a p.0 × Names a p.1) ps → map {B = List ℕ × graph.Value} (λ p. (text_at b p.0, value_content b p.1)) ps ≡ map {B = List ℕ × graph.Value} (λ p. (text_at a p.0, value_content a p.1)) ps
+  pairs_stay [] h = refl
+  pairs_stay (p ∷ ps) h = ap (λ x. x ∷ map {B = List ℕ × graph.Value} (λ p. (text_at b p.0, value_content b p.1)) ps) (pair_stays p h.0) ∙ ap (λ x. (text_at a p.0, value_content a p.1) ∷ x) (pairs_stay ps h.1)
 
-  pub head_kept : (h : StoredHead) → AllByRecursion (IsTraitsIn a) a.traits → HeadNames a h → head_content b h ≡ head_content a h
-  head_kept (xml_document x) all h = ap graph.xml_document (text_kept x h)
-  head_kept (date p) all h = refl
-  head_kept array all h = refl
-  head_kept (object t) all h = ap graph.object (traits_kept t all h)
-  head_kept (wrapper c) all h = refl
-  head_kept (xml x) all h = ap graph.xml (text_kept x h)
-  head_kept (bytes x) all h = refl
-  head_kept (ints f ns) all h = refl
-  head_kept (uints f ns) all h = refl
-  head_kept (doubles f ns) all h = refl
-  head_kept (values f x) all h = ap (graph.values f) (text_kept x h)
-  head_kept (dictionary f) all h = refl
+  pub head_stays : (h : StoredHead) → AllByRecursion (IsTraitsIn a) a.traits → HeadNames a h → head_content b h ≡ head_content a h
+  head_stays (xml_document x) all h = ap graph.xml_document (text_stays x h)
+  head_stays (date p) all h = refl
+  head_stays array all h = refl
+  head_stays (object t) all h = ap graph.object (traits_stay t all h)
+  head_stays (wrapper c) all h = refl
+  head_stays (xml x) all h = ap graph.xml (text_stays x h)
+  head_stays (bytes x) all h = refl
+  head_stays (ints f ns) all h = refl
+  head_stays (uints f ns) all h = refl
+  head_stays (doubles f ns) all h = refl
+  head_stays (values f x) all h = ap (graph.values f) (text_stays x h)
+  head_stays (dictionary f) all h = refl
 
   pub head_more : (h : StoredHead) → HeadNames a h → HeadNames b h
   head_more (xml_document x) h = text_id x h
@@ -159,7 +159,7 @@ node_more a b l all n k = record {
   head = head_more a b l n.head k.head;
   names = all_more (λ p. IsTextId a p.0 × Names a p.1) (λ p. IsTextId b p.0 × Names b p.1) n.names (λ p h. (text_id a b l p.0 h.0, names_more a b l p.1 h.1)) k.names;
   values = all_more (Names a) (Names b) n.values (names_more a b l) k.values;
-  fits = λ e. fits_are (head_content a n.head) (head_content b n.head) (node_content a n).names (node_content b n).names (node_content a n).values (node_content b n).values (sym (head_kept a b l n.head all k.head)) (sym (pairs_kept a b l n.names k.names)) (sym (values_kept a b l n.values k.values)) (k.fits e);
+  fits = λ e. fits_are (head_content a n.head) (head_content b n.head) (node_content a n).names (node_content b n).names (node_content a n).values (node_content b n).values (sym (head_stays a b l n.head all k.head)) (sym (pairs_stay a b l n.names k.names)) (sym (values_stay a b l n.values k.values)) (k.fits e);
 }
 
 pub record Kept (a : Arena) : Type 0 where
@@ -180,22 +180,22 @@ pub record Good (s : State3) : Type 0 where
 words_of : Arena → List ℕ → List KeptEntry → content.Words
 words_of a ids es = record { texts = map (text_at a) ids; traits = map (entry_content a) es }
 
-entry_kept : (a b : Arena) → Larger a b → AllByRecursion (IsTraitsIn a) a.traits → (e : KeptEntry) → IsEntryIn a e → entry_content b e ≡ entry_content a e
-entry_kept a b l all (plain t) h = ap content.plain (traits_kept a b l t all h)
-entry_kept a b l all (external t c) h = refl
+entry_stays : (a b : Arena) → Larger a b → AllByRecursion (IsTraitsIn a) a.traits → (e : KeptEntry) → IsEntryIn a e → entry_content b e ≡ entry_content a e
+entry_stays a b l all (plain t) h = ap content.plain (traits_stay a b l t all h)
+entry_stays a b l all (external t c) h = refl
 
-entries_kept : (a b : Arena) → Larger a b → AllByRecursion (IsTraitsIn a) a.traits → (es : List KeptEntry) → AllByRecursion (IsEntryIn a) es → map (entry_content b) es ≡ map (entry_content a) es
-entries_kept a b l all [] h = refl
-entries_kept a b l all (e ∷ es) h = ap (λ x. x ∷ map (entry_content b) es) (entry_kept a b l all e h.0) ∙ ap (λ x. entry_content a e ∷ x) (entries_kept a b l all es h.1)
+entries_stay : (a b : Arena) → Larger a b → AllByRecursion (IsTraitsIn a) a.traits → (es : List KeptEntry) → AllByRecursion (IsEntryIn a) es → map (entry_content b) es ≡ map (entry_content a) es
+entries_stay a b l all [] h = refl
+entries_stay a b l all (e ∷ es) h = ap (λ x. x ∷ map (entry_content b) es) (entry_stays a b l all e h.0) ∙ ap (λ x. entry_content a e ∷ x) (entries_stay a b l all es h.1)
 
 entry_more : (a b : Arena) → Larger a b → AllByRecursion (IsTraitsIn a) a.traits → (e : KeptEntry) → IsEntryIn a e → IsEntryIn b e
 entry_more a b l all (plain t) h = traits_id a b l t h
 entry_more a b l all (external t c) h = traits_id a b l t h
 
-pub words_kept : (a b : Arena) (t : KeptTables) → Larger a b → AllByRecursion (IsTraitsIn a) a.traits → AreTablesIn a t → (tables_of b t).words ≡ (tables_of a t).words
-words_kept a b t l all v =
-    ap (λ x. let w : content.Words = record { texts = x; traits = map (entry_content b) t.traits } in w) (texts_kept a b l t.texts v.texts)
-    ∙ ap (λ x. let w : content.Words = record { texts = map (text_at a) t.texts; traits = x } in w) (entries_kept a b l all t.traits v.traits)
+pub words_stay : (a b : Arena) (t : KeptTables) → Larger a b → AllByRecursion (IsTraitsIn a) a.traits → AreTablesIn a t → (tables_of b t).words ≡ (tables_of a t).words
+words_stay a b t l all v =
+    ap (λ x. let w : content.Words = record { texts = x; traits = map (entry_content b) t.traits } in w) (texts_stay a b l t.texts v.texts)
+    ∙ ap (λ x. let w : content.Words = record { texts = map (text_at a) t.texts; traits = x } in w) (entries_stay a b l all t.traits v.traits)
 
 pub tables_more : (a b : Arena) (t : KeptTables) → Larger a b → AllByRecursion (IsTraitsIn a) a.traits → AreTablesIn a t → AreTablesIn b t
 tables_more a b t l all v = record {
@@ -219,7 +219,7 @@ kept_with_text a x h k = record {
 pub good_contents : (s : State3) (x : List ℕ) → IsText x → Good s → Good (with_contents s x)
 good_contents s x h g =
     let l = text_larger s.arena x in
-    record { kept = kept_with_text s.arena x h g.kept; tables = tables_more s.arena (kept_text s.arena x) s.tables l g.kept.traits g.tables; words = g.words ∙ sym (words_kept s.arena (kept_text s.arena x) s.tables l g.kept.traits g.tables); marks = g.marks }
+    record { kept = kept_with_text s.arena x h g.kept; tables = tables_more s.arena (kept_text s.arena x) s.tables l g.kept.traits g.tables; words = g.words ∙ sym (words_stay s.arena (kept_text s.arena x) s.tables l g.kept.traits g.tables); marks = g.marks }
 
 pub good_text : (s : State3) (x : List ℕ) → IsText x → Good s → Good (with_text s x)
 good_text s [] h g = let c = good_contents s [] h g in record { kept = c.kept; tables = c.tables; words = c.words; marks = c.marks }
@@ -248,7 +248,7 @@ good_entry s t e c h g inside is =
       marks = g.marks;
       kept = record { texts = g.kept.texts; traits = all_append (IsTraitsIn b) a.traits (t ∷ []) (all_more (IsTraitsIn a) (IsTraitsIn b) a.traits (traits_in a b l) g.kept.traits) (traits_in a b l t h, tt); nodes = all_more (KeptNode a) (KeptNode b) a.nodes (node_more a b l g.kept.traits) g.kept.nodes };
       tables = record { texts = v.texts; traits = all_append (IsEntryIn b) s.tables.traits (e ∷ []) v.traits (inside, tt); nodes = v.nodes; distinct = v.distinct };
-      words = ap (λ w. content.add_entry w c) (g.words ∙ sym (words_kept a b s.tables l g.kept.traits g.tables)) ∙ ap (λ y. let w : content.Words = record { texts = map (text_at b) s.tables.texts; traits = y } in w) (sym pushed);
+      words = ap (λ w. content.add_entry w c) (g.words ∙ sym (words_stay a b s.tables l g.kept.traits g.tables)) ∙ ap (λ y. let w : content.Words = record { texts = map (text_at b) s.tables.texts; traits = y } in w) (sym pushed);
     }
 
 -- a node in the arena and in the table
@@ -296,7 +296,7 @@ good_node s head g named fits =
         nodes = all_append (KeptNode b) a.nodes (q ∷ []) (all_more (KeptNode a) (KeptNode b) a.nodes (node_more a b l g.kept.traits) g.kept.nodes) (node_more a b l g.kept.traits q n, tt);
       };
       tables = record { texts = v.texts; traits = v.traits; nodes = all_append (λ j. j < length b.nodes) s.tables.nodes (i ∷ []) v.nodes (omega arith, tt); distinct = distinct_more s.tables.nodes i g.tables.distinct g.tables.nodes };
-      words = g.words ∙ sym (words_kept a b s.tables l g.kept.traits g.tables);
+      words = g.words ∙ sym (words_stay a b s.tables l g.kept.traits g.tables);
       marks = ap (λ m. m ++ stored_marker head ∷ []) (g.marks ∙ sym (marks_more a b q s.tables.nodes refl g.tables.nodes))
           ∙ ap (λ (n : StoredNode). marks_of b s.tables.nodes ++ stored_marker n.head ∷ []) (sym (get_or-append_seam a.nodes q [] no_stored)) ∙ sym (map-append (λ j. stored_marker (stored_at b j).head) s.tables.nodes (i ∷ []));
     }
@@ -327,6 +327,6 @@ good_changed s f i g same n =
         nodes = all_more (KeptNode a) (KeptNode b) b.nodes (node_more a b l g.kept.traits) (all_set (KeptNode a) a.nodes i r g.kept.nodes n);
       };
       tables = tables_more a b s.tables l g.kept.traits g.tables;
-      words = g.words ∙ sym (words_kept a b s.tables l g.kept.traits g.tables);
+      words = g.words ∙ sym (words_stay a b s.tables l g.kept.traits g.tables);
       marks = g.marks ∙ sym (marks_set a b i r s.tables.nodes refl same);
     }

@@ -12,7 +12,7 @@ use Rattle.amf3_spelling.specs.KeptTables.{KeptTables, AreTablesIn, tables_of}
 use Rattle.amf3_spelling.specs.Reads3.{IsReading3}
 use Rattle.amf3_layout.specs.Layout3State.{state_of}
 use Rattle.amf3_layout.specs.Layout3.{ValueRead, value_layout}
-use Rattle.amf3_layout.proofs.Layout3Contents.{Larger, larger_itself, all_append, all_more, head_kept, pairs_kept, values_kept, names_more, traits_in, KeptNode, node_more, Kept}
+use Rattle.amf3_layout.proofs.Layout3Contents.{Larger, larger_itself, all_append, all_more, head_stays, pairs_stay, values_stay, names_more, traits_in, KeptNode, node_more, Kept}
 use Rattle.amf3_layout.proofs.Layout3Sound.{value_sound}
 use Rattle.amf3_layout.proofs.Layout3Reads.{good_start, reads}
 
@@ -104,7 +104,7 @@ may_fit a b l all n h =
     let k : KeptNode a n = record { head = h.head; names = h.names; values = h.values; fits = h.fits } in
     record {
       kept = node_more a b l all n k;
-      room = λ e. subst (λ x. MayFit x (node_content b n).names (node_content b n).values) (sym (head_kept a b l n.head all h.head)) (subst (λ x. MayFit (head_content a n.head) x (node_content b n).values) (sym (pairs_kept a b l n.names h.names)) (subst (λ x. MayFit (head_content a n.head) (node_content a n).names x) (sym (values_kept a b l n.values h.values)) (h.room e)));
+      room = λ e. subst (λ x. MayFit x (node_content b n).names (node_content b n).values) (sym (head_stays a b l n.head all h.head)) (subst (λ x. MayFit (head_content a n.head) x (node_content b n).values) (sym (pairs_stay a b l n.names h.names)) (subst (λ x. MayFit (head_content a n.head) (node_content a n).names x) (sym (values_stay a b l n.values h.values)) (h.room e)));
     }
 
 closed_fillable : (b : Arena) (ns : List StoredNode) → AllByRecursion (KeptNode b) ns → AllByRecursion (λ n. n.is_open ≡ false) ns → AllByRecursion (Fillable b) ns

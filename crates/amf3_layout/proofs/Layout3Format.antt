@@ -11,7 +11,7 @@ use Rattle.amf3_layout.proofs.Layout3Grows.{value_grows}
 use Rattle.amf3_layout.proofs.Layout3Able.{value_able}
 use Rattle.amf3_layout.proofs.Layout3Parts.{Found}
 use Rattle.amf3_layout.proofs.Layout3Complete.{spelled_read}
-use Rattle.amf3_layout.proofs.Layout3Marks.{marks_kept}
+use Rattle.amf3_layout.proofs.Layout3Marks.{marks_stay}
 use Rattle.amf3_layout.proofs.Layout3Filled.{reading}
 
 -- what is accepted is read
@@ -19,7 +19,7 @@ pub accepted_read : (n : ℕ) (a : Arena) (t : KeptTables) (fs : List Field) →
 accepted_read n a t fs valid p lt =
     let g = p.graph in
     let f : Found (graph_of g p.value) (value_layout n) (state_of a t) fs p.after =
-    spelled_read (graph_of g p.value) n (value_content g p.value) (tables_of a t) fs p.after (state_of a t) (record { words = refl; marks = marks_kept a g p.value t.nodes p.completes.nodes valid.nodes }) lt p.spelled in
+    spelled_read (graph_of g p.value) n (value_content g p.value) (tables_of a t) fs p.after (state_of a t) (record { words = refl; marks = marks_stay a g p.value t.nodes p.completes.nodes valid.nodes }) lt p.spelled in
     (f.result, f.runs)
 
 -- what has been read can be completed

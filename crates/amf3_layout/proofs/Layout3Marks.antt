@@ -21,17 +21,17 @@ mark_at a (n ∷ ns) (suc i) = mark_at a ns i
 pub graph_mark : (a : Arena) (r : Stored) (i : ℕ) → marker (node_at (graph_of a r) i).head ≡ stored_marker (stored_at a i).head
 graph_mark a r i = mark_at a a.nodes i
 
-head_kept : (open_ : Bool) (n m : StoredNode) → cond open_ (Extends n m) (m ≡ n) → m.head ≡ n.head
-head_kept true n m h = h.0
-head_kept false n m h = ap (λ x. x.head) h
+head_stays : (open_ : Bool) (n m : StoredNode) → cond open_ (Extends n m) (m ≡ n) → m.head ≡ n.head
+head_stays true n m h = h.0
+head_stays false n m h = ap (λ x. x.head) h
 
 pub completed_mark : (old new : List StoredNode) (i : ℕ) → NodesComplete old new → i < length old → stored_marker (get_or new i no_stored).head ≡ stored_marker (get_or old i no_stored).head
 completed_mark [] new i h lt = absurd (omega arith)
 completed_mark (n ∷ old) [] i h lt = absurd h
-completed_mark (n ∷ old) (m ∷ new) zero h lt = ap stored_marker (head_kept n.is_open n m h.0)
+completed_mark (n ∷ old) (m ∷ new) zero h lt = ap stored_marker (head_stays n.is_open n m h.0)
 completed_mark (n ∷ old) (m ∷ new) (suc i) h lt = completed_mark old new i h.1 (omega arith)
 
-pub marks_kept : (a g : Arena) (r : Stored) (ids : List ℕ) → NodesComplete a.nodes g.nodes → AllByRecursion (λ i. i < length a.nodes) ids → markers (graph_of g r) ids ≡ map (λ i. stored_marker (stored_at a i).head) ids
-marks_kept a g r [] h below = refl
-marks_kept a g r (i ∷ ids) h below =
-    ap (λ m. m ∷ markers (graph_of g r) ids) (graph_mark g r i ∙ completed_mark a.nodes g.nodes i h below.0) ∙ ap (λ l. stored_marker (stored_at a i).head ∷ l) (marks_kept a g r ids h below.1)
+pub marks_stay : (a g : Arena) (r : Stored) (ids : List ℕ) → NodesComplete a.nodes g.nodes → AllByRecursion (λ i. i < length a.nodes) ids → markers (graph_of g r) ids ≡ map (λ i. stored_marker (stored_at a i).head) ids
+marks_stay a g r [] h below = refl
+marks_stay a g r (i ∷ ids) h below =
+    ap (λ m. m ∷ markers (graph_of g r) ids) (graph_mark g r i ∙ completed_mark a.nodes g.nodes i h below.0) ∙ ap (λ l. stored_marker (stored_at a i).head ∷ l) (marks_stay a g r ids h below.1)

@@ -13,7 +13,7 @@ use Rattle.amf3_spelling.specs.Tables.{Words, Tables, with_words}
 use Rattle.amf3_spelling.specs.Then.{Spelling}
 use Rattle.amf3_spelling.specs.Refusals3.{markers, text_header_refusal}
 use Rattle.amf3_spelling.specs.Words3.{Text}
-use Rattle.amf3_spelling.specs.Parts3.{Part, flag, Parts, values_then, pairs_then, fours, eights}
+use Rattle.amf3_spelling.specs.Segments3.{Segment, flag, Segments, values_then, pairs_then, fours, eights}
 use Rattle.amf3_layout.specs.Layout3State.{State3, with_node, changed}
 use Rattle.amf3_layout.specs.Layout3Words.{chunk, TextRead, text_layout, Outline}
 use Rattle.amf3_layout.specs.Layout3.{four_layout, eight_layout, many, ValueRead, read, items, entries, items_of, is_empty, pairs, pairs_if, parts}
@@ -38,7 +38,7 @@ abbrev pub Finds : Graph → (Value → Spelling Tables) → Reader → ℕ → 
 Finds g R v n = (x : Value) (t : Tables) (fs : List Field) (u : Tables) (s : State3) → AllClean fs → Like g t s → length (flat fs) < n → R x t fs u → Found g v s fs u
 
 -- some parts were read, and these are left
-pub record Half (g : Graph) (R : Value → Spelling Tables) (l : Layout State3) (ps : List Part) (fs : List Field) (u : Tables) : Type 0 where
+pub record Half (g : Graph) (R : Value → Spelling Tables) (l : Layout State3) (ps : List Segment) (fs : List Field) (u : Tables) : Type 0 where
   pub front : List Field
   pub back : List Field
   pub joined : fs ≡ front ++ back
@@ -46,7 +46,7 @@ pub record Half (g : Graph) (R : Value → Spelling Tables) (l : Layout State3) 
   pub state : State3
   pub runs : Runs l front state
   pub like : Like g mid state
-  pub rest : Parts R free ps mid back u
+  pub rest : Segments R free ps mid back u
 
 pub parts_length : (fs front back : List Field) → fs ≡ front ++ back → length (flat fs) ≡ length (flat front) + length (flat back)
 parts_length fs front back e = ap (λ l. length (flat l)) e ∙ ap length (flat-append front back) ∙ length-append (flat front) (flat back)
@@ -54,11 +54,11 @@ parts_length fs front back e = ap (λ l. length (flat l)) e ∙ ap length (flat-
 joined_more : (fs a b front back : List Field) → fs ≡ a ++ b → b ≡ front ++ back → fs ≡ (a ++ front) ++ back
 joined_more fs a b front back e h = e ∙ ap (λ l. a ++ l) h ∙ sym (append_assoc a front back)
 
-none_read : (g : Graph) (R : Value → Spelling Tables) (ps : List Part) (t u : Tables) (fs : List Field) (s : State3) → Like g t s → Parts R free ps t fs u → Half g R (give s) ps fs u
+none_read : (g : Graph) (R : Value → Spelling Tables) (ps : List Segment) (t u : Tables) (fs : List Field) (s : State3) → Like g t s → Segments R free ps t fs u → Half g R (give s) ps fs u
 none_read g R ps t u fs s like p = record { front = []; back = fs; joined = refl; mid = t; state = s; runs = refl; like = like; rest = p }
 
-pub items_half : (g : Graph) (R : Value → Spelling Tables) (v : Reader) (N id : ℕ) → Finds g R v N → (vs : List Value) (ps : List Part) (t u : Tables) (fs : List Field) (s : State3) → AllClean fs → Like g t s → length (flat fs) < N
-    → Parts R free (values_then vs ps) t fs u → Half g R (items v id (length vs) s) ps fs u
+pub items_half : (g : Graph) (R : Value → Spelling Tables) (v : Reader) (N id : ℕ) → Finds g R v N → (vs : List Value) (ps : List Segment) (t u : Tables) (fs : List Field) (s : State3) → AllClean fs → Like g t s → length (flat fs) < N
+    → Segments R free (values_then vs ps) t fs u → Half g R (items v id (length vs) s) ps fs u
 items_half g R v N id h [] ps t u fs s c like lt p = none_read g R ps t u fs s like p
 items_half g R v N id h (x ∷ vs) ps t u fs s c like lt p =
     let d = clean_parts fs p.front p.back p.joined c in
@@ -80,8 +80,8 @@ items_half g R v N id h (x ∷ vs) ps t u fs s c like lt p =
 abbrev valued : Reader → ℕ → ℕ → ValueRead → ValueRead → Layout State3
 valued v id n k x = entries v id n (changed (more_entry k.value x.value) id x.state)
 
-pub entries_half : (g : Graph) (R : Value → Spelling Tables) (v : Reader) (N id : ℕ) → Finds g R v N → (n : ℕ) (vs : List Value) (ps : List Part) (t u : Tables) (fs : List Field) (s : State3) → length vs ≡ 2 * n → AllClean fs → Like g t s → length (flat fs) < N
-    → Parts R free (values_then vs ps) t fs u → Half g R (entries v id n s) ps fs u
+pub entries_half : (g : Graph) (R : Value → Spelling Tables) (v : Reader) (N id : ℕ) → Finds g R v N → (n : ℕ) (vs : List Value) (ps : List Segment) (t u : Tables) (fs : List Field) (s : State3) → length vs ≡ 2 * n → AllClean fs → Like g t s → length (flat fs) < N
+    → Segments R free (values_then vs ps) t fs u → Half g R (entries v id n s) ps fs u
 entries_half g R v N id h zero [] ps t u fs s twice c like lt p = none_read g R ps t u fs s like p
 entries_half g R v N id h zero (x ∷ vs) ps t u fs s twice c like lt p = absurd (omega arith)
 entries_half g R v N id h (suc n) [] ps t u fs s twice c like lt p = absurd (omega arith)
@@ -108,8 +108,8 @@ entries_half g R v N id h (suc n) (x ∷ y ∷ vs) ps t u fs s twice c like lt p
           (runs_bind (v one.result.state) (valued v id n one.result) q.front more.front two.result (give more.state) two.runs more.runs);
     }
 
-pub items_of_half : (g : Graph) (R : Value → Spelling Tables) (v : Reader) (N id : ℕ) → Finds g R v N → (b : Bool) (n : ℕ) (vs : List Value) (ps : List Part) (t u : Tables) (fs : List Field) (s : State3) → length vs ≡ cond b (2 * n) n → AllClean fs → Like g t s → length (flat fs) < N
-    → Parts R free (values_then vs ps) t fs u → Half g R (items_of b v id n s) ps fs u
+pub items_of_half : (g : Graph) (R : Value → Spelling Tables) (v : Reader) (N id : ℕ) → Finds g R v N → (b : Bool) (n : ℕ) (vs : List Value) (ps : List Segment) (t u : Tables) (fs : List Field) (s : State3) → length vs ≡ cond b (2 * n) n → AllClean fs → Like g t s → length (flat fs) < N
+    → Segments R free (values_then vs ps) t fs u → Half g R (items_of b v id n s) ps fs u
 items_of_half g R v N id h true n vs ps t u fs s count c like lt p = entries_half g R v N id h n vs ps t u fs s count c like lt p
 items_of_half g R v N id h false n vs ps t u fs s count c like lt p = subst (λ k. Half g R (items v id k s) ps fs u) count (items_half g R v N id h vs ps t u fs s c like lt p)
 
@@ -127,8 +127,8 @@ not_empty : (x y : List ℕ) → x ≡ y → y ≢ [] → is_empty x ≡ false
 not_empty [] y e h = absurd (h (sym e))
 not_empty (b ∷ x) y e h = refl
 
-pub pairs_half : (g : Graph) (R : Value → Spelling Tables) (v : Reader) (N f id : ℕ) → Finds g R v N → (qs : List (List ℕ × Value)) (ps : List Part) (t u : Tables) (fs : List Field) (s : State3) → AllNamed qs → AllClean fs → Like g t s → length (flat fs) < N → length (flat fs) < f
-    → Parts R free (pairs_then qs ps) t fs u → Half g R (pairs v f id s) ps fs u
+pub pairs_half : (g : Graph) (R : Value → Spelling Tables) (v : Reader) (N f id : ℕ) → Finds g R v N → (qs : List (List ℕ × Value)) (ps : List Segment) (t u : Tables) (fs : List Field) (s : State3) → AllNamed qs → AllClean fs → Like g t s → length (flat fs) < N → length (flat fs) < f
+    → Segments R free (pairs_then qs ps) t fs u → Half g R (pairs v f id s) ps fs u
 pairs_half g R v N zero id h qs ps t u fs s named c like lt few p = absurd (omega arith)
 pairs_half g R v N (suc f) id h [] ps t u fs s named c like lt few p =
     let d = clean_parts fs p.front p.back p.joined c in
@@ -171,13 +171,13 @@ pairs_half g R v N (suc f) id h (q ∷ qs) ps t u fs s named c like lt few p =
           (runs_bind (v z) (on v f id one.read) p2.front more.front two.result (give more.state) two.runs more.runs));
     }
 
-pub pairs_if_half : (g : Graph) (R : Value → Spelling Tables) (v : Reader) (N id : ℕ) → Finds g R v N → (b : Bool) (qs : List (List ℕ × Value)) (ps : List Part) (t u : Tables) (fs : List Field) (s : State3) → AllNamed qs → AllClean fs → Like g t s → length (flat fs) < N
-    → Parts R free (cond b (pairs_then qs ps) ps) t fs u → Half g R (pairs_if b v N id s) ps fs u
+pub pairs_if_half : (g : Graph) (R : Value → Spelling Tables) (v : Reader) (N id : ℕ) → Finds g R v N → (b : Bool) (qs : List (List ℕ × Value)) (ps : List Segment) (t u : Tables) (fs : List Field) (s : State3) → AllNamed qs → AllClean fs → Like g t s → length (flat fs) < N
+    → Segments R free (cond b (pairs_then qs ps) ps) t fs u → Half g R (pairs_if b v N id s) ps fs u
 pairs_if_half g R v N id h true qs ps t u fs s named c like lt p = pairs_half g R v N N id h qs ps t u fs s named c like lt lt p
 pairs_if_half g R v N id h false qs ps t u fs s named c like lt p = none_read g R ps t u fs s like p
 
 -- the parts behind the header of a node
-abbrev pub behind : Bool → Bool → List (List ℕ × Value) → List Value → List Part
+abbrev pub behind : Bool → Bool → List (List ℕ × Value) → List Value → List Segment
 behind first last qs vs = cond first (pairs_then qs (values_then vs (cond last (pairs_then qs []) []))) (values_then vs (cond last (pairs_then qs []) []))
 
 pub record FoundNode (g : Graph) (v : Reader) (N : ℕ) (o : Outline) (fs : List Field) (u : Tables) : Type 0 where
@@ -195,7 +195,7 @@ abbrev behind_pairs : Reader → ℕ → ℕ → Outline → State3 → Layout V
 behind_pairs v f id o s = bind (items_of o.twins v id o.count s) (behind_items v f id o.last)
 
 pub parts_complete : (g : Graph) (R : Value → Spelling Tables) (v : Reader) (N : ℕ) → Finds g R v N → (o : Outline) (qs : List (List ℕ × Value)) (vs : List Value) (t u : Tables) (fs : List Field) → AllNamed qs → AllClean fs → Like g t (with_node o.state o.head) → length (flat fs) < N
-    → length vs ≡ cond o.twins (2 * o.count) o.count → Parts R free (behind o.first o.last qs vs) t fs u → FoundNode g v N o fs u
+    → length vs ≡ cond o.twins (2 * o.count) o.count → Segments R free (behind o.first o.last qs vs) t fs u → FoundNode g v N o fs u
 parts_complete g R v N h o qs vs t u fs named c like lt count p =
     let id = length o.state.arena.nodes in
     let z = with_node o.state o.head in
@@ -224,27 +224,27 @@ chunk_runs kind [] f c = refl
 chunk_runs kind (b ∷ x) f c = (takes (kind (suc (length x))) (b ∷ x) c.0, refl)
 
 -- a flag was read, and these parts are left
-pub record FlagHalf (R : Value → Spelling Tables) (ps : List Part) (t : Tables) (fs : List Field) (u : Tables) : Type 0 where
+pub record FlagHalf (R : Value → Spelling Tables) (ps : List Segment) (t : Tables) (fs : List Field) (u : Tables) : Type 0 where
   pub byte : ℕ
   pub back : List Field
   pub joined : fs ≡ field (raw_kind 1) (byte ∷ []) ∷ back
   pub is_clean : IsClean (field (raw_kind 1) (byte ∷ []))
   pub clean_back : AllClean back
-  pub rest : Parts R free ps t back u
+  pub rest : Segments R free ps t back u
 
-pub flag_half : (R : Value → Spelling Tables) (f : Bool) (ps : List Part) (t : Tables) (fs : List Field) (u : Tables) → AllClean fs → Parts R free (flag f ∷ ps) t fs u → FlagHalf R ps t fs u
+pub flag_half : (R : Value → Spelling Tables) (f : Bool) (ps : List Segment) (t : Tables) (fs : List Field) (u : Tables) → AllClean fs → Segments R free (flag f ∷ ps) t fs u → FlagHalf R ps t fs u
 flag_half R f ps t fs u c p =
     let m = p.first.0.0 in
     let e : fs ≡ field (raw_kind 1) (m ∷ []) ∷ p.back = p.joined ∙ ap (λ l. l ++ p.back) p.first.0.2 in
     let d = subst AllClean e c in
-    record { byte = m; back = p.back; joined = e; is_clean = d.0; clean_back = d.1; rest = subst (λ w. Parts R free ps w p.back u) p.first.1 p.second }
+    record { byte = m; back = p.back; joined = e; is_clean = d.0; clean_back = d.1; rest = subst (λ w. Segments R free ps w p.back u) p.first.1 p.second }
 
 pub record FoundMany (l : Layout ℕ) (n : ℕ) (t : Tables) (fs : List Field) (u : Tables) : Type 0 where
   pub numbers : List ℕ
   pub runs : Runs (many n l) fs numbers
   pub same : u ≡ t
 
-pub fours_complete : (R : Value → Spelling Tables) (ns : List ℕ) (t : Tables) (fs : List Field) (u : Tables) → AllClean fs → Parts R free (fours ns) t fs u → FoundMany four_layout (length ns) t fs u
+pub fours_complete : (R : Value → Spelling Tables) (ns : List ℕ) (t : Tables) (fs : List Field) (u : Tables) → AllClean fs → Segments R free (fours ns) t fs u → FoundMany four_layout (length ns) t fs u
 fours_complete R [] t fs u c p = record { numbers = []; runs = subst (λ l. Runs (many 0 four_layout) l []) (sym p.0) refl; same = p.1 }
 fours_complete R (n ∷ ns) t fs u c p =
     let e : fs ≡ field (raw_kind 4) (to_be_bytes w32 n) ∷ p.back = p.joined ∙ ap (λ l. l ++ p.back) p.first.0 in
@@ -258,7 +258,7 @@ fours_complete R (n ∷ ns) t fs u c p =
           (takes (raw_kind 4) (to_be_bytes w32 n) d.0, subst (λ l. Runs (bind (many (length ns) four_layout) (λ xs. give (k ∷ xs))) l (k ∷ more.numbers)) (append-nil p.back) (runs_bind (many (length ns) four_layout) (λ xs. give (k ∷ xs)) p.back [] more.numbers (give (k ∷ more.numbers)) more.runs refl));
     }
 
-pub eights_complete : (R : Value → Spelling Tables) (ns : List ℕ) (t : Tables) (fs : List Field) (u : Tables) → AllClean fs → Parts R free (eights ns) t fs u → FoundMany eight_layout (length ns) t fs u
+pub eights_complete : (R : Value → Spelling Tables) (ns : List ℕ) (t : Tables) (fs : List Field) (u : Tables) → AllClean fs → Segments R free (eights ns) t fs u → FoundMany eight_layout (length ns) t fs u
 eights_complete R [] t fs u c p = record { numbers = []; runs = subst (λ l. Runs (many 0 eight_layout) l []) (sym p.0) refl; same = p.1 }
 eights_complete R (n ∷ ns) t fs u c p =
     let e : fs ≡ field (raw_kind 8) (to_be_bytes w64 n) ∷ p.back = p.joined ∙ ap (λ l. l ++ p.back) p.first.0 in

@@ -12,7 +12,7 @@ use Rattle.amf3_spelling.specs.Spells3.{SpellsIn}
 use Rattle.amf_wire.specs.Style.{free}
 use Rattle.amf3_layout.specs.Layout3State.{state_of}
 use Rattle.amf3_layout.specs.Layout3.{ValueRead, value_layout}
-use Rattle.amf3_layout.proofs.Layout3Contents.{all_more, Larger, head_kept, pairs_kept, values_kept, KeptNode, Kept, Good}
+use Rattle.amf3_layout.proofs.Layout3Contents.{all_more, Larger, head_stays, pairs_stay, values_stay, KeptNode, Kept, Good}
 use Rattle.amf3_layout.proofs.Layout3SoundParts.{AllClosed}
 use Rattle.amf3_layout.proofs.Layout3Sound.{value_sound}
 
@@ -28,7 +28,7 @@ node_there a b l all n h k = record {
   head = k.head;
   names = k.names;
   values = k.values;
-  room = λ e. room_is (head_content a n.head) (head_content b n.head) (node_content a n).names (node_content b n).names (node_content a n).values (node_content b n).values (sym (head_kept a b l n.head all h.head)) (sym (pairs_kept a b l n.names h.names)) (sym (values_kept a b l n.values h.values)) (h.room e);
+  room = λ e. room_is (head_content a n.head) (head_content b n.head) (node_content a n).names (node_content b n).names (node_content a n).values (node_content b n).values (sym (head_stays a b l n.head all h.head)) (sym (pairs_stay a b l n.names h.names)) (sym (values_stay a b l n.values h.values)) (h.room e);
   fits = k.fits;
 }
 

@@ -33,7 +33,7 @@ use Rattle.amf3_layout.specs.Layout3State.{State3, stored_marker}
 use Rattle.amf3_layout.specs.Layout3Words.{TextRead, text_layout}
 use Rattle.amf3_layout.specs.Layout3.{ValueRead, read, inline_node, known_node, node_layout, behind_marker, value_layout}
 use Rattle.amf3_layout.proofs.Layout3Able.{byte_at, marker_below}
-use Rattle.amf3_layout.proofs.Layout3Marks.{marks_kept}
+use Rattle.amf3_layout.proofs.Layout3Marks.{marks_stay}
 use Rattle.amf3_layout.proofs.Layout3Contents.{Larger, larger_itself, all_place, Good}
 use Rattle.amf3_layout.proofs.Layout3SoundTexts.{taken, give_is, even_is, odd_is, is_number, spelled_number, TextSound, text_sound}
 use Rattle.amf3_layout.proofs.Layout3SoundOpenings.{eight_is}
@@ -50,7 +50,7 @@ one_byte y w = by y (sym (whole_fixed 1 y (length y) w))
 
 -- the markers of the table, in each graph that completes
 graph_marks : (s : State3) (g : Arena) (r : Stored) → Good s → Completes s.arena g → markers (graph_of g r) s.tables.nodes ≡ s.marks
-graph_marks s g r good c = marks_kept s.arena g r s.tables.nodes c.nodes good.tables.nodes ∙ sym good.marks
+graph_marks s g r good c = marks_stay s.arena g r s.tables.nodes c.nodes good.tables.nodes ∙ sym good.marks
 
 module _ (d m : ℕ) (s : State3) (g : Good s) (f : Field) (is : f ≡ marker_field m) where
   -- a value that is no node

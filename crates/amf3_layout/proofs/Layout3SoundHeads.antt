@@ -22,7 +22,7 @@ use Rattle.amf3_spelling.specs.Tables.{Entry, plain, external, Words, Tables, wi
 use Rattle.amf3_spelling.specs.Then.{Spelling, Then}
 use Rattle.amf3_spelling.specs.Refusals3.{text_header_refusal}
 use Rattle.amf3_spelling.specs.Words3.{TraitsBy}
-use Rattle.amf3_spelling.specs.Parts3.{Part, flag, four, word, Lifted, Parts, layout, values_then, fours, signed_fours, eights}
+use Rattle.amf3_spelling.specs.Segments3.{Segment, flag, four, word, Lifted, Segments, segments_of, values_then, fours, signed_fours, eights}
 use Rattle.amf3_spelling.specs.Headers3.{HeaderBy}
 use Rattle.amf_graph.specs.declared.kind.NodeKind.{NodeKind}
 use Rattle.amf_graph.specs.declared.kind.NodeKind.TheVariants as kind
@@ -40,7 +40,7 @@ abbrev pub total : Outline → ℕ
 total o = cond o.twins (2 * o.count) o.count
 
 abbrev pub Behind : (Value → Spelling Tables) → Head → List (List ℕ × Value) → List Value → ℕ → Spelling Tables
-Behind R h qs vs n = Then (Lifted (HeaderBy free h vs n)) (Parts R free (layout h qs vs))
+Behind R h qs vs n = Then (Lifted (HeaderBy free h vs n)) (Segments R free (segments_of h qs vs))
 
 pub record OpenSound (R : Value → Spelling Tables) (f : NodeKind) (n : ℕ) (s : State3) (fs : List Field) (o : Outline) : Type 0 where
   pub good : Good o.state
@@ -52,13 +52,13 @@ pub record OpenSound (R : Value → Spelling Tables) (f : NodeKind) (n : ℕ) (s
   pub once : (o.first ≡ false) ⊎ (o.last ≡ false)
   pub leaf : takes_parts o.head ≡ false → Fits (head_content o.state.arena o.head) [] [] × (o ≡ whole_node o.state o.head)
   pub fits : (qs : List (List ℕ × Value)) (vs : List Value) → length vs ≡ total o → (o.first ≡ false → o.last ≡ false → qs ≡ []) → Fits (head_content o.state.arena o.head) qs vs
-  pub spelled : (t u : Tables) (qs : List (List ℕ × Value)) (vs : List Value) (back : List Field) → t.words ≡ s.words → length vs ≡ total o → Parts R free (behind o.first o.last qs vs) (with_words t o.state.words) back u
+  pub spelled : (t u : Tables) (qs : List (List ℕ × Value)) (vs : List Value) (back : List Field) → t.words ≡ s.words → length vs ≡ total o → Segments R free (behind o.first o.last qs vs) (with_words t o.state.words) back u
       → Behind R (head_content o.state.arena o.head) qs vs n t (fs ++ back) u
 
 module _ (R : Value → Spelling Tables) (n : ℕ) (s : State3) (g : Good s) where
   -- a node without pairs and values
   whole_open : (f : NodeKind) (fs : List Field) (z : State3) (head : StoredHead) (h : Head) → Good z → Larger s.arena z.arena → z.arena.nodes ≡ s.arena.nodes → z.tables.nodes ≡ s.tables.nodes → z.words ≡ s.words → h ≡ head_content z.arena head → HeadNames z.arena head → stored_marker head ≡ node_marker f
-      → Fits h [] [] → ((w : Words) → HeaderBy free h [] n w [] w) → ((qs : List (List ℕ × Value)) (t u : Tables) (back : List Field) → (back ≡ []) × (u ≡ t) → Parts R free (layout h qs []) t (fs ++ back) u) → OpenSound R f n s fs (whole_node z head)
+      → Fits h [] [] → ((w : Words) → HeaderBy free h [] n w [] w) → ((qs : List (List ℕ × Value)) (t u : Tables) (back : List Field) → (back ≡ []) × (u ≡ t) → Segments R free (segments_of h qs []) t (fs ++ back) u) → OpenSound R f n s fs (whole_node z head)
   whole_open f fs z head h good larger nodes table words is named mark fits header parts = record {
     good = good;
     larger = larger;
@@ -71,7 +71,7 @@ module _ (R : Value → Spelling Tables) (n : ℕ) (s : State3) (g : Good s) whe
     fits = λ qs vs count none. subst (λ l. Fits (head_content z.arena head) l vs) (sym (none refl refl)) (subst (λ l. Fits (head_content z.arena head) [] l) (sym (nil_from_length vs count)) (subst (λ k. Fits k [] []) is fits));
     spelled = λ t u qs vs back same count p.
         let none : vs ≡ [] = nil_from_length vs count in
-        let q : Parts R free [] (with_words t z.words) back u = subst (λ l. Parts R free (values_then l []) (with_words t z.words) back u) none p in
+        let q : Segments R free [] (with_words t z.words) back u = subst (λ l. Segments R free (values_then l []) (with_words t z.words) back u) none p in
         let header' : HeaderBy free h [] n t.words [] z.words = subst (λ w. HeaderBy free h [] n w [] z.words) (words ∙ sym same) (header z.words) in
         let all : Behind R h qs [] n t (fs ++ back) u = record { front = []; back = fs ++ back; mid = with_words t z.words; joined = refl; first = (z.words, header', refl); second = parts qs (with_words t z.words) u back q } in
         subst (λ k. Behind R k qs vs n t (fs ++ back) u) is (subst (λ l. Behind R h qs l n t (fs ++ back) u) (sym none) all);
@@ -108,7 +108,7 @@ module _ (R : Value → Spelling Tables) (n : ℕ) (s : State3) (g : Good s) whe
   module _ (odd : n ≡ 2 * (n / 2) + 1) where
     text_node : (f : NodeKind) (head : ℕ → StoredHead) (h : List ℕ → Head) → ((a : Arena) (i : ℕ) → head_content a (head i) ≡ h (text_at a i)) → ((a : Arena) (i : ℕ) → i < length a.texts → HeadNames a (head i)) → ((i : ℕ) → stored_marker (head i) ≡ node_marker f)
         → ((x : List ℕ) → IsText x → Fits (h x) [] []) → ((x : List ℕ) (w : Words) → n ≡ 2 * length x + 1 → HeaderBy free (h x) [] n w [] w)
-        → ((x : List ℕ) (fs : List Field) (qs : List (List ℕ × Value)) (t u : Tables) (back : List Field) → fs ≡ contents text_kind x → (back ≡ []) × (u ≡ t) → Parts R free (layout (h x) qs []) t (fs ++ back) u)
+        → ((x : List ℕ) (fs : List Field) (qs : List (List ℕ × Value)) (t u : Tables) (back : List Field) → fs ≡ contents text_kind x → (back ≡ []) × (u ≡ t) → Segments R free (segments_of (h x) qs []) t (fs ++ back) u)
         → (fs : List Field) (o : Outline) → AreBytes (flat fs) → Runs (chunk text_kind (n / 2) (λ x. give (whole_node (with_contents s x) (head (length s.arena.texts))))) fs o → OpenSound R f n s fs o
     text_node f head h content names mark fits header parts fs o b r =
         let i = length s.arena.texts in
@@ -134,10 +134,10 @@ module _ (R : Value → Spelling Tables) (n : ℕ) (s : State3) (g : Good s) whe
     flag_read l [] o b r = absurd cc
     flag_read l (f ∷ fs) o b r = record { byte = f; rest = fs; fields = refl; takes = r.0; bytes = bytes_front f.bytes (flat fs) b; bytes_rest = bytes_back f.bytes (flat fs) b; runs = r.1 }
 
-    numbers_open : (f : NodeKind) (l : Layout ℕ) (ps : List ℕ → List Part) (P : ℕ → Type 0) (head : Bool → List ℕ → StoredHead) (h : Bool → List ℕ → Head) → ((k : ℕ) (fs : List Field) (ns : List ℕ) → AreBytes (flat fs) → Runs (many k l) fs ns → Numbers R ps P k fs ns)
+    numbers_open : (f : NodeKind) (l : Layout ℕ) (ps : List ℕ → List Segment) (P : ℕ → Type 0) (head : Bool → List ℕ → StoredHead) (h : Bool → List ℕ → Head) → ((k : ℕ) (fs : List Field) (ns : List ℕ) → AreBytes (flat fs) → Runs (many k l) fs ns → Numbers R ps P k fs ns)
         → ((a : Arena) (b : Bool) (ns : List ℕ) → head_content a (head b ns) ≡ h b ns) → ((a : Arena) (b : Bool) (ns : List ℕ) → HeadNames a (head b ns)) → ((b : Bool) (ns : List ℕ) → stored_marker (head b ns) ≡ node_marker f)
         → ((b : Bool) (ns : List ℕ) → AllByRecursion P ns → Fits (h b ns) [] []) → ((b : Bool) (ns : List ℕ) (w : Words) → n ≡ 2 * length ns + 1 → HeaderBy free (h b ns) [] n w [] w)
-        → ((b : Bool) (ns : List ℕ) (qs : List (List ℕ × Value)) (t u : Tables) (fs : List Field) → AllByRecursion P ns → Parts R free (flag b ∷ ps ns) t fs u → Parts R free (layout (h b ns) qs []) t fs u)
+        → ((b : Bool) (ns : List ℕ) (qs : List (List ℕ × Value)) (t u : Tables) (fs : List Field) → AllByRecursion P ns → Segments R free (flag b ∷ ps ns) t fs u → Segments R free (segments_of (h b ns) qs []) t fs u)
         → (fs : List Field) (o : Outline) → AreBytes (flat fs) → Runs (bind flag_layout (λ b. bind (many (n / 2) l) (λ ns. give (whole_node s (head b ns))))) fs o → OpenSound R f n s fs o
     numbers_open f l ps P head h sound content names mark fits header parts fs o b r =
         let c = flag_read (λ b. bind (many (n / 2) l) (λ ns. give (whole_node s (head b ns)))) fs o b r in
@@ -168,7 +168,7 @@ module _ (R : Value → Spelling Tables) (n : ℕ) (s : State3) (g : Good s) whe
         members false qs e none = none t.first e
 
         of_traits : (h : Head) (e : Entry) → t.entry ≡ e → head_content o.state.arena o.head ≡ h → ((qs : List (List ℕ × Value)) (vs : List Value) (w w' : Words) (fs : List Field) → TraitsBy free e n w fs w' → HeaderBy free h vs n w fs w')
-            → ((qs : List (List ℕ × Value)) (vs : List Value) → behind false (dynamic_of e) qs vs ≡ layout h qs vs) → ((qs : List (List ℕ × Value)) (vs : List Value) → length vs ≡ sealed_of e → AreMembers (dynamic_of e) qs → Fits h qs vs)
+            → ((qs : List (List ℕ × Value)) (vs : List Value) → behind false (dynamic_of e) qs vs ≡ segments_of h qs vs) → ((qs : List (List ℕ × Value)) (vs : List Value) → length vs ≡ sealed_of e → AreMembers (dynamic_of e) qs → Fits h qs vs)
             → HeadNames o.state.arena o.head → stored_marker o.head ≡ 0x0A → takes_parts o.head ≡ true → OpenSound R f n s fs o
         of_traits h e i is header lay fits named mark takes = record {
           good = t.good;
@@ -181,8 +181,8 @@ module _ (R : Value → Spelling Tables) (n : ℕ) (s : State3) (g : Good s) whe
           leaf = λ k. absurd (true_false (takes_parts o.head) takes k);
           fits = λ qs vs count none. subst (λ k. Fits k qs vs) (sym is) (fits qs vs (count ∙ counted e i) (members (dynamic_of e) qs (t.last ∙ ap dynamic_of i) none));
           spelled = λ w u qs vs back same count p.
-              let q : Parts R free (layout h qs vs) (with_words w o.state.words) back u =
-              subst (λ l. Parts R free l (with_words w o.state.words) back u) (ap (λ b. behind b o.last qs vs) t.first ∙ ap (λ b. behind false b qs vs) (t.last ∙ ap dynamic_of i) ∙ lay qs vs) p in
+              let q : Segments R free (segments_of h qs vs) (with_words w o.state.words) back u =
+              subst (λ l. Segments R free l (with_words w o.state.words) back u) (ap (λ b. behind b o.last qs vs) t.first ∙ ap (λ b. behind false b qs vs) (t.last ∙ ap dynamic_of i) ∙ lay qs vs) p in
               let by : TraitsBy free e n w.words fs o.state.words = subst (λ v. TraitsBy free e n v fs o.state.words) (sym same) (subst (λ k. TraitsBy free k n s.words fs o.state.words) i t.spelled) in
               let all : Behind R h qs vs n w (fs ++ back) u = record { front = fs; back = back; mid = with_words w o.state.words; joined = refl; first = (o.state.words, header qs vs w.words o.state.words fs by, refl); second = q } in
               subst (λ k. Behind R k qs vs n w (fs ++ back) u) (sym is) all;
@@ -226,7 +226,7 @@ module _ (R : Value → Spelling Tables) (n : ℕ) (s : State3) (g : Good s) whe
               leaf = λ z. absurd cc;
               fits = λ qs vs c h. h refl refl;
               spelled = λ t u qs vs back same count q.
-                  let inside : Parts R free (flag v ∷ word x.bytes ∷ values_then vs []) (with_words t s.words) (e ∷ (front ++ back)) u =
+                  let inside : Segments R free (flag v ∷ word x.bytes ∷ values_then vs []) (with_words t s.words) (e ∷ (front ++ back)) u =
                   flag_built R (word x.bytes ∷ values_then vs []) e (front ++ back) (with_words t s.words) u k eb (record { front = front; back = back; mid = with_words t x.state.words; joined = refl; first = (x.state.words, one.spelled, refl); second = q }) in
                   let every : Behind R (graph.values v x.bytes) qs vs n t (e ∷ (front ++ back)) u =
                   record { front = []; back = e ∷ (front ++ back); mid = with_words t s.words; joined = refl; first = (s.words, (odd ∙ ap (λ k. 2 * k + 1) (sym count), (refl, sym same)), refl); second = inside } in
@@ -299,7 +299,7 @@ open_sound R kind.Bytes n s g odd test place fs o b r =
     (λ qs t u back q. record { front = fs; back = back; mid = t; joined = refl; first = (c.fields, refl); second = q }))
 open_sound R kind.Ints n s g odd test place fs o b r =
     numbers_open R n s g odd kind.Ints four_layout fours (λ k. k < 2 ^ 32) (λ f ns. arena.ints f (map (cast_signed w32) ns)) (λ f ns. graph.ints f (map (cast_signed w32) ns)) (fours_sound R) (λ a f ns. refl) (λ a f ns. tt) (λ f ns. refl) (λ f ns h. (signed_all R n s g ns h, refl, refl))
-    (λ f ns w e. (e ∙ ap (λ k. 2 * k + 1) (sym (signed_count R n s g ns)), (refl, refl))) (λ f ns qs t u fs h p. subst (λ l. Parts R free (flag f ∷ l) t fs u) (sym (signed_same R n s g ns h)) p) fs o b r
+    (λ f ns w e. (e ∙ ap (λ k. 2 * k + 1) (sym (signed_count R n s g ns)), (refl, refl))) (λ f ns qs t u fs h p. subst (λ l. Segments R free (flag f ∷ l) t fs u) (sym (signed_same R n s g ns h)) p) fs o b r
 open_sound R kind.Uints n s g odd test place fs o b r =
     numbers_open R n s g odd kind.Uints four_layout fours (λ k. k < 2 ^ 32) arena.uints graph.uints (fours_sound R) (λ a f ns. refl) (λ a f ns. tt) (λ f ns. refl) (λ f ns h. (h, refl, refl)) (λ f ns w e. (e, (refl, refl))) (λ f ns qs t u fs h p. p) fs o b r
 open_sound R kind.Doubles n s g odd test place fs o b r =

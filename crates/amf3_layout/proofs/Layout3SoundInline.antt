@@ -18,7 +18,7 @@ use Rattle.amf3_spelling.specs.Tables.{Tables, with_words, add_node}
 use Rattle.amf3_spelling.specs.KeptTables.{below}
 use Rattle.amf3_spelling.specs.Then.{Spelling, Then}
 use Rattle.amf3_spelling.specs.Refusals3.{marker}
-use Rattle.amf3_spelling.specs.Parts3.{Parts, Lifted, layout}
+use Rattle.amf3_spelling.specs.Segments3.{Segments, Lifted, segments_of}
 use Rattle.amf3_spelling.specs.Headers3.{HeaderBy, marker_field, header_field}
 use Rattle.amf3_spelling.specs.Nodes3.{Begun}
 use Rattle.amf3_spelling.specs.Spells3.{SpellsIn}
@@ -28,7 +28,7 @@ use Rattle.amf3_layout.specs.Layout3State.{State3, with_node, begun, takes_parts
 use Rattle.amf3_layout.specs.Layout3.{opening, ValueRead, parts, inline_node}
 use Rattle.amf3_layout.proofs.Layout3Parts.{behind}
 use Rattle.amf3_layout.proofs.Layout3Marks.{marker_content}
-use Rattle.amf3_layout.proofs.Layout3Contents.{Larger, larger_itself, larger_twice, head_kept, KeptNode, Good, good_node, good_changed}
+use Rattle.amf3_layout.proofs.Layout3Contents.{Larger, larger_itself, larger_twice, head_stays, KeptNode, Good, good_node, good_changed}
 use Rattle.amf3_layout.proofs.Layout3SoundHeads.{open_sound, Behind}
 use Rattle.amf3_layout.proofs.Layout3SoundParts.{Reader, Spell, table, AllClosed, Sounds, grown, spot, kept_spot, spot_changed, table_changed, nodes_changed, nodes_longer, completes_before, completes_larger, pairs_content}
 use Rattle.amf3_layout.proofs.Layout3SoundNodes.{parts_sound}
@@ -108,7 +108,7 @@ inline_sound height v N h f n header s g spelled odd test place rest x b r =
     let at = spot pre p.more q z p.nodes in
     let kq = kept_spot pre p.more q z p.good p.nodes in
     let to_z = larger_twice o.state.arena z0.arena z.arena to_z0 p.larger in
-    let fits_in = λ (b : Arena) (l : Larger o.state.arena b). subst (λ k. Fits k (pairs_content b p.names) (map (value_content b) p.values)) (sym (head_kept o.state.arena b l o.head os.good.kept.traits os.named))
+    let fits_in = λ (b : Arena) (l : Larger o.state.arena b). subst (λ k. Fits k (pairs_content b p.names) (map (value_content b) p.values)) (sym (head_stays o.state.arena b l o.head os.good.kept.traits os.named))
     (os.fits (pairs_content b p.names) (map (value_content b) p.values) (length-map p.values (value_content b) ∙ p.count) (λ k j. ap (pairs_content b) (p.none k j))) in
     let node : KeptNode z.arena (shut q) = record { head = kq.head; names = kq.names; values = kq.values; fits = λ k. fits_in z.arena to_z } in
     let gw = good_changed z shut i p.good refl (subst (λ k. KeptNode z.arena (shut k)) (sym at) node) in
@@ -139,11 +139,11 @@ inline_sound height v N h f n header s g spelled odd test place rest x b r =
           ap (λ l. let t : Tables = record { words = o.state.words; nodes = l ++ i ∷ []; done = below (length z0.arena.nodes) } in t) os.node_table
           ∙ ap (λ k. let t : Tables = record { words = o.state.words; nodes = s.tables.nodes ++ i ∷ []; done = below k } in t) (length-append pre (begun o.head ∷ []) ∙ add-one i)
           ∙ ap (λ k. let t : Tables = record { words = o.state.words; nodes = s.tables.nodes ++ i ∷ []; done = below k ++ i ∷ [] } in t) same_length in
-          let inner : Parts R free (behind o.first o.last qs vs) (with_words (add_node (table s) i) o.state.words) a.back (table w) =
-          subst (λ t. Parts R free (behind o.first o.last qs vs) t a.back (table w)) tz0 (subst (λ t. Parts R free (behind o.first o.last qs vs) (table z0) a.back t) (sym (table_changed shut i z)) (p.spelled g2 r2 cz)) in
+          let inner : Segments R free (behind o.first o.last qs vs) (with_words (add_node (table s) i) o.state.words) a.back (table w) =
+          subst (λ t. Segments R free (behind o.first o.last qs vs) t a.back (table w)) tz0 (subst (λ t. Segments R free (behind o.first o.last qs vs) (table z0) a.back t) (sym (table_changed shut i z)) (p.spelled g2 r2 cz)) in
           let all : Behind R (head_content o.state.arena o.head) qs vs n (add_node (table s) i) (a.front ++ a.back) (table w) = os2.spelled (add_node (table s) i) (table w) qs vs a.back refl (length-map p.values (value_content g2) ∙ p.count) inner in
           let there : Behind R (head_content g2 o.head) qs vs n (add_node (table s) i) rest (table w) =
-          subst (λ k. Behind R k qs vs n (add_node (table s) i) rest (table w)) (sym (head_kept o.state.arena g2 lo o.head os.good.kept.traits os.named)) (subst (λ l. Behind R (head_content o.state.arena o.head) qs vs n (add_node (table s) i) l (table w)) (sym a.parts) all) in
+          subst (λ k. Behind R k qs vs n (add_node (table s) i) rest (table w)) (sym (head_stays o.state.arena g2 lo o.head os.good.kept.traits os.named)) (subst (λ l. Behind R (head_content o.state.arena o.head) qs vs n (add_node (table s) i) l (table w)) (sym a.parts) all) in
           record {
             there = subst (λ k. i < k) (sym (length-map g2.nodes (node_content g2))) ca.0;
             new = absent_below (length s.arena.nodes) i (omega arith);
@@ -157,6 +157,6 @@ inline_sound height v N h f n header s g spelled odd test place rest x b r =
             spelled = record { spelled = spelled; shortest = tt };
             rest = rest;
             fields = ap (λ m. marker_field m ∷ header_field (graph_of g2 r2) (table s) m header ∷ rest) (sym mark);
-            behind = subst (λ (k : Node). Then (Lifted (HeaderBy free k.head k.values n)) (Parts R free (layout k.head qs k.values)) (add_node (table s) i) rest (table w)) (sym na) there;
+            behind = subst (λ (k : Node). Then (Lifted (HeaderBy free k.head k.values n)) (Segments R free (segments_of k.head qs k.values)) (add_node (table s) i) rest (table w)) (sym na) there;
           };
     })

@@ -12,7 +12,7 @@ use Rattle.amf_graph.specs.declared.value.Value.TheVariants.{Node}
 use Rattle.amf_graph.specs.Arena.{Arena, StoredNode, value_content, Completes}
 use Rattle.amf_graph.specs.Building.{shut}
 use Rattle.amf3_spelling.specs.Tables.{Tables}
-use Rattle.amf3_spelling.specs.Parts3.{Part, Parts, values_then, pairs_then}
+use Rattle.amf3_spelling.specs.Segments3.{Segment, Segments, values_then, pairs_then}
 use Rattle.amf3_layout.specs.Layout3State.{State3, with_node, begun, takes_parts, changed}
 use Rattle.amf3_layout.specs.Layout3Words.{Outline}
 use Rattle.amf3_layout.specs.Layout3.{ValueRead, read, items_of, pairs_if, parts, whole_node}
@@ -28,7 +28,7 @@ pub record IfSound (sp : Spell) (b : Bool) (pre post : List StoredNode) (q : Sto
   pub no_values : adds.values ≡ []
   pub none : b ≡ false → adds.names ≡ []
   pub named : (g : Arena) → Completes z.arena g → AllNamed (pairs_content g adds.names)
-  pub spelled : (g : Arena) (r : Stored) → Completes z.arena g → (ps : List Part) (u : Tables) (back : List Field) → Parts (sp g r) free ps (table z) back u → Parts (sp g r) free (cond b (pairs_then (pairs_content g adds.names) ps) ps) (table s) (fs ++ back) u
+  pub spelled : (g : Arena) (r : Stored) → Completes z.arena g → (ps : List Segment) (u : Tables) (back : List Field) → Segments (sp g r) free ps (table z) back u → Segments (sp g r) free (cond b (pairs_then (pairs_content g adds.names) ps) ps) (table s) (fs ++ back) u
 
 pairs_if_sound : (sp : Spell) (v : Reader) (N : ℕ) → Sounds sp v → (b : Bool) (pre post : List StoredNode) (q : StoredNode) (s : State3) (fs : List Field) (z : State3) → q.is_open ≡ true → Good s → s.arena.nodes ≡ pre ++ q ∷ post → AreBytes (flat fs) → Runs (pairs_if b v N (length pre) s) fs z → IfSound sp b pre post q s fs z
 pairs_if_sound sp v N h true pre post q s fs z o g e b r = let p = pairs_sound sp v h pre post q N s fs z o g e b r in record { adds = p.adds; no_values = p.no_values; none = λ k. absurd cc; named = p.named; spelled = p.spelled }
@@ -53,7 +53,7 @@ pub record PartsSound (sp : Spell) (o : Outline) (pre : List StoredNode) (s : St
   pub count : length values ≡ total o
   pub none : o.first ≡ false → o.last ≡ false → names ≡ []
   pub named : (g : Arena) → Completes z.arena g → AllNamed (pairs_content g names)
-  pub spelled : (g : Arena) (r : Stored) → Completes z.arena g → Parts (sp g r) free (behind o.first o.last (pairs_content g names) (map (value_content g) values)) (table s) fs (table z)
+  pub spelled : (g : Arena) (r : Stored) → Completes z.arena g → Segments (sp g r) free (behind o.first o.last (pairs_content g names) (map (value_content g) values)) (table s) fs (table z)
 
 behind_same : (b c : Bool) (p q qs : List (List ℕ × Value)) (vs : List Value) → (b ≡ false) ⊎ (c ≡ false) → (b ≡ false → qs ≡ q) → (c ≡ false → qs ≡ p)
     → cond b (pairs_then p (values_then vs (cond c (pairs_then q []) []))) (values_then vs (cond c (pairs_then q []) [])) ≡ behind b c qs vs
@@ -129,8 +129,8 @@ open_parts sp v N h o fs x open_ once g b r =
           let p2 = two.spelled g r (to2 g k) (cond o.last (pairs_then (pairs_content g a3.names) []) []) (table d.value) (d.front ++ []) p3 in
           let p1 = one.spelled g r (to1 g k) (values_then vs (cond o.last (pairs_then (pairs_content g a3.names) []) [])) (table d.value) (c.front ++ (d.front ++ [])) p2 in
           let all : a.front ++ (c.front ++ (d.front ++ [])) ≡ fs = sym (a.parts ∙ ap (λ l. a.front ++ l) (c.parts ∙ ap (λ l. c.front ++ l) (d.parts ∙ ap (λ l. d.front ++ l) same))) in
-          subst (λ l. Parts (sp g r) free (behind o.first o.last (qs g) vs) (table z0) l (table d.value)) all
-          (subst (λ l. Parts (sp g r) free l (table z0) (a.front ++ (c.front ++ (d.front ++ []))) (table d.value)) (behind_same o.first o.last (pairs_content g a1.names) (pairs_content g a3.names) (qs g) vs once (first_none g) (last_none g)) p1);
+          subst (λ l. Segments (sp g r) free (behind o.first o.last (qs g) vs) (table z0) l (table d.value)) all
+          (subst (λ l. Segments (sp g r) free l (table z0) (a.front ++ (c.front ++ (d.front ++ []))) (table d.value)) (behind_same o.first o.last (pairs_content g a1.names) (pairs_content g a3.names) (qs g) vs once (first_none g) (last_none g)) p1);
     })
   where
     finish : (z : State3) (back : List Field) → Path (ending (length o.state.arena.nodes) z) back (give x) → (back ≡ [] → PartsSound sp o o.state.arena.nodes (with_node o.state o.head) fs z) → Ended sp o fs x

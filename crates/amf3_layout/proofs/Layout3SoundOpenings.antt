@@ -15,7 +15,7 @@ use Rattle.amf_io.proofs.Ables.{bytes_parts}
 use Rattle.amf_graph.specs.Graph.{Value, IsPattern}
 use Rattle.amf3_spelling.specs.Tables.{Tables}
 use Rattle.amf3_spelling.specs.Then.{Spelling}
-use Rattle.amf3_spelling.specs.Parts3.{Part, flag, Parts, fours, eights}
+use Rattle.amf3_spelling.specs.Segments3.{Segment, flag, Segments, fours, eights}
 use Rattle.amf3_layout.specs.Layout3Words.{chunk}
 use Rattle.amf3_layout.specs.Layout3.{four_layout, eight_layout, many}
 use Rattle.amf3_layout.proofs.Layout3SoundTexts.{taken, give_is}
@@ -76,7 +76,7 @@ eight_is f t b =
     below bytes fits = omega (arith, fits 0, fits 1, fits 2, fits 3, fits 4, fits 5, fits 6, fits 7)
 
 -- a flag that was read, before further parts
-pub flag_built : (R : Value → Spelling Tables) (ps : List Part) (f : Field) (fs : List Field) (t u : Tables) → Takes (raw_kind 1) f → AreBytes f.bytes → Parts R free ps t fs u → Parts R free (flag (not (eqb (slice_index f.bytes 0) 0)) ∷ ps) t (f ∷ fs) u
+pub flag_built : (R : Value → Spelling Tables) (ps : List Segment) (f : Field) (fs : List Field) (t u : Tables) → Takes (raw_kind 1) f → AreBytes f.bytes → Segments R free ps t fs u → Segments R free (flag (not (eqb (slice_index f.bytes 0) 0)) ∷ ps) t (f ∷ fs) u
 flag_built R ps f fs t u k b p =
     let m = slice_index f.bytes 0 in
     record { front = f ∷ []; back = fs; mid = t; joined = refl; second = p; first = ((m, by_test m (eqb m 0) refl (all_below f.bytes b 0), ap (λ g. g ∷ []) (taken (raw_kind 1) f k ∙ ap (field (raw_kind 1)) (one_byte f.bytes (raw_long 1 f k)))), refl) }
@@ -91,10 +91,10 @@ flag_built R ps f fs t u k b p =
     by_test m false h lt = (let n = eqb-false m 0 h in omega arith, lt, tt)
 
 -- numbers that were read
-pub record Numbers (R : Value → Spelling Tables) (l : List ℕ → List Part) (P : ℕ → Type 0) (k : ℕ) (fs : List Field) (ns : List ℕ) : Type 0 where
+pub record Numbers (R : Value → Spelling Tables) (l : List ℕ → List Segment) (P : ℕ → Type 0) (k : ℕ) (fs : List Field) (ns : List ℕ) : Type 0 where
   pub count : length ns ≡ k
   pub all : AllByRecursion P ns
-  pub built : (t u : Tables) (back : List Field) → (back ≡ []) × (u ≡ t) → Parts R free (l ns) t (fs ++ back) u
+  pub built : (t u : Tables) (back : List Field) → (back ≡ []) × (u ≡ t) → Segments R free (l ns) t (fs ++ back) u
 
 module _ (R : Value → Spelling Tables) where
   pub fours_sound : (k : ℕ) (fs : List Field) (ns : List ℕ) → AreBytes (flat fs) → Runs (many k four_layout) fs ns → Numbers R fours (λ n. n < 2 ^ 32) k fs ns
@@ -112,7 +112,7 @@ module _ (R : Value → Spelling Tables) where
       last n i ms front [] e m p = subst (λ l. Numbers R fours (λ n. n < 2 ^ 32) (suc k) (f ∷ fs) l) (give_is (n ∷ ms) ns p) (record {
         count = ap suc m.count;
         all = (i.1, m.all);
-        built = λ t u back h. record { front = f ∷ []; back = fs ++ back; mid = t; joined = refl; first = (ap (λ g. g ∷ []) i.0, refl); second = subst (λ l. Parts R free (fours ms) t (l ++ back) u) (sym (e ∙ append-nil front)) (m.built t u back h) };
+        built = λ t u back h. record { front = f ∷ []; back = fs ++ back; mid = t; joined = refl; first = (ap (λ g. g ∷ []) i.0, refl); second = subst (λ l. Segments R free (fours ms) t (l ++ back) u) (sym (e ∙ append-nil front)) (m.built t u back h) };
       })
       last n i ms front (g ∷ back) e m p = absurd p
 
@@ -131,6 +131,6 @@ module _ (R : Value → Spelling Tables) where
       last n i ms front [] e m p = subst (λ l. Numbers R eights IsPattern (suc k) (f ∷ fs) l) (give_is (n ∷ ms) ns p) (record {
         count = ap suc m.count;
         all = (i.1, m.all);
-        built = λ t u back h. record { front = f ∷ []; back = fs ++ back; mid = t; joined = refl; first = (ap (λ g. g ∷ []) i.0, refl); second = subst (λ l. Parts R free (eights ms) t (l ++ back) u) (sym (e ∙ append-nil front)) (m.built t u back h) };
+        built = λ t u back h. record { front = f ∷ []; back = fs ++ back; mid = t; joined = refl; first = (ap (λ g. g ∷ []) i.0, refl); second = subst (λ l. Segments R free (eights ms) t (l ++ back) u) (sym (e ∙ append-nil front)) (m.built t u back h) };
       })
       last n i ms front (g ∷ back) e m p = absurd p

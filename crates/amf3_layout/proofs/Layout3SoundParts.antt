@@ -17,11 +17,11 @@ use Rattle.amf3_spelling.specs.Then.{Spelling}
 use Rattle.amf3_spelling.specs.KeptTables.{below}
 use Rattle.amf3_spelling.specs.Refusals3.{text_header_refusal}
 use Rattle.amf3_spelling.specs.Words3.{Text}
-use Rattle.amf3_spelling.specs.Parts3.{Part, value, Parts, values_then, pairs_then}
+use Rattle.amf3_spelling.specs.Segments3.{Segment, value, Segments, values_then, pairs_then}
 use Rattle.amf3_layout.specs.Layout3State.{State3, changed}
 use Rattle.amf3_layout.specs.Layout3Words.{TextRead, text_layout}
 use Rattle.amf3_layout.specs.Layout3.{ValueRead, items, entries, is_empty, pairs}
-use Rattle.amf3_layout.proofs.Layout3Contents.{Larger, larger_itself, larger_twice, text_id, text_kept, names_more, all_append, all_at, KeptNode, Good, good_changed}
+use Rattle.amf3_layout.proofs.Layout3Contents.{Larger, larger_itself, larger_twice, text_id, text_stays, names_more, all_append, all_at, KeptNode, Good, good_changed}
 use Rattle.amf3_layout.proofs.Layout3SoundTexts.{give_is, TextSound, text_sound}
 
 abbrev pub Reader : Type 0
@@ -178,7 +178,7 @@ pub record ItemsSound (sp : Spell) (pre post : List StoredNode) (q : StoredNode)
   pub adds : Adds pre post q s z
   pub no_names : adds.names ≡ []
   pub count : length adds.values ≡ k
-  pub spelled : (g : Arena) (r : Stored) → Completes z.arena g → (ps : List Part) (u : Tables) (back : List Field) → Parts (sp g r) free ps (table z) back u → Parts (sp g r) free (values_then (map (value_content g) adds.values) ps) (table s) (fs ++ back) u
+  pub spelled : (g : Arena) (r : Stored) → Completes z.arena g → (ps : List Segment) (u : Tables) (back : List Field) → Segments (sp g r) free ps (table z) back u → Segments (sp g r) free (values_then (map (value_content g) adds.values) ps) (table s) (fs ++ back) u
 
 pub items_sound : (sp : Spell) (v : Reader) → Sounds sp v → (pre post : List StoredNode) (q : StoredNode) (k : ℕ) (s : State3) (fs : List Field) (z : State3) → q.is_open ≡ true → Good s → s.arena.nodes ≡ pre ++ q ∷ post → AreBytes (flat fs) → Runs (items v (length pre) k s) fs z → ItemsSound sp pre post q k s fs z
 items_sound sp v h pre post q zero s [] z o g e b r =
@@ -211,7 +211,7 @@ items_sound sp v h pre post q (suc k) s fs z o g e b r =
             mid = table x.state;
             joined = ap (λ l. l ++ back) a.parts ∙ append_assoc a.front a.back back;
             first = one.spelled g r cx;
-            second = subst (λ t. Parts (sp g r) free (values_then (map (value_content g) rest.adds.values) ps) t (a.back ++ back) w) (table_changed f (length pre) x.state) (rest.spelled g r c ps w back p);
+            second = subst (λ t. Segments (sp g r) free (values_then (map (value_content g) rest.adds.values) ps) t (a.back ++ back) w) (table_changed f (length pre) x.state) (rest.spelled g r c ps w back p);
           };
     }
 
@@ -293,7 +293,7 @@ entries_sound sp v h pre post q (suc k) s fs z o g e b r =
               mid = table y.state;
               joined = ap (λ l. l ++ back) d.parts ∙ append_assoc d.front d.back back;
               first = two.spelled g r cy;
-              second = subst (λ t. Parts (sp g r) free (values_then (map (value_content g) rest.adds.values) ps) t (d.back ++ back) w) (table_changed f (length pre) y.state) (rest.spelled g r c ps w back p);
+              second = subst (λ t. Segments (sp g r) free (values_then (map (value_content g) rest.adds.values) ps) t (d.back ++ back) w) (table_changed f (length pre) y.state) (rest.spelled g r c ps w back p);
             };
           };
     }
@@ -306,13 +306,13 @@ pub record PairsSound (sp : Spell) (pre post : List StoredNode) (q : StoredNode)
   pub adds : Adds pre post q s z
   pub no_values : adds.values ≡ []
   pub named : (g : Arena) → Completes z.arena g → AllNamed (pairs_content g adds.names)
-  pub spelled : (g : Arena) (r : Stored) → Completes z.arena g → (ps : List Part) (u : Tables) (back : List Field) → Parts (sp g r) free ps (table z) back u → Parts (sp g r) free (pairs_then (pairs_content g adds.names) ps) (table s) (fs ++ back) u
+  pub spelled : (g : Arena) (r : Stored) → Completes z.arena g → (ps : List Segment) (u : Tables) (back : List Field) → Segments (sp g r) free ps (table z) back u → Segments (sp g r) free (pairs_then (pairs_content g adds.names) ps) (table s) (fs ++ back) u
 
 pub table_text : (s z : State3) → z.arena.nodes ≡ s.arena.nodes → z.tables.nodes ≡ s.tables.nodes → table z ≡ with_words (table s) z.words
 table_text s z e f = ap (λ l. let t : Tables = record { words = z.words; nodes = l; done = below (length z.arena.nodes) } in t) f ∙ ap (λ l. let t : Tables = record { words = z.words; nodes = s.tables.nodes; done = below (length l) } in t) e
 
 pub text_content : (s : State3) (fs : List Field) (x : TextRead) (g : Arena) → TextSound (text_header_refusal (length s.words.texts)) text_kind s fs x → Completes x.state.arena g → text_at g x.id ≡ x.bytes
-text_content s fs x g t c = text_kept x.state.arena g (completes_larger x.state.arena g (nodes_longer x.state.arena.nodes g.nodes c.nodes) c) x.id t.id ∙ t.there
+text_content s fs x g t c = text_stays x.state.arena g (completes_larger x.state.arena g (nodes_longer x.state.arena.nodes g.nodes c.nodes) c) x.id t.id ∙ t.there
 
 abbrev on : Reader → ℕ → ℕ → TextRead → ValueRead → Layout State3
 on v f id x y = pairs v f id (changed (more_name x.id y.value) id y.state)
@@ -348,7 +348,7 @@ pairs_sound sp v h pre post q (suc f) s fs z o g e b r =
             mid = with_words (table s) t.state.words;
             joined = ap (λ l. l ++ back) (joined ∙ append-nil front);
             first = (t.state.words, subst (λ y. Text free y s.words front t.state.words) (empty_is t.bytes i) one.spelled, refl);
-            second = subst (λ k. Parts (sp g r) free ps k back u) (table_text s t.state one.nodes one.node_table) q;
+            second = subst (λ k. Segments (sp g r) free ps k back u) (table_text s t.state one.nodes one.node_table) q;
           };
         })
     by t front (k ∷ back) joined one bb true i p again = absurd p
@@ -377,14 +377,14 @@ pairs_sound sp v h pre post q (suc f) s fs z o g e b r =
                 mid = with_words (table s) t.state.words;
                 joined = ap (λ m. m ++ end) joined ∙ append_assoc front back end;
                 first = (t.state.words, subst (λ y. Text free y s.words front t.state.words) (sym (text_content s front t g one (ct g k))) one.spelled, refl);
-                second = subst (λ m. Parts (sp g r) free (value (value_content g x.value) ∷ pairs_then (pairs_content g rest.adds.names) ps) m (back ++ end) w) (table_text s t.state one.nodes one.node_table)
+                second = subst (λ m. Segments (sp g r) free (value (value_content g x.value) ∷ pairs_then (pairs_content g rest.adds.names) ps) m (back ++ end) w) (table_text s t.state one.nodes one.node_table)
                     (record {
                       front = d.front;
                       back = d.back ++ end;
                       mid = table x.state;
                       joined = ap (λ m. m ++ end) d.parts ∙ append_assoc d.front d.back end;
                       first = two.spelled g r (mid_completes c ns [] pre post1 q x.state z is o e1 rest.adds g k);
-                      second = subst (λ m. Parts (sp g r) free (pairs_then (pairs_content g rest.adds.names) ps) m (d.back ++ end) w) (table_changed c (length pre) x.state) (rest.spelled g r k ps w end p);
+                      second = subst (λ m. Segments (sp g r) free (pairs_then (pairs_content g rest.adds.names) ps) m (d.back ++ end) w) (table_changed c (length pre) x.state) (rest.spelled g r k ps w end p);
                     });
               };
         }

@@ -25,7 +25,7 @@ use Rattle.amf3_spelling.specs.Words3.{TextBy, Text, Texts}
 use Rattle.amf3_spelling.specs.Words3 as words
 use Rattle.amf3_layout.specs.Layout3State.{State3, with_text}
 use Rattle.amf3_layout.specs.Layout3Words.{chunk, TextRead, known_text, new_text, text_by, text_layout, TextsRead, more_text, texts_layout}
-use Rattle.amf3_layout.proofs.Layout3Contents.{Larger, larger_itself, larger_twice, text_id, text_kept, all_at, Good, good_text}
+use Rattle.amf3_layout.proofs.Layout3Contents.{Larger, larger_itself, larger_twice, text_id, text_stays, all_at, Good, good_text}
 
 all_below : (bytes : List ℕ) → AreBytes bytes → (i : ℕ) → get_or bytes i 0 < 256
 all_below [] b i = omega arith
@@ -187,7 +187,7 @@ texts_sound (suc k) s g fs x b r =
           node_table = more.node_table ∙ one.node_table;
           count = ap suc more.count;
           ids = (text_id y.state.arena ys.state.arena more.larger y.id one.id, more.ids);
-          there = ap (λ t. t ∷ map (text_at ys.state.arena) ys.ids) (text_kept y.state.arena ys.state.arena more.larger y.id one.id ∙ one.there) ∙ ap (λ l. y.bytes ∷ l) more.there;
+          there = ap (λ t. t ∷ map (text_at ys.state.arena) ys.ids) (text_stays y.state.arena ys.state.arena more.larger y.id one.id ∙ one.there) ∙ ap (λ l. y.bytes ∷ l) more.there;
           spelled = record { front = front; back = mid; mid = y.state.words; joined = e ∙ ap (λ l. front ++ l) same; first = one.spelled; second = more.spelled };
         })
     last y front back ys mid (f ∷ end) e h one more p = absurd p

@@ -25,7 +25,7 @@ use Rattle.amf3_spelling.specs.Refusals3.{text_header_refusal, class_header_refu
 use Rattle.amf3_spelling.specs.Words3.{TextBy, TraitsBy, given, placed}
 use Rattle.amf3_layout.specs.Layout3State.{State3}
 use Rattle.amf3_layout.specs.Layout3Words.{chunk, known_text, new_text, TextRead, text_layout, class_layout, TextsRead, texts_layout, Outline, class_of, head_of, sealed_of, dynamic_of, known_traits, plain_traits, external_traits, inline_traits, external_layout, traits_layout}
-use Rattle.amf3_layout.proofs.Layout3Contents.{Larger, larger_itself, larger_twice, text_id, text_kept, all_at, Good, good_entry}
+use Rattle.amf3_layout.proofs.Layout3Contents.{Larger, larger_itself, larger_twice, text_id, text_stays, all_at, Good, good_entry}
 use Rattle.amf3_layout.proofs.Layout3SoundTexts.{give_is, TextSound, AreTexts, text_by_sound, text_sound, TextsSound, texts_sound}
 
 -- the head is that of the entry
@@ -96,7 +96,7 @@ plain_sound n s fs front back class names g three joined one more =
     let t : StoredTraits = record { class = class.id; dynamic = d; sealed = names.ids } in
     let b = kept_traits a t in
     let c : Traits = record { class = class.bytes; dynamic = d; sealed = names.texts } in
-    let class_there : text_at a class.id ≡ class.bytes = text_kept class.state.arena a more.larger class.id one.id ∙ one.there in
+    let class_there : text_at a class.id ≡ class.bytes = text_stays class.state.arena a more.larger class.id one.id ∙ one.there in
     let inside : IsTraitsIn a t = record { class = text_id class.state.arena a more.larger class.id one.id; sealed = more.ids } in
     let content : traits_content b t ≡ c = ap (λ x. let k : Traits = record { class = x; dynamic = d; sealed = map (text_at b) names.ids } in k) class_there ∙ ap (λ x. let k : Traits = record { class = class.bytes; dynamic = d; sealed = x } in k) more.there in
     let there : traits_at b i ≡ c = ap (traits_content b) (get_or-append_seam a.traits t [] no_traits) ∙ content in

@@ -2,7 +2,7 @@
 use Rattle.std.proofs.Common.{◌≡◌, ℕ, ◌+◌, ◌-◌, ◌≤◌, ◌<◌, List, length, take, refl, inl, inr, arith}
 use Rattle.amf_io.specs.Field.{Field, AreBytes}
 use Rattle.amf_io.specs.Layout.{Layout, IsLayout}
-use Rattle.amf_io.specs.Reading.{Outcome, Done, Bad, Short, Stuck, read}
+use Rattle.amf_io.specs.Outcomes.{Outcome, Done, Bad, Short, Stuck, read}
 use Rattle.amf_io.proofs.Bytes.{bytes_take}
 use Rattle.amf_io.proofs.Verdicts.{not_stuck}
 use Rattle.amf_io.proofs.Readings.{is_accepted, is_refused, read_short, read_stuck}

@@ -10,14 +10,14 @@ use Rattle.amf_graph.specs.Building.{no_stored, stored_at, kept_text, kept_trait
 use Rattle.amf3_spelling.specs.Tables as content
 use Rattle.amf3_spelling.specs.KeptTables.{KeptEntry, plain, external, KeptTables, entry_content, IsEntryIn, tables_of, AreTablesIn}
 use Rattle.amf3_layout.specs.Layout3State.{stored_marker, takes_parts, State3, state_of, with_text, with_contents, with_entry, begun, with_node, changed}
-use Rattle.amf3_layout.proofs.Layout3Contents.{marks_of, words_kept}
+use Rattle.amf3_layout.proofs.Layout3Contents.{marks_of, words_stay}
 use Rattle.amf3_layout.proofs.Reader3Tables.{larger_text}
 
 -- Texts.
 
 -- a text that stands in the arena alone
 pub contents_state : (a : Arena) (t : KeptTables) (x : List ℕ) → IsBuilt a → AreTablesIn a t → state_of (kept_text a x) t ≡ with_contents (state_of a t) x
-contents_state a t x b v = ap (λ w. let s : State3 = record { arena = kept_text a x; tables = t; words = w; marks = marks_of a t.nodes } in s) (words_kept a (kept_text a x) t (larger_text a x) b.traits v)
+contents_state a t x b v = ap (λ w. let s : State3 = record { arena = kept_text a x; tables = t; words = w; marks = marks_of a t.nodes } in s) (words_stay a (kept_text a x) t (larger_text a x) b.traits v)
 
 -- the empty text enters no table
 pub empty_text_state : (a : Arena) (t : KeptTables) → IsBuilt a → AreTablesIn a t → state_of (kept_text a []) t ≡ with_text (state_of a t) []
@@ -29,7 +29,7 @@ text_words a t x b v =
     let z = kept_text a x in
     let there : text_at z (length a.texts) ≡ x = get_or-append_seam a.texts x [] [] in
     let pushed : map (text_at z) (t.texts ++ length a.texts ∷ []) ≡ map (text_at z) t.texts ++ x ∷ [] = map-append (text_at z) t.texts (length a.texts ∷ []) ∙ ap (λ y. map (text_at z) t.texts ++ y ∷ []) there in
-    ap (λ y. let w : content.Words = record { texts = y; traits = map (entry_content z) t.traits } in w) pushed ∙ ap (λ w. content.add_text w x) (words_kept a z t (larger_text a x) b.traits v)
+    ap (λ y. let w : content.Words = record { texts = y; traits = map (entry_content z) t.traits } in w) pushed ∙ ap (λ w. content.add_text w x) (words_stay a z t (larger_text a x) b.traits v)
 
 -- a text with a byte
 pub long_text_state : (a : Arena) (t : KeptTables) (c : ℕ) (x : List ℕ) → IsBuilt a → AreTablesIn a t

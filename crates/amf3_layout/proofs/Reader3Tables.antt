@@ -1,4 +1,4 @@
--- What names an entry of an arena, and the tables of one, are kept as the arena changes by one step of reading; and how an arena grows.
+-- What names an entry of an arena, and the tables of one, stay as the arena changes by one step of reading; and how an arena grows.
 use Rattle.std.proofs.Common.{◌≡◌, ℕ, ◌<◌, false, List, [], ◌∷◌, ◌++◌, length, set, get_or, refl, sym, ap, ◌∙◌, arith, append_assoc, length-append}
 use Rattle.std.proofs.lemmas.List.{append-nil, length-set, get_or_append_left}
 use Rattle.std.proofs.Math.Seq.{get_or-append_seam, set-append_seam}

@@ -2,7 +2,7 @@
 use Rattle.std.proofs.Common.{◌≡◌, ℕ, ◌<◌, Bool, true, false, cond, List, [], ◌∷◌, length, refl, arith, nat_lt, replicate}
 use Rattle.std.proofs.lemmas.List.{length-take}
 use Rattle.amf_io.specs.Field.{AreBytes}
-use Rattle.amf_io.specs.Reading.{Decides, read}
+use Rattle.amf_io.specs.Outcomes.{Decides, read}
 use Rattle.amf_io.proofs.Inputs.{outcome_decides}
 use Rattle.amf3_spelling.specs.Reads3.{IsValue3}
 use Rattle.amf3_layout.specs.Layout3State.{no_state}

@@ -34,7 +34,7 @@ use Rattle.amf3_read.specs.declared.fill.Step.TheVariants as step
 use Rattle.amf3_read.specs.Filling.{IsOpened}
 use Rattle.amf3_read.specs.Answer.{left_of}
 use Rattle.amf3_read.specs.Ready.{Ready, Continues, text_read}
-use Rattle.amf3_read.specs.Frames.{todo, resume, closed_node, LacksItems, Suits, WaitsFor, SlotNames, spare, Kept, GoesOn, StepHolds, IsNext, IsBehindPairs}
+use Rattle.amf3_read.specs.Frames.{todo, resume, closed_node, LacksItems, Suits, WaitsFor, SlotNames, spare, StillReady, GoesOn, StepHolds, IsNext, IsBehindPairs}
 use Rattle.amf3_read.proofs.LayoutBinds.{bind_bind, bind_same}
 use Rattle.amf3_read.proofs.PartPut.{there, stays, same_head}
 
@@ -266,8 +266,8 @@ module _ {S : Type 0} (i : ℕ) (p : Parts) (a b : Arena) (t : KeptTables) (c : 
     same_nodes : length b.nodes ≡ length a.nodes
     same_nodes = ap (λ z. length z.nodes) e ∙ length-set a.nodes i (shut (stored_at a i))
 
-    pub closed_kept : Kept 0 a b t c c
-    closed_kept = record {
+    pub closed_still_ready : StillReady 0 a b t c c
+    closed_still_ready = record {
       built = subst IsBuilt (sym e) (built_changed a shut i r.built (shut_in a (stored_at a i) (stands a i r.built closed_there) closed_fits));
       tables = subst (λ z. AreTablesIn z t) (sym e) (tables_after_change a t i (shut (stored_at a i)) r.built r.tables);
       placed = r.placed;

@@ -36,7 +36,7 @@ use Rattle.amf3_read.specs.Filling.{IsEmptyNode}
 use Rattle.amf3_read.specs.Answer.{left_of}
 use Rattle.amf3_read.specs.Ready.{Ready}
 use Rattle.amf3_read.specs.Begins.{Begins, has_parts, IsShaped, IsBegun}
-use Rattle.amf3_read.specs.Frames.{todo, Suits, Kept, Starts, StartsBy, StartHolds}
+use Rattle.amf3_read.specs.Frames.{todo, Suits, StillReady, Starts, StartsBy, StartHolds}
 use Rattle.amf3_read.proofs.LayoutBinds.{bind_give}
 use Rattle.amf3_read.proofs.InlineReads.{parts_at, whole_continues, parts_are}
 use Rattle.amf3_read.proofs.TextReads.{odd_test}
@@ -85,8 +85,8 @@ todo_is v m i o (Items n) s e = ap (λ o. parts_at v m i o s) e
 todo_is v m i o (Entries n) s e = ap (λ o. parts_at v m i o s) e
 
 module _ {S : Type 0} (tells : S → Type 0) (left : S → List ℕ) (faults : S → ℕ) (f : NodeKind) (h : ℕ) (a b : Arena) (t u : KeptTables) (c d : Cursor S Window) (x : Entered) (is : Begins tells left f h a b t u c d x) (r : Ready 0 b u d) where
-  pub inline_kept : Kept 1 a b u c d
-  inline_kept = record { built = r.built; tables = r.tables; placed = r.placed; texts = is.texts; traits = is.traits; nodes = is.nodes }
+  pub inline_still_ready : StillReady 1 a b u c d
+  inline_still_ready = record { built = r.built; tables = r.tables; placed = r.placed; texts = is.texts; traits = is.traits; nodes = is.nodes }
 
   pub inline_leads : (p : Parts) → x.parts ≡ Some p → (v : State3 → Layout ValueRead) (n : ℕ) → Goes tells left faults c d (Ok x) → Leads tells left (inline_node v n f h (state_of a t)) (todo v n x.node.0 p (state_of b u)) c d
   inline_leads p e v n g =

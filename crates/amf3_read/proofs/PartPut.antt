@@ -11,7 +11,7 @@ use Rattle.amf_graph.proofs.Built.{built_changed, stands}
 use Rattle.amf_graph.proofs.Begun.{part_in}
 use Rattle.amf3_spelling.specs.KeptTables.{KeptTables, AreTablesIn}
 use Rattle.amf3_spelling.specs.Reads3.{Grows}
-use Rattle.amf3_layout.proofs.Layout3Contents.{Larger, larger_twice, head_kept}
+use Rattle.amf3_layout.proofs.Layout3Contents.{Larger, larger_twice, head_stays}
 use Rattle.amf3_layout.proofs.Reader3Tables.{grows_twice, grows_larger, grows_stays, tables_after_change, larger_changed, open_place}
 use Rattle.amf3_layout.proofs.Reader3Calls.{part_put}
 use Rattle.amf3_read.specs.Filling.{with_more, IsOpened}
@@ -77,7 +77,7 @@ module _ (i left : ℕ) (b b1 : Arena) (o : IsOpened b i left) (g : Grows b b1) 
   still_open = ap (λ n. n.is_open) stays ∙ o.opened
 
   pub same_head : IsBuilt b → head_content b1 (stored_at b1 i).head ≡ head_content b (stored_at b i).head
-  same_head h = ap (λ n. head_content b1 n.head) stays ∙ head_kept b b1 (grows_larger b b1 g) (stored_at b i).head h.traits (stands b i h was_there).head
+  same_head h = ap (λ n. head_content b1 n.head) stays ∙ head_stays b b1 (grows_larger b b1 g) (stored_at b i).head h.traits (stands b i h was_there).head
 
   -- and then a part is put into it
   module _ (p : Part) (b2 : Arena) (is : b2 ≡ changed (more_part p) i b1) where
@@ -105,7 +105,7 @@ module _ (i left : ℕ) (b b1 : Arena) (o : IsOpened b i left) (g : Grows b b1) 
     pub put_head : IsBuilt b → head_content b2 (stored_at b2 i).head ≡ head_content b (stored_at b i).head
     put_head h =
         let l : Larger b b2 = subst (Larger b) (sym is) (larger_twice b b1 (changed (more_part p) i b1) (grows_larger b b1 g) (larger_changed b1 i (more_part p (stored_at b1 i)))) in
-        ap (λ n. head_content b2 n.head) put_node ∙ head_kept b b2 l (stored_at b i).head h.traits (stands b i h was_there).head
+        ap (λ n. head_content b2 n.head) put_node ∙ head_stays b b2 l (stored_at b i).head h.traits (stands b i h was_there).head
 
     pub put_nodes : length b2.nodes ≡ length b1.nodes
     put_nodes = ap (λ a. length a.nodes) is ∙ length-set b1.nodes i (more_part p (stored_at b1 i))

@@ -38,7 +38,7 @@ use Rattle.amf3_read.specs.Slots.{IsPart}
 use Rattle.amf3_read.specs.Filling.{with_more, IsOpened}
 use Rattle.amf3_read.specs.Answer.{left_of}
 use Rattle.amf3_read.specs.Ready.{Ready, Continues}
-use Rattle.amf3_read.specs.Frames.{todo, resume, Fuel, rest, Enough, HaveFuel, LacksItems, Suits, WaitsFor, SlotNames, spare, Nested, IsAt, Kept, Starts, StartHolds, GoesOn, StepHolds, StackSo}
+use Rattle.amf3_read.specs.Frames.{todo, resume, Fuel, rest, Enough, HaveFuel, LacksItems, Suits, WaitsFor, SlotNames, spare, Nested, IsAt, StillReady, Starts, StartHolds, GoesOn, StepHolds, StackSo}
 use Rattle.amf3_read.proofs.LayoutBinds.{bind_give, bind_bind}
 use Rattle.amf3_read.proofs.PartPut.{part_names, part_values, more_size, there, stays, still_open, same_head, put_node, put_built, put_tables, put_opened, put_head, put_nodes}
 
@@ -205,7 +205,7 @@ pushed xs ys (Err y) x f e h = absurd cc
 
 -- The steps of the loop.
 
-ready_on : {S : Type 0} (b b1 : Arena) (u u1 : KeptTables) (d e : Cursor S Window) → Ready 0 b u d → Kept 0 b b1 u1 d e → Ready 0 b1 u1 e
+ready_on : {S : Type 0} (b b1 : Arena) (u u1 : KeptTables) (d e : Cursor S Window) → Ready 0 b u d → StillReady 0 b b1 u1 d e → Ready 0 b1 u1 e
 ready_on b b1 u u1 d e r k = record {
   built = k.built;
   tables = k.tables;
@@ -215,8 +215,8 @@ ready_on b b1 u u1 d e r k = record {
   few_nodes = let x = r.few_nodes in let y = k.nodes in omega arith;
 }
 
-kept_twice : {S : Type 0} (a b b1 : Arena) (u u1 : KeptTables) (c d e : Cursor S Window) → Kept 0 a b u c d → Kept 0 b b1 u1 d e → Kept 0 a b1 u1 c e
-kept_twice a b b1 u u1 c d e h k = record {
+ready_twice : {S : Type 0} (a b b1 : Arena) (u u1 : KeptTables) (c d e : Cursor S Window) → StillReady 0 a b u c d → StillReady 0 b b1 u1 d e → StillReady 0 a b1 u1 c e
+ready_twice a b b1 u u1 c d e h k = record {
   built = k.built;
   tables = k.tables;
   placed = k.placed;
@@ -237,7 +237,7 @@ module _ {S : Type 0} (tells : S → Type 0) (left : S → List ℕ) (faults : S
   so_begin a t c r = record {
     goes = goes_nowhere tells left faults c tt r.placed;
     ready = r;
-    kept = record { built = r.built; tables = r.tables; placed = r.placed; texts = omega arith; traits = omega arith; nodes = omega arith };
+    still_ready = record { built = r.built; tables = r.tables; placed = r.placed; texts = omega arith; traits = omega arith; nodes = omega arith };
     holds = grows_itself a;
     at = λ n lt. record {
       fuel = record { values = n; pairs = n };
@@ -258,14 +258,14 @@ module _ {S : Type 0} (tells : S → Type 0) (left : S → List ℕ) (faults : S
           leads_end tells left faults (value_layout n (state_of a t)) (bind (value_layout y.fuel.values (state_of b u)) (rest y.fuels fs)) c d e tt end so.goes y.leads
           (end_reads tells left faults (value_layout y.fuel.values (state_of b u)) (rest y.fuels fs) d e end (h y.fuel.values y.enough.0).starts)
 
-      pub so_value : (v : Stored) → Goes tells left faults d e (Ok (start.Value v)) → ((n : ℕ) → left_of d < n → Starts tells left n (state_of b u) (state_of b1 u1) d e (Ok (start.Value v))) → Kept 0 b b1 u1 d e → StartHolds b b1 (left_of e) (start.Value v) → place d < place e
+      pub so_value : (v : Stored) → Goes tells left faults d e (Ok (start.Value v)) → ((n : ℕ) → left_of d < n → Starts tells left n (state_of b u) (state_of b1 u1) d e (Ok (start.Value v))) → StillReady 0 b b1 u1 d e → StartHolds b b1 (left_of e) (start.Value v) → place d < place e
           → StackSo tells left faults a b1 t u1 c e (now.Given v) fs
       so_value v g h k (names, grows) lt1 =
           let less : suc (left_of e) ≤ left_of d = let p = k.placed.within in let q = g.same_bound in omega arith in
           record {
             goes = goes_then tells left faults c d e tt (Ok tt) so.goes (goes_other tells left faults d e (start.Value v) tt g);
             ready = ready_on b b1 u u1 d e so.ready k;
-            kept = kept_twice a b b1 u u1 c d e so.kept k;
+            still_ready = ready_twice a b b1 u u1 c d e so.still_ready k;
             holds = (nested_less a (suc (left_of e)) (left_of d) fs b1 less (nested_grows a (left_of d) fs b b1 so.ready.built grows so.holds), names);
             at = λ n lt.
                 let y = so.at n lt in
@@ -280,14 +280,14 @@ module _ {S : Type 0} (tells : S → Type 0) (left : S → List ℕ) (faults : S
             moved = let m = so.moved in omega arith;
           }
 
-      pub so_open : (i : NodeId) (p : Parts) → Goes tells left faults d e (Ok (start.Open i p)) → ((n : ℕ) → left_of d < n → Starts tells left n (state_of b u) (state_of b1 u1) d e (Ok (start.Open i p))) → Kept 0 b b1 u1 d e → StartHolds b b1 (left_of e) (start.Open i p) → place d < place e
+      pub so_open : (i : NodeId) (p : Parts) → Goes tells left faults d e (Ok (start.Open i p)) → ((n : ℕ) → left_of d < n → Starts tells left n (state_of b u) (state_of b1 u1) d e (Ok (start.Open i p))) → StillReady 0 b b1 u1 d e → StartHolds b b1 (left_of e) (start.Open i p) → place d < place e
           → StackSo tells left faults a b1 t u1 c e (now.Open i p) fs
       so_open i p g h k o lt1 =
           let less : suc (left_of e) ≤ left_of d = let p = k.placed.within in let q = g.same_bound in omega arith in
           record {
             goes = goes_then tells left faults c d e tt (Ok tt) so.goes (goes_other tells left faults d e (start.Open i p) tt g);
             ready = ready_on b b1 u u1 d e so.ready k;
-            kept = kept_twice a b b1 u u1 c d e so.kept k;
+            still_ready = ready_twice a b b1 u u1 c d e so.still_ready k;
             holds = record {
               over = record {
                 opened = o.opened;
@@ -319,14 +319,14 @@ module _ {S : Type 0} (tells : S → Type 0) (left : S → List ℕ) (faults : S
           leads_end tells left faults (value_layout n (state_of a t)) (bind w (rest y.fuels fs)) c d e tt end so.goes y.leads
           (end_reads tells left faults w (rest y.fuels fs) d e end (h (value_layout y.fuel.values) y.fuel.pairs y.enough.1))
 
-      module _ (k : Kept 0 b b1 u1 d e) (stays : place d ≤ place e) (same : left_of e ≤ left_of d) where
+      module _ (k : StillReady 0 b b1 u1 d e) (stays : place d ≤ place e) (same : left_of e ≤ left_of d) where
         pub go_wait : (x : Slot) (q : Parts) → Goes tells left faults d e (Ok (step.Wait x q)) → ((v : State3 → Layout ValueRead) (m : ℕ) → left_of d < m → GoesOn tells left v m i.0 p (state_of b u) (state_of b1 u1) d e (Ok (step.Wait x q))) → StepHolds b b1 i.0 (step.Wait x q)
             → StackSo tells left faults a b1 t u1 c e now.Wanted (record { node = i; slot = x; todo = q } ∷ fs)
         go_wait x q g h (none, grows, names, suits) =
             record {
               goes = goes_then tells left faults c d e tt (Ok tt) so.goes (goes_other tells left faults d e (step.Wait x q) tt g);
               ready = ready_on b b1 u u1 d e so.ready k;
-              kept = kept_twice a b b1 u u1 c d e so.kept k;
+              still_ready = ready_twice a b b1 u u1 c d e so.still_ready k;
               holds = record {
                 over = record {
                   opened = opened_less b1 i.0 (left_of e + spare x) (left_of d) (omega arith) (opened_grown b b1 i.0 (left_of d) grows so.holds.over.opened);
@@ -361,7 +361,7 @@ module _ {S : Type 0} (tells : S → Type 0) (left : S → List ℕ) (faults : S
             record {
               goes = goes_then tells left faults c d e tt (Ok tt) so.goes (goes_other tells left faults d e (step.Open q) tt g);
               ready = ready_on b b1 u u1 d e so.ready k;
-              kept = kept_twice a b b1 u u1 c d e so.kept k;
+              still_ready = ready_twice a b b1 u u1 c d e so.still_ready k;
               holds = record {
                 over = record {
                   opened = opened_less b1 i.0 (left_of e) (left_of d) same (opened_grown b b1 i.0 (left_of d) grows so.holds.over.opened);
@@ -393,7 +393,7 @@ module _ {S : Type 0} (tells : S → Type 0) (left : S → List ℕ) (faults : S
             record {
               goes = goes_then tells left faults c d e tt (Ok tt) so.goes (goes_other tells left faults d e step.Closed tt g);
               ready = ready_on b b1 u u1 d e so.ready k;
-              kept = kept_twice a b b1 u u1 c d e so.kept k;
+              still_ready = ready_twice a b b1 u u1 c d e so.still_ready k;
               holds = (nested_grows a (suc (left_of e)) fs o.opened.before b1 o.built (closes o.opened.before (stored_at b i.0) o.opened.place o.opened.within) (nested_less a (suc (left_of e)) (suc (left_of d)) fs o.opened.before (omega arith) o.below), there);
               at = λ n lt.
                   let y = so.at n lt in
@@ -416,7 +416,7 @@ module _ {S : Type 0} (tells : S → Type 0) (left : S → List ℕ) (faults : S
   so_done a b t u c d v so n lt = leads_answers tells left faults (λ x. read x (state_of b u)) (value_layout n (state_of a t)) (read v (state_of b u)) c d v refl (so.at n lt).leads
 
   pub so_continues : (a b : Arena) (t u : KeptTables) (c d : Cursor S Window) (v : Stored) → StackSo tells left faults a b t u c d (now.Given v) [] → Continues 0 a b u c d
-  so_continues a b t u c d v so = let k = so.kept in record { built = k.built; tables = k.tables; placed = k.placed; grows = so.holds.0; texts = k.texts; traits = k.traits; nodes = k.nodes }
+  so_continues a b t u c d v so = let k = so.still_ready in record { built = k.built; tables = k.tables; placed = k.placed; grows = so.holds.0; texts = k.texts; traits = k.traits; nodes = k.nodes }
 
   module _ (a b : Arena) (t u : KeptTables) (c d : Cursor S Window) (fs : List Frame) (v : Stored) where
     -- it is a key, and its value is wanted
@@ -424,7 +424,7 @@ module _ {S : Type 0} (tells : S → Type 0) (left : S → List ℕ) (faults : S
     so_key i q so = record {
       goes = so.goes;
       ready = so.ready;
-      kept = so.kept;
+      still_ready = so.still_ready;
       holds = record {
         over = record {
           opened = opened_less b i.0 (left_of d + 1) (suc (left_of d) + 0) (omega arith) so.holds.0.over.opened;
@@ -489,7 +489,7 @@ module _ {S : Type 0} (tells : S → Type 0) (left : S → List ℕ) (faults : S
           record {
             goes = so.goes;
             ready = record { built = built; tables = tables; placed = so.ready.placed; few_texts = let x = so.ready.few_texts in omega arith; few_traits = let x = so.ready.few_traits in omega arith; few_nodes = let x = so.ready.few_nodes in omega arith };
-            kept = record { built = built; tables = tables; placed = so.ready.placed; texts = let x = so.kept.texts in omega arith; traits = let x = so.kept.traits in omega arith; nodes = let x = so.kept.nodes in omega arith };
+            still_ready = record { built = built; tables = tables; placed = so.ready.placed; texts = let x = so.still_ready.texts in omega arith; traits = let x = so.still_ready.traits in omega arith; nodes = let x = so.still_ready.nodes in omega arith };
             holds = record {
               over = record {
                 opened = put_opened i l b b o g p b2 e (left_of d) (let s = more_size (stored_at b i) (part_names p) (part_values p) in let n = ap size_of node in let k = part_small f.slot v p is in omega arith);

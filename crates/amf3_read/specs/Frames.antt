@@ -155,7 +155,7 @@ pub record IsAt {S : Type 0} (tells : S → Type 0) (left : S → List ℕ) (n :
 -- How a value begins.
 
 -- what Continues says but for the nodes that are open
-pub record Kept {S : Type 0} (spare : ℕ) (a b : Arena) (t : KeptTables) (c d : Cursor S Window) : Type 0 where
+pub record StillReady {S : Type 0} (spare : ℕ) (a b : Arena) (t : KeptTables) (c d : Cursor S Window) : Type 0 where
   pub built : IsBuilt b
   pub tables : AreTablesIn b t
   pub placed : IsPlaced d
@@ -235,7 +235,7 @@ Moved _ old new = old < new
 pub record StackSo {S : Type 0} (tells : S → Type 0) (left : S → List ℕ) (faults : S → ℕ) (a b : Arena) (t u : KeptTables) (c d : Cursor S Window) (now : Now) (fs : List Frame) : Type 0 where
   pub goes : Goes {X = Unit {0}} tells left faults c d (Ok tt)
   pub ready : Ready 0 b u d
-  pub kept : Kept 0 a b u c d
+  pub still_ready : StillReady 0 a b u c d
   pub holds : Holds a (left_of d) now fs b
   pub at : (n : ℕ) → left_of c < n → IsAt tells left n (state_of a t) now fs (state_of b u) c d
   pub moved : Moved now (place c) (place d)

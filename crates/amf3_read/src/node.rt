@@ -10,7 +10,7 @@ ghost use Rattle.amf3_read.specs.Answer.{left_of};
 ghost use Rattle.amf3_read.specs.Ready.{Ready};
 ghost use Rattle.amf3_read.specs.Opened.{IsOpening};
 ghost use Rattle.amf3_read.specs.Begins.{Begins};
-ghost use Rattle.amf3_read.specs.Frames.{StartsBy, StartHolds, Kept};
+ghost use Rattle.amf3_read.specs.Frames.{StartsBy, StartHolds, StillReady};
 
 use crate::ends::{kept, refused};
 use crate::field::{FieldSize, read_field};
@@ -48,7 +48,7 @@ pub fn start_node<S: Source>(
     requires { Ready 0 builder.old tables.old cursor.old }
     ensures goes { Goes S.tells S.left S.faults cursor.old cursor.new result }
     ensures starts { (v : State3 → Layout ValueRead) (n : ℕ) → StartsBy S.tells S.left v n (node_layout v n kind (state_of builder.old tables.old)) (state_of builder.new tables.new) cursor.old cursor.new result }
-    ensures kept { OnOk result (Kept 0 builder.old builder.new tables.new cursor.old cursor.new) }
+    ensures still_ready { OnOk result (StillReady 0 builder.old builder.new tables.new cursor.old cursor.new) }
     ensures holds { IfOk result (StartHolds builder.old builder.new (left_of cursor.new)) }
     ensures stays { OnOk result (place cursor.old ≤ place cursor.new) }
 {
@@ -74,7 +74,7 @@ fn start_inline<S: Source>(
     requires known { IsOpening tables.old (node_marker kind) header }
     ensures goes { Goes S.tells S.left S.faults cursor.old cursor.new result }
     ensures starts { (v : State3 → Layout ValueRead) (n : ℕ) → StartsBy S.tells S.left v n (inline_node v n kind header (state_of builder.old tables.old)) (state_of builder.new tables.new) cursor.old cursor.new result }
-    ensures kept { OnOk result (Kept 1 builder.old builder.new tables.new cursor.old cursor.new) }
+    ensures still_ready { OnOk result (StillReady 1 builder.old builder.new tables.new cursor.old cursor.new) }
     ensures holds { IfOk result (StartHolds builder.old builder.new (left_of cursor.new)) }
     ensures stays { OnOk result (place cursor.old ≤ place cursor.new) }
 {

@@ -13,7 +13,7 @@ ghost use Rattle.amf3_spelling.specs.KeptTables.{AreTablesIn};
 ghost use Rattle.amf_io.specs.Stretch.{between};
 ghost use Rattle.amf3_read.specs.Answer.{HasRoomFor, Answers3, Raises, left_of};
 ghost use Rattle.amf3_read.specs.Steps.{marker_layout};
-ghost use Rattle.amf3_read.specs.Frames.{Starts, StartHolds, Kept};
+ghost use Rattle.amf3_read.specs.Frames.{Starts, StartHolds, StillReady};
 
 use crate::ends::{kept, refused};
 use crate::field::{FieldSize, read_field};
@@ -124,7 +124,7 @@ fn start_value<S: Source>(
     requires { Ready 0 builder.old tables.old cursor.old }
     ensures goes { Goes S.tells S.left S.faults cursor.old cursor.new result }
     ensures starts { (n : ℕ) → left_of cursor.old < n → Starts S.tells S.left n (state_of builder.old tables.old) (state_of builder.new tables.new) cursor.old cursor.new result }
-    ensures kept { OnOk result (Kept 0 builder.old builder.new tables.new cursor.old cursor.new) }
+    ensures still_ready { OnOk result (StillReady 0 builder.old builder.new tables.new cursor.old cursor.new) }
     ensures holds { IfOk result (StartHolds builder.old builder.new (left_of cursor.new)) }
     ensures moves { OnOk result (place cursor.old < place cursor.new) }
 {

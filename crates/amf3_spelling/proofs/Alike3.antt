@@ -15,11 +15,11 @@ use Rattle.amf_graph.proofs.Matching.{Implies, values_more, nodes_more, by_name_
 use Rattle.amf3_spelling.specs.Tables.{Entry, plain, external, Words, Tables, with_words, add_node}
 use Rattle.amf3_spelling.specs.Words3.{EntryNumber}
 use Rattle.amf3_spelling.specs.Refusals3.{marker, leaf_marker}
-use Rattle.amf3_spelling.proofs.ByteSpelling.{Spelling, Then, TraitsOf, given, indexed, Step, byte, number, unused, flag, raw, word, traits, StepOf, Part, step, value, values_then, pairs_then, four_bytes, signed_bytes, eight_bytes, header_step, layout, leaf_layout, Lifted, Parts, Placed, Begun, ValueBy, NodeIn, Spells}
+use Rattle.amf3_spelling.proofs.ByteSpelling.{Spelling, Then, TraitsOf, given, indexed, Step, byte, number, unused, flag, raw, word, traits, StepOf, Segment, step, value, values_then, pairs_then, four_bytes, signed_bytes, eight_bytes, header_step, segments_of, leaf_segments, Lifted, Segments, Placed, Begun, ValueBy, NodeIn, Spells}
 use Rattle.amf3_spelling.proofs.BigEndian.{eight_same, integer_same, fours_long, signed_long, eights_long, fours_same, signed_all_same, eights_same}
 use Rattle.amf3_spelling.proofs.Numbers3.{number_same}
 use Rattle.amf3_spelling.proofs.Steps3.{moved_two, SameKind, step_same}
-use Rattle.amf3_spelling.proofs.Kept3.{Kept, Keeps, keeps_parts, keeps_spells}
+use Rattle.amf3_spelling.proofs.Stays3.{Stays, Keeps, keeps_segments, keeps_spells}
 
 -- the nodes that were spelled inline at one place
 abbrev pub Paired : Tables → Tables → ℕ → ℕ → Type 0
@@ -96,8 +96,8 @@ odd_header s (doubles x y) w vs u b u' f p = odd_number s (2 * length y + 1) (le
 odd_header s (values x y) w vs u b u' f p = odd_number s (2 * length vs + 1) (length vs) b refl p.0
 odd_header s (dictionary x) w vs u b u' f p = odd_number s (length vs + 1) f.1 b (omega arith) p.0
 
-layout_odd : (s : Style) (R : Value → Spelling Tables) (a : Head) (w : List (List ℕ × Value)) (vs : List Value) (t : Tables) (b : List ℕ) (t' : Tables) → Fits a w vs → Parts R s (layout a w vs) t b t' → Odd s b
-layout_odd s R a w vs t b t' f p = let o = odd_header s a w vs t.words p.front p.first.0 f p.first.1 in (o.0, o.1, o.2 ++ p.back, o.3, p.joined ∙ ap (λ w. w ++ p.back) o.4 ∙ append_assoc o.1 o.2 p.back)
+segments_odd : (s : Style) (R : Value → Spelling Tables) (a : Head) (w : List (List ℕ × Value)) (vs : List Value) (t : Tables) (b : List ℕ) (t' : Tables) → Fits a w vs → Segments R s (segments_of a w vs) t b t' → Odd s b
+segments_odd s R a w vs t b t' f p = let o = odd_header s a w vs t.words p.front p.first.0 f p.first.1 in (o.0, o.1, o.2 ++ p.back, o.3, p.joined ∙ ap (λ w. w ++ p.back) o.4 ∙ append_assoc o.1 o.2 p.back)
 
 raw_same : {x y : List ℕ} → raw x ≡ raw y → x ≡ y
 raw_same e = cc
@@ -115,7 +115,7 @@ zip_none : {A : Type 0} (R : A → A → Type 0) (xs ys : List A) → xs ≡ [] 
 zip_none R xs ys e f = subst (λ w. AllZip R w ys) (sym e) (subst (λ w. AllZip R [] w) (sym f) tt)
 
 module _ (g h : Graph) where
-  paired_more : (t u t' u' : Tables) → Kept g t t' → Kept h u u' → Implies (Paired t u) (Paired t' u')
+  paired_more : (t u t' u' : Tables) → Stays g t t' → Stays h u u' → Implies (Paired t u) (Paired t' u')
   paired_more t u t' u' a b i j p = (p.0, a.stays p.0 i p.1, b.stays p.0 j p.2)
 
   alike_weaker : (A B : Spelling Tables) (Q S : (ℕ → ℕ → Type 0) → Type 0) → ((P : ℕ → ℕ → Type 0) → Q P → S P) → Alike g h A B Q → Alike g h A B S
@@ -141,7 +141,7 @@ module _ (g h : Graph) where
         says = (mono (Paired x.mid y.mid) (Paired t' u') more o.says, n.says);
       }
     where
-      join : (m n t' u' t u : Tables) (r q r' q' : List ℕ) (Q S : (ℕ → ℕ → Type 0) → Type 0) → After g h t u m n r' q' Q → After g h m n t' u' r q S → Kept g m t' → Kept h n u' →
+      join : (m n t' u' t u : Tables) (r q r' q' : List ℕ) (Q S : (ℕ → ℕ → Type 0) → Type 0) → After g h t u m n r' q' Q → After g h m n t' u' r q S → Stays g m t' → Stays h n u' →
           (k i j : ℕ) → length t.done ≤ k → slice_get t'.done k ≡ Some i → slice_get u'.done k ≡ Some j → NodesMatch (Paired t' u') (node_at g i) (node_at h j)
       join m n t' u' t u r q r' q' Q S o s kept kept' k i j l a b =
           elim (cases_lt k (length m.done)) [
@@ -170,24 +170,24 @@ module _ (g h : Graph) where
       alike_words t u t' u' a.0 d.0 r q (λ P. x ≡ y) k o.2 a.2 d.2 o.1 o.0
 
   module _ (s z : Style) (R R' : Value → Spelling Tables) (kR : (v : Value) → Keeps g (R v)) (kR' : (v : Value) → Keeps h (R' v)) (alike : (v w : Value) → Alike g h (R v) (R' w) (λ P. ValuesMatch P v w)) where
-    abbrev Both : List Part → List Part → ((ℕ → ℕ → Type 0) → Type 0) → Type 0
-    Both ps qs Q = Alike g h (Parts R s ps) (Parts R' z qs) Q
+    abbrev Both : List Segment → List Segment → ((ℕ → ℕ → Type 0) → Type 0) → Type 0
+    Both ps qs Q = Alike g h (Segments R s ps) (Segments R' z qs) Q
 
     both_end : Both [] [] (λ P. Unit {0})
     both_end t u b c r q t' u' k x y e = alike_words t u t' u' t.words u.words r q (λ P. Unit {0}) k k.words x.1 y.1 (moved b [] c [] r q x.0 y.0 e) tt
 
-    both_step : (x y : Step) (ps qs : List Part) (Q : (ℕ → ℕ → Type 0) → Type 0) → SameKind x y → (x ≡ y → Both ps qs Q) → Both (step x ∷ ps) (step y ∷ qs) (λ P. (x ≡ y) × Q P)
+    both_step : (x y : Step) (ps qs : List Segment) (Q : (ℕ → ℕ → Type 0) → Type 0) → SameKind x y → (x ≡ y → Both ps qs Q) → Both (step x ∷ ps) (step y ∷ qs) (λ P. (x ≡ y) × Q P)
     both_step x y ps qs Q k rest =
-        alike_then (Lifted (StepOf s x)) (Lifted (StepOf z y)) (Parts R s ps) (Parts R' z qs) (λ P. x ≡ y) Q (keeps_parts g s R kR ps) (keeps_parts h z R' kR' qs) (λ P S i e. e) (alike_step s z x y k) (λ P o. rest o)
+        alike_then (Lifted (StepOf s x)) (Lifted (StepOf z y)) (Segments R s ps) (Segments R' z qs) (λ P. x ≡ y) Q (keeps_segments g s R kR ps) (keeps_segments h z R' kR' qs) (λ P S i e. e) (alike_step s z x y k) (λ P o. rest o)
 
-    both_value : (v w : Value) (ps qs : List Part) (Q : (ℕ → ℕ → Type 0) → Type 0) → Both ps qs Q → Both (value v ∷ ps) (value w ∷ qs) (λ P. ValuesMatch P v w × Q P)
+    both_value : (v w : Value) (ps qs : List Segment) (Q : (ℕ → ℕ → Type 0) → Type 0) → Both ps qs Q → Both (value v ∷ ps) (value w ∷ qs) (λ P. ValuesMatch P v w × Q P)
     both_value v w ps qs Q rest =
-        alike_then (R v) (R' w) (Parts R s ps) (Parts R' z qs) (λ P. ValuesMatch P v w) Q (keeps_parts g s R kR ps) (keeps_parts h z R' kR' qs) (λ P S i. values_more P S i v w) (alike v w) (λ P o. rest)
+        alike_then (R v) (R' w) (Segments R s ps) (Segments R' z qs) (λ P. ValuesMatch P v w) Q (keeps_segments g s R kR ps) (keeps_segments h z R' kR' qs) (λ P S i. values_more P S i v w) (alike v w) (λ P o. rest)
 
-    both_weaker : (ps qs : List Part) (Q S : (ℕ → ℕ → Type 0) → Type 0) → ((P : ℕ → ℕ → Type 0) → Q P → S P) → Both ps qs Q → Both ps qs S
-    both_weaker ps qs = alike_weaker (Parts R s ps) (Parts R' z qs)
+    both_weaker : (ps qs : List Segment) (Q S : (ℕ → ℕ → Type 0) → Type 0) → ((P : ℕ → ℕ → Type 0) → Q P → S P) → Both ps qs Q → Both ps qs S
+    both_weaker ps qs = alike_weaker (Segments R s ps) (Segments R' z qs)
 
-    both_values : (ps qs : List Part) (Q : (ℕ → ℕ → Type 0) → Type 0) → Both ps qs Q → (vs ws : List Value) → length vs ≡ length ws → Both (values_then vs ps) (values_then ws qs) (λ P. AllZip (ValuesMatch P) vs ws × Q P)
+    both_values : (ps qs : List Segment) (Q : (ℕ → ℕ → Type 0) → Type 0) → Both ps qs Q → (vs ws : List Value) → length vs ≡ length ws → Both (values_then vs ps) (values_then ws qs) (λ P. AllZip (ValuesMatch P) vs ws × Q P)
     both_values ps qs Q rest [] [] l = both_weaker ps qs Q (λ P. AllZip (ValuesMatch P) [] [] × Q P) (λ P q. (tt, q)) rest
     both_values ps qs Q rest [] (w ∷ ws) l = absurd (omega arith)
     both_values ps qs Q rest (v ∷ vs) [] l = absurd (omega arith)
@@ -196,7 +196,7 @@ module _ (g h : Graph) where
         (λ P. ValuesMatch P v w × (AllZip (ValuesMatch P) vs ws × Q P)) (λ P. AllZip (ValuesMatch P) (v ∷ vs) (w ∷ ws) × Q P) (λ P o. ((o.0, o.1.0), o.1.1))
         (both_value v w (values_then vs ps) (values_then ws qs) (λ P. AllZip (ValuesMatch P) vs ws × Q P) (both_values ps qs Q rest vs ws (omega arith)))
 
-    both_pairs : (ps qs : List Part) (Q : (ℕ → ℕ → Type 0) → Type 0) → Both ps qs Q → (vs ws : List (List ℕ × Value)) → AllNamed vs → AllNamed ws → Both (pairs_then vs ps) (pairs_then ws qs) (λ P. AllZip (PairsMatch P) vs ws × Q P)
+    both_pairs : (ps qs : List Segment) (Q : (ℕ → ℕ → Type 0) → Type 0) → Both ps qs Q → (vs ws : List (List ℕ × Value)) → AllNamed vs → AllNamed ws → Both (pairs_then vs ps) (pairs_then ws qs) (λ P. AllZip (PairsMatch P) vs ws × Q P)
     both_pairs ps qs Q rest [] [] n m =
         both_weaker (pairs_then [] ps) (pairs_then [] qs) (λ P. (word [] ≡ word []) × Q P) (λ P. AllZip (PairsMatch P) [] [] × Q P) (λ P o. (tt, o.1))
         (both_step (word []) (word []) ps qs Q tt (λ e. rest))
@@ -223,18 +223,18 @@ module _ (g h : Graph) where
 
     -- kind by kind: one input, laid out as two nodes, shows that they agree
     -- kind by kind: one input, laid out as two nodes, shows that they agree
-    both_layout : (a a' : Head) (v w : List (List ℕ × Value)) (vs ws : List Value) → marker a ≡ marker a' → Fits a v vs → Fits a' w ws → AllNamed v → AllNamed w → Both (layout a v vs) (layout a' w ws) (Agreed a a' v w vs ws)
-    both_layout (date p) (date p') v w vs ws e f f' n m =
-        both_weaker (layout (date p) v vs) (layout (date p') w ws) (λ P. (unused ≡ unused) × ((raw (to_be_bytes w64 p) ≡ raw (to_be_bytes w64 p')) × Unit {0})) (Agreed (date p) (date p') v w vs ws)
+    both_segments : (a a' : Head) (v w : List (List ℕ × Value)) (vs ws : List Value) → marker a ≡ marker a' → Fits a v vs → Fits a' w ws → AllNamed v → AllNamed w → Both (segments_of a v vs) (segments_of a' w ws) (Agreed a a' v w vs ws)
+    both_segments (date p) (date p') v w vs ws e f f' n m =
+        both_weaker (segments_of (date p) v vs) (segments_of (date p') w ws) (λ P. (unused ≡ unused) × ((raw (to_be_bytes w64 p) ≡ raw (to_be_bytes w64 p')) × Unit {0})) (Agreed (date p) (date p') v w vs ws)
         (λ P o. let d : raw (to_be_bytes w64 p) ≡ raw (to_be_bytes w64 p') = o.1.0 in (ap date (eight_same p p' f.0 f'.0 (raw_same d)), zip_none (PairsMatch P) v w f.1 f'.1, zip_none (ValuesMatch P) vs ws f.2 f'.2))
         (both_step unused unused (step (raw (to_be_bytes w64 p)) ∷ []) (step (raw (to_be_bytes w64 p')) ∷ []) (λ P. (raw (to_be_bytes w64 p) ≡ raw (to_be_bytes w64 p')) × Unit {0}) tt (λ d. both_step (raw (to_be_bytes w64 p)) (raw (to_be_bytes w64 p')) [] [] (λ P. Unit {0}) refl (λ d. both_end)))
-    both_layout array array v w vs ws e f f' n m =
-        both_weaker (layout array v vs) (layout array w ws) (λ P. (number (2 * length vs + 1) ≡ number (2 * length ws + 1)) × (AllZip (PairsMatch P) v w × (AllZip (ValuesMatch P) vs ws × Unit {0}))) (Agreed array array v w vs ws)
+    both_segments array array v w vs ws e f f' n m =
+        both_weaker (segments_of array v vs) (segments_of array w ws) (λ P. (number (2 * length vs + 1) ≡ number (2 * length ws + 1)) × (AllZip (PairsMatch P) v w × (AllZip (ValuesMatch P) vs ws × Unit {0}))) (Agreed array array v w vs ws)
         (λ P o. (refl, o.1.0, o.1.1.0))
         (both_step (number (2 * length vs + 1)) (number (2 * length ws + 1)) (pairs_then v (values_then vs [])) (pairs_then w (values_then ws [])) (λ P. AllZip (PairsMatch P) v w × (AllZip (ValuesMatch P) vs ws × Unit {0})) tt
         (λ d. let l : 2 * length vs + 1 ≡ 2 * length ws + 1 = cc in both_pairs (values_then vs []) (values_then ws []) (λ P. AllZip (ValuesMatch P) vs ws × Unit {0}) (both_values [] [] (λ P. Unit {0}) both_end vs ws (omega arith)) v w n m))
-    both_layout (object t) (object t') v w vs ws e f f' n m =
-        both_weaker (layout (object t) v vs) (layout (object t') w ws) (λ P. (traits (plain t) ≡ traits (plain t')) × (AllZip (ValuesMatch P) vs ws × AllZip (PairsMatch P) v w)) (Agreed (object t) (object t') v w vs ws)
+    both_segments (object t) (object t') v w vs ws e f f' n m =
+        both_weaker (segments_of (object t) v vs) (segments_of (object t') w ws) (λ P. (traits (plain t) ≡ traits (plain t')) × (AllZip (ValuesMatch P) vs ws × AllZip (PairsMatch P) v w)) (Agreed (object t) (object t') v w vs ws)
         (λ P o. let d : traits (plain t) ≡ traits (plain t') = o.0 in (cc, o.1.1, o.1.0))
         (both_step (traits (plain t)) (traits (plain t')) (values_then vs (cond t.dynamic (pairs_then v []) [])) (values_then ws (cond t'.dynamic (pairs_then w []) [])) (λ P. AllZip (ValuesMatch P) vs ws × AllZip (PairsMatch P) v w) tt
         (λ d. let same : t ≡ t' = cc in
@@ -242,79 +242,79 @@ module _ (g h : Graph) where
         (subst (λ y. Both (cond t.dynamic (pairs_then v []) []) (cond y (pairs_then w []) []) (λ P. AllZip (PairsMatch P) v w)) (ap (λ (y : Traits). y.dynamic) same)
         (both_members t.dynamic v w f.1 (subst (λ y. AreMembers y w) (sym (ap (λ (y : Traits). y.dynamic) same)) f'.1) n m))
         vs ws (f.0 ∙ ap (λ (y : Traits). length y.sealed) same ∙ sym f'.0)))
-    both_layout (object t) (wrapper c') v w vs ws e f f' n m =
-        both_weaker (layout (object t) v vs) (layout (wrapper c') w ws) (λ P. (traits (plain t) ≡ traits (external c')) × ⊥) (Agreed (object t) (wrapper c') v w vs ws) (λ P o. absurd o.1)
+    both_segments (object t) (wrapper c') v w vs ws e f f' n m =
+        both_weaker (segments_of (object t) v vs) (segments_of (wrapper c') w ws) (λ P. (traits (plain t) ≡ traits (external c')) × ⊥) (Agreed (object t) (wrapper c') v w vs ws) (λ P o. absurd o.1)
         (both_step (traits (plain t)) (traits (external c')) (values_then vs (cond t.dynamic (pairs_then v []) [])) (values_then ws []) (λ P. ⊥) tt (λ d. cc))
-    both_layout (wrapper c) (object t') v w vs ws e f f' n m =
-        both_weaker (layout (wrapper c) v vs) (layout (object t') w ws) (λ P. (traits (external c) ≡ traits (plain t')) × ⊥) (Agreed (wrapper c) (object t') v w vs ws) (λ P o. absurd o.1)
+    both_segments (wrapper c) (object t') v w vs ws e f f' n m =
+        both_weaker (segments_of (wrapper c) v vs) (segments_of (object t') w ws) (λ P. (traits (external c) ≡ traits (plain t')) × ⊥) (Agreed (wrapper c) (object t') v w vs ws) (λ P o. absurd o.1)
         (both_step (traits (external c)) (traits (plain t')) (values_then vs []) (values_then ws (cond t'.dynamic (pairs_then w []) [])) (λ P. ⊥) tt (λ d. cc))
-    both_layout (wrapper c) (wrapper c') v w vs ws e f f' n m =
-        both_weaker (layout (wrapper c) v vs) (layout (wrapper c') w ws) (λ P. (traits (external c) ≡ traits (external c')) × (AllZip (ValuesMatch P) vs ws × Unit {0})) (Agreed (wrapper c) (wrapper c') v w vs ws)
+    both_segments (wrapper c) (wrapper c') v w vs ws e f f' n m =
+        both_weaker (segments_of (wrapper c) v vs) (segments_of (wrapper c') w ws) (λ P. (traits (external c) ≡ traits (external c')) × (AllZip (ValuesMatch P) vs ws × Unit {0})) (Agreed (wrapper c) (wrapper c') v w vs ws)
         (λ P o. let d : traits (external c) ≡ traits (external c') = o.0 in (cc, zip_none (PairsMatch P) v w f.0 f'.0, o.1.0))
         (both_step (traits (external c)) (traits (external c')) (values_then vs []) (values_then ws []) (λ P. AllZip (ValuesMatch P) vs ws × Unit {0}) tt (λ d. both_values [] [] (λ P. Unit {0}) both_end vs ws (f.1 ∙ sym f'.1)))
-    both_layout (bytes x) (bytes x') v w vs ws e f f' n m =
-        both_weaker (layout (bytes x) v vs) (layout (bytes x') w ws) (λ P. (number (2 * length x + 1) ≡ number (2 * length x' + 1)) × ((raw x ≡ raw x') × Unit {0})) (Agreed (bytes x) (bytes x') v w vs ws)
+    both_segments (bytes x) (bytes x') v w vs ws e f f' n m =
+        both_weaker (segments_of (bytes x) v vs) (segments_of (bytes x') w ws) (λ P. (number (2 * length x + 1) ≡ number (2 * length x' + 1)) × ((raw x ≡ raw x') × Unit {0})) (Agreed (bytes x) (bytes x') v w vs ws)
         (λ P o. let d : raw x ≡ raw x' = o.1.0 in (cc, zip_none (PairsMatch P) v w f.1 f'.1, zip_none (ValuesMatch P) vs ws f.2 f'.2))
         (both_step (number (2 * length x + 1)) (number (2 * length x' + 1)) (step (raw x) ∷ []) (step (raw x') ∷ []) (λ P. (raw x ≡ raw x') × Unit {0}) tt
         (λ d. let l : 2 * length x + 1 ≡ 2 * length x' + 1 = cc in both_step (raw x) (raw x') [] [] (λ P. Unit {0}) (omega arith) (λ d. both_end)))
-    both_layout (xml_document x) (xml_document x') v w vs ws e f f' n m =
-        both_weaker (layout (xml_document x) v vs) (layout (xml_document x') w ws) (λ P. (number (2 * length x + 1) ≡ number (2 * length x' + 1)) × ((raw x ≡ raw x') × Unit {0})) (Agreed (xml_document x) (xml_document x') v w vs ws)
+    both_segments (xml_document x) (xml_document x') v w vs ws e f f' n m =
+        both_weaker (segments_of (xml_document x) v vs) (segments_of (xml_document x') w ws) (λ P. (number (2 * length x + 1) ≡ number (2 * length x' + 1)) × ((raw x ≡ raw x') × Unit {0})) (Agreed (xml_document x) (xml_document x') v w vs ws)
         (λ P o. let d : raw x ≡ raw x' = o.1.0 in (cc, zip_none (PairsMatch P) v w f.1 f'.1, zip_none (ValuesMatch P) vs ws f.2 f'.2))
         (both_step (number (2 * length x + 1)) (number (2 * length x' + 1)) (step (raw x) ∷ []) (step (raw x') ∷ []) (λ P. (raw x ≡ raw x') × Unit {0}) tt
         (λ d. let l : 2 * length x + 1 ≡ 2 * length x' + 1 = cc in both_step (raw x) (raw x') [] [] (λ P. Unit {0}) (omega arith) (λ d. both_end)))
-    both_layout (xml x) (xml x') v w vs ws e f f' n m =
-        both_weaker (layout (xml x) v vs) (layout (xml x') w ws) (λ P. (number (2 * length x + 1) ≡ number (2 * length x' + 1)) × ((raw x ≡ raw x') × Unit {0})) (Agreed (xml x) (xml x') v w vs ws)
+    both_segments (xml x) (xml x') v w vs ws e f f' n m =
+        both_weaker (segments_of (xml x) v vs) (segments_of (xml x') w ws) (λ P. (number (2 * length x + 1) ≡ number (2 * length x' + 1)) × ((raw x ≡ raw x') × Unit {0})) (Agreed (xml x) (xml x') v w vs ws)
         (λ P o. let d : raw x ≡ raw x' = o.1.0 in (cc, zip_none (PairsMatch P) v w f.1 f'.1, zip_none (ValuesMatch P) vs ws f.2 f'.2))
         (both_step (number (2 * length x + 1)) (number (2 * length x' + 1)) (step (raw x) ∷ []) (step (raw x') ∷ []) (λ P. (raw x ≡ raw x') × Unit {0}) tt
         (λ d. let l : 2 * length x + 1 ≡ 2 * length x' + 1 = cc in both_step (raw x) (raw x') [] [] (λ P. Unit {0}) (omega arith) (λ d. both_end)))
-    both_layout (ints i x) (ints i' x') v w vs ws e f f' n m =
-        both_weaker (layout (ints i x) v vs) (layout (ints i' x') w ws) (λ P. (number (2 * length x + 1) ≡ number (2 * length x' + 1)) × ((flag i ≡ flag i') × ((raw (signed_bytes x) ≡ raw (signed_bytes x')) × Unit {0}))) (Agreed (ints i x) (ints i' x') v w vs ws)
+    both_segments (ints i x) (ints i' x') v w vs ws e f f' n m =
+        both_weaker (segments_of (ints i x) v vs) (segments_of (ints i' x') w ws) (λ P. (number (2 * length x + 1) ≡ number (2 * length x' + 1)) × ((flag i ≡ flag i') × ((raw (signed_bytes x) ≡ raw (signed_bytes x')) × Unit {0}))) (Agreed (ints i x) (ints i' x') v w vs ws)
         (λ P o. let l : 2 * length x + 1 ≡ 2 * length x' + 1 = number_step_same o.0 in (head_same ints (flag_step_same o.1.0) (signed_all_same x x' (omega arith) f.0 f'.0 (raw_same o.1.1.0)), zip_none (PairsMatch P) v w f.1 f'.1, zip_none (ValuesMatch P) vs ws f.2 f'.2))
         (both_step (number (2 * length x + 1)) (number (2 * length x' + 1)) (step (flag i) ∷ step (raw (signed_bytes x)) ∷ []) (step (flag i') ∷ step (raw (signed_bytes x')) ∷ []) (λ P. (flag i ≡ flag i') × ((raw (signed_bytes x) ≡ raw (signed_bytes x')) × Unit {0})) tt
         (λ d. let l : 2 * length x + 1 ≡ 2 * length x' + 1 = number_step_same d in both_step (flag i) (flag i') (step (raw (signed_bytes x)) ∷ []) (step (raw (signed_bytes x')) ∷ []) (λ P. (raw (signed_bytes x) ≡ raw (signed_bytes x')) × Unit {0}) tt (λ d. both_step (raw (signed_bytes x)) (raw (signed_bytes x')) [] [] (λ P. Unit {0}) (signed_long x x' (omega arith)) (λ d. both_end))))
-    both_layout (uints i x) (uints i' x') v w vs ws e f f' n m =
-        both_weaker (layout (uints i x) v vs) (layout (uints i' x') w ws) (λ P. (number (2 * length x + 1) ≡ number (2 * length x' + 1)) × ((flag i ≡ flag i') × ((raw (four_bytes x) ≡ raw (four_bytes x')) × Unit {0}))) (Agreed (uints i x) (uints i' x') v w vs ws)
+    both_segments (uints i x) (uints i' x') v w vs ws e f f' n m =
+        both_weaker (segments_of (uints i x) v vs) (segments_of (uints i' x') w ws) (λ P. (number (2 * length x + 1) ≡ number (2 * length x' + 1)) × ((flag i ≡ flag i') × ((raw (four_bytes x) ≡ raw (four_bytes x')) × Unit {0}))) (Agreed (uints i x) (uints i' x') v w vs ws)
         (λ P o. let l : 2 * length x + 1 ≡ 2 * length x' + 1 = number_step_same o.0 in (head_same uints (flag_step_same o.1.0) (fours_same x x' (omega arith) f.0 f'.0 (raw_same o.1.1.0)), zip_none (PairsMatch P) v w f.1 f'.1, zip_none (ValuesMatch P) vs ws f.2 f'.2))
         (both_step (number (2 * length x + 1)) (number (2 * length x' + 1)) (step (flag i) ∷ step (raw (four_bytes x)) ∷ []) (step (flag i') ∷ step (raw (four_bytes x')) ∷ []) (λ P. (flag i ≡ flag i') × ((raw (four_bytes x) ≡ raw (four_bytes x')) × Unit {0})) tt
         (λ d. let l : 2 * length x + 1 ≡ 2 * length x' + 1 = number_step_same d in both_step (flag i) (flag i') (step (raw (four_bytes x)) ∷ []) (step (raw (four_bytes x')) ∷ []) (λ P. (raw (four_bytes x) ≡ raw (four_bytes x')) × Unit {0}) tt (λ d. both_step (raw (four_bytes x)) (raw (four_bytes x')) [] [] (λ P. Unit {0}) (fours_long x x' (omega arith)) (λ d. both_end))))
-    both_layout (doubles i x) (doubles i' x') v w vs ws e f f' n m =
-        both_weaker (layout (doubles i x) v vs) (layout (doubles i' x') w ws) (λ P. (number (2 * length x + 1) ≡ number (2 * length x' + 1)) × ((flag i ≡ flag i') × ((raw (eight_bytes x) ≡ raw (eight_bytes x')) × Unit {0}))) (Agreed (doubles i x) (doubles i' x') v w vs ws)
+    both_segments (doubles i x) (doubles i' x') v w vs ws e f f' n m =
+        both_weaker (segments_of (doubles i x) v vs) (segments_of (doubles i' x') w ws) (λ P. (number (2 * length x + 1) ≡ number (2 * length x' + 1)) × ((flag i ≡ flag i') × ((raw (eight_bytes x) ≡ raw (eight_bytes x')) × Unit {0}))) (Agreed (doubles i x) (doubles i' x') v w vs ws)
         (λ P o. let l : 2 * length x + 1 ≡ 2 * length x' + 1 = number_step_same o.0 in (head_same doubles (flag_step_same o.1.0) (eights_same x x' (omega arith) f.0 f'.0 (raw_same o.1.1.0)), zip_none (PairsMatch P) v w f.1 f'.1, zip_none (ValuesMatch P) vs ws f.2 f'.2))
         (both_step (number (2 * length x + 1)) (number (2 * length x' + 1)) (step (flag i) ∷ step (raw (eight_bytes x)) ∷ []) (step (flag i') ∷ step (raw (eight_bytes x')) ∷ []) (λ P. (flag i ≡ flag i') × ((raw (eight_bytes x) ≡ raw (eight_bytes x')) × Unit {0})) tt
         (λ d. let l : 2 * length x + 1 ≡ 2 * length x' + 1 = number_step_same d in both_step (flag i) (flag i') (step (raw (eight_bytes x)) ∷ []) (step (raw (eight_bytes x')) ∷ []) (λ P. (raw (eight_bytes x) ≡ raw (eight_bytes x')) × Unit {0}) tt (λ d. both_step (raw (eight_bytes x)) (raw (eight_bytes x')) [] [] (λ P. Unit {0}) (eights_long x x' (omega arith)) (λ d. both_end))))
-    both_layout (values i x) (values i' x') v w vs ws e f f' n m =
-        both_weaker (layout (values i x) v vs) (layout (values i' x') w ws) (λ P. (number (2 * length vs + 1) ≡ number (2 * length ws + 1)) × ((flag i ≡ flag i') × ((word x ≡ word x') × (AllZip (ValuesMatch P) vs ws × Unit {0})))) (Agreed (values i x) (values i' x') v w vs ws)
+    both_segments (values i x) (values i' x') v w vs ws e f f' n m =
+        both_weaker (segments_of (values i x) v vs) (segments_of (values i' x') w ws) (λ P. (number (2 * length vs + 1) ≡ number (2 * length ws + 1)) × ((flag i ≡ flag i') × ((word x ≡ word x') × (AllZip (ValuesMatch P) vs ws × Unit {0})))) (Agreed (values i x) (values i' x') v w vs ws)
         (λ P o. let c2 : flag i ≡ flag i' = o.1.0 in let c3 : word x ≡ word x' = o.1.1.0 in (cc, zip_none (PairsMatch P) v w f f', o.1.1.1.0))
         (both_step (number (2 * length vs + 1)) (number (2 * length ws + 1)) (step (flag i) ∷ step (word x) ∷ values_then vs []) (step (flag i') ∷ step (word x') ∷ values_then ws []) (λ P. (flag i ≡ flag i') × ((word x ≡ word x') × (AllZip (ValuesMatch P) vs ws × Unit {0}))) tt
         (λ d. let l : 2 * length vs + 1 ≡ 2 * length ws + 1 = cc in both_step (flag i) (flag i') (step (word x) ∷ values_then vs []) (step (word x') ∷ values_then ws []) (λ P. (word x ≡ word x') × (AllZip (ValuesMatch P) vs ws × Unit {0})) tt
         (λ d. both_step (word x) (word x') (values_then vs []) (values_then ws []) (λ P. AllZip (ValuesMatch P) vs ws × Unit {0}) tt (λ d. both_values [] [] (λ P. Unit {0}) both_end vs ws (omega arith)))))
-    both_layout (dictionary i) (dictionary i') v w vs ws e f f' n m =
-        both_weaker (layout (dictionary i) v vs) (layout (dictionary i') w ws) (λ P. (number (length vs + 1) ≡ number (length ws + 1)) × ((flag i ≡ flag i') × (AllZip (ValuesMatch P) vs ws × Unit {0}))) (Agreed (dictionary i) (dictionary i') v w vs ws)
+    both_segments (dictionary i) (dictionary i') v w vs ws e f f' n m =
+        both_weaker (segments_of (dictionary i) v vs) (segments_of (dictionary i') w ws) (λ P. (number (length vs + 1) ≡ number (length ws + 1)) × ((flag i ≡ flag i') × (AllZip (ValuesMatch P) vs ws × Unit {0}))) (Agreed (dictionary i) (dictionary i') v w vs ws)
         (λ P o. let c2 : flag i ≡ flag i' = o.1.0 in (cc, zip_none (PairsMatch P) v w f.0 f'.0, o.1.1.0))
         (both_step (number (length vs + 1)) (number (length ws + 1)) (step (flag i) ∷ values_then vs []) (step (flag i') ∷ values_then ws []) (λ P. (flag i ≡ flag i') × (AllZip (ValuesMatch P) vs ws × Unit {0})) tt
         (λ d. let l : length vs + 1 ≡ length ws + 1 = cc in both_step (flag i) (flag i') (values_then vs []) (values_then ws []) (λ P. AllZip (ValuesMatch P) vs ws × Unit {0}) tt (λ d. both_values [] [] (λ P. Unit {0}) both_end vs ws (omega arith))))
-    both_layout _ _ v w vs ws e f f' n m = absurd (omega arith)
+    both_segments _ _ v w vs ws e f f' n m = absurd (omega arith)
 
-    both_leaf_rest : (x y : Leaf) → IsLeaf x → IsLeaf y → leaf_marker x ≡ leaf_marker y → Both (leaf_layout x) (leaf_layout y) (λ P. x ≡ y)
+    both_leaf_rest : (x y : Leaf) → IsLeaf x → IsLeaf y → leaf_marker x ≡ leaf_marker y → Both (leaf_segments x) (leaf_segments y) (λ P. x ≡ y)
     both_leaf_rest undefined undefined h k e = both_weaker [] [] (λ P. Unit {0}) (λ P. undefined ≡ undefined) (λ P o. refl) both_end
     both_leaf_rest null null h k e = both_weaker [] [] (λ P. Unit {0}) (λ P. null ≡ null) (λ P o. refl) both_end
     both_leaf_rest (boolean true) (boolean true) h k e = both_weaker [] [] (λ P. Unit {0}) (λ P. boolean true ≡ boolean true) (λ P o. refl) both_end
     both_leaf_rest (boolean false) (boolean false) h k e = both_weaker [] [] (λ P. Unit {0}) (λ P. boolean false ≡ boolean false) (λ P o. refl) both_end
-    both_leaf_rest (integer n) (integer m) h k e = both_weaker (leaf_layout (integer n)) (leaf_layout (integer m)) (λ P. (number (integer_bits n) ≡ number (integer_bits m)) × Unit {0}) (λ P. integer n ≡ integer m) (λ P o. ap integer (integer_same n m h k (number_step_same o.0))) (both_step (number (integer_bits n)) (number (integer_bits m)) [] [] (λ P. Unit {0}) tt (λ d. both_end))
-    both_leaf_rest (double n) (double m) h k e = both_weaker (leaf_layout (double n)) (leaf_layout (double m)) (λ P. (raw (to_be_bytes w64 n) ≡ raw (to_be_bytes w64 m)) × Unit {0}) (λ P. double n ≡ double m) (λ P o. ap double (eight_same n m h k (raw_same o.0))) (both_step (raw (to_be_bytes w64 n)) (raw (to_be_bytes w64 m)) [] [] (λ P. Unit {0}) refl (λ d. both_end))
-    both_leaf_rest (text n) (text m) h k e = both_weaker (leaf_layout (text n)) (leaf_layout (text m)) (λ P. (word n ≡ word m) × Unit {0}) (λ P. text n ≡ text m) (λ P o. let d : word n ≡ word m = o.0 in cc) (both_step (word n) (word m) [] [] (λ P. Unit {0}) tt (λ d. both_end))
+    both_leaf_rest (integer n) (integer m) h k e = both_weaker (leaf_segments (integer n)) (leaf_segments (integer m)) (λ P. (number (integer_bits n) ≡ number (integer_bits m)) × Unit {0}) (λ P. integer n ≡ integer m) (λ P o. ap integer (integer_same n m h k (number_step_same o.0))) (both_step (number (integer_bits n)) (number (integer_bits m)) [] [] (λ P. Unit {0}) tt (λ d. both_end))
+    both_leaf_rest (double n) (double m) h k e = both_weaker (leaf_segments (double n)) (leaf_segments (double m)) (λ P. (raw (to_be_bytes w64 n) ≡ raw (to_be_bytes w64 m)) × Unit {0}) (λ P. double n ≡ double m) (λ P o. ap double (eight_same n m h k (raw_same o.0))) (both_step (raw (to_be_bytes w64 n)) (raw (to_be_bytes w64 m)) [] [] (λ P. Unit {0}) refl (λ d. both_end))
+    both_leaf_rest (text n) (text m) h k e = both_weaker (leaf_segments (text n)) (leaf_segments (text m)) (λ P. (word n ≡ word m) × Unit {0}) (λ P. text n ≡ text m) (λ P o. let d : word n ≡ word m = o.0 in cc) (both_step (word n) (word m) [] [] (λ P. Unit {0}) tt (λ d. both_end))
     both_leaf_rest (boolean true) _ h k e = absurd (omega arith)
     both_leaf_rest (boolean false) _ h k e = absurd (omega arith)
     both_leaf_rest _ (boolean true) h k e = absurd (omega arith)
     both_leaf_rest _ (boolean false) h k e = absurd (omega arith)
     both_leaf_rest _ _ h k e = absurd (omega arith)
 
-    both_leaf : (x y : Leaf) → IsLeaf x → IsLeaf y → Both (step (byte (leaf_marker x)) ∷ leaf_layout x) (step (byte (leaf_marker y)) ∷ leaf_layout y) (λ P. x ≡ y)
+    both_leaf : (x y : Leaf) → IsLeaf x → IsLeaf y → Both (step (byte (leaf_marker x)) ∷ leaf_segments x) (step (byte (leaf_marker y)) ∷ leaf_segments y) (λ P. x ≡ y)
     both_leaf x y h k =
-        both_weaker (step (byte (leaf_marker x)) ∷ leaf_layout x) (step (byte (leaf_marker y)) ∷ leaf_layout y) (λ P. (byte (leaf_marker x) ≡ byte (leaf_marker y)) × (x ≡ y)) (λ P. x ≡ y) (λ P o. o.1)
-        (both_step (byte (leaf_marker x)) (byte (leaf_marker y)) (leaf_layout x) (leaf_layout y) (λ P. x ≡ y) tt (λ e. both_leaf_rest x y h k (let d : leaf_marker x ≡ leaf_marker y = cc in d)))
+        both_weaker (step (byte (leaf_marker x)) ∷ leaf_segments x) (step (byte (leaf_marker y)) ∷ leaf_segments y) (λ P. (byte (leaf_marker x) ≡ byte (leaf_marker y)) × (x ≡ y)) (λ P. x ≡ y) (λ P o. o.1)
+        (both_step (byte (leaf_marker x)) (byte (leaf_marker y)) (leaf_segments x) (leaf_segments y) (λ P. x ≡ y) tt (λ e. both_leaf_rest x y h k (let d : leaf_marker x ≡ leaf_marker y = cc in d)))
 
-  leaf_byte : (s : Style) (x : Leaf) (t : Tables) (b : List ℕ) (t' : Tables) → Parts (λ v t b t'. ⊥) s (step (byte (leaf_marker x)) ∷ leaf_layout x) t b t' → (c : List ℕ) × (b ≡ leaf_marker x ∷ c)
+  leaf_byte : (s : Style) (x : Leaf) (t : Tables) (b : List ℕ) (t' : Tables) → Segments (λ v t b t'. ⊥) s (step (byte (leaf_marker x)) ∷ leaf_segments x) t b t' → (c : List ℕ) × (b ≡ leaf_marker x ∷ c)
   leaf_byte s x t b t' p = (p.back, p.joined ∙ ap (λ w. w ++ p.back) p.first.1.0)
 
   alike_value : (s z : Style) (N N' : ℕ → Spelling Tables) → ((i j : ℕ) → marker (node_at g i).head ≡ marker (node_at h j).head → Alike g h (N i) (N' j) (λ P. P i j)) → (v w : Value) → Alike g h (ValueBy N s g v) (ValueBy N' z h w) (λ P. ValuesMatch P v w)
@@ -343,13 +343,13 @@ module _ (g h : Graph) where
   -- a header's number is odd, a place's is even
   placed_not_begun : (s z : Style) (R : Value → Spelling Tables) (k : ℕ) (j : ℕ) (u u' : Tables) (b c r q : List ℕ) → IsU29 s (2 * k) b → Begun R z h j u c u' → b ++ r ≡ c ++ q → ⊥
   placed_not_begun s z R k j u u' b c r q n y e =
-      let o = layout_odd z R (node_at h j).head y.wire (node_at h j).values (add_node u j) c u' y.fits y.body in
+      let o = segments_odd z R (node_at h j).head y.wire (node_at h j).values (add_node u j) c u' y.fits y.body in
       let p = number_same (2 * k) (2 * o.0 + 1) b o.1 r (o.2 ++ q) n o.3 (e ∙ ap (λ w. w ++ q) o.4 ∙ append_assoc o.1 o.2 q) in
       absurd (omega arith)
 
   begun_not_placed : (s z : Style) (R : Value → Spelling Tables) (k : ℕ) (i : ℕ) (t t' : Tables) (b c r q : List ℕ) → IsU29 z (2 * k) c → Begun R s g i t b t' → b ++ r ≡ c ++ q → ⊥
   begun_not_placed s z R k i t t' b c r q n x e =
-      let o = layout_odd s R (node_at g i).head x.wire (node_at g i).values (add_node t i) b t' x.fits x.body in
+      let o = segments_odd s R (node_at g i).head x.wire (node_at g i).values (add_node t i) b t' x.fits x.body in
       let p = number_same (2 * o.0 + 1) (2 * k) o.1 c (o.2 ++ r) q o.3 n (sym (ap (λ w. w ++ r) o.4 ∙ append_assoc o.1 o.2 r) ∙ e) in
       absurd (omega arith)
 
@@ -375,9 +375,9 @@ module _ (g h : Graph) where
   alike_begun s z R R' kR kR' alike i j m t u b c r q t' u' k x y e =
       let a = node_at g i in
       let a' = node_at h j in
-      let o = both_layout s z R R' kR kR' alike a.head a'.head x.wire y.wire a.values a'.values m x.fits y.fits x.named y.named (add_node t i) (add_node u j) b c r q t' u' (begin_tied t u i j k) x.body y.body e in
-      let kept = keeps_parts g s R kR (layout a.head x.wire a.values) (add_node t i) b t' x.body in
-      let kept' = keeps_parts h z R' kR' (layout a'.head y.wire a'.values) (add_node u j) c u' y.body in
+      let o = both_segments s z R R' kR kR' alike a.head a'.head x.wire y.wire a.values a'.values m x.fits y.fits x.named y.named (add_node t i) (add_node u j) b c r q t' u' (begin_tied t u i j k) x.body y.body e in
+      let kept = keeps_segments g s R kR (segments_of a.head x.wire a.values) (add_node t i) b t' x.body in
+      let kept' = keeps_segments h z R' kR' (segments_of a'.head y.wire a'.values) (add_node u j) c u' y.body in
       let here = kept.stays (length t.done) i (at_end t.done i) in
       let here' = kept'.stays (length t.done) j (subst (λ w. slice_get (u.done ++ j ∷ []) w ≡ Some j) (sym k.level) (at_end u.done j)) in
       let these : NodesMatch (Paired t' u') a a' = record {

@@ -15,11 +15,11 @@ use Rattle.amf3_spelling.specs.Tables.{plain, external, Tables, no_words, no_tab
 use Rattle.amf3_spelling.specs.Refusals3.{marker, text_header_kind, class_header_kind, class_kind}
 use Rattle.amf3_spelling.specs.Words3.{Text, TextBy, empty, whole, NoPlaceBelow, given}
 use Rattle.amf3_spelling.specs.Then.{Spelling, Then}
-use Rattle.amf3_spelling.specs.Parts3.{value, word, Lifted, Parts, layout}
+use Rattle.amf3_spelling.specs.Segments3.{value, word, Lifted, Segments, segments_of}
 use Rattle.amf3_spelling.specs.Headers3.{marker_field, header_field, HeaderBy}
 use Rattle.amf3_spelling.specs.Spells3.{InlineIn, SpellsIn, Spelled3}
 use Rattle.amf3_spelling.specs.WorkedRows3.{items, five, two_texts, ring, foo, open_traits, members, shared, collection}
-use Rattle.amf3_spelling.proofs.Build.{Built, both, lifted, a_leaf, an_integer, no_text, new_text, old_text, a_text, a_reference, a_node, no_parts, word_part, value_part, absent_nil, absent_cons, unnamed, unnamed_zero}
+use Rattle.amf3_spelling.proofs.Build.{Built, both, lifted, a_leaf, an_integer, no_text, new_text, old_text, a_text, a_reference, a_node, no_segments, word_segment, value_segment, absent_nil, absent_cons, unnamed, unnamed_zero}
 
 -- what was built spells the graph
 abbrev pub spelled_by : (n : ℕ) (s : Style) (g : Graph) (x : Built (SpellsIn n s g g.root) no_tables) → Spelled3 s g (flat x.fields)
@@ -52,8 +52,8 @@ cycle =
     let R : Value → Spelling Tables = inner 0 canonical ring in
     spelled_by 1 canonical ring (a_node 0 canonical ring 0 no_tables [] 3 (omega arith) (absent_nil 0) tt refl refl tt (omega arith)
     (both _ _ t (counted canonical ring 0 3 t (refl, (refl, refl)))
-    (word_part R canonical [] (value (node 0) ∷ []) t (no_text canonical t.words)
-    (value_part R canonical (node 0) [] t (a_reference (InlineIn 0 canonical ring) canonical ring 0 0 t refl (omega arith)) (no_parts R canonical t)))))
+    (word_segment R canonical [] (value (node 0) ∷ []) t (no_text canonical t.words)
+    (value_segment R canonical (node 0) [] t (a_reference (InlineIn 0 canonical ring) canonical ring 0 0 t refl (omega arith)) (no_segments R canonical t)))))
 
 pub text_twice : Spelled3 free two_texts (0x09 ∷ 0x05 ∷ 0x01 ∷ 0x06 ∷ 0x07 ∷ foo ++ 0x06 ∷ 0x07 ∷ foo)
 text_twice =
@@ -64,9 +64,9 @@ text_twice =
     let second : Built (R (leaf (text foo))) first.after = a_text I free two_texts foo first.after foo_text (new_text free foo first.after.words foo_is foo_text tt (omega arith)) in
     spelled_by 1 free two_texts (a_node 0 free two_texts 0 no_tables [] 5 (omega arith) (absent_nil 0) tt refl tt tt (omega arith)
     (both _ _ t (counted free two_texts 0 5 t (refl, (refl, refl)))
-    (word_part R free [] (value (leaf (text foo)) ∷ value (leaf (text foo)) ∷ []) t (no_text free t.words)
-    (value_part R free (leaf (text foo)) (value (leaf (text foo)) ∷ []) t first
-    (value_part R free (leaf (text foo)) [] first.after second (no_parts R free second.after))))))
+    (word_segment R free [] (value (leaf (text foo)) ∷ value (leaf (text foo)) ∷ []) t (no_text free t.words)
+    (value_segment R free (leaf (text foo)) (value (leaf (text foo)) ∷ []) t first
+    (value_segment R free (leaf (text foo)) [] first.after second (no_segments R free second.after))))))
 
 pub text_by_place : Spelled3 canonical two_texts (0x09 ∷ 0x05 ∷ 0x01 ∷ 0x06 ∷ 0x07 ∷ foo ++ 0x06 ∷ 0x00 ∷ [])
 text_by_place =
@@ -77,9 +77,9 @@ text_by_place =
     let second : Built (R (leaf (text foo))) first.after = a_text I canonical two_texts foo first.after foo_text (old_text canonical foo first.after.words 0 foo_is refl (unnamed_zero first.after.words.texts foo) (omega arith)) in
     spelled_by 1 canonical two_texts (a_node 0 canonical two_texts 0 no_tables [] 5 (omega arith) (absent_nil 0) tt refl refl tt (omega arith)
     (both _ _ t (counted canonical two_texts 0 5 t (refl, (refl, refl)))
-    (word_part R canonical [] (value (leaf (text foo)) ∷ value (leaf (text foo)) ∷ []) t (no_text canonical t.words)
-    (value_part R canonical (leaf (text foo)) (value (leaf (text foo)) ∷ []) t first
-    (value_part R canonical (leaf (text foo)) [] first.after second (no_parts R canonical second.after))))))
+    (word_segment R canonical [] (value (leaf (text foo)) ∷ value (leaf (text foo)) ∷ []) t (no_text canonical t.words)
+    (value_segment R canonical (leaf (text foo)) (value (leaf (text foo)) ∷ []) t first
+    (value_segment R canonical (leaf (text foo)) [] first.after second (no_segments R canonical second.after))))))
 
 -- an empty array
 abbrev pub an_empty_array : (n : ℕ) (s : Style) (g : Graph) (i : ℕ) (t : Tables) → i < length g.nodes → Absent t.done i → node_at g i ≡ items [] → Built (inner (suc n) s g (node i)) t
@@ -99,7 +99,7 @@ an_empty_array n s g i t there new e = record {
     spelled = small s 1 (omega arith);
     rest = field (text_header_kind (length t.words.texts)) (1 ∷ []) ∷ [];
     fields = refl;
-    behind = subst (λ a. Then (Lifted (HeaderBy s a.head a.values 1)) (Parts (inner n s g) s (layout a.head [] a.values)) (add_node t i) (field (text_header_kind (length t.words.texts)) (1 ∷ []) ∷ []) (add_node t i)) (sym e) body;
+    behind = subst (λ a. Then (Lifted (HeaderBy s a.head a.values 1)) (Segments (inner n s g) s (segments_of a.head [] a.values)) (add_node t i) (field (text_header_kind (length t.words.texts)) (1 ∷ []) ∷ []) (add_node t i)) (sym e) body;
   });
 }
   where
@@ -107,7 +107,7 @@ an_empty_array n s g i t there new e = record {
     in_order_of free h = tt
     in_order_of canonical h = h
 
-    body : Then (Lifted (HeaderBy s array [] 1)) (Parts (inner n s g) s (layout array [] [])) (add_node t i) (field (text_header_kind (length t.words.texts)) (1 ∷ []) ∷ []) (add_node t i)
+    body : Then (Lifted (HeaderBy s array [] 1)) (Segments (inner n s g) s (segments_of array [] [])) (add_node t i) (field (text_header_kind (length t.words.texts)) (1 ∷ []) ∷ []) (add_node t i)
     body = record {
       front = [];
       back = field (text_header_kind (length t.words.texts)) (1 ∷ []) ∷ [];
@@ -169,11 +169,11 @@ members_on_the_wire =
     let two : Value = leaf (integer (pos 2)) in
     spelled_by 1 free members (a_node 0 free members 0 no_tables ((0x62 ∷ [], one) ∷ (0x61 ∷ [], two) ∷ []) 11 (omega arith) (absent_nil 0) (refl, tt) refl tt (b_is, (a_is, tt)) (omega arith)
     (both _ _ t h
-    (word_part R free (0x62 ∷ []) (value one ∷ word (0x61 ∷ []) ∷ value two ∷ word [] ∷ []) h.after b
-    (value_part R free one (word (0x61 ∷ []) ∷ value two ∷ word [] ∷ []) u (an_integer I free members 1 u (omega arith))
-    (word_part R free (0x61 ∷ []) (value two ∷ word [] ∷ []) u a
-    (value_part R free two (word [] ∷ []) w (an_integer I free members 2 w (omega arith))
-    (word_part R free [] [] w (no_text free w.words) (no_parts R free w))))))))
+    (word_segment R free (0x62 ∷ []) (value one ∷ word (0x61 ∷ []) ∷ value two ∷ word [] ∷ []) h.after b
+    (value_segment R free one (word (0x61 ∷ []) ∷ value two ∷ word [] ∷ []) u (an_integer I free members 1 u (omega arith))
+    (word_segment R free (0x61 ∷ []) (value two ∷ word [] ∷ []) u a
+    (value_segment R free two (word [] ∷ []) w (an_integer I free members 2 w (omega arith))
+    (word_segment R free [] [] w (no_text free w.words) (no_segments R free w))))))))
 
 pub members_by_name : Spelled3 canonical members (0x0A ∷ 0x0B ∷ 0x01 ∷ 0x03 ∷ 0x61 ∷ 0x04 ∷ 0x02 ∷ 0x03 ∷ 0x62 ∷ 0x04 ∷ 0x01 ∷ 0x01 ∷ [])
 members_by_name =
@@ -189,11 +189,11 @@ members_by_name =
     let two : Value = leaf (integer (pos 2)) in
     spelled_by 1 canonical members (a_node 0 canonical members 0 no_tables ((0x61 ∷ [], two) ∷ (0x62 ∷ [], one) ∷ []) 11 (omega arith) (absent_nil 0) (refl, tt) refl refl (a_is, (b_is, tt)) (omega arith)
     (both _ _ t h
-    (word_part R canonical (0x61 ∷ []) (value two ∷ word (0x62 ∷ []) ∷ value one ∷ word [] ∷ []) h.after a
-    (value_part R canonical two (word (0x62 ∷ []) ∷ value one ∷ word [] ∷ []) u (an_integer I canonical members 2 u (omega arith))
-    (word_part R canonical (0x62 ∷ []) (value one ∷ word [] ∷ []) u b
-    (value_part R canonical one (word [] ∷ []) w (an_integer I canonical members 1 w (omega arith))
-    (word_part R canonical [] [] w (no_text canonical w.words) (no_parts R canonical w))))))))
+    (word_segment R canonical (0x61 ∷ []) (value two ∷ word (0x62 ∷ []) ∷ value one ∷ word [] ∷ []) h.after a
+    (value_segment R canonical two (word (0x62 ∷ []) ∷ value one ∷ word [] ∷ []) u (an_integer I canonical members 2 u (omega arith))
+    (word_segment R canonical (0x62 ∷ []) (value one ∷ word [] ∷ []) u b
+    (value_segment R canonical one (word [] ∷ []) w (an_integer I canonical members 1 w (omega arith))
+    (word_segment R canonical [] [] w (no_text canonical w.words) (no_segments R canonical w))))))))
 
 pub shared_on_the_wire : Spelled3 free shared (0x0A ∷ 0x0B ∷ 0x01 ∷ 0x03 ∷ 0x62 ∷ 0x09 ∷ 0x01 ∷ 0x01 ∷ 0x03 ∷ 0x61 ∷ 0x09 ∷ 0x02 ∷ 0x01 ∷ [])
 shared_on_the_wire =
@@ -207,11 +207,11 @@ shared_on_the_wire =
     let w : Tables = with_words x.after a.after in
     spelled_by 2 free shared (a_node 1 free shared 0 no_tables ((0x62 ∷ [], node 1) ∷ (0x61 ∷ [], node 1) ∷ []) 11 (omega arith) (absent_nil 0) (refl, tt) refl tt (b_is, (a_is, tt)) (omega arith)
     (both _ _ t h
-    (word_part R free (0x62 ∷ []) (value (node 1) ∷ word (0x61 ∷ []) ∷ value (node 1) ∷ word [] ∷ []) h.after b
-    (value_part R free (node 1) (word (0x61 ∷ []) ∷ value (node 1) ∷ word [] ∷ []) u x
-    (word_part R free (0x61 ∷ []) (value (node 1) ∷ word [] ∷ []) x.after a
-    (value_part R free (node 1) (word [] ∷ []) w (a_reference (InlineIn 1 free shared) free shared 1 1 w refl (omega arith))
-    (word_part R free [] [] w (no_text free w.words) (no_parts R free w))))))))
+    (word_segment R free (0x62 ∷ []) (value (node 1) ∷ word (0x61 ∷ []) ∷ value (node 1) ∷ word [] ∷ []) h.after b
+    (value_segment R free (node 1) (word (0x61 ∷ []) ∷ value (node 1) ∷ word [] ∷ []) u x
+    (word_segment R free (0x61 ∷ []) (value (node 1) ∷ word [] ∷ []) x.after a
+    (value_segment R free (node 1) (word [] ∷ []) w (a_reference (InlineIn 1 free shared) free shared 1 1 w refl (omega arith))
+    (word_segment R free [] [] w (no_text free w.words) (no_segments R free w))))))))
 
 pub shared_by_name : Spelled3 canonical shared (0x0A ∷ 0x0B ∷ 0x01 ∷ 0x03 ∷ 0x61 ∷ 0x09 ∷ 0x01 ∷ 0x01 ∷ 0x03 ∷ 0x62 ∷ 0x09 ∷ 0x02 ∷ 0x01 ∷ [])
 shared_by_name =
@@ -225,11 +225,11 @@ shared_by_name =
     let w : Tables = with_words x.after b.after in
     spelled_by 2 canonical shared (a_node 1 canonical shared 0 no_tables ((0x61 ∷ [], node 1) ∷ (0x62 ∷ [], node 1) ∷ []) 11 (omega arith) (absent_nil 0) (refl, tt) refl refl (a_is, (b_is, tt)) (omega arith)
     (both _ _ t h
-    (word_part R canonical (0x61 ∷ []) (value (node 1) ∷ word (0x62 ∷ []) ∷ value (node 1) ∷ word [] ∷ []) h.after a
-    (value_part R canonical (node 1) (word (0x62 ∷ []) ∷ value (node 1) ∷ word [] ∷ []) u x
-    (word_part R canonical (0x62 ∷ []) (value (node 1) ∷ word [] ∷ []) x.after b
-    (value_part R canonical (node 1) (word [] ∷ []) w (a_reference (InlineIn 1 canonical shared) canonical shared 1 1 w refl (omega arith))
-    (word_part R canonical [] [] w (no_text canonical w.words) (no_parts R canonical w))))))))
+    (word_segment R canonical (0x61 ∷ []) (value (node 1) ∷ word (0x62 ∷ []) ∷ value (node 1) ∷ word [] ∷ []) h.after a
+    (value_segment R canonical (node 1) (word (0x62 ∷ []) ∷ value (node 1) ∷ word [] ∷ []) u x
+    (word_segment R canonical (0x62 ∷ []) (value (node 1) ∷ word [] ∷ []) x.after b
+    (value_segment R canonical (node 1) (word [] ∷ []) w (a_reference (InlineIn 1 canonical shared) canonical shared 1 1 w refl (omega arith))
+    (word_segment R canonical [] [] w (no_text canonical w.words) (no_segments R canonical w))))))))
 
 class_is : class_name ArrayCollection ≢ []
 class_is e = cc
@@ -251,7 +251,7 @@ collected s number unused e o few u =
     }) in
     let x : Built (R (node 1)) h.after = an_empty_array 0 s collection 1 h.after (omega arith) (absent_cons 0 [] 1 (λ e. omega arith) (absent_nil 1)) refl in
     let whole_row : Built (SpellsIn 2 s collection (node 0)) no_tables = a_node 1 s collection 0 no_tables [] number (omega arith) (absent_nil 0) (refl, refl) refl (no_pairs s) tt few
-    (both _ _ t h (value_part R s (node 1) [] h.after x (no_parts R s x.after))) in
+    (both _ _ t h (value_segment R s (node 1) [] h.after x (no_segments R s x.after))) in
     spelled_by 2 s collection whole_row
   where
     class_text : IsText (class_name ArrayCollection)

@@ -11,7 +11,7 @@ use Rattle.amf3_spelling.specs.Tables.{Words, Tables, with_words, add_node}
 use Rattle.amf3_spelling.specs.Then.{Spelling, Then, Plain}
 use Rattle.amf3_spelling.specs.Refusals3.{marker, leaf_marker, markers, header_kind}
 use Rattle.amf3_spelling.specs.Words3.{Text}
-use Rattle.amf3_spelling.specs.Parts3.{Part, flag, four, eight, raw, chars, word, value, Fixed, Lifted, Parts, values_then, pairs_then, fours, signed_fours, eights, layout}
+use Rattle.amf3_spelling.specs.Segments3.{Segment, flag, four, eight, raw, chars, word, value, Fixed, Lifted, Segments, values_then, pairs_then, fours, signed_fours, eights, segments_of}
 use Rattle.amf3_spelling.specs.Headers3.{HeaderBy, header_field, marker_field}
 use Rattle.amf3_spelling.specs.Nodes3.{Placed, Begun}
 use Rattle.amf3_spelling.specs.Spells3.{Marked, LeafBy, ValueBy, InlineIn, SpellsIn}
@@ -39,48 +39,48 @@ pub record Beside (D : List ℕ → List ℕ → Type 0) (t u : Tables) : Type 0
 abbrev pub Moves : (List ℕ → List ℕ → Type 0) → Spelling Tables → Type 0
 Moves D A = (t u : Tables) (fs : List Field) (t' : Tables) → Beside D t u → A t fs t' → (u' : Tables) × A u fs u' × Beside D t' u'
 
-abbrev IsPartOf : (ℕ → Type 0) → Part → Type 0
-IsPartOf Q (value v) = IsOf Q v
-IsPartOf Q _ = Unit {0}
+abbrev IsSegmentOf : (ℕ → Type 0) → Segment → Type 0
+IsSegmentOf Q (value v) = IsOf Q v
+IsSegmentOf Q _ = Unit {0}
 
 module _ (Q : ℕ → Type 0) where
-  values_of : (vs : List Value) (ps : List Part) → AllByRecursion (IsOf Q) vs → AllByRecursion (IsPartOf Q) ps → AllByRecursion (IsPartOf Q) (values_then vs ps)
+  values_of : (vs : List Value) (ps : List Segment) → AllByRecursion (IsOf Q) vs → AllByRecursion (IsSegmentOf Q) ps → AllByRecursion (IsSegmentOf Q) (values_then vs ps)
   values_of [] ps h k = k
   values_of (v ∷ vs) ps h k = (h.0, values_of vs ps h.1 k)
 
-  pairs_of : (w : List (List ℕ × Value)) (ps : List Part) → AllByRecursion (λ p. IsOf Q p.1) w → AllByRecursion (IsPartOf Q) ps → AllByRecursion (IsPartOf Q) (pairs_then w ps)
+  pairs_of : (w : List (List ℕ × Value)) (ps : List Segment) → AllByRecursion (λ p. IsOf Q p.1) w → AllByRecursion (IsSegmentOf Q) ps → AllByRecursion (IsSegmentOf Q) (pairs_then w ps)
   pairs_of [] ps h k = (tt, k)
   pairs_of (p ∷ w) ps h k = (tt, (h.0, pairs_of w ps h.1 k))
 
-  members_of : (f : Bool) (w : List (List ℕ × Value)) → AllByRecursion (λ p. IsOf Q p.1) w → AllByRecursion (IsPartOf Q) (cond f (pairs_then w []) [])
+  members_of : (f : Bool) (w : List (List ℕ × Value)) → AllByRecursion (λ p. IsOf Q p.1) w → AllByRecursion (IsSegmentOf Q) (cond f (pairs_then w []) [])
   members_of true w h = pairs_of w [] h tt
   members_of false w h = tt
 
-  fours_of : (ns : List ℕ) → AllByRecursion (IsPartOf Q) (fours ns)
+  fours_of : (ns : List ℕ) → AllByRecursion (IsSegmentOf Q) (fours ns)
   fours_of [] = tt
   fours_of (n ∷ ns) = (tt, fours_of ns)
 
-  signed_of : (ns : List ℤ) → AllByRecursion (IsPartOf Q) (signed_fours ns)
+  signed_of : (ns : List ℤ) → AllByRecursion (IsSegmentOf Q) (signed_fours ns)
   signed_of [] = tt
   signed_of (n ∷ ns) = (tt, signed_of ns)
 
-  eights_of : (ns : List ℕ) → AllByRecursion (IsPartOf Q) (eights ns)
+  eights_of : (ns : List ℕ) → AllByRecursion (IsSegmentOf Q) (eights ns)
   eights_of [] = tt
   eights_of (n ∷ ns) = (tt, eights_of ns)
 
-  layout_of : (a : Head) (w : List (List ℕ × Value)) (vs : List Value) → AllByRecursion (λ p. IsOf Q p.1) w → AllByRecursion (IsOf Q) vs → AllByRecursion (IsPartOf Q) (layout a w vs)
-  layout_of (xml_document x) w vs h k = (tt, tt)
-  layout_of (date p) w vs h k = (tt, tt)
-  layout_of array w vs h k = pairs_of w (values_then vs []) h (values_of vs [] k tt)
-  layout_of (object t) w vs h k = values_of vs (cond t.dynamic (pairs_then w []) []) k (members_of t.dynamic w h)
-  layout_of (wrapper c) w vs h k = values_of vs [] k tt
-  layout_of (xml x) w vs h k = (tt, tt)
-  layout_of (bytes x) w vs h k = (tt, tt)
-  layout_of (ints f ns) w vs h k = (tt, signed_of ns)
-  layout_of (uints f ns) w vs h k = (tt, fours_of ns)
-  layout_of (doubles f ns) w vs h k = (tt, eights_of ns)
-  layout_of (values f x) w vs h k = (tt, (tt, values_of vs [] k tt))
-  layout_of (dictionary f) w vs h k = (tt, values_of vs [] k tt)
+  all_segments_of : (a : Head) (w : List (List ℕ × Value)) (vs : List Value) → AllByRecursion (λ p. IsOf Q p.1) w → AllByRecursion (IsOf Q) vs → AllByRecursion (IsSegmentOf Q) (segments_of a w vs)
+  all_segments_of (xml_document x) w vs h k = (tt, tt)
+  all_segments_of (date p) w vs h k = (tt, tt)
+  all_segments_of array w vs h k = pairs_of w (values_then vs []) h (values_of vs [] k tt)
+  all_segments_of (object t) w vs h k = values_of vs (cond t.dynamic (pairs_then w []) []) k (members_of t.dynamic w h)
+  all_segments_of (wrapper c) w vs h k = values_of vs [] k tt
+  all_segments_of (xml x) w vs h k = (tt, tt)
+  all_segments_of (bytes x) w vs h k = (tt, tt)
+  all_segments_of (ints f ns) w vs h k = (tt, signed_of ns)
+  all_segments_of (uints f ns) w vs h k = (tt, fours_of ns)
+  all_segments_of (doubles f ns) w vs h k = (tt, eights_of ns)
+  all_segments_of (values f x) w vs h k = (tt, (tt, values_of vs [] k tt))
+  all_segments_of (dictionary f) w vs h k = (tt, values_of vs [] k tt)
 
 module _ (D : List ℕ → List ℕ → Type 0) where
   then_moves : (A B : Spelling Tables) → Moves D A → Moves D B → Moves D (Then A B)
@@ -100,15 +100,15 @@ module _ (D : List ℕ → List ℕ → Type 0) where
   plain_moves P t u fs t' b (z, e) = (u, (z, refl), subst (λ x. Beside D x u) (sym e) b)
 
 module _ (g : Graph) (s : Style) (Q : ℕ → Type 0) (D : List ℕ → List ℕ → Type 0) (closed : IsClosed Q g) (aside : IsAside Q D) where
-  parts_move : (R : Value → Spelling Tables) → ((v : Value) → IsOf Q v → Moves D (R v)) → (ps : List Part) → AllByRecursion (IsPartOf Q) ps → Moves D (Parts R s ps)
-  parts_move R f [] h t u fs t' b (z, e) = (u, (z, refl), subst (λ x. Beside D x u) (sym e) b)
-  parts_move R f (word x ∷ ps) h t u fs t' b z = then_moves D (Lifted (Text s x)) (Parts R s ps) (lifted_moves D (Text s x)) (parts_move R f ps h.1) t u fs t' b z
-  parts_move R f (value v ∷ ps) h t u fs t' b z = then_moves D (R v) (Parts R s ps) (f v h.0) (parts_move R f ps h.1) t u fs t' b z
-  parts_move R f (flag x ∷ ps) h t u fs t' b z = then_moves D (Plain (Fixed s (flag x))) (Parts R s ps) (plain_moves D (Fixed s (flag x))) (parts_move R f ps h.1) t u fs t' b z
-  parts_move R f (four x ∷ ps) h t u fs t' b z = then_moves D (Plain (Fixed s (four x))) (Parts R s ps) (plain_moves D (Fixed s (four x))) (parts_move R f ps h.1) t u fs t' b z
-  parts_move R f (eight x ∷ ps) h t u fs t' b z = then_moves D (Plain (Fixed s (eight x))) (Parts R s ps) (plain_moves D (Fixed s (eight x))) (parts_move R f ps h.1) t u fs t' b z
-  parts_move R f (raw x ∷ ps) h t u fs t' b z = then_moves D (Plain (Fixed s (raw x))) (Parts R s ps) (plain_moves D (Fixed s (raw x))) (parts_move R f ps h.1) t u fs t' b z
-  parts_move R f (chars x ∷ ps) h t u fs t' b z = then_moves D (Plain (Fixed s (chars x))) (Parts R s ps) (plain_moves D (Fixed s (chars x))) (parts_move R f ps h.1) t u fs t' b z
+  segments_move : (R : Value → Spelling Tables) → ((v : Value) → IsOf Q v → Moves D (R v)) → (ps : List Segment) → AllByRecursion (IsSegmentOf Q) ps → Moves D (Segments R s ps)
+  segments_move R f [] h t u fs t' b (z, e) = (u, (z, refl), subst (λ x. Beside D x u) (sym e) b)
+  segments_move R f (word x ∷ ps) h t u fs t' b z = then_moves D (Lifted (Text s x)) (Segments R s ps) (lifted_moves D (Text s x)) (segments_move R f ps h.1) t u fs t' b z
+  segments_move R f (value v ∷ ps) h t u fs t' b z = then_moves D (R v) (Segments R s ps) (f v h.0) (segments_move R f ps h.1) t u fs t' b z
+  segments_move R f (flag x ∷ ps) h t u fs t' b z = then_moves D (Plain (Fixed s (flag x))) (Segments R s ps) (plain_moves D (Fixed s (flag x))) (segments_move R f ps h.1) t u fs t' b z
+  segments_move R f (four x ∷ ps) h t u fs t' b z = then_moves D (Plain (Fixed s (four x))) (Segments R s ps) (plain_moves D (Fixed s (four x))) (segments_move R f ps h.1) t u fs t' b z
+  segments_move R f (eight x ∷ ps) h t u fs t' b z = then_moves D (Plain (Fixed s (eight x))) (Segments R s ps) (plain_moves D (Fixed s (eight x))) (segments_move R f ps h.1) t u fs t' b z
+  segments_move R f (raw x ∷ ps) h t u fs t' b z = then_moves D (Plain (Fixed s (raw x))) (Segments R s ps) (plain_moves D (Fixed s (raw x))) (segments_move R f ps h.1) t u fs t' b z
+  segments_move R f (chars x ∷ ps) h t u fs t' b z = then_moves D (Plain (Fixed s (chars x))) (Segments R s ps) (plain_moves D (Fixed s (chars x))) (segments_move R f ps h.1) t u fs t' b z
 
   -- a header is the same, since it looks at words and nodes alone
   same_header : (t u : Tables) (m : ℕ) (header : List ℕ) → Beside D t u → header_field g t m header ≡ header_field g u m header
@@ -134,9 +134,9 @@ module _ (g : Graph) (s : Style) (Q : ℕ → Type 0) (D : List ℕ → List ℕ
       let c = closed i q in
       let wire : AllByRecursion (λ p. IsOf Q p.1) z.pairs = by_name_all_back (λ p. IsOf Q p.1) z.pairs (subst (λ x. AllByRecursion (λ p. IsOf Q p.1) x) (sym z.same_names) (by_name_all (λ p. IsOf Q p.1) a.names c.1)) in
       let H = Lifted (HeaderBy s a.head a.values z.number) in
-      let P = Parts R s (layout a.head z.pairs a.values) in
+      let P = Segments R s (segments_of a.head z.pairs a.values) in
       let entered : Beside D (add_node t i) (add_node u i) = record { words = b.words; nodes = ap (λ x. x ++ i ∷ []) b.nodes; done = aside.more t.done u.done b.done i } in
-      let o = then_moves D H P (lifted_moves D (HeaderBy s a.head a.values z.number)) (parts_move R f (layout a.head z.pairs a.values) (layout_of Q a.head z.pairs a.values wire c.0)) (add_node t i) (add_node u i) z.rest t' entered z.behind in (
+      let o = then_moves D H P (lifted_moves D (HeaderBy s a.head a.values z.number)) (segments_move R f (segments_of a.head z.pairs a.values) (all_segments_of Q a.head z.pairs a.values wire c.0)) (add_node t i) (add_node u i) z.rest t' entered z.behind in (
         o.0,
         record {
           there = z.there;

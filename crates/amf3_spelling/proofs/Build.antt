@@ -11,7 +11,7 @@ use Rattle.amf3_spelling.specs.Tables.{Words, add_text, Tables, with_words, add_
 use Rattle.amf3_spelling.specs.Then.{Spelling, Then}
 use Rattle.amf3_spelling.specs.Refusals3.{leaf_marker, marker, text_header_kind}
 use Rattle.amf3_spelling.specs.Words3.{empty, whole, placed, Text, NoPlaceBelow}
-use Rattle.amf3_spelling.specs.Parts3.{Part, word, value, Lifted, Parts, layout}
+use Rattle.amf3_spelling.specs.Segments3.{Segment, word, value, Lifted, Segments, segments_of}
 use Rattle.amf3_spelling.specs.Headers3.{HeaderBy, marker_field, header_field}
 use Rattle.amf3_spelling.specs.Spells3.{LeafBy, Marked, ValueBy, SpellsIn}
 
@@ -74,7 +74,7 @@ a_reference Inline s g i place t there few = record {
 abbrev pub a_node : (n : ℕ) (s : Style) (g : Graph) (i : ℕ) (t : Tables) (pairs : List (List ℕ × Value)) (number : ℕ)
     → i < length g.nodes → Absent t.done i → Fits (node_at g i).head (node_at g i).names (node_at g i).values
     → by_name pairs ≡ by_name (node_at g i).names → Only s (pairs ≡ by_name (node_at g i).names) → AllNamed pairs → number < 128
-    → Built (Then (Lifted (HeaderBy s (node_at g i).head (node_at g i).values number)) (Parts (SpellsIn n s g) s (layout (node_at g i).head pairs (node_at g i).values))) (add_node t i)
+    → Built (Then (Lifted (HeaderBy s (node_at g i).head (node_at g i).values number)) (Segments (SpellsIn n s g) s (segments_of (node_at g i).head pairs (node_at g i).values))) (add_node t i)
     → Built (SpellsIn (suc n) s g (node i)) t
 a_node n s g i t pairs number there new fits same_names in_order all_named few body = record {
   fields = marker_field (marker (node_at g i).head) ∷ header_field g t (marker (node_at g i).head) (number ∷ []) ∷ body.fields;
@@ -96,16 +96,16 @@ a_node n s g i t pairs number there new fits same_names in_order all_named few b
   });
 }
 
--- parts
+-- segments
 
-abbrev pub no_parts : (R : Value → Spelling Tables) (s : Style) (t : Tables) → Built (Parts R s []) t
-no_parts R s t = record { fields = []; after = t; spelled = (refl, refl) }
+abbrev pub no_segments : (R : Value → Spelling Tables) (s : Style) (t : Tables) → Built (Segments R s []) t
+no_segments R s t = record { fields = []; after = t; spelled = (refl, refl) }
 
-abbrev pub word_part : (R : Value → Spelling Tables) (s : Style) (x : List ℕ) (ps : List Part) (t : Tables) (a : Built (Text s x) t.words) → Built (Parts R s ps) (with_words t a.after) → Built (Parts R s (word x ∷ ps)) t
-word_part R s x ps t a b = let z : Built (Then (Lifted (Text s x)) (Parts R s ps)) t = both _ _ t (lifted (Text s x) t a) b in record { fields = z.fields; after = z.after; spelled = z.spelled }
+abbrev pub word_segment : (R : Value → Spelling Tables) (s : Style) (x : List ℕ) (ps : List Segment) (t : Tables) (a : Built (Text s x) t.words) → Built (Segments R s ps) (with_words t a.after) → Built (Segments R s (word x ∷ ps)) t
+word_segment R s x ps t a b = let z : Built (Then (Lifted (Text s x)) (Segments R s ps)) t = both _ _ t (lifted (Text s x) t a) b in record { fields = z.fields; after = z.after; spelled = z.spelled }
 
-abbrev pub value_part : (R : Value → Spelling Tables) (s : Style) (v : Value) (ps : List Part) (t : Tables) (a : Built (R v) t) → Built (Parts R s ps) a.after → Built (Parts R s (value v ∷ ps)) t
-value_part R s v ps t a b = let z : Built (Then (R v) (Parts R s ps)) t = both _ _ t a b in record { fields = z.fields; after = z.after; spelled = z.spelled }
+abbrev pub value_segment : (R : Value → Spelling Tables) (s : Style) (v : Value) (ps : List Segment) (t : Tables) (a : Built (R v) t) → Built (Segments R s ps) a.after → Built (Segments R s (value v ∷ ps)) t
+value_segment R s v ps t a b = let z : Built (Then (R v) (Segments R s ps)) t = both _ _ t a b in record { fields = z.fields; after = z.after; spelled = z.spelled }
 
 -- texts that are not in a table
 

@@ -12,12 +12,12 @@ use Rattle.amf3_spelling.specs.Tables.{Entry, plain, external, Words, Tables, no
 use Rattle.amf3_spelling.specs.Refusals3.{marker, leaf_marker, text_header_kind, class_header_kind, class_kind}
 use Rattle.amf3_spelling.specs.Then.{Spelling as Fields, Then as FieldThen}
 use Rattle.amf3_spelling.specs.Words3.{TextBy, empty as empty_text, whole as whole_text, placed as placed_text, Text as FieldText, Texts as FieldTexts, EntryTexts, TraitsBy, given as given_traits, placed as named_traits}
-use Rattle.amf3_spelling.specs.Parts3 as fields
+use Rattle.amf3_spelling.specs.Segments3 as fields
 use Rattle.amf3_spelling.specs.Headers3.{Counted, HeaderBy}
 use Rattle.amf3_spelling.specs.Nodes3 as nodes
 use Rattle.amf3_spelling.specs.Spells3.{LeafBy, Marked, InlineIn, Spelled3}
 use Rattle.amf3_spelling.specs.Spells3 as spells
-use Rattle.amf3_spelling.proofs.ByteSpelling.{Spelling, Then, Text, empty, whole, placed, Texts, entry_texts, TraitsOf, given, indexed, Step, byte, number, flag, raw, word, StepOf, Part, step, value, values_then, pairs_then, four_bytes, signed_bytes, eight_bytes, header_step, body, layout, leaf_layout, Lifted, Parts, Placed, Begun, ValueBy, NodeIn, Spells, Spelled}
+use Rattle.amf3_spelling.proofs.ByteSpelling.{Spelling, Then, Text, empty, whole, placed, Texts, entry_texts, TraitsOf, given, indexed, Step, byte, number, flag, raw, word, StepOf, Segment, step, value, values_then, pairs_then, four_bytes, signed_bytes, eight_bytes, header_step, body, segments_of, leaf_segments, Lifted, Segments, Placed, Begun, ValueBy, NodeIn, Spells, Spelled}
 
 pub flat_append : (fs gs : List Field) → flat (fs ++ gs) ≡ flat fs ++ flat gs
 flat_append [] gs = refl
@@ -86,24 +86,24 @@ to_traits s e n header h t fs t' (named_traits k i o m f a) = indexed k i o (sub
 to_lifted : (A : Fields Words) (B : Spelling Words) → To A B → To (fields.Lifted A) (Lifted B)
 to_lifted A B f t fs t' (w, z, e) = (w, f t.words fs w z, e)
 
--- a step for each part that names no value
+-- a step for each segment that names no value
 to_flag : (s : Style) (f : Bool) (fs : List Field) → fields.Fixed s (fields.flag f) fs → (m : ℕ) × (flat fs ≡ m ∷ []) × fields.IsFlag s f m
 to_flag s f fs z = (z.0, ap flat z.2, z.1)
 
 module _ (s : Style) (R : Value → Fields Tables) (R' : Value → Spelling Tables) (r : (v : Value) → To (R v) (R' v)) where
-  abbrev ToParts : List fields.Part → List Part → Type 0
-  ToParts ps qs = To (fields.Parts R s ps) (Parts R' s qs)
+  abbrev ToSegments : List fields.Segment → List Segment → Type 0
+  ToSegments ps qs = To (fields.Segments R s ps) (Segments R' s qs)
 
-  to_end : ToParts [] []
+  to_end : ToSegments [] []
   to_end t fs t' z = (ap flat z.0, z.1)
 
-  to_value : (v : Value) (ps : List fields.Part) (qs : List Part) → ToParts ps qs → ToParts (fields.value v ∷ ps) (value v ∷ qs)
-  to_value v ps qs k t fs t' z = to_then (R v) (fields.Parts R s ps) (R' v) (Parts R' s qs) (r v) k t fs t' z
+  to_value : (v : Value) (ps : List fields.Segment) (qs : List Segment) → ToSegments ps qs → ToSegments (fields.value v ∷ ps) (value v ∷ qs)
+  to_value v ps qs k t fs t' z = to_then (R v) (fields.Segments R s ps) (R' v) (Segments R' s qs) (r v) k t fs t' z
 
-  to_word : (x : List ℕ) (ps : List fields.Part) (qs : List Part) → ToParts ps qs → ToParts (fields.word x ∷ ps) (step (word x) ∷ qs)
-  to_word x ps qs k t fs t' z = to_then (fields.Lifted (FieldText s x)) (fields.Parts R s ps) (Lifted (Text s x)) (Parts R' s qs) (to_lifted (FieldText s x) (Text s x) (to_text s x)) k t fs t' z
+  to_word : (x : List ℕ) (ps : List fields.Segment) (qs : List Segment) → ToSegments ps qs → ToSegments (fields.word x ∷ ps) (step (word x) ∷ qs)
+  to_word x ps qs k t fs t' z = to_then (fields.Lifted (FieldText s x)) (fields.Segments R s ps) (Lifted (Text s x)) (Segments R' s qs) (to_lifted (FieldText s x) (Text s x) (to_text s x)) k t fs t' z
 
-  to_flags : (f : Bool) (ps : List fields.Part) (qs : List Part) → ToParts ps qs → ToParts (fields.flag f ∷ ps) (step (flag f) ∷ qs)
+  to_flags : (f : Bool) (ps : List fields.Segment) (qs : List Segment) → ToSegments ps qs → ToSegments (fields.flag f ∷ ps) (step (flag f) ∷ qs)
   to_flags f ps qs k t fs t' z = record {
     front = flat z.front;
     back = flat z.back;
@@ -113,23 +113,23 @@ module _ (s : Style) (R : Value → Fields Tables) (R' : Value → Spelling Tabl
     second = k z.mid z.back t' z.second;
   }
 
-  to_values : (vs : List Value) (ps : List fields.Part) (qs : List Part) → ToParts ps qs → ToParts (fields.values_then vs ps) (values_then vs qs)
+  to_values : (vs : List Value) (ps : List fields.Segment) (qs : List Segment) → ToSegments ps qs → ToSegments (fields.values_then vs ps) (values_then vs qs)
   to_values [] ps qs k = k
   to_values (v ∷ vs) ps qs k = to_value v (fields.values_then vs ps) (values_then vs qs) (to_values vs ps qs k)
 
-  to_pairs : (w : List (List ℕ × Value)) (ps : List fields.Part) (qs : List Part) → ToParts ps qs → ToParts (fields.pairs_then w ps) (pairs_then w qs)
+  to_pairs : (w : List (List ℕ × Value)) (ps : List fields.Segment) (qs : List Segment) → ToSegments ps qs → ToSegments (fields.pairs_then w ps) (pairs_then w qs)
   to_pairs [] ps qs k = to_word [] ps qs k
   to_pairs (p ∷ w) ps qs k = to_word p.0 (fields.value p.1 ∷ fields.pairs_then w ps) (value p.1 ∷ pairs_then w qs) (to_value p.1 (fields.pairs_then w ps) (pairs_then w qs) (to_pairs w ps qs k))
 
-  to_members : (f : Bool) (w : List (List ℕ × Value)) → ToParts (cond f (fields.pairs_then w []) []) (cond f (pairs_then w []) [])
+  to_members : (f : Bool) (w : List (List ℕ × Value)) → ToSegments (cond f (fields.pairs_then w []) []) (cond f (pairs_then w []) [])
   to_members true w = to_pairs w [] [] to_end
   to_members false w = to_end
 
-  -- the bytes of parts that change nothing
-  abbrev Still : List fields.Part → List ℕ → Type 0
-  Still ps x = (t : Tables) (fs : List Field) (t' : Tables) → fields.Parts R s ps t fs t' → (flat fs ≡ x) × (t' ≡ t)
+  -- the bytes of segments that change nothing
+  abbrev Still : List fields.Segment → List ℕ → Type 0
+  Still ps x = (t : Tables) (fs : List Field) (t' : Tables) → fields.Segments R s ps t fs t' → (flat fs ≡ x) × (t' ≡ t)
 
-  to_raw : (ps : List fields.Part) (x : List ℕ) → Still ps x → ToParts ps (step (raw x) ∷ [])
+  to_raw : (ps : List fields.Segment) (x : List ℕ) → Still ps x → ToSegments ps (step (raw x) ∷ [])
   to_raw ps x k t fs t' z = let o = k t fs t' z in record { front = flat fs; back = []; mid = t; joined = sym (append-nil (flat fs)); first = (t.words, (o.0, refl), refl); second = (refl, o.1) }
 
   still_more : (x y : List ℕ) (fs : List Field) (front back : List Field) → fs ≡ front ++ back → flat front ≡ x → flat back ≡ y → flat fs ≡ x ++ y
@@ -157,7 +157,7 @@ module _ (s : Style) (R : Value → Fields Tables) (R' : Value → Spelling Tabl
   still_eights (n ∷ ns) t fs t' z = let o = still_eights ns z.mid z.back t' z.second in (still_more (to_be_bytes w64 n) (eight_bytes ns) fs z.front z.back z.joined (one_field z.front (raw_kind 8) (to_be_bytes w64 n) z.first.0) o.0, o.1 ∙ z.first.1)
 
   -- kind by kind
-  to_body : (a : Head) (w : List (List ℕ × Value)) (vs : List Value) → ToParts (fields.layout a w vs) (body a w vs)
+  to_body : (a : Head) (w : List (List ℕ × Value)) (vs : List Value) → ToSegments (fields.segments_of a w vs) (body a w vs)
   to_body (date p) w vs = to_raw (fields.eight p ∷ []) (to_be_bytes w64 p) (still_eight p)
   to_body array w vs = to_pairs w (fields.values_then vs []) (values_then vs []) (to_values vs [] [] to_end)
   to_body (object c) w vs = to_values vs (cond c.dynamic (fields.pairs_then w []) []) (cond c.dynamic (pairs_then w []) []) (to_members c.dynamic w)
@@ -192,9 +192,9 @@ to_header s (doubles f x) vs n header h w fs w' z = to_counted s (length x) n he
 to_header s (values f c) vs n header h w fs w' z = to_counted s (length vs) n header h w fs w' z
 to_header s (dictionary f) vs n header h w fs w' z = let o = to_counted s z.0 n header h w fs w' z.2 in let e : 2 * z.0 + 1 ≡ length vs + 1 = omega (arith, z.1) in (subst (λ m. IsU29 s m (header ++ flat fs)) e o.0, o.1)
 
-to_layout : (s : Style) (R : Value → Fields Tables) (R' : Value → Spelling Tables) → ((v : Value) → To (R v) (R' v)) → (a : Head) (w : List (List ℕ × Value)) (vs : List Value) (n : ℕ) (header : List ℕ) → IsU29 s n header → (t : Tables) (fs : List Field) (t' : Tables)
-    → FieldThen (fields.Lifted (HeaderBy s a vs n)) (fields.Parts R s (fields.layout a w vs)) t fs t' → Parts R' s (layout a w vs) t (header ++ flat fs) t'
-to_layout s R R' r a w vs n header h t fs t' z = record {
+to_segments : (s : Style) (R : Value → Fields Tables) (R' : Value → Spelling Tables) → ((v : Value) → To (R v) (R' v)) → (a : Head) (w : List (List ℕ × Value)) (vs : List Value) (n : ℕ) (header : List ℕ) → IsU29 s n header → (t : Tables) (fs : List Field) (t' : Tables)
+    → FieldThen (fields.Lifted (HeaderBy s a vs n)) (fields.Segments R s (fields.segments_of a w vs)) t fs t' → Segments R' s (segments_of a w vs) t (header ++ flat fs) t'
+to_segments s R R' r a w vs n header h t fs t' z = record {
   front = header ++ flat z.front;
   back = flat z.back;
   mid = z.mid;
@@ -218,15 +218,15 @@ to_begun s R R' r g i t fs t' z = (
     in_order = z.in_order;
     named = z.named;
     fits = fits_too (node_at g i).head (node_at g i).names z.pairs (node_at g i).values (node_at g i).values (sym (by_name_length (node_at g i).names) ∙ ap length (sym z.same_names) ∙ by_name_length z.pairs) refl z.fits;
-    body = to_layout s R R' r (node_at g i).head z.pairs (node_at g i).values z.number z.header z.spelled (add_node t i) z.rest t' z.behind;
+    body = to_segments s R R' r (node_at g i).head z.pairs (node_at g i).values z.number z.header z.spelled (add_node t i) z.rest t' z.behind;
   },
 )
 
 -- one step of words alone
-one_step : (s : Style) (R : Value → Spelling Tables) (x : Step) (t : Tables) (b : List ℕ) (t' : Tables) → Lifted (StepOf s x) t b t' → Parts R s (step x ∷ []) t b t'
+one_step : (s : Style) (R : Value → Spelling Tables) (x : Step) (t : Tables) (b : List ℕ) (t' : Tables) → Lifted (StepOf s x) t b t' → Segments R s (step x ∷ []) t b t'
 one_step s R x t b t' z = record { front = b; back = []; mid = t'; joined = sym (append-nil b); first = z; second = (refl, refl) }
 
-to_leaf_rest : (s : Style) (x : Leaf) (t : Tables) (fs : List Field) (t' : Tables) → fields.Lifted (LeafBy s x) t fs t' → Parts (λ v t b t'. ⊥) s (leaf_layout x) t (flat fs) t'
+to_leaf_rest : (s : Style) (x : Leaf) (t : Tables) (fs : List Field) (t' : Tables) → fields.Lifted (LeafBy s x) t fs t' → Segments (λ v t b t'. ⊥) s (leaf_segments x) t (flat fs) t'
 to_leaf_rest s undefined t fs t' z = (ap flat z.1.0, z.2 ∙ ap (λ w. with_words t w) z.1.1)
 to_leaf_rest s null t fs t' z = (ap flat z.1.0, z.2 ∙ ap (λ w. with_words t w) z.1.1)
 to_leaf_rest s (boolean b) t fs t' z = (ap flat z.1.0, z.2 ∙ ap (λ w. with_words t w) z.1.1)
@@ -234,7 +234,7 @@ to_leaf_rest s (integer n) t fs t' z = one_step s (λ v t b t'. ⊥) (number (in
 to_leaf_rest s (double p) t fs t' z = one_step s (λ v t b t'. ⊥) (raw (to_be_bytes w64 p)) t (flat fs) t' (z.0, (one_field fs (raw_kind 8) (to_be_bytes w64 p) z.1.0, z.1.1), z.2)
 to_leaf_rest s (text x) t fs t' z = one_step s (λ v t b t'. ⊥) (word x) t (flat fs) t' (z.0, to_text s x t.words fs z.0 z.1, z.2)
 
-to_leaf : (s : Style) (x : Leaf) → To (FieldThen (Marked (leaf_marker x)) (fields.Lifted (LeafBy s x))) (Parts (λ v t b t'. ⊥) s (step (byte (leaf_marker x)) ∷ leaf_layout x))
+to_leaf : (s : Style) (x : Leaf) → To (FieldThen (Marked (leaf_marker x)) (fields.Lifted (LeafBy s x))) (Segments (λ v t b t'. ⊥) s (step (byte (leaf_marker x)) ∷ leaf_segments x))
 to_leaf s x t fs t' z = record {
   front = flat z.front;
   back = flat z.back;

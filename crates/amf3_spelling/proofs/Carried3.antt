@@ -11,21 +11,21 @@ use Rattle.amf_graph.proofs.NameOrder.{by_name_again}
 use Rattle.amf_graph.proofs.Places.{Along, along_push}
 use Rattle.amf3_spelling.specs.Tables.{Tables, no_tables, with_words, add_node}
 use Rattle.amf3_spelling.specs.Refusals3.{marker, leaf_marker}
-use Rattle.amf3_spelling.proofs.ByteSpelling.{Spelling, Then, Step, number, word, byte, StepOf, Part, step, value, values_then, pairs_then, header_step, body, layout, leaf_layout, Lifted, Parts, Placed, Begun, ValueBy, NodeIn, Spells}
+use Rattle.amf3_spelling.proofs.ByteSpelling.{Spelling, Then, Step, number, word, byte, StepOf, Segment, step, value, values_then, pairs_then, header_step, body, segments_of, leaf_segments, Lifted, Segments, Placed, Begun, ValueBy, NodeIn, Spells}
 use Rattle.amf3_spelling.proofs.BytesOf.{fits_too}
 
-abbrev pub PartsMatch : (ℕ → ℕ → Type 0) → Part → Part → Type 0
-PartsMatch P (step x) (step y) = x ≡ y
-PartsMatch P (value v) (value w) = ValuesMatch P v w
-PartsMatch P _ _ = ⊥
+abbrev pub SegmentsMatch : (ℕ → ℕ → Type 0) → Segment → Segment → Type 0
+SegmentsMatch P (step x) (step y) = x ≡ y
+SegmentsMatch P (value v) (value w) = ValuesMatch P v w
+SegmentsMatch P _ _ = ⊥
 
-values_zip : (P : ℕ → ℕ → Type 0) (ps qs : List Part) (vs ws : List Value) → AllZip (ValuesMatch P) vs ws → AllZip (PartsMatch P) ps qs → AllZip (PartsMatch P) (values_then vs ps) (values_then ws qs)
+values_zip : (P : ℕ → ℕ → Type 0) (ps qs : List Segment) (vs ws : List Value) → AllZip (ValuesMatch P) vs ws → AllZip (SegmentsMatch P) ps qs → AllZip (SegmentsMatch P) (values_then vs ps) (values_then ws qs)
 values_zip P ps qs [] [] m n = n
 values_zip P ps qs [] (w ∷ ws) m n = elim m [ ]
 values_zip P ps qs (v ∷ vs) [] m n = elim m [ ]
 values_zip P ps qs (v ∷ vs) (w ∷ ws) m n = (m.0, values_zip P ps qs vs ws m.1 n)
 
-pairs_zip : (P : ℕ → ℕ → Type 0) (ps qs : List Part) (vs ws : List (List ℕ × Value)) → AllZip (PairsMatch P) vs ws → AllZip (PartsMatch P) ps qs → AllZip (PartsMatch P) (pairs_then vs ps) (pairs_then ws qs)
+pairs_zip : (P : ℕ → ℕ → Type 0) (ps qs : List Segment) (vs ws : List (List ℕ × Value)) → AllZip (PairsMatch P) vs ws → AllZip (SegmentsMatch P) ps qs → AllZip (SegmentsMatch P) (pairs_then vs ps) (pairs_then ws qs)
 pairs_zip P ps qs [] [] m n = (refl, n)
 pairs_zip P ps qs [] (w ∷ ws) m n = elim m [ ]
 pairs_zip P ps qs (v ∷ vs) [] m n = elim m [ ]
@@ -37,7 +37,7 @@ zip_length R [] (y ∷ ys) m = elim m [ ]
 zip_length R (x ∷ xs) [] m = elim m [ ]
 zip_length R (x ∷ xs) (y ∷ ys) m = ap suc (zip_length R xs ys m.1)
 
-members_zip : (P : ℕ → ℕ → Type 0) (f : Bool) (v w : List (List ℕ × Value)) → AllZip (PairsMatch P) v w → AllZip (PartsMatch P) (cond f (pairs_then v []) []) (cond f (pairs_then w []) [])
+members_zip : (P : ℕ → ℕ → Type 0) (f : Bool) (v w : List (List ℕ × Value)) → AllZip (PairsMatch P) v w → AllZip (SegmentsMatch P) (cond f (pairs_then v []) []) (cond f (pairs_then w []) [])
 members_zip P true v w m = pairs_zip P [] [] v w m tt
 members_zip P false v w m = tt
 
@@ -55,8 +55,8 @@ header_zip (doubles f x) vs ws l = refl
 header_zip (values f c) vs ws l = ap (λ x. number (2 * x + 1)) l
 header_zip (dictionary f) vs ws l = ap (λ x. number (x + 1)) l
 
--- kind by kind: names and values that match are laid out as parts that match
-body_zip : (P : ℕ → ℕ → Type 0) (a : Head) (v w : List (List ℕ × Value)) (vs ws : List Value) → AllZip (PairsMatch P) v w → AllZip (ValuesMatch P) vs ws → AllZip (PartsMatch P) (body a v vs) (body a w ws)
+-- kind by kind: names and values that match are spelled by segments that match
+body_zip : (P : ℕ → ℕ → Type 0) (a : Head) (v w : List (List ℕ × Value)) (vs ws : List Value) → AllZip (PairsMatch P) v w → AllZip (ValuesMatch P) vs ws → AllZip (SegmentsMatch P) (body a v vs) (body a w ws)
 body_zip P (date p) v w vs ws m n = (refl, tt)
 body_zip P array v w vs ws m n = pairs_zip P (values_then vs []) (values_then ws []) v w m (values_zip P [] [] vs ws n tt)
 body_zip P (object t) v w vs ws m n = values_zip P (cond t.dynamic (pairs_then v []) []) (cond t.dynamic (pairs_then w []) []) vs ws n (members_zip P t.dynamic v w m)
@@ -70,8 +70,8 @@ body_zip P (doubles f x) v w vs ws m n = (refl, (refl, tt))
 body_zip P (values f c) v w vs ws m n = (refl, (refl, values_zip P [] [] vs ws n tt))
 body_zip P (dictionary f) v w vs ws m n = (refl, values_zip P [] [] vs ws n tt)
 
-layout_zip : (P : ℕ → ℕ → Type 0) (a : Head) (v w : List (List ℕ × Value)) (vs ws : List Value) → AllZip (PairsMatch P) v w → AllZip (ValuesMatch P) vs ws → length vs ≡ length ws → AllZip (PartsMatch P) (layout a v vs) (layout a w ws)
-layout_zip P a v w vs ws m n l = (header_zip a vs ws l, body_zip P a v w vs ws m n)
+segments_zip : (P : ℕ → ℕ → Type 0) (a : Head) (v w : List (List ℕ × Value)) (vs ws : List Value) → AllZip (PairsMatch P) v w → AllZip (ValuesMatch P) vs ws → length vs ≡ length ws → AllZip (SegmentsMatch P) (segments_of a v vs) (segments_of a w ws)
+segments_zip P a v w vs ws m n l = (header_zip a vs ws l, body_zip P a v w vs ws m n)
 
 named_zip : (P : ℕ → ℕ → Type 0) (vs ws : List (List ℕ × Value)) → AllZip (PairsMatch P) vs ws → AllNamed vs → AllNamed ws
 named_zip P [] [] m n = tt
@@ -79,7 +79,7 @@ named_zip P [] (w ∷ ws) m n = elim m [ ]
 named_zip P (v ∷ vs) [] m n = elim m [ ]
 named_zip P (v ∷ vs) (w ∷ ws) m n = ((λ e. n.0 (m.0.0 ∙ e)), named_zip P vs ws m.1 n.1)
 
-leaf_zip : (P : ℕ → ℕ → Type 0) (x : Leaf) → AllZip (PartsMatch P) (leaf_layout x) (leaf_layout x)
+leaf_zip : (P : ℕ → ℕ → Type 0) (x : Leaf) → AllZip (SegmentsMatch P) (leaf_segments x) (leaf_segments x)
 leaf_zip P undefined = tt
 leaf_zip P null = tt
 leaf_zip P (boolean b) = tt
@@ -117,16 +117,16 @@ module _ (g h : Graph) (P : ℕ → ℕ → Type 0)
     still (with_words t p.0) (with_words u p.0) t' p.2 (record { words = refl; nodes_along = j.nodes_along; done_along = j.done_along }),
   )
 
-  carried_parts : (s : Style) (R R' : Value → Spelling Tables) → ((v w : Value) → ValuesMatch P v w → Carried (R v) (R' w)) → (ps qs : List Part) → AllZip (PartsMatch P) ps qs → Carried (Parts R s ps) (Parts R' s qs)
-  carried_parts s R R' c [] [] m t u b t' j p = (u, (p.0, refl), still t u t' p.1 j)
-  carried_parts s R R' c [] (q ∷ qs) m t u b t' j p = elim m [ ]
-  carried_parts s R R' c (p ∷ ps) [] m t u b t' j x = elim m [ ]
-  carried_parts s R R' c (step x ∷ ps) (step y ∷ qs) m t u b t' j p =
-      carried_then (Lifted (StepOf s x)) (Lifted (StepOf s y)) (Parts R s ps) (Parts R' s qs) (subst (λ w. Carried (Lifted (StepOf s x)) (Lifted (StepOf s w))) m.0 (carried_step s x)) (carried_parts s R R' c ps qs m.1) t u b t' j p
-  carried_parts s R R' c (step x ∷ ps) (value w ∷ qs) m t u b t' j p = elim m.0 [ ]
-  carried_parts s R R' c (value v ∷ ps) (step y ∷ qs) m t u b t' j p = elim m.0 [ ]
-  carried_parts s R R' c (value v ∷ ps) (value w ∷ qs) m t u b t' j p =
-      carried_then (R v) (R' w) (Parts R s ps) (Parts R' s qs) (c v w m.0) (carried_parts s R R' c ps qs m.1) t u b t' j p
+  carried_segments : (s : Style) (R R' : Value → Spelling Tables) → ((v w : Value) → ValuesMatch P v w → Carried (R v) (R' w)) → (ps qs : List Segment) → AllZip (SegmentsMatch P) ps qs → Carried (Segments R s ps) (Segments R' s qs)
+  carried_segments s R R' c [] [] m t u b t' j p = (u, (p.0, refl), still t u t' p.1 j)
+  carried_segments s R R' c [] (q ∷ qs) m t u b t' j p = elim m [ ]
+  carried_segments s R R' c (p ∷ ps) [] m t u b t' j x = elim m [ ]
+  carried_segments s R R' c (step x ∷ ps) (step y ∷ qs) m t u b t' j p =
+      carried_then (Lifted (StepOf s x)) (Lifted (StepOf s y)) (Segments R s ps) (Segments R' s qs) (subst (λ w. Carried (Lifted (StepOf s x)) (Lifted (StepOf s w))) m.0 (carried_step s x)) (carried_segments s R R' c ps qs m.1) t u b t' j p
+  carried_segments s R R' c (step x ∷ ps) (value w ∷ qs) m t u b t' j p = elim m.0 [ ]
+  carried_segments s R R' c (value v ∷ ps) (step y ∷ qs) m t u b t' j p = elim m.0 [ ]
+  carried_segments s R R' c (value v ∷ ps) (value w ∷ qs) m t u b t' j p =
+      carried_then (R v) (R' w) (Segments R s ps) (Segments R' s qs) (c v w m.0) (carried_segments s R R' c ps qs m.1) t u b t' j p
 
   carried_placed : (s : Style) (i j : ℕ) → P i j → Carried (Placed s i) (Placed s j)
   carried_placed s i j m t u b t' k p =
@@ -142,9 +142,9 @@ module _ (g h : Graph) (P : ℕ → ℕ → Type 0)
       let wire' = by_name a'.names in
       let names : AllZip (PairsMatch P) p.wire wire' = subst (λ w. AllZip (PairsMatch P) w wire') (sym p.in_order) n.names in
       let lengths : length a.values ≡ length a'.values = zip_length (ValuesMatch P) a.values a'.values n.values in
-      let parts : AllZip (PartsMatch P) (layout a.head p.wire a.values) (layout a'.head wire' a'.values) =
-      subst (λ w. AllZip (PartsMatch P) (layout a.head p.wire a.values) (layout w wire' a'.values)) n.head (layout_zip P a.head p.wire wire' a.values a'.values names n.values lengths) in
-      let o = carried_parts canonical R R' c (layout a.head p.wire a.values) (layout a'.head wire' a'.values) parts (add_node t i) (add_node u j) b t'
+      let parts : AllZip (SegmentsMatch P) (segments_of a.head p.wire a.values) (segments_of a'.head wire' a'.values) =
+      subst (λ w. AllZip (SegmentsMatch P) (segments_of a.head p.wire a.values) (segments_of w wire' a'.values)) n.head (segments_zip P a.head p.wire wire' a.values a'.values names n.values lengths) in
+      let o = carried_segments canonical R R' c (segments_of a.head p.wire a.values) (segments_of a'.head wire' a'.values) parts (add_node t i) (add_node u j) b t'
       (record { words = k.words; nodes_along = along_push P t.nodes u.nodes i j m k.nodes_along; done_along = along_push P t.done u.done i j m k.done_along }) p.body in (
         o.0,
         record {
@@ -168,8 +168,8 @@ module _ (g h : Graph) (P : ℕ → ℕ → Type 0)
 
   pub carried_value : (N N' : ℕ → Spelling Tables) → ((i j : ℕ) → P i j → Carried (N i) (N' j)) → (v w : Value) → ValuesMatch P v w → Carried (ValueBy N canonical g v) (ValueBy N' canonical h w)
   carried_value N N' c (leaf x) (leaf y) m t u b t' j p =
-      subst (λ w. (u' : Tables) × (IsLeaf w × Parts (λ v t b t'. ⊥) canonical (step (byte (leaf_marker w)) ∷ leaf_layout w) u b u') × Joined t' u') m
-      (let o = carried_parts canonical (λ v t b t'. ⊥) (λ v t b t'. ⊥) (λ v w m t u b t' j p. absurd p) (step (byte (leaf_marker x)) ∷ leaf_layout x) (step (byte (leaf_marker x)) ∷ leaf_layout x) (refl, leaf_zip P x) t u b t' j p.1 in (o.0, (p.0, o.1), o.2))
+      subst (λ w. (u' : Tables) × (IsLeaf w × Segments (λ v t b t'. ⊥) canonical (step (byte (leaf_marker w)) ∷ leaf_segments w) u b u') × Joined t' u') m
+      (let o = carried_segments canonical (λ v t b t'. ⊥) (λ v t b t'. ⊥) (λ v w m t u b t' j p. absurd p) (step (byte (leaf_marker x)) ∷ leaf_segments x) (step (byte (leaf_marker x)) ∷ leaf_segments x) (refl, leaf_zip P x) t u b t' j p.1 in (o.0, (p.0, o.1), o.2))
   carried_value N N' c (node i) (node k) m t u b t' j p = let o = c i k m t u p.0 t' j p.2 in (o.0, (p.0, p.1 ∙ ap (λ w. marker w ∷ p.0) (nodes i k m).head, o.1), o.2)
   carried_value N N' c (leaf x) (node k) m t u b t' j p = elim m [ ]
   carried_value N N' c (node n) (leaf x) m t u b t' j p = elim m [ ]

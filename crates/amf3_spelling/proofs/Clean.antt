@@ -18,7 +18,7 @@ use Rattle.amf3_spelling.specs.Then.{Spelling, Then, Plain}
 use Rattle.amf3_spelling.specs.Refusals3.{leaf_marker, marker, markers, marker_refusal, kind_refusal, header_refusal, text_header_refusal, class_header_refusal, class_refusal, indexed_class_refusal, is_served_length, class_header_kind, class_kind}
 use Rattle.amf3_spelling.specs.Words3.{TextBy, empty, placed, Text, Texts, EntryTexts, EntryNumber, TraitsBy, given}
 use Rattle.amf3_spelling.specs.Words3 as words
-use Rattle.amf3_spelling.specs.Parts3.{Part, flag, four, eight, raw, chars, word, value, Fixed, Lifted, Parts, layout, values_then, pairs_then, fours, signed_fours, eights}
+use Rattle.amf3_spelling.specs.Segments3.{Segment, flag, four, eight, raw, chars, word, value, Fixed, Lifted, Segments, segments_of, values_then, pairs_then, fours, signed_fours, eights}
 use Rattle.amf3_spelling.specs.Headers3.{HeaderBy, marker_field}
 use Rattle.amf3_spelling.specs.Nodes3.{Begun}
 use Rattle.amf3_spelling.specs.Spells3.{LeafBy, ValueBy, InlineIn, SpellsIn, Spells3}
@@ -267,14 +267,14 @@ inline_header s table h vs n w fs w' z =
 marker_clean : (m : ℕ) → marker_refusal m ≡ None → IsClean (marker_field m)
 marker_clean m e = record { is_whole = refl; clean = e }
 
--- parts
+-- segments
 
 -- the characters are a text
-abbrev pub IsGood : Part → Type 0
+abbrev pub IsGood : Segment → Type 0
 IsGood (chars x) = IsText x
 IsGood _ = Unit {0}
 
-clean_fixed : (s : Style) (p : Part) → IsGood p → (fs : List Field) → Fixed s p fs → AllClean fs
+clean_fixed : (s : Style) (p : Segment) → IsGood p → (fs : List Field) → Fixed s p fs → AllClean fs
 clean_fixed s (flag f) good fs (m, h, e) = clean_as _ fs e (raw_field (m ∷ []) (λ e. cc), tt)
 clean_fixed s (four n) good fs e = clean_as _ fs e (raw_field (to_be_bytes w32 n) (λ e. cc), tt)
 clean_fixed s (eight n) good fs e = clean_as _ fs e (raw_field (to_be_bytes w64 n) (λ e. cc), tt)
@@ -283,24 +283,24 @@ clean_fixed s (chars x) good fs e = clean_as _ fs e (contents_clean text_kind x 
 clean_fixed s (word x) good fs e = absurd e
 clean_fixed s (value v) good fs e = absurd e
 
-clean_plain : (s : Style) (p : Part) → IsGood p → Cleans {S = Tables} (Plain (Fixed s p))
+clean_plain : (s : Style) (p : Segment) → IsGood p → Cleans {S = Tables} (Plain (Fixed s p))
 clean_plain s p good t fs t' z = clean_fixed s p good fs z.0
 
-clean_parts : (R : Value → Spelling Tables) (s : Style) → ((v : Value) → Cleans (R v)) → (ps : List Part) → AllByRecursion IsGood ps → Cleans (Parts R s ps)
-clean_parts R s f [] good t fs t' z = clean_counted fs z.0
-clean_parts R s f (word x ∷ ps) (h, good) t fs t' z = clean_then (Lifted (Text s x)) (Parts R s ps) (clean_lifted (Text s x) (clean_text s x)) (clean_parts R s f ps good) t fs t' z
-clean_parts R s f (value v ∷ ps) (h, good) t fs t' z = clean_then (R v) (Parts R s ps) (f v) (clean_parts R s f ps good) t fs t' z
-clean_parts R s f (flag b ∷ ps) (h, good) t fs t' z = clean_then (Plain (Fixed s (flag b))) (Parts R s ps) (clean_plain s (flag b) h) (clean_parts R s f ps good) t fs t' z
-clean_parts R s f (four n ∷ ps) (h, good) t fs t' z = clean_then (Plain (Fixed s (four n))) (Parts R s ps) (clean_plain s (four n) h) (clean_parts R s f ps good) t fs t' z
-clean_parts R s f (eight n ∷ ps) (h, good) t fs t' z = clean_then (Plain (Fixed s (eight n))) (Parts R s ps) (clean_plain s (eight n) h) (clean_parts R s f ps good) t fs t' z
-clean_parts R s f (raw x ∷ ps) (h, good) t fs t' z = clean_then (Plain (Fixed s (raw x))) (Parts R s ps) (clean_plain s (raw x) h) (clean_parts R s f ps good) t fs t' z
-clean_parts R s f (chars x ∷ ps) (h, good) t fs t' z = clean_then (Plain (Fixed s (chars x))) (Parts R s ps) (clean_plain s (chars x) h) (clean_parts R s f ps good) t fs t' z
+clean_segments : (R : Value → Spelling Tables) (s : Style) → ((v : Value) → Cleans (R v)) → (ps : List Segment) → AllByRecursion IsGood ps → Cleans (Segments R s ps)
+clean_segments R s f [] good t fs t' z = clean_counted fs z.0
+clean_segments R s f (word x ∷ ps) (h, good) t fs t' z = clean_then (Lifted (Text s x)) (Segments R s ps) (clean_lifted (Text s x) (clean_text s x)) (clean_segments R s f ps good) t fs t' z
+clean_segments R s f (value v ∷ ps) (h, good) t fs t' z = clean_then (R v) (Segments R s ps) (f v) (clean_segments R s f ps good) t fs t' z
+clean_segments R s f (flag b ∷ ps) (h, good) t fs t' z = clean_then (Plain (Fixed s (flag b))) (Segments R s ps) (clean_plain s (flag b) h) (clean_segments R s f ps good) t fs t' z
+clean_segments R s f (four n ∷ ps) (h, good) t fs t' z = clean_then (Plain (Fixed s (four n))) (Segments R s ps) (clean_plain s (four n) h) (clean_segments R s f ps good) t fs t' z
+clean_segments R s f (eight n ∷ ps) (h, good) t fs t' z = clean_then (Plain (Fixed s (eight n))) (Segments R s ps) (clean_plain s (eight n) h) (clean_segments R s f ps good) t fs t' z
+clean_segments R s f (raw x ∷ ps) (h, good) t fs t' z = clean_then (Plain (Fixed s (raw x))) (Segments R s ps) (clean_plain s (raw x) h) (clean_segments R s f ps good) t fs t' z
+clean_segments R s f (chars x ∷ ps) (h, good) t fs t' z = clean_then (Plain (Fixed s (chars x))) (Segments R s ps) (clean_plain s (chars x) h) (clean_segments R s f ps good) t fs t' z
 
-good_values : (vs : List Value) (ps : List Part) → AllByRecursion IsGood ps → AllByRecursion IsGood (values_then vs ps)
+good_values : (vs : List Value) (ps : List Segment) → AllByRecursion IsGood ps → AllByRecursion IsGood (values_then vs ps)
 good_values [] ps good = good
 good_values (v ∷ vs) ps good = (tt, good_values vs ps good)
 
-good_pairs : (pairs : List (List ℕ × Value)) (ps : List Part) → AllByRecursion IsGood ps → AllByRecursion IsGood (pairs_then pairs ps)
+good_pairs : (pairs : List (List ℕ × Value)) (ps : List Segment) → AllByRecursion IsGood ps → AllByRecursion IsGood (pairs_then pairs ps)
 good_pairs [] ps good = (tt, good)
 good_pairs (p ∷ pairs) ps good = (tt, (tt, good_pairs pairs ps good))
 
@@ -320,19 +320,19 @@ good_members : (dynamic : Bool) (pairs : List (List ℕ × Value)) → AllByRecu
 good_members true pairs = good_pairs pairs [] tt
 good_members false pairs = tt
 
-good_layout : (h : Head) (pairs names : List (List ℕ × Value)) (vs : List Value) → Fits h names vs → AllByRecursion IsGood (layout h pairs vs)
-good_layout (xml_document x) pairs names vs fits = (fits.0, tt)
-good_layout (date p) pairs names vs fits = (tt, tt)
-good_layout array pairs names vs fits = good_pairs pairs (values_then vs []) (good_values vs [] tt)
-good_layout (object c) pairs names vs fits = good_values vs (cond c.dynamic (pairs_then pairs []) []) (good_members c.dynamic pairs)
-good_layout (wrapper c) pairs names vs fits = good_values vs [] tt
-good_layout (xml x) pairs names vs fits = (fits.0, tt)
-good_layout (bytes x) pairs names vs fits = (tt, tt)
-good_layout (ints f ns) pairs names vs fits = (tt, good_signed ns)
-good_layout (uints f ns) pairs names vs fits = (tt, good_fours ns)
-good_layout (doubles f ns) pairs names vs fits = (tt, good_eights ns)
-good_layout (values f x) pairs names vs fits = (tt, (tt, good_values vs [] tt))
-good_layout (dictionary f) pairs names vs fits = (tt, good_values vs [] tt)
+good_segments : (h : Head) (pairs names : List (List ℕ × Value)) (vs : List Value) → Fits h names vs → AllByRecursion IsGood (segments_of h pairs vs)
+good_segments (xml_document x) pairs names vs fits = (fits.0, tt)
+good_segments (date p) pairs names vs fits = (tt, tt)
+good_segments array pairs names vs fits = good_pairs pairs (values_then vs []) (good_values vs [] tt)
+good_segments (object c) pairs names vs fits = good_values vs (cond c.dynamic (pairs_then pairs []) []) (good_members c.dynamic pairs)
+good_segments (wrapper c) pairs names vs fits = good_values vs [] tt
+good_segments (xml x) pairs names vs fits = (fits.0, tt)
+good_segments (bytes x) pairs names vs fits = (tt, tt)
+good_segments (ints f ns) pairs names vs fits = (tt, good_signed ns)
+good_segments (uints f ns) pairs names vs fits = (tt, good_fours ns)
+good_segments (doubles f ns) pairs names vs fits = (tt, good_eights ns)
+good_segments (values f x) pairs names vs fits = (tt, (tt, good_values vs [] tt))
+good_segments (dictionary f) pairs names vs fits = (tt, good_values vs [] tt)
 
 -- values
 
@@ -357,9 +357,9 @@ clean_begun R s f g i t fs t' z =
       (
         number_field s z.number z.header (header_refusal (markers g t.nodes) (length t.words.traits) (marker h)) z.spelled
             (inline_header s (markers g t.nodes) h vs z.number t.words z.behind.front z.behind.first.0 z.behind.first.1),
-        clean_then (Lifted (HeaderBy s h vs z.number)) (Parts R s (layout h z.pairs vs))
+        clean_then (Lifted (HeaderBy s h vs z.number)) (Segments R s (segments_of h z.pairs vs))
             (clean_lifted (HeaderBy s h vs z.number) (clean_header s h vs z.number))
-            (clean_parts R s f (layout h z.pairs vs) (good_layout h z.pairs (node_at g i).names vs z.fits)) (add_node t i) z.rest t' z.behind,
+            (clean_segments R s f (segments_of h z.pairs vs) (good_segments h z.pairs (node_at g i).names vs z.fits)) (add_node t i) z.rest t' z.behind,
       ),
     )
 

@@ -15,7 +15,7 @@ use Rattle.amf_graph.proofs.Finished.{finished}
 use Rattle.amf_graph.proofs.FinishedSmall.{finished_small}
 use Rattle.amf3_spelling.proofs.ByteSpelling.{Spelled}
 use Rattle.amf3_spelling.proofs.BytesOf.{to_spells, to_spelled}
-use Rattle.amf3_spelling.proofs.Kept3.{keeps_spells}
+use Rattle.amf3_spelling.proofs.Stays3.{keeps_spells}
 use Rattle.amf3_spelling.proofs.Exists3.{canonical_exists}
 use Rattle.amf3_spelling.proofs.Ordered3.{in_order}
 use Rattle.amf3_spelling.proofs.FieldsOf.{from_spelled}

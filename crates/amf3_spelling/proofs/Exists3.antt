@@ -16,12 +16,12 @@ use Rattle.amf_graph.proofs.NameOrder.{by_name_again, by_name_all, by_name_lengt
 use Rattle.amf_graph.proofs.Counting.{missing, missing_none, missing_push}
 use Rattle.amf3_spelling.specs.Tables.{Tables, no_tables, with_words, add_node}
 use Rattle.amf3_spelling.specs.Refusals3.{marker, leaf_marker}
-use Rattle.amf3_spelling.proofs.ByteSpelling.{Spelling, Then, Step, byte, StepOf, Part, step, value, values_then, pairs_then, header_step, body, layout, leaf_layout, Lifted, Parts, Placed, Begun, NodeIn, Spells, Spelled}
+use Rattle.amf3_spelling.proofs.ByteSpelling.{Spelling, Then, Step, byte, StepOf, Segment, step, value, values_then, pairs_then, header_step, body, segments_of, leaf_segments, Lifted, Segments, Placed, Begun, NodeIn, Spells, Spelled}
 use Rattle.amf3_spelling.proofs.BytesOf.{fits_too}
 use Rattle.amf3_spelling.proofs.BigEndian.{integer_low}
 use Rattle.amf3_spelling.proofs.Numbers3.{number_found}
 use Rattle.amf3_spelling.proofs.Steps3.{step_found, Small}
-use Rattle.amf3_spelling.proofs.Kept3.{Proper, kept_begin, keeps_step}
+use Rattle.amf3_spelling.proofs.Stays3.{Proper, stays_begun, keeps_step}
 use Rattle.amf3_spelling.proofs.Fixed3.{proper_none}
 
 pub each_both : {X : Type 0} (P Q : X → Type 0) (xs : List X) → AllByRecursion P xs → AllByRecursion Q xs → AllByRecursion (λ x. P x × Q x) xs
@@ -36,23 +36,23 @@ abbrev pub GoodValue : (ℕ → Type 0) → Value → Type 0
 GoodValue G (leaf x) = SmallLeaf x
 GoodValue G (node i) = G i
 
-abbrev pub GoodPart : (ℕ → Type 0) → Part → Type 0
-GoodPart G (step x) = Small x
-GoodPart G (value v) = GoodValue G v
+abbrev pub GoodSegment : (ℕ → Type 0) → Segment → Type 0
+GoodSegment G (step x) = Small x
+GoodSegment G (value v) = GoodValue G v
 
 abbrev pub GoodPair : (ℕ → Type 0) → List ℕ × Value → Type 0
 GoodPair G p = (IsText p.0 × IsShort p.0) × GoodValue G p.1
 
 module _ (G : ℕ → Type 0) where
-  values_good : (vs : List Value) (ps : List Part) → AllByRecursion (GoodValue G) vs → AllByRecursion (GoodPart G) ps → AllByRecursion (GoodPart G) (values_then vs ps)
+  values_good : (vs : List Value) (ps : List Segment) → AllByRecursion (GoodValue G) vs → AllByRecursion (GoodSegment G) ps → AllByRecursion (GoodSegment G) (values_then vs ps)
   values_good [] ps h k = k
   values_good (v ∷ vs) ps h k = (h.0, values_good vs ps h.1 k)
 
-  pairs_good : (w : List (List ℕ × Value)) (ps : List Part) → AllByRecursion (GoodPair G) w → AllByRecursion (GoodPart G) ps → AllByRecursion (GoodPart G) (pairs_then w ps)
+  pairs_good : (w : List (List ℕ × Value)) (ps : List Segment) → AllByRecursion (GoodPair G) w → AllByRecursion (GoodSegment G) ps → AllByRecursion (GoodSegment G) (pairs_then w ps)
   pairs_good [] ps h k = ((([], tt, refl), omega arith), k)
   pairs_good (p ∷ w) ps h k = (h.0.0, (h.0.1, pairs_good w ps h.1 k))
 
-  members_good : (f : Bool) (w : List (List ℕ × Value)) → AllByRecursion (GoodPair G) w → AllByRecursion (GoodPart G) (cond f (pairs_then w []) [])
+  members_good : (f : Bool) (w : List (List ℕ × Value)) → AllByRecursion (GoodPair G) w → AllByRecursion (GoodSegment G) (cond f (pairs_then w []) [])
   members_good true w h = pairs_good w [] h tt
   members_good false w h = tt
 
@@ -70,8 +70,8 @@ module _ (G : ℕ → Type 0) where
   header_good (values i c) w vs s x l f = omega arith
   header_good (dictionary i) w vs s x l f = omega (arith, f.2)
 
-  -- kind by kind: the parts of a node within bounds are within bounds
-  body_good : (a : Head) (w : List (List ℕ × Value)) (vs : List Value) → IsSmallHead a → HasHeadTexts a → AllByRecursion (GoodPair G) w → AllByRecursion (GoodValue G) vs → AllByRecursion (GoodPart G) (body a w vs)
+  -- kind by kind: the segments of a node within bounds are within bounds
+  body_good : (a : Head) (w : List (List ℕ × Value)) (vs : List Value) → IsSmallHead a → HasHeadTexts a → AllByRecursion (GoodPair G) w → AllByRecursion (GoodValue G) vs → AllByRecursion (GoodSegment G) (body a w vs)
   body_good (date p) w vs s x h k = (tt, tt)
   body_good array w vs s x h k = pairs_good w (values_then vs []) h (values_good vs [] k tt)
   body_good (object t) w vs s x h k = values_good vs (cond t.dynamic (pairs_then w []) []) k (members_good t.dynamic w h)
@@ -85,15 +85,15 @@ module _ (G : ℕ → Type 0) where
   body_good (values f c) w vs s x h k = (tt, ((x, s), values_good vs [] k tt))
   body_good (dictionary f) w vs s x h k = (tt, values_good vs [] k tt)
 
-  pub layout_good : (a : Head) (w : List (List ℕ × Value)) (vs : List Value) → IsSmallHead a → HasHeadTexts a → IsFew (count_of a (length vs)) → Fits a w vs → AllByRecursion (GoodPair G) w → AllByRecursion (GoodValue G) vs → AllByRecursion (GoodPart G) (layout a w vs)
-  layout_good a w vs s x l f h k = (header_good a w vs s x l f, body_good a w vs s x h k)
+  pub segments_good : (a : Head) (w : List (List ℕ × Value)) (vs : List Value) → IsSmallHead a → HasHeadTexts a → IsFew (count_of a (length vs)) → Fits a w vs → AllByRecursion (GoodPair G) w → AllByRecursion (GoodValue G) vs → AllByRecursion (GoodSegment G) (segments_of a w vs)
+  segments_good a w vs s x l f h k = (header_good a w vs s x l f, body_good a w vs s x h k)
 
-abbrev pub AllSteps : List Part → Type 0
+abbrev pub AllSteps : List Segment → Type 0
 AllSteps [] = Unit {0}
 AllSteps (step x ∷ ps) = Small x × AllSteps ps
 AllSteps (value v ∷ ps) = ⊥
 
-pub leaf_steps : (x : Leaf) → SmallLeaf x → AllSteps (leaf_layout x)
+pub leaf_steps : (x : Leaf) → SmallLeaf x → AllSteps (leaf_segments x)
 leaf_steps undefined h = tt
 leaf_steps null h = tt
 leaf_steps (boolean b) h = tt
@@ -103,7 +103,7 @@ leaf_steps (text x) h = ((h.0, h.1), tt)
 
 module _ (g : Graph) (G : ℕ → Type 0)
     (few : length g.nodes < 268435456)
-    (closed : (i : ℕ) → G i → (i < length g.nodes) × AllNamed (by_name (node_at g i).names) × Fits (node_at g i).head (by_name (node_at g i).names) (node_at g i).values × AllByRecursion (GoodPart G) (layout (node_at g i).head (by_name (node_at g i).names) (node_at g i).values)) where
+    (closed : (i : ℕ) → G i → (i < length g.nodes) × AllNamed (by_name (node_at g i).names) × Fits (node_at g i).head (by_name (node_at g i).names) (node_at g i).values × AllByRecursion (GoodSegment G) (segments_of (node_at g i).head (by_name (node_at g i).names) (node_at g i).values)) where
   -- the tables that a canonical spelling meets
   record Ready (d : ℕ) (t : Tables) : Type 0 where
     proper : Proper g t
@@ -125,15 +125,15 @@ module _ (g : Graph) (G : ℕ → Type 0)
       let o = step_found x h t.words in
       (o.0, with_words t o.1, (o.1, o.2, refl), record { proper = (keeps_step g canonical x t o.0 (with_words t o.1) (o.1, o.2, refl)).proper r.proper; even = r.even; room = r.room; count = r.count })
 
-  found_parts : (d : ℕ) (R : Value → Spelling Tables) → ((v : Value) → GoodValue G v → Found d (R v)) → (ps : List Part) → AllByRecursion (GoodPart G) ps → Found d (Parts R canonical ps)
-  found_parts d R f [] h t r = ([], t, (refl, refl), r)
-  found_parts d R f (step x ∷ ps) h t r = found_then d (Lifted (StepOf canonical x)) (Parts R canonical ps) (found_lifted d x h.0) (found_parts d R f ps h.1) t r
-  found_parts d R f (value v ∷ ps) h t r = found_then d (R v) (Parts R canonical ps) (f v h.0) (found_parts d R f ps h.1) t r
+  found_segments : (d : ℕ) (R : Value → Spelling Tables) → ((v : Value) → GoodValue G v → Found d (R v)) → (ps : List Segment) → AllByRecursion (GoodSegment G) ps → Found d (Segments R canonical ps)
+  found_segments d R f [] h t r = ([], t, (refl, refl), r)
+  found_segments d R f (step x ∷ ps) h t r = found_then d (Lifted (StepOf canonical x)) (Segments R canonical ps) (found_lifted d x h.0) (found_segments d R f ps h.1) t r
+  found_segments d R f (value v ∷ ps) h t r = found_then d (R v) (Segments R canonical ps) (f v h.0) (found_segments d R f ps h.1) t r
 
   -- a leaf's steps name no value
-  found_steps : (d : ℕ) (ps : List Part) → AllSteps ps → Found d (Parts (λ v t b t'. ⊥) canonical ps)
+  found_steps : (d : ℕ) (ps : List Segment) → AllSteps ps → Found d (Segments (λ v t b t'. ⊥) canonical ps)
   found_steps d [] h t r = ([], t, (refl, refl), r)
-  found_steps d (step x ∷ ps) h t r = found_then d (Lifted (StepOf canonical x)) (Parts (λ v t b t'. ⊥) canonical ps) (found_lifted d x h.0) (found_steps d ps h.1) t r
+  found_steps d (step x ∷ ps) h t r = found_then d (Lifted (StepOf canonical x)) (Segments (λ v t b t'. ⊥) canonical ps) (found_lifted d x h.0) (found_steps d ps h.1) t r
   found_steps d (value v ∷ ps) h t r = absurd h
 
   found_placed : (d i k : ℕ) (t : Tables) → Ready d t → slice_get t.done k ≡ Some i → (b : List ℕ) × (t' : Tables) × Placed canonical i t b t' × Ready d t'
@@ -149,7 +149,7 @@ module _ (g : Graph) (G : ℕ → Type 0)
       let m = r.room in
       let c = r.count in
       record {
-        proper = (kept_begin g t i l new).proper r.proper;
+        proper = (stays_begun g t i l new).proper r.proper;
         even = ap (λ w. w ++ i ∷ []) r.even;
         room = omega arith;
         count = omega (arith, length_pushed t.done i);
@@ -159,7 +159,7 @@ module _ (g : Graph) (G : ℕ → Type 0)
   more_room d t r = record { proper = r.proper; even = r.even; room = omega (arith, r.room); count = r.count }
 
   found_value : (d : ℕ) → ((i : ℕ) → G i → Found d (NodeIn d canonical g i)) → (v : Value) → GoodValue G v → Found d (Spells d canonical g v)
-  found_value d f (leaf x) h t r = let o = found_steps d (step (byte (leaf_marker x)) ∷ leaf_layout x) (tt, leaf_steps x h) t r in (o.0, o.1, (h.0, o.2), o.3)
+  found_value d f (leaf x) h t r = let o = found_steps d (step (byte (leaf_marker x)) ∷ leaf_segments x) (tt, leaf_steps x h) t r in (o.0, o.1, (h.0, o.2), o.3)
   found_value d f (node i) h t r = let o = f i h t r in (marker (node_at g i).head ∷ o.0, o.1, (o.0, refl, o.2), o.3)
 
   found_begun : (d : ℕ) → ((v : Value) → GoodValue G v → Found d (Spells d canonical g v)) → (i : ℕ) → G i → (t : Tables) → Ready (suc d) t → Absent t.done i → (b : List ℕ) × (t' : Tables) × Begun (Spells d canonical g) canonical g i t b t' × Ready (suc d) t'
@@ -167,7 +167,7 @@ module _ (g : Graph) (G : ℕ → Type 0)
       let a = node_at g i in
       let c = closed i h in
       let w = by_name a.names in
-      let o = found_parts d (Spells d canonical g) f (layout a.head w a.values) c.3 (add_node t i) (begin_ready d t i c.0 new r) in
+      let o = found_segments d (Spells d canonical g) f (segments_of a.head w a.values) c.3 (add_node t i) (begin_ready d t i c.0 new r) in
       (o.0, o.1, record { exists = c.0; new = new; wire = w; sorted = by_name_again a.names; in_order = refl; named = c.1; fits = c.2; body = o.2 }, more_room d o.1 o.3)
 
   found_node : (d i : ℕ) → G i → Found d (NodeIn d canonical g i)
@@ -206,14 +206,14 @@ pairs_reached g s w i r =
 pub values_reached : (g : Graph) → IsSmall g → IsWhole g → (i : ℕ) → Reached g i → AllByRecursion (GoodValue (Reached g)) (node_at g i).values
 values_reached g s w i r = each_from (GoodValue (Reached g)) (node_at g i).values (λ k v e. value_good g s w v (inr (i, r, inl (k, e))))
 
-pub layout_reached : (g : Graph) → IsSmall g → IsWhole g → (i : ℕ) → Reached g i → Fits (node_at g i).head (by_name (node_at g i).names) (node_at g i).values × AllByRecursion (GoodPart (Reached g)) (layout (node_at g i).head (by_name (node_at g i).names) (node_at g i).values)
-layout_reached g s w i r =
+pub segments_reached : (g : Graph) → IsSmall g → IsWhole g → (i : ℕ) → Reached g i → Fits (node_at g i).head (by_name (node_at g i).names) (node_at g i).values × AllByRecursion (GoodSegment (Reached g)) (segments_of (node_at g i).head (by_name (node_at g i).names) (node_at g i).values)
+segments_reached g s w i r =
     let a = node_at g i in
     let f : Fits a.head (by_name a.names) a.values = fits_too a.head a.names (by_name a.names) a.values a.values (sym (by_name_length a.names)) refl (w.fits i r) in
-    (f, layout_good (Reached g) a.head (by_name a.names) a.values (s.nodes i r).head (w.texts i r).head (s.nodes i r).count f (pairs_reached g s w i r) (values_reached g s w i r))
+    (f, segments_good (Reached g) a.head (by_name a.names) a.values (s.nodes i r).head (w.texts i r).head (s.nodes i r).count f (pairs_reached g s w i r) (values_reached g s w i r))
 
 pub canonical_exists : (g : Graph) → IsSmall g → IsWhole g → IsNamed g → (b : List ℕ) × Spelled canonical g b
 canonical_exists g s w n =
     found_root g (Reached g) s.few
-    (λ i r. let o = layout_reached g s w i r in (w.there i r, by_name_all (λ p. p.0 ≢ []) (node_at g i).names (n i r), o.0, o.1))
+    (λ i r. let o = segments_reached g s w i r in (w.there i r, by_name_all (λ p. p.0 ≢ []) (node_at g i).names (n i r), o.0, o.1))
     (value_good g s w g.root (inl refl))

@@ -10,12 +10,12 @@ use Rattle.amf3_spelling.specs.Tables.{Entry, plain, external, Words, Tables, no
 use Rattle.amf3_spelling.specs.Refusals3.{marker, leaf_marker, text_header_kind, class_header_kind, class_kind}
 use Rattle.amf3_spelling.specs.Then.{Spelling as Fields, Then as FieldThen}
 use Rattle.amf3_spelling.specs.Words3.{TextBy, empty as empty_text, whole as whole_text, placed as placed_text, Text as FieldText, Texts as FieldTexts, EntryTexts, TraitsBy, given as given_traits, placed as named_traits}
-use Rattle.amf3_spelling.specs.Parts3 as fields
+use Rattle.amf3_spelling.specs.Segments3 as fields
 use Rattle.amf3_spelling.specs.Headers3.{HeaderBy, marker_field, header_field}
 use Rattle.amf3_spelling.specs.Nodes3 as nodes
 use Rattle.amf3_spelling.specs.Spells3.{LeafBy, Marked, InlineIn, Spelled3}
 use Rattle.amf3_spelling.specs.Spells3 as spells
-use Rattle.amf3_spelling.proofs.ByteSpelling.{Spelling, Then, Text, empty, whole, placed, Texts, entry_texts, TraitsOf, given, indexed, byte, flag, raw, word, StepOf, Part, step, value, values_then, pairs_then, four_bytes, signed_bytes, eight_bytes, header_step, body, leaf_layout, Lifted, Parts, Placed, Begun, ValueBy, NodeIn, Spells, Spelled}
+use Rattle.amf3_spelling.proofs.ByteSpelling.{Spelling, Then, Text, empty, whole, placed, Texts, entry_texts, TraitsOf, given, indexed, byte, flag, raw, word, StepOf, Segment, step, value, values_then, pairs_then, four_bytes, signed_bytes, eight_bytes, header_step, body, leaf_segments, Lifted, Segments, Placed, Begun, ValueBy, NodeIn, Spells, Spelled}
 use Rattle.amf3_spelling.proofs.BytesOf.{fits_too, flat_append, flat_contents}
 
 -- fields of these bytes
@@ -57,23 +57,23 @@ one_field : (k : Kind) (b : List ℕ) → b ≡ flat (field k b ∷ [])
 one_field k b = sym (append-nil b)
 
 module _ (s : Style) (R : Value → Fields Tables) (R' : Value → Spelling Tables) (r : (v : Value) → From (R v) (R' v)) where
-  abbrev FromParts : List fields.Part → List Part → Type 0
-  FromParts ps qs = From (fields.Parts R s ps) (Parts R' s qs)
+  abbrev FromSegments : List fields.Segment → List Segment → Type 0
+  FromSegments ps qs = From (fields.Segments R s ps) (Segments R' s qs)
 
-  from_end : FromParts [] []
+  from_end : FromSegments [] []
   from_end t b t' z = ([], (refl, z.1), z.0)
 
-  from_value : (v : Value) (ps : List fields.Part) (qs : List Part) → FromParts ps qs → FromParts (fields.value v ∷ ps) (value v ∷ qs)
-  from_value v ps qs k t b t' z = from_then (R v) (fields.Parts R s ps) (R' v) (Parts R' s qs) (r v) k t b t' z
+  from_value : (v : Value) (ps : List fields.Segment) (qs : List Segment) → FromSegments ps qs → FromSegments (fields.value v ∷ ps) (value v ∷ qs)
+  from_value v ps qs k t b t' z = from_then (R v) (fields.Segments R s ps) (R' v) (Segments R' s qs) (r v) k t b t' z
 
-  from_word : (x : List ℕ) (ps : List fields.Part) (qs : List Part) → FromParts ps qs → FromParts (fields.word x ∷ ps) (step (word x) ∷ qs)
-  from_word x ps qs k t b t' z = from_then (fields.Lifted (FieldText s x)) (fields.Parts R s ps) (Lifted (Text s x)) (Parts R' s qs) (from_lifted (FieldText s x) (Text s x) (from_text s x)) k t b t' z
+  from_word : (x : List ℕ) (ps : List fields.Segment) (qs : List Segment) → FromSegments ps qs → FromSegments (fields.word x ∷ ps) (step (word x) ∷ qs)
+  from_word x ps qs k t b t' z = from_then (fields.Lifted (FieldText s x)) (fields.Segments R s ps) (Lifted (Text s x)) (Segments R' s qs) (from_lifted (FieldText s x) (Text s x) (from_text s x)) k t b t' z
 
   -- a step that changes no table leaves the tables
   same_tables : (t t' : Tables) (w : Words) → w ≡ t.words → t' ≡ with_words t w → t' ≡ t
   same_tables t t' w e f = f ∙ ap (λ z. with_words t z) e
 
-  from_flags : (f : Bool) (ps : List fields.Part) (qs : List Part) → FromParts ps qs → FromParts (fields.flag f ∷ ps) (step (flag f) ∷ qs)
+  from_flags : (f : Bool) (ps : List fields.Segment) (qs : List Segment) → FromSegments ps qs → FromSegments (fields.flag f ∷ ps) (step (flag f) ∷ qs)
   from_flags f ps qs k t b t' z =
       let m = z.first.1.0.0 in
       let o = k z.mid z.back t' z.second in (
@@ -82,27 +82,27 @@ module _ (s : Style) (R : Value → Fields Tables) (R' : Value → Spelling Tabl
         z.joined ∙ ap (λ w. w ++ z.back) z.first.1.0.1 ∙ ap (λ w. m ∷ w) o.2,
       )
 
-  from_values : (vs : List Value) (ps : List fields.Part) (qs : List Part) → FromParts ps qs → FromParts (fields.values_then vs ps) (values_then vs qs)
+  from_values : (vs : List Value) (ps : List fields.Segment) (qs : List Segment) → FromSegments ps qs → FromSegments (fields.values_then vs ps) (values_then vs qs)
   from_values [] ps qs k = k
   from_values (v ∷ vs) ps qs k = from_value v (fields.values_then vs ps) (values_then vs qs) (from_values vs ps qs k)
 
-  from_pairs : (w : List (List ℕ × Value)) (ps : List fields.Part) (qs : List Part) → FromParts ps qs → FromParts (fields.pairs_then w ps) (pairs_then w qs)
+  from_pairs : (w : List (List ℕ × Value)) (ps : List fields.Segment) (qs : List Segment) → FromSegments ps qs → FromSegments (fields.pairs_then w ps) (pairs_then w qs)
   from_pairs [] ps qs k = from_word [] ps qs k
   from_pairs (p ∷ w) ps qs k = from_word p.0 (fields.value p.1 ∷ fields.pairs_then w ps) (value p.1 ∷ pairs_then w qs) (from_value p.1 (fields.pairs_then w ps) (pairs_then w qs) (from_pairs w ps qs k))
 
-  from_members : (f : Bool) (w : List (List ℕ × Value)) → FromParts (cond f (fields.pairs_then w []) []) (cond f (pairs_then w []) [])
+  from_members : (f : Bool) (w : List (List ℕ × Value)) → FromSegments (cond f (fields.pairs_then w []) []) (cond f (pairs_then w []) [])
   from_members true w = from_pairs w [] [] from_end
   from_members false w = from_end
 
-  -- parts that change nothing, of these bytes
-  abbrev Still : List fields.Part → List ℕ → Type 0
-  Still ps x = (t : Tables) → Of (fields.Parts R s ps) t x t
+  -- segments that change nothing, of these bytes
+  abbrev Still : List fields.Segment → List ℕ → Type 0
+  Still ps x = (t : Tables) → Of (fields.Segments R s ps) t x t
 
-  from_raw : (ps : List fields.Part) (x : List ℕ) → Still ps x → FromParts ps (step (raw x) ∷ [])
+  from_raw : (ps : List fields.Segment) (x : List ℕ) → Still ps x → FromSegments ps (step (raw x) ∷ [])
   from_raw ps x k t b t' z =
       let o = k t in
       let same : t' ≡ t = z.second.1 ∙ same_tables t z.mid z.first.0 z.first.1.1 z.first.2 in
-      (o.0, subst (λ (w : Tables). fields.Parts R s ps t o.0 w) (sym same) o.1, z.joined ∙ ap (λ w. z.front ++ w) z.second.0 ∙ append-nil z.front ∙ z.first.1.0 ∙ o.2)
+      (o.0, subst (λ (w : Tables). fields.Segments R s ps t o.0 w) (sym same) o.1, z.joined ∙ ap (λ w. z.front ++ w) z.second.0 ∙ append-nil z.front ∙ z.first.1.0 ∙ o.2)
 
   still_chars : (x : List ℕ) → Still (fields.chars x ∷ []) x
   still_chars x t = (contents text_kind x, record { front = contents text_kind x; back = []; mid = t; joined = sym (append-nil (contents text_kind x)); first = (refl, refl); second = (refl, refl) }, sym (flat_contents text_kind x))
@@ -129,7 +129,7 @@ module _ (s : Style) (R : Value → Fields Tables) (R' : Value → Spelling Tabl
   still_eights (n ∷ ns) t = let o = still_eights ns t in (field (raw_kind 8) (to_be_bytes w64 n) ∷ o.0, record { front = field (raw_kind 8) (to_be_bytes w64 n) ∷ []; back = o.0; mid = t; joined = refl; first = (refl, refl); second = o.1 }, ap (λ w. to_be_bytes w64 n ++ w) o.2)
 
   -- kind by kind
-  from_body : (a : Head) (w : List (List ℕ × Value)) (vs : List Value) → FromParts (fields.layout a w vs) (body a w vs)
+  from_body : (a : Head) (w : List (List ℕ × Value)) (vs : List Value) → FromSegments (fields.segments_of a w vs) (body a w vs)
   from_body (date p) w vs = from_raw (fields.eight p ∷ []) (to_be_bytes w64 p) (still_eight p)
   from_body array w vs = from_pairs w (fields.values_then vs []) (values_then vs []) (from_values vs [] [] from_end)
   from_body (object c) w vs = from_values vs (cond c.dynamic (fields.pairs_then w []) []) (cond c.dynamic (pairs_then w []) []) (from_members c.dynamic w)
@@ -172,8 +172,8 @@ from_header s (dictionary f) vs w b w' d z =
     let o = d f refl in
     record { number = length vs + 1; header = b; spelled = z.0; rest = []; behind = (o.0, o.1, (omega (arith, o.1), (refl, z.1))); joined = sym (append-nil b) }
 
-even_parts : (a : Head) (w : List (List ℕ × Value)) (vs : List Value) → Fits a w vs → (f : Bool) → a ≡ dictionary f → (n : ℕ) × (length vs ≡ 2 * n)
-even_parts a w vs h f e = let k : Fits (dictionary f) w vs = subst (λ z. Fits z w vs) e h in (k.1, k.2)
+even_segments : (a : Head) (w : List (List ℕ × Value)) (vs : List Value) → Fits a w vs → (f : Bool) → a ≡ dictionary f → (n : ℕ) × (length vs ≡ 2 * n)
+even_segments a w vs h f e = let k : Fits (dictionary f) w vs = subst (λ z. Fits z w vs) e h in (k.1, k.2)
 
 of_placed : (s : Style) (g : Graph) (i : ℕ) (t : Tables) (c : List ℕ) (t' : Tables) → Placed s i t c t' → Of (nodes.Placed s g i) t (marker (node_at g i).head ∷ c) t'
 of_placed s g i t c t' p = (
@@ -186,7 +186,7 @@ of_begun : (s : Style) (R : Value → Fields Tables) (R' : Value → Spelling Ta
 of_begun s R R' r g i t c t' p =
     let a = node_at g i in
     let m = marker (node_at g i).head in
-    let h = from_header s a.head a.values t.words p.body.front p.body.first.0 (even_parts a.head p.wire a.values p.fits) p.body.first.1 in
+    let h = from_header s a.head a.values t.words p.body.front p.body.first.0 (even_segments a.head p.wire a.values p.fits) p.body.first.1 in
     let o = from_body s R R' r a.head p.wire a.values p.body.mid p.body.back t' p.body.second in
     let rest : List Field = h.rest ++ o.0 in (
       marker_field m ∷ header_field g t m h.header ∷ rest,
@@ -208,7 +208,7 @@ of_begun s R R' r g i t c t' p =
       ap (λ w. m ∷ w) (p.body.joined ∙ ap (λ w. w ++ p.body.back) h.joined ∙ ap (λ w. (h.header ++ flat h.rest) ++ w) o.2 ∙ append_assoc h.header (flat h.rest) (flat o.0) ∙ ap (λ w. h.header ++ w) (sym (flat_append h.rest o.0))),
     )
 
-from_leaf_rest : (s : Style) (x : Leaf) → From (fields.Lifted (LeafBy s x)) (Parts (λ v t b t'. ⊥) s (leaf_layout x))
+from_leaf_rest : (s : Style) (x : Leaf) → From (fields.Lifted (LeafBy s x)) (Segments (λ v t b t'. ⊥) s (leaf_segments x))
 from_leaf_rest s undefined t b t' z = ([], (t.words, (refl, refl), z.1), z.0)
 from_leaf_rest s null t b t' z = ([], (t.words, (refl, refl), z.1), z.0)
 from_leaf_rest s (boolean x) t b t' z = ([], (t.words, (refl, refl), z.1), z.0)
@@ -226,7 +226,7 @@ from_leaf_rest s (text x) t b t' z =
     let o = from_text s x t.words z.front z.first.0 z.first.1 in
     (o.0, (z.first.0, o.1, z.second.1 ∙ z.first.2), z.joined ∙ ap (λ w. z.front ++ w) z.second.0 ∙ append-nil z.front ∙ o.2)
 
-from_leaf : (s : Style) (x : Leaf) → From (FieldThen (Marked (leaf_marker x)) (fields.Lifted (LeafBy s x))) (Parts (λ v t b t'. ⊥) s (step (byte (leaf_marker x)) ∷ leaf_layout x))
+from_leaf : (s : Style) (x : Leaf) → From (FieldThen (Marked (leaf_marker x)) (fields.Lifted (LeafBy s x))) (Segments (λ v t b t'. ⊥) s (step (byte (leaf_marker x)) ∷ leaf_segments x))
 from_leaf s x t b t' z =
     of_then (Marked (leaf_marker x)) (fields.Lifted (LeafBy s x)) t z.mid t' b z.front z.back z.joined
     (marker_field (leaf_marker x) ∷ [], (refl, z.first.2 ∙ ap (λ w. with_words t w) z.first.1.1), z.first.1.0)

@@ -7,10 +7,10 @@ use Rattle.amf_graph.specs.Order.{Absent}
 use Rattle.amf_graph.proofs.Lists.{no_entry}
 use Rattle.amf3_spelling.specs.Tables.{Tables, no_tables, with_words, add_node}
 use Rattle.amf3_spelling.specs.Refusals3.{marker, leaf_marker}
-use Rattle.amf3_spelling.proofs.ByteSpelling.{Spelling, Then, Step, StepOf, Part, step, value, byte, layout, leaf_layout, Lifted, Parts, Placed, Begun, ValueBy, NodeIn, Spells, Spelled}
+use Rattle.amf3_spelling.proofs.ByteSpelling.{Spelling, Then, Step, StepOf, Segment, step, value, byte, segments_of, leaf_segments, Lifted, Segments, Placed, Begun, ValueBy, NodeIn, Spells, Spelled}
 use Rattle.amf3_spelling.proofs.Numbers3.{number_fixed}
 use Rattle.amf3_spelling.proofs.Steps3.{step_fixed}
-use Rattle.amf3_spelling.proofs.Kept3.{Keeps, Proper, kept_begin, keeps_step, keeps_spells}
+use Rattle.amf3_spelling.proofs.Stays3.{Keeps, Proper, stays_begun, keeps_step, keeps_spells}
 
 pub proper_none : (g : Graph) → Proper g no_tables
 proper_none g = record {
@@ -35,10 +35,10 @@ module _ (g : Graph) where
       let o = step_fixed x t.words p.0 q.0 b c p.1 q.1 in
       (o.0, p.2 ∙ ap (λ w. with_words t w) o.1 ∙ sym q.2)
 
-  fixed_parts : (R R' : Value → Spelling Tables) → ((v : Value) → Keeps g (R v)) → ((v : Value) → Fixed (R v) (R' v)) → (ps : List Part) → Fixed (Parts R canonical ps) (Parts R' canonical ps)
-  fixed_parts R R' k f [] t b c t' u' d x y = (x.0 ∙ sym y.0, x.1 ∙ sym y.1)
-  fixed_parts R R' k f (step x ∷ ps) t b c t' u' d p q = fixed_then (Lifted (StepOf canonical x)) (Lifted (StepOf canonical x)) (Parts R canonical ps) (Parts R' canonical ps) (keeps_step g canonical x) (fixed_lifted x) (fixed_parts R R' k f ps) t b c t' u' d p q
-  fixed_parts R R' k f (value v ∷ ps) t b c t' u' d p q = fixed_then (R v) (R' v) (Parts R canonical ps) (Parts R' canonical ps) (k v) (f v) (fixed_parts R R' k f ps) t b c t' u' d p q
+  fixed_segments : (R R' : Value → Spelling Tables) → ((v : Value) → Keeps g (R v)) → ((v : Value) → Fixed (R v) (R' v)) → (ps : List Segment) → Fixed (Segments R canonical ps) (Segments R' canonical ps)
+  fixed_segments R R' k f [] t b c t' u' d x y = (x.0 ∙ sym y.0, x.1 ∙ sym y.1)
+  fixed_segments R R' k f (step x ∷ ps) t b c t' u' d p q = fixed_then (Lifted (StepOf canonical x)) (Lifted (StepOf canonical x)) (Segments R canonical ps) (Segments R' canonical ps) (keeps_step g canonical x) (fixed_lifted x) (fixed_segments R R' k f ps) t b c t' u' d p q
+  fixed_segments R R' k f (value v ∷ ps) t b c t' u' d p q = fixed_then (R v) (R' v) (Segments R canonical ps) (Segments R' canonical ps) (k v) (f v) (fixed_segments R R' k f ps) t b c t' u' d p q
 
   fixed_placed : (i : ℕ) → Fixed (Placed canonical i) (Placed canonical i)
   fixed_placed i t b c t' u' d x y =
@@ -48,11 +48,11 @@ module _ (g : Graph) where
   fixed_begun R R' k f i t b c t' u' d x y =
       let a = node_at g i in
       let same : y.wire ≡ x.wire = y.in_order ∙ sym x.in_order in
-      fixed_parts R R' k f (layout a.head x.wire a.values) (add_node t i) b c t' u' ((kept_begin g t i x.exists x.new).proper d) x.body
-      (subst (λ w. Parts R' canonical (layout a.head w a.values) (add_node t i) c u') same y.body)
+      fixed_segments R R' k f (segments_of a.head x.wire a.values) (add_node t i) b c t' u' ((stays_begun g t i x.exists x.new).proper d) x.body
+      (subst (λ w. Segments R' canonical (segments_of a.head w a.values) (add_node t i) c u') same y.body)
 
   fixed_value : (N N' : ℕ → Spelling Tables) → ((i : ℕ) → Fixed (N i) (N' i)) → (v : Value) → Fixed (ValueBy N canonical g v) (ValueBy N' canonical g v)
-  fixed_value N N' f (leaf x) t b c t' u' d p q = fixed_parts (λ v t b t'. ⊥) (λ v t b t'. ⊥) (λ v t b t' e. absurd e) (λ v t b c t' u' d e f. absurd e) (step (byte (leaf_marker x)) ∷ leaf_layout x) t b c t' u' d p.1 q.1
+  fixed_value N N' f (leaf x) t b c t' u' d p q = fixed_segments (λ v t b t'. ⊥) (λ v t b t'. ⊥) (λ v t b t' e. absurd e) (λ v t b c t' u' d e f. absurd e) (step (byte (leaf_marker x)) ∷ leaf_segments x) t b c t' u' d p.1 q.1
   fixed_value N N' f (node i) t b c t' u' d x y = let o = f i t x.0 y.0 t' u' d x.2 y.2 in (x.1 ∙ ap (λ w. marker (node_at g i).head ∷ w) o.0 ∙ sym y.1, o.1)
 
   listed_new : (i : ℕ) (t : Tables) (k : ℕ) → Proper g t → Absent t.done i → slice_get t.nodes k ≡ Some i → ⊥

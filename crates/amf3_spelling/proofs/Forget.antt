@@ -7,7 +7,7 @@ use Rattle.amf_graph.specs.Graph.{Leaf, undefined, null, boolean, integer, doubl
 use Rattle.amf3_spelling.specs.Tables.{Entry, plain, external, Words, Tables, add_node}
 use Rattle.amf3_spelling.specs.Then.{Spelling, Then, Plain}
 use Rattle.amf3_spelling.specs.Words3.{TextBy, empty, whole, placed, Text, Texts, EntryTexts, EntryNumber, TraitsBy, given, placed as by_place}
-use Rattle.amf3_spelling.specs.Parts3.{Part, flag, four, eight, raw, chars, word, value, Fixed, Lifted, Parts, layout}
+use Rattle.amf3_spelling.specs.Segments3.{Segment, flag, four, eight, raw, chars, word, value, Fixed, Lifted, Segments, segments_of}
 use Rattle.amf3_spelling.specs.Headers3.{HeaderBy}
 use Rattle.amf3_spelling.specs.Nodes3.{Placed, Begun}
 use Rattle.amf3_spelling.specs.Spells3.{LeafBy, ValueBy, InlineIn, SpellsIn, Spells3, Spelled3}
@@ -60,30 +60,30 @@ header_by s (doubles f ns) vs n t fs t' z = z
 header_by s (values f x) vs n t fs t' z = z
 header_by s (dictionary f) vs n t fs t' z = z
 
-fixed_part : (s : Style) (p : Part) (fs : List Field) → Fixed s p fs → Fixed free p fs
-fixed_part s (flag f) fs (m, h, e) = (m, (h.0, h.1, tt), e)
-fixed_part s (four n) fs z = z
-fixed_part s (eight n) fs z = z
-fixed_part s (raw x) fs z = z
-fixed_part s (chars x) fs z = z
-fixed_part s (word x) fs z = z
-fixed_part s (value v) fs z = z
+fixed_segment : (s : Style) (p : Segment) (fs : List Field) → Fixed s p fs → Fixed free p fs
+fixed_segment s (flag f) fs (m, h, e) = (m, (h.0, h.1, tt), e)
+fixed_segment s (four n) fs z = z
+fixed_segment s (eight n) fs z = z
+fixed_segment s (raw x) fs z = z
+fixed_segment s (chars x) fs z = z
+fixed_segment s (word x) fs z = z
+fixed_segment s (value v) fs z = z
 
 lifted_implies : (A B : Spelling Words) → Implies A B → Implies (Lifted A) (Lifted B)
 lifted_implies A B f t fs t' (w, z, e) = (w, f t.words fs w z, e)
 
-plain_implies : (s : Style) (p : Part) → Implies {S = Tables} (Plain (Fixed s p)) (Plain (Fixed free p))
-plain_implies s p t fs t' (z, e) = (fixed_part s p fs z, e)
+plain_implies : (s : Style) (p : Segment) → Implies {S = Tables} (Plain (Fixed s p)) (Plain (Fixed free p))
+plain_implies s p t fs t' (z, e) = (fixed_segment s p fs z, e)
 
-parts : (R R' : Value → Spelling Tables) (s : Style) → ((v : Value) → Implies (R v) (R' v)) → (ps : List Part) → Implies (Parts R s ps) (Parts R' free ps)
-parts R R' s f [] t fs t' z = z
-parts R R' s f (word x ∷ ps) t fs t' z = then_implies (Lifted (Text s x)) (Parts R s ps) (Lifted (Text free x)) (Parts R' free ps) (lifted_implies (Text s x) (Text free x) (text_of s x)) (parts R R' s f ps) t fs t' z
-parts R R' s f (value v ∷ ps) t fs t' z = then_implies (R v) (Parts R s ps) (R' v) (Parts R' free ps) (f v) (parts R R' s f ps) t fs t' z
-parts R R' s f (flag b ∷ ps) t fs t' z = then_implies (Plain (Fixed s (flag b))) (Parts R s ps) (Plain (Fixed free (flag b))) (Parts R' free ps) (plain_implies s (flag b)) (parts R R' s f ps) t fs t' z
-parts R R' s f (four n ∷ ps) t fs t' z = then_implies (Plain (Fixed s (four n))) (Parts R s ps) (Plain (Fixed free (four n))) (Parts R' free ps) (plain_implies s (four n)) (parts R R' s f ps) t fs t' z
-parts R R' s f (eight n ∷ ps) t fs t' z = then_implies (Plain (Fixed s (eight n))) (Parts R s ps) (Plain (Fixed free (eight n))) (Parts R' free ps) (plain_implies s (eight n)) (parts R R' s f ps) t fs t' z
-parts R R' s f (raw x ∷ ps) t fs t' z = then_implies (Plain (Fixed s (raw x))) (Parts R s ps) (Plain (Fixed free (raw x))) (Parts R' free ps) (plain_implies s (raw x)) (parts R R' s f ps) t fs t' z
-parts R R' s f (chars x ∷ ps) t fs t' z = then_implies (Plain (Fixed s (chars x))) (Parts R s ps) (Plain (Fixed free (chars x))) (Parts R' free ps) (plain_implies s (chars x)) (parts R R' s f ps) t fs t' z
+segments : (R R' : Value → Spelling Tables) (s : Style) → ((v : Value) → Implies (R v) (R' v)) → (ps : List Segment) → Implies (Segments R s ps) (Segments R' free ps)
+segments R R' s f [] t fs t' z = z
+segments R R' s f (word x ∷ ps) t fs t' z = then_implies (Lifted (Text s x)) (Segments R s ps) (Lifted (Text free x)) (Segments R' free ps) (lifted_implies (Text s x) (Text free x) (text_of s x)) (segments R R' s f ps) t fs t' z
+segments R R' s f (value v ∷ ps) t fs t' z = then_implies (R v) (Segments R s ps) (R' v) (Segments R' free ps) (f v) (segments R R' s f ps) t fs t' z
+segments R R' s f (flag b ∷ ps) t fs t' z = then_implies (Plain (Fixed s (flag b))) (Segments R s ps) (Plain (Fixed free (flag b))) (Segments R' free ps) (plain_implies s (flag b)) (segments R R' s f ps) t fs t' z
+segments R R' s f (four n ∷ ps) t fs t' z = then_implies (Plain (Fixed s (four n))) (Segments R s ps) (Plain (Fixed free (four n))) (Segments R' free ps) (plain_implies s (four n)) (segments R R' s f ps) t fs t' z
+segments R R' s f (eight n ∷ ps) t fs t' z = then_implies (Plain (Fixed s (eight n))) (Segments R s ps) (Plain (Fixed free (eight n))) (Segments R' free ps) (plain_implies s (eight n)) (segments R R' s f ps) t fs t' z
+segments R R' s f (raw x ∷ ps) t fs t' z = then_implies (Plain (Fixed s (raw x))) (Segments R s ps) (Plain (Fixed free (raw x))) (Segments R' free ps) (plain_implies s (raw x)) (segments R R' s f ps) t fs t' z
+segments R R' s f (chars x ∷ ps) t fs t' z = then_implies (Plain (Fixed s (chars x))) (Segments R s ps) (Plain (Fixed free (chars x))) (Segments R' free ps) (plain_implies s (chars x)) (segments R R' s f ps) t fs t' z
 
 named_by : (s : Style) (g : Graph) (i : ℕ) → Implies (Placed s g i) (Placed free g i)
 named_by s g i t fs t' z = record { place = z.place; header = z.header; there = z.there; spelled = forget_u29 s _ z.header z.spelled; fields = z.fields; same = z.same }
@@ -102,10 +102,10 @@ begun_by R R' s f g i t fs t' z = record {
   spelled = forget_u29 s z.number z.header z.spelled;
   rest = z.rest;
   fields = z.fields;
-  behind = then_implies (Lifted (HeaderBy s (node_at g i).head (node_at g i).values z.number)) (Parts R s (layout (node_at g i).head z.pairs (node_at g i).values))
-      (Lifted (HeaderBy free (node_at g i).head (node_at g i).values z.number)) (Parts R' free (layout (node_at g i).head z.pairs (node_at g i).values))
+  behind = then_implies (Lifted (HeaderBy s (node_at g i).head (node_at g i).values z.number)) (Segments R s (segments_of (node_at g i).head z.pairs (node_at g i).values))
+      (Lifted (HeaderBy free (node_at g i).head (node_at g i).values z.number)) (Segments R' free (segments_of (node_at g i).head z.pairs (node_at g i).values))
       (lifted_implies (HeaderBy s (node_at g i).head (node_at g i).values z.number) (HeaderBy free (node_at g i).head (node_at g i).values z.number) (header_by s (node_at g i).head (node_at g i).values z.number))
-      (parts R R' s f (layout (node_at g i).head z.pairs (node_at g i).values)) (add_node t i) z.rest t' z.behind;
+      (segments R R' s f (segments_of (node_at g i).head z.pairs (node_at g i).values)) (add_node t i) z.rest t' z.behind;
 }
 
 leaf_by : (s : Style) (x : Leaf) → Implies (LeafBy s x) (LeafBy free x)

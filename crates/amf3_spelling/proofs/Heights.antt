@@ -7,7 +7,7 @@ use Rattle.amf3_spelling.specs.Then.{Spelling, Then, Plain}
 use Rattle.amf3_spelling.specs.ByteSpelling as bytes
 use Rattle.amf3_spelling.specs.LawsHeight3.{MoreHeightSpells}
 use Rattle.amf3_spelling.specs.Words3.{Text}
-use Rattle.amf3_spelling.specs.Parts3.{Part, flag, four, eight, raw, chars, word, value, Fixed, Lifted, Parts, layout}
+use Rattle.amf3_spelling.specs.Segments3.{Segment, flag, four, eight, raw, chars, word, value, Fixed, Lifted, Segments, segments_of}
 use Rattle.amf3_spelling.specs.Headers3.{HeaderBy}
 use Rattle.amf3_spelling.specs.Nodes3.{Begun}
 use Rattle.amf3_spelling.specs.Spells3.{ValueBy, InlineIn, SpellsIn}
@@ -16,18 +16,18 @@ use Rattle.amf3_spelling.proofs.FieldsOf.{from_spells}
 use Rattle.amf3_spelling.proofs.Forget.{Implies, then_implies}
 
 module _ (s : Style) (R Q : Value → Spelling Tables) (f : (v : Value) → Implies (R v) (Q v)) where
-  behind : (A : Spelling Tables) (ps : List Part) → Implies (Parts R s ps) (Parts Q s ps) → Implies (Then A (Parts R s ps)) (Then A (Parts Q s ps))
-  behind A ps = then_implies A (Parts R s ps) A (Parts Q s ps) (λ t fs t' z. z)
+  behind : (A : Spelling Tables) (ps : List Segment) → Implies (Segments R s ps) (Segments Q s ps) → Implies (Then A (Segments R s ps)) (Then A (Segments Q s ps))
+  behind A ps = then_implies A (Segments R s ps) A (Segments Q s ps) (λ t fs t' z. z)
 
-  pub parts_more : (ps : List Part) → Implies (Parts R s ps) (Parts Q s ps)
-  parts_more [] t fs t' z = z
-  parts_more (word x ∷ ps) t fs t' z = behind (Lifted (Text s x)) ps (parts_more ps) t fs t' z
-  parts_more (value v ∷ ps) t fs t' z = then_implies (R v) (Parts R s ps) (Q v) (Parts Q s ps) (f v) (parts_more ps) t fs t' z
-  parts_more (flag b ∷ ps) t fs t' z = behind (Plain (Fixed s (flag b))) ps (parts_more ps) t fs t' z
-  parts_more (four n ∷ ps) t fs t' z = behind (Plain (Fixed s (four n))) ps (parts_more ps) t fs t' z
-  parts_more (eight n ∷ ps) t fs t' z = behind (Plain (Fixed s (eight n))) ps (parts_more ps) t fs t' z
-  parts_more (raw x ∷ ps) t fs t' z = behind (Plain (Fixed s (raw x))) ps (parts_more ps) t fs t' z
-  parts_more (chars x ∷ ps) t fs t' z = behind (Plain (Fixed s (chars x))) ps (parts_more ps) t fs t' z
+  pub segments_more : (ps : List Segment) → Implies (Segments R s ps) (Segments Q s ps)
+  segments_more [] t fs t' z = z
+  segments_more (word x ∷ ps) t fs t' z = behind (Lifted (Text s x)) ps (segments_more ps) t fs t' z
+  segments_more (value v ∷ ps) t fs t' z = then_implies (R v) (Segments R s ps) (Q v) (Segments Q s ps) (f v) (segments_more ps) t fs t' z
+  segments_more (flag b ∷ ps) t fs t' z = behind (Plain (Fixed s (flag b))) ps (segments_more ps) t fs t' z
+  segments_more (four n ∷ ps) t fs t' z = behind (Plain (Fixed s (four n))) ps (segments_more ps) t fs t' z
+  segments_more (eight n ∷ ps) t fs t' z = behind (Plain (Fixed s (eight n))) ps (segments_more ps) t fs t' z
+  segments_more (raw x ∷ ps) t fs t' z = behind (Plain (Fixed s (raw x))) ps (segments_more ps) t fs t' z
+  segments_more (chars x ∷ ps) t fs t' z = behind (Plain (Fixed s (chars x))) ps (segments_more ps) t fs t' z
 
   begun_more : (g : Graph) (i : ℕ) → Implies (Begun R s g i) (Begun Q s g i)
   begun_more g i t fs t' z = record {
@@ -43,7 +43,7 @@ module _ (s : Style) (R Q : Value → Spelling Tables) (f : (v : Value) → Impl
     spelled = z.spelled;
     rest = z.rest;
     fields = z.fields;
-    behind = behind (Lifted (HeaderBy s (node_at g i).head (node_at g i).values z.number)) (layout (node_at g i).head z.pairs (node_at g i).values) (parts_more (layout (node_at g i).head z.pairs (node_at g i).values)) (add_node t i) z.rest t' z.behind;
+    behind = behind (Lifted (HeaderBy s (node_at g i).head (node_at g i).values z.number)) (segments_of (node_at g i).head z.pairs (node_at g i).values) (segments_more (segments_of (node_at g i).head z.pairs (node_at g i).values)) (add_node t i) z.rest t' z.behind;
   }
 
 value_more : (s : Style) (g : Graph) (I J : ℕ → Spelling Tables) → ((i : ℕ) → Implies (I i) (J i)) → (v : Value) → Implies (ValueBy I s g v) (ValueBy J s g v)

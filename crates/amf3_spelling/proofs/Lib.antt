@@ -13,7 +13,7 @@ pub mod Numbers3
 pub mod BytesOf
 pub mod FieldsOf
 pub mod Steps3
-pub mod Kept3
+pub mod Stays3
 pub mod Fixed3
 pub mod BigEndian
 pub mod Carried3

@@ -15,18 +15,18 @@ use Rattle.amf3_spelling.specs.KeptTables.{tables_of}
 use Rattle.amf3_spelling.specs.Then.{Spelling}
 use Rattle.amf3_spelling.specs.Refusals3.{class_header_kind, class_kind}
 use Rattle.amf3_spelling.specs.Words3.{Text, TextBy, whole, placed, given, NoPlaceBelow}
-use Rattle.amf3_spelling.specs.Parts3.{word, value, Lifted}
+use Rattle.amf3_spelling.specs.Segments3.{word, value, Lifted}
 use Rattle.amf3_spelling.specs.Headers3.{HeaderBy}
 use Rattle.amf3_spelling.specs.Reads3.{IsReading3}
 use Rattle.amf3_spelling.specs.Spells3.{InlineIn, Spelled3}
 use Rattle.amf3_spelling.specs.WorkedKinds3.{single}
 use Rattle.amf3_spelling.specs.WorkedMoreRows3.{one_name, named_twice, open_array, open_tables, reference_fields, two_collections, name_and_collection}
-use Rattle.amf3_spelling.proofs.Build.{Built, both, lifted, a_leaf, a_null, no_text, new_text, old_text, a_text, a_reference, a_node, no_parts, word_part, value_part, absent_nil, absent_cons, unnamed, unnamed_zero}
+use Rattle.amf3_spelling.proofs.Build.{Built, both, lifted, a_leaf, a_null, no_text, new_text, old_text, a_text, a_reference, a_node, no_segments, word_segment, value_segment, absent_nil, absent_cons, unnamed, unnamed_zero}
 use Rattle.amf3_spelling.proofs.Amf3Rows.{inner, spelled_by, an_empty_array}
-use Rattle.amf3_spelling.proofs.KindRows.{flag_part, single_node, counted, start, a_is, c_is, a_text_is, c_text_is}
+use Rattle.amf3_spelling.proofs.KindRows.{flag_segment, single_node, counted, start, a_is, c_is, a_text_is, c_text_is}
 
-pub order_kept : by_name one_name ≡ one_name
-order_kept = refl
+pub order_stays : by_name one_name ≡ one_name
+order_stays = refl
 
 pub name_twice : Spelled3 free named_twice (0x09 ∷ 0x01 ∷ 0x03 ∷ 0x61 ∷ 0x01 ∷ 0x03 ∷ 0x61 ∷ 0x02 ∷ 0x01 ∷ [])
 name_twice =
@@ -40,11 +40,11 @@ name_twice =
     let x : Built (R no) w = a_leaf I free named_twice (boolean false) w tt (record { fields = []; after = w.words; spelled = (refl, refl) }) in
     spelled_by 1 free named_twice (a_node 0 free named_twice 0 no_tables ((0x61 ∷ [], leaf null) ∷ (0x61 ∷ [], leaf (boolean false)) ∷ []) 1 (omega arith) (absent_nil 0) tt refl tt (a_is, (a_is, tt)) (omega arith)
     (both _ _ start (counted free array [] 1 start (refl, (refl, refl)))
-    (word_part R free (0x61 ∷ []) (value (leaf null) ∷ word (0x61 ∷ []) ∷ value no ∷ word [] ∷ []) start a
-    (value_part R free (leaf null) (word (0x61 ∷ []) ∷ value no ∷ word [] ∷ []) u (a_null I free named_twice u)
-    (word_part R free (0x61 ∷ []) (value no ∷ word [] ∷ []) u b
-    (value_part R free no (word [] ∷ []) w x
-    (word_part R free [] [] w (no_text free w.words) (no_parts R free w))))))))
+    (word_segment R free (0x61 ∷ []) (value (leaf null) ∷ word (0x61 ∷ []) ∷ value no ∷ word [] ∷ []) start a
+    (value_segment R free (leaf null) (word (0x61 ∷ []) ∷ value no ∷ word [] ∷ []) u (a_null I free named_twice u)
+    (word_segment R free (0x61 ∷ []) (value no ∷ word [] ∷ []) u b
+    (value_segment R free no (word [] ∷ []) w x
+    (word_segment R free [] [] w (no_text free w.words) (no_segments R free w))))))))
 
 pub name_by_place : Spelled3 canonical named_twice (0x09 ∷ 0x01 ∷ 0x03 ∷ 0x61 ∷ 0x01 ∷ 0x00 ∷ 0x02 ∷ 0x01 ∷ [])
 name_by_place =
@@ -58,11 +58,11 @@ name_by_place =
     let x : Built (R no) w = a_leaf I canonical named_twice (boolean false) w tt (record { fields = []; after = w.words; spelled = (refl, refl) }) in
     spelled_by 1 canonical named_twice (a_node 0 canonical named_twice 0 no_tables ((0x61 ∷ [], leaf null) ∷ (0x61 ∷ [], leaf (boolean false)) ∷ []) 1 (omega arith) (absent_nil 0) tt refl refl (a_is, (a_is, tt)) (omega arith)
     (both _ _ start (counted canonical array [] 1 start (refl, (refl, refl)))
-    (word_part R canonical (0x61 ∷ []) (value (leaf null) ∷ word (0x61 ∷ []) ∷ value no ∷ word [] ∷ []) start a
-    (value_part R canonical (leaf null) (word (0x61 ∷ []) ∷ value no ∷ word [] ∷ []) u (a_null I canonical named_twice u)
-    (word_part R canonical (0x61 ∷ []) (value no ∷ word [] ∷ []) u b
-    (value_part R canonical no (word [] ∷ []) w x
-    (word_part R canonical [] [] w (no_text canonical w.words) (no_parts R canonical w))))))))
+    (word_segment R canonical (0x61 ∷ []) (value (leaf null) ∷ word (0x61 ∷ []) ∷ value no ∷ word [] ∷ []) start a
+    (value_segment R canonical (leaf null) (word (0x61 ∷ []) ∷ value no ∷ word [] ∷ []) u (a_null I canonical named_twice u)
+    (word_segment R canonical (0x61 ∷ []) (value no ∷ word [] ∷ []) u b
+    (value_segment R canonical no (word [] ∷ []) w x
+    (word_segment R canonical [] [] w (no_text canonical w.words) (no_segments R canonical w))))))))
 
 -- the array closed as it is
 abbrev closed_array : arena.Arena
@@ -100,9 +100,9 @@ typed_values =
     let u : Tables = with_words start c.after in
     spelled_by 1 canonical g (single_node canonical (values false (0x43 ∷ [])) (leaf null ∷ []) 3 refl (omega arith)
     (counted canonical (values false (0x43 ∷ [])) (leaf null ∷ []) 3 start (refl, (refl, refl)))
-    (flag_part R canonical false 0 (word (0x43 ∷ []) ∷ value (leaf null) ∷ []) start (refl, omega arith, omega arith)
-    (word_part R canonical (0x43 ∷ []) (value (leaf null) ∷ []) start c
-    (value_part R canonical (leaf null) [] u (a_null I canonical g u) (no_parts R canonical u)))))
+    (flag_segment R canonical false 0 (word (0x43 ∷ []) ∷ value (leaf null) ∷ []) start (refl, omega arith, omega arith)
+    (word_segment R canonical (0x43 ∷ []) (value (leaf null) ∷ []) start c
+    (value_segment R canonical (leaf null) [] u (a_null I canonical g u) (no_segments R canonical u)))))
 
 -- collections
 
@@ -136,7 +136,7 @@ wrapper_traits_by_place =
     let h : Built (Lifted (HeaderBy canonical (wrapper ArrayCollection) (node 2 ∷ []) 7)) t = first_collection 2 t name (unnamed _ [] (external ArrayCollection) (absent_nil (external ArrayCollection))) in
     let e : Built (Q (node 2)) h.after = an_empty_array 0 canonical two_collections 2 h.after (omega arith) (absent_cons 0 (1 ∷ []) 2 (λ e. omega arith) (absent_cons 1 [] 2 (λ e. omega arith) (absent_nil 2))) refl in
     let x : Built (R (node 1)) start = a_node 1 canonical two_collections 1 start [] 7 (omega arith) (absent_cons 0 [] 1 (λ e. omega arith) (absent_nil 1)) (refl, refl) refl refl tt (omega arith)
-    (both _ _ t h (value_part Q canonical (node 2) [] h.after e (no_parts Q canonical e.after))) in
+    (both _ _ t h (value_segment Q canonical (node 2) [] h.after e (no_segments Q canonical e.after))) in
     let u : Tables = add_node x.after 3 in
     let k : Built (Lifted (HeaderBy canonical (wrapper ArrayCollection) (node 2 ∷ []) 1)) u = lifted (HeaderBy canonical (wrapper ArrayCollection) (node 2 ∷ []) 1) u (record {
       fields = [];
@@ -145,12 +145,12 @@ wrapper_traits_by_place =
     }) in
     let r : Built (Q (node 2)) k.after = a_reference (InlineIn 1 canonical two_collections) canonical two_collections 2 2 k.after refl (omega arith) in
     let y : Built (R (node 3)) x.after = a_node 1 canonical two_collections 3 x.after [] 1 (omega arith) (absent_cons 0 (1 ∷ 2 ∷ []) 3 (λ e. omega arith) (absent_cons 1 (2 ∷ []) 3 (λ e. omega arith) (absent_cons 2 [] 3 (λ e. omega arith) (absent_nil 3)))) (refl, refl) refl refl tt (omega arith)
-    (both _ _ u k (value_part Q canonical (node 2) [] k.after r (no_parts Q canonical r.after))) in
+    (both _ _ u k (value_segment Q canonical (node 2) [] k.after r (no_segments Q canonical r.after))) in
     spelled_by 3 canonical two_collections (a_node 2 canonical two_collections 0 no_tables [] 5 (omega arith) (absent_nil 0) tt refl refl tt (omega arith)
     (both _ _ start (counted canonical array (node 1 ∷ node 3 ∷ []) 5 start (refl, (refl, refl)))
-    (word_part R canonical [] (value (node 1) ∷ value (node 3) ∷ []) start (no_text canonical start.words)
-    (value_part R canonical (node 1) (value (node 3) ∷ []) start x
-    (value_part R canonical (node 3) [] x.after y (no_parts R canonical y.after))))))
+    (word_segment R canonical [] (value (node 1) ∷ value (node 3) ∷ []) start (no_text canonical start.words)
+    (value_segment R canonical (node 1) (value (node 3) ∷ []) start x
+    (value_segment R canonical (node 3) [] x.after y (no_segments R canonical y.after))))))
 
 pub class_by_place : Spelled3 canonical name_and_collection (0x09 ∷ 0x05 ∷ 0x01 ∷ 0x06 ∷ 0x43 ∷ class_name ArrayCollection ++ 0x0A ∷ 0x07 ∷ 0x00 ∷ 0x09 ∷ 0x01 ∷ 0x01 ∷ [])
 class_by_place =
@@ -167,9 +167,9 @@ class_by_place =
     let h : Built (Lifted (HeaderBy canonical (wrapper ArrayCollection) (node 2 ∷ []) 7)) t = first_collection 2 t name (unnamed _ [] (external ArrayCollection) (absent_nil (external ArrayCollection))) in
     let e : Built (Q (node 2)) h.after = an_empty_array 0 canonical name_and_collection 2 h.after (omega arith) (absent_cons 0 (1 ∷ []) 2 (λ e. omega arith) (absent_cons 1 [] 2 (λ e. omega arith) (absent_nil 2))) refl in
     let x : Built (R (node 1)) n.after = a_node 1 canonical name_and_collection 1 n.after [] 7 (omega arith) (absent_cons 0 [] 1 (λ e. omega arith) (absent_nil 1)) (refl, refl) refl refl tt (omega arith)
-    (both _ _ t h (value_part Q canonical (node 2) [] h.after e (no_parts Q canonical e.after))) in
+    (both _ _ t h (value_segment Q canonical (node 2) [] h.after e (no_segments Q canonical e.after))) in
     spelled_by 3 canonical name_and_collection (a_node 2 canonical name_and_collection 0 no_tables [] 5 (omega arith) (absent_nil 0) tt refl refl tt (omega arith)
     (both _ _ start (counted canonical array (leaf (text (class_name ArrayCollection)) ∷ node 1 ∷ []) 5 start (refl, (refl, refl)))
-    (word_part R canonical [] (value v ∷ value (node 1) ∷ []) start (no_text canonical start.words)
-    (value_part R canonical v (value (node 1) ∷ []) start n
-    (value_part R canonical (node 1) [] n.after x (no_parts R canonical x.after))))))
+    (word_segment R canonical [] (value v ∷ value (node 1) ∷ []) start (no_text canonical start.words)
+    (value_segment R canonical v (value (node 1) ∷ []) start n
+    (value_segment R canonical (node 1) [] n.after x (no_segments R canonical x.after))))))

@@ -5,54 +5,54 @@ use Rattle.amf_graph.specs.Graph.{Leaf, undefined, null, boolean, integer, doubl
 use Rattle.amf_graph.specs.Order.{is_array, seconds, Walks, over, past, again, first, IsOrder}
 use Rattle.amf3_spelling.specs.Tables.{Tables, no_tables, add_node}
 use Rattle.amf3_spelling.specs.Refusals3.{leaf_marker}
-use Rattle.amf3_spelling.proofs.ByteSpelling.{Spelling, Part, step, value, byte, values_then, pairs_then, layout, Parts, Placed, Begun, ValueBy, NodeIn, Spells, Spelled, leaf_layout}
-use Rattle.amf3_spelling.proofs.Kept3.{Keeps, Proper, kept_begin, keeps_step, keeps_spells}
+use Rattle.amf3_spelling.proofs.ByteSpelling.{Spelling, Segment, step, value, byte, values_then, pairs_then, segments_of, Segments, Placed, Begun, ValueBy, NodeIn, Spells, Spelled, leaf_segments}
+use Rattle.amf3_spelling.proofs.Stays3.{Keeps, Proper, stays_begun, keeps_step, keeps_spells}
 use Rattle.amf3_spelling.proofs.Fixed3.{proper_none}
 
 -- the values of a node in the order in which they are met, its pairs in the order w
 abbrev pub met : Head → List (List ℕ × Value) → List Value → List Value
 met a w vs = cond (is_array a) (seconds w ++ vs) (vs ++ seconds w)
 
--- the values among the parts
-abbrev pub part_values : List Part → List Value
-part_values [] = []
-part_values (step x ∷ ps) = part_values ps
-part_values (value v ∷ ps) = v ∷ part_values ps
+-- the values among the segments
+abbrev pub segment_values : List Segment → List Value
+segment_values [] = []
+segment_values (step x ∷ ps) = segment_values ps
+segment_values (value v ∷ ps) = v ∷ segment_values ps
 
-values_part : (vs : List Value) (ps : List Part) → part_values (values_then vs ps) ≡ vs ++ part_values ps
-values_part [] ps = refl
-values_part (v ∷ vs) ps = ap (λ w. v ∷ w) (values_part vs ps)
+values_segment : (vs : List Value) (ps : List Segment) → segment_values (values_then vs ps) ≡ vs ++ segment_values ps
+values_segment [] ps = refl
+values_segment (v ∷ vs) ps = ap (λ w. v ∷ w) (values_segment vs ps)
 
-pairs_part : (w : List (List ℕ × Value)) (ps : List Part) → part_values (pairs_then w ps) ≡ seconds w ++ part_values ps
-pairs_part [] ps = refl
-pairs_part (p ∷ w) ps = ap (λ v. p.1 ∷ v) (pairs_part w ps)
+pairs_segment : (w : List (List ℕ × Value)) (ps : List Segment) → segment_values (pairs_then w ps) ≡ seconds w ++ segment_values ps
+pairs_segment [] ps = refl
+pairs_segment (p ∷ w) ps = ap (λ v. p.1 ∷ v) (pairs_segment w ps)
 
-members_part : (f : Bool) (w : List (List ℕ × Value)) → AreMembers f w → part_values (cond f (pairs_then w []) []) ≡ seconds w
-members_part true w e = pairs_part w [] ∙ append-nil (seconds w)
-members_part false w e = ap seconds (sym e)
+members_segment : (f : Bool) (w : List (List ℕ × Value)) → AreMembers f w → segment_values (cond f (pairs_then w []) []) ≡ seconds w
+members_segment true w e = pairs_segment w [] ∙ append-nil (seconds w)
+members_segment false w e = ap seconds (sym e)
 
 both_none : (w : List (List ℕ × Value)) (vs : List Value) → w ≡ [] → vs ≡ [] → [] ≡ vs ++ seconds w
 both_none w vs e f = ap (λ v. v ++ seconds []) (sym f) ∙ ap (λ v. vs ++ seconds v) (sym e)
 
-no_names : (w : List (List ℕ × Value)) (vs : List Value) → w ≡ [] → part_values (values_then vs []) ≡ vs ++ seconds w
-no_names w vs e = values_part vs [] ∙ ap (λ v. vs ++ seconds v) (sym e)
+no_names : (w : List (List ℕ × Value)) (vs : List Value) → w ≡ [] → segment_values (values_then vs []) ≡ vs ++ seconds w
+no_names w vs e = values_segment vs [] ∙ ap (λ v. vs ++ seconds v) (sym e)
 
--- kind by kind: the values among the parts are the values met
-pub layout_met : (a : Head) (w : List (List ℕ × Value)) (vs : List Value) → Fits a w vs → part_values (layout a w vs) ≡ met a w vs
-layout_met (date p) w vs f = both_none w vs f.1 f.2
-layout_met array w vs f = pairs_part w (values_then vs []) ∙ ap (λ v. seconds w ++ v) (values_part vs [] ∙ append-nil vs)
-layout_met (object t) w vs f = values_part vs (cond t.dynamic (pairs_then w []) []) ∙ ap (λ v. vs ++ v) (members_part t.dynamic w f.1)
-layout_met (wrapper c) w vs f = no_names w vs f.0
-layout_met (bytes x) w vs f = both_none w vs f.1 f.2
-layout_met (xml_document x) w vs f = both_none w vs f.1 f.2
-layout_met (xml x) w vs f = both_none w vs f.1 f.2
-layout_met (ints i x) w vs f = both_none w vs f.1 f.2
-layout_met (uints i x) w vs f = both_none w vs f.1 f.2
-layout_met (doubles i x) w vs f = both_none w vs f.1 f.2
-layout_met (values i c) w vs f = no_names w vs f
-layout_met (dictionary i) w vs f = no_names w vs f.0
+-- kind by kind: the values among the segments are the values met
+pub segments_met : (a : Head) (w : List (List ℕ × Value)) (vs : List Value) → Fits a w vs → segment_values (segments_of a w vs) ≡ met a w vs
+segments_met (date p) w vs f = both_none w vs f.1 f.2
+segments_met array w vs f = pairs_segment w (values_then vs []) ∙ ap (λ v. seconds w ++ v) (values_segment vs [] ∙ append-nil vs)
+segments_met (object t) w vs f = values_segment vs (cond t.dynamic (pairs_then w []) []) ∙ ap (λ v. vs ++ v) (members_segment t.dynamic w f.1)
+segments_met (wrapper c) w vs f = no_names w vs f.0
+segments_met (bytes x) w vs f = both_none w vs f.1 f.2
+segments_met (xml_document x) w vs f = both_none w vs f.1 f.2
+segments_met (xml x) w vs f = both_none w vs f.1 f.2
+segments_met (ints i x) w vs f = both_none w vs f.1 f.2
+segments_met (uints i x) w vs f = both_none w vs f.1 f.2
+segments_met (doubles i x) w vs f = both_none w vs f.1 f.2
+segments_met (values i c) w vs f = no_names w vs f
+segments_met (dictionary i) w vs f = no_names w vs f.0
 
-pub leaf_none : (x : Leaf) → part_values (leaf_layout x) ≡ []
+pub leaf_none : (x : Leaf) → segment_values (leaf_segments x) ≡ []
 leaf_none undefined = refl
 leaf_none null = refl
 leaf_none (boolean b) = refl
@@ -65,15 +65,15 @@ module _ (g : Graph) where
   abbrev Leads : Spelling Tables → List Value → Type 0
   Leads A vs = (t : Tables) (b : List ℕ) (t' : Tables) → Proper g t → A t b t' → (ws : List Value) (zs : List ℕ) → Walks g t'.done ws zs → Walks g t.done (vs ++ ws) zs
 
-  leads_parts : (R : Value → Spelling Tables) → ((v : Value) → Keeps g (R v)) → ((v : Value) → Leads (R v) (v ∷ [])) → (ps : List Part) → Leads (Parts R canonical ps) (part_values ps)
-  leads_parts R k f [] t b t' d p ws zs w = subst (λ (x : Tables). Walks g x.done ws zs) p.1 w
-  leads_parts R k f (step x ∷ ps) t b t' d p ws zs w =
+  leads_segments : (R : Value → Spelling Tables) → ((v : Value) → Keeps g (R v)) → ((v : Value) → Leads (R v) (v ∷ [])) → (ps : List Segment) → Leads (Segments R canonical ps) (segment_values ps)
+  leads_segments R k f [] t b t' d p ws zs w = subst (λ (x : Tables). Walks g x.done ws zs) p.1 w
+  leads_segments R k f (step x ∷ ps) t b t' d p ws zs w =
       let kept = keeps_step g canonical x t p.front p.mid p.first in
-      let o = leads_parts R k f ps p.mid p.back t' (kept.proper d) p.second ws zs w in
-      subst (λ (x : Tables). Walks g x.done (part_values ps ++ ws) zs) p.first.2 o
-  leads_parts R k f (value v ∷ ps) t b t' d p ws zs w =
+      let o = leads_segments R k f ps p.mid p.back t' (kept.proper d) p.second ws zs w in
+      subst (λ (x : Tables). Walks g x.done (segment_values ps ++ ws) zs) p.first.2 o
+  leads_segments R k f (value v ∷ ps) t b t' d p ws zs w =
       let kept = k v t p.front p.mid p.first in
-      f v t p.front p.mid d p.first (part_values ps ++ ws) zs (leads_parts R k f ps p.mid p.back t' (kept.proper d) p.second ws zs w)
+      f v t p.front p.mid d p.first (segment_values ps ++ ws) zs (leads_segments R k f ps p.mid p.back t' (kept.proper d) p.second ws zs w)
 
   leads_placed : (i : ℕ) → Leads (Placed canonical i) (node i ∷ [])
   leads_placed i t b t' d p ws zs w = let o = d.listed p.place i p.here in again i o.0 o.1 (subst (λ (x : Tables). Walks g x.done ws zs) p.same w)
@@ -81,14 +81,14 @@ module _ (g : Graph) where
   leads_begun : (R : Value → Spelling Tables) → ((v : Value) → Keeps g (R v)) → ((v : Value) → Leads (R v) (v ∷ [])) → (i : ℕ) → Leads (Begun R canonical g i) (node i ∷ [])
   leads_begun R k f i t b t' d p ws zs w =
       let a = node_at g i in
-      let o = leads_parts R k f (layout a.head p.wire a.values) (add_node t i) b t' ((kept_begin g t i p.exists p.new).proper d) p.body ws zs w in
-      first i p.exists p.new (subst (λ x. Walks g (t.done ++ i ∷ []) (met a.head x a.values ++ ws) zs) p.in_order (subst (λ x. Walks g (t.done ++ i ∷ []) (x ++ ws) zs) (layout_met a.head p.wire a.values p.fits) o))
+      let o = leads_segments R k f (segments_of a.head p.wire a.values) (add_node t i) b t' ((stays_begun g t i p.exists p.new).proper d) p.body ws zs w in
+      first i p.exists p.new (subst (λ x. Walks g (t.done ++ i ∷ []) (met a.head x a.values ++ ws) zs) p.in_order (subst (λ x. Walks g (t.done ++ i ∷ []) (x ++ ws) zs) (segments_met a.head p.wire a.values p.fits) o))
 
   leads_value : (N : ℕ → Spelling Tables) → ((i : ℕ) → Leads (N i) (node i ∷ [])) → (v : Value) → Leads (ValueBy N canonical g v) (v ∷ [])
   leads_value N f (leaf x) t b t' d p ws zs w =
-      past x (go (leaf_none x) (leads_parts (λ v t b t'. ⊥) (λ v t b t' e. absurd e) (λ v t b t' d e. absurd e) (step (byte (leaf_marker x)) ∷ leaf_layout x) t b t' d p.1 ws zs w))
+      past x (go (leaf_none x) (leads_segments (λ v t b t'. ⊥) (λ v t b t' e. absurd e) (λ v t b t' d e. absurd e) (step (byte (leaf_marker x)) ∷ leaf_segments x) t b t' d p.1 ws zs w))
     where
-      go : part_values (leaf_layout x) ≡ [] → Walks g t.done (part_values (leaf_layout x) ++ ws) zs → Walks g t.done ws zs
+      go : segment_values (leaf_segments x) ≡ [] → Walks g t.done (segment_values (leaf_segments x) ++ ws) zs → Walks g t.done ws zs
       go e w = subst (λ y. Walks g t.done (y ++ ws) zs) e w
   leads_value N f (node i) t b t' d p ws zs w = f i t p.0 t' d p.2 ws zs w
 

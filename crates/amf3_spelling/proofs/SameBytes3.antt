@@ -10,7 +10,7 @@ use Rattle.amf_graph.proofs.Places.{zipped, zipped_at, at_zipped}
 use Rattle.amf3_spelling.specs.Tables.{no_tables}
 use Rattle.amf3_spelling.proofs.ByteSpelling.{Spelled}
 use Rattle.amf3_spelling.proofs.Fixed3.{proper_none}
-use Rattle.amf3_spelling.proofs.Kept3.{keeps_spells}
+use Rattle.amf3_spelling.proofs.Stays3.{keeps_spells}
 use Rattle.amf3_spelling.proofs.Alike3.{Paired, alike}
 
 -- two graphs that one byte list spells are isomorphic

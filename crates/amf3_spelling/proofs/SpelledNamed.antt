@@ -14,7 +14,7 @@ use Rattle.amf_graph.proofs.Walks.{In}
 use Rattle.amf3_spelling.specs.Tables.{Tables, no_tables, add_node}
 use Rattle.amf3_spelling.specs.Refusals3.{leaf_marker}
 use Rattle.amf3_spelling.specs.Spells3.{IsSpelling3}
-use Rattle.amf3_spelling.proofs.ByteSpelling.{Spelling, Part, step, value, byte, layout, leaf_layout, Parts, Placed, Begun, ValueBy, NodeIn, Spells}
+use Rattle.amf3_spelling.proofs.ByteSpelling.{Spelling, Segment, step, value, byte, segments_of, leaf_segments, Segments, Placed, Begun, ValueBy, NodeIn, Spells}
 use Rattle.amf3_spelling.proofs.Alike3.{Paired, After, alike}
 use Rattle.amf3_spelling.proofs.BytesOf.{to_spells}
 
@@ -30,20 +30,20 @@ module _ (g : Graph) (s : Style) where
   same_names : (t t' : Tables) → t'.done ≡ t.done → AreNamed g t → AreNamed g t'
   same_names t t' e h k i a = h k i (subst (λ w. slice_get w k ≡ Some i) e a)
 
-  names_parts : (R : Value → Spelling Tables) → ((v : Value) → KeepsNames g (R v)) → (ps : List Part) → KeepsNames g (Parts R s ps)
-  names_parts R f [] t b t' p h = same_names t t' (ap (λ (w : Tables). w.done) p.1) h
-  names_parts R f (step x ∷ ps) t b t' p h = names_parts R f ps p.mid p.back t' p.second (same_names t p.mid (ap (λ (w : Tables). w.done) p.first.2) h)
-  names_parts R f (value v ∷ ps) t b t' p h = names_parts R f ps p.mid p.back t' p.second (f v t p.front p.mid p.first h)
+  names_segments : (R : Value → Spelling Tables) → ((v : Value) → KeepsNames g (R v)) → (ps : List Segment) → KeepsNames g (Segments R s ps)
+  names_segments R f [] t b t' p h = same_names t t' (ap (λ (w : Tables). w.done) p.1) h
+  names_segments R f (step x ∷ ps) t b t' p h = names_segments R f ps p.mid p.back t' p.second (same_names t p.mid (ap (λ (w : Tables). w.done) p.first.2) h)
+  names_segments R f (value v ∷ ps) t b t' p h = names_segments R f ps p.mid p.back t' p.second (f v t p.front p.mid p.first h)
 
   names_begun : (R : Value → Spelling Tables) → ((v : Value) → KeepsNames g (R v)) → (i : ℕ) → KeepsNames g (Begun R s g i)
   names_begun R f i t b t' p h =
       let a = node_at g i in
       let named : AllNamed a.names = by_name_all_back (λ q. q.0 ≢ []) a.names (subst (λ w. AllNamed w) p.sorted (by_name_all (λ q. q.0 ≢ []) p.wire p.named)) in
-      names_parts R f (layout a.head p.wire a.values) (add_node t i) b t' p.body
+      names_segments R f (segments_of a.head p.wire a.values) (add_node t i) b t' p.body
       (λ k j e. elim (at_push t.done i k j e) [ inl q ↦ h k j q | inr q ↦ subst (λ n. AllNamed (node_at g n).names) q.1 named ])
 
   pub names_value : (N : ℕ → Spelling Tables) → ((i : ℕ) → KeepsNames g (N i)) → (v : Value) → KeepsNames g (ValueBy N s g v)
-  names_value N f (leaf x) t b t' p h = names_parts (λ v t b t'. ⊥) (λ v t b t' e. absurd e) (step (byte (leaf_marker x)) ∷ leaf_layout x) t b t' p.1 h
+  names_value N f (leaf x) t b t' p h = names_segments (λ v t b t'. ⊥) (λ v t b t' e. absurd e) (step (byte (leaf_marker x)) ∷ leaf_segments x) t b t' p.1 h
   names_value N f (node i) t b t' p h = f i t p.0 t' p.2 h
 
   names_placed : (i : ℕ) → KeepsNames g (Placed s i)

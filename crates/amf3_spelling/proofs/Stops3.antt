@@ -17,9 +17,9 @@ use Rattle.amf3_spelling.specs.Tables.{Tables, add_node}
 use Rattle.amf3_spelling.specs.Refusals3.{leaf_marker}
 use Rattle.amf3_spelling.specs.Lacks3.{IsLack3}
 use Rattle.amf3_spelling.specs.Lacking3.{LacksFrom, Lacking3}
-use Rattle.amf3_spelling.specs.ByteSpelling.{Spelling, Part, step, value, byte, layout, leaf_layout, Parts, Placed, Begun, ValueBy, NodeIn, Spells}
-use Rattle.amf3_spelling.proofs.Kept3.{Keeps, keeps_step, keeps_spells}
-use Rattle.amf3_spelling.proofs.Ordered3.{part_values, met, layout_met, leaf_none}
+use Rattle.amf3_spelling.specs.ByteSpelling.{Spelling, Segment, step, value, byte, segments_of, leaf_segments, Segments, Placed, Begun, ValueBy, NodeIn, Spells}
+use Rattle.amf3_spelling.proofs.Stays3.{Keeps, keeps_step, keeps_spells}
+use Rattle.amf3_spelling.proofs.Ordered3.{segment_values, met, segments_met, leaf_none}
 use Rattle.amf3_spelling.proofs.LacksAlike.{lack_is}
 
 module _ (g : Graph) where
@@ -59,18 +59,18 @@ module _ (g : Graph) where
   abbrev Follows : Spelling Tables → List Value → Type 0
   Follows A vs = (t : Tables) (b : List ℕ) (t' : Tables) → t.nodes ≡ t.done → A t b t' → (ws : List Value) (all : List ℕ) → Walks g t.done (vs ++ ws) all → Over t.done t'.done ws all
 
-  follows_parts : (R : Value → Spelling Tables) → ((v : Value) → Keeps g (R v)) → ((v : Value) → Follows (R v) (v ∷ [])) → (ps : List Part) → Follows (Parts R canonical ps) (part_values ps)
-  follows_parts R q f [] t b t' e p ws all w = over_none t t' ws all (ap (λ (x : Tables). x.done) p.1) w
-  follows_parts R q f (step x ∷ ps) t b t' e p ws all w =
+  follows_segments : (R : Value → Spelling Tables) → ((v : Value) → Keeps g (R v)) → ((v : Value) → Follows (R v) (v ∷ [])) → (ps : List Segment) → Follows (Segments R canonical ps) (segment_values ps)
+  follows_segments R q f [] t b t' e p ws all w = over_none t t' ws all (ap (λ (x : Tables). x.done) p.1) w
+  follows_segments R q f (step x ∷ ps) t b t' e p ws all w =
       let kept = keeps_step g canonical x t p.front p.mid p.first in
       let same : p.mid.done ≡ t.done = ap (λ (x : Tables). x.done) p.first.2 in
-      let o = follows_parts R q f ps p.mid p.back t' (kept.level e) p.second ws all (subst (λ x. Walks g x (part_values ps ++ ws) all) (sym same) w) in
+      let o = follows_segments R q f ps p.mid p.back t' (kept.level e) p.second ws all (subst (λ x. Walks g x (segment_values ps ++ ws) all) (sym same) w) in
       subst (λ x. Over x t'.done ws all) same o
-  follows_parts R q f (value v ∷ ps) t b t' e p ws all w =
+  follows_segments R q f (value v ∷ ps) t b t' e p ws all w =
       let kept = q v t p.front p.mid p.first in
-      let o = f v t p.front p.mid e p.first (part_values ps ++ ws) all w in
-      let n = follows_parts R q f ps p.mid p.back t' (kept.level e) p.second ws all o.on in
-      over_both t.done p.mid.done t'.done (part_values ps ++ ws) ws all o n
+      let o = f v t p.front p.mid e p.first (segment_values ps ++ ws) all w in
+      let n = follows_segments R q f ps p.mid p.back t' (kept.level e) p.second ws all o.on in
+      over_both t.done p.mid.done t'.done (segment_values ps ++ ws) ws all o n
 
   follows_placed : (i : ℕ) → Follows (Placed canonical i) (node i ∷ [])
   follows_placed i t b t' e p ws all (again j m q w) = over_none t t' ws all (ap (λ (x : Tables). x.done) p.same) w
@@ -94,13 +94,13 @@ module _ (g : Graph) where
   follows_begun R q f i t b t' e p ws all (again j m h w) = absurd (p.new m h)
   follows_begun R q f i t b t' e p ws all (first j there new w) =
       let a = node_at g i in
-      let meets : part_values (layout a.head p.wire a.values) ≡ values_met a = layout_met a.head p.wire a.values p.fits ∙ ap (λ x. met a.head x a.values) p.in_order in
-      let o = follows_parts R q f (layout a.head p.wire a.values) (add_node t i) b t' (ap (λ x. x ++ i ∷ []) e) p.body ws all (subst (λ x. Walks g (t.done ++ i ∷ []) (x ++ ws) all) (sym meets) w) in
+      let meets : segment_values (segments_of a.head p.wire a.values) ≡ values_met a = segments_met a.head p.wire a.values p.fits ∙ ap (λ x. met a.head x a.values) p.in_order in
+      let o = follows_segments R q f (segments_of a.head p.wire a.values) (add_node t i) b t' (ap (λ x. x ++ i ∷ []) e) p.body ws all (subst (λ x. Walks g (t.done ++ i ∷ []) (x ++ ws) all) (sym meets) w) in
       over_node i t.done t'.done ws (values_met a ++ ws) all (by_name_all_back (λ p. p.0 ≢ []) a.names (subst (λ x. AllNamed x) p.in_order p.named)) w o
 
   follows_value : (N : ℕ → Spelling Tables) → ((i : ℕ) → Follows (N i) (node i ∷ [])) → (v : Value) → Follows (ValueBy N canonical g v) (v ∷ [])
   follows_value N f (leaf x) t b t' e p ws all (past y w) =
-      follows_parts (λ v t b t'. ⊥) (λ v t b t' e. absurd e) (λ v t b t' d e. absurd e) (step (byte (leaf_marker x)) ∷ leaf_layout x) t b t' e p.1 ws all
+      follows_segments (λ v t b t'. ⊥) (λ v t b t' e. absurd e) (λ v t b t' d e. absurd e) (step (byte (leaf_marker x)) ∷ leaf_segments x) t b t' e p.1 ws all
       (subst (λ y. Walks g t.done (y ++ ws) all) (sym (leaf_none x)) w)
   follows_value N f (node i) t b t' e p ws all w = f i t p.0 t' e p.2 ws all w
 
@@ -109,15 +109,15 @@ module _ (g : Graph) where
   follows_node (suc n) i t b t' e (inl p) ws all w = follows_placed i t b t' e p ws all w
   follows_node (suc n) i t b t' e (inr p) ws all w = follows_begun (Spells n canonical g) (keeps_spells g canonical n) (follows_value (NodeIn n canonical g) (follows_node n)) i t b t' e p ws all w
 
-  -- parts that are written whole, and values behind them that stop
-  pub stops_behind : (n : ℕ) (ps : List Part) (t : Tables) (b : List ℕ) (t' : Tables) → t.nodes ≡ t.done → Parts (Spells n canonical g) canonical ps t b t'
-      → (vs : List Value) (number : ℕ) (kind : LackKind) → Lacking3 g vs t'.done number kind → Lacking3 g (part_values ps ++ vs) t.done number kind
+  -- segments that are written whole, and values behind them that stop
+  pub stops_behind : (n : ℕ) (ps : List Segment) (t : Tables) (b : List ℕ) (t' : Tables) → t.nodes ≡ t.done → Segments (Spells n canonical g) canonical ps t b t'
+      → (vs : List Value) (number : ℕ) (kind : LackKind) → Lacking3 g vs t'.done number kind → Lacking3 g (segment_values ps ++ vs) t.done number kind
   stops_behind n ps t b t' even p vs number kind h = record { stops = stops }
     where
-      stops : (ws : List Value) (all : List ℕ) → Walks g t.done ((part_values ps ++ vs) ++ ws) all → FirstFrom (length t.done) all number kind
+      stops : (ws : List Value) (all : List ℕ) → Walks g t.done ((segment_values ps ++ vs) ++ ws) all → FirstFrom (length t.done) all number kind
       stops ws all w =
-          let o = follows_parts (Spells n canonical g) (keeps_spells g canonical n) (follows_value (NodeIn n canonical g) (follows_node n)) ps t b t' even p (vs ++ ws) all
-          (subst (λ x. Walks g t.done x all) (append_assoc (part_values ps) vs ws) w) in
+          let o = follows_segments (Spells n canonical g) (keeps_spells g canonical n) (follows_value (NodeIn n canonical g) (follows_node n)) ps t b t' even p (vs ++ ws) all
+          (subst (λ x. Walks g t.done x all) (append_assoc (segment_values ps) vs ws) w) in
           first_from (length t.done) (length t'.done) all number kind o.longer o.named (h.stops ws all o.on)
 
   -- values that stop, whatever values stand behind them

@@ -11,7 +11,7 @@ use Rattle.amf_graph.specs.Order.{Absent}
 use Rattle.amf3_spelling.specs.Tables.{Entry, plain, external, Words, Tables, no_tables, add_text, add_entry, with_words, add_node}
 use Rattle.amf3_spelling.specs.Refusals3.{marker, leaf_marker}
 use Rattle.amf3_spelling.specs.Words3.{NoPlaceBelow, EntryNumber, nameable_texts, nameable_traits}
-use Rattle.amf3_spelling.specs.Parts3.{IsFlag}
+use Rattle.amf3_spelling.specs.Segments3.{IsFlag}
 
 -- a state before, the bytes, the state after
 abbrev pub Spelling : Type 0 → Type 1
@@ -48,7 +48,7 @@ pub data TraitsOf (s : Style) (e : Entry) (t : Words) (b : List ℕ) (t' : Words
   given : Only s (NoPlaceBelow nameable_traits t.traits e) → (n : ℕ) (header rest : List ℕ) (u : Words) → EntryNumber s e n → IsU29 s n header → Texts s (entry_texts e) t rest u → b ≡ header ++ rest → t' ≡ add_entry u e → TraitsOf s e t b t'
   indexed : (k : ℕ) → slice_get t.traits k ≡ Some e → Only s (NoPlaceBelow k t.traits e) → IsU29 s (4 * k + 1) b → t' ≡ t → TraitsOf s e t b t'
 
--- a step of a layout that names no node
+-- a step, which names no node
 pub data Step : Type 0 where
   byte : (n : ℕ) → Step
   number : (n : ℕ) → Step
@@ -68,16 +68,16 @@ StepOf s (word x) = Text s x
 StepOf s (traits e) = TraitsOf s e
 
 -- what a node's bytes after its marker spell, in order
-pub data Part : Type 0 where
-  step : (x : Step) → Part
-  value : (v : Value) → Part
+pub data Segment : Type 0 where
+  step : (x : Step) → Segment
+  value : (v : Value) → Segment
 
-abbrev pub values_then : List Value → List Part → List Part
+abbrev pub values_then : List Value → List Segment → List Segment
 values_then [] ps = ps
 values_then (v ∷ vs) ps = value v ∷ values_then vs ps
 
 -- pairs, ended by the empty text
-abbrev pub pairs_then : List (List ℕ × Value) → List Part → List Part
+abbrev pub pairs_then : List (List ℕ × Value) → List Segment → List Segment
 pairs_then [] ps = step (word []) ∷ ps
 pairs_then (p ∷ w) ps = step (word p.0) ∷ value p.1 ∷ pairs_then w ps
 
@@ -108,8 +108,8 @@ header_step (doubles f x) vs = number (2 * length x + 1)
 header_step (values f c) vs = number (2 * length vs + 1)
 header_step (dictionary f) vs = number (length vs + 1)
 
--- the parts behind the header of a node whose pairs stand in the order w
-abbrev pub body : Head → List (List ℕ × Value) → List Value → List Part
+-- the segments behind the header of a node whose pairs stand in the order w
+abbrev pub body : Head → List (List ℕ × Value) → List Value → List Segment
 body (date p) w vs = step (raw (to_be_bytes w64 p)) ∷ []
 body array w vs = pairs_then w (values_then vs [])
 body (object t) w vs = values_then vs (cond t.dynamic (pairs_then w []) [])
@@ -123,26 +123,26 @@ body (doubles f x) w vs = step (flag f) ∷ step (raw (eight_bytes x)) ∷ []
 body (values f c) w vs = step (flag f) ∷ step (word c) ∷ values_then vs []
 body (dictionary f) w vs = step (flag f) ∷ values_then vs []
 
-abbrev pub layout : Head → List (List ℕ × Value) → List Value → List Part
-layout a w vs = step (header_step a vs) ∷ body a w vs
+abbrev pub segments_of : Head → List (List ℕ × Value) → List Value → List Segment
+segments_of a w vs = step (header_step a vs) ∷ body a w vs
 
-abbrev pub leaf_layout : Leaf → List Part
-leaf_layout undefined = []
-leaf_layout null = []
-leaf_layout (boolean b) = []
-leaf_layout (integer n) = step (number (integer_bits n)) ∷ []
-leaf_layout (double p) = step (raw (to_be_bytes w64 p)) ∷ []
-leaf_layout (text x) = step (word x) ∷ []
+abbrev pub leaf_segments : Leaf → List Segment
+leaf_segments undefined = []
+leaf_segments null = []
+leaf_segments (boolean b) = []
+leaf_segments (integer n) = step (number (integer_bits n)) ∷ []
+leaf_segments (double p) = step (raw (to_be_bytes w64 p)) ∷ []
+leaf_segments (text x) = step (word x) ∷ []
 
 -- what changes no table of nodes
 abbrev pub Lifted : Spelling Words → Spelling Tables
 Lifted A t b t' = (w : Words) × A t.words b w × (t' ≡ with_words t w)
 
--- parts one after the other, where R spells a value
-abbrev pub Parts : (Value → Spelling Tables) → Style → List Part → Spelling Tables
-Parts R s [] t b t' = (b ≡ []) × (t' ≡ t)
-Parts R s (step x ∷ ps) t b t' = Then (Lifted (StepOf s x)) (Parts R s ps) t b t'
-Parts R s (value v ∷ ps) t b t' = Then (R v) (Parts R s ps) t b t'
+-- segments one after the other, where R spells a value
+abbrev pub Segments : (Value → Spelling Tables) → Style → List Segment → Spelling Tables
+Segments R s [] t b t' = (b ≡ []) × (t' ≡ t)
+Segments R s (step x ∷ ps) t b t' = Then (Lifted (StepOf s x)) (Segments R s ps) t b t'
+Segments R s (value v ∷ ps) t b t' = Then (R v) (Segments R s ps) t b t'
 
 -- a node that is in its table
 pub record Placed (s : Style) (i : ℕ) (t : Tables) (b : List ℕ) (t' : Tables) : Type 0 where
@@ -160,11 +160,11 @@ pub record Begun (R : Value → Spelling Tables) (s : Style) (g : Graph) (i : �
   pub in_order : Only s (wire ≡ by_name (node_at g i).names)
   pub named : AllNamed wire
   pub fits : Fits (node_at g i).head wire (node_at g i).values
-  pub body : Parts R s (layout (node_at g i).head wire (node_at g i).values) (add_node t i) b t'
+  pub body : Segments R s (segments_of (node_at g i).head wire (node_at g i).values) (add_node t i) b t'
 
 -- N spells a node after its marker
 abbrev pub ValueBy : (ℕ → Spelling Tables) → Style → Graph → Value → Spelling Tables
-ValueBy N s g (leaf x) t b t' = IsLeaf x × Parts (λ v t b t'. ⊥) s (step (byte (leaf_marker x)) ∷ leaf_layout x) t b t'
+ValueBy N s g (leaf x) t b t' = IsLeaf x × Segments (λ v t b t'. ⊥) s (step (byte (leaf_marker x)) ∷ leaf_segments x) t b t'
 ValueBy N s g (node i) t b t' = (c : List ℕ) × (b ≡ marker (node_at g i).head ∷ c) × N i t c t'
 
 -- a node with inline nodes within one another, at most so many with itself

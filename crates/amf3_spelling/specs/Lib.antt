@@ -5,7 +5,7 @@ pub mod Then
 pub mod Markers3
 pub mod Refusals3
 pub mod Words3
-pub mod Parts3
+pub mod Segments3
 pub mod Headers3
 pub mod Nodes3
 pub mod Spells3

@@ -2,7 +2,7 @@
 use Rattle.std.specs.Prelude.{true, false, List, [], ◌∷◌, pos, negsuc}
 use Rattle.amf_wire.specs.Style.{free, canonical}
 use Rattle.amf_graph.specs.Graph.{integer, text, Value, leaf, node, Traits, Head, xml_document, date, array, object, xml, bytes, ints, uints, doubles, values, dictionary, Graph}
-use Rattle.amf3_spelling.specs.Parts3.{IsFlag}
+use Rattle.amf3_spelling.specs.Segments3.{IsFlag}
 use Rattle.amf3_spelling.specs.Spells3.{Spelled3}
 use Rattle.amf3_spelling.specs.WorkedRows3.{items}
 

@@ -44,7 +44,7 @@ name_and_collection = record { nodes = items (leaf (text (class_name ArrayCollec
 
 pub record MoreRows3 : Type 0 where
   -- pairs of one name keep their order
-  pub order_kept : by_name one_name ≡ one_name
+  pub order_stays : by_name one_name ≡ one_name
   pub name_twice : Spelled3 free named_twice (0x09 ∷ 0x01 ∷ 0x03 ∷ 0x61 ∷ 0x01 ∷ 0x03 ∷ 0x61 ∷ 0x02 ∷ 0x01 ∷ [])
   pub name_by_place : Spelled3 canonical named_twice (0x09 ∷ 0x01 ∷ 0x03 ∷ 0x61 ∷ 0x01 ∷ 0x00 ∷ 0x02 ∷ 0x01 ∷ [])
   -- a node that is still open can be named

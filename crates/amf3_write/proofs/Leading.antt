@@ -1,4 +1,4 @@
--- From parts that were to be written to those that are left, step by step.
+-- From segments that were to be written to those that are left, step by step.
 use Rattle.std.proofs.Common.{◌≡◌, ℕ, zero, suc, ◌+◌, ◌*◌, ◌<◌, ◌≤◌, List, [], ◌∷◌, ◌++◌, length, slice_get, Some, sym, refl, ap, ◌∙◌, subst, inl, inr, arith, append_assoc, append-nil}
 use Rattle.amf_wire.specs.Style.{canonical}
 use Rattle.amf_wire.specs.U29.{IsU29}
@@ -11,12 +11,12 @@ use Rattle.amf_graph.proofs.Lists.{at_left, at_end, length_pushed}
 use Rattle.amf_graph.proofs.NameOrder.{by_name_again, by_name_all, by_name_length}
 use Rattle.amf3_spelling.specs.Tables.{Tables, with_words, add_node}
 use Rattle.amf3_spelling.specs.Refusals3.{marker, leaf_marker}
-use Rattle.amf3_spelling.specs.ByteSpelling.{Then, Step, byte, number, Part, step, value, leaf_layout, layout, Parts, Placed, Begun, ValueBy, NodeIn, Spells}
+use Rattle.amf3_spelling.specs.ByteSpelling.{Then, Step, byte, number, Segment, step, value, leaf_segments, segments_of, Segments, Placed, Begun, ValueBy, NodeIn, Spells}
 use Rattle.amf3_spelling.proofs.BytesOf.{fits_too}
-use Rattle.amf3_spelling.proofs.Ordered3.{layout_met}
+use Rattle.amf3_spelling.proofs.Ordered3.{segments_met}
 use Rattle.amf3_spelling.proofs.Ordered3 as ordered
 use Rattle.amf3_write.specs.declared.output.Output.{Output}
-use Rattle.amf3_write.specs.Contents.{node_parts, part_values}
+use Rattle.amf3_write.specs.Contents.{node_segments, segment_values}
 use Rattle.amf3_write.specs.Writes.{Writes, WritesStep, WritesSteps, WritesValue, IsCanonical, Leads, Stops}
 
 -- Heights.
@@ -24,10 +24,10 @@ use Rattle.amf3_write.specs.Writes.{Writes, WritesStep, WritesSteps, WritesValue
 abbrev Below : (Value → Tables → List ℕ → Tables → Type 0) → (Value → Tables → List ℕ → Tables → Type 0) → Type 0
 Below R S = (v : Value) (t : Tables) (b : List ℕ) (t' : Tables) → R v t b t' → S v t b t'
 
-parts_more : (R S : Value → Tables → List ℕ → Tables → Type 0) → Below R S → (ps : List Part) (t : Tables) (b : List ℕ) (t' : Tables) → Parts R canonical ps t b t' → Parts S canonical ps t b t'
-parts_more R S f [] t b t' h = h
-parts_more R S f (step x ∷ ps) t b t' h = record { front = h.front; back = h.back; mid = h.mid; joined = h.joined; first = h.first; second = parts_more R S f ps h.mid h.back t' h.second }
-parts_more R S f (value v ∷ ps) t b t' h = record { front = h.front; back = h.back; mid = h.mid; joined = h.joined; first = f v t h.front h.mid h.first; second = parts_more R S f ps h.mid h.back t' h.second }
+segments_more : (R S : Value → Tables → List ℕ → Tables → Type 0) → Below R S → (ps : List Segment) (t : Tables) (b : List ℕ) (t' : Tables) → Segments R canonical ps t b t' → Segments S canonical ps t b t'
+segments_more R S f [] t b t' h = h
+segments_more R S f (step x ∷ ps) t b t' h = record { front = h.front; back = h.back; mid = h.mid; joined = h.joined; first = h.first; second = segments_more R S f ps h.mid h.back t' h.second }
+segments_more R S f (value v ∷ ps) t b t' h = record { front = h.front; back = h.back; mid = h.mid; joined = h.joined; first = f v t h.front h.mid h.first; second = segments_more R S f ps h.mid h.back t' h.second }
 
 module _ (g : Graph) where
   abbrev At : ℕ → Value → Tables → List ℕ → Tables → Type 0
@@ -58,14 +58,14 @@ module _ (g : Graph) where
         in_order = p.in_order;
         named = p.named;
         fits = p.fits;
-        body = parts_more (At d) (At (d + k)) f (layout (node_at g i).head p.wire (node_at g i).values) (add_node t i) b t' p.body;
+        body = segments_more (At d) (At (d + k)) f (segments_of (node_at g i).head p.wire (node_at g i).values) (add_node t i) b t' p.body;
       })
 
   higher : (d k : ℕ) → Below (At d) (At (d + k))
   higher d k = value_more d (d + k) (node_more d k)
 
   -- values of any heights are values of one height
-  one_height : (ps : List Part) (t : Tables) (b : List ℕ) (t' : Tables) → Parts (IsCanonical g) canonical ps t b t' → (d : ℕ) × Parts (At d) canonical ps t b t'
+  one_height : (ps : List Segment) (t : Tables) (b : List ℕ) (t' : Tables) → Segments (IsCanonical g) canonical ps t b t' → (d : ℕ) × Segments (At d) canonical ps t b t'
   one_height [] t b t' h = (0, h)
   one_height (step x ∷ ps) t b t' h = let o = one_height ps h.mid h.back t' h.second in (o.0, record { front = h.front; back = h.back; mid = h.mid; joined = h.joined; first = h.first; second = o.1 })
   one_height (value v ∷ ps) t b t' h =
@@ -79,25 +79,25 @@ module _ (g : Graph) where
           mid = h.mid;
           joined = h.joined;
           first = higher d o.0 v t h.front h.mid h.first.1;
-          second = subst (λ n. Parts (At n) canonical ps h.mid h.back t') e (parts_more (At o.0) (At (o.0 + d)) (higher o.0 d) ps h.mid h.back t' o.1);
+          second = subst (λ n. Segments (At n) canonical ps h.mid h.back t') e (segments_more (At o.0) (At (o.0 + d)) (higher o.0 d) ps h.mid h.back t' o.1);
         },
       )
 
--- Parts in two pieces.
+-- Segments in two runs.
 
-pub record Split (R : Value → Tables → List ℕ → Tables → Type 0) (ps qs : List Part) (t : Tables) (b : List ℕ) (t' : Tables) : Type 0 where
+pub record Split (R : Value → Tables → List ℕ → Tables → Type 0) (ps qs : List Segment) (t : Tables) (b : List ℕ) (t' : Tables) : Type 0 where
   pub front : List ℕ
   pub back : List ℕ
   pub mid : Tables
   pub joined : b ≡ front ++ back
-  pub first : Parts R canonical ps t front mid
-  pub second : Parts R canonical qs mid back t'
+  pub first : Segments R canonical ps t front mid
+  pub second : Segments R canonical qs mid back t'
 
 module _ (R : Value → Tables → List ℕ → Tables → Type 0) where
-  parts_split : (ps qs : List Part) (t : Tables) (b : List ℕ) (t' : Tables) → Parts R canonical (ps ++ qs) t b t' → Split R ps qs t b t'
-  parts_split [] qs t b t' h = record { front = []; back = b; mid = t; joined = refl; first = (refl, refl); second = h }
-  parts_split (step x ∷ ps) qs t b t' h =
-      let o = parts_split ps qs h.mid h.back t' h.second in record {
+  segments_split : (ps qs : List Segment) (t : Tables) (b : List ℕ) (t' : Tables) → Segments R canonical (ps ++ qs) t b t' → Split R ps qs t b t'
+  segments_split [] qs t b t' h = record { front = []; back = b; mid = t; joined = refl; first = (refl, refl); second = h }
+  segments_split (step x ∷ ps) qs t b t' h =
+      let o = segments_split ps qs h.mid h.back t' h.second in record {
         front = h.front ++ o.front;
         back = o.back;
         mid = o.mid;
@@ -105,8 +105,8 @@ module _ (R : Value → Tables → List ℕ → Tables → Type 0) where
         first = record { front = h.front; back = o.front; mid = h.mid; joined = refl; first = h.first; second = o.first };
         second = o.second;
       }
-  parts_split (value v ∷ ps) qs t b t' h =
-      let o = parts_split ps qs h.mid h.back t' h.second in record {
+  segments_split (value v ∷ ps) qs t b t' h =
+      let o = segments_split ps qs h.mid h.back t' h.second in record {
         front = h.front ++ o.front;
         back = o.back;
         mid = o.mid;
@@ -115,9 +115,9 @@ module _ (R : Value → Tables → List ℕ → Tables → Type 0) where
         second = o.second;
       }
 
-  -- steps alone, and then parts
-  steps_then : (ps qs : List Part) (t u t' : Tables) (b c : List ℕ) → Parts (λ v t b t'. ⊥) canonical ps t b u → Parts R canonical qs u c t' → Parts R canonical (ps ++ qs) t (b ++ c) t'
-  steps_then [] qs t u t' b c h k = subst (λ z. Parts R canonical qs t z t') (sym (ap (λ z. z ++ c) h.0)) (subst (λ z. Parts R canonical qs z c t') h.1 k)
+  -- steps alone, and then segments
+  steps_then : (ps qs : List Segment) (t u t' : Tables) (b c : List ℕ) → Segments (λ v t b t'. ⊥) canonical ps t b u → Segments R canonical qs u c t' → Segments R canonical (ps ++ qs) t (b ++ c) t'
+  steps_then [] qs t u t' b c h k = subst (λ z. Segments R canonical qs t z t') (sym (ap (λ z. z ++ c) h.0)) (subst (λ z. Segments R canonical qs z c t') h.1 k)
   steps_then (step x ∷ ps) qs t u t' b c h k = record {
     front = h.front;
     back = h.back ++ c;
@@ -129,28 +129,28 @@ module _ (R : Value → Tables → List ℕ → Tables → Type 0) where
   steps_then (value v ∷ ps) qs t u t' b c h k = absurd h.first
 
 -- steps enter no node, and have no values
-steps_done : (ps : List Part) (t : Tables) (b : List ℕ) (t' : Tables) → Parts (λ v t b t'. ⊥) canonical ps t b t' → t'.done ≡ t.done
+steps_done : (ps : List Segment) (t : Tables) (b : List ℕ) (t' : Tables) → Segments (λ v t b t'. ⊥) canonical ps t b t' → t'.done ≡ t.done
 steps_done [] t b t' h = ap (λ (w : Tables). w.done) h.1
 steps_done (step x ∷ ps) t b t' h = steps_done ps h.mid h.back t' h.second ∙ ap (λ (w : Tables). w.done) h.first.2
 steps_done (value v ∷ ps) t b t' h = absurd h.first
 
-steps_none : (ps qs : List Part) (t : Tables) (b : List ℕ) (t' : Tables) → Parts (λ v t b t'. ⊥) canonical ps t b t' → part_values (ps ++ qs) ≡ part_values qs
+steps_none : (ps qs : List Segment) (t : Tables) (b : List ℕ) (t' : Tables) → Segments (λ v t b t'. ⊥) canonical ps t b t' → segment_values (ps ++ qs) ≡ segment_values qs
 steps_none [] qs t b t' h = refl
 steps_none (step x ∷ ps) qs t b t' h = steps_none ps qs h.mid h.back t' h.second
 steps_none (value v ∷ ps) qs t b t' h = absurd h.first
 
-pub values_append : (ps qs : List Part) → part_values (ps ++ qs) ≡ part_values ps ++ part_values qs
+pub values_append : (ps qs : List Segment) → segment_values (ps ++ qs) ≡ segment_values ps ++ segment_values qs
 values_append [] qs = refl
 values_append (step x ∷ ps) qs = values_append ps qs
 values_append (value v ∷ ps) qs = ap (λ w. v ∷ w) (values_append ps qs)
 
-same_values : (ps : List Part) → part_values ps ≡ ordered.part_values ps
+same_values : (ps : List Segment) → segment_values ps ≡ ordered.segment_values ps
 same_values [] = refl
 same_values (step x ∷ ps) = same_values ps
 same_values (value v ∷ ps) = ap (λ w. v ∷ w) (same_values ps)
 
-node_values : (g : Graph) (i : ℕ) (ps : List Part) → Fits (node_at g i).head (by_name (node_at g i).names) (node_at g i).values → part_values (node_parts (node_at g i) ++ ps) ≡ values_met (node_at g i) ++ part_values ps
-node_values g i ps f = values_append (node_parts (node_at g i)) ps ∙ ap (λ w. w ++ part_values ps) (same_values (node_parts (node_at g i)) ∙ layout_met (node_at g i).head (by_name (node_at g i).names) (node_at g i).values f)
+node_values : (g : Graph) (i : ℕ) (ps : List Segment) → Fits (node_at g i).head (by_name (node_at g i).names) (node_at g i).values → segment_values (node_segments (node_at g i) ++ ps) ≡ values_met (node_at g i) ++ segment_values ps
+node_values g i ps f = values_append (node_segments (node_at g i)) ps ∙ ap (λ w. w ++ segment_values ps) (same_values (node_segments (node_at g i)) ∙ segments_met (node_at g i).head (by_name (node_at g i).names) (node_at g i).values f)
 
 -- A walk, one value on.
 
@@ -171,25 +171,25 @@ walk_stays (past x a) k i e = walk_stays a k i e
 walk_stays (again j l f a) k i e = walk_stays a k i e
 walk_stays {xs = xs} (first j l n a) k i e = walk_stays a k i (at_left xs (j ∷ []) k i e)
 
--- What leads from parts to parts.
+-- What leads from segments to segments.
 
 later_same : (xs ys : List ℕ) → ys ≡ xs → length xs ≤ length ys
 later_same xs ys e = omega (arith, ap length e)
 
 module _ (g : Graph) where
-  abbrev Done : List Part → Tables → List ℕ → Tables → Type 0
-  Done ps = Parts (IsCanonical g) canonical ps
+  abbrev Done : List Segment → Tables → List ℕ → Tables → Type 0
+  Done ps = Segments (IsCanonical g) canonical ps
 
-  pub leads_same : (ps qs : List Part) (o : Output) → ps ≡ qs → Leads g ps qs o o
+  pub leads_same : (ps qs : List Segment) (o : Output) → ps ≡ qs → Leads g ps qs o o
   leads_same ps qs o e = record {
     bytes = [];
     appended = sym (append-nil o.bytes.items);
     completes = λ more t h. subst (λ w. Done w o.tables more t) (sym e) h;
-    walks = λ all w. subst (λ z. Walks g o.tables.done (part_values z) all) e w;
+    walks = λ all w. subst (λ z. Walks g o.tables.done (segment_values z) all) e w;
     later = omega arith;
   }
 
-  pub leads_then : (ps qs rs : List Part) (o m n : Output) → Leads g ps qs o m → Leads g qs rs m n → Leads g ps rs o n
+  pub leads_then : (ps qs rs : List Segment) (o m n : Output) → Leads g ps qs o m → Leads g qs rs m n → Leads g ps rs o n
   leads_then ps qs rs o m n h k = record {
     bytes = h.bytes ++ k.bytes;
     appended = k.appended ∙ ap (λ w. w ++ k.bytes) h.appended ∙ append_assoc o.bytes.items h.bytes k.bytes;
@@ -198,39 +198,39 @@ module _ (g : Graph) where
     later = omega (arith, h.later, k.later);
   }
 
-  pub leads_from : (ps qs rs : List Part) (o m : Output) → ps ≡ qs → Leads g qs rs o m → Leads g ps rs o m
+  pub leads_from : (ps qs rs : List Segment) (o m : Output) → ps ≡ qs → Leads g qs rs o m → Leads g ps rs o m
   leads_from ps qs rs o m e h = subst (λ w. Leads g w rs o m) (sym e) h
 
-  pub leads_to : (ps qs rs : List Part) (o m : Output) → qs ≡ rs → Leads g ps qs o m → Leads g ps rs o m
+  pub leads_to : (ps qs rs : List Segment) (o m : Output) → qs ≡ rs → Leads g ps qs o m → Leads g ps rs o m
   leads_to ps qs rs o m e h = subst (λ w. Leads g ps w o m) e h
 
-  pub leads_steps : (xs ps : List Part) (o m : Output) → WritesSteps xs o m → Leads g (xs ++ ps) ps o m
+  pub leads_steps : (xs ps : List Segment) (o m : Output) → WritesSteps xs o m → Leads g (xs ++ ps) ps o m
   leads_steps xs ps o m h =
       let same = steps_done xs o.tables h.bytes m.tables h.spelled in record {
         bytes = h.bytes;
         appended = h.appended;
         completes = λ more t d. steps_then (IsCanonical g) xs ps o.tables m.tables t h.bytes more h.spelled d;
-        walks = λ all w. subst (λ z. Walks g z (part_values ps) all) (sym same) (subst (λ z. Walks g o.tables.done z all) (steps_none xs ps o.tables h.bytes m.tables h.spelled) w);
+        walks = λ all w. subst (λ z. Walks g z (segment_values ps) all) (sym same) (subst (λ z. Walks g o.tables.done z all) (steps_none xs ps o.tables h.bytes m.tables h.spelled) w);
         later = later_same o.tables.done m.tables.done same;
       }
 
-  pub leads_step : (x : Step) (ps : List Part) (o m : Output) → WritesStep x o m → Leads g (step x ∷ ps) ps o m
+  pub leads_step : (x : Step) (ps : List Segment) (o m : Output) → WritesStep x o m → Leads g (step x ∷ ps) ps o m
   leads_step x ps o m h =
       let same : m.tables.done ≡ o.tables.done = ap (λ (w : Tables). w.done) h.spelled.2 in record {
         bytes = h.bytes;
         appended = h.appended;
         completes = λ more t d. record { front = h.bytes; back = more; mid = m.tables; joined = refl; first = h.spelled; second = d };
-        walks = λ all w. subst (λ z. Walks g z (part_values ps) all) (sym same) w;
+        walks = λ all w. subst (λ z. Walks g z (segment_values ps) all) (sym same) w;
         later = later_same o.tables.done m.tables.done same;
       }
 
-  pub leads_leaf : (x : Leaf) (ps : List Part) (o m : Output) → IsLeaf x → WritesSteps (step (byte (leaf_marker x)) ∷ leaf_layout x) o m → Leads g (value (leaf x) ∷ ps) ps o m
+  pub leads_leaf : (x : Leaf) (ps : List Segment) (o m : Output) → IsLeaf x → WritesSteps (step (byte (leaf_marker x)) ∷ leaf_segments x) o m → Leads g (value (leaf x) ∷ ps) ps o m
   leads_leaf x ps o m l h =
-      let same = steps_done (step (byte (leaf_marker x)) ∷ leaf_layout x) o.tables h.bytes m.tables h.spelled in record {
+      let same = steps_done (step (byte (leaf_marker x)) ∷ leaf_segments x) o.tables h.bytes m.tables h.spelled in record {
         bytes = h.bytes;
         appended = h.appended;
         completes = λ more t d. record { front = h.bytes; back = more; mid = m.tables; joined = refl; first = (0, (l, h.spelled)); second = d };
-        walks = λ all w. subst (λ z. Walks g z (part_values ps) all) (sym same) (past_leaf w);
+        walks = λ all w. subst (λ z. Walks g z (segment_values ps) all) (sym same) (past_leaf w);
         later = later_same o.tables.done m.tables.done same;
       }
 
@@ -242,7 +242,7 @@ module _ (g : Graph) where
   behind_marker o p n m more h e = e ∙ ap (λ w. w ++ more) (h.appended ∙ ap (λ w. o.bytes.items ++ w) h.spelled.1.0) ∙ append_assoc o.bytes.items (m ∷ []) more
 
   -- a node by its place
-  pub leads_placed : (i j m place : ℕ) (ps : List Part) (o p n : Output) → o.tables.done ≡ o.tables.nodes → slice_get o.tables.nodes place ≡ Some i → m ≡ marker (node_at g i).head → j ≡ 2 * place → WritesStep (byte m) o p → WritesStep (number j) p n → Leads g (value (node i) ∷ ps) ps o n
+  pub leads_placed : (i j m place : ℕ) (ps : List Segment) (o p n : Output) → o.tables.done ≡ o.tables.nodes → slice_get o.tables.nodes place ≡ Some i → m ≡ marker (node_at g i).head → j ≡ 2 * place → WritesStep (byte m) o p → WritesStep (number j) p n → Leads g (value (node i) ∷ ps) ps o n
   leads_placed i j m place ps o p n even at e f h k =
       let same : n.tables ≡ o.tables = k.spelled.2 ∙ ap (λ w. with_words p.tables w) k.spelled.1.1 ∙ byte_done m o p h in
       let done : n.tables.done ≡ o.tables.done = ap (λ (w : Tables). w.done) same in
@@ -250,13 +250,13 @@ module _ (g : Graph) where
         bytes = m ∷ k.bytes;
         appended = behind_marker o p n m k.bytes h k.appended;
         completes = λ more t d. record { front = m ∷ k.bytes; back = more; mid = n.tables; joined = refl; first = (0, (k.bytes, ap (λ w. w ∷ k.bytes) e, there)); second = d };
-        walks = λ all w. subst (λ z. Walks g z (part_values ps) all) (sym done) (met_again place (subst (λ z. slice_get z place ≡ Some i) (sym even) at) w);
+        walks = λ all w. subst (λ z. Walks g z (segment_values ps) all) (sym done) (met_again place (subst (λ z. slice_get z place ≡ Some i) (sym even) at) w);
         later = later_same o.tables.done n.tables.done done;
       }
 
-  -- a node that is not in the table: behind its marker its parts are left
-  pub leads_new : (i m : ℕ) (ps : List Part) (o p n : Output) → i < length g.nodes → Absent o.tables.nodes i → o.tables.done ≡ o.tables.nodes → AllNamed (node_at g i).names → Fits (node_at g i).head (node_at g i).names (node_at g i).values
-      → m ≡ marker (node_at g i).head → WritesStep (byte m) o p → n.tables ≡ add_node p.tables i → n.bytes.items ≡ p.bytes.items → Leads g (value (node i) ∷ ps) (node_parts (node_at g i) ++ ps) o n
+  -- a node that is not in the table: behind its marker its segments are left
+  pub leads_new : (i m : ℕ) (ps : List Segment) (o p n : Output) → i < length g.nodes → Absent o.tables.nodes i → o.tables.done ≡ o.tables.nodes → AllNamed (node_at g i).names → Fits (node_at g i).head (node_at g i).names (node_at g i).values
+      → m ≡ marker (node_at g i).head → WritesStep (byte m) o p → n.tables ≡ add_node p.tables i → n.bytes.items ≡ p.bytes.items → Leads g (value (node i) ∷ ps) (node_segments (node_at g i) ++ ps) o n
   leads_new i m ps o p n l new even named fits e h t b =
       let x : Node = node_at g i in
       let begun : n.tables ≡ add_node o.tables i = t ∙ ap (λ (w : Tables). add_node w i) (byte_done m o p h) in
@@ -266,8 +266,8 @@ module _ (g : Graph) where
         bytes = m ∷ [];
         appended = behind_marker o p n m [] h (b ∙ sym (append-nil p.bytes.items));
         completes = λ more u d.
-            let s = parts_split (IsCanonical g) (node_parts x) ps n.tables more u d in
-            let k = one_height g (node_parts x) n.tables s.front s.mid s.first in
+            let s = segments_split (IsCanonical g) (node_segments x) ps n.tables more u d in
+            let k = one_height g (node_segments x) n.tables s.front s.mid s.first in
             let inline : Begun (Spells k.0 canonical g) canonical g i o.tables s.front s.mid = record {
               exists = l;
               new = fresh;
@@ -276,9 +276,9 @@ module _ (g : Graph) where
               in_order = refl;
               named = by_name_all (λ p. p.0 ≡ [] → ⊥) x.names named;
               fits = fit;
-              body = subst (λ w. Parts (Spells k.0 canonical g) canonical (node_parts x) w s.front s.mid) begun k.1;
+              body = subst (λ w. Segments (Spells k.0 canonical g) canonical (node_segments x) w s.front s.mid) begun k.1;
             } in record { front = m ∷ s.front; back = s.back; mid = s.mid; joined = ap (λ w. m ∷ w) s.joined; first = (suc k.0, (s.front, ap (λ w. w ∷ s.front) e, inr inline)); second = s.second };
-        walks = λ all w. subst (λ z. Walks g z (part_values (node_parts x ++ ps)) all) (sym done) (subst (λ z. Walks g (o.tables.done ++ i ∷ []) z all) (sym (node_values g i ps fit)) (met_first fresh w));
+        walks = λ all w. subst (λ z. Walks g z (segment_values (node_segments x ++ ps)) all) (sym done) (subst (λ z. Walks g (o.tables.done ++ i ∷ []) z all) (sym (node_values g i ps fit)) (met_first fresh w));
         later = omega (arith, ap length done, length_pushed o.tables.done i);
       }
 
@@ -291,10 +291,10 @@ module _ (g : Graph) where
 
   -- Where a writer stops.
 
-  pub stops_behind : (ps qs : List Part) (o m : Output) (l : Lack) → Leads g ps qs o m → Stops g qs m l → Stops g ps o l
+  pub stops_behind : (ps qs : List Segment) (o m : Output) (l : Lack) → Leads g ps qs o m → Stops g qs m l → Stops g ps o l
   stops_behind ps qs o m l h s = record { node = s.node; unnamed = s.unnamed; kind = s.kind; later = omega (arith, h.later, s.later); place = λ all w. s.place all (h.walks all w) }
 
-  pub stops_unnamed : (i : ℕ) (ps : List Part) (o : Output) (l : Lack) → Absent o.tables.nodes i → o.tables.done ≡ o.tables.nodes → (AllNamed (node_at g i).names → ⊥) → l ≡ record { kind = EmptyName; node = length o.tables.nodes } → Stops g (value (node i) ∷ ps) o l
+  pub stops_unnamed : (i : ℕ) (ps : List Segment) (o : Output) (l : Lack) → Absent o.tables.nodes i → o.tables.done ≡ o.tables.nodes → (AllNamed (node_at g i).names → ⊥) → l ≡ record { kind = EmptyName; node = length o.tables.nodes } → Stops g (value (node i) ∷ ps) o l
   stops_unnamed i ps o l new even h e =
       let done = o.tables.done in
       let at : l.node ≡ length done = ap (λ (k : Lack). k.node) e ∙ ap length (sym even) in record {

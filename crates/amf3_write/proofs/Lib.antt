@@ -1,6 +1,6 @@
 -- The lemmas that several proofs share.
 pub mod Wrote
-pub mod WroteParts
+pub mod WroteSegments
 pub mod Ready
 pub mod NamedPairs
 pub mod InOrder

@@ -7,7 +7,7 @@ use Rattle.amf_graph.specs.declared.value.NodeId.{NodeId}
 use Rattle.amf_graph.specs.Graph.{Value, leaf, node, Graph, node_at}
 use Rattle.amf3_spelling.specs.Tables.{Tables, add_node}
 use Rattle.amf3_spelling.specs.Refusals3.{leaf_marker}
-use Rattle.amf3_spelling.specs.ByteSpelling.{Spelling, Part, step, value, byte, layout, leaf_layout, Parts, ValueBy, NodeIn, Spells}
+use Rattle.amf3_spelling.specs.ByteSpelling.{Spelling, Segment, step, value, byte, segments_of, leaf_segments, Segments, ValueBy, NodeIn, Spells}
 use Rattle.amf3_write.specs.declared.output.Output.{Output}
 use Rattle.amf3_write.specs.Writes.{BeginsWith, WritesValue}
 use Rattle.amf3_write.proofs.NamedPairs.{all_push}
@@ -22,20 +22,20 @@ module _ (g : Graph) where
   stays_same : (t t' : Tables) → t'.nodes ≡ t.nodes → Inside t → Inside t'
   stays_same t t' e h = subst (λ w. AllByRecursion (λ i. i < length g.nodes) w) (sym e) h
 
-  stays_parts : (R : Value → Spelling Tables) → ((v : Value) → Stays (R v)) → (ps : List Part) → Stays (Parts R canonical ps)
-  stays_parts R f [] t b t' p h = stays_same t t' (ap (λ (w : Tables). w.nodes) p.1) h
-  stays_parts R f (step x ∷ ps) t b t' p h = stays_parts R f ps p.mid p.back t' p.second (stays_same t p.mid (ap (λ (w : Tables). w.nodes) p.first.2) h)
-  stays_parts R f (value v ∷ ps) t b t' p h = stays_parts R f ps p.mid p.back t' p.second (f v t p.front p.mid p.first h)
+  stays_segments : (R : Value → Spelling Tables) → ((v : Value) → Stays (R v)) → (ps : List Segment) → Stays (Segments R canonical ps)
+  stays_segments R f [] t b t' p h = stays_same t t' (ap (λ (w : Tables). w.nodes) p.1) h
+  stays_segments R f (step x ∷ ps) t b t' p h = stays_segments R f ps p.mid p.back t' p.second (stays_same t p.mid (ap (λ (w : Tables). w.nodes) p.first.2) h)
+  stays_segments R f (value v ∷ ps) t b t' p h = stays_segments R f ps p.mid p.back t' p.second (f v t p.front p.mid p.first h)
 
   stays_value : (N : ℕ → Spelling Tables) → ((i : ℕ) → Stays (N i)) → (v : Value) → Stays (ValueBy N canonical g v)
-  stays_value N f (leaf x) t b t' p h = stays_parts (λ v t b t'. ⊥) (λ v t b t' q. absurd q) (step (byte (leaf_marker x)) ∷ leaf_layout x) t b t' p.1 h
+  stays_value N f (leaf x) t b t' p h = stays_segments (λ v t b t'. ⊥) (λ v t b t' q. absurd q) (step (byte (leaf_marker x)) ∷ leaf_segments x) t b t' p.1 h
   stays_value N f (node i) t b t' p h = f i t p.0 t' p.2 h
 
   stays_node : (d i : ℕ) → Stays (NodeIn d canonical g i)
   stays_node zero i t b t' p h = stays_same t t' (ap (λ (w : Tables). w.nodes) p.same) h
   stays_node (suc d) i t b t' (inl p) h = stays_same t t' (ap (λ (w : Tables). w.nodes) p.same) h
   stays_node (suc d) i t b t' (inr p) h =
-      stays_parts (Spells d canonical g) (stays_value (NodeIn d canonical g) (stays_node d)) (layout (node_at g i).head p.wire (node_at g i).values) (add_node t i) b t' p.body (all_push (λ j. j < length g.nodes) t.nodes i h p.exists)
+      stays_segments (Spells d canonical g) (stays_value (NodeIn d canonical g) (stays_node d)) (segments_of (node_at g i).head p.wire (node_at g i).values) (add_node t i) b t' p.body (all_push (λ j. j < length g.nodes) t.nodes i h p.exists)
 
   pub value_inside : (v : Value) (o n : Output) (k : ℕ) → length g.nodes ≡ k → WritesValue g v o n → AllByRecursion (λ i. i < k) o.tables.nodes → AllByRecursion (λ i. i < k) n.tables.nodes
   value_inside v o n k e w h =

@@ -7,7 +7,7 @@ use Rattle.amf3_spelling.specs.Tables.{Words, Tables}
 use Rattle.amf3_spelling.specs.Refusals3.{text_header_kind}
 use Rattle.amf3_spelling.specs.Spells3.{Spells3}
 use Rattle.amf3_spelling.specs.Words3.{Text as FieldText, empty as empty_text, whole as whole_text, placed as placed_text}
-use Rattle.amf3_spelling.specs.Parts3.{Lifted}
+use Rattle.amf3_spelling.specs.Segments3.{Lifted}
 use Rattle.amf3_spelling.specs.ByteSpelling.{Text, empty, whole, placed, word}
 use Rattle.amf3_spelling.proofs.FieldsOf.{from_spells}
 use Rattle.amf3_write.specs.declared.output.Output.{Output}

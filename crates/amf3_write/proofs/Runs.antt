@@ -6,42 +6,42 @@ use Rattle.amf_graph.specs.Graph.{Value, Graph}
 use Rattle.amf_graph.specs.declared.value.TextId.{TextId}
 use Rattle.amf_graph.specs.Arena.{Arena, text_at, value_content}
 use Rattle.amf_graph.specs.Views.{flat}
-use Rattle.amf3_spelling.specs.ByteSpelling.{Part, step, value, word, values_then, pairs_then}
+use Rattle.amf3_spelling.specs.ByteSpelling.{Segment, step, value, word, values_then, pairs_then}
 use Rattle.amf_iso.specs.Contents.{values_of, pairs_of, ArePairs}
 use Rattle.amf3_write.specs.declared.unwritten.Unwritten.{Unwritten}
-use Rattle.amf3_write.specs.Unwritten.{run_parts, next_parts, parts_left, IsRunOf, AreRunsOf, AreStoredPairs, run_turns, turns_left}
+use Rattle.amf3_write.specs.Unwritten.{run_segments, next_segments, segments_left, IsRunOf, AreRunsOf, AreStoredPairs, run_turns, turns_left}
 use Rattle.amf3_write.proofs.NamedPairs.{all_push}
 use Rattle.amf3_write.specs.declared.output.Output.{Output}
 use Rattle.amf3_write.specs.Writes.{Leads}
 use Rattle.amf3_write.proofs.Leading.{leads_then, leads_from}
 
-pub parts_push : (a : Arena) (runs : List Unwritten) (run : Unwritten) → parts_left a (runs ++ run ∷ []) ≡ run_parts a run ++ parts_left a runs
-parts_push a [] run = sym (append-nil (run_parts a run))
-parts_push a (r ∷ runs) run = ap (λ w. w ++ run_parts a r) (parts_push a runs run) ∙ append_assoc (run_parts a run) (parts_left a runs) (run_parts a r)
+pub segments_push : (a : Arena) (runs : List Unwritten) (run : Unwritten) → segments_left a (runs ++ run ∷ []) ≡ run_segments a run ++ segments_left a runs
+segments_push a [] run = sym (append-nil (run_segments a run))
+segments_push a (r ∷ runs) run = ap (λ w. w ++ run_segments a r) (segments_push a runs run) ∙ append_assoc (run_segments a run) (segments_left a runs) (run_segments a r)
 
 pub turns_push : (runs : List Unwritten) (run : Unwritten) → turns_left (runs ++ run ∷ []) ≡ run_turns run + turns_left runs
 turns_push [] run = refl
 turns_push (r ∷ runs) run = omega (arith, turns_push runs run)
 
-pub parts_pushed : (a : Arena) (runs now : List Unwritten) (run : Unwritten) → now ≡ runs ++ run ∷ [] → parts_left a now ≡ run_parts a run ++ parts_left a runs
-parts_pushed a runs now run e = ap (parts_left a) e ∙ parts_push a runs run
+pub segments_pushed : (a : Arena) (runs now : List Unwritten) (run : Unwritten) → now ≡ runs ++ run ∷ [] → segments_left a now ≡ run_segments a run ++ segments_left a runs
+segments_pushed a runs now run e = ap (segments_left a) e ∙ segments_push a runs run
 
 pub turns_pushed : (runs now : List Unwritten) (run : Unwritten) → now ≡ runs ++ run ∷ [] → turns_left now ≡ run_turns run + turns_left runs
 turns_pushed runs now run e = ap turns_left e ∙ turns_push runs run
 
-pub values_joined : (vs : List Value) (ps : List Part) → values_then vs [] ++ ps ≡ values_then vs ps
+pub values_joined : (vs : List Value) (ps : List Segment) → values_then vs [] ++ ps ≡ values_then vs ps
 values_joined [] ps = refl
 values_joined (v ∷ vs) ps = ap (λ w. value v ∷ w) (values_joined vs ps)
 
-pub pairs_joined : (w : List (List ℕ × Value)) (ps : List Part) → pairs_then w [] ++ ps ≡ pairs_then w ps
+pub pairs_joined : (w : List (List ℕ × Value)) (ps : List Segment) → pairs_then w [] ++ ps ≡ pairs_then w ps
 pairs_joined [] ps = refl
 pairs_joined (p ∷ w) ps = ap (λ z. step (word p.0) ∷ value p.1 ∷ z) (pairs_joined w ps)
 
--- one run before another, as one list of parts
-pub values_before : (vs : List Value) (ps old mid now : List Part) → mid ≡ ps ++ old → now ≡ values_then vs [] ++ mid → values_then vs ps ++ old ≡ now
+-- one run before another, as one list of segments
+pub values_before : (vs : List Value) (ps old mid now : List Segment) → mid ≡ ps ++ old → now ≡ values_then vs [] ++ mid → values_then vs ps ++ old ≡ now
 values_before vs ps old mid now e f = ap (λ w. w ++ old) (sym (values_joined vs ps)) ∙ append_assoc (values_then vs []) ps old ∙ ap (λ w. values_then vs [] ++ w) (sym e) ∙ sym f
 
-pub pairs_before : (ws : List (List ℕ × Value)) (ps old mid now : List Part) → mid ≡ ps ++ old → now ≡ pairs_then ws [] ++ mid → pairs_then ws ps ++ old ≡ now
+pub pairs_before : (ws : List (List ℕ × Value)) (ps old mid now : List Segment) → mid ≡ ps ++ old → now ≡ pairs_then ws [] ++ mid → pairs_then ws ps ++ old ≡ now
 pairs_before ws ps old mid now e f = ap (λ w. w ++ old) (sym (pairs_joined ws ps)) ∙ append_assoc (pairs_then ws []) ps old ∙ ap (λ w. pairs_then ws [] ++ w) (sym e) ∙ sym f
 
 -- the last of pairs in reverse is the first
@@ -60,8 +60,8 @@ pub runs_pushed : (a : Arena) (runs now : List Unwritten) (run : Unwritten) → 
 runs_pushed a runs now run e h k = subst (λ w. AreRunsOf a w) (sym e) (all_push (IsRunOf a) runs run h k)
 
 -- one run taken off the stack, and written up to its next value
-pub turned : (g : Graph) (a : Arena) (whole : List Part) (runs all left : List Unwritten) (top : Unwritten) (next : Option Stored) (o m n : Output) → all ≡ runs ++ top ∷ [] → Leads g whole (parts_left a all) o m
-    → Leads g (run_parts a top ++ parts_left a runs) (next_parts a next ++ parts_left a left) m n → Leads g whole (next_parts a next ++ parts_left a left) o n
+pub turned : (g : Graph) (a : Arena) (whole : List Segment) (runs all left : List Unwritten) (top : Unwritten) (next : Option Stored) (o m n : Output) → all ≡ runs ++ top ∷ [] → Leads g whole (segments_left a all) o m
+    → Leads g (run_segments a top ++ segments_left a runs) (next_segments a next ++ segments_left a left) m n → Leads g whole (next_segments a next ++ segments_left a left) o n
 turned g a whole runs all left top next o m n e h k =
-    let behind = next_parts a next ++ parts_left a left in
-    leads_then g whole (parts_left a all) behind o m n h (leads_from g (parts_left a all) (run_parts a top ++ parts_left a runs) behind m n (parts_pushed a runs all top e) k)
+    let behind = next_segments a next ++ segments_left a left in
+    leads_then g whole (segments_left a all) behind o m n h (leads_from g (segments_left a all) (run_segments a top ++ segments_left a runs) behind m n (segments_pushed a runs all top e) k)

@@ -16,15 +16,15 @@ keeps_new i o m e b front h = record {
 }
 
 -- the nodes of the table are at the front of those behind
-pub nodes_kept : (o m : Output) → Keeps o m → BeginsWith o.tables.nodes m.tables.nodes
-nodes_kept o m k = let front = k (record { bytes = o.bytes.items; nodes = o.tables.nodes }) (own_front o o.tables o.bytes.items refl refl) in front.nodes
+pub nodes_stay : (o m : Output) → Keeps o m → BeginsWith o.tables.nodes m.tables.nodes
+nodes_stay o m k = let front = k (record { bytes = o.bytes.items; nodes = o.tables.nodes }) (own_front o o.tables o.bytes.items refl refl) in front.nodes
 
 begins_less : (n : ℕ) (xs ys : List ℕ) → BeginsWith xs ys → missing n ys ≤ missing n xs
 begins_less n xs ys b = missing_less n xs ys (λ k i e. subst (λ w. slice_get w k ≡ Some i) (sym b.is) (at_left xs b.rest k i e))
 
-pub kept_less : (n : ℕ) (o m : Output) → Keeps o m → missing n m.tables.nodes ≤ missing n o.tables.nodes
-kept_less n o m k = begins_less n o.tables.nodes m.tables.nodes (nodes_kept o m k)
+pub keeps_less : (n : ℕ) (o m : Output) → Keeps o m → missing n m.tables.nodes ≤ missing n o.tables.nodes
+keeps_less n o m k = begins_less n o.tables.nodes m.tables.nodes (nodes_stay o m k)
 
 pub falls_less : (n : ℕ) (o m : Output) (before after : ℕ) → Keeps o m → Falls n o.tables.nodes m.tables.nodes before after → missing n m.tables.nodes * 1073741824 + after ≤ missing n o.tables.nodes * 1073741824 + before
-falls_less n o m before after k (inl l) = omega (arith, kept_less n o m k)
+falls_less n o m before after k (inl l) = omega (arith, keeps_less n o m k)
 falls_less n o m before after k (inr (i, l, new, b, t)) = omega (arith, missing_push n i o.tables.nodes l new, begins_less n (o.tables.nodes ++ i ∷ []) m.tables.nodes b)

@@ -24,11 +24,11 @@ use Rattle.amf3_spelling.specs.Tables.{plain, with_words, add_node}
 use Rattle.amf3_spelling.specs.Markers3.{node_marker}
 use Rattle.amf3_spelling.specs.Refusals3.{marker}
 use Rattle.amf_tables.specs.FirstPlace.{IsFirstPlace}
-use Rattle.amf3_spelling.specs.ByteSpelling.{byte, number, word, traits, step, values_then, pairs_then, layout, Placed, Begun, NodeIn, Parts, Spells}
+use Rattle.amf3_spelling.specs.ByteSpelling.{byte, number, word, traits, step, values_then, pairs_then, segments_of, Placed, Begun, NodeIn, Segments, Spells}
 use Rattle.amf3_spelling.proofs.BytesOf.{fits_too}
 use Rattle.amf3_spelling.proofs.FirstLack3.{named_or_not}
 use Rattle.amf3_spelling.proofs.Markers.{kind_content}
-use Rattle.amf3_spelling.proofs.Ordered3.{part_values}
+use Rattle.amf3_spelling.proofs.Ordered3.{segment_values}
 use Rattle.amf3_write.specs.declared.output.Output.{Output}
 use Rattle.amf3_write.proofs.Wrote.{each_there}
 

@@ -6,29 +6,29 @@ use Rattle.amf_graph.specs.declared.value.TextId.{TextId}
 use Rattle.amf_graph.specs.Arena.{Arena, Names, IsTextId, value_content}
 use Rattle.amf_graph.specs.Order.{Absent}
 use Rattle.amf_graph.specs.Views.{flat}
-use Rattle.amf3_spelling.specs.ByteSpelling.{Part, value, values_then, pairs_then}
+use Rattle.amf3_spelling.specs.ByteSpelling.{Segment, value, values_then, pairs_then}
 use Rattle.amf_iso.specs.Contents.{values_of, pairs_of, AreValues}
 use Rattle.amf3_write.specs.declared.unwritten.Unwritten.{Unwritten}
 use Rattle.amf3_write.specs.declared.unwritten.Unwritten.TheVariants.{One, Values, Entries, Pairs, Sorted}
 use Rattle.amf3_write.specs.Writes.{BeginsWith}
 
--- the parts of a run
-abbrev pub run_parts : Arena → Unwritten → List Part
-run_parts a (One v) = value (value_content a v) ∷ []
-run_parts a (Values vs) = values_then (values_of a vs.now) []
-run_parts a (Entries es) = values_then (values_of a (flat es.now)) []
-run_parts a (Pairs ps) = pairs_then (pairs_of a ps.now) []
-run_parts a (Sorted ps) = pairs_then (pairs_of a (reverse ps.items)) []
+-- the segments of a run
+abbrev pub run_segments : Arena → Unwritten → List Segment
+run_segments a (One v) = value (value_content a v) ∷ []
+run_segments a (Values vs) = values_then (values_of a vs.now) []
+run_segments a (Entries es) = values_then (values_of a (flat es.now)) []
+run_segments a (Pairs ps) = pairs_then (pairs_of a ps.now) []
+run_segments a (Sorted ps) = pairs_then (pairs_of a (reverse ps.items)) []
 
--- the parts of a stack, those of the last run first
-abbrev pub parts_left : Arena → List Unwritten → List Part
-parts_left a [] = []
-parts_left a (run ∷ runs) = parts_left a runs ++ run_parts a run
+-- the segments of a stack, those of the last run first
+abbrev pub segments_left : Arena → List Unwritten → List Segment
+segments_left a [] = []
+segments_left a (run ∷ runs) = segments_left a runs ++ run_segments a run
 
--- the part that a value is, if there is one
-abbrev pub next_parts : Arena → Option Stored → List Part
-next_parts a None = []
-next_parts a (Some v) = value (value_content a v) ∷ []
+-- the segment that a value is, if there is one
+abbrev pub next_segments : Arena → Option Stored → List Segment
+next_segments a None = []
+next_segments a (Some v) = value (value_content a v) ∷ []
 
 abbrev pub IsNextOf : Arena → Option Stored → Type 0
 IsNextOf a None = Unit {0}

@@ -8,9 +8,9 @@ use Rattle.amf_graph.specs.Arena.{Arena}
 use Rattle.amf_graph.specs.Order.{Walks}
 use Rattle.amf_tables.specs.KnownWords.{Known, AreKnownOf}
 use Rattle.amf3_spelling.specs.Tables.{Tables}
-use Rattle.amf3_spelling.specs.ByteSpelling.{Texts, Step, StepOf, Part, Lifted, Parts, Spells}
+use Rattle.amf3_spelling.specs.ByteSpelling.{Texts, Step, StepOf, Segment, Lifted, Segments, Spells}
 use Rattle.amf3_write.specs.declared.output.Output.{Output}
-use Rattle.amf3_write.specs.Contents.{part_values}
+use Rattle.amf3_write.specs.Contents.{segment_values}
 
 -- the bytes that were appended are a spelling from the tables before to those behind
 pub record Writes (A : Tables → List ℕ → Tables → Type 0) (old new : Output) : Type 0 where
@@ -26,8 +26,8 @@ IsCanonical g v t b t' = (height : ℕ) × Spells height canonical g v t b t'
 abbrev pub WritesStep : Step → Output → Output → Type 0
 WritesStep x = Writes (Lifted (StepOf canonical x))
 
-abbrev pub WritesSteps : List Part → Output → Output → Type 0
-WritesSteps ps = Writes (Parts (λ v t b t'. ⊥) canonical ps)
+abbrev pub WritesSteps : List Segment → Output → Output → Type 0
+WritesSteps ps = Writes (Segments (λ v t b t'. ⊥) canonical ps)
 
 abbrev pub WritesValue : Graph → Value → Output → Output → Type 0
 WritesValue g v = Writes (IsCanonical g v)
@@ -36,21 +36,21 @@ WritesValue g v = Writes (IsCanonical g v)
 abbrev pub WritesTexts : List (List ℕ) → Output → Output → Type 0
 WritesTexts xs = Writes (Lifted (Texts canonical xs))
 
--- from parts that were to be written to those that are left: what spells those that are left spells all, behind the bytes that were appended, and a walk over the values of all goes on over those that are left
-pub record Leads (g : Graph) (whole left : List Part) (old new : Output) : Type 0 where
+-- from segments that were to be written to those that are left: what spells those that are left spells all, behind the bytes that were appended, and a walk over the values of all goes on over those that are left
+pub record Leads (g : Graph) (whole left : List Segment) (old new : Output) : Type 0 where
   pub bytes : List ℕ
   pub appended : new.bytes.items ≡ old.bytes.items ++ bytes
-  pub completes : (more : List ℕ) (t : Tables) → Parts (IsCanonical g) canonical left new.tables more t → Parts (IsCanonical g) canonical whole old.tables (bytes ++ more) t
-  pub walks : (all : List ℕ) → Walks g old.tables.done (part_values whole) all → Walks g new.tables.done (part_values left) all
+  pub completes : (more : List ℕ) (t : Tables) → Segments (IsCanonical g) canonical left new.tables more t → Segments (IsCanonical g) canonical whole old.tables (bytes ++ more) t
+  pub walks : (all : List ℕ) → Walks g old.tables.done (segment_values whole) all → Walks g new.tables.done (segment_values left) all
   pub later : length old.tables.done ≤ length new.tables.done
 
--- a writer of these parts stops at a node that it has not met before and that has an empty name: the lack has the number of the node's place among those that are met
-pub record Stops (g : Graph) (parts : List Part) (old : Output) (lack : Lack) : Type 0 where
+-- a writer of these segments stops at a node that it has not met before and that has an empty name: the lack has the number of the node's place among those that are met
+pub record Stops (g : Graph) (segments : List Segment) (old : Output) (lack : Lack) : Type 0 where
   pub node : ℕ
   pub unnamed : AllNamed (node_at g node).names → ⊥
   pub kind : lack.kind ≡ EmptyName
   pub later : length old.tables.done ≤ lack.node
-  pub place : (all : List ℕ) → Walks g old.tables.done (part_values parts) all → slice_get all lack.node ≡ Some node
+  pub place : (all : List ℕ) → Walks g old.tables.done (segment_values segments) all → slice_get all lack.node ≡ Some node
 
 -- the bytes begin with these
 pub record BeginsWith (front bytes : List ℕ) : Type 0 where

@@ -14,7 +14,7 @@ impl Output {
     pub(crate) fn counted(&mut self, bytes: &[u8]) -> Result<(), Memory>
         requires { length bytes.now < count_end }
         ensures ok { OnOk result (WritesSteps (spell.step (spell.number (2 * length bytes.now + 1)) ∷ spell.step (spell.raw bytes.now) ∷ []) self.old self.new) }
-        ensures kept { Keeps self.old self.new }
+        ensures keeps { Keeps self.old self.new }
         ensures tables { self.new.tables ≡ self.old.tables }
         ensures known { self.new.known ≡ self.old.known }
     {
@@ -26,7 +26,7 @@ impl Output {
     /// A date (3.10).
     pub(crate) fn date(&mut self, milliseconds: Pattern) -> Result<(), Memory>
         ensures ok { OnOk result (WritesSteps (spell.step spell.unused ∷ spell.step (spell.raw (to_be_bytes w64 milliseconds.0)) ∷ []) self.old self.new) }
-        ensures kept { Keeps self.old self.new }
+        ensures keeps { Keeps self.old self.new }
         ensures tables { self.new.tables ≡ self.old.tables }
         ensures known { self.new.known ≡ self.old.known }
     {
@@ -39,7 +39,7 @@ impl Output {
     pub(crate) fn vector(&mut self, count: usize, fixed: bool) -> Result<(), Memory>
         requires { count < count_end }
         ensures ok { OnOk result (WritesSteps (spell.step (spell.number (2 * count + 1)) ∷ spell.step (spell.flag fixed) ∷ []) self.old self.new) }
-        ensures kept { Keeps self.old self.new }
+        ensures keeps { Keeps self.old self.new }
         ensures tables { self.new.tables ≡ self.old.tables }
         ensures known { self.new.known ≡ self.old.known }
     {
@@ -53,7 +53,7 @@ impl Output {
         requires few { length items.now < count_end }
         requires in_range { AllByRecursion (FitsSigned w32) items.now }
         ensures ok { OnOk result (WritesSteps (spell.step (spell.number (2 * length items.now + 1)) ∷ spell.step (spell.flag fixed) ∷ spell.step (spell.raw (spell.signed_bytes items.now)) ∷ []) self.old self.new) }
-        ensures kept { Keeps self.old self.new }
+        ensures keeps { Keeps self.old self.new }
         ensures tables { self.new.tables ≡ self.old.tables }
         ensures known { self.new.known ≡ self.old.known }
     {
@@ -65,7 +65,7 @@ impl Output {
     fn int_items(&mut self, items: &[i32]) -> Result<(), Memory>
         requires { AllByRecursion (FitsSigned w32) items.now }
         ensures ok { OnOk result (WritesStep (spell.raw (spell.signed_bytes items.now)) self.old self.new) }
-        ensures kept { Keeps self.old self.new }
+        ensures keeps { Keeps self.old self.new }
         ensures tables { self.new.tables ≡ self.old.tables }
         ensures known { self.new.known ≡ self.old.known }
     {
@@ -79,7 +79,7 @@ impl Output {
     pub(crate) fn uints(&mut self, fixed: bool, items: &[u32]) -> Result<(), Memory>
         requires { length items.now < count_end }
         ensures ok { OnOk result (WritesSteps (spell.step (spell.number (2 * length items.now + 1)) ∷ spell.step (spell.flag fixed) ∷ spell.step (spell.raw (spell.four_bytes items.now)) ∷ []) self.old self.new) }
-        ensures kept { Keeps self.old self.new }
+        ensures keeps { Keeps self.old self.new }
         ensures tables { self.new.tables ≡ self.old.tables }
         ensures known { self.new.known ≡ self.old.known }
     {
@@ -90,7 +90,7 @@ impl Output {
 
     fn uint_items(&mut self, items: &[u32]) -> Result<(), Memory>
         ensures ok { OnOk result (WritesStep (spell.raw (spell.four_bytes items.now)) self.old self.new) }
-        ensures kept { Keeps self.old self.new }
+        ensures keeps { Keeps self.old self.new }
         ensures tables { self.new.tables ≡ self.old.tables }
         ensures known { self.new.known ≡ self.old.known }
     {
@@ -104,7 +104,7 @@ impl Output {
     pub(crate) fn doubles(&mut self, fixed: bool, items: &[Pattern]) -> Result<(), Memory>
         requires { length items.now < count_end }
         ensures ok { OnOk result (WritesSteps (spell.step (spell.number (2 * length (map (λ p. p.0) items.now) + 1)) ∷ spell.step (spell.flag fixed) ∷ spell.step (spell.raw (spell.eight_bytes (map (λ p. p.0) items.now))) ∷ []) self.old self.new) }
-        ensures kept { Keeps self.old self.new }
+        ensures keeps { Keeps self.old self.new }
         ensures tables { self.new.tables ≡ self.old.tables }
         ensures known { self.new.known ≡ self.old.known }
     {
@@ -115,7 +115,7 @@ impl Output {
 
     fn double_items(&mut self, items: &[Pattern]) -> Result<(), Memory>
         ensures ok { OnOk result (WritesStep (spell.raw (spell.eight_bytes (map (λ p. p.0) items.now))) self.old self.new) }
-        ensures kept { Keeps self.old self.new }
+        ensures keeps { Keeps self.old self.new }
         ensures tables { self.new.tables ≡ self.old.tables }
         ensures known { self.new.known ≡ self.old.known }
     {

@@ -7,8 +7,8 @@ ghost use Rattle.amf_graph.specs.Rooted.{content};
 ghost use Rattle.amf_graph.specs.Bounds.{count_end};
 ghost use Rattle.amf3_spelling.specs.ByteSpelling as spell;
 ghost use Rattle.amf_iso.specs.Contents.{values_of, pairs_of, AreValues, ArePairs};
-ghost use Rattle.amf3_write.specs.Contents.{node_parts};
-ghost use Rattle.amf3_write.specs.Unwritten.{AreRunsOf, parts_left, turns_left, node_turns};
+ghost use Rattle.amf3_write.specs.Contents.{node_segments};
+ghost use Rattle.amf3_write.specs.Unwritten.{AreRunsOf, segments_left, turns_left, node_turns};
 ghost use Rattle.amf3_write.specs.Writes.{Leads, Keeps, IsReady};
 
 use crate::output::Output;
@@ -32,10 +32,10 @@ impl Output {
         requires there { node.0 < length graph.now.arena.nodes }
         requires runs { AreRunsOf graph.now.arena waiting.old.items }
         requires ready { IsReady graph.now.arena self.old.tables self.old.known }
-        ensures leads { OnOk result (Leads (content graph.now) (node_parts (node_at (content graph.now) node.0) ++ parts_left graph.now.arena waiting.old.items) (parts_left graph.now.arena waiting.new.items) self.old self.new) }
+        ensures leads { OnOk result (Leads (content graph.now) (node_segments (node_at (content graph.now) node.0) ++ segments_left graph.now.arena waiting.old.items) (segments_left graph.now.arena waiting.new.items) self.old self.new) }
         ensures runs { OnOk result (AreRunsOf graph.now.arena waiting.new.items) }
         ensures turns { OnOk result (turns_left waiting.new.items ≤ turns_left waiting.old.items + node_turns) }
-        ensures kept { Keeps self.old self.new }
+        ensures keeps { Keeps self.old self.new }
         ensures ready { OnOk result (IsReady graph.now.arena self.new.tables self.new.known) }
     {
         graph.is_finished();
@@ -83,10 +83,10 @@ impl Output {
         requires pairs { ArePairs graph.now.arena names.now }
         requires runs { AreRunsOf graph.now.arena waiting.old.items }
         requires ready { IsReady graph.now.arena self.old.tables self.old.known }
-        ensures leads { OnOk result (Leads (content graph.now) (spell.layout graph_of_values.array (by_name (pairs_of graph.now.arena names.now)) (values_of graph.now.arena items.now) ++ parts_left graph.now.arena waiting.old.items) (parts_left graph.now.arena waiting.new.items) self.old self.new) }
+        ensures leads { OnOk result (Leads (content graph.now) (spell.segments_of graph_of_values.array (by_name (pairs_of graph.now.arena names.now)) (values_of graph.now.arena items.now) ++ segments_left graph.now.arena waiting.old.items) (segments_left graph.now.arena waiting.new.items) self.old self.new) }
         ensures runs { OnOk result (AreRunsOf graph.now.arena waiting.new.items) }
         ensures turns { OnOk result (turns_left waiting.new.items ≤ turns_left waiting.old.items + (length names.now + length items.now + 2)) }
-        ensures kept { Keeps self.old self.new }
+        ensures keeps { Keeps self.old self.new }
         ensures ready { OnOk result (IsReady graph.now.arena self.new.tables self.new.known) }
     {
         self.number(2 * items.len() as u32 + 1)?;
@@ -108,10 +108,10 @@ impl Output {
         requires pairs { ArePairs graph.now.arena members.now }
         requires runs { AreRunsOf graph.now.arena waiting.old.items }
         requires ready { IsReady graph.now.arena self.old.tables self.old.known }
-        ensures leads { OnOk result (Leads (content graph.now) (spell.layout (graph_of_values.object (traits_at graph.now.arena traits.0)) (by_name (pairs_of graph.now.arena members.now)) (values_of graph.now.arena sealed.now) ++ parts_left graph.now.arena waiting.old.items) (parts_left graph.now.arena waiting.new.items) self.old self.new) }
+        ensures leads { OnOk result (Leads (content graph.now) (spell.segments_of (graph_of_values.object (traits_at graph.now.arena traits.0)) (by_name (pairs_of graph.now.arena members.now)) (values_of graph.now.arena sealed.now) ++ segments_left graph.now.arena waiting.old.items) (segments_left graph.now.arena waiting.new.items) self.old self.new) }
         ensures runs { OnOk result (AreRunsOf graph.now.arena waiting.new.items) }
         ensures turns { OnOk result (turns_left waiting.new.items ≤ turns_left waiting.old.items + (length members.now + length sealed.now + 2)) }
-        ensures kept { Keeps self.old self.new }
+        ensures keeps { Keeps self.old self.new }
         ensures ready { OnOk result (IsReady graph.now.arena self.new.tables self.new.known) }
     {
         graph.is_finished();
@@ -133,7 +133,7 @@ fn push_pairs<'g>(
     waiting: &mut Vec<Unwritten<'g>>,
 ) -> Result<(), Memory>
     requires { ArePairs graph.now.arena pairs.now }
-    ensures left { OnOk result (parts_left graph.now.arena waiting.new.items ≡ spell.pairs_then (by_name (pairs_of graph.now.arena pairs.now)) [] ++ parts_left graph.now.arena waiting.old.items) }
+    ensures left { OnOk result (segments_left graph.now.arena waiting.new.items ≡ spell.pairs_then (by_name (pairs_of graph.now.arena pairs.now)) [] ++ segments_left graph.now.arena waiting.old.items) }
     ensures runs { AreRunsOf graph.now.arena waiting.old.items → OnOk result (AreRunsOf graph.now.arena waiting.new.items) }
     ensures turns { OnOk result (turns_left waiting.new.items ≡ turns_left waiting.old.items + (length pairs.now + 1)) }
 {

@@ -39,7 +39,7 @@ impl Output {
         ensures tables { IfOk result (λ output. output.tables ≡ tables.old.tables) }
         ensures known { IfOk result (λ output. output.known ≡ tables.old.known) }
         ensures bytes { IfOk result (λ output. output.bytes ≡ bytes.old) }
-        ensures kept { OnErr result ((tables.new.tables ≡ tables.old.tables) × (bytes.new ≡ bytes.old)) }
+        ensures untouched { OnErr result ((tables.new.tables ≡ tables.old.tables) × (bytes.new ≡ bytes.old)) }
     {
         let empty = WriterTables::new(alloc)?;
         Ok(Output {
@@ -74,7 +74,7 @@ impl Output {
     /// A marker (3.1).
     pub(crate) fn marker(&mut self, marker: Marker) -> Result<(), Memory>
         ensures ok { OnOk result (WritesStep (spell.byte (marker_byte marker)) self.old self.new) }
-        ensures kept { Keeps self.old self.new }
+        ensures keeps { Keeps self.old self.new }
         ensures tables { self.new.tables ≡ self.old.tables }
         ensures known { self.new.known ≡ self.old.known }
     {
@@ -86,7 +86,7 @@ impl Output {
     pub(crate) fn number(&mut self, number: u32) -> Result<(), Memory>
         requires { number < u29_end }
         ensures ok { OnOk result (WritesStep (spell.number number) self.old self.new) }
-        ensures kept { Keeps self.old self.new }
+        ensures keeps { Keeps self.old self.new }
         ensures tables { self.new.tables ≡ self.old.tables }
         ensures known { self.new.known ≡ self.old.known }
     {
@@ -99,7 +99,7 @@ impl Output {
     /// Bytes as they are.
     pub(crate) fn raw(&mut self, bytes: &[u8]) -> Result<(), Memory>
         ensures ok { OnOk result (WritesStep (spell.raw bytes.now) self.old self.new) }
-        ensures kept { Keeps self.old self.new }
+        ensures keeps { Keeps self.old self.new }
         ensures tables { self.new.tables ≡ self.old.tables }
         ensures known { self.new.known ≡ self.old.known }
     {
@@ -109,7 +109,7 @@ impl Output {
 
     fn raw_number(&mut self, number: U29) -> Result<(), Memory>
         ensures ok { OnOk result (WritesStep (spell.number number) self.old self.new) }
-        ensures kept { Keeps self.old self.new }
+        ensures keeps { Keeps self.old self.new }
         ensures tables { self.new.tables ≡ self.old.tables }
         ensures known { self.new.known ≡ self.old.known }
     {
@@ -124,7 +124,7 @@ impl Output {
     /// A flag of a header: 1 for true (3.15).
     pub(crate) fn flag(&mut self, flag: bool) -> Result<(), Memory>
         ensures ok { OnOk result (WritesStep (spell.flag flag) self.old self.new) }
-        ensures kept { Keeps self.old self.new }
+        ensures keeps { Keeps self.old self.new }
         ensures tables { self.new.tables ≡ self.old.tables }
         ensures known { self.new.known ≡ self.old.known }
     {
@@ -151,7 +151,7 @@ impl Output {
         requires is_text { IsText text.now }
         requires short { length text.now < count_end }
         ensures ok { OnOk result (WritesStep (spell.word text.now) self.old self.new) }
-        ensures kept { Keeps self.old self.new }
+        ensures keeps { Keeps self.old self.new }
         ensures ready { (a : Arena) → IsReady a self.old.tables self.old.known → IsReady a self.new.tables self.new.known }
     {
         if text.is_empty() {
@@ -170,7 +170,7 @@ impl Output {
         requires not_empty { text.now ≢ [] }
         requires first { IsFirstPlace self.old.tables.words.texts text.now place }
         ensures ok { OnOk result (WritesStep (spell.word text.now) self.old self.new) }
-        ensures kept { Keeps self.old self.new }
+        ensures keeps { Keeps self.old self.new }
         ensures ready { (a : Arena) → IsReady a self.old.tables self.old.known → IsReady a self.new.tables self.new.known }
     {
         if place < NAMEABLE_TEXTS {
@@ -185,7 +185,7 @@ impl Output {
         requires not_empty { text.now ≢ [] }
         requires unnamed { NoPlaceBelow NAMEABLE_TEXTS self.old.tables.words.texts text.now }
         ensures ok { OnOk result (WritesStep (spell.word text.now) self.old self.new) }
-        ensures kept { Keeps self.old self.new }
+        ensures keeps { Keeps self.old self.new }
         ensures ready { (a : Arena) → IsReady a self.old.tables self.old.known → IsReady a self.new.tables self.new.known }
     {
         self.number(2 * text.len() as u32 + 1)?;

@@ -42,7 +42,7 @@ pub fn write3_text(
 ) -> Result<(), Memory>
     requires { IsTextId graph.now.arena text.0 }
     ensures written { OnOk result (AppendsText (text_at graph.now.arena text.0) tables.old tables.new out.old.items out.new.items) }
-    ensures kept { OnErr result (out.new.items ≡ out.old.items) }
+    ensures untouched { OnErr result (out.new.items ≡ out.old.items) }
 {
     let mut own = taken(alloc, tables)?;
     let result = write_text(alloc, graph, text, &mut own, out);
@@ -60,7 +60,7 @@ fn write_text(
 ) -> Result<(), Memory>
     requires { IsTextId graph.now.arena text.0 }
     ensures written { OnOk result (AppendsText (text_at graph.now.arena text.0) tables.old.tables tables.new.tables out.old.items out.new.items) }
-    ensures kept { OnErr result (out.new.items ≡ out.old.items) }
+    ensures untouched { OnErr result (out.new.items ≡ out.old.items) }
 {
     graph.is_finished();
     let start = out.len();
@@ -83,7 +83,7 @@ pub fn write3_text_of(
     requires tables { AreTablesOf graph.now.arena tables.old }
     ensures written { OnOk result (AppendsText (text_at graph.now.arena text.0) tables.old.tables tables.new.tables out.old.items out.new.items) }
     ensures tables { OnOk result (AreTablesOf graph.now.arena tables.new) }
-    ensures kept { OnErr result (out.new.items ≡ out.old.items) }
+    ensures untouched { OnErr result (out.new.items ≡ out.old.items) }
 {
     let start = out.len();
     let mut output = Output::taking(alloc, tables, out)?;
@@ -106,7 +106,7 @@ fn write_value(
     ensures lack { (l : Lack) → IsErrOf result (WriteEnd.NoSpelling l) → HasUnnamed (content graph.now) (value_content graph.now.arena value) tables.old.tables.done }
     ensures nodes { BeginsWith tables.old.tables.nodes tables.new.tables.nodes }
     ensures tables { OnOk result (AreTablesOf graph.now.arena tables.new) }
-    ensures kept { OnErr result (out.new.items ≡ out.old.items) }
+    ensures untouched { OnErr result (out.new.items ≡ out.old.items) }
 {
     let start = out.len();
     let mut output = Output::taking(alloc, tables, out)?;
@@ -130,7 +130,7 @@ pub fn write3_part_of(
     ensures written { OnOk result (AppendsPart (content graph.now) (value_content graph.now.arena value) tables.old.tables tables.new.tables out.old.items out.new.items) }
     ensures lack { (l : Lack) → IsErrOf result (WriteEnd.NoSpelling l) → IsPartLack3 (content graph.now) (value_content graph.now.arena value) tables.old.tables.done l.node l.kind }
     ensures tables { OnOk result (AreTablesOf graph.now.arena tables.new) }
-    ensures kept { OnErr result (out.new.items ≡ out.old.items) }
+    ensures untouched { OnErr result (out.new.items ≡ out.old.items) }
 {
     let count = tables.tables.node_count();
     match write_value(alloc, graph, value, tables, out) {
@@ -168,7 +168,7 @@ pub fn write3_part(
     ensures lack { (l : Lack) → IsErrOf result (WriteEnd.NoSpelling l) → IsPartLack3 (content graph.now) (value_content graph.now.arena value) tables.old.done l.node l.kind }
     ensures nodes { OnOk result (AllByRecursion (λ i. i < length graph.now.arena.nodes) tables.new.nodes) }
     ensures placed { OnOk result (tables.new.done ≡ tables.new.nodes) }
-    ensures kept { OnErr result (out.new.items ≡ out.old.items) }
+    ensures untouched { OnErr result (out.new.items ≡ out.old.items) }
 {
     let mut own = taken(alloc, tables)?;
     let result = write3_part_of(alloc, graph, value, &mut own, out);

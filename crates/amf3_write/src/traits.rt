@@ -26,7 +26,7 @@ impl Output {
         requires ready { IsReady graph.now.arena self.old.tables self.old.known }
         ensures text { IsText (text_at graph.now.arena text.0) }
         ensures ok { OnOk result (WritesStep (spell.word (text_at graph.now.arena text.0)) self.old self.new) }
-        ensures kept { Keeps self.old self.new }
+        ensures keeps { Keeps self.old self.new }
         ensures ready { OnOk result (IsReady graph.now.arena self.new.tables self.new.known) }
     {
         graph.is_finished();
@@ -58,7 +58,7 @@ impl Output {
         requires texts { AreTextIds graph.now.arena texts.now }
         requires ready { IsReady graph.now.arena self.old.tables self.old.known }
         ensures ok { OnOk result (WritesTexts (texts_at graph.now.arena texts.now) self.old self.new) }
-        ensures kept { Keeps self.old self.new }
+        ensures keeps { Keeps self.old self.new }
         ensures ready { OnOk result (IsReady graph.now.arena self.new.tables self.new.known) }
     {
         for text in texts {
@@ -91,7 +91,7 @@ impl Output {
         requires id { traits.0 < length graph.now.arena.traits }
         requires ready { IsReady graph.now.arena self.old.tables self.old.known }
         ensures ok { OnOk result (WritesStep (spell.traits (entry_at graph.now.arena traits.0)) self.old self.new) }
-        ensures kept { Keeps self.old self.new }
+        ensures keeps { Keeps self.old self.new }
         ensures ready { OnOk result (IsReady graph.now.arena self.new.tables self.new.known) }
     {
         graph.is_finished();
@@ -107,7 +107,7 @@ impl Output {
         requires ready { IsReady graph.now.arena self.old.tables self.old.known }
         requires unnamed { NoPlaceBelow NAMEABLE_TRAITS self.old.tables.words.traits (shown_entry graph.now.arena traits.now) }
         ensures ok { OnOk result (WritesStep (spell.traits (shown_entry graph.now.arena traits.now)) self.old self.new) }
-        ensures kept { Keeps self.old self.new }
+        ensures keeps { Keeps self.old self.new }
         ensures ready { OnOk result (IsReady graph.now.arena self.new.tables self.new.known) }
     {
         let flags = if traits.dynamic { 0b1011 } else { 0b0011 };
@@ -135,7 +135,7 @@ impl Output {
     /// The traits of an externalizable class: by their place, or inline where no header can name it (3.12).
     pub(crate) fn wrapper(&mut self, class: Wrapped) -> Result<(), Memory>
         ensures ok { OnOk result (WritesStep (spell.traits (external class)) self.old self.new) }
-        ensures kept { Keeps self.old self.new }
+        ensures keeps { Keeps self.old self.new }
         ensures ready { (a : Arena) → IsReady a self.old.tables self.old.known → IsReady a self.new.tables self.new.known }
     {
         match self.place_of_wrapped(class) {
@@ -147,7 +147,7 @@ impl Output {
     fn wrapper_inline(&mut self, class: Wrapped) -> Result<(), Memory>
         requires { NoPlaceBelow NAMEABLE_TRAITS self.old.tables.words.traits (external class) }
         ensures ok { OnOk result (WritesStep (spell.traits (external class)) self.old self.new) }
-        ensures kept { Keeps self.old self.new }
+        ensures keeps { Keeps self.old self.new }
         ensures ready { (a : Arena) → IsReady a self.old.tables self.old.known → IsReady a self.new.tables self.new.known }
     {
         self.number(0b0111)?;

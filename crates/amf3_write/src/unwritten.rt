@@ -4,7 +4,7 @@ ghost use Rattle.amf_graph.specs.Rooted.{content};
 ghost use Rattle.amf_graph.specs.Views.{flat};
 ghost use Rattle.amf3_spelling.specs.ByteSpelling as spell;
 ghost use Rattle.amf_iso.specs.Contents.{values_of, pairs_of, AreValues};
-ghost use Rattle.amf3_write.specs.Unwritten.{IsRunOf, AreRunsOf, AreStoredPairs, IsNextOf, run_parts, next_parts, parts_left, run_turns, turns_left};
+ghost use Rattle.amf3_write.specs.Unwritten.{IsRunOf, AreRunsOf, AreStoredPairs, IsNextOf, run_segments, next_segments, segments_left, run_turns, turns_left};
 ghost use Rattle.amf3_write.specs.Writes.{Leads, Keeps, IsReady};
 
 use crate::output::Output;
@@ -37,10 +37,10 @@ impl Output {
     ) -> Result<Option<Value>, Memory>
         requires run { IsRunOf graph.now.arena run }
         requires ready { IsReady graph.now.arena self.old.tables self.old.known }
-        ensures leads { IfOk result (λ next. Leads (content graph.now) (run_parts graph.now.arena run.entry ++ parts_left graph.now.arena waiting.old.items) (next_parts graph.now.arena next ++ parts_left graph.now.arena waiting.new.items) self.old self.new) }
+        ensures leads { IfOk result (λ next. Leads (content graph.now) (run_segments graph.now.arena run.entry ++ segments_left graph.now.arena waiting.old.items) (next_segments graph.now.arena next ++ segments_left graph.now.arena waiting.new.items) self.old self.new) }
         ensures runs { AreRunsOf graph.now.arena waiting.old.items → IfOk result (λ next. IsNextOf graph.now.arena next × AreRunsOf graph.now.arena waiting.new.items) }
         ensures turns { OnOk result (turns_left waiting.new.items + 1 ≤ run_turns run.entry + turns_left waiting.old.items) }
-        ensures kept { Keeps self.old self.new }
+        ensures keeps { Keeps self.old self.new }
         ensures ready { OnOk result (IsReady graph.now.arena self.new.tables self.new.known) }
     {
         match run {
@@ -61,10 +61,10 @@ impl Output {
     ) -> Result<Option<Value>, Memory>
         requires pairs { AreStoredPairs graph.now.arena pairs.now }
         requires ready { IsReady graph.now.arena self.old.tables self.old.known }
-        ensures leads { IfOk result (λ next. Leads (content graph.now) (spell.pairs_then (pairs_of graph.now.arena pairs.now) [] ++ parts_left graph.now.arena waiting.old.items) (next_parts graph.now.arena next ++ parts_left graph.now.arena waiting.new.items) self.old self.new) }
+        ensures leads { IfOk result (λ next. Leads (content graph.now) (spell.pairs_then (pairs_of graph.now.arena pairs.now) [] ++ segments_left graph.now.arena waiting.old.items) (next_segments graph.now.arena next ++ segments_left graph.now.arena waiting.new.items) self.old self.new) }
         ensures runs { AreRunsOf graph.now.arena waiting.old.items → IfOk result (λ next. IsNextOf graph.now.arena next × AreRunsOf graph.now.arena waiting.new.items) }
         ensures turns { OnOk result (turns_left waiting.new.items ≤ length pairs.now + turns_left waiting.old.items) }
-        ensures kept { Keeps self.old self.new }
+        ensures keeps { Keeps self.old self.new }
         ensures ready { OnOk result (IsReady graph.now.arena self.new.tables self.new.known) }
     {
         match pairs.split_first() {
@@ -90,10 +90,10 @@ impl Output {
     ) -> Result<Option<Value>, Memory>
         requires pairs { AreStoredPairs graph.now.arena pairs.items }
         requires ready { IsReady graph.now.arena self.old.tables self.old.known }
-        ensures leads { IfOk result (λ next. Leads (content graph.now) (spell.pairs_then (pairs_of graph.now.arena (reverse pairs.items)) [] ++ parts_left graph.now.arena waiting.old.items) (next_parts graph.now.arena next ++ parts_left graph.now.arena waiting.new.items) self.old self.new) }
+        ensures leads { IfOk result (λ next. Leads (content graph.now) (spell.pairs_then (pairs_of graph.now.arena (reverse pairs.items)) [] ++ segments_left graph.now.arena waiting.old.items) (next_segments graph.now.arena next ++ segments_left graph.now.arena waiting.new.items) self.old self.new) }
         ensures runs { AreRunsOf graph.now.arena waiting.old.items → IfOk result (λ next. IsNextOf graph.now.arena next × AreRunsOf graph.now.arena waiting.new.items) }
         ensures turns { OnOk result (turns_left waiting.new.items ≤ length pairs.items + turns_left waiting.old.items) }
-        ensures kept { Keeps self.old self.new }
+        ensures keeps { Keeps self.old self.new }
         ensures ready { OnOk result (IsReady graph.now.arena self.new.tables self.new.known) }
     {
         match pairs.pop() {
@@ -115,7 +115,7 @@ fn next_item<'g>(
     values: &'g [Value],
     waiting: &mut Vec<Unwritten<'g>>,
 ) -> Result<Option<Value>, Memory>
-    ensures left { (a : Arena) → IfOk result (λ next. next_parts a next ++ parts_left a waiting.new.items ≡ spell.values_then (values_of a values.now) [] ++ parts_left a waiting.old.items) }
+    ensures left { (a : Arena) → IfOk result (λ next. next_segments a next ++ segments_left a waiting.new.items ≡ spell.values_then (values_of a values.now) [] ++ segments_left a waiting.old.items) }
     ensures runs { (a : Arena) → AreValues a values.now → AreRunsOf a waiting.old.items → IfOk result (λ next. IsNextOf a next × AreRunsOf a waiting.new.items) }
     ensures turns { OnOk result (turns_left waiting.new.items ≤ length values.now + turns_left waiting.old.items) }
 {
@@ -133,7 +133,7 @@ fn next_key<'g>(
     entries: &'g [(Value, Value)],
     waiting: &mut Vec<Unwritten<'g>>,
 ) -> Result<Option<Value>, Memory>
-    ensures left { (a : Arena) → IfOk result (λ next. next_parts a next ++ parts_left a waiting.new.items ≡ spell.values_then (values_of a (flat entries.now)) [] ++ parts_left a waiting.old.items) }
+    ensures left { (a : Arena) → IfOk result (λ next. next_segments a next ++ segments_left a waiting.new.items ≡ spell.values_then (values_of a (flat entries.now)) [] ++ segments_left a waiting.old.items) }
     ensures runs { (a : Arena) → AreValues a (flat entries.now) → AreRunsOf a waiting.old.items → IfOk result (λ next. IsNextOf a next × AreRunsOf a waiting.new.items) }
     ensures turns { OnOk result (turns_left waiting.new.items ≤ 2 * length entries.now + turns_left waiting.old.items) }
 {

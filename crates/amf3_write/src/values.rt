@@ -7,7 +7,7 @@ ghost use Rattle.amf_graph.specs.Order.{Absent};
 ghost use Rattle.amf_graph.specs.Rooted.{content};
 ghost use Rattle.amf_wire.specs.Integer.{IsInteger};
 ghost use Rattle.amf3_spelling.specs.ByteSpelling as spell;
-ghost use Rattle.amf3_write.specs.Unwritten.{AreRunsOf, parts_left, turns_left, Falls};
+ghost use Rattle.amf3_write.specs.Unwritten.{AreRunsOf, segments_left, turns_left, Falls};
 ghost use Rattle.amf3_write.specs.Writes.{WritesSteps, WritesValue, Leads, Keeps, Stops, IsReady};
 
 use crate::nodes::is_unnamed;
@@ -21,8 +21,8 @@ impl Output {
     /// The integer behind its marker (3.6).
     fn integer(&mut self, integer: i32) -> Result<(), Memory>
         requires { IsInteger integer }
-        ensures ok { OnOk result (WritesSteps (spell.step (spell.byte 4) ∷ spell.leaf_layout (graph_of_values.integer integer)) self.old self.new) }
-        ensures kept { Keeps self.old self.new }
+        ensures ok { OnOk result (WritesSteps (spell.step (spell.byte 4) ∷ spell.leaf_segments (graph_of_values.integer integer)) self.old self.new) }
+        ensures keeps { Keeps self.old self.new }
         ensures tables { self.new.tables ≡ self.old.tables }
         ensures known { self.new.known ≡ self.old.known }
     {
@@ -38,8 +38,8 @@ impl Output {
 
     /// The bits of a double behind its marker (3.7).
     fn double(&mut self, double: Pattern) -> Result<(), Memory>
-        ensures ok { OnOk result (WritesSteps (spell.step (spell.byte 5) ∷ spell.leaf_layout (graph_of_values.double double.0)) self.old self.new) }
-        ensures kept { Keeps self.old self.new }
+        ensures ok { OnOk result (WritesSteps (spell.step (spell.byte 5) ∷ spell.leaf_segments (graph_of_values.double double.0)) self.old self.new) }
+        ensures keeps { Keeps self.old self.new }
         ensures tables { self.new.tables ≡ self.old.tables }
         ensures known { self.new.known ≡ self.old.known }
     {
@@ -54,7 +54,7 @@ impl Output {
         requires ready { IsReady graph.now.arena self.old.tables self.old.known }
         ensures ok { OnOk result (WritesValue (content graph.now) (value_content graph.now.arena value) self.old self.new) }
         ensures lack { (l : Lack) → IsErrOf result (WriteEnd.NoSpelling l) → Stops (content graph.now) (spell.value (value_content graph.now.arena value) ∷ []) self.old l }
-        ensures kept { Keeps self.old self.new }
+        ensures keeps { Keeps self.old self.new }
         ensures ready { OnOk result (IsReady graph.now.arena self.new.tables self.new.known) }
     {
         let mut waiting = vec![in self.alloc; Unwritten::One(value)]?;
@@ -77,11 +77,11 @@ impl Output {
         requires value { Names graph.now.arena value }
         requires runs { AreRunsOf graph.now.arena waiting.old.items }
         requires ready { IsReady graph.now.arena self.old.tables self.old.known }
-        ensures leads { OnOk result (Leads (content graph.now) (spell.value (value_content graph.now.arena value) ∷ parts_left graph.now.arena waiting.old.items) (parts_left graph.now.arena waiting.new.items) self.old self.new) }
-        ensures lack { (l : Lack) → IsErrOf result (WriteEnd.NoSpelling l) → Stops (content graph.now) (spell.value (value_content graph.now.arena value) ∷ parts_left graph.now.arena waiting.old.items) self.old l }
+        ensures leads { OnOk result (Leads (content graph.now) (spell.value (value_content graph.now.arena value) ∷ segments_left graph.now.arena waiting.old.items) (segments_left graph.now.arena waiting.new.items) self.old self.new) }
+        ensures lack { (l : Lack) → IsErrOf result (WriteEnd.NoSpelling l) → Stops (content graph.now) (spell.value (value_content graph.now.arena value) ∷ segments_left graph.now.arena waiting.old.items) self.old l }
         ensures runs { OnOk result (AreRunsOf graph.now.arena waiting.new.items) }
         ensures falls { OnOk result (Falls (length graph.now.arena.nodes) self.old.tables.nodes self.new.tables.nodes (turns_left waiting.old.items) (turns_left waiting.new.items)) }
-        ensures kept { Keeps self.old self.new }
+        ensures keeps { Keeps self.old self.new }
         ensures ready { OnOk result (IsReady graph.now.arena self.new.tables self.new.known) }
     {
         match value {
@@ -110,11 +110,11 @@ impl Output {
         requires there { node.0 < length graph.now.arena.nodes }
         requires runs { AreRunsOf graph.now.arena waiting.old.items }
         requires ready { IsReady graph.now.arena self.old.tables self.old.known }
-        ensures leads { OnOk result (Leads (content graph.now) (spell.value (graph_of_values.node node.0) ∷ parts_left graph.now.arena waiting.old.items) (parts_left graph.now.arena waiting.new.items) self.old self.new) }
-        ensures lack { (l : Lack) → IsErrOf result (WriteEnd.NoSpelling l) → Stops (content graph.now) (spell.value (graph_of_values.node node.0) ∷ parts_left graph.now.arena waiting.old.items) self.old l }
+        ensures leads { OnOk result (Leads (content graph.now) (spell.value (graph_of_values.node node.0) ∷ segments_left graph.now.arena waiting.old.items) (segments_left graph.now.arena waiting.new.items) self.old self.new) }
+        ensures lack { (l : Lack) → IsErrOf result (WriteEnd.NoSpelling l) → Stops (content graph.now) (spell.value (graph_of_values.node node.0) ∷ segments_left graph.now.arena waiting.old.items) self.old l }
         ensures runs { OnOk result (AreRunsOf graph.now.arena waiting.new.items) }
         ensures falls { OnOk result (Falls (length graph.now.arena.nodes) self.old.tables.nodes self.new.tables.nodes (turns_left waiting.old.items) (turns_left waiting.new.items)) }
-        ensures kept { Keeps self.old self.new }
+        ensures keeps { Keeps self.old self.new }
         ensures ready { OnOk result (IsReady graph.now.arena self.new.tables self.new.known) }
     {
         graph.is_finished();
@@ -139,11 +139,11 @@ impl Output {
         requires new { Absent self.old.tables.nodes node.0 }
         requires runs { AreRunsOf graph.now.arena waiting.old.items }
         requires ready { IsReady graph.now.arena self.old.tables self.old.known }
-        ensures leads { OnOk result (Leads (content graph.now) (spell.value (graph_of_values.node node.0) ∷ parts_left graph.now.arena waiting.old.items) (parts_left graph.now.arena waiting.new.items) self.old self.new) }
-        ensures lack { (l : Lack) → IsErrOf result (WriteEnd.NoSpelling l) → Stops (content graph.now) (spell.value (graph_of_values.node node.0) ∷ parts_left graph.now.arena waiting.old.items) self.old l }
+        ensures leads { OnOk result (Leads (content graph.now) (spell.value (graph_of_values.node node.0) ∷ segments_left graph.now.arena waiting.old.items) (segments_left graph.now.arena waiting.new.items) self.old self.new) }
+        ensures lack { (l : Lack) → IsErrOf result (WriteEnd.NoSpelling l) → Stops (content graph.now) (spell.value (graph_of_values.node node.0) ∷ segments_left graph.now.arena waiting.old.items) self.old l }
         ensures runs { OnOk result (AreRunsOf graph.now.arena waiting.new.items) }
         ensures falls { OnOk result (Falls (length graph.now.arena.nodes) self.old.tables.nodes self.new.tables.nodes (turns_left waiting.old.items) (turns_left waiting.new.items)) }
-        ensures kept { Keeps self.old self.new }
+        ensures keeps { Keeps self.old self.new }
         ensures ready { OnOk result (IsReady graph.now.arena self.new.tables self.new.known) }
     {
         graph.is_finished();

@@ -23,7 +23,7 @@ use std::hash::RandomState;
 pub fn write3(alloc: Global, graph: &Rooted, out: &mut Vec<u8>) -> Result<(), WriteEnd>
     ensures written { OnOk result (AppendsCanonical (content graph.now) out.old.items out.new.items) }
     ensures lack { (l : Lack) → IsErrOf result (WriteEnd.NoSpelling l) → IsLack3 (content graph.now) l.node l.kind }
-    ensures kept { OnErr result (out.new.items ≡ out.old.items) }
+    ensures untouched { OnErr result (out.new.items ≡ out.old.items) }
 {
     write3_keyed(alloc, None, graph, out)
 }
@@ -38,7 +38,7 @@ pub fn write3_keyed(
 ) -> Result<(), WriteEnd>
     ensures written { OnOk result (AppendsCanonical (content graph.now) out.old.items out.new.items) }
     ensures lack { (l : Lack) → IsErrOf result (WriteEnd.NoSpelling l) → IsLack3 (content graph.now) l.node l.kind }
-    ensures kept { OnErr result (out.new.items ≡ out.old.items) }
+    ensures untouched { OnErr result (out.new.items ≡ out.old.items) }
 {
     graph.is_finished();
     let made = tables_with(alloc, keys)?;

@@ -16,12 +16,12 @@ use Rattle.amf_broker.specs.Delivery.{Message, is_in, handed_to, published_to, s
 use Rattle.amf_broker.proofs.Clients.{waiting, waiting-same, same-seen}
 use Rattle.amf_broker.proofs.Leavers.{Left, done-leave, live-leave, idle-leave, next-leave, destinations-leave}
 use Rattle.amf_broker.proofs.Refusals.{AllQuiet, quiet-refusal, connected-served}
-use Rattle.amf_broker.proofs.Steps.{Idle, idle-served, next-served, Done, Stays, Parts, done-served, Live, LiveStep, live-served, named-begun}
+use Rattle.amf_broker.proofs.Steps.{Idle, idle-served, next-served, Done, Stays, Departs, done-served, Live, LiveStep, live-served, named-begun}
 
 -- Replies, refused or served.
 
 done-unless : (n k : ℕ) (b : Board) (c : Call) (o : Option Reply) → AllQuiet o → Done n k b
-    → let a = unless o b (served b c) in Stays n k c a.0 b a.1 ⊎ Parts n k c a.0 b a.1
+    → let a = unless o b (served b c) in Stays n k c a.0 b a.1 ⊎ Departs n k c a.0 b a.1
 done-unless n k b c None q d = done-served n k b c d
 done-unless n k b c (Some r) q d = inl (record { left = q.leaves k c; done = d; moves = ap (λ m. m ++ waiting n k b.clients) (q.hands n) })
 
@@ -44,7 +44,7 @@ record StaysOn (n k : ℕ) (c : Call) (a : Answer) (s t : Board) : Type 0 where
   moves : handed_to n a.reply ++ waiting n k t.clients ≡ waiting n k s.clients
 
 -- its client leaves
-record PartsOn (n k : ℕ) (c : Call) (a : Answer) (t : Board) : Type 0 where
+record DepartsOn (n k : ℕ) (c : Call) (a : Answer) (t : Board) : Type 0 where
   left : left_by k c a ≡ true
   done : Done n k t
   hands : handed_to n a.reply ≡ []
@@ -58,7 +58,7 @@ record GoesOn (n k : ℕ) (t : Topic) (c : Call) (a : Answer) (s s' : Board) : T
   moves : handed_to n a.reply ++ waiting n k s'.clients ≡ waiting n k s.clients ++ cons_option (published_to t c a.reply) []
 
 abbrev DoneOn : ℕ → ℕ → Call → Answer → Board → Board → Type 0
-DoneOn n k c a s t = StaysOn n k c a s t ⊎ PartsOn n k c a t
+DoneOn n k c a s t = StaysOn n k c a s t ⊎ DepartsOn n k c a t
 
 abbrev LiveOn : ℕ → ℕ → Topic → Call → Answer → Board → Board → Type 0
 LiveOn n k t c a s s' = GoesOn n k t c a s s' ⊎ ((ended_by n k c a ≡ true) × DoneOn n k c a s s')
@@ -91,7 +91,7 @@ append-empty [] ys e = (refl, e)
 append-empty (x ∷ xs) ys e = cc
 
 -- the client expired, so that the reply hands nothing to the subscription
-expired-on : (n k : ℕ) (c : Call) (o : Option ℕ) (ks : List ℕ) (r : Reply) (b f t : Board) → Left n k ks b f → Stays n k c r f t ⊎ Parts n k c r f t → PartsOn n k c (record { reply = r; expired = ks }) (sighted o t)
+expired-on : (n k : ℕ) (c : Call) (o : Option ℕ) (ks : List ℕ) (r : Reply) (b f t : Board) → Left n k ks b f → Stays n k c r f t ⊎ Departs n k c r f t → DepartsOn n k c (record { reply = r; expired = ks }) (sighted o t)
 expired-on n k c o ks r b f t l step =
     let left : left_by k c (record { reply = r; expired = ks }) ≡ true = ap (λ x. x || says_bye k c r) l.among in
     elim step [
@@ -101,7 +101,7 @@ expired-on n k c o ks r b f t l step =
       | inr p ↦ record { left = left; done = done-sighted n k o t p.done; hands = p.hands; waits = waiting-sighted n k o t ∙ p.waits }
     ]
 
-done-on : (n k : ℕ) (c : Call) (o : Option ℕ) (ks : List ℕ) (r : Reply) (b f t : Board) → is_in k ks ≡ false → waiting n k f.clients ≡ waiting n k b.clients → Stays n k c r f t ⊎ Parts n k c r f t → DoneOn n k c (record { reply = r; expired = ks }) b (sighted o t)
+done-on : (n k : ℕ) (c : Call) (o : Option ℕ) (ks : List ℕ) (r : Reply) (b f t : Board) → is_in k ks ≡ false → waiting n k f.clients ≡ waiting n k b.clients → Stays n k c r f t ⊎ Departs n k c r f t → DoneOn n k c (record { reply = r; expired = ks }) b (sighted o t)
 done-on n k c o ks r b f t apart waits step = elim step [
   | inl s ↦ inl (record {
     left = ap (λ x. x || says_bye k c r) apart ∙ s.left;

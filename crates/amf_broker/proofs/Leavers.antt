@@ -108,12 +108,12 @@ pub record Left (n k : ℕ) (ks : List ℕ) (b t : Board) : Type 0 where
   pub done : Done n k t
   pub waits : waiting n k t.clients ≡ []
 
-pub record Kept (P : Board → Type 0) (n k : ℕ) (ks : List ℕ) (b t : Board) : Type 0 where
+pub record Stayed (P : Board → Type 0) (n k : ℕ) (ks : List ℕ) (b t : Board) : Type 0 where
   pub apart : is_in k ks ≡ false
   pub is : P t
   pub waits : waiting n k t.clients ≡ waiting n k b.clients
 
-pub done-leave : (n k : ℕ) (ks : List ℕ) (b : Board) → Done n k b → Kept (Done n k) n k ks b (without_all ks b) ⊎ Left n k ks b (without_all ks b)
+pub done-leave : (n k : ℕ) (ks : List ℕ) (b : Board) → Done n k b → Stayed (Done n k) n k ks b (without_all ks b) ⊎ Left n k ks b (without_all ks b)
 done-leave n k [] b d = inl (record { apart = refl; is = d; waits = refl })
 done-leave n k (j ∷ ks) b d = elim (done-served n k b (Disconnect j) d) [
   | inl stay ↦ elim (done-leave n k ks (without j b) stay.done) [
@@ -128,7 +128,7 @@ done-leave n k (j ∷ ks) b d = elim (done-served n k b (Disconnect j) d) [
       ]
 ]
 
-pub live-leave : (n k : ℕ) (t : Topic) (ks : List ℕ) (b : Board) → Live n k t b → Kept (Live n k t) n k ks b (without_all ks b) ⊎ Left n k ks b (without_all ks b)
+pub live-leave : (n k : ℕ) (t : Topic) (ks : List ℕ) (b : Board) → Live n k t b → Stayed (Live n k t) n k ks b (without_all ks b) ⊎ Left n k ks b (without_all ks b)
 live-leave n k t [] b l = inl (record { apart = refl; is = l; waits = refl })
 live-leave n k t (j ∷ ks) b l = elim (live-served n k t b (Disconnect j) l) [
   | inl goes ↦ elim (live-leave n k t ks (without j b) goes.live) [

@@ -109,7 +109,7 @@ pub record Stays (n k : ℕ) (c : Call) (r : Reply) (s t : Board) : Type 0 where
   pub moves : handed_to n r ++ waiting n k t.clients ≡ waiting n k s.clients
 
 -- its client disconnects
-pub record Parts (n k : ℕ) (c : Call) (r : Reply) (s t : Board) : Type 0 where
+pub record Departs (n k : ℕ) (c : Call) (r : Reply) (s t : Board) : Type 0 where
   pub left : says_bye k c r ≡ true
   pub done : Done n k t
   pub hands : handed_to n r ≡ []
@@ -121,7 +121,7 @@ done-after n k s c d =
     let old = d.old in
     record { old = omega arith; idle = idle-served n (λ j. j ≢ k) s c (inr old) d.idle }
 
-pub done-served : (n k : ℕ) (s : Board) (c : Call) → Done n k s → Stays n k c (served s c).0 s (served s c).1 ⊎ Parts n k c (served s c).0 s (served s c).1
+pub done-served : (n k : ℕ) (s : Board) (c : Call) → Done n k s → Stays n k c (served s c).0 s (served s c).1 ⊎ Departs n k c (served s c).0 s (served s c).1
 done-served n k s Connect d = inl (record { left = refl; done = done-after n k s Connect d; moves = ap (messages_for n) (queue_of-new k s.next_client s.moment s.clients) })
 done-served n k s (Subscribe j t) d = inl (record { left = refl; done = done-after n k s (Subscribe j t) d; moves = refl })
 done-served n k s (Unsubscribe j sub) d = inl (record { left = refl; done = done-after n k s (Unsubscribe j sub) d; moves = refl })
@@ -175,7 +175,7 @@ pub record Goes (n k : ℕ) (t : Topic) (c : Call) (r : Reply) (s s' : Board) : 
 
 -- it ends: what waits stays, or is gone with its client
 abbrev pub Ends : ℕ → ℕ → Call → Reply → Board → Board → Type 0
-Ends n k c r s s' = (ends n k c r ≡ true) × (Stays n k c r s s' ⊎ Parts n k c r s s')
+Ends n k c r s s' = (ends n k c r ≡ true) × (Stays n k c r s s' ⊎ Departs n k c r s s')
 
 abbrev pub LiveStep : ℕ → ℕ → Topic → Call → Reply → Board → Board → Type 0
 LiveStep n k t c r s s' = Goes n k t c r s s' ⊎ Ends n k c r s s'

@@ -14,7 +14,7 @@ use Rattle.amf3_spelling.proofs.FirstLack3.{spelling_or_lack}
 use Rattle.amf0_tables.proofs.Decides0.{alone0, canonical_decides0, same_bytes_isomorphic0}
 use Rattle.amf0_tables.proofs.Forget0.{forget_spelled0}
 use Rattle.amf0_tables.proofs.LackTwice0.{spelling_or_lack0}
-use Rattle.amf0_tables.proofs.Low.{kept}
+use Rattle.amf0_tables.proofs.Low.{lowered_alike}
 use Rattle.amf_packet_show.specs.SamePacket.{SamePacket}
 use Rattle.amf_packet_show.proofs.Laws.{packet_laws}
 use Rattle.amf_packet_show.proofs.Lowerings.{same_sym, same_trans}
@@ -107,9 +107,9 @@ every _ _ b d s other = absurd d
 -- the same contents are the same in the kinds that a format has
 pub fits_alike : (f : Format) (c d fit other : Content) → SameContent c d → IsFitted f c fit → IsFitted f d other → SameContent fit other
 fits_alike Amf3 (value g) (value h) (value x) (value y) i d e = subst (λ (w : Graph). Isomorphic w y) (sym d) (subst (λ (w : Graph). Isomorphic g w) (sym e) i)
-fits_alike Amf0 (value g) (value h) (value x) (value y) i d e = kept g h x y i d e
-fits_alike Packet (packet p) (packet q) (packet x) (packet y) i d e = packet_laws.kept p q x y i d e
-fits_alike Sol (file o) (file k) (file x) (file y) i d e = file_laws.kept o k x y i d e
+fits_alike Amf0 (value g) (value h) (value x) (value y) i d e = lowered_alike g h x y i d e
+fits_alike Packet (packet p) (packet q) (packet x) (packet y) i d e = packet_laws.lowered_alike p q x y i d e
+fits_alike Sol (file o) (file k) (file x) (file y) i d e = file_laws.lowered_alike o k x y i d e
 fits_alike Amf3 (value g) (value h) (value x) _ i d e = absurd e
 fits_alike Amf0 (value g) (value h) (value x) _ i d e = absurd e
 fits_alike Packet (packet p) (packet q) (packet x) _ i d e = absurd e

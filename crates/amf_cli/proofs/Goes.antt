@@ -18,7 +18,7 @@ use Rattle.amf_cli.specs.declared.format.Format.TheVariants.{Amf3, Amf0, Packet,
 use Rattle.amf_cli.specs.Commands.{goes_to}
 use Rattle.amf_cli.specs.Content.{value, packet, file}
 use Rattle.amf_cli.specs.Formats.{IsWritten, IsUnwritten}
-use Rattle.amf_cli.specs.Reading.{GoesInto, IsPacketRead, IsOfValues}
+use Rattle.amf_cli.specs.ReadContent.{GoesInto, IsPacketRead, IsOfValues}
 use Rattle.amf_cli.proofs.Formats.{file_again}
 
 pub of_values : (to : Format) (g : Graph) → GoesInto to (value g) → IsOfValues to

@@ -49,7 +49,7 @@ use Rattle.amf_cli.specs.Content.{Content, value, packet, file, content_of}
 use Rattle.amf_cli.specs.Formats.{GivesLength, IsContent}
 use Rattle.amf_cli.specs.Input.{most, Input, one, two, IsRefusedAs}
 use Rattle.amf_cli.specs.Run.{IsInputOf, ArePairIn, IsHidden, NeverLacks, ReadsInput}
-use Rattle.amf_cli.specs.Reading.{IsReadOne, AnswersOne, AnswersEnd, mapped}
+use Rattle.amf_cli.specs.ReadContent.{IsReadOne, AnswersOne, AnswersEnd, mapped}
 use Rattle.amf_cli.specs.Lines.{end_of}
 use Rattle.amf3_read.proofs.Pairs.{first_refused, first_cut, second_refused, second_cut}
 use Rattle.amf_cli.proofs.Spelled.{layouts}

@@ -2,7 +2,7 @@
 use Rattle.std.proofs.Common.{◌≡◌, ℕ, ◌≤◌, true, cond, List, [], ◌∷◌, length, refl, arith, nat_lt}
 use Rattle.std.proofs.lemmas.List.{length-take}
 use Rattle.std.specs.Fmt.{digits}
-use Rattle.amf_io.specs.Reading.{Decides, Waits, read, run}
+use Rattle.amf_io.specs.Outcomes.{Decides, Waits, read, run}
 use Rattle.amf_io.proofs.Inputs.{outcome_decides, outcome_waits}
 use Rattle.amf_graph.specs.Order.{again, first, over}
 use Rattle.amf3_spelling.specs.Reads3.{IsValue3}

@@ -8,5 +8,5 @@ pub mod Written
 pub mod Run
 pub mod WorkedRuns
 -- Devices of the proofs: no clause of a public call needs them.
-pub mod Reading
+pub mod ReadContent
 pub mod Askable

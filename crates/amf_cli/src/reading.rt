@@ -11,7 +11,7 @@ ghost use Rattle.amf_cli.specs.declared.format.Format.TheVariants as form;
 ghost use Rattle.amf_cli.specs.Content.{content_of, value as of_graph};
 ghost use Rattle.amf_cli.specs.Formats.{IsSpelling};
 ghost use Rattle.amf_cli.specs.Input.{most, one, two};
-ghost use Rattle.amf_cli.specs.Reading.{AnswersOne, AnswersEnd, mapped};
+ghost use Rattle.amf_cli.specs.ReadContent.{AnswersOne, AnswersEnd, mapped};
 ghost use Rattle.amf_cli.specs.Run.{IsInputOf, ArePairIn, CountsReads, IsReadEnd, ReadsInput, NeverLacks};
 
 use crate::content::Content;

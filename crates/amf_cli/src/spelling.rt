@@ -10,7 +10,7 @@ ghost use Rattle.amf_wire.specs.Style.{canonical};
 ghost use Rattle.amf_cli.specs.declared.format.Format.TheVariants as form;
 ghost use Rattle.amf_cli.specs.Content.{content_of, value as of_graph, packet as of_packet, file as of_file};
 ghost use Rattle.amf_cli.specs.Formats.{IsWritten, IsUnwritten};
-ghost use Rattle.amf_cli.specs.Reading.{GoesInto, IsPacketRead, IsOfValues};
+ghost use Rattle.amf_cli.specs.ReadContent.{GoesInto, IsPacketRead, IsOfValues};
 
 use crate::content::Content;
 use crate::format::Format;
@@ -19,7 +19,7 @@ use amf_packet::{Packet, PacketEnd, write_packet_keyed};
 use amf_packet_show::packet_has_lowering;
 use amf_sol::{SharedObject, write_sol_keyed};
 use amf_sol_show::file_has_lowering;
-use amf0_tables::lowering_is_kept;
+use amf0_tables::graphs_have_one_lowering;
 use amf0_write::{lower, write0};
 use amf3_write::write3_keyed;
 use std::alloc::Global;
@@ -134,7 +134,7 @@ fn spell0(alloc: Global, graph: &Rooted) -> Result<Vec<u8>, WriteEnd>
     ensures lack { (l : Lack) → IsErrOf result (WriteEnd.NoSpelling l) → IsUnwritten form.Amf0 (of_graph (graph_of graph.now)) 0 l }
 {
     // What is lowered is a lowered graph.
-    lowering_is_kept();
+    graphs_have_one_lowering();
     let low = match lower(alloc, graph) {
         Ok(low) => low,
         Err(_) => return Err(WriteEnd::Memory),

@@ -17,7 +17,7 @@ use Rattle.amf_desk.specs.declared.view.Stage.{Stage}
 use Rattle.amf_desk.specs.declared.view.Stage.TheVariants.{Idle, Waits, Turn, Joined, Spent}
 use Rattle.amf_desk.specs.declared.view.View.{View}
 use Rattle.amf_desk.specs.Histories.{entry, state_of, AllBelow, Later, Begins, counted_after}
-use Rattle.amf_desk.specs.Rule.{first_view, spent_view, staged, outs, turns, HasTicket, total, out_of, turn_of, budget_of, Seated, Knows, Kept}
+use Rattle.amf_desk.specs.Rule.{first_view, spent_view, staged, outs, turns, HasTicket, total, out_of, turn_of, budget_of, Seated, Knows, Explained}
 use Rattle.amf_desk.specs.Steps.{Sat, Sound, turned, counted, longer, joined, agreed, left_of, right_of, Takes, Comes, Counts, Gives, Agrees}
 use Rattle.amf_desk.proofs.Totals.{total_set, total_snoc, total_at, total_below, total_some, each_set, each_snoc, Apart, apart_set, apart_snoc}
 use Rattle.amf_desk.proofs.Longer.{explained, legal-snoc, below-snoc, below_wider, none_above, later_self, later-snoc, begins-snoc, begins_both, later_further, legal_begins, begins_length, below_begins, below_rest}
@@ -78,7 +78,7 @@ module _ (destinations : List (List ℕ)) where
   no_turn (Joined l) = inl refl
   no_turn Spent = inl refl
 
-  module _ (s : St) (r : Kept destinations s) where
+  module _ (s : St) (r : Explained destinations s) where
     -- fewer than 2^63 tickets are out
     pub few_out : r.issued ≤ r.served + (2 ^ 62 + 1)
     few_out = let o = total_below out_of budget_of turn_of s.views (λ j d e. small_out r.log r.served r.issued r.seats j d d.stage (r.each j d e)) in
@@ -96,9 +96,9 @@ module _ (destinations : List (List ℕ)) where
         absurd (other (r.apart j id d v r.served e at (turn_is r.log r.served r.issued r.seats j d d.stage z (r.each j d e)) (subst (HasTicket r.served) (sym is) (sym k.1)))))
         (no_turn d.stage)
 
-    pub unmoved : (i id : ℕ) (me : Sat) → get_elem? s.views id ≡ some me.0 → Kept destinations (stepped s i (get_or s.words i 0) id me.1 me.0 keeps)
+    pub unmoved : (i id : ℕ) (me : Sat) → get_elem? s.views id ≡ some me.0 → Explained destinations (stepped s i (get_or s.words i 0) id me.1 me.0 keeps)
     unmoved i id me at = let a = set-get_or s.words i 0 in let b = set_again s.views id me.0 at in
-        subst (Kept destinations) (λ k. record { words = sym a k; homes = s.homes; views = sym b k }) r
+        subst (Explained destinations) (λ k. record { words = sym a k; homes = s.homes; views = sym b k }) r
 
   idle_seat : (log : List Entry) (served issued seats j : ℕ) (v : View) → v.stage ≡ Idle → Knows destinations log served issued seats j v v.stage → Seated destinations log seats j v
   idle_seat log served issued seats j v is k = subst (Knows destinations log served issued seats j v) is k
@@ -112,7 +112,7 @@ module _ (destinations : List (List ℕ)) where
   inside : (s : St) (id : ℕ) (v : View) → get_elem? s.views id ≡ some v → id < length s.views
   inside s id v at = inside_at s.views id v at
 
-  id_below : (s : St) (r : Kept destinations s) (id : ℕ) (v : View) → get_elem? s.views id ≡ some v → v.number ≡ id → v.number < r.seats
+  id_below : (s : St) (r : Explained destinations s) (id : ℕ) (v : View) → get_elem? s.views id ≡ some v → v.number ≡ id → v.number < r.seats
   id_below s r id v at is = let i = inside s id v at in let m = r.many in omega arith
 
   abbrev seen_by : Stage → List Entry
@@ -128,7 +128,7 @@ module _ (destinations : List (List ℕ)) where
       (λ (p : (leb (length ys) (length xs) ≡ false) × (length xs < length ys)). let h = p.1 in inr (omega arith, ap (λ (b : Bool). if b then xs else ys) p.0))
       (leb_tells (length ys) (length xs))
 
-  pub takes_ticket : (slots id : ℕ) (me : Sat) → me.0.stage ≡ Idle → 0 < me.0.budget → Allows (Kept destinations) slots id me 0 (λ n. (n + 1) % 2 ^ 64) (Takes (step slots 0 1 0 none) me)
+  pub takes_ticket : (slots id : ℕ) (me : Sat) → me.0.stage ≡ Idle → 0 < me.0.budget → Allows (Explained destinations) slots id me 0 (λ n. (n + 1) % 2 ^ 64) (Takes (step slots 0 1 0 none) me)
   takes_ticket slots id me idle some_left s r _ at _ =
       let v : View = me.0 in let t : ℕ = r.issued in let w : View = staged v (Waits t) in
       let k = idle_seat r.log r.served r.issued r.seats id v idle (r.each id v at) in
@@ -168,7 +168,7 @@ module _ (destinations : List (List ℕ)) where
   ticket_of (Joined l) = 0
   ticket_of Spent = 0
 
-  sound_now : (s : St) (r : Kept destinations s) (id : ℕ) (v w : View) → get_elem? s.views id ≡ some v → Seated destinations r.log r.seats id w → w.seen ≡ r.log → w.budget ≤ v.budget → Sound w
+  sound_now : (s : St) (r : Explained destinations s) (id : ℕ) (v w : View) → get_elem? s.views id ≡ some v → Seated destinations r.log r.seats id w → w.seen ≡ r.log → w.budget ≤ v.budget → Sound w
   sound_now s r id v w at k is less = let b = total_at budget_of s.views id v at in let small = r.budget in let same : length w.seen ≡ length r.log = ap length is in record {
     explained = explained w.destinations w.seen (subst (λ (z : List (List ℕ) × List Entry). IsLegal z.0 z.1) (λ i. (sym k.destinations_are i, sym is i)) r.legal);
     room = omega arith;
@@ -176,7 +176,7 @@ module _ (destinations : List (List ℕ)) where
         subst (λ (z : ℕ × List Entry). AllBelow z.0 z.1) (λ i. (sym made i, sym is i)) r.callers;
   }
 
-  pub comes : (slots id : ℕ) (me : Sat) (t : ℕ) → me.0.stage ≡ Waits t → Allows (Kept destinations) slots id me 1 (λ n. n) (Comes (step slots 1 0 0 none) me)
+  pub comes : (slots id : ℕ) (me : Sat) (t : ℕ) → me.0.stage ≡ Waits t → Allows (Explained destinations) slots id me 1 (λ n. n) (Comes (step slots 1 0 0 none) me)
   comes slots id me t waits s r _ at _ =
       let v : View = me.0 in let n : ℕ = get_or s.words 1 0 in let found : n ≡ r.served % 2 ^ 64 = ap (λ ws. get_or ws 1 0) r.words in
       let kn = subst (Knows destinations r.log r.served r.issued r.seats id v) waits (r.each id v at) in let k = kn.0 in
@@ -227,7 +227,7 @@ module _ (destinations : List (List ℕ)) where
       ))
       (λ miss. (me.0, keeps, tt, unmoved s r 1 id me at, λ t' is. ((λ hit. absurd (miss (hit ∙ ap (λ (z : ℕ). z % 2 ^ 64) (told t' is)))), λ _. refl)))
 
-  pub counts : (slots id : ℕ) (me : Sat) (t moment : ℕ) (c : Call) → me.0.stage ≡ Turn t → 0 < me.0.budget → Allows (Kept destinations) slots id me 2 (λ n. (n + 1) % 2 ^ 64) (Counts moment c (step slots 2 1 0 none) me)
+  pub counts : (slots id : ℕ) (me : Sat) (t moment : ℕ) (c : Call) → me.0.stage ≡ Turn t → 0 < me.0.budget → Allows (Explained destinations) slots id me 2 (λ n. (n + 1) % 2 ^ 64) (Counts moment c (step slots 2 1 0 none) me)
   counts slots id me t moment c turn some_left s r _ at _ =
       let v : View = me.0 in let w : View = counted v moment c in let kn = subst (Knows destinations r.log r.served r.issued r.seats id v) turn (r.each id v at) in let k = kn.0 in let all_seen : v.seen ≡ r.log = kn.2 in
       let e : Entry = entry v.number moment c (answer_to (state_of v.destinations v.seen) moment c) in let log' : List Entry = r.log ++ e ∷ [] in
@@ -240,7 +240,7 @@ module _ (destinations : List (List ℕ)) where
       let same : total turn_of (set s.views id w) ≡ total turn_of s.views = omega arith in
       let P : List ℕ → Type 0 = λ ws. set ws 2 ((get_or ws 2 0 + 1) % 2 ^ 64) ≡ r.issued % 2 ^ 64 ∷ r.served % 2 ^ 64 ∷ length log' ∷ [] in
       let fits : (length r.log + 1) % 2 ^ 64 ≡ length log' = omega arith in
-      let kept : Kept destinations (stepped s 2 ((get_or s.words 2 0 + 1) % 2 ^ 64) id me.1 w keeps) = record {
+      let kept : Explained destinations (stepped s 2 ((get_or s.words 2 0 + 1) % 2 ^ 64) id me.1 w keeps) = record {
         log = log';
         served = r.served;
         issued = r.issued;
@@ -262,7 +262,7 @@ module _ (destinations : List (List ℕ)) where
         apart = apart_set s.views id w r.apart (λ j d t' other x has here'. other (r.apart j id d v t' x at has here'));
       } in (w, keeps, tt, kept, (refl, sound_now (stepped s 2 ((get_or s.words 2 0 + 1) % 2 ^ 64) id me.1 w keeps) kept id w w (set_here s.views id w (inside s id v at)) seated full (le_refl w.budget)))
 
-  pub hands_on : (slots id : ℕ) (me : Sat) (t : ℕ) → me.0.stage ≡ Turn t → me.1 ≡ (0, Some (counted_after me.0.destinations me.0.seen)) ∷ [] → Allows (Kept destinations) slots id me 1 (λ n. (n + 1) % 2 ^ 64) (Gives (step slots 1 1 0 none) me)
+  pub hands_on : (slots id : ℕ) (me : Sat) (t : ℕ) → me.0.stage ≡ Turn t → me.1 ≡ (0, Some (counted_after me.0.destinations me.0.seen)) ∷ [] → Allows (Explained destinations) slots id me 1 (λ n. (n + 1) % 2 ^ 64) (Gives (step slots 1 1 0 none) me)
   hands_on slots id me t turn holds s r _ at _ =
       let v : View = me.0 in let w : View = staged v Idle in let kn = subst (Knows destinations r.log r.served r.issued r.seats id v) turn (r.each id v at) in let k = kn.0 in let all_seen : v.seen ≡ r.log = kn.2 in
       let o = total_set out_of s.views id v w at in let u = total_set turn_of s.views id v w at in let b = total_set budget_of s.views id v w at in let here = total_at turn_of s.views id v at in let here_out = total_at out_of s.views id v at in
@@ -299,7 +299,7 @@ module _ (destinations : List (List ℕ)) where
       )
 
   -- a seat whose view stays but for what it has seen, its budget and its stage, while no step of a call is made
-  pub agrees : (slots id : ℕ) (me : Sat) (l : List Entry) → me.0.stage ≡ Joined l → Allows (Kept destinations) slots id me 0 (λ n. n) (Agrees (step slots 0 0 0 none) me)
+  pub agrees : (slots id : ℕ) (me : Sat) (l : List Entry) → me.0.stage ≡ Joined l → Allows (Explained destinations) slots id me 0 (λ n. n) (Agrees (step slots 0 0 0 none) me)
   agrees slots id me l joins s r _ at _ =
       let v : View = me.0 in let w : View = agreed v l in let kn = subst (Knows destinations r.log r.served r.issued r.seats id v) joins (r.each id v at) in let k = kn.0 in
       let o = total_set out_of s.views id v w at in let u = total_set turn_of s.views id v w at in let b = total_set budget_of s.views id v w at in
@@ -311,7 +311,7 @@ module _ (destinations : List (List ℕ)) where
       (λ (z : (length l ≤ length v.seen) × (longer v.seen l ≡ v.seen)). subst (λ xs. Later id xs r.log) (sym z.1) k.later)
       (λ (z : (length v.seen ≤ length l) × (longer v.seen l ≡ l)). subst (λ xs. Later id xs r.log) (sym z.1) (later_further id v.seen l r.log k.later kn.1 z.0)) long in
       let seated : Seated destinations r.log r.seats id w = record { destinations_are = k.destinations_are; number = k.number; later = later'; made = k.made } in
-      let kept : Kept destinations (stepped s 0 (get_or s.words 0 0) id me.1 w keeps) = record {
+      let kept : Explained destinations (stepped s 0 (get_or s.words 0 0) id me.1 w keeps) = record {
         log = r.log;
         served = r.served;
         issued = r.issued;
@@ -345,7 +345,7 @@ module _ (destinations : List (List ℕ)) where
         ),
       )
 
-  pub splits : (id : ℕ) (v : View) (share : ℕ) → v.stage ≡ Idle → v.number ≡ 0 → share ≤ v.budget → Splits (Kept destinations) id v (left_of share v) (right_of share v)
+  pub splits : (id : ℕ) (v : View) (share : ℕ) → v.stage ≡ Idle → v.number ≡ 0 → share ≤ v.budget → Splits (Explained destinations) id v (left_of share v) (right_of share v)
   splits id v share idle zero_is fits s r at =
       let w : View = left_of share v in let x : View = right_of share v in let k = idle_seat r.log r.served r.issued r.seats id v idle (r.each id v at) in
       let vs : List View = set s.views id w in
@@ -381,7 +381,7 @@ module _ (destinations : List (List ℕ)) where
         apart = apart_snoc vs x apart (λ t has. has);
       }
 
-  pub joins : (id : ℕ) (v : View) (other : ℕ) (w : View) → v.stage ≡ Idle → w.stage ≡ Idle → w.number ≢ 0 → Joins (Kept destinations) id v other w (joined v w) spent_view
+  pub joins : (id : ℕ) (v : View) (other : ℕ) (w : View) → v.stage ≡ Idle → w.stage ≡ Idle → w.number ≢ 0 → Joins (Explained destinations) id v other w (joined v w) spent_view
   joins id v other w idle idle' not_first s r at apart_is at' =
       let x : View = joined v w in let vs : List View = set s.views id x in
       let k = idle_seat r.log r.served r.issued r.seats id v idle (r.each id v at) in
@@ -420,7 +420,7 @@ module _ (destinations : List (List ℕ)) where
   first_apart zero (suc j) v w t a b h = absurd (some-ne-none w (sym b))
   first_apart (suc i) j v w t a b h = absurd (some-ne-none v (sym a))
 
-  pub opens : Kept destinations (opening (0 ∷ 0 ∷ 0 ∷ []) (Some (counted_after destinations []) ∷ []) (first_view destinations))
+  pub opens : Explained destinations (opening (0 ∷ 0 ∷ 0 ∷ []) (Some (counted_after destinations []) ∷ []) (first_view destinations))
   opens = record {
     log = [];
     served = 0;

@@ -78,7 +78,7 @@ module _ (destinations : List (List ℕ)) (log : List Entry) (served issued seat
   Knows Spent = Unit {0}
 
 -- The rule: there is one history that explains the table.
-pub record Kept (destinations : List (List ℕ)) (s : State (Option CountedBroker) View) : Type 0 where
+pub record Explained (destinations : List (List ℕ)) (s : State (Option CountedBroker) View) : Type 0 where
   pub log : List Entry
   -- how many tickets were served, and how many were given out
   pub served : ℕ

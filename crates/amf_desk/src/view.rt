@@ -51,9 +51,9 @@ pub struct View {
 pub struct DeskRule;
 
 impl TableRule<Option<CountedBroker>, View, Snapshot<Vec<Name>>> for DeskRule {
-    ghost use Rattle.amf_desk.specs.Rule.{Kept, first_view};
+    ghost use Rattle.amf_desk.specs.Rule.{Explained, first_view};
 
-    ghost holds = { λ key. Kept key.value.items };
+    ghost holds = { λ key. Explained key.value.items };
 
     ghost first = { λ key. first_view key.value.items };
 }

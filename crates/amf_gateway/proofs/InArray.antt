@@ -15,7 +15,7 @@ use Rattle.amf_graph.proofs.Lists.{length_pushed}
 use Rattle.amf_graph.proofs.Matched.{graft_law}
 use Rattle.amf_graph.proofs.Matching.{values_more}
 use Rattle.flex_msgs.specs.Messages.{items_node}
-use Rattle.flex_msgs.proofs.BuiltAlike.{all_pairs, kept, behind_alike}
+use Rattle.flex_msgs.proofs.BuiltAlike.{all_pairs, old_pair, behind_alike}
 use Rattle.amf_service.proofs.CopiedGraphs.{none_built, copies_closed, copies_light}
 use Rattle.amf_service.proofs.MadeArrays.{at_the_end, there_is}
 use Rattle.amf_gateway.specs.PlainCalls.{in_array}
@@ -94,7 +94,7 @@ module _ (a mid new : Arena) (root copy : Stored) (f : IsFinished a) (named : Na
         let s = law.same in
         let before = λ (i j : ℕ) (p : StandIn law.same.pairs i j). (law.new i j p).1 in
         let Q : ℕ → ℕ → Type 0 = StandIn (all_pairs g h (v ∷ []) (w ∷ []) s n before more others room shown) in
-        let item = values_more (StandIn law.same.pairs) Q (kept g h (v ∷ []) (w ∷ []) s n before more others room shown) v w law.same.roots.0 in
+        let item = values_more (StandIn law.same.pairs) Q (old_pair g h (v ∷ []) (w ∷ []) s n before more others room shown) v w law.same.roots.0 in
         let zero_more : n ≡ n + 0 = omega arith in
         let root_at : value_content new u ≡ node (n + 0) = ap (value_content new) at ∙ ap (λ k. node k) zero_more in
         behind_alike g h (v ∷ []) (w ∷ []) s n before more others room shown (record { head = refl; names = tt; values = (item, tt) }, tt) 0 (omega arith) (value_content new u) root_at

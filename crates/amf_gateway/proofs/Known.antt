@@ -2,7 +2,7 @@
 use Rattle.amf_graph.proofs.Isomorphisms.{isomorphic_sym, isomorphic_trans}
 use Rattle.amf3_spelling.proofs.Decides3.{canonical_is_alone, same_canonical, same_bytes_isomorphic}
 use Rattle.amf0_tables.proofs.Decides0.{alone0, same_canonical0}
-use Rattle.amf0_tables.proofs.Low.{kept}
+use Rattle.amf0_tables.proofs.Low.{lowered_alike}
 use Rattle.amf_http.proofs.OpenLemmas.{one_request, one_status, not_both}
 use Rattle.flex_msgs.proofs.GraphsAlike.{answers_alike}
 use Rattle.flex_msgs.proofs.ViewedAlike.{view_law}
@@ -20,7 +20,7 @@ known = record {
   across = isomorphic_trans;
   alone0 = alone0;
   alike0 = same_canonical0;
-  lowered_alike = kept;
+  lowered_alike = lowered_alike;
   one_request = one_request;
   one_status = one_status;
   not_both = not_both;

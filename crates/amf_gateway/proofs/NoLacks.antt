@@ -24,7 +24,7 @@ use Rattle.amf0_tables.specs.Spells0.{IsSpelling0}
 use Rattle.amf0_tables.proofs.Decides0.{same_canonical0}
 use Rattle.amf0_tables.proofs.LackTwice0.{spelling_or_lack0}
 use Rattle.amf0_tables.proofs.LacksAlike0.{lacks_alike0}
-use Rattle.amf0_tables.proofs.Low.{kept}
+use Rattle.amf0_tables.proofs.Low.{lowered_alike}
 use Rattle.flex_msgs.specs.declared.reply.FaultText.{FaultText}
 use Rattle.flex_msgs.specs.declared.reply.Reply.{Reply}
 use Rattle.flex_msgs.specs.Answers.{error_graph}
@@ -38,13 +38,13 @@ lacks_none3 g fs s number kind l = (nothing_lacks canonical g fs s).1 number kin
 
 pub lacks_none0 : (g low : Graph) (fs : List Field) → ((i : ℕ) → Reached g i → i < length g.nodes) → IsLoweringOf g low → IsSpelling0 canonical low fs → LacksNothing (record { form = Plain; graph = g })
 lacks_none0 g low fs there lo s number kind (h, other, l) =
-    let same = kept g g low h (isomorphic_refl g there) lo other in
+    let same = lowered_alike g g low h (isomorphic_refl g there) lo other in
     spelling_or_lack0.not_both low fs number kind s (lacks_alike0 h low (isomorphic_sym low h same) number kind l)
 
 -- a lowered graph with a lack has no spelling, nor has one that is isomorphic to what was lowered
 pub unspelled0 : (g h low : Graph) (number : ℕ) (kind : LackKind) → Isomorphic g h → IsLoweringOf h low → IsLack0 low number kind → Finds (IsSpelling lowered g) None
 unspelled0 g h low number kind i lo lack b (same, other, j, lowers, s) =
-    let lows = kept h same low other (isomorphic_trans h g same (isomorphic_sym g h i) j) lo lowers in
+    let lows = lowered_alike h same low other (isomorphic_trans h g same (isomorphic_sym g h i) j) lo lowers in
     let t = same_canonical0.bytes other low (isomorphic_sym low other lows) b s in
     spelling_or_lack0.not_both low t.0 number kind t.1 lack
 
@@ -142,4 +142,4 @@ module _ (f : FaultText) where
   fault_lacks3 number kind l = all_named g fault_named number kind l
 
   pub fault_lacks0 : LacksNothing (record { form = Plain; graph = g })
-  fault_lacks0 number kind (h, lo, l) = lacks0 number kind (lacks_alike0 h g (isomorphic_sym g h (kept g g g h fault_same low_itself lo)) number kind l)
+  fault_lacks0 number kind (h, lo, l) = lacks0 number kind (lacks_alike0 h g (isomorphic_sym g h (lowered_alike g g g h fault_same low_itself lo)) number kind l)

@@ -7,13 +7,13 @@ use Rattle.amf_wire.specs.Style.{free}
 use Rattle.amf_graph.specs.Graph.{Graph}
 use Rattle.amf_graph.specs.Isomorphic.{Isomorphic}
 use Rattle.amf_graph.proofs.Lists.{cons_same, split_same, no_entry}
-use Rattle.amf3_spelling.specs.Parts3.{IsFlag}
+use Rattle.amf3_spelling.specs.Segments3.{IsFlag}
 use Rattle.amf3_spelling.proofs.Decides3.{same_bytes_isomorphic}
 use Rattle.amf3_layout.proofs.OneCut.{has_one_cut}
 use Rattle.amf0_tables.specs.declared.form.Form.{Form}
 use Rattle.amf0_tables.specs.declared.form.Form.TheVariants.{Call, Amf3, Plain}
 use Rattle.amf0_tables.specs.Form.{call_front, IsForm}
-use Rattle.amf0_tables.specs.Parts0.{Short}
+use Rattle.amf0_tables.specs.Segments0.{Short}
 use Rattle.amf0_tables.specs.Tables0.{no_tables0}
 use Rattle.amf0_tables.proofs.Alike0.{Tied, alike0}
 use Rattle.amf0_tables.proofs.Bytes.{be16, be32, cut, one_flat, short_same}

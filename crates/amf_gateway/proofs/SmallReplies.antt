@@ -142,9 +142,9 @@ ended_emptied : (j k : ℕ) (cs : List Connection) → length (ended_of j (at_cl
 ended_emptied j k [] = omega arith
 ended_emptied j k (c ∷ cs) = let ih = ended_emptied j k cs in grind (arith, nat_tests, ih)
 
-ended_kept : (j k n : ℕ) (cs : List Connection) → length (ended_of j (at_client k (kept_as n) cs)) ≤ length (ended_of j cs)
-ended_kept j k n [] = omega arith
-ended_kept j k n (c ∷ cs) = let ih = ended_kept j k n cs in grind (arith, nat_tests, ih)
+ended_stays : (j k n : ℕ) (cs : List Connection) → length (ended_of j (at_client k (kept_as n) cs)) ≤ length (ended_of j cs)
+ended_stays j k n [] = omega arith
+ended_stays j k n (c ∷ cs) = let ih = ended_stays j k n cs in grind (arith, nat_tests, ih)
 
 none_left : (k : ℕ) (cs : List Connection) → ended_of k (filter (λ c. not (c.id == k)) cs) ≡ []
 none_left k [] = refl
@@ -260,7 +260,7 @@ small_polled b client s = record {
 small_next : (b : Board) (client number : ℕ) → SmallBoard b → SmallBoard (next_batch b client number).1
 small_next b client number s = record {
   each = changed_small client (kept_as number) b.clients s.each (λ c f d. kept_as_small number c (subst (λ (e : List ℕ). length e ≤ MAX_SUBS) (ended_found client b.clients c f) (few_ended b client s)) d);
-  places = λ j. let less = ended_kept j client number b.clients in let old = s.places j in omega arith;
+  places = λ j. let less = ended_stays j client number b.clients in let old = s.places j in omega arith;
 }
 
 small_without : (b : Board) (client : ℕ) → SmallBoard b → SmallBoard (without client b)

@@ -41,8 +41,8 @@ entries_snoc (z ∷ ss) s = ap (λ l. z.took.entries ++ l) (entries_snoc ss s) �
 given_nothing : (told : Type 0) (before : List ℕ) → Given told told before before []
 given_nothing told before = record { since = λ t. t; same = λ t. sym (append-nil before) }
 
-given_kept : (first told tells : Type 0) (start before now given : List ℕ) → Given first told start before given → Keeps told tells before now → Given first tells start now given
-given_kept first told tells start before now given g k = record { since = λ t. g.since (k.since t); same = λ t. k.same (k.since t) ∙ g.same (k.since t) }
+given_stays : (first told tells : Type 0) (start before now given : List ℕ) → Given first told start before given → Keeps told tells before now → Given first tells start now given
+given_stays first told tells start before now given g k = record { since = λ t. g.since (k.since t); same = λ t. k.same (k.since t) ∙ g.same (k.since t) }
 
 given_more : (first told tells : Type 0) (start before now given more all : List ℕ) → all ≡ given ++ more → Given first told start before given → Given told tells before now more → Given first tells start now all
 given_more first told tells start before now given more all e g h = record {
@@ -116,8 +116,8 @@ module _ {H L : Type 0} (hall : OfHall H L) (link : OfLink L) (services : List E
     service = s;
     came_is = refl;
     is_served = v.is_served;
-    moments = given_kept (hall.tells_moments a) (hall.tells_moments b) (hall.tells_moments c) (hall.moments a) (hall.moments b) (hall.moments c) s.took.moments v.moments back.moments;
-    words = given_kept (hall.tells_words a) (hall.tells_words b) (hall.tells_words c) (hall.words a) (hall.words b) (hall.words c) s.took.words v.words back.words;
+    moments = given_stays (hall.tells_moments a) (hall.tells_moments b) (hall.tells_moments c) (hall.moments a) (hall.moments b) (hall.moments c) s.took.moments v.moments back.moments;
+    words = given_stays (hall.tells_words a) (hall.tells_words b) (hall.tells_words c) (hall.words a) (hall.words b) (hall.words c) s.took.words v.words back.words;
     pass = v.pass;
     tells = λ t. v.links.coming_same.since (back.tells t);
     coming = λ t. back.coming t ∙ v.links.coming_same.same (v.links.coming_same.since (back.tells t));
@@ -151,9 +151,9 @@ module _ {H L : Type 0} (hall : OfHall H L) (link : OfLink L) (services : List E
         ∙ append_assoc (hall.served a) (map (λ z. z.left) f.links) (s.service.left ∷ []) ∙ ap (λ l. hall.served a ++ l) (sym (map-append (λ z. z.left) f.links (s.service ∷ [])));
     faults = s.faults ∙ still ∙ f.faults;
     moments = given_more (hall.tells_moments a) (hall.tells_moments c) (hall.tells_moments d) (hall.moments a) (hall.moments c) (hall.moments d) (moments_of f.links) s.service.took.moments (moments_of (f.links ++ s.service ∷ [])) (moments_snoc f.links s.service)
-        (given_kept (hall.tells_moments a) (hall.tells_moments b) (hall.tells_moments c) (hall.moments a) (hall.moments b) (hall.moments c) (moments_of f.links) f.moments asked.moments) s.moments;
+        (given_stays (hall.tells_moments a) (hall.tells_moments b) (hall.tells_moments c) (hall.moments a) (hall.moments b) (hall.moments c) (moments_of f.links) f.moments asked.moments) s.moments;
     words = given_more (hall.tells_words a) (hall.tells_words c) (hall.tells_words d) (hall.words a) (hall.words c) (hall.words d) (words_of f.links) s.service.took.words (words_of (f.links ++ s.service ∷ [])) (words_snoc f.links s.service)
-        (given_kept (hall.tells_words a) (hall.tells_words b) (hall.tells_words c) (hall.words a) (hall.words b) (hall.words c) (words_of f.links) f.words asked.words) s.words;
+        (given_stays (hall.tells_words a) (hall.tells_words b) (hall.tells_words c) (hall.words a) (hall.words b) (hall.words c) (words_of f.links) f.words asked.words) s.words;
     pass = subst (λ (es : List Event). PassGoesOn p r es) (sym (entries_snoc f.links s.service)) (pass_both p q r (entries_of f.links) s.service.took.entries f.pass s.pass);
     starved_is = (λ i. f.starved_is i || s.starved_is i) ∙ starved_more f.links s.service;
     whole = λ e more.
@@ -183,10 +183,10 @@ module _ {H L : Type 0} (hall : OfHall H L) (link : OfLink L) (services : List E
 
   module _ (n each : ℕ) (p q : Held) (a b c : H) (starved : Bool) (few : n ≤ each) (f : SoFar n p q a b starved) (asked : Asked b c) where
     after_moments : Given (hall.tells_moments a) (hall.tells_moments c) (hall.moments a) (hall.moments c) (moments_of f.links)
-    after_moments = given_kept (hall.tells_moments a) (hall.tells_moments b) (hall.tells_moments c) (hall.moments a) (hall.moments b) (hall.moments c) (moments_of f.links) f.moments asked.moments
+    after_moments = given_stays (hall.tells_moments a) (hall.tells_moments b) (hall.tells_moments c) (hall.moments a) (hall.moments b) (hall.moments c) (moments_of f.links) f.moments asked.moments
 
     after_words : Given (hall.tells_words a) (hall.tells_words c) (hall.words a) (hall.words c) (words_of f.links)
-    after_words = given_kept (hall.tells_words a) (hall.tells_words b) (hall.tells_words c) (hall.words a) (hall.words b) (hall.words c) (words_of f.links) f.words asked.words
+    after_words = given_stays (hall.tells_words a) (hall.tells_words b) (hall.tells_words c) (hall.words a) (hall.words b) (hall.words c) (words_of f.links) f.words asked.words
 
     pub served_all : (hall.tells_links c → (hall.coming b ≡ []) × (hall.coming c ≡ [])) → hall.faults c ≡ hall.faults b → Served hall link services each p q a c (Done starved)
     served_all none still = record {

@@ -19,10 +19,10 @@ use Rattle.amf3_spelling.specs.Tables.{Entry, plain, external, Words, add_text, 
 use Rattle.amf3_spelling.specs.Then.{Spelling, Then}
 use Rattle.amf3_spelling.specs.Refusals3.{marker, text_header_kind}
 use Rattle.amf3_spelling.specs.Words3.{Text, Texts, whole, NoPlaceBelow, TraitsBy, given, placed, EntryTexts}
-use Rattle.amf3_spelling.specs.Parts3.{Part, word, value, Lifted, Parts, layout}
+use Rattle.amf3_spelling.specs.Segments3.{Segment, word, value, Lifted, Segments, segments_of}
 use Rattle.amf3_spelling.specs.Headers3.{HeaderBy, marker_field, header_field}
 use Rattle.amf3_spelling.specs.Spells3.{LeafBy, ValueBy, InlineIn, SpellsIn, Spelled3}
-use Rattle.amf3_spelling.proofs.Build.{Built, both, lifted, a_leaf, a_null, an_integer, no_text, new_text, old_text, a_text, no_parts, word_part, value_part, absent_nil, absent_cons, unnamed, unnamed_zero}
+use Rattle.amf3_spelling.proofs.Build.{Built, both, lifted, a_leaf, a_null, an_integer, no_text, new_text, old_text, a_text, no_segments, word_segment, value_segment, absent_nil, absent_cons, unnamed, unnamed_zero}
 
 -- one step and then another, where both are there
 abbrev pub and_then : {A B : Type 0} → Option A → (A → Option B) → Option B
@@ -248,11 +248,11 @@ few_in_order canonical [] = Some refl
 few_in_order canonical (p ∷ []) = Some refl
 few_in_order canonical (p ∷ q ∷ ps) = None
 
-abbrev pub all_parts : (R : Value → Spelling Tables) → ((v : Value) (t : Tables) → Option (Built (R v) t)) → (s : Style) (ps : List Part) (t : Tables) → Option (Built (Parts R s ps) t)
-all_parts R spell s [] t = Some (no_parts R s t)
-all_parts R spell s (word x ∷ ps) t = and_then (a_word s x t.words) (λ a. and_then (all_parts R spell s ps (with_words t a.after)) (λ b. Some (word_part R s x ps t a b)))
-all_parts R spell s (value v ∷ ps) t = and_then (spell v t) (λ a. and_then (all_parts R spell s ps a.after) (λ b. Some (value_part R s v ps t a b)))
-all_parts R spell s (_ ∷ ps) t = None
+abbrev pub all_segments : (R : Value → Spelling Tables) → ((v : Value) (t : Tables) → Option (Built (R v) t)) → (s : Style) (ps : List Segment) (t : Tables) → Option (Built (Segments R s ps) t)
+all_segments R spell s [] t = Some (no_segments R s t)
+all_segments R spell s (word x ∷ ps) t = and_then (a_word s x t.words) (λ a. and_then (all_segments R spell s ps (with_words t a.after)) (λ b. Some (word_segment R s x ps t a b)))
+all_segments R spell s (value v ∷ ps) t = and_then (spell v t) (λ a. and_then (all_segments R spell s ps a.after) (λ b. Some (value_segment R s v ps t a b)))
+all_segments R spell s (_ ∷ ps) t = None
 
 abbrev pub a_small_leaf : (Inline : ℕ → Spelling Tables) (s : Style) (g : Graph) (x : Leaf) (t : Tables) → Option (Built (ValueBy Inline s g (leaf x)) t)
 a_small_leaf Inline s g null t = Some (a_null Inline s g t)
@@ -276,8 +276,8 @@ a_new_node n s g spell i t =
     and_then (the_header s a.head a.values (add_node t i).words) (λ h.
     and_then (a_number s h.number) (λ u.
     let front : Built (Lifted (HeaderBy s a.head a.values h.number)) (add_node t i) = lifted (HeaderBy s a.head a.values h.number) (add_node t i) h.built in
-    and_then (all_parts (SpellsIn n s g) spell s (layout a.head a.names a.values) front.after) (λ b.
-    let body : Built (Then (Lifted (HeaderBy s a.head a.values h.number)) (Parts (SpellsIn n s g) s (layout a.head a.names a.values))) (add_node t i) = both _ _ (add_node t i) front b in
+    and_then (all_segments (SpellsIn n s g) spell s (segments_of a.head a.names a.values) front.after) (λ b.
+    let body : Built (Then (Lifted (HeaderBy s a.head a.values h.number)) (Segments (SpellsIn n s g) s (segments_of a.head a.names a.values))) (add_node t i) = both _ _ (add_node t i) front b in
     Some (record {
       fields = marker_field (marker a.head) ∷ header_field g t (marker a.head) u.bytes ∷ body.fields;
       after = body.after;

@@ -28,7 +28,7 @@ use amf_graph::{Builder, Rooted, WriteEnd};
 use amf_packet::Body;
 use amf_service::{Registry, items};
 use amf_wire::{Memory, Name};
-use amf0_tables::{Form, lowering_is_kept};
+use amf0_tables::{Form, graphs_have_one_lowering};
 use amf0_write::{lower, write0};
 use amf3_write::write3;
 use flex_msgs::FaultText;
@@ -83,7 +83,7 @@ fn is_spelled0(alloc: Global, graph: &Rooted) -> Result<bool, Memory>
 {
     // What is true of every graph, and that what is lowered is a lowered graph.
     graph.is_finished();
-    lowering_is_kept();
+    graphs_have_one_lowering();
     let low = lower(alloc, graph)?;
     let mut bytes = Vec::new(alloc);
     match write0(alloc, &low, &mut bytes) {

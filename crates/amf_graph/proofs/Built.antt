@@ -37,38 +37,38 @@ grows_node a n = grown a (kept_node a n) refl refl (omega (arith, length-append 
 pub grows_changed : (a : Arena) (f : StoredNode → StoredNode) (i : ℕ) → Grows a (changed f i a)
 grows_changed a f i = grown a (changed f i a) refl refl (omega (arith, length-set a.nodes i (f (stored_at a i))))
 
-traits_kept : (a b : Arena) → Grows a b → IsBuilt a → AllByRecursion (IsTraitsIn b) a.traits
-traits_kept a b g h = all_weaker (IsTraitsIn a) (IsTraitsIn b) a.traits (traits_grow a b g) h.traits
+traits_stay : (a b : Arena) → Grows a b → IsBuilt a → AllByRecursion (IsTraitsIn b) a.traits
+traits_stay a b g h = all_weaker (IsTraitsIn a) (IsTraitsIn b) a.traits (traits_grow a b g) h.traits
 
-nodes_kept : (a b : Arena) → Grows a b → IsBuilt a → AllByRecursion (IsNodeIn b) a.nodes
-nodes_kept a b g h = all_weaker (IsNodeIn a) (IsNodeIn b) a.nodes (node_grows a b g) h.nodes
+nodes_stay : (a b : Arena) → Grows a b → IsBuilt a → AllByRecursion (IsNodeIn b) a.nodes
+nodes_stay a b g h = all_weaker (IsNodeIn a) (IsNodeIn b) a.nodes (node_grows a b g) h.nodes
 
 pub built_text : (a : Arena) (x : List ℕ) → IsBuilt a → IsText x → IsBuilt (kept_text a x)
 built_text a x h t = record {
   texts = all_push IsText a.texts x h.texts t;
-  traits = traits_kept a (kept_text a x) (grows_text a x) h;
-  nodes = nodes_kept a (kept_text a x) (grows_text a x) h;
+  traits = traits_stay a (kept_text a x) (grows_text a x) h;
+  nodes = nodes_stay a (kept_text a x) (grows_text a x) h;
 }
 
 pub built_traits : (a : Arena) (t : StoredTraits) → IsBuilt a → IsTraitsIn a t → IsBuilt (kept_traits a t)
 built_traits a t h k = record {
   texts = h.texts;
-  traits = all_push (IsTraitsIn (kept_traits a t)) a.traits t (traits_kept a (kept_traits a t) (grows_traits a t) h) (traits_grow a (kept_traits a t) (grows_traits a t) t k);
-  nodes = nodes_kept a (kept_traits a t) (grows_traits a t) h;
+  traits = all_push (IsTraitsIn (kept_traits a t)) a.traits t (traits_stay a (kept_traits a t) (grows_traits a t) h) (traits_grow a (kept_traits a t) (grows_traits a t) t k);
+  nodes = nodes_stay a (kept_traits a t) (grows_traits a t) h;
 }
 
 pub built_node : (a : Arena) (n : StoredNode) → IsBuilt a → IsNodeIn a n → IsBuilt (kept_node a n)
 built_node a n h k = record {
   texts = h.texts;
-  traits = traits_kept a (kept_node a n) (grows_node a n) h;
-  nodes = all_push (IsNodeIn (kept_node a n)) a.nodes n (nodes_kept a (kept_node a n) (grows_node a n) h) (node_grows a (kept_node a n) (grows_node a n) n k);
+  traits = traits_stay a (kept_node a n) (grows_node a n) h;
+  nodes = all_push (IsNodeIn (kept_node a n)) a.nodes n (nodes_stay a (kept_node a n) (grows_node a n) h) (node_grows a (kept_node a n) (grows_node a n) n k);
 }
 
 pub built_changed : (a : Arena) (f : StoredNode → StoredNode) (i : ℕ) → IsBuilt a → IsNodeIn a (f (stored_at a i)) → IsBuilt (changed f i a)
 built_changed a f i h k = record {
   texts = h.texts;
-  traits = traits_kept a (changed f i a) (grows_changed a f i) h;
-  nodes = all_set (IsNodeIn (changed f i a)) a.nodes i (f (stored_at a i)) (nodes_kept a (changed f i a) (grows_changed a f i) h) (node_grows a (changed f i a) (grows_changed a f i) (f (stored_at a i)) k);
+  traits = traits_stay a (changed f i a) (grows_changed a f i) h;
+  nodes = all_set (IsNodeIn (changed f i a)) a.nodes i (f (stored_at a i)) (nodes_stay a (changed f i a) (grows_changed a f i) h) (node_grows a (changed f i a) (grows_changed a f i) (f (stored_at a i)) k);
 }
 
 pub within_text : (a : Arena) (x : List ℕ) → IsWithinBounds a → length a.texts < 268435455 → length x ≤ 268435455 → IsWithinBounds (kept_text a x)

@@ -38,8 +38,8 @@ module _ (a : Arena) (vs : List Stored) (old new more : Arena) (copies : List St
   copies_names b names built = (graft_keeps a vs old new copies b names built grafted_made).names
 
   module _ (b : IsFinished a) (bounds : IsWithinBounds a) (names : AllByRecursion (Names a) vs) (built : IsBuilt old) (within : IsWithinBounds old) (full : Bool) (test : IsTrue full ↔ ((MAX_COUNT < c.first_text + length c.texts.items) ⊎ (MAX_TRAITS < c.first_traits + length c.traits.items) ⊎ (MAX_COUNT < c.first_node + length c.nodes.items))) (no : full ≡ false) where
-    kept : GraftKeeps a vs old new copies
-    kept = graft_keeps a vs old new copies b names built grafted_made
+    keeps : GraftKeeps a vs old new copies
+    keeps = graft_keeps a vs old new copies b names built grafted_made
 
     none : (MAX_COUNT < c.first_text + length c.texts.items) ⊎ (MAX_TRAITS < c.first_traits + length c.traits.items) ⊎ (MAX_COUNT < c.first_node + length c.nodes.items) → ⊥
     none h = let t : full ≡ true = test.1 h in let s : true ≡ false = sym t ∙ no in cc
@@ -53,12 +53,12 @@ module _ (a : Arena) (vs : List Stored) (old new more : Arena) (copies : List St
     nodes_count : length new.nodes ≡ c.first_node + length c.nodes.items
     nodes_count = ap (λ (z : Arena). length z.nodes) (n ∙ ap (joined old) m) ∙ length-append old.nodes (copied_nodes a (renaming_of c) c.nodes.items) ∙ ap (λ k. k + length (copied_nodes a (renaming_of c) c.nodes.items)) (sym behind.nodes) ∙ ap (λ k. c.first_node + k) (length-map c.nodes.items _)
 
-    pub kept_built : IsBuilt new
-    kept_built = kept.built
+    pub keeps_built : IsBuilt new
+    keeps_built = keeps.built
 
-    pub kept_within : IsWithinBounds new
-    kept_within =
+    pub keeps_within : IsWithinBounds new
+    keeps_within =
         let t : (MAX_COUNT < c.first_text + length c.texts.items) → ⊥ = λ l. none (inl l) in
         let u : (MAX_TRAITS < c.first_traits + length c.traits.items) → ⊥ = λ l. none (inr (inl l)) in
         let v : (MAX_COUNT < c.first_node + length c.nodes.items) → ⊥ = λ l. none (inr (inr l)) in
-        kept.within bounds within (omega (arith, t, texts_count)) (omega (arith, u, traits_count)) (omega (arith, v, nodes_count))
+        keeps.within bounds within (omega (arith, t, texts_count)) (omega (arith, u, traits_count)) (omega (arith, v, nodes_count))

@@ -21,7 +21,7 @@ use Rattle.amf_graph.specs.Roots as roots
 use Rattle.amf_graph.specs.Grafting.{Cut, IsCut, Reaches, at_root, inside, UsesTraits, UsesText, of_root, of_head, of_name, of_value, of_class, of_sealed, HeadText, HoldsStored, node_value, text_value, Renaming, renaming, renamed_value, renamed_values, renamed_names, renamed_head, renamed_node, renamed_traits, grafted}
 use Rattle.amf_graph.specs.GraftLaws.{GraftPairs, GraftLaw, EachRootLaw}
 use Rattle.amf_graph.proofs.Pairing.{numbered_from, paired, unpaired, pair_left, pair_right, pair_new, pair_all}
-use Rattle.amf_graph.proofs.Behind.{behind, kept_behind}
+use Rattle.amf_graph.proofs.Behind.{behind, stays_behind}
 use Rattle.std.proofs.Math.ListN as listn
 
 shown : (a : Arena) (root : Stored) (i : ℕ) → node_at (graph_of a root) i ≡ node_content a (stored_at a i)
@@ -166,7 +166,7 @@ module _ (a : Arena) (vs : List Stored) (old h : Arena) (c : Cut) (exact : IsCut
 
   new_node : (i k : ℕ) → slice_get c.nodes k ≡ Some i → Reaches a vs i → (length old.nodes + k < length h.nodes) × (stored_at h (length old.nodes + k) ≡ renamed_node q (stored_at a i))
   new_node i k e w =
-      kept_behind (λ i. renamed_node q (stored_at a i)) old.nodes c.nodes h.nodes k i e (all_at (λ n. n.is_open ≡ false) a.nodes i no_stored (let l : i < length a.nodes = reached_below a vs b names i w in l) b.closed) done.nodes
+      stays_behind (λ i. renamed_node q (stored_at a i)) old.nodes c.nodes h.nodes k i e (all_at (λ n. n.is_open ≡ false) a.nodes i no_stored (let l : i < length a.nodes = reached_below a vs b names i w in l) b.closed) done.nodes
 
   pub same_from : (v w : Stored) → SameFrom (graph_of a v) (graph_of h w) (values_content a vs) (values_content h (renamed_values q vs))
   same_from v w = record {

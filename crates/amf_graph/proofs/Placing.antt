@@ -60,8 +60,8 @@ pub entry_absent : (i : ℕ) (xs : List ℕ) → Absent xs i → with_entry i xs
 entry_absent i xs a =
     by_no_test (nat_lt (place_of xs i) (length xs)) xs (xs ++ i ∷ []) (ap (λ w. nat_lt w (length xs)) (place_absent xs i a) ∙ is_not_below (length xs) (length xs) (omega arith))
 
-pub entry_kept : (k i : ℕ) (xs : List ℕ) (places : List (Option ℕ)) → ArePlaces xs places → slice_get places i ≡ Some (Some k) → with_entry i xs ≡ xs
-entry_kept k i xs places h e = entry_there k i xs (once_placed xs places h) (h.back k i e)
+pub entry_stays : (k i : ℕ) (xs : List ℕ) (places : List (Option ℕ)) → ArePlaces xs places → slice_get places i ≡ Some (Some k) → with_entry i xs ≡ xs
+entry_stays k i xs places h e = entry_there k i xs (once_placed xs places h) (h.back k i e)
 
 pub entry_new : (i : ℕ) (xs : List ℕ) (places : List (Option ℕ)) → ArePlaces xs places → slice_get places i ≡ Some None → with_entry i xs ≡ xs ++ i ∷ []
 entry_new i xs places h e = entry_absent i xs (absent xs places i h e)

@@ -53,8 +53,8 @@ level Equal e f = refl
 level Greater e f = cc
 
 -- the same bytes have the same rank
-pub rank_kept : (texts : List (List ℕ)) (ranks : List (Option ℕ)) (last next : List ℕ) (rank : ℕ) → is_lt (bytes_cmp last next) ≡ false → is_lt (bytes_cmp next last) ≡ false → RankedTo texts ranks last rank → RankedTo texts ranks next rank
-rank_kept texts ranks last next rank e f h =
+pub rank_stays : (texts : List (List ℕ)) (ranks : List (Option ℕ)) (last next : List ℕ) (rank : ℕ) → is_lt (bytes_cmp last next) ≡ false → is_lt (bytes_cmp next last) ≡ false → RankedTo texts ranks last rank → RankedTo texts ranks next rank
+rank_stays texts ranks last next rank e f h =
     let same : bytes_cmp last next ≡ Equal = level (bytes_cmp last next) e (ap is_lt (sym (nat_list_cmp_total.antisymm next last)) ∙ f) in
     record {
       all = h.all;

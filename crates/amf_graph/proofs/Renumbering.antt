@@ -11,7 +11,7 @@ use Rattle.amf_graph.specs.Bounds.{IsWithinBounds, NodeWithin}
 use Rattle.amf_graph.specs.Building.{stored_at, no_stored}
 use Rattle.amf_graph.specs.Rooted.{RootedArena}
 use Rattle.amf_graph.specs.Order.{IsDistinct}
-use Rattle.amf_graph.specs.Renumbered.{place_of, renumbered_value, renumbered_values, renumbered_names, renumbered_node, renumbered_arena, renumbered, number_in, StandsIn, IsPart}
+use Rattle.amf_graph.specs.Renumbered.{place_of, renumbered_value, renumbered_values, renumbered_names, renumbered_node, renumbered_arena, renumbered, number_in, StandsIn, IsSelfContained}
 use Rattle.amf_graph.proofs.Alls.{all_weaker, all_at}
 use Rattle.amf_graph.proofs.Built.{stands, stands_within}
 use Rattle.amf_graph.proofs.Growth.{names_content, values_content}
@@ -141,7 +141,7 @@ module _ (a : Arena) (order : List ℕ) (once : IsDistinct order) where
       let values : length (renumbered_values f n.values) ≡ length n.values = length-map n.values (renumbered_value f) in
       (record { together = rw (names, values) (stands_within a i b l.0).together }, within_part is b l.1)
 
-pub finished_part : (g : RootedArena) (order : List ℕ) → IsFinished g.arena → IsPart g order → IsFinished (renumbered order g).arena
+pub finished_part : (g : RootedArena) (order : List ℕ) → IsFinished g.arena → IsSelfContained g order → IsFinished (renumbered order g).arena
 finished_part g order b p = record {
   built = record {
     texts = b.built.texts;
@@ -151,7 +151,7 @@ finished_part g order b p = record {
   closed = closed_part g.arena order p.distinct order b p.there;
 }
 
-pub bounds_part : (g : RootedArena) (order : List ℕ) → IsWithinBounds g.arena → IsPart g order → IsWithinBounds (renumbered order g).arena
+pub bounds_part : (g : RootedArena) (order : List ℕ) → IsWithinBounds g.arena → IsSelfContained g order → IsWithinBounds (renumbered order g).arena
 bounds_part g order b p = record {
   few_texts = b.few_texts;
   few_traits = b.few_traits;
@@ -161,7 +161,7 @@ bounds_part g order b p = record {
   nodes = within_part g.arena order p.distinct order b p.there;
 }
 
-pub root_part : (g : RootedArena) (order : List ℕ) → Names g.arena g.root → IsPart g order → Names (renumbered order g).arena (renumbered order g).root
+pub root_part : (g : RootedArena) (order : List ℕ) → Names g.arena g.root → IsSelfContained g order → Names (renumbered order g).arena (renumbered order g).root
 root_part g order h p = names_part g.arena order p.distinct g.root p.root h
 
 pub graph_made : (g h graph : RootedArena) (order : List ℕ) (store : Arena) (root : Stored) → graph ≡ record { arena = store; root = root } → store ≡ (renumbered order g).arena → root ≡ (renumbered order g).root → g ≡ h → graph ≡ renumbered order h
@@ -174,7 +174,7 @@ module _ (g : RootedArena) (order numbers ys : List ℕ) (n : ℕ) (count : n �
   alike : (i : ℕ) → i < length g.arena.nodes → number_in ys i ≡ place_of order i
   alike i l = ap (λ w. number_in w i) read ∙ places i (subst (λ k. i < k) (sym count) l)
 
-  pub part_made : (store : Arena) → IsFinished g.arena → IsPart g order → store ≡ renumbered_arena (number_in ys) order g.arena → store ≡ (renumbered order g).arena
+  pub part_made : (store : Arena) → IsFinished g.arena → IsSelfContained g order → store ≡ renumbered_arena (number_in ys) order g.arena → store ≡ (renumbered order g).arena
   part_made store b p e = e ∙ same_arena g.arena (number_in ys) (place_of order) alike order b p.there
 
   pub root_made : (root : Stored) → Names g.arena g.root → root ≡ renumbered_value (number_in ys) g.root → root ≡ (renumbered order g).root

@@ -47,7 +47,7 @@ StandsIn order (NodeRef n) = (k : ℕ) × (slice_get order k ≡ Some n.0)
 StandsIn order _ = Unit {0}
 
 -- no node stands twice, and the list has with the root's node and with each of its nodes all those that they name
-pub record IsPart (g : RootedArena) (order : List ℕ) : Type 0 where
+pub record IsSelfContained (g : RootedArena) (order : List ℕ) : Type 0 where
   pub distinct : IsDistinct order
   pub there : AllByRecursion (λ i. i < length g.arena.nodes) order
   pub root : StandsIn order g.root

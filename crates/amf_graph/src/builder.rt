@@ -246,7 +246,7 @@ impl Builder {
         requires { Names self root }
         ensures graph { IfOk result (λ graph. graph ≡ record { arena = self; root = root }) }
         ensures finished { OnOk result (IsFinished self) }
-        ensures kept { IfErr result (λ u. u.builder ≡ self) }
+        ensures untouched { IfErr result (λ u. u.builder ≡ self) }
         ensures opened { IfErr result (λ u. IsFirstOpen self u.node.0) }
     {
         match self.store.first_open() {

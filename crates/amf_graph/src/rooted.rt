@@ -6,7 +6,7 @@ ghost use Rattle.amf_graph.specs.Arena.{IsFinished, Names, text_at, no_traits};
 ghost use Rattle.amf_graph.specs.Bodies.{body_node};
 ghost use Rattle.amf_graph.specs.Bounds.{IsWithinBounds, count_end};
 ghost use Rattle.amf_graph.specs.Building.{stored_at, kind_of};
-ghost use Rattle.amf_graph.specs.Renumbered.{numbers_of, renumbered, IsPart};
+ghost use Rattle.amf_graph.specs.Renumbered.{numbers_of, renumbered, IsSelfContained};
 ghost use Rattle.amf_graph.specs.StandIns.{GraphStandsFor};
 ghost use Rattle.amf_graph.specs.TextRanks.{AreRanks};
 ghost use Rattle.amf_graph.specs.Views.{Shows, ShowsTraits};
@@ -157,7 +157,7 @@ impl Rooted {
     /// The list has nodes of the graph alone, none twice, and all that the root and these nodes name. It gives up where there is
     /// no memory.
     pub fn renumbered(&self, alloc: Global, order: &[NodeId]) -> Result<Rooted, Memory>
-        requires { IsPart self.now (numbers_of order.now) }
+        requires { IsSelfContained self.now (numbers_of order.now) }
         ensures { IfOk result (λ graph. graph ≡ renumbered (numbers_of order.now) self.now) }
     {
         let numbers = places_by_node(alloc, order, self.store.node_count())?;

@@ -7,7 +7,7 @@ use Rattle.amf_io.specs.declared.reason.Reason.{Reason}
 use Rattle.amf_io.specs.declared.reason.Reason.TheVariants.{Truncated, TooLarge}
 use Rattle.amf_io.specs.Field.{Field, Kind, fixed, u29, flat, whole, AreBytes}
 use Rattle.amf_io.specs.Layout.{Layout}
-use Rattle.amf_io.specs.Reading.{Outcome, Done, Bad, Short, Stuck, run}
+use Rattle.amf_io.specs.Outcomes.{Outcome, Done, Bad, Short, Stuck, run}
 use Rattle.amf_io.specs.Verdict.{Follows, IsFault, IsCutOff, IsRefused, faulty, truncated, too_large, FixesNext}
 use Rattle.amf_io.proofs.Bytes.{bytes_take, bytes_taken}
 use Rattle.amf_io.proofs.Paths.{flat-append}

@@ -14,7 +14,7 @@ pub mod Front
 pub mod Fronts
 -- Devices of the proofs. Of the public items only Format and the laws about layouts need them.
 pub mod Layout
-pub mod Reading
+pub mod Outcomes
 pub mod LayoutAnswer
 pub mod CursorReads
 pub mod Repeated

@@ -2,7 +2,7 @@ ghost use Rattle.std.specs.Prelude.{◌≡◌, ◌≤◌, ◌<◌, List, ℕ, le
 ghost use Rattle.amf_io.specs.declared.reason.Reason.{Reason};
 ghost use Rattle.amf_io.specs.Field.{Field, AreBytes};
 ghost use Rattle.amf_io.specs.Layout.{Layout, IsLayout};
-ghost use Rattle.amf_io.specs.Reading.{Decides, Waits, read, run};
+ghost use Rattle.amf_io.specs.Outcomes.{Decides, Waits, read, run};
 ghost use Rattle.amf_io.specs.Verdict.{FixesNext, IsFault, IsFirstFault, IsJudged, IsJudgedOnce};
 
 /// A format: the lists of fields that it accepts, and a layout that reads them field by field.

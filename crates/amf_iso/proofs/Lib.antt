@@ -7,7 +7,7 @@ mod Steps
 pub mod Remaining
 pub mod HeadFacts
 mod Orders
-mod OrderParts
+mod ClosedOrders
 mod Relabelled
 pub mod PairsRemain
 pub mod Joins

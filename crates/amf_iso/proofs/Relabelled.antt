@@ -12,7 +12,7 @@ use Rattle.amf_graph.specs.Order.{IsOrder, IsDistinct}
 use Rattle.amf_graph.specs.Arena.{Arena, StoredHead, xml_document, date, array, object, wrapper, xml, bytes, ints, uints, doubles, values, dictionary, StoredNode, head_content, node_content, value_content}
 use Rattle.amf_graph.specs.Building.{stored_at, no_stored}
 use Rattle.amf_graph.specs.Rooted.{RootedArena, content}
-use Rattle.amf_graph.specs.Renumbered.{place_of, renumbered_value, renumbered_values, renumbered_names, renumbered_node, renumbered_arena, renumbered, StandsIn, IsPart}
+use Rattle.amf_graph.specs.Renumbered.{place_of, renumbered_value, renumbered_values, renumbered_names, renumbered_node, renumbered_arena, renumbered, StandsIn, IsSelfContained}
 use Rattle.amf_graph.proofs.Alls.{all_at}
 use Rattle.amf_graph.proofs.Growth.{names_content, values_content}
 use Rattle.amf_graph.proofs.Lists.{at_left, at_end, entry, length_pushed, no_entry}
@@ -21,7 +21,7 @@ use Rattle.amf_graph.proofs.PlaceOf.{place_there}
 use Rattle.amf_graph.proofs.Places.{SamePlace, Along, walk_along, from_places}
 use Rattle.amf3_spelling.specs.KeptTables.{below}
 use Rattle.amf_iso.proofs.MetValues.{shown}
-use Rattle.amf_iso.proofs.OrderParts.{order_is_part}
+use Rattle.amf_iso.proofs.ClosedOrders.{order_is_self_contained}
 
 -- The numbers below n.
 
@@ -103,10 +103,10 @@ module _ (g : RootedArena) (order : List ℕ) (w : IsOrder (content g) order) wh
   h = renumbered order g
 
   abbrev Numbered : ℕ → ℕ → Type 0
-  Numbered = At g.arena order (order_is_part g order w).distinct
+  Numbered = At g.arena order (order_is_self_contained g order w).distinct
 
-  is_part : IsPart g order
-  is_part = order_is_part g order w
+  is_part : IsSelfContained g order
+  is_part = order_is_self_contained g order w
 
   pub relabelled_count : length (content h).nodes ≡ length order
   relabelled_count = length-map h.arena.nodes (node_content h.arena) ∙ length-map order (λ i. renumbered_node (place_of order) (stored_at g.arena i))

@@ -15,7 +15,7 @@ use Rattle.amf3_spelling.proofs.Build.{absent_nil}
 use Rattle.amf3_layout.proofs.Layout3Parts.{Found}
 use Rattle.amf3_layout.proofs.Layout3Complete.{spelled_read}
 use Rattle.amf0_tables.specs.Form.{call_front}
-use Rattle.amf0_tables.specs.Parts0.{marker0_field, Values0}
+use Rattle.amf0_tables.specs.Segments0.{marker0_field, Values0}
 use Rattle.amf0_tables.specs.Spells0.{NodeBy0, Switched, SpellsIn0, Spells0}
 use Rattle.amf0_tables.specs.Tables0.{Tables0, no_tables0, add_node0}
 use Rattle.amf0_tables.specs.Layout0State.{State0, with_node0, switched, changed0}

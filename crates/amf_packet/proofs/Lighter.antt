@@ -14,7 +14,7 @@ use Rattle.amf3_spelling.specs.Tables.{Entry, plain, external, Words, Tables, ad
 use Rattle.amf3_spelling.specs.Then.{Spelling, Then, Plain}
 use Rattle.amf3_spelling.specs.Refusals3.{leaf_marker, marker}
 use Rattle.amf3_spelling.specs.Words3.{TextBy, empty, whole, placed, Text, Texts, EntryTexts, TraitsBy, given, placed as by_place}
-use Rattle.amf3_spelling.specs.Parts3.{Part, flag, four, eight, raw, chars, word, value, Fixed, Lifted, Parts, layout, values_then, pairs_then, fours, signed_fours, eights}
+use Rattle.amf3_spelling.specs.Segments3.{Segment, flag, four, eight, raw, chars, word, value, Fixed, Lifted, Segments, segments_of, values_then, pairs_then, fours, signed_fours, eights}
 use Rattle.amf3_spelling.specs.Headers3.{HeaderBy}
 use Rattle.amf3_spelling.specs.Nodes3.{Begun}
 use Rattle.amf3_spelling.specs.Spells3.{LeafBy, Marked, ValueBy, InlineIn, SpellsIn, Spells3}
@@ -181,35 +181,35 @@ leaf_by s (text x) w fs w' z = text_of s x w fs w' z
 
 -- parts
 
-abbrev IsGood : Part → Type 0
+abbrev IsGood : Segment → Type 0
 IsGood (raw x) = AreBytes x
 IsGood (chars x) = IsText x
 IsGood _ = Unit {0}
 
-fixed_part : (s : Style) (p : Part) → IsGood p → (fs : List Field) → Fixed s p fs → AllBytes fs
-fixed_part s (flag f) good fs (m, h, e) = bytes_as _ fs e ((h.1, tt), tt)
-fixed_part s (four n) good fs e = bytes_as _ fs e (be_4 n, tt)
-fixed_part s (eight n) good fs e = bytes_as _ fs e (be_8 n, tt)
-fixed_part s (raw x) good fs e = bytes_as _ fs e (contents_bytes raw_kind x good)
-fixed_part s (chars x) good fs e = bytes_as _ fs e (contents_bytes text_kind x (text_bytes x good))
-fixed_part s (word x) good fs e = absurd e
-fixed_part s (value v) good fs e = absurd e
+fixed_segment : (s : Style) (p : Segment) → IsGood p → (fs : List Field) → Fixed s p fs → AllBytes fs
+fixed_segment s (flag f) good fs (m, h, e) = bytes_as _ fs e ((h.1, tt), tt)
+fixed_segment s (four n) good fs e = bytes_as _ fs e (be_4 n, tt)
+fixed_segment s (eight n) good fs e = bytes_as _ fs e (be_8 n, tt)
+fixed_segment s (raw x) good fs e = bytes_as _ fs e (contents_bytes raw_kind x good)
+fixed_segment s (chars x) good fs e = bytes_as _ fs e (contents_bytes text_kind x (text_bytes x good))
+fixed_segment s (word x) good fs e = absurd e
+fixed_segment s (value v) good fs e = absurd e
 
-parts : (R R' : Value → Spelling Tables) (s : Style) → ((v : Value) → Lighter (R v) (R' v)) → (ps : List Part) → AllByRecursion IsGood ps → Lighter (Parts R s ps) (Parts R' s ps)
-parts R R' s f [] good t fs t' z d h = record { bytes = bytes_as [] fs z.0 tt; after = d; spelled = (z.0, ap (λ (u : Tables). at_done u d) z.1); fewer = subst (λ (u : Tables). Fewer u.done d) (sym z.1) h }
-parts R R' s f (word x ∷ ps) (g, good) t fs t' z d h = lighter_then (Lifted (Text s x)) (Lifted (Text s x)) (Parts R s ps) (Parts R' s ps) (lighter_lifted (Text s x) (text_of s x)) (parts R R' s f ps good) t fs t' z d h
-parts R R' s f (value v ∷ ps) (g, good) t fs t' z d h = lighter_then (R v) (R' v) (Parts R s ps) (Parts R' s ps) (f v) (parts R R' s f ps good) t fs t' z d h
-parts R R' s f (flag b ∷ ps) (g, good) t fs t' z d h = lighter_then (Plain (Fixed s (flag b))) (Plain (Fixed s (flag b))) (Parts R s ps) (Parts R' s ps) (lighter_plain (Fixed s (flag b)) (fixed_part s (flag b) g)) (parts R R' s f ps good) t fs t' z d h
-parts R R' s f (four n ∷ ps) (g, good) t fs t' z d h = lighter_then (Plain (Fixed s (four n))) (Plain (Fixed s (four n))) (Parts R s ps) (Parts R' s ps) (lighter_plain (Fixed s (four n)) (fixed_part s (four n) g)) (parts R R' s f ps good) t fs t' z d h
-parts R R' s f (eight n ∷ ps) (g, good) t fs t' z d h = lighter_then (Plain (Fixed s (eight n))) (Plain (Fixed s (eight n))) (Parts R s ps) (Parts R' s ps) (lighter_plain (Fixed s (eight n)) (fixed_part s (eight n) g)) (parts R R' s f ps good) t fs t' z d h
-parts R R' s f (raw x ∷ ps) (g, good) t fs t' z d h = lighter_then (Plain (Fixed s (raw x))) (Plain (Fixed s (raw x))) (Parts R s ps) (Parts R' s ps) (lighter_plain (Fixed s (raw x)) (fixed_part s (raw x) g)) (parts R R' s f ps good) t fs t' z d h
-parts R R' s f (chars x ∷ ps) (g, good) t fs t' z d h = lighter_then (Plain (Fixed s (chars x))) (Plain (Fixed s (chars x))) (Parts R s ps) (Parts R' s ps) (lighter_plain (Fixed s (chars x)) (fixed_part s (chars x) g)) (parts R R' s f ps good) t fs t' z d h
+segments : (R R' : Value → Spelling Tables) (s : Style) → ((v : Value) → Lighter (R v) (R' v)) → (ps : List Segment) → AllByRecursion IsGood ps → Lighter (Segments R s ps) (Segments R' s ps)
+segments R R' s f [] good t fs t' z d h = record { bytes = bytes_as [] fs z.0 tt; after = d; spelled = (z.0, ap (λ (u : Tables). at_done u d) z.1); fewer = subst (λ (u : Tables). Fewer u.done d) (sym z.1) h }
+segments R R' s f (word x ∷ ps) (g, good) t fs t' z d h = lighter_then (Lifted (Text s x)) (Lifted (Text s x)) (Segments R s ps) (Segments R' s ps) (lighter_lifted (Text s x) (text_of s x)) (segments R R' s f ps good) t fs t' z d h
+segments R R' s f (value v ∷ ps) (g, good) t fs t' z d h = lighter_then (R v) (R' v) (Segments R s ps) (Segments R' s ps) (f v) (segments R R' s f ps good) t fs t' z d h
+segments R R' s f (flag b ∷ ps) (g, good) t fs t' z d h = lighter_then (Plain (Fixed s (flag b))) (Plain (Fixed s (flag b))) (Segments R s ps) (Segments R' s ps) (lighter_plain (Fixed s (flag b)) (fixed_segment s (flag b) g)) (segments R R' s f ps good) t fs t' z d h
+segments R R' s f (four n ∷ ps) (g, good) t fs t' z d h = lighter_then (Plain (Fixed s (four n))) (Plain (Fixed s (four n))) (Segments R s ps) (Segments R' s ps) (lighter_plain (Fixed s (four n)) (fixed_segment s (four n) g)) (segments R R' s f ps good) t fs t' z d h
+segments R R' s f (eight n ∷ ps) (g, good) t fs t' z d h = lighter_then (Plain (Fixed s (eight n))) (Plain (Fixed s (eight n))) (Segments R s ps) (Segments R' s ps) (lighter_plain (Fixed s (eight n)) (fixed_segment s (eight n) g)) (segments R R' s f ps good) t fs t' z d h
+segments R R' s f (raw x ∷ ps) (g, good) t fs t' z d h = lighter_then (Plain (Fixed s (raw x))) (Plain (Fixed s (raw x))) (Segments R s ps) (Segments R' s ps) (lighter_plain (Fixed s (raw x)) (fixed_segment s (raw x) g)) (segments R R' s f ps good) t fs t' z d h
+segments R R' s f (chars x ∷ ps) (g, good) t fs t' z d h = lighter_then (Plain (Fixed s (chars x))) (Plain (Fixed s (chars x))) (Segments R s ps) (Segments R' s ps) (lighter_plain (Fixed s (chars x)) (fixed_segment s (chars x) g)) (segments R R' s f ps good) t fs t' z d h
 
-good_values : (vs : List Value) (ps : List Part) → AllByRecursion IsGood ps → AllByRecursion IsGood (values_then vs ps)
+good_values : (vs : List Value) (ps : List Segment) → AllByRecursion IsGood ps → AllByRecursion IsGood (values_then vs ps)
 good_values [] ps good = good
 good_values (v ∷ vs) ps good = (tt, good_values vs ps good)
 
-good_pairs : (pairs : List (List ℕ × Value)) (ps : List Part) → AllByRecursion IsGood ps → AllByRecursion IsGood (pairs_then pairs ps)
+good_pairs : (pairs : List (List ℕ × Value)) (ps : List Segment) → AllByRecursion IsGood ps → AllByRecursion IsGood (pairs_then pairs ps)
 good_pairs [] ps good = (tt, good)
 good_pairs (p ∷ pairs) ps good = (tt, (tt, good_pairs pairs ps good))
 
@@ -229,19 +229,19 @@ good_members : (dynamic : Bool) (pairs : List (List ℕ × Value)) → AllByRecu
 good_members true pairs = good_pairs pairs [] tt
 good_members false pairs = tt
 
-good_layout : (h : Head) (pairs names : List (List ℕ × Value)) (vs : List Value) → Fits h names vs → AllByRecursion IsGood (layout h pairs vs)
-good_layout (xml_document x) pairs names vs fits = (fits.0, tt)
-good_layout (date p) pairs names vs fits = (tt, tt)
-good_layout array pairs names vs fits = good_pairs pairs (values_then vs []) (good_values vs [] tt)
-good_layout (object c) pairs names vs fits = good_values vs (cond c.dynamic (pairs_then pairs []) []) (good_members c.dynamic pairs)
-good_layout (wrapper c) pairs names vs fits = good_values vs [] tt
-good_layout (xml x) pairs names vs fits = (fits.0, tt)
-good_layout (bytes x) pairs names vs fits = (fits.0, tt)
-good_layout (ints f ns) pairs names vs fits = (tt, good_signed ns)
-good_layout (uints f ns) pairs names vs fits = (tt, good_fours ns)
-good_layout (doubles f ns) pairs names vs fits = (tt, good_eights ns)
-good_layout (values f x) pairs names vs fits = (tt, (tt, good_values vs [] tt))
-good_layout (dictionary f) pairs names vs fits = (tt, good_values vs [] tt)
+good_segments : (h : Head) (pairs names : List (List ℕ × Value)) (vs : List Value) → Fits h names vs → AllByRecursion IsGood (segments_of h pairs vs)
+good_segments (xml_document x) pairs names vs fits = (fits.0, tt)
+good_segments (date p) pairs names vs fits = (tt, tt)
+good_segments array pairs names vs fits = good_pairs pairs (values_then vs []) (good_values vs [] tt)
+good_segments (object c) pairs names vs fits = good_values vs (cond c.dynamic (pairs_then pairs []) []) (good_members c.dynamic pairs)
+good_segments (wrapper c) pairs names vs fits = good_values vs [] tt
+good_segments (xml x) pairs names vs fits = (fits.0, tt)
+good_segments (bytes x) pairs names vs fits = (fits.0, tt)
+good_segments (ints f ns) pairs names vs fits = (tt, good_signed ns)
+good_segments (uints f ns) pairs names vs fits = (tt, good_fours ns)
+good_segments (doubles f ns) pairs names vs fits = (tt, good_eights ns)
+good_segments (values f x) pairs names vs fits = (tt, (tt, good_values vs [] tt))
+good_segments (dictionary f) pairs names vs fits = (tt, good_values vs [] tt)
 
 -- values
 
@@ -293,8 +293,8 @@ begun_by : (R R' : Value → Spelling Tables) (s : Style) → ((v : Value) → L
 begun_by R R' s f ns r q i t fs t' z d h =
     let a : Head = (node_at (rooted ns r) i).head in
     let vs : List Value = (node_at (rooted ns r) i).values in
-    let y = lighter_then (Lifted (HeaderBy s a vs z.number)) (Lifted (HeaderBy s a vs z.number)) (Parts R s (layout a z.pairs vs)) (Parts R' s (layout a z.pairs vs))
-    (lighter_lifted (HeaderBy s a vs z.number) (header_by s a vs z.number)) (parts R R' s f (layout a z.pairs vs) (good_layout a z.pairs (node_at (rooted ns r) i).names vs z.fits))
+    let y = lighter_then (Lifted (HeaderBy s a vs z.number)) (Lifted (HeaderBy s a vs z.number)) (Segments R s (segments_of a z.pairs vs)) (Segments R' s (segments_of a z.pairs vs))
+    (lighter_lifted (HeaderBy s a vs z.number) (header_by s a vs z.number)) (segments R R' s f (segments_of a z.pairs vs) (good_segments a z.pairs (node_at (rooted ns r) i).names vs z.fits))
     (add_node t i) z.rest t' z.behind (d ++ i ∷ []) (fewer_more t.done d i h) in
     record {
       bytes = bytes_as _ fs z.fields ((marker_byte a, tt), (u29_bytes _ z.header z.spelled.spelled, y.bytes));

@@ -23,7 +23,7 @@ use Rattle.amf3_layout.proofs.Layout3SoundTexts.{taken, texts_are}
 use Rattle.amf0_tables.specs.declared.form.Form.{Form}
 use Rattle.amf0_tables.specs.declared.form.Form.TheVariants.{Call, Amf3, Plain}
 use Rattle.amf0_tables.specs.Form.{IsForm}
-use Rattle.amf0_tables.specs.Parts0.{Short}
+use Rattle.amf0_tables.specs.Segments0.{Short}
 use Rattle.amf0_tables.specs.Reads0.{IsValue0}
 use Rattle.amf0_tables.specs.Spells0.{Spells0}
 use Rattle.amf0_tables.specs.Tables0.{Tables0, no_tables0}
@@ -32,7 +32,7 @@ use Rattle.amf0_tables.proofs.Forms0.{forms}
 use Rattle.amf0_tables.proofs.Layout0Format.{values0_is_layout, values_are_spellings0}
 use Rattle.amf0_tables.proofs.Layout0SoundParts.{u32_is, empty_text}
 use Rattle.amf_packet.specs.Packet.{Body, Header, Message, Each, call_fields, CallBy, FormBy, BodyBy, LengthBy, MustBy, HeaderBy, MessageBy, is_version, version_refusal, VersionBy, ListBy, IsPacketReading}
-use Rattle.amf_packet.specs.LayoutPacket.{Part, done, and_then, name_layout, must_layout, length_layout, no_state0, body_layout, header_layout, message_layout, version_layout, times, list_layout, packet_layout}
+use Rattle.amf_packet.specs.LayoutPacket.{BareLayout, done, and_then, name_layout, must_layout, length_layout, no_state0, body_layout, header_layout, message_layout, version_layout, times, list_layout, packet_layout}
 use Rattle.amf_packet.proofs.Lighter.{flat_bytes, bytes_joined, bytes3}
 use Rattle.amf_packet.proofs.Bytes0.{bytes0}
 use Rattle.amf_packet.proofs.CallItems.{CallItem, call_item, call_runs}
@@ -143,7 +143,7 @@ version_is_layout = layout_as (λ n. version_layout) (OneField (u16_kind version
 abbrev NameRead : List Field → Type 0
 NameRead fs = (x : List ℕ) × Short x fs
 
-abbrev name_behind : List ℕ → Part
+abbrev name_behind : List ℕ → BareLayout
 name_behind b = chunk text_kind (from_be_bytes w16 b) (λ x. done)
 
 name_sound : (fs : List Field) (x : Unit {0}) → AreBytes (flat fs) → Runs name_layout fs x → NameRead fs
@@ -212,7 +212,7 @@ body_is_layout = layout_as body_layout IsValue0 BodyRead (mapped (λ n. value0_l
 
 -- Headers and messages.
 
-both_parts : (t u : ℕ → Part) (P Q : List Field → Type 0) → IsLayout t P → IsLayout u Q → IsLayout (λ n. and_then (t n) (u n)) (Both P Q)
+both_parts : (t u : ℕ → BareLayout) (P Q : List Field → Type 0) → IsLayout t P → IsLayout u Q → IsLayout (λ n. and_then (t n) (u n)) (Both P Q)
 both_parts t u P Q a b = both t (λ n x. u n) P Q a (λ x. b)
 
 abbrev HeaderRead : List Field → Type 0
@@ -274,7 +274,7 @@ module _ {X : Type 0} (P : X → List Field → Type 0) where
   each_taken [] fs e = e
   each_taken (x ∷ xs) fs (front, back, parts, first, second) = record { front = front; back = back; parts = parts; first = (x, first); second = each_taken xs back second }
 
-  module _ (t : ℕ → Part) (a : IsLayout t OneRead) where
+  module _ (t : ℕ → BareLayout) (a : IsLayout t OneRead) where
     times_is_layout : (k : ℕ) → IsLayout (λ n. times k (t n)) (Times k OneRead)
     times_is_layout zero = nothing tt
     times_is_layout (suc k) = both_parts t (λ n. times k (t n)) OneRead (Times k OneRead) a (times_is_layout k)

@@ -13,7 +13,7 @@ use Rattle.amf3_spelling.specs.WorkedRows3.{alone}
 use Rattle.amf3_spelling.proofs.Build.{Built, a_null, an_integer, absent_nil}
 use Rattle.amf0_tables.specs.declared.form.Form.TheVariants.{Plain}
 use Rattle.amf0_tables.specs.Lowered.{IsLoweringOf, ends}
-use Rattle.amf0_tables.specs.Parts0.{Short, marker0_field}
+use Rattle.amf0_tables.specs.Segments0.{Short, marker0_field}
 use Rattle.amf0_tables.specs.Spells0.{SpellsIn0, Switched}
 use Rattle.amf0_tables.specs.Tables0.{Tables0, no_tables0, add_node0}
 use Rattle.amf0_tables.proofs.Build0.{a_leaf0, a_null0, a_switch, no_values, value_then}

@@ -1,7 +1,7 @@
 -- The laws of the verdict on packets, and the worked verdicts: each is what reading the input computes to.
 use Rattle.std.proofs.Common.{◌≡◌, ℕ, true, List, [], ◌∷◌, length, refl, arith, nat_lt}
 use Rattle.std.proofs.lemmas.List.{length-take}
-use Rattle.amf_io.specs.Reading.{Decides, read}
+use Rattle.amf_io.specs.Outcomes.{Decides, read}
 use Rattle.amf_io.proofs.Inputs.{judged, judged_once, fault_is_first, outcome_decides}
 use Rattle.amf_io.proofs.NextKind.{fixes_next}
 use Rattle.amf3_layout.proofs.MiddleVerdicts.{ends_somewhere, read_once}

@@ -18,7 +18,7 @@ use Rattle.amf_packet.specs.declared.packet.Packet.{Packet as KeptPacket}
 use Rattle.amf_packet.specs.Content.{header_of, message_of, packet_of}
 use Rattle.amf_packet.specs.Packet.{Beside, Each, HeaderBy, MessageBy, VersionBy, CountBy, ListBy, SpellsPacket, IsPacketReading}
 use Rattle.amf_packet.specs.PacketAnswer.{AnswersPacket}
-use Rattle.amf_packet.specs.LayoutPacket.{Part, and_then, header_layout, message_layout, version_layout, times, list_layout, packet_layout}
+use Rattle.amf_packet.specs.LayoutPacket.{BareLayout, and_then, header_layout, message_layout, version_layout, times, list_layout, packet_layout}
 use Rattle.amf_packet.specs.ReadParts.{Took, ReadsFueled, count_layout, ListSo}
 use Rattle.amf_packet.proofs.PacketLayout.{packet_is_layout}
 use Rattle.amf_packet.proofs.Taken.{took_then, took_end, took_less, list_end, list_all}
@@ -42,30 +42,30 @@ KeptMessages ms = ListBy (λ m. MessageBy free (message_of m)) ms
 
 module _ {S : Type 0} (tells : S → Type 0) (left : S → List ℕ) (faults : S → ℕ) where
   -- an error that is passed on
-  pub fueled_passed : {X : Type 0} (P : X → List Field → Type 0) (t : ℕ → Part) (c d : Cursor S Window) (r : Result X ReadEnd) (e : ReadEnd) → IsErrAnd r (λ x. x ≡ e) → ((n : ℕ) → left_of c < n → Ends tells left (t n) c d e) → ReadsFueled tells left P t c d r
+  pub fueled_passed : {X : Type 0} (P : X → List Field → Type 0) (t : ℕ → BareLayout) (c d : Cursor S Window) (r : Result X ReadEnd) (e : ReadEnd) → IsErrAnd r (λ x. x ≡ e) → ((n : ℕ) → left_of c < n → Ends tells left (t n) c d e) → ReadsFueled tells left P t c d r
   fueled_passed P t c d (Ok x) e h a n lt = absurd h
   fueled_passed P t c d (Err x) e h a n lt = subst (Ends tells left (t n) c d) (sym h) (a n lt)
 
   -- a part, and then another
-  pub reads_then : {X Z : Type 0} (P : List Field → Type 0) (Q : Z → List Field → Type 0) (t : Part) (u : ℕ → Part) (c d e : Cursor S Window) (x : X) (r : Result Z ReadEnd) → Goes tells left faults c d (Ok x) → Took tells left t tt P c d → ReadsFueled tells left Q u d e r → ReadsFueled tells left (λ z. Beside P (Q z)) (λ n. and_then t (u n)) c e r
+  pub reads_then : {X Z : Type 0} (P : List Field → Type 0) (Q : Z → List Field → Type 0) (t : BareLayout) (u : ℕ → BareLayout) (c d e : Cursor S Window) (x : X) (r : Result Z ReadEnd) → Goes tells left faults c d (Ok x) → Took tells left t tt P c d → ReadsFueled tells left Q u d e r → ReadsFueled tells left (λ z. Beside P (Q z)) (λ n. and_then t (u n)) c e r
   reads_then P Q t u c d e x (Ok z) g a b n lt = took_then tells left faults t (λ y. u n) tt tt P (Q z) c d e x g a (b n (let l = took_less tells left faults t tt P c d g.same_bound a in omega arith))
   reads_then P Q t u c d e x (Err end) g a b n lt = took_end tells left faults t (λ y. u n) tt P c d e x end g a (b n (let l = took_less tells left faults t tt P c d g.same_bound a in omega arith))
 
   -- a part, and then another that ends inside
-  pub reads_end : {X : Type 0} (P : List Field → Type 0) (t v : Part) (u : ℕ → Part) (c d e : Cursor S Window) (x : X) (end : ReadEnd) → Goes tells left faults c d (Ok x) → Took tells left t tt P c d → Ends tells left v d e end → (n : ℕ) → left_of c < n → Ends tells left (and_then t (and_then v (u n))) c e end
+  pub reads_end : {X : Type 0} (P : List Field → Type 0) (t v : BareLayout) (u : ℕ → BareLayout) (c d e : Cursor S Window) (x : X) (end : ReadEnd) → Goes tells left faults c d (Ok x) → Took tells left t tt P c d → Ends tells left v d e end → (n : ℕ) → left_of c < n → Ends tells left (and_then t (and_then v (u n))) c e end
   reads_end P t v u c d e x end g a b n lt = took_end tells left faults t (λ y. and_then v (u n)) tt P c d e x end g a (end_reads tells left faults v (λ y. u n) d e end b)
 
   -- two parts, and then another
-  pub reads_three : {X Y Z : Type 0} (P Q : List Field → Type 0) (R : Z → List Field → Type 0) (t v : Part) (u : ℕ → Part) (c d e f : Cursor S Window) (x : X) (y : Y) (r : Result Z ReadEnd) → Goes tells left faults c d (Ok x) → Took tells left t tt P c d → Goes tells left faults d e (Ok y) → Took tells left v tt Q d e → ReadsFueled tells left R u e f r
+  pub reads_three : {X Y Z : Type 0} (P Q : List Field → Type 0) (R : Z → List Field → Type 0) (t v : BareLayout) (u : ℕ → BareLayout) (c d e f : Cursor S Window) (x : X) (y : Y) (r : Result Z ReadEnd) → Goes tells left faults c d (Ok x) → Took tells left t tt P c d → Goes tells left faults d e (Ok y) → Took tells left v tt Q d e → ReadsFueled tells left R u e f r
       → ReadsFueled tells left (λ z. Beside P (Beside Q (R z))) (λ n. and_then t (and_then v (u n))) c f r
   reads_three P Q R t v u c d e f x y r g a h b l = reads_then P (λ z. Beside Q (R z)) t (λ n. and_then v (u n)) c d f x r g a (reads_then Q R v u d e f y r h b l)
 
   -- Lists.
 
-  pub count_end : (t : ℕ → Part) (c d : Cursor S Window) (end : ReadEnd) → Ends tells left count_layout c d end → (n : ℕ) → left_of c < n → Ends tells left (list_layout (t n)) c d end
+  pub count_end : (t : ℕ → BareLayout) (c d : Cursor S Window) (end : ReadEnd) → Ends tells left count_layout c d end → (n : ℕ) → left_of c < n → Ends tells left (list_layout (t n)) c d end
   count_end t c d end a n lt = end_reads tells left faults count_layout (λ k. times k (t n)) c d end a
 
-  module _ {X : Type 0} (P : X → List Field → Type 0) (heavy : X → ℕ) (t : ℕ → Part) (count : ℕ) (c d : Cursor S Window) (g : Goes tells left faults c d (Ok count)) (a : Took tells left count_layout count (CountBy count) c d) where
+  module _ {X : Type 0} (P : X → List Field → Type 0) (heavy : X → ℕ) (t : ℕ → BareLayout) (count : ℕ) (c d : Cursor S Window) (g : Goes tells left faults c d (Ok count)) (a : Took tells left count_layout count (CountBy count) c d) where
     less : left_of d ≤ left_of c
     less = took_less tells left faults count_layout count (CountBy count) c d g.same_bound a
 

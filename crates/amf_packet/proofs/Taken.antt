@@ -14,7 +14,7 @@ use Rattle.amf_io.proofs.CursorReads.{goes_nowhere, goes_then, then_reads, leads
 use Rattle.amf_io.proofs.Paths.{runs_bind, path_join, path_bind, flat-append}
 use Rattle.amf3_read.specs.Answer.{left_of}
 use Rattle.amf_packet.specs.Packet.{Beside, Each}
-use Rattle.amf_packet.specs.LayoutPacket.{Part, times}
+use Rattle.amf_packet.specs.LayoutPacket.{BareLayout, times}
 use Rattle.amf_packet.specs.ReadParts.{Took, ListSo}
 
 module _ {S : Type 0} (tells : S → Type 0) (left : S → List ℕ) (faults : S → ℕ) where
@@ -65,7 +65,7 @@ module _ {S : Type 0} (tells : S → Type 0) (left : S → List ℕ) (faults : S
   each_push P [] fs gs x e p = (gs, [], ap (λ l. l ++ gs) e ∙ sym (append-nil gs), p, refl)
   each_push P (y ∷ xs) fs gs x (front, back, parts, first, second) p = (front, back ++ gs, ap (λ l. l ++ gs) parts ∙ append_assoc front back gs, first, each_push P xs back gs x second p)
 
-  module _ {X : Type 0} (P : X → List Field → Type 0) (heavy : X → ℕ) (t : ℕ → Part) (count : ℕ) where
+  module _ {X : Type 0} (P : X → List Field → Type 0) (heavy : X → ℕ) (t : ℕ → BareLayout) (count : ℕ) where
     -- nothing was read
     pub list_none : (c : Cursor S Window) → IsPlaced c → ListSo tells left faults P heavy t count count [] 0 c c
     list_none c p = record {

@@ -4,8 +4,8 @@ use Rattle.std.specs.Int.{to_be_bytes, w16, w32}
 use Rattle.amf_io.specs.Field.{Kind, flat, field, contents, raw_kind, text_kind, u16_kind, u32_kind, no_refusal}
 use Rattle.amf_wire.specs.Style.{canonical}
 use Rattle.amf_wire.specs.Text.{IsText}
-use Rattle.amf3_spelling.specs.Parts3.{IsFlag}
-use Rattle.amf0_tables.specs.Parts0.{Short}
+use Rattle.amf3_spelling.specs.Segments3.{IsFlag}
+use Rattle.amf0_tables.specs.Segments0.{Short}
 use Rattle.amf_packet.specs.Packet.{LengthBy, MustBy, is_version, version_refusal, VersionBy, CountBy}
 use Rattle.amf_packet.specs.WriteParts.{Appends}
 use mir.Val.{bool_byte}

@@ -12,7 +12,7 @@ use Rattle.amf_io.specs.LayoutAnswer.{DoneBy, LeadsBy}
 use Rattle.std.specs.Int.{from_be_bytes, w16}
 use Rattle.amf3_read.specs.Answer.{left_of}
 use Rattle.amf_packet.specs.Packet.{Each}
-use Rattle.amf_packet.specs.LayoutPacket.{Part, times}
+use Rattle.amf_packet.specs.LayoutPacket.{BareLayout, times}
 
 -- the fields that the layout takes are what P says
 abbrev pub Took : {S Y : Type 0} → (S → Type 0) → (S → List ℕ) → Layout Y → Y → (List Field → Type 0) → Cursor S Window → Cursor S Window → Type 0
@@ -22,19 +22,19 @@ abbrev pub Reads : {S X Y : Type 0} → (S → Type 0) → (S → List ℕ) → 
 Reads tells left P view t c d (Ok x) = Took tells left t (view x) (P x) c d
 Reads tells left P view t c d (Err e) = Ends tells left t c d e
 
--- a part gives nothing
-abbrev pub ReadsPart : {S X : Type 0} → (S → Type 0) → (S → List ℕ) → (X → List Field → Type 0) → Part → Cursor S Window → Cursor S Window → Result X ReadEnd → Type 0
-ReadsPart tells left P t c d result = Reads tells left P (λ x. tt) t c d result
+-- a bare layout gives nothing
+abbrev pub ReadsBare : {S X : Type 0} → (S → Type 0) → (S → List ℕ) → (X → List Field → Type 0) → BareLayout → Cursor S Window → Cursor S Window → Result X ReadEnd → Type 0
+ReadsBare tells left P t c d result = Reads tells left P (λ x. tt) t c d result
 
 -- with more fuel than the bytes that may come
-abbrev pub ReadsFueled : {S X : Type 0} → (S → Type 0) → (S → List ℕ) → (X → List Field → Type 0) → (ℕ → Part) → Cursor S Window → Cursor S Window → Result X ReadEnd → Type 0
-ReadsFueled tells left P t c d result = (n : ℕ) → left_of c < n → ReadsPart tells left P (t n) c d result
+abbrev pub ReadsFueled : {S X : Type 0} → (S → Type 0) → (S → List ℕ) → (X → List Field → Type 0) → (ℕ → BareLayout) → Cursor S Window → Cursor S Window → Result X ReadEnd → Type 0
+ReadsFueled tells left P t c d result = (n : ℕ) → left_of c < n → ReadsBare tells left P (t n) c d result
 
 abbrev pub count_layout : Layout ℕ
 count_layout = want (u16_kind no_refusal) (λ b. give (from_be_bytes w16 b))
 
 -- what was read of a list so far: each item, and so many are still to come
-pub record ListSo {S X : Type 0} (tells : S → Type 0) (left : S → List ℕ) (faults : S → ℕ) (P : X → List Field → Type 0) (heavy : X → ℕ) (t : ℕ → Part) (count more : ℕ) (xs : List X) (weight : ℕ) (c d : Cursor S Window) : Type 0 where
+pub record ListSo {S X : Type 0} (tells : S → Type 0) (left : S → List ℕ) (faults : S → ℕ) (P : X → List Field → Type 0) (heavy : X → ℕ) (t : ℕ → BareLayout) (count more : ℕ) (xs : List X) (weight : ℕ) (c d : Cursor S Window) : Type 0 where
   pub goes : Goes {X = Unit {0}} tells left faults c d (Ok tt)
   pub placed : IsPlaced d
   pub leads : (n : ℕ) → left_of c < n → (l : LeadsBy (tells (source_of c).now) (times count (t n)) (times more (t n)) (unread left c) (unread left d) (place c) (place d) (bound c)) × Each P xs l.fields

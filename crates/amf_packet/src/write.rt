@@ -33,7 +33,7 @@ pub fn write_packet(alloc: Global, packet: &Packet, out: &mut Vec<u8>) -> Result
     ensures many { IsErrOf result PacketEnd.TooMany ↔ IsTooMany (packet_of packet.now) }
     ensures long { (value : ℕ) → IsErrOf result (PacketEnd.LongText value) ↔ ((IsTooMany (packet_of packet.now) → ⊥) × IsLongText (packet_of packet.now) value) }
     ensures lack { (value : ℕ) (l : Lack) → IsErrOf result (PacketEnd.NoSpelling value l) → (IsTooMany (packet_of packet.now) → ⊥) × ((v : ℕ) → IsLongText (packet_of packet.now) v → ⊥) × IsPacketLack (packet_of packet.now) value l.node l.kind }
-    ensures kept { OnErr result (out.new.items ≡ out.old.items) }
+    ensures untouched { OnErr result (out.new.items ≡ out.old.items) }
 {
     write_packet_keyed(alloc, None, packet, out)
 }
@@ -52,7 +52,7 @@ pub fn write_packet_keyed(
     ensures many { IsErrOf result PacketEnd.TooMany ↔ IsTooMany (packet_of packet.now) }
     ensures long { (value : ℕ) → IsErrOf result (PacketEnd.LongText value) ↔ ((IsTooMany (packet_of packet.now) → ⊥) × IsLongText (packet_of packet.now) value) }
     ensures lack { (value : ℕ) (l : Lack) → IsErrOf result (PacketEnd.NoSpelling value l) → (IsTooMany (packet_of packet.now) → ⊥) × ((v : ℕ) → IsLongText (packet_of packet.now) v → ⊥) × IsPacketLack (packet_of packet.now) value l.node l.kind }
-    ensures kept { OnErr result (out.new.items ≡ out.old.items) }
+    ensures untouched { OnErr result (out.new.items ≡ out.old.items) }
 {
     if is_too_many(packet) {
         return Err(PacketEnd::TooMany);
@@ -75,7 +75,7 @@ fn append_whole(
     requires messages { length packet.now.messages < 2 ^ 16 }
     requires texts { AllByRecursion FitTexts (texts_by_value (packet_of packet.now)) }
     ensures writes { Writes (SpellsPacket canonical (packet_of packet.now)) (LacksFirst 0 (bodies (packet_of packet.now))) out.old.items out.new.items result }
-    ensures kept { OnErr result (out.new.items ≡ out.old.items) }
+    ensures untouched { OnErr result (out.new.items ≡ out.old.items) }
 {
     let start = out.len();
     match append_packet(alloc, keys, packet, out) {

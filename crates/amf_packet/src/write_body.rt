@@ -11,7 +11,7 @@ ghost use Rattle.amf_packet.specs.WriteParts.{Grows, Appends, LacksHere, Writes}
 
 use crate::{Body, PacketEnd};
 use amf_graph::{Rooted, WriteEnd};
-use amf0_tables::lowering_is_kept;
+use amf0_tables::graphs_have_one_lowering;
 use amf0_write::{lower, write0};
 use amf3_write::write3_keyed;
 use std::alloc::Global;
@@ -57,7 +57,7 @@ fn append_plain(alloc: Global, graph: &Rooted, out: &mut Vec<u8>) -> Result<(), 
     ensures grows { Grows out.old.items out.new.items }
 {
     // What is lowered is a lowered graph.
-    lowering_is_kept();
+    graphs_have_one_lowering();
     let low = lower(alloc, graph)?;
     write0(alloc, &low, out)
 }

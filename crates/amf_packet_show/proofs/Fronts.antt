@@ -4,20 +4,20 @@ use Rattle.std.specs.Int.{to_be_bytes, w16, w32}
 use Rattle.std.specs.List.{AllZip}
 use Rattle.std.proofs.lemmas.List.{append_cancel_left, append_cancel_right}
 use Rattle.amf_io.specs.Field.{Field, flat, field, raw_kind, u16_kind, u32_kind, no_refusal}
-use Rattle.amf_io.specs.Reading.{Done, run}
+use Rattle.amf_io.specs.Outcomes.{Done, run}
 use Rattle.amf_io.proofs.Paths.{flat-append}
 use Rattle.amf_io.proofs.Verdicts.{accepts}
 use Rattle.amf_wire.specs.Style.{Style, free}
 use Rattle.amf_graph.specs.Graph.{Graph}
 use Rattle.amf_graph.specs.Isomorphic.{Isomorphic}
 use Rattle.amf_graph.proofs.Lists.{cons_same, no_entry}
-use Rattle.amf3_spelling.specs.Parts3.{IsFlag}
+use Rattle.amf3_spelling.specs.Segments3.{IsFlag}
 use Rattle.amf3_spelling.specs.Spells3.{IsSpelling3}
 use Rattle.amf3_spelling.proofs.Decides3.{same_bytes_isomorphic}
 use Rattle.amf0_tables.specs.declared.form.Form.{Form}
 use Rattle.amf0_tables.specs.declared.form.Form.TheVariants.{Call, Amf3, Plain}
 use Rattle.amf0_tables.specs.Form.{IsForm, call_front}
-use Rattle.amf0_tables.specs.Parts0.{Short}
+use Rattle.amf0_tables.specs.Segments0.{Short}
 use Rattle.amf0_tables.specs.Tables0.{no_tables0}
 use Rattle.amf0_tables.proofs.Alike0.{Tied, After, alike0}
 use Rattle.amf0_tables.proofs.Bytes.{be16, be32, cut, one_flat, short_same}

@@ -15,7 +15,7 @@ use Rattle.amf0_tables.specs.declared.form.Form.{Form}
 use Rattle.amf0_tables.specs.declared.form.Form.TheVariants.{Call, Amf3, Plain}
 use Rattle.amf0_tables.specs.Lacks0.{IsLack0}
 use Rattle.amf0_tables.proofs.LackTwice0.{spelling_or_lack0}
-use Rattle.amf0_tables.proofs.Low.{kept as low_kept}
+use Rattle.amf0_tables.proofs.Low.{lowered_alike as low_alike}
 use Rattle.amf0_tables.proofs.LowLaws.{one_lowering}
 use Rattle.amf_packet.specs.Packet.{Body, Packet, BodyBy, HeaderBy, MessageBy, SpelledPacket}
 use Rattle.amf_packet.specs.PacketLacks.{bodies, IsBodyLack, IsPacketLack}
@@ -82,7 +82,7 @@ lifted_go Call y x (g, h, a, c, i) n k l = subst (λ (w : Graph). IsLack3 w n k)
 lifted_go Amf3 y x (g, h, a, c, i) n k l = subst (λ (w : Graph). IsLack3 w n k) (sym c) (spelling_or_lack.alike g h i n k (subst (λ (w : Graph). IsLack3 w n k) a l))
 lifted_go Plain y x (g, h, a, c, i) n k (o, low, l) =
     let here : IsLack0 y n k = subst (λ (w : Graph). IsLack0 w n k) (one_lowering y o y low (lowered_again g y a)) l in
-    (x, lowered_again h x c, spelling_or_lack0.alike y x (low_kept g h y x i a c) n k here)
+    (x, lowered_again h x c, spelling_or_lack0.alike y x (low_alike g h y x i a c) n k here)
 
 lifted_back : (f : Form) (y x : Graph) → Lifted f y x → (n : ℕ) (k : LackKind) → IsBodyLack f x n k → IsBodyLack f y n k
 lifted_back f y x (g, h, a, c, i) = lifted_go f x y (h, g, c, a, isomorphic_sym g h i)

@@ -3,7 +3,7 @@ use Rattle.amf_packet_show.specs.PacketLaws.{PacketLaws}
 use Rattle.amf_packet_show.proofs.Fronts.{same_bytes}
 use Rattle.amf_packet_show.proofs.Lacks.{not_both, lowered_lack, lacks_alike}
 use Rattle.amf_packet_show.proofs.Listed.{one_listing, same_listing, one_number, same_number}
-use Rattle.amf_packet_show.proofs.Lowerings.{kept, again, every}
+use Rattle.amf_packet_show.proofs.Lowerings.{lowered_alike, again, every}
 use Rattle.amf_packet_show.proofs.Turns.{alone, forget, lowered_spelling}
 
 pub packet_laws : PacketLaws
@@ -14,7 +14,7 @@ packet_laws = record {
   forget = forget;
   lowered_spelling = lowered_spelling;
   lowered_lack = lowered_lack;
-  kept = kept;
+  lowered_alike = lowered_alike;
   again = again;
   not_both = not_both;
   lacks_alike = lacks_alike;

@@ -9,7 +9,7 @@ use Rattle.amf_graph.specs.Isomorphic.{Isomorphic}
 use Rattle.amf_graph.proofs.Isomorphisms.{isomorphic_sym, isomorphic_trans}
 use Rattle.amf0_tables.specs.declared.form.Form.{Form}
 use Rattle.amf0_tables.specs.declared.form.Form.TheVariants.{Call, Amf3, Plain}
-use Rattle.amf0_tables.proofs.Low.{kept as low_kept}
+use Rattle.amf0_tables.proofs.Low.{lowered_alike as low_alike}
 use Rattle.amf0_tables.proofs.LowLaws.{one_lowering}
 use Rattle.amf_packet.specs.Packet.{Body, Header, Message, Packet, Each, BodyBy, SizedBy, HeaderBy, MessageBy, SpellsPacket, SpelledPacket}
 use Rattle.amf_packet_show.specs.SamePacket.{BodiesMatch, HeadersMatch, MessagesMatch, PacketsMatch, SamePacket, IsFittedGraph, IsLoweredPacket, HasLoweredPacket}
@@ -27,7 +27,7 @@ Iso = λ form. Isomorphic
 fitted_alike : (f : Form) (g h y x : Graph) → Isomorphic g h → IsFittedGraph f g y → IsFittedGraph f h x → Isomorphic y x
 fitted_alike Call g h y x i a b = subst (λ (w : Graph). Isomorphic w x) (sym a) (subst (λ (w : Graph). Isomorphic g w) (sym b) i)
 fitted_alike Amf3 g h y x i a b = subst (λ (w : Graph). Isomorphic w x) (sym a) (subst (λ (w : Graph). Isomorphic g w) (sym b) i)
-fitted_alike Plain g h y x i a b = low_kept g h y x i a b
+fitted_alike Plain g h y x i a b = low_alike g h y x i a b
 
 fitted_alone : (f : Form) (g y x : Graph) → IsFittedGraph f g y → IsFittedGraph f g x → y ≡ x
 fitted_alone Call g y x a b = a ∙ sym b
@@ -56,8 +56,8 @@ lifted p q low other same a b =
     composed Onward IsFittedGraph Lifted (λ f y h x m n. (m.0, h, m.1, n, m.2)) low q other
     (composed Unfitted Iso Onward (λ f y g h m n. (g, m, n)) low p q (turned IsFittedGraph Unfitted (λ f g h m. m) p low a) same) b
 
-pub kept : (p q low other : Packet) → SamePacket p q → IsLoweredPacket p low → IsLoweredPacket q other → SamePacket low other
-kept p q low other same a b =
+pub lowered_alike : (p q low other : Packet) → SamePacket p q → IsLoweredPacket p low → IsLoweredPacket q other → SamePacket low other
+lowered_alike p q low other same a b =
     composed Onward IsFittedGraph Iso (λ f y h x m n. fitted_alike f m.0 h y x m.2 m.1 n) low q other
     (composed Unfitted Iso Onward (λ f y g h m n. (g, m, n)) low p q (turned IsFittedGraph Unfitted (λ f g h m. m) p low a) same) b
 

@@ -11,7 +11,7 @@ use Rattle.amf_graph.proofs.Isomorphisms.{isomorphic_sym, isomorphic_trans}
 use Rattle.amf_graph.proofs.Lists.{cons_same}
 use Rattle.amf_graph.proofs.Zipping.{zip_length}
 use Rattle.amf3_spelling.specs.Spells3.{IsSpelling3}
-use Rattle.amf3_spelling.specs.Parts3.{IsFlag}
+use Rattle.amf3_spelling.specs.Segments3.{IsFlag}
 use Rattle.amf3_spelling.specs.Then.{Spelling}
 use Rattle.amf3_spelling.proofs.Decides3.{canonical_is_alone, same_canonical}
 use Rattle.amf3_spelling.proofs.Forget.{forget3}
@@ -19,7 +19,7 @@ use Rattle.amf0_tables.specs.declared.form.Form.{Form}
 use Rattle.amf0_tables.specs.declared.form.Form.TheVariants.{Call, Amf3, Plain}
 use Rattle.amf0_tables.specs.Form.{IsForm, call_front}
 use Rattle.amf0_tables.specs.Lowered.{IsLoweringOf}
-use Rattle.amf0_tables.specs.Parts0.{Short, marker0_field}
+use Rattle.amf0_tables.specs.Segments0.{Short, marker0_field}
 use Rattle.amf0_tables.specs.Spells0.{Switched, ValueBy0, InlineIn0, IsSpelling0}
 use Rattle.amf0_tables.specs.Tables0.{Tables0, no_tables0, switched_to}
 use Rattle.amf0_tables.proofs.Carried0.{isomorphic_spelling}

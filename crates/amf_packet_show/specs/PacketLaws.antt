@@ -24,7 +24,7 @@ pub record PacketLaws : Type 0 where
   pub lowered_spelling : (p low : Packet) (b : List ℕ) → IsLoweredPacket p low → SpelledPacket canonical p b → SpelledPacket canonical low b
   pub lowered_lack : (p low : Packet) → IsLoweredPacket p low → (value number : ℕ) (kind : LackKind) → IsPacketLack p value number kind → IsPacketLack low value number kind
   -- the lowerings of the same packet are the same, and a lowering is its own
-  pub kept : (p q low other : Packet) → SamePacket p q → IsLoweredPacket p low → IsLoweredPacket q other → SamePacket low other
+  pub lowered_alike : (p q low other : Packet) → SamePacket p q → IsLoweredPacket p low → IsLoweredPacket q other → SamePacket low other
   pub again : (p low : Packet) → IsLoweredPacket p low → IsLoweredPacket low low
   -- what is spelled lacks nothing, and the same packets, lowered, have the same lack
   pub not_both : (p : Packet) (b : List ℕ) (value number : ℕ) (kind : LackKind) → SpelledPacket canonical p b → IsPacketLack p value number kind → ⊥

@@ -17,7 +17,7 @@ use std::alloc::Global;
 /// After an end `out` is as before. It gives up where there is no memory.
 pub fn show_packet(alloc: Global, packet: &Packet, out: &mut Vec<u8>) -> Result<(), Memory>
     ensures shown { OnOk result (AppendsPacketListing (packet_of packet.now) out.old.items out.new.items) }
-    ensures kept { OnErr result (out.new.items ≡ out.old.items) }
+    ensures untouched { OnErr result (out.new.items ≡ out.old.items) }
 {
     let mut listing = Vec::new(alloc);
     push_version(packet.version, &mut listing)?;

@@ -4,7 +4,7 @@ ghost use Rattle.amf_packet_show.specs.PacketParts.{HasLoweredBody, HaveLoweredH
 ghost use Rattle.amf_packet_show.specs.SamePacket.{HasLoweredPacket};
 
 use amf_packet::{Body, Header, Message, Packet};
-use amf0_tables::lowering_is_kept;
+use amf0_tables::graphs_have_one_lowering;
 
 /// What is true of every packet: its plain values have lowerings. It does nothing.
 pub fn packet_has_lowering(packet: &Packet)
@@ -37,7 +37,7 @@ fn body_has_lowering(body: &Body)
         Body::Call(_) => {}
         Body::Amf3(_) => {}
         Body::Plain(graph) => {
-            lowering_is_kept();
+            graphs_have_one_lowering();
             graph.is_finished();
         }
     }

@@ -16,7 +16,7 @@ use std::alloc::Global;
 /// After an end `out` is as before. It gives up where there is no memory.
 pub fn show(alloc: Global, graph: &Rooted, out: &mut Vec<u8>) -> Result<(), Memory>
     ensures shown { OnOk result (AppendsListing (content graph.now) out.old.items out.new.items) }
-    ensures kept { OnErr result (out.new.items ≡ out.old.items) }
+    ensures untouched { OnErr result (out.new.items ≡ out.old.items) }
 {
     let numbering = Numbering::of(alloc, graph)?;
     let lister = Lister {

@@ -11,7 +11,7 @@ use std::alloc::Global;
 /// After an end `out` is as before. It gives up where there is no memory.
 pub fn show_text(alloc: Global, bytes: &[u8], out: &mut Vec<u8>) -> Result<(), Memory>
     ensures shown { OnOk result (out.new.items ≡ out.old.items ++ shown_text bytes.now) }
-    ensures kept { OnErr result (out.new.items ≡ out.old.items) }
+    ensures untouched { OnErr result (out.new.items ≡ out.old.items) }
 {
     let mut shown = Vec::new(alloc);
     push_text(bytes, &mut shown)?;

@@ -14,7 +14,7 @@ use Rattle.amf_io.specs.CursorReads.{Answers, AnswersField, Ends}
 use Rattle.amf_io.specs.Field.{Field, Kind, fixed, AreBytes, whole, flat, raw_kind}
 use Rattle.amf_io.specs.Layout.{Layout, give, want, Runs}
 use Rattle.amf_io.specs.LayoutAnswer.{DoneBy, EndsBy, Came}
-use Rattle.amf_io.specs.Reading.{Outcome, Bad, Short, after, in_whole, field_whole, read, run, cut}
+use Rattle.amf_io.specs.Outcomes.{Outcome, Bad, Short, after, in_whole, field_whole, read, run, cut}
 use Rattle.amf_io.proofs.CursorReads.{gives, field_reads, field_refused}
 use Rattle.amf3_layout.specs.Layout3Words.{chunk}
 use Rattle.amf3_layout.proofs.Layout3SoundTexts.{give_is}

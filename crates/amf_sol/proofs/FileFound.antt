@@ -13,7 +13,7 @@ use Rattle.amf_wire.proofs.U29Fields.{IsOneField, one_field}
 use Rattle.amf_graph.specs.Graph.{Value, Graph}
 use Rattle.amf3_layout.specs.Layout3Words.{chunk, text_layout}
 use Rattle.amf3_layout.specs.Layout3.{value_layout}
-use Rattle.amf3_spelling.specs.Parts3.{Lifted}
+use Rattle.amf3_spelling.specs.Segments3.{Lifted}
 use Rattle.amf3_spelling.specs.Refusals3.{text_header_refusal, text_header_kind}
 use Rattle.amf3_spelling.specs.Spells3.{Spells3}
 use Rattle.amf3_spelling.specs.Tables.{Words, Tables}
@@ -25,7 +25,7 @@ use Rattle.amf3_layout.proofs.Layout3Parts.{Like, parts_length, like_text, chunk
 use Rattle.amf3_layout.proofs.Layout3Texts.{takes, FoundText, text_complete}
 use Rattle.amf0_tables.specs.Layout0.{new_text0, short_layout, value0_layout}
 use Rattle.amf0_tables.specs.Layout0State.{State0, in_amf3}
-use Rattle.amf0_tables.specs.Parts0.{Short}
+use Rattle.amf0_tables.specs.Segments0.{Short}
 use Rattle.amf0_tables.specs.Spells0.{Spells0}
 use Rattle.amf0_tables.specs.Tables0.{Tables0}
 use Rattle.amf0_tables.proofs.Layout0Complete.{Like0, spelled_read0}

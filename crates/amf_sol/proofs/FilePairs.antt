@@ -16,7 +16,7 @@ use Rattle.amf_graph.specs.Arena.{Arena, StoredNode, text_at, value_content, gra
 use Rattle.amf_graph.specs.Building.{more_name}
 use Rattle.amf3_layout.specs.Layout3Words.{text_layout}
 use Rattle.amf3_layout.specs.Layout3.{value_layout}
-use Rattle.amf3_spelling.specs.Parts3.{Lifted}
+use Rattle.amf3_spelling.specs.Segments3.{Lifted}
 use Rattle.amf3_spelling.specs.Spells3.{Spells3, SpellsIn}
 use Rattle.amf3_spelling.specs.Tables.{Tables, with_words}
 use Rattle.amf3_spelling.specs.Then.{Plain}
@@ -28,7 +28,7 @@ use Rattle.amf3_layout.proofs.Layout3SoundParts.{AllClosed, grown, same_node, Ad
 use Rattle.amf3_layout.proofs.Layout3SoundTexts.{taken, give_is, text_sound}
 use Rattle.amf0_tables.specs.Layout0.{new_text0, short_layout, value0_layout}
 use Rattle.amf0_tables.specs.Layout0State.{State0, in_amf3, changed0}
-use Rattle.amf0_tables.specs.Parts0.{Short}
+use Rattle.amf0_tables.specs.Segments0.{Short}
 use Rattle.amf0_tables.specs.Spells0.{Spells0}
 use Rattle.amf0_tables.specs.Tables0.{Tables0}
 use Rattle.amf0_tables.proofs.Layout0Contents.{Good0, table0, good0_moved, good_text0, table0_changed}

@@ -12,7 +12,7 @@ use Rattle.amf_graph.proofs.Lists.{no_entry}
 use Rattle.amf3_spelling.specs.Then.{Spelling, Then, Plain}
 use Rattle.amf3_spelling.proofs.Build.{Built, both}
 use Rattle.amf0_tables.specs.Tables0.{Tables0}
-use Rattle.amf0_tables.specs.Parts0.{Short, marker0_field}
+use Rattle.amf0_tables.specs.Segments0.{Short, marker0_field}
 use Rattle.amf0_tables.specs.Spells0.{Spells0, SpellsIn0}
 use Rattle.amf0_tables.specs.Lowered.{IsLoweringOf, ends}
 use Rattle.amf0_tables.proofs.Build0.{short, a_leaf0}

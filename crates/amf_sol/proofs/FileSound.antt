@@ -23,14 +23,14 @@ use Rattle.amf_graph.specs.Arena as arena
 use Rattle.amf_graph.specs.Building.{no_stored, stored_at, shut}
 use Rattle.amf_graph.proofs.Lists.{no_entry}
 use Rattle.amf3_spelling.specs.KeptTables.{no_kept_tables, AreTablesIn}
-use Rattle.amf3_layout.proofs.Layout3Contents.{Larger, larger_itself, larger_twice, head_kept, KeptNode, Kept, Good, good_changed}
+use Rattle.amf3_layout.proofs.Layout3Contents.{Larger, larger_itself, larger_twice, head_stays, KeptNode, Kept, Good, good_changed}
 use Rattle.amf3_layout.proofs.Layout3Reads.{good_start}
 use Rattle.amf3_layout.proofs.Layout3SoundInline.{shut_completes, content_at}
 use Rattle.amf3_layout.proofs.Layout3SoundParts.{AllClosed, grown, spot, kept_spot, spot_changed, nodes_changed, pairs_content}
 use Rattle.amf3_layout.proofs.Layout3SoundTexts.{taken, give_is}
 use Rattle.amf0_tables.specs.Layout0.{short_layout}
 use Rattle.amf0_tables.specs.Layout0State.{State0, changed0}
-use Rattle.amf0_tables.specs.Parts0.{Short}
+use Rattle.amf0_tables.specs.Segments0.{Short}
 use Rattle.amf0_tables.proofs.Layout0Contents.{Good0}
 use Rattle.amf0_tables.proofs.Layout0SoundParts.{short_sound, u32_is}
 use Rattle.amf_sol.specs.declared.sol_version.SolVersion.{SolVersion}
@@ -139,7 +139,7 @@ module _ {S : Type 0} (w : Ways S) (m : ℕ) (fs : List Field) (z : State0) (k :
   here = spot_changed shut [] k.adds.more q z.amf3 k.adds.nodes
 
   head_is : (e : Arena) → Larger holder_arena e → head_content e (arena.object 0) ≡ object (record { class = []; dynamic = true; sealed = [] })
-  head_is e l = head_kept holder_arena e l (arena.object 0) holder_built.traits (omega arith)
+  head_is e l = head_stays holder_arena e l (arena.object 0) holder_built.traits (omega arith)
 
   no_values : (e : Arena) → map (value_content e) q.values ≡ []
   no_values e = ap (map (value_content e)) k.none

@@ -17,11 +17,11 @@ use Rattle.amf_graph.proofs.NameOrder.{by_name_again}
 use Rattle.amf3_spelling.specs.Tables.{Tables}
 use Rattle.amf3_spelling.specs.Then.{Then, Plain}
 use Rattle.amf3_spelling.specs.Words3.{Text}
-use Rattle.amf3_spelling.specs.Parts3.{Lifted}
+use Rattle.amf3_spelling.specs.Segments3.{Lifted}
 use Rattle.amf3_spelling.specs.Spells3.{Spells3}
 use Rattle.amf0_tables.specs.Lacks0.{Lacks0}
 use Rattle.amf0_tables.specs.Lowered.{IsLoweringOf}
-use Rattle.amf0_tables.specs.Parts0.{Short}
+use Rattle.amf0_tables.specs.Segments0.{Short}
 use Rattle.amf0_tables.specs.Spells0.{Spells0}
 use Rattle.amf0_tables.specs.Tables0.{Tables0}
 use Rattle.amf0_tables.proofs.LowLaws.{one_lowering}

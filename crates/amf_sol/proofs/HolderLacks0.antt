@@ -21,11 +21,11 @@ use Rattle.amf3_spelling.specs.Then.{Plain}
 use Rattle.amf0_tables.specs.Lacks0.{HasNoForm, HasShortNames, IsShortName, class_of, enters0, is_loose0, Lacks0}
 use Rattle.amf0_tables.specs.LacksMet.{LacksMet}
 use Rattle.amf0_tables.specs.Meets.{Meets, over, first, IsMet}
-use Rattle.amf0_tables.specs.Parts0.{Short}
+use Rattle.amf0_tables.specs.Segments0.{Short}
 use Rattle.amf0_tables.specs.Spells0.{Spells0}
 use Rattle.amf0_tables.specs.Tables0.{Tables0, no_tables0}
 use Rattle.amf0_tables.proofs.Found0.{FineNode, FineAgain, Level}
-use Rattle.amf0_tables.proofs.Kept0.{Proper, proper_none, kept_done, keeps_values_in}
+use Rattle.amf0_tables.proofs.Stays0.{Proper, proper_none, stays_done, keeps_values_in}
 use Rattle.amf0_tables.proofs.LackTwice0.{met_again_is_twice}
 use Rattle.amf0_tables.proofs.Met0.{Onward, Fresh, covers_spells}
 use Rattle.amf0_write.specs.PartLacks0.{LacksOutside}
@@ -103,7 +103,7 @@ module _ (g : Graph) (h : ℕ) (holder : IsHolder g h) where
   }
 
   proper : Proper g (file_tables0 h)
-  proper = (kept_done g no_tables0 h holder.pairs.there (λ k e. no_entry k h e)).proper (proper_none g)
+  proper = (stays_done g no_tables0 h holder.pairs.there (λ k e. no_entry k h e)).proper (proper_none g)
 
   level : Level g (h ∷ []) (file_tables0 h)
   level = ap (λ b. cond b (h ∷ []) []) (sym enters)

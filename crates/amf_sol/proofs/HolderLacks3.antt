@@ -19,7 +19,7 @@ use Rattle.amf_graph.proofs.Walks.{walks_fixed}
 use Rattle.amf3_spelling.specs.Lacks3.{NodeLacks3, Lacks3}
 use Rattle.amf3_spelling.specs.Tables.{Tables, no_tables, with_words}
 use Rattle.amf3_spelling.specs.Words3.{Text}
-use Rattle.amf3_spelling.specs.Parts3.{Lifted}
+use Rattle.amf3_spelling.specs.Segments3.{Lifted}
 use Rattle.amf3_spelling.specs.Spells3.{Spells3}
 use Rattle.amf3_spelling.proofs.Aside3.{IsAside, Beside, Moves, spells_moves}
 use Rattle.amf0_tables.proofs.Entered.{right_at}

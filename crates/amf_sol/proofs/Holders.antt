@@ -87,8 +87,8 @@ numbered_there a root order k i f n h e =
     omega (arith, t, length_map a a.nodes)
 
 -- one more number
-pub more_kept : (order : List ℕ) (m k i j : ℕ) (P : ℕ → Type 0) → ((k i : ℕ) → k < m → slice_get order k ≡ Some i → P i) → slice_get order m ≡ Some j → P j → k < m + 1 → slice_get order k ≡ Some i → P i
-more_kept order m k i j P all e p lt f = by (leb (suc k) m) refl
+pub more_stays : (order : List ℕ) (m k i j : ℕ) (P : ℕ → Type 0) → ((k i : ℕ) → k < m → slice_get order k ≡ Some i → P i) → slice_get order m ≡ Some j → P j → k < m + 1 → slice_get order k ≡ Some i → P i
+more_stays order m k i j P all e p lt f = by (leb (suc k) m) refl
   where
     by : (b : Bool) → leb (suc k) m ≡ b → P i
     by true c = all k i (let z = leb-true (suc k) m c in omega arith) f

@@ -18,19 +18,19 @@ use Rattle.amf3_spelling.specs.Lacks3.{Lacks3}
 use Rattle.amf3_spelling.specs.Tables.{Words, Tables, with_words}
 use Rattle.amf3_spelling.specs.Then.{Plain}
 use Rattle.amf3_spelling.specs.Words3.{Text, empty, whole, placed}
-use Rattle.amf3_spelling.specs.Parts3.{Lifted}
+use Rattle.amf3_spelling.specs.Segments3.{Lifted}
 use Rattle.amf3_spelling.specs.Spells3.{Spells3}
 use Rattle.amf3_spelling.proofs.ByteSpelling as spelling
 use Rattle.amf3_spelling.proofs.BytesOf.{to_spells}
 use Rattle.amf3_spelling.proofs.Fixed3.{fixed_spells}
-use Rattle.amf3_spelling.proofs.Kept3.{Proper, kept_same, keeps_spells}
+use Rattle.amf3_spelling.proofs.Stays3.{Proper, stays_same, keeps_spells}
 use Rattle.amf3_spelling.proofs.Steps3.{text_fixed}
 use Rattle.amf0_tables.specs.Lacks0.{Lacks0}
-use Rattle.amf0_tables.specs.Parts0.{Short}
+use Rattle.amf0_tables.specs.Segments0.{Short}
 use Rattle.amf0_tables.specs.Spells0.{Spells0}
 use Rattle.amf0_tables.specs.Tables0.{Tables0, no_tables0}
 use Rattle.amf0_tables.proofs.Fixed0 as fixed0
-use Rattle.amf0_tables.proofs.Kept0 as kept0
+use Rattle.amf0_tables.proofs.Stays0 as kept0
 use Rattle.amf0_tables.proofs.LowLaws.{one_lowering}
 use Rattle.amf_sol.specs.declared.sol_version.SolVersion.{SolVersion}
 use Rattle.amf_sol.specs.declared.sol_version.SolVersion.TheVariants.{Amf0, Amf3}
@@ -66,7 +66,7 @@ module _ (g : Graph) where
   one_pairs3 [] t u w fs gs p x y = (ap flat (x.0 ∙ sym y.0), x.1 ∙ sym y.1)
   one_pairs3 (q ∷ ps) t u w fs gs p x y =
       let named = one_text3 q.0 t x.mid y.mid x.front y.front x.first y.first in
-      let begun = kept_same g t x.mid (ap (λ (k : Tables). k.nodes) x.first.2) (ap (λ (k : Tables). k.done) x.first.2) in
+      let begun = stays_same g t x.mid (ap (λ (k : Tables). k.nodes) x.first.2) (ap (λ (k : Tables). k.done) x.first.2) in
       let p1 = begun.proper p in
       let a = x.second in
       let b = y.second in
@@ -141,7 +141,7 @@ module _ (g : Graph) where
       let q1 : q.pairs ≡ ps = q.in_order ∙ ap (λ i. by_name (node_at g i).names) (sym other) in
       let x : PairsBy Text0 (Spells0 canonical g) ps (file_tables0 h) fs p.spelled.0 = subst (λ i. PairsBy Text0 (Spells0 canonical g) ps (file_tables0 i) fs p.spelled.0) (sym same) (subst (λ w. PairsBy Text0 (Spells0 canonical g) w (file_tables0 p.holder) fs p.spelled.0) p1 p.spelled.1) in
       let y : PairsBy Text0 (Spells0 canonical g) ps (file_tables0 h) gs q.spelled.0 = subst (λ i. PairsBy Text0 (Spells0 canonical g) ps (file_tables0 i) gs q.spelled.0) (sym other) (subst (λ w. PairsBy Text0 (Spells0 canonical g) w (file_tables0 q.holder) gs q.spelled.0) q1 q.spelled.1) in
-      let proper = (kept0.kept_done g no_tables0 h holder.pairs.there (λ k e. no_entry k h e)).proper (kept0.proper_none g) in
+      let proper = (kept0.stays_done g no_tables0 h holder.pairs.there (λ k e. no_entry k h e)).proper (kept0.proper_none g) in
       (one_pairs0 ps (file_tables0 h) p.spelled.0 q.spelled.0 fs gs proper x y).0
 
 -- The file.

@@ -10,7 +10,7 @@ use Rattle.amf_io.specs.ReadEnds.{IsPlaced, Goes}
 use Rattle.amf_io.specs.CursorReads.{Answers, Ends, Leads}
 use Rattle.amf_io.specs.Field.{Kind, Field, AreBytes, flat}
 use Rattle.amf_io.specs.Layout.{Layout, give, want, bind, Path, Runs}
-use Rattle.amf_io.specs.Reading.{Short, after, field_whole, run}
+use Rattle.amf_io.specs.Outcomes.{Short, after, field_whole, run}
 use Rattle.amf_io.proofs.CursorReads.{goes_then, goes_nowhere, then_reads, end_reads, gives, leads_end}
 use Rattle.amf_io.proofs.Paths.{bind_runs, runs_bind}
 use Rattle.amf_graph.specs.Arena.{Arena}

@@ -30,7 +30,7 @@ use Rattle.amf3_read.specs.Opened.{KeptText}
 use Rattle.amf3_read.specs.Answer.{left_of}
 use Rattle.amf3_read.specs.Ready.{Ready, Continues, text_read}
 use Rattle.amf0_read.specs.Ready0 as ready0
-use Rattle.amf0_read.specs.Ready0.{Ready0, Kept0}
+use Rattle.amf0_read.specs.Ready0.{Ready0, StillReady0}
 use Rattle.amf0_read.proofs.TextReads0.{text_grows, text_there, text_tables, text_more}
 use Rattle.amf_sol.specs.declared.sol_version.SolVersion.TheVariants.{Amf0, Amf3}
 use Rattle.amf_sol.specs.FileLayout.{FileState, file, with_pair, behind_pair, pair_by}
@@ -138,7 +138,7 @@ name0_ready a b t i c d r built k two same p =
 -- behind a pair of AMF 0
 module _ {S : Type 0} (tells : S → Type 0) (left : S → List ℕ) (faults : S → ℕ) (a b b2 : Arena) (t u : KeptTables0) (x : TextId) (v : Stored) (c d e : Cursor S Window)
     (r : Ready0 0 a t c) (h : IsOpenHolder a (left_of c)) (k : KeptText a b x.0) (rb : Ready0 0 b t d) (two : place c + 2 ≤ place d) (same : bound d ≡ bound c)
-    (av : (n : ℕ) → left_of d < n → Answers tells left (λ (w : Stored). read0 w (state0_of b2 u)) (value0_layout n false (state0_of b t)) d e (Ok v)) (kept : Kept0 0 0 b b2 u d e) (also : bound e ≡ bound d) where
+    (av : (n : ℕ) → left_of d < n → Answers tells left (λ (w : Stored). read0 w (state0_of b2 u)) (value0_layout n false (state0_of b t)) d e (Ok v)) (kept : StillReady0 0 0 b b2 u d e) (also : bound e ≡ bound d) where
   value0_is : Grows b b2 × Names b2 v
   value0_is =
       let n = left_of d + 1 in

@@ -11,11 +11,11 @@ use Rattle.amf_graph.proofs.NameOrder.{by_name_all, by_name_all_back}
 use Rattle.amf3_spelling.specs.Tables.{Tables, add_node}
 use Rattle.amf3_spelling.specs.Refusals3.{leaf_marker}
 use Rattle.amf3_spelling.specs.Words3.{Text}
-use Rattle.amf3_spelling.specs.Parts3.{Lifted}
+use Rattle.amf3_spelling.specs.Segments3.{Lifted}
 use Rattle.amf3_spelling.specs.Spells3.{Spells3}
-use Rattle.amf3_spelling.proofs.ByteSpelling.{Spelling, Part, step, value, byte, layout, leaf_layout, Parts, Placed, Begun, ValueBy, NodeIn, Spells}
+use Rattle.amf3_spelling.proofs.ByteSpelling.{Spelling, Segment, step, value, byte, segments_of, leaf_segments, Segments, Placed, Begun, ValueBy, NodeIn, Spells}
 use Rattle.amf3_spelling.proofs.BytesOf.{to_spells}
-use Rattle.amf3_spelling.proofs.Ordered3.{met, part_values, layout_met, leaf_none}
+use Rattle.amf3_spelling.proofs.Ordered3.{met, segment_values, segments_met, leaf_none}
 use Rattle.amf_sol.specs.SharedObject.{PairsBy}
 
 module _ (g : Graph) (before : List ℕ) where
@@ -49,14 +49,14 @@ module _ (g : Graph) (before : List ℕ) where
     walks = λ xs all w. subst (λ z. Walks g t.done z all) (sym (append_assoc vs ws xs)) (a.walks (ws ++ xs) all (b.walks xs all w));
   }
 
-  led_parts : (R : Value → Spelling Tables) → ((v : Value) → Leads (R v) (v ∷ [])) → (ps : List Part) → Leads (Parts R canonical ps) (part_values ps)
-  led_parts R f [] t b t' h p = led_same t t' (ap (λ (w : Tables). w.nodes) p.1) (ap (λ (w : Tables). w.done) p.1) h
-  led_parts R f (step x ∷ ps) t b t' h p =
+  led_segments : (R : Value → Spelling Tables) → ((v : Value) → Leads (R v) (v ∷ [])) → (ps : List Segment) → Leads (Segments R canonical ps) (segment_values ps)
+  led_segments R f [] t b t' h p = led_same t t' (ap (λ (w : Tables). w.nodes) p.1) (ap (λ (w : Tables). w.done) p.1) h
+  led_segments R f (step x ∷ ps) t b t' h p =
       let a = led_same t p.mid (ap (λ (w : Tables). w.nodes) p.first.2) (ap (λ (w : Tables). w.done) p.first.2) h in
-      led_then t p.mid t' [] (part_values ps) a (led_parts R f ps p.mid p.back t' a.even p.second)
-  led_parts R f (value v ∷ ps) t b t' h p =
+      led_then t p.mid t' [] (segment_values ps) a (led_segments R f ps p.mid p.back t' a.even p.second)
+  led_segments R f (value v ∷ ps) t b t' h p =
       let a = f v t p.front p.mid h p.first in
-      led_then t p.mid t' (v ∷ []) (part_values ps) a (led_parts R f ps p.mid p.back t' a.even p.second)
+      led_then t p.mid t' (v ∷ []) (segment_values ps) a (led_segments R f ps p.mid p.back t' a.even p.second)
 
   led_placed : (i : ℕ) → Leads (Placed canonical i) (node i ∷ [])
   led_placed i t b t' h p =
@@ -69,17 +69,17 @@ module _ (g : Graph) (before : List ℕ) where
   led_begun R f i t b t' h p =
       let a = node_at g i in
       let begun : Even (add_node t i) = ap (λ w. w ++ i ∷ []) h ∙ append_assoc before t.nodes (i ∷ []) in
-      let o = led_parts R f (layout a.head p.wire a.values) (add_node t i) b t' begun p.body in
+      let o = led_segments R f (segments_of a.head p.wire a.values) (add_node t i) b t' begun p.body in
       let names : AllNamed a.names = by_name_all_back (λ q. q.0 ≢ []) a.names (subst (λ w. AllNamed w) p.sorted (by_name_all (λ q. q.0 ≢ []) p.wire p.named)) in
       record {
         even = o.even;
         named = λ n. o.named (all_push (λ j. AllNamed (node_at g j).names) t.nodes i n names);
-        walks = λ ws all w. first i p.exists p.new (subst (λ x. Walks g (t.done ++ i ∷ []) (met a.head x a.values ++ ws) all) p.in_order (subst (λ x. Walks g (t.done ++ i ∷ []) (x ++ ws) all) (layout_met a.head p.wire a.values p.fits) (o.walks ws all w)));
+        walks = λ ws all w. first i p.exists p.new (subst (λ x. Walks g (t.done ++ i ∷ []) (met a.head x a.values ++ ws) all) p.in_order (subst (λ x. Walks g (t.done ++ i ∷ []) (x ++ ws) all) (segments_met a.head p.wire a.values p.fits) (o.walks ws all w)));
       }
 
   led_value : (N : ℕ → Spelling Tables) → ((i : ℕ) → Leads (N i) (node i ∷ [])) → (v : Value) → Leads (ValueBy N canonical g v) (v ∷ [])
   led_value N f (leaf x) t b t' h p =
-      let o = led_parts (λ v t b t'. ⊥) (λ v t b t' h e. absurd e) (step (byte (leaf_marker x)) ∷ leaf_layout x) t b t' h p.1 in
+      let o = led_segments (λ v t b t'. ⊥) (λ v t b t' h e. absurd e) (step (byte (leaf_marker x)) ∷ leaf_segments x) t b t' h p.1 in
       record { even = o.even; named = o.named; walks = λ ws all w. past x (subst (λ y. Walks g t.done (y ++ ws) all) (leaf_none x) (o.walks ws all w)) }
   led_value N f (node i) t b t' h p = f i t p.0 t' h p.2
 

@@ -11,10 +11,10 @@ use Rattle.amf_graph.specs.Reached.{Reached, Holds}
 use Rattle.amf3_spelling.specs.Tables.{no_words, Tables}
 use Rattle.amf3_spelling.specs.Then.{Spelling, Then, Nothing, Plain}
 use Rattle.amf3_spelling.specs.Words3.{Text}
-use Rattle.amf3_spelling.specs.Parts3.{Lifted}
+use Rattle.amf3_spelling.specs.Segments3.{Lifted}
 use Rattle.amf3_spelling.specs.Spells3.{Spells3}
 use Rattle.amf0_tables.specs.Lowered.{IsLoweringOf}
-use Rattle.amf0_tables.specs.Parts0.{Short}
+use Rattle.amf0_tables.specs.Segments0.{Short}
 use Rattle.amf0_tables.specs.Spells0.{Spells0}
 use Rattle.amf0_tables.specs.Tables0.{Tables0}
 use Rattle.amf_sol.specs.declared.sol_version.SolVersion.{SolVersion}

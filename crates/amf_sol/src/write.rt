@@ -35,7 +35,7 @@ const MAX_LENGTH: usize = 0xFFFF_FFFF;
 pub fn write_sol(alloc: Global, object: &SharedObject, out: &mut Vec<u8>) -> Result<(), WriteEnd>
     ensures written { OnOk result (AppendsFile (shared object.now) out.old.items out.new.items) }
     ensures lack { (l : Lack) → IsErrOf result (WriteEnd.NoSpelling l) → IsFileLack (shared object.now) l.node l.kind }
-    ensures kept { OnErr result (out.new.items ≡ out.old.items) }
+    ensures untouched { OnErr result (out.new.items ≡ out.old.items) }
 {
     write_sol_keyed(alloc, None, object, out)
 }
@@ -50,7 +50,7 @@ pub fn write_sol_keyed(
 ) -> Result<(), WriteEnd>
     ensures written { OnOk result (AppendsFile (shared object.now) out.old.items out.new.items) }
     ensures lack { (l : Lack) → IsErrOf result (WriteEnd.NoSpelling l) → IsFileLack (shared object.now) l.node l.kind }
-    ensures kept { OnErr result (out.new.items ≡ out.old.items) }
+    ensures untouched { OnErr result (out.new.items ≡ out.old.items) }
 {
     object.is_stored();
     let rest = behind_length(alloc, keys, object)?;
@@ -83,7 +83,7 @@ fn behind_length(
 fn append_whole(rest: &[u8], out: &mut Vec<u8>) -> Result<(), Memory>
     requires { length rest.now < 2 ^ 32 }
     ensures written { OnOk result (out.new.items ≡ out.old.items ++ file_bytes rest.now) }
-    ensures kept { OnErr result (out.new.items ≡ out.old.items) }
+    ensures untouched { OnErr result (out.new.items ≡ out.old.items) }
 {
     let start = out.len();
     let result = append_parts(rest, out);

@@ -25,7 +25,7 @@ use amf_graph::{Lack, LackKind, NodeId, NodeView, Rooted, TextId, Value, WriteEn
 use amf_iso::ids_by_name;
 use amf_tables::WriterTables;
 use amf_wire::Memory;
-use amf0_tables::lowering_is_kept;
+use amf0_tables::graphs_have_one_lowering;
 use amf0_write::{first_lack0, lower, write0_part};
 use amf3_write::{GraphTables, write3_part_of, write3_text_of};
 use std::alloc::Global;
@@ -221,7 +221,7 @@ pub(crate) fn append_pairs(
         SolVersion::Amf3 => append_pairs3(alloc, keys, holder, out),
         SolVersion::Amf0 => {
             // What is lowered is a lowered graph.
-            lowering_is_kept();
+            graphs_have_one_lowering();
             let low = lower(alloc, holder)?;
             append_pairs0(alloc, &low, out)
         }

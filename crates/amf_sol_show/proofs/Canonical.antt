@@ -12,7 +12,7 @@ use Rattle.amf_graph.proofs.Isomorphisms.{isomorphic_sym}
 use Rattle.amf_graph.proofs.Lists.{no_entry}
 use Rattle.amf_graph.proofs.NameOrder.{by_name_again}
 use Rattle.amf_graph.proofs.Places.{Along, along_push}
-use Rattle.amf3_spelling.specs.Parts3.{Lifted}
+use Rattle.amf3_spelling.specs.Segments3.{Lifted}
 use Rattle.amf3_spelling.specs.Spells3.{Spells3}
 use Rattle.amf3_spelling.specs.Tables.{Tables, with_words}
 use Rattle.amf3_spelling.specs.Then.{Plain}
@@ -20,11 +20,11 @@ use Rattle.amf3_spelling.specs.Words3.{Text}
 use Rattle.amf3_spelling.proofs.BytesOf.{to_spells}
 use Rattle.amf3_spelling.proofs.FieldsOf.{from_spells}
 use Rattle.amf3_spelling.proofs.Forget.{forget3}
-use Rattle.amf0_tables.specs.Parts0.{Short}
+use Rattle.amf0_tables.specs.Segments0.{Short}
 use Rattle.amf0_tables.specs.Spells0.{Spells0}
 use Rattle.amf0_tables.specs.Tables0.{Tables0}
 use Rattle.amf0_tables.proofs.Forget0.{forget0}
-use Rattle.amf0_tables.proofs.Low.{kept as low_kept}
+use Rattle.amf0_tables.proofs.Low.{lowered_alike as low_alike}
 use Rattle.amf0_tables.proofs.LowLaws.{one_lowering}
 use Rattle.amf_sol.specs.declared.sol_version.SolVersion.{SolVersion}
 use Rattle.amf_sol.specs.declared.sol_version.SolVersion.TheVariants.{Amf0, Amf3}
@@ -191,15 +191,15 @@ module _ (g h : Graph) (i : Isomorphic g h) where
       (o.0, record { holder = b; is_holder = y; pairs = qs; same_names = by_name_again (node_at h b).names; in_order = refl; spelled = o.1 }, o.2)
 
 -- the lowerings of the same shared object are the same
-held_kept : (version : SolVersion) (g h y x : Graph) → Isomorphic g h → IsFittedHolder version g y → IsFittedHolder version h x → Isomorphic y x
-held_kept Amf3 g h y x i a b = subst (λ (w : Graph). Isomorphic w x) (sym a) (subst (λ (w : Graph). Isomorphic g w) (sym b) i)
-held_kept Amf0 g h y x i a b = low_kept g h y x i a b
+holders_alike : (version : SolVersion) (g h y x : Graph) → Isomorphic g h → IsFittedHolder version g y → IsFittedHolder version h x → Isomorphic y x
+holders_alike Amf3 g h y x i a b = subst (λ (w : Graph). Isomorphic w x) (sym a) (subst (λ (w : Graph). Isomorphic g w) (sym b) i)
+holders_alike Amf0 g h y x i a b = low_alike g h y x i a b
 
-pub kept : (o k low other : Shared) → SameFile o k → IsLoweredFile o low → IsLoweredFile k other → SameFile low other
-kept o k low other same a b = record {
+pub lowered_alike : (o k low other : Shared) → SameFile o k → IsLoweredFile o low → IsLoweredFile k other → SameFile low other
+lowered_alike o k low other same a b = record {
   name = sym a.name ∙ same.name ∙ b.name;
   version = sym a.version ∙ same.version ∙ b.version;
-  holder = held_kept o.version o.holder k.holder low.holder other.holder same.holder a.holder (subst (λ v. IsFittedHolder v k.holder other.holder) (sym same.version) b.holder);
+  holder = holders_alike o.version o.holder k.holder low.holder other.holder same.holder a.holder (subst (λ v. IsFittedHolder v k.holder other.holder) (sym same.version) b.holder);
 }
 
 carried : (o fit q low : Shared) (b : List ℕ) → SpelledFile canonical o b → IsLoweredFile o fit → HasHolder q.holder → IsLoweredFile q low → SameFile low fit → SpelledFile canonical q b

@@ -1,6 +1,6 @@
 -- The laws of shared objects.
 use Rattle.amf_sol_show.specs.FileLaws.{FileLaws}
-use Rattle.amf_sol_show.proofs.Canonical.{alone, holder, every, forget, lowered_spelling, kept}
+use Rattle.amf_sol_show.proofs.Canonical.{alone, holder, every, forget, lowered_spelling, lowered_alike}
 use Rattle.amf_sol_show.proofs.Lacking.{not_both, lowered_lack, lacks_alike}
 use Rattle.amf_sol_show.proofs.Listed.{one_listing, same_listing}
 use Rattle.amf_sol_show.proofs.SameBytes.{same_bytes}
@@ -14,7 +14,7 @@ file_laws = record {
   forget = forget;
   lowered_spelling = lowered_spelling;
   lowered_lack = lowered_lack;
-  kept = kept;
+  lowered_alike = lowered_alike;
   not_both = not_both;
   lacks_alike = lacks_alike;
   one_listing = one_listing;

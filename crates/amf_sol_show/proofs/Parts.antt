@@ -8,20 +8,20 @@ use Rattle.amf_graph.specs.Isomorphic.{ValuesMatch}
 use Rattle.amf_graph.proofs.Lists.{no_entry}
 use Rattle.amf3_spelling.specs.Tables.{Words, Tables, with_words}
 use Rattle.amf3_spelling.specs.Words3.{empty, whole, placed, Text}
-use Rattle.amf3_spelling.specs.Parts3.{Lifted}
+use Rattle.amf3_spelling.specs.Segments3.{Lifted}
 use Rattle.amf3_spelling.specs.Spells3.{Spells3}
 use Rattle.amf3_spelling.proofs.Alike3.{Tied as Tied3, alike}
 use Rattle.amf3_spelling.proofs.BytesOf.{to_spells}
 use Rattle.amf3_spelling.proofs.ByteSpelling.{Text as ByteText, empty as empty_bytes, whole as whole_bytes, placed as placed_bytes}
 use Rattle.amf3_spelling.proofs.Forget.{Implies}
-use Rattle.amf3_spelling.proofs.Kept3.{Proper as Proper3, Kept as Kept3, kept_same as kept_same3, keeps_spells}
+use Rattle.amf3_spelling.proofs.Stays3.{Proper as Proper3, Stays as Stays3, stays_same as stays_same3, keeps_spells}
 use Rattle.amf3_spelling.proofs.Steps3.{text_same}
-use Rattle.amf0_tables.specs.Parts0.{Short}
+use Rattle.amf0_tables.specs.Segments0.{Short}
 use Rattle.amf0_tables.specs.Spells0.{Spells0}
 use Rattle.amf0_tables.specs.Tables0.{Tables0, no_tables0}
 use Rattle.amf0_tables.proofs.Alike0.{Tied as Tied0, alike0}
 use Rattle.amf0_tables.proofs.Bytes.{short_same}
-use Rattle.amf0_tables.proofs.Kept0.{Proper as Proper0, Kept as Kept0, kept_same as kept_same0, kept_done, proper_none, keeps_values_in}
+use Rattle.amf0_tables.proofs.Stays0.{Proper as Proper0, Stays as Stays0, stays_same as stays_same0, stays_done, proper_none, keeps_values_in}
 use Rattle.amf_sol.specs.SharedObject.{file_tables, file_tables0}
 use Rattle.amf_sol_show.proofs.Members.{Met, Stays}
 
@@ -46,13 +46,13 @@ forget_text s x w fs w' (placed e k i o h u f a) = placed tt k i tt h (forget_u2
 pub forget_name : (s : Style) (x : List ℕ) → Implies (Lifted (Text s x)) (Lifted (Text free x))
 forget_name s x t fs t' (w, z, e) = (w, forget_text s x t.words fs w z, e)
 
-pub name_keep : (s : Style) (g : Graph) (x : List ℕ) (t : Tables) (fs : List Field) (t' : Tables) → Lifted (Text s x) t fs t' → Kept3 g t t'
-name_keep s g x t fs t' (w, z, e) = kept_same3 g t t' (ap (λ (y : Tables). y.nodes) e) (ap (λ (y : Tables). y.done) e)
+pub name_keep : (s : Style) (g : Graph) (x : List ℕ) (t : Tables) (fs : List Field) (t' : Tables) → Lifted (Text s x) t fs t' → Stays3 g t t'
+name_keep s g x t fs t' (w, z, e) = stays_same3 g t t' (ap (λ (y : Tables). y.nodes) e) (ap (λ (y : Tables). y.done) e)
 
-pub value_keep : (s : Style) (g : Graph) (v : Value) (t : Tables) (fs : List Field) (t' : Tables) → Spells3 s g v t fs t' → Kept3 g t t'
+pub value_keep : (s : Style) (g : Graph) (v : Value) (t : Tables) (fs : List Field) (t' : Tables) → Spells3 s g v t fs t' → Stays3 g t t'
 value_keep s g v t fs t' (n, z) = keeps_spells g s n v t (flat fs) t' (to_spells n s g v t fs t' z)
 
-pub stays3 : (g : Graph) (t t' : Tables) → Kept3 g t t' → Stays (λ (x : Tables). x.done) t t'
+pub stays3 : (g : Graph) (t t' : Tables) → Stays3 g t t' → Stays (λ (x : Tables). x.done) t t'
 stays3 g t t' k = record { longer = k.longer; stays = k.stays }
 
 pub name_same : (s z : Style) (x y : List ℕ) (t u : Tables) (fs gs : List Field) (r q : List ℕ) (t' u' : Tables) → Tied3 t u → Lifted (Text s x) t fs t' → Lifted (Text z y) u gs u' → flat fs ++ r ≡ flat gs ++ q → (x ≡ y) × (r ≡ q) × Tied3 t' u' × (length t'.done ≡ length t.done)
@@ -68,13 +68,13 @@ value_same s z g h v w t u fs gs r q t' u' j (n, a) (m, b) same =
 
 -- AMF 0.
 
-pub name_keep0 : (g : Graph) (x : List ℕ) (t : Tables0) (fs : List Field) (t' : Tables0) → Short x fs × (t' ≡ t) → Kept0 g t t'
-name_keep0 g x t fs t' z = kept_same0 g t t' z.1
+pub name_keep0 : (g : Graph) (x : List ℕ) (t : Tables0) (fs : List Field) (t' : Tables0) → Short x fs × (t' ≡ t) → Stays0 g t t'
+name_keep0 g x t fs t' z = stays_same0 g t t' z.1
 
-pub value_keep0 : (s : Style) (g : Graph) (v : Value) (t : Tables0) (fs : List Field) (t' : Tables0) → Spells0 s g v t fs t' → Kept0 g t t'
+pub value_keep0 : (s : Style) (g : Graph) (v : Value) (t : Tables0) (fs : List Field) (t' : Tables0) → Spells0 s g v t fs t' → Stays0 g t t'
 value_keep0 s g v t fs t' (n, z) = keeps_values_in g s n false v t fs t' z
 
-pub stays0 : (g : Graph) (t t' : Tables0) → Kept0 g t t' → Stays (λ (x : Tables0). x.amf3.done) t t'
+pub stays0 : (g : Graph) (t t' : Tables0) → Stays0 g t t' → Stays (λ (x : Tables0). x.amf3.done) t t'
 stays0 g t t' k = record { longer = k.longer; stays = k.stays }
 
 pub name_same0 : (x y : List ℕ) (t u : Tables0) (fs gs : List Field) (r q : List ℕ) (t' u' : Tables0) → Tied0 t u → Short x fs × (t' ≡ t) → Short y gs × (u' ≡ u) → flat fs ++ r ≡ flat gs ++ q → (x ≡ y) × (r ≡ q) × Tied0 t' u' × (length t'.amf3.done ≡ length t.amf3.done)
@@ -90,7 +90,7 @@ value_same0 s z g h v w t u fs gs r q t' u' j a b same =
 -- The tables of a file are those of its graph.
 
 pub file_proper0 : (g : Graph) (i : ℕ) → i < length g.nodes → Proper0 g (file_tables0 i)
-file_proper0 g i there = let k = kept_done g no_tables0 i there (λ n e. no_entry n i e) in k.proper (proper_none g)
+file_proper0 g i there = let k = stays_done g no_tables0 i there (λ n e. no_entry n i e) in k.proper (proper_none g)
 
 pub file_proper : (g : Graph) (i : ℕ) → i < length g.nodes → Proper3 g (file_tables i)
 file_proper g i there = let p = file_proper0 g i there in p.amf3

@@ -15,19 +15,19 @@ use Rattle.amf_graph.proofs.Lists.{cons_same, no_entry}
 use Rattle.amf_graph.proofs.Matching.{Implies as Less, nodes_more, by_name_match}
 use Rattle.amf_graph.proofs.Places.{SamePlace, zipped, zipped_at, at_zipped}
 use Rattle.amf_graph.proofs.Walks.{Within}
-use Rattle.amf3_spelling.specs.Parts3.{Lifted}
+use Rattle.amf3_spelling.specs.Segments3.{Lifted}
 use Rattle.amf3_spelling.specs.Spells3.{Spells3}
 use Rattle.amf3_spelling.specs.Tables.{Tables}
 use Rattle.amf3_spelling.specs.Then.{Plain}
 use Rattle.amf3_spelling.specs.Words3.{Text}
 use Rattle.amf3_spelling.proofs.Alike3.{Tied as Tied3}
-use Rattle.amf3_spelling.proofs.Kept3.{Proper as Proper3, Kept as Kept3, kept_same as kept_same3, kept_trans as kept_trans3}
-use Rattle.amf0_tables.specs.Parts0.{Short}
+use Rattle.amf3_spelling.proofs.Stays3.{Proper as Proper3, Stays as Stays3, stays_same as stays_same3, stays_twice as stays_twice3}
+use Rattle.amf0_tables.specs.Segments0.{Short}
 use Rattle.amf0_tables.specs.Spells0.{Spells0}
 use Rattle.amf0_tables.specs.Tables0.{Tables0}
 use Rattle.amf0_tables.proofs.Alike0.{Tied as Tied0}
 use Rattle.amf0_tables.proofs.Bytes.{be32, short_same}
-use Rattle.amf0_tables.proofs.Kept0.{Proper as Proper0, Kept as Kept0, kept_same as kept_same0, kept_trans as kept_trans0}
+use Rattle.amf0_tables.proofs.Stays0.{Proper as Proper0, Stays as Stays0, stays_same as stays_same0, stays_twice as stays_twice0}
 use Rattle.amf_sol.specs.declared.sol_version.SolVersion.{SolVersion}
 use Rattle.amf_sol.specs.declared.sol_version.SolVersion.TheVariants.{Amf0, Amf3}
 use Rattle.amf_sol.specs.SharedObject.{Shared, IsPairHolder, signature, second_signature, padding, version_number, version_field, PairsBy, file_tables, file_tables0, PairsOf, AfterLength, SpelledFile}
@@ -86,11 +86,11 @@ tied0 : (a b : ℕ) → Tied0 (file_tables0 a) (file_tables0 b)
 tied0 a b = record { amf3 = tied3 a b; size = refl; pairs = λ k i j e f. absurd (no_entry k i e); switched = refl }
 
 -- what pairs do to the tables of a file
-pub pairs_kept : (s : Style) (g : Graph) (ps : List (List ℕ × Value)) (t : Tables) (fs : List Field) (t' : Tables) → PairsBy (λ x. Lifted (Text s x)) (Spells3 s g) ps t fs t' → Kept3 g t t'
-pairs_kept s g = pairs_keep (Kept3 g) (λ t t' e. kept_same3 g t t' (ap (λ (y : Tables). y.nodes) e) (ap (λ (y : Tables). y.done) e)) (kept_trans3 g) (λ x. Lifted (Text s x)) (Spells3 s g) (name_keep s g) (value_keep s g)
+pub pairs_stay : (s : Style) (g : Graph) (ps : List (List ℕ × Value)) (t : Tables) (fs : List Field) (t' : Tables) → PairsBy (λ x. Lifted (Text s x)) (Spells3 s g) ps t fs t' → Stays3 g t t'
+pairs_stay s g = pairs_keep (Stays3 g) (λ t t' e. stays_same3 g t t' (ap (λ (y : Tables). y.nodes) e) (ap (λ (y : Tables). y.done) e)) (stays_twice3 g) (λ x. Lifted (Text s x)) (Spells3 s g) (name_keep s g) (value_keep s g)
 
-pub pairs_kept0 : (s : Style) (g : Graph) (ps : List (List ℕ × Value)) (t : Tables0) (fs : List Field) (t' : Tables0) → PairsBy (λ x. Plain (Short x)) (Spells0 s g) ps t fs t' → Kept0 g t t'
-pairs_kept0 s g = pairs_keep (Kept0 g) (kept_same0 g) (kept_trans0 g) (λ x. Plain (Short x)) (Spells0 s g) (name_keep0 g) (value_keep0 s g)
+pub pairs_stay0 : (s : Style) (g : Graph) (ps : List (List ℕ × Value)) (t : Tables0) (fs : List Field) (t' : Tables0) → PairsBy (λ x. Plain (Short x)) (Spells0 s g) ps t fs t' → Stays0 g t t'
+pairs_stay0 s g = pairs_keep (Stays0 g) (stays_same0 g) (stays_twice0 g) (λ x. Plain (Short x)) (Spells0 s g) (name_keep0 g) (value_keep0 s g)
 
 abbrev done3 : Tables → List ℕ
 done3 t = t.done
@@ -120,8 +120,8 @@ same_holders Amf3 g h fs gs p q e =
     let y = q.is_holder in
     let t = p.spelled.0 in
     let u = q.spelled.0 in
-    let k = pairs_kept free g p.pairs (file_tables a) fs t p.spelled.1 in
-    let l = pairs_kept free h q.pairs (file_tables b) gs u q.spelled.1 in
+    let k = pairs_stay free g p.pairs (file_tables a) fs t p.spelled.1 in
+    let l = pairs_stay free h q.pairs (file_tables b) gs u q.spelled.1 in
     let left : Proper3 g t = k.proper (file_proper g a x.there) in
     let right : Proper3 h u = l.proper (file_proper h b y.there) in
     let m = members_alike free free g h a b p.pairs q.pairs fs gs t u p.spelled.1 q.spelled.1 e in
@@ -134,8 +134,8 @@ same_holders Amf0 g h fs gs p q e =
     let y = q.is_holder in
     let t = p.spelled.0 in
     let u = q.spelled.0 in
-    let k = pairs_kept0 free g p.pairs (file_tables0 a) fs t p.spelled.1 in
-    let l = pairs_kept0 free h q.pairs (file_tables0 b) gs u q.spelled.1 in
+    let k = pairs_stay0 free g p.pairs (file_tables0 a) fs t p.spelled.1 in
+    let l = pairs_stay0 free h q.pairs (file_tables0 b) gs u q.spelled.1 in
     let left : Proper0 g t = k.proper (file_proper0 g a x.there) in
     let right : Proper0 h u = l.proper (file_proper0 h b y.there) in
     let once = left.amf3 in

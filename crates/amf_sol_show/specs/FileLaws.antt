@@ -21,7 +21,7 @@ pub record FileLaws : Type 0 where
   pub lowered_spelling : (o low : Shared) (b : List ℕ) → IsLoweredFile o low → IsLoweredFile low low → SpelledFile canonical o b → SpelledFile canonical low b
   pub lowered_lack : (o low : Shared) → IsLoweredFile o low → IsLoweredFile low low → (number : ℕ) (kind : LackKind) → IsFileLack o number kind → IsFileLack low number kind
   -- the lowerings of the same shared object are the same
-  pub kept : (o k low other : Shared) → SameFile o k → IsLoweredFile o low → IsLoweredFile k other → SameFile low other
+  pub lowered_alike : (o k low other : Shared) → SameFile o k → IsLoweredFile o low → IsLoweredFile k other → SameFile low other
   -- what is spelled lacks nothing, and the same shared objects, lowered, have the same lack
   pub not_both : (o : Shared) (b : List ℕ) (number : ℕ) (kind : LackKind) → SpelledFile canonical o b → IsFileLack o number kind → ⊥
   pub lacks_alike : (low other : Shared) → SameFile low other → IsLoweredFile low low → IsLoweredFile other other → (number : ℕ) (kind : LackKind) → IsFileLack low number kind → IsFileLack other number kind

@@ -13,7 +13,7 @@ use std::alloc::Global;
 /// After an end `out` is as before. It gives up where there is no memory.
 pub fn show_file(alloc: Global, file: &SharedObject, out: &mut Vec<u8>) -> Result<(), Memory>
     ensures shown { OnOk result (AppendsFileListing (shared file.now) out.old.items out.new.items) }
-    ensures kept { OnErr result (out.new.items ≡ out.old.items) }
+    ensures untouched { OnErr result (out.new.items ≡ out.old.items) }
 {
     let mut listing = Vec::new(alloc);
     push_file_line(alloc, file, &mut listing)?;

@@ -2,7 +2,7 @@ ghost use Rattle.amf_sol.specs.StoredFile.{shared};
 ghost use Rattle.amf_sol_show.specs.SameFile.{HasLoweredFile};
 
 use amf_sol::{SharedObject, SolVersion};
-use amf0_tables::lowering_is_kept;
+use amf0_tables::graphs_have_one_lowering;
 
 /// What is true of every shared object: where its version is that of AMF 0 its graph has a lowering. It does nothing.
 pub fn file_has_lowering(file: &SharedObject)
@@ -11,7 +11,7 @@ pub fn file_has_lowering(file: &SharedObject)
     match file.version() {
         SolVersion::Amf3 => {}
         SolVersion::Amf0 => {
-            lowering_is_kept();
+            graphs_have_one_lowering();
             file.holder().is_finished();
         }
     }

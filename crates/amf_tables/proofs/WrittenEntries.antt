@@ -211,9 +211,9 @@ text_added (Ok v) texts x new ws nodes old h all is =
     (ap (λ (w : List (List ℕ)). written_tables w ws nodes) h ∙ ap (λ (es : List Entry). with_words (written_tables texts ws nodes) (record { texts = texts ++ x ∷ []; traits = es })) (entries_stay texts x ws all))
 text_added (Err e) texts x new ws nodes old h all is = tt
 
-pub text_kept : {T E : Type 0} (r : Result T E) (texts new : List (List ℕ)) (ws : List Written) (nodes : Spelled) (old : Tables) → OnErr r (new ≡ texts) → written_tables texts ws nodes ≡ old → OnErr r (written_tables new ws nodes ≡ old)
-text_kept (Ok v) texts new ws nodes old h is = tt
-text_kept (Err e) texts new ws nodes old h is = ap (λ (w : List (List ℕ)). written_tables w ws nodes) h ∙ is
+pub text_as_before : {T E : Type 0} (r : Result T E) (texts new : List (List ℕ)) (ws : List Written) (nodes : Spelled) (old : Tables) → OnErr r (new ≡ texts) → written_tables texts ws nodes ≡ old → OnErr r (written_tables new ws nodes ≡ old)
+text_as_before (Ok v) texts new ws nodes old h is = tt
+text_as_before (Err e) texts new ws nodes old h is = ap (λ (w : List (List ℕ)). written_tables w ws nodes) h ∙ is
 
 -- A text looked up, and entered where it is new.
 
@@ -242,9 +242,9 @@ entry_added (Ok v) texts ws e new nodes old h is =
     (ap (λ (es : List Entry). with_words (written_tables texts ws nodes) (record { texts = texts; traits = es })) (pushed_entries texts ws e new h))
 entry_added (Err x) texts ws e new nodes old h is = tt
 
-pub entries_kept : {T E : Type 0} (r : Result T E) (texts : List (List ℕ)) (ws new : List Written) (nodes : Spelled) (old : Tables) → OnErr r (new ≡ ws) → written_tables texts ws nodes ≡ old → OnErr r (written_tables texts new nodes ≡ old)
-entries_kept (Ok v) texts ws new nodes old h is = tt
-entries_kept (Err e) texts ws new nodes old h is = ap (λ (w : List Written). written_tables texts w nodes) h ∙ is
+pub entries_as_before : {T E : Type 0} (r : Result T E) (texts : List (List ℕ)) (ws new : List Written) (nodes : Spelled) (old : Tables) → OnErr r (new ≡ ws) → written_tables texts ws nodes ≡ old → OnErr r (written_tables texts new nodes ≡ old)
+entries_as_before (Ok v) texts ws new nodes old h is = tt
+entries_as_before (Err e) texts ws new nodes old h is = ap (λ (w : List Written). written_tables texts w nodes) h ∙ is
 
 -- Traits by their bytes, entry after entry.
 

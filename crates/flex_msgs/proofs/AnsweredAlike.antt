@@ -18,7 +18,7 @@ use Rattle.flex_msgs.specs.Built.{Adds}
 use Rattle.flex_msgs.specs.Messages.{client_value, error_nodes, invalidate_nodes, delivered_node, other_values, with_client}
 use Rattle.flex_msgs.specs.Answers.{rooted_behind, values_at}
 use Rattle.flex_msgs.specs.FlexLaws.{AreBefore, IsAt, ErrorLaw, InvalidateLaw, DeliveredLaw}
-use Rattle.flex_msgs.proofs.BuiltAlike.{all_pairs, kept, new_pair, behind_at, added_shown, added_room, client_same}
+use Rattle.flex_msgs.proofs.BuiltAlike.{all_pairs, old_pair, new_pair, behind_at, added_shown, added_room, client_same}
 use Rattle.flex_msgs.proofs.PublishedAlike.{completes_earlier}
 use Rattle.flex_msgs.proofs.Looking.{node_content_at}
 use Rattle.flex_msgs.proofs.Delivering.{others_named}
@@ -135,7 +135,7 @@ delivered_law a i client old new u fin built there d h done =
     let room = added_room between new h u written d.added done (omega arith) in
     let shown = added_shown between new h u written d.added done in
     let Q : ℕ → ℕ → Type 0 = StandIn (all_pairs g k vs ws s n before more others room shown) in
-    let roots = zip_more (ValuesMatch (StandIn s.pairs)) (ValuesMatch Q) (values_more (StandIn s.pairs) Q (kept g k vs ws s n before more others room shown)) vs ws s.roots in
+    let roots = zip_more (ValuesMatch (StandIn s.pairs)) (ValuesMatch Q) (values_more (StandIn s.pairs) Q (old_pair g k vs ws s n before more others room shown)) vs ws s.roots in
     let behind : length old.nodes ≤ n = omega (arith, ap (λ (x : Arena). length x.nodes) d.grafted.arena, length-append old.nodes (copied_nodes a (renaming old d.grafted.cut) d.grafted.cut.nodes)) in
     let end : n + length others ≡ length new.nodes = omega (arith, size, ap length d.added.nodes, length-append between.nodes d.added.more_nodes) in
     let alike = behind_at g k vs ws s n before more others room shown (length old.nodes) (λ i j q. (pairs.new i j q).0) behind (delivered_match Q client vs ws roots) 0 (omega arith) (value_content h u) at in

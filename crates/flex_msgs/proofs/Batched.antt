@@ -14,7 +14,7 @@ use Rattle.flex_msgs.specs.declared.reply.Reply.{Reply}
 use Rattle.flex_msgs.specs.Messages.{sync_nodes, invalidate_nodes, delivered_node, other_values}
 use Rattle.flex_msgs.specs.Answers.{Batch, empty_batch, and_graph, batch_of}
 use Rattle.flex_msgs.specs.FlexLaws.{AreBefore, AreApart, IsAt, StandBehind, AddsDelivered, AddsInvalidate, AddsBatch, BatchLaw, SyncLaw}
-use Rattle.flex_msgs.proofs.BuiltAlike.{all_pairs, kept, new_pair, behind_alike, added_shown, added_room, client_same}
+use Rattle.flex_msgs.proofs.BuiltAlike.{all_pairs, old_pair, new_pair, behind_alike, added_shown, added_room, client_same}
 use Rattle.flex_msgs.proofs.AnsweredAlike.{nothing_same, none_before, invalidate_law, delivered_law}
 use Rattle.flex_msgs.proofs.PublishedAlike.{nodes_front, completes_earlier}
 use Rattle.flex_msgs.proofs.Joined.{joined_where}
@@ -126,5 +126,5 @@ sync_law r batch old new u a h done gs from behind =
     let shown = added_shown old new h u written a done in
     let Q : ℕ → ℕ → Type 0 = StandIn (all_pairs g k b.values ws s n before more others room shown) in
     let pair = new_pair g k b.values ws s n before more others room shown in
-    let values = zip_more (ValuesMatch (StandIn s.pairs)) (ValuesMatch Q) (values_more (StandIn s.pairs) Q (kept g k b.values ws s n before more others room shown)) b.values ws s.roots in
+    let values = zip_more (ValuesMatch (StandIn s.pairs)) (ValuesMatch Q) (values_more (StandIn s.pairs) Q (old_pair g k b.values ws s n before more others room shown)) b.values ws s.roots in
     behind_alike g k b.values ws s n before more others room shown (sync_match Q r b.values ws (length g.nodes) n values (at_first Q (length g.nodes) n (pair 0 (omega arith))) (at_next Q (length g.nodes) n (pair 1 (omega arith)))) 2 (omega arith) (value_content h u) at

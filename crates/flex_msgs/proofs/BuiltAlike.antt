@@ -13,7 +13,7 @@ use Rattle.amf_graph.proofs.Alls.{all_at}
 use Rattle.amf_graph.proofs.Lists.{at_left}
 use Rattle.amf_graph.proofs.Matching.{Implies, nodes_more, values_more}
 use Rattle.amf_graph.specs.Roots.{SameFrom}
-use Rattle.amf_graph.proofs.Behind.{kept_behind}
+use Rattle.amf_graph.proofs.Behind.{stays_behind}
 use Rattle.flex_msgs.specs.declared.reply.Reply.{Reply}
 use Rattle.flex_msgs.specs.Built.{Adds}
 use Rattle.flex_msgs.specs.Messages.{acknowledge_nodes, client_value}
@@ -87,8 +87,8 @@ module _ (g h : Graph) (vs ws : List Value) (s : SameFrom g h vs ws) (start : �
     | inr p ↦ let r = run_at (length more) (length g.nodes) start p.0 i j p.1 in inr (p.0, r.0, r.1, r.2)
   ]
 
-  pub kept : Implies Old Q
-  kept i j p = (p.0, at_left s.pairs (run_of (length more) (length g.nodes) start) p.0 (i, j) p.1)
+  pub old_pair : Implies Old Q
+  old_pair i j p = (p.0, at_left s.pairs (run_of (length more) (length g.nodes) start) p.0 (i, j) p.1)
 
   pub new_pair : (k : ℕ) → k < length more → Q (length g.nodes + k) (start + k)
   new_pair k l = at_right s.pairs (run_of (length more) (length g.nodes) start) k (length g.nodes + k, start + k) (at_run (length more) (length g.nodes) start k l)
@@ -127,7 +127,7 @@ module _ (g h : Graph) (vs ws : List Value) (s : SameFrom g h vs ws) (start : �
       ];
       root = subst (λ v. ValuesMatch Q (node (length g.nodes + last)) v) (sym at) (new_pair last some);
       nodes = λ i j p. elim (split i j p) [
-        | inl q ↦ subst (λ a. NodesMatch Q a (node_at h j)) (sym (old_node i (s.within i j q).0)) (nodes_more Old Q kept (node_at g i) (node_at h j) (s.nodes i j q))
+        | inl q ↦ subst (λ a. NodesMatch Q a (node_at h j)) (sym (old_node i (s.within i j q).0)) (nodes_more Old Q old_pair (node_at g i) (node_at h j) (s.nodes i j q))
         | inr q ↦
             subst (λ n. NodesMatch Q (node_at (whole 0) n) (node_at h j)) (sym q.2)
             (subst (λ a. NodesMatch Q a (node_at h j)) (sym (new_node q.0))
@@ -158,7 +158,7 @@ module _ (old new h : Arena) (u : Stored) (written : Arena → List Node) (a : A
   complete = subst (λ ns. NodesComplete (old.nodes ++ ns) h.nodes) (sym (map_same a.more_nodes)) (subst (λ ns. NodesComplete ns h.nodes) a.nodes done.nodes)
 
   one : (k : ℕ) → k < length a.more_nodes → (length old.nodes + k < length h.nodes) × (get_or h.nodes (length old.nodes + k) no_stored ≡ get_or a.more_nodes k no_stored)
-  one k l = kept_behind (λ n. n) old.nodes a.more_nodes h.nodes k (get_or a.more_nodes k no_stored) (slice_get-get_or a.more_nodes k no_stored l) (all_at (λ n. n.is_open ≡ false) a.more_nodes k no_stored l a.closed) complete
+  one k l = stays_behind (λ n. n) old.nodes a.more_nodes h.nodes k (get_or a.more_nodes k no_stored) (slice_get-get_or a.more_nodes k no_stored l) (all_at (λ n. n.is_open ≡ false) a.more_nodes k no_stored l a.closed) complete
 
   count : length (written h) ≡ length a.more_nodes
   count = sym (ap length (a.content h done)) ∙ length-map a.more_nodes (node_content h)
@@ -203,5 +203,5 @@ acknowledge_law r old new u a h done g v s before =
     let p : length g.nodes + 0 ≡ length g.nodes = omega arith in
     let q : n + 0 ≡ n = omega arith in
     subst (λ k. Q (length g.nodes) k) q (subst (λ k. Q k (n + 0)) p one) in
-    let body = values_more (StandIn s.pairs) Q (kept g (graph_of h u) (v ∷ []) (value_content h r.body ∷ []) s n before more others room shown) v (value_content h r.body) s.roots.0 in
+    let body = values_more (StandIn s.pairs) Q (old_pair g (graph_of h u) (v ∷ []) (value_content h r.body ∷ []) s n before more others room shown) v (value_content h r.body) s.roots.0 in
     behind_alike g (graph_of h u) (v ∷ []) (value_content h r.body ∷ []) s n before more others room shown (acknowledge_match Q r v (value_content h r.body) (length g.nodes) n body first) 1 (omega arith) (value_content h u) at

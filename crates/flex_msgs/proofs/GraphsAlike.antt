@@ -15,7 +15,7 @@ use Rattle.flex_msgs.specs.Asked.{Told}
 use Rattle.flex_msgs.specs.Messages.{acknowledge_nodes, sync_nodes, published_node, delivered_node, other_values}
 use Rattle.flex_msgs.specs.Answers.{Batch, empty_batch, and_graph, batch_of, rooted_behind, values_at, shifted_value, shifted_node, shifted_nodes, published_graph, delivered_graph}
 use Rattle.flex_msgs.specs.FlexLaws.{AreBefore, ToldMatch, AnswersAlike, joined}
-use Rattle.flex_msgs.proofs.BuiltAlike.{all_pairs, kept, new_pair, behind_alike, acknowledge_match}
+use Rattle.flex_msgs.proofs.BuiltAlike.{all_pairs, old_pair, new_pair, behind_alike, acknowledge_match}
 use Rattle.flex_msgs.proofs.PublishedAlike.{published_match}
 use Rattle.flex_msgs.proofs.AnsweredAlike.{nothing_same, delivered_match}
 use Rattle.flex_msgs.proofs.Joined.{at_right, at_either, zip_append, sorted_shifted}
@@ -56,7 +56,7 @@ module _ (g h : Graph) (vs ws : List Value) (s : SameFrom g h vs ws) (more other
   pub answers_match : ((P : ℕ → ℕ → Type 0) → AllZip (ValuesMatch P) vs ws → ((m : ℕ) → m < length more → P (length g.nodes + m) (length h.nodes + m)) → AllZip (NodesMatch P) more others)
       → Isomorphic (rooted_behind last g.nodes (λ n. more)) (rooted_behind last h.nodes (λ n. others))
   answers_match m =
-      let roots = zip_more (ValuesMatch (StandIn t.pairs)) (ValuesMatch Q) (values_more (StandIn t.pairs) Q (kept g k vs ws t (length h.nodes) before more others room shown)) vs ws t.roots in
+      let roots = zip_more (ValuesMatch (StandIn t.pairs)) (ValuesMatch Q) (values_more (StandIn t.pairs) Q (old_pair g k vs ws t (length h.nodes) before more others room shown)) vs ws t.roots in
       behind_alike g k vs ws t (length h.nodes) before more others room shown (m Q roots (new_pair g k vs ws t (length h.nodes) before more others room shown)) last some (node (length h.nodes + last)) refl
 
 -- isomorphic graphs, from values that match

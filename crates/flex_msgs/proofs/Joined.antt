@@ -89,8 +89,8 @@ module _ (g k h : Graph) (vs ws us xs : List Value) (s : SameFrom g h vs ws) (t 
     | inr p ↦ let r = moved_at n t.pairs p.0 i j p.1 in inr (r.0, (p.0, r.1), r.2)
   ]
 
-  kept : Implies (StandIn s.pairs) Q
-  kept i j p = (p.0, at_left s.pairs (moved n t.pairs) p.0 (i, j) p.1)
+  old_pair : Implies (StandIn s.pairs) Q
+  old_pair i j p = (p.0, at_left s.pairs (moved n t.pairs) p.0 (i, j) p.1)
 
   new : (l j : ℕ) → StandIn t.pairs l j → Q (n + l) j
   new l j p = at_right s.pairs (moved n t.pairs) p.0 (n + l, j) (at_moved n t.pairs p.0 l j p.1)
@@ -141,9 +141,9 @@ module _ (g k h : Graph) (vs ws us xs : List Value) (s : SameFrom g h vs ws) (t 
         | inl q ↦ let w = s.within i j q in (omega (arith, w.0, count), w.1)
         | inr q ↦ let w = t.within q.0 j q.1 in (omega (arith, w.0, q.2, count), w.1)
       ];
-      roots = zip_append (ValuesMatch Q) vs ws (map (shifted_value n) us) xs (zip_more (ValuesMatch (StandIn s.pairs)) (ValuesMatch Q) (values_more (StandIn s.pairs) Q kept) vs ws s.roots) (zip_mapped (ValuesMatch (StandIn t.pairs)) (ValuesMatch Q) (shifted_value n) value_shifted us xs t.roots);
+      roots = zip_append (ValuesMatch Q) vs ws (map (shifted_value n) us) xs (zip_more (ValuesMatch (StandIn s.pairs)) (ValuesMatch Q) (values_more (StandIn s.pairs) Q old_pair) vs ws s.roots) (zip_mapped (ValuesMatch (StandIn t.pairs)) (ValuesMatch Q) (shifted_value n) value_shifted us xs t.roots);
       nodes = λ i j p. elim (split i j p) [
-        | inl q ↦ subst (λ a. NodesMatch Q a (node_at h j)) (sym (at_old i (s.within i j q).0)) (nodes_more (StandIn s.pairs) Q kept (node_at g i) (node_at h j) (s.nodes i j q))
+        | inl q ↦ subst (λ a. NodesMatch Q a (node_at h j)) (sym (at_old i (s.within i j q).0)) (nodes_more (StandIn s.pairs) Q old_pair (node_at g i) (node_at h j) (s.nodes i j q))
         | inr q ↦ subst (λ m. NodesMatch Q (node_at (joined g k) m) (node_at h j)) (sym q.2) (subst (λ a. NodesMatch Q a (node_at h j)) (sym (at_new q.0)) (node_shifted (node_at k q.0) (node_at h j) (t.nodes q.0 j q.1)))
       ];
     },

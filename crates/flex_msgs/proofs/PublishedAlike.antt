@@ -12,7 +12,7 @@ use Rattle.amf_graph.proofs.Matched.{graft_law}
 use Rattle.flex_msgs.specs.Built.{Adds}
 use Rattle.flex_msgs.specs.Messages.{published_node}
 use Rattle.flex_msgs.specs.FlexLaws.{AreBefore, PublishedLaw}
-use Rattle.flex_msgs.proofs.BuiltAlike.{all_pairs, kept, behind_alike, added_shown, added_room}
+use Rattle.flex_msgs.proofs.BuiltAlike.{all_pairs, old_pair, behind_alike, added_shown, added_room}
 
 pub nodes_front : (ns more gs : List StoredNode) → NodesComplete (ns ++ more) gs → NodesComplete ns gs
 nodes_front [] more gs h = tt
@@ -52,6 +52,6 @@ published_law a root c correlation moment old new u fin built body_named headers
     let room = added_room between new h u written p.added done (omega arith) in
     let shown = added_shown between new h u written p.added done in
     let Q : ℕ → ℕ → Type 0 = StandIn (all_pairs g (graph_of h u) vs ws s n before more others room shown) in
-    let body = values_more (StandIn s.pairs) Q (kept g (graph_of h u) vs ws s n before more others room shown) (value_content a c.body) (value_content h p.body) s.roots.0 in
-    let headers = values_more (StandIn s.pairs) Q (kept g (graph_of h u) vs ws s n before more others room shown) (value_content a c.headers) (value_content h p.headers) s.roots.1.0 in
+    let body = values_more (StandIn s.pairs) Q (old_pair g (graph_of h u) vs ws s n before more others room shown) (value_content a c.body) (value_content h p.body) s.roots.0 in
+    let headers = values_more (StandIn s.pairs) Q (old_pair g (graph_of h u) vs ws s n before more others room shown) (value_content a c.headers) (value_content h p.headers) s.roots.1.0 in
     behind_alike g (graph_of h u) vs ws s n before more others room shown (published_match Q c.message c.destination correlation moment (value_content a c.body) (value_content h p.body) (value_content a c.headers) (value_content h p.headers) body headers) 0 (omega arith) (value_content h u) at

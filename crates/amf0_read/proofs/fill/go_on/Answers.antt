@@ -4,7 +4,7 @@ use Rattle.amf_graph.specs.Arena.{head_content, text_at}
 use Rattle.amf_graph.specs.Building.{stored_at}
 use Rattle.amf3_read.specs.Answer.{left_of}
 use Rattle.amf0_tables.specs.TableParts0.{shown_tables}
-use Rattle.amf0_tables.specs.Parts0.{is_empty}
+use Rattle.amf0_tables.specs.Segments0.{is_empty}
 use Rattle.amf0_tables.specs.Layout0State.{state0_of}
 use Rattle.amf0_tables.specs.Layout0.{value0_layout}
 use Rattle.amf0_read.specs.declared.frame.Todo.TheVariants.{Items, Pairs}
@@ -12,8 +12,8 @@ use Rattle.amf0_read.specs.declared.frame.Slot.TheVariants.{Item, Named}
 use Rattle.amf0_read.specs.declared.fill.Step.TheVariants as step
 use Rattle.amf0_read.specs.Frames0.{todo, Lacks, GoesOn}
 use Rattle.amf0_read.proofs.GoesOn0.{item_goes, item_ends, name_ends, pair_goes, pair_ends, pairs_closed, items_closed}
-use Rattle.amf0_read.proofs.TextReads0.{name_kept, name_waits}
-use Rattle.amf0_read.proofs.Closes0.{no_items, shut_kept, shut_holds, shut_fits, item_waits, end_ready, end_opened, end_lacks, end_shut, end_holds, step_ended, empty_tells}
+use Rattle.amf0_read.proofs.TextReads0.{name_still_ready, name_waits}
+use Rattle.amf0_read.proofs.Closes0.{no_items, shut_still_ready, shut_holds, shut_fits, item_waits, end_ready, end_opened, end_lacks, end_shut, end_holds, step_ended, empty_tells}
 use Rattle.amf0_read.proofs.fill.go_on.Goals as goal
 
 pub returns-in_err-marker-in-Items-clause-answers : goal.returns-in_err-marker-in-Items-clause-answers
@@ -61,14 +61,14 @@ returns-in-Items-eq0-clause-answers g c = λ f lt.
     subst (λ p. GoesOn S.tells S.left (todo (value0_layout f.values) f.pairs i p (state0_of a t)) i (state0_of b t) k k (Ok step.Closed)) (sym is)
     (items_closed S.tells S.left S.faults i a b t k c.requires.ready.amf3.placed c.close_node.ensures f lt)
 
-pub returns-in-Items-eq0-clause-kept : goal.returns-in-Items-eq0-clause-kept
-returns-in-Items-eq0-clause-kept g c =
+pub returns-in-Items-eq0-clause-still_ready : goal.returns-in-Items-eq0-clause-still_ready
+returns-in-Items-eq0-clause-still_ready g c =
     let S = g.S.Source in
     let a = c.args.builder.now in let t = shown_tables c.args.tables.now in let i = c.args.node.0 in let k = c.args.cursor.now in
     let b = c.close_node.new.self in
     let zero : c.in-Items-eq0.field-0 ≡ 0 = grind (arith, common_steps, c.in-Items-eq0.field-0-test) in
     let is : c.args.todo ≡ Items 0 = c.in-Items-eq0.is ∙ ap Items zero in
-    shut_kept i a t k c.requires.ready c.requires.opened (no_items (head_content a (stored_at a i).head) (stored_at a i) (subst (λ p. Lacks (head_content a (stored_at a i).head) (stored_at a i) p) is c.requires.lacks)) b c.close_node.ensures
+    shut_still_ready i a t k c.requires.ready c.requires.opened (no_items (head_content a (stored_at a i).head) (stored_at a i) (subst (λ p. Lacks (head_content a (stored_at a i).head) (stored_at a i) p) is c.requires.lacks)) b c.close_node.ensures
 
 pub returns-in-Items-eq0-clause-holds : goal.returns-in-Items-eq0-clause-holds
 returns-in-Items-eq0-clause-holds g c =
@@ -139,8 +139,8 @@ returns-then-not-is_empty-clause-answers g c = λ f lt.
     subst (λ p. GoesOn S.tells S.left (todo (value0_layout f.values) f.pairs i p (state0_of a t)) i (state0_of y t) k h (Ok (step.Wait (Named x) w))) (sym is)
     (pair_goes S.tells S.left S.faults i a y t k d x e.goes (e.answers t c.requires.ready.amf3.tables) false named h (let p = e.goes.same_bound in let q = e.moves in let r = m.moves in let s = m.goes.same_bound in let w = m.placed.within in omega arith) (λ m. Some m) w w refl m.answers f lt)
 
-pub returns-then-not-is_empty-clause-kept : goal.returns-then-not-is_empty-clause-kept
-returns-then-not-is_empty-clause-kept g c =
+pub returns-then-not-is_empty-clause-still_ready : goal.returns-then-not-is_empty-clause-still_ready
+returns-then-not-is_empty-clause-still_ready g c =
     let S = g.S.Source in
     let a = c.args.builder.now in let t = shown_tables c.args.tables.now in let i = c.args.node.0 in let k = c.args.cursor.now in
     let y = c.read_short_text.new.builder in let d = c.read_short_text.new.cursor in
@@ -149,7 +149,7 @@ returns-then-not-is_empty-clause-kept g c =
     let e = c.in_ok-name-in-Pairs.ensures in
     let h = c.read_marker-then-not-is_empty.new.cursor in
     let m = c.in_ok-marker-in-Pairs.ensures in
-    name_kept a y t x.0 k d h c.requires.ready c.is_built.ensures.built e.kept e.moves m.moves (m.goes.same_bound ∙ e.goes.same_bound) m.placed
+    name_still_ready a y t x.0 k d h c.requires.ready c.is_built.ensures.built e.kept e.moves m.moves (m.goes.same_bound ∙ e.goes.same_bound) m.placed
 
 pub returns-then-not-is_empty-clause-holds : goal.returns-then-not-is_empty-clause-holds
 returns-then-not-is_empty-clause-holds g c =
@@ -177,8 +177,8 @@ returns-in-Some-clause-answers g c = λ f lt.
     subst (λ p. GoesOn S.tells S.left (todo (value0_layout f.values) f.pairs i p (state0_of a t)) i (state0_of y t) k h (Ok (step.Wait (Named x) w))) (sym is)
     (pair_goes S.tells S.left S.faults i a y t k d x e.goes (e.answers t c.requires.ready.amf3.tables) true named h (let p = e.goes.same_bound in let q = e.moves in let r = m.moves in let s = m.goes.same_bound in let w = m.placed.within in omega arith) (λ m. m) c.in_ok-marker-in-Pairs-2.field-0 w (ap (λ m. m) c.in-Some.is) m.answers f lt)
 
-pub returns-in-Some-clause-kept : goal.returns-in-Some-clause-kept
-returns-in-Some-clause-kept g c =
+pub returns-in-Some-clause-still_ready : goal.returns-in-Some-clause-still_ready
+returns-in-Some-clause-still_ready g c =
     let S = g.S.Source in
     let a = c.args.builder.now in let t = shown_tables c.args.tables.now in let i = c.args.node.0 in let k = c.args.cursor.now in
     let y = c.read_short_text.new.builder in let d = c.read_short_text.new.cursor in
@@ -187,7 +187,7 @@ returns-in-Some-clause-kept g c =
     let e = c.in_ok-name-in-Pairs.ensures in
     let h = c.read_marker_or_end.new.cursor in
     let m = c.in_ok-marker-in-Pairs-2.ensures in
-    name_kept a y t x.0 k d h c.requires.ready c.is_built.ensures.built e.kept e.moves m.moves (m.goes.same_bound ∙ e.goes.same_bound) m.placed
+    name_still_ready a y t x.0 k d h c.requires.ready c.is_built.ensures.built e.kept e.moves m.moves (m.goes.same_bound ∙ e.goes.same_bound) m.placed
 
 pub returns-in-Some-clause-holds : goal.returns-in-Some-clause-holds
 returns-in-Some-clause-holds g c =
@@ -227,8 +227,8 @@ returns-in-None-clause-answers g c = λ f lt.
     subst (λ p. GoesOn S.tells S.left (todo (value0_layout f.values) f.pairs i p (state0_of a t)) i (state0_of b t) k h (Ok step.Closed)) (sym is)
     (pairs_closed S.tells S.left S.faults i a y t k d x e.goes (e.answers t c.requires.ready.amf3.tables) true named h b c.close_node-in-None.ensures refl c.in_ok-marker-in-Pairs-2.field-0 c.in-None.is m.answers f lt)
 
-pub returns-in-None-clause-kept : goal.returns-in-None-clause-kept
-returns-in-None-clause-kept g c =
+pub returns-in-None-clause-still_ready : goal.returns-in-None-clause-still_ready
+returns-in-None-clause-still_ready g c =
     let S = g.S.Source in
     let a = c.args.builder.now in let t = shown_tables c.args.tables.now in let i = c.args.node.0 in let k = c.args.cursor.now in
     let y = c.read_short_text.new.builder in let d = c.read_short_text.new.cursor in

@@ -5,10 +5,10 @@ use Rattle.amf0_tables.specs.Layout0.{value0_layout}
 use Rattle.amf3_read.specs.Answer.{left_of}
 use Rattle.amf0_read.specs.declared.frame.Frame.{Frame}
 use Rattle.amf0_read.specs.declared.frame.Now.{Now}
-use Rattle.amf0_read.specs.Ready0.{Kept0}
+use Rattle.amf0_read.specs.Ready0.{StillReady0}
 use Rattle.amf0_read.specs.Frames0.{Holds, owed}
 use Rattle.amf0_read.specs.Fronts0.{BeginsBy}
-use Rattle.amf0_read.proofs.FrontStarts0.{front_ended, first_ended, front_items, front_not, front_other, marker_kept, begun_holds, owes_nothing}
+use Rattle.amf0_read.proofs.FrontStarts0.{front_ended, first_ended, front_items, front_not, front_other, marker_still_ready, begun_holds, owes_nothing}
 use Rattle.amf0_read.proofs.front.read_front.Goals as goal
 
 pub returns-in_err-marker-clause-leads : goal.returns-in_err-marker-clause-leads
@@ -54,8 +54,8 @@ returns-in_ok-start-in_default-clause-leads g c = λ n lt.
     (subst (λ (w : Now). BeginsBy S.tells S.left (value0_layout n false (state0_of a t)) [] false w [] z k c.start_value.new.cursor) (sym c.now.ensures)
     (front_other S.tells S.left S.faults (state0_of a t) k d m h.goes h.answers h.moves c.in_default.not-Strict z c.start_value.new.cursor (let p = e.goes.same_bound in let q = e.stays in omega arith) x e.starts n lt))
 
-pub returns-in_ok-start-in_default-clause-kept : goal.returns-in_ok-start-in_default-clause-kept
-returns-in_ok-start-in_default-clause-kept g c =
+pub returns-in_ok-start-in_default-clause-still_ready : goal.returns-in_ok-start-in_default-clause-still_ready
+returns-in_ok-start-in_default-clause-still_ready g c =
     let S = g.S.Source in
     let a = c.args.builder.now in let t = shown_tables c.args.tables.now in let k = c.args.cursor.now in
     let m = c.in_ok-marker.marker in
@@ -63,8 +63,8 @@ returns-in_ok-start-in_default-clause-kept g c =
     let d = c.read_marker.new.cursor in
     let x = c.in_ok-start-in_default.start in
     let e = c.in_ok-start-in_default.ensures in
-    subst (λ o. Kept0 o 0 a c.start_value.new.builder (shown_tables c.start_value.new.tables) k c.start_value.new.cursor) (sym (ap owed c.now.ensures ∙ owes_nothing x))
-    (marker_kept 0 a c.start_value.new.builder (shown_tables c.start_value.new.tables) k d c.start_value.new.cursor h.placed h.goes.same_bound h.moves e.kept)
+    subst (λ o. StillReady0 o 0 a c.start_value.new.builder (shown_tables c.start_value.new.tables) k c.start_value.new.cursor) (sym (ap owed c.now.ensures ∙ owes_nothing x))
+    (marker_still_ready 0 a c.start_value.new.builder (shown_tables c.start_value.new.tables) k d c.start_value.new.cursor h.placed h.goes.same_bound h.moves e.still_ready)
 
 pub returns-in_ok-start-in_default-clause-holds : goal.returns-in_ok-start-in_default-clause-holds
 returns-in_ok-start-in_default-clause-holds g c =

@@ -11,7 +11,7 @@ use Rattle.amf0_read.proofs.Stack0.{pushed}
 use Rattle.amf0_read.specs.Frames0.{Holds, OpenedFrom}
 use Rattle.amf0_read.specs.Fronts0.{BeginsBy}
 use Rattle.amf0_read.proofs.FrontStarts0.{front_ended, items_open, item_not, item_begins, item_holds, marker_owed, begun_holds}
-use Rattle.amf0_read.proofs.NodeStarts0.{array_kept, array_items}
+use Rattle.amf0_read.proofs.NodeStarts0.{array_still_ready, array_items}
 use Rattle.amf0_read.specs.declared.node.Start.TheVariants as start
 use denote.Enum.Bare.{same_true, sameb}
 use Rattle.amf0_tables.specs.declared.marker.Marker0.TheVariants as marker
@@ -31,8 +31,8 @@ returns-then-count-ne1-clause-leads g c = λ n lt.
     subst (λ (fs : List Frame). BeginsBy S.tells S.left (behind0 (value0_layout n) n (state0_of a t) (Some marker.Strict)) (0x0A ∷ []) false (now.Open node (Items count)) (reverse fs) (state0_of b u) k d) (sym c.new.ensures.items)
     (items_open S.tells S.left S.faults a b t u k d node c.requires o count h.goes h.answers c.if-count-ne1.true n lt)
 
-pub returns-then-count-ne1-clause-kept : goal.returns-then-count-ne1-clause-kept
-returns-then-count-ne1-clause-kept g c =
+pub returns-then-count-ne1-clause-still_ready : goal.returns-then-count-ne1-clause-still_ready
+returns-then-count-ne1-clause-still_ready g c =
     let S = g.S.Source in
     let a = c.args.builder.now in let t = shown_tables c.args.tables.now in let k = c.args.cursor.now in
     let b = c.open_array.new.builder in let u = shown_tables c.open_array.new.tables in
@@ -41,7 +41,7 @@ returns-then-count-ne1-clause-kept g c =
     let count = c.in_ok-count.count in
     let node = c.in_ok-node.node in
     let o = c.in_ok-node.ensures.ok in
-    array_kept a b t u k d node.0 c.requires o h.placed (let x = h.goes.same_bound in let y = h.answers.taken in omega arith)
+    array_still_ready a b t u k d node.0 c.requires o h.placed (let x = h.goes.same_bound in let y = h.answers.taken in omega arith)
 
 pub returns-then-count-ne1-clause-holds : goal.returns-then-count-ne1-clause-holds
 returns-then-count-ne1-clause-holds g c =
@@ -89,8 +89,8 @@ returns-clause-leads g c = λ n lt.
     subst (λ (fs : List Frame). BeginsBy S.tells S.left (behind0 (value0_layout n) n (state0_of a t) (Some marker.Strict)) (0x0A ∷ []) c.eq.result (now.Begun m) fs (state0_of b u) k e) (sym (pushed c.push.new.self.items c.new-frames.result.items c.push.result c.in_ok-push.field-0 (record { node = node; slot = Item 0 }) c.in_ok-push.was c.push.ensures.items ∙ ap (λ (l : List Frame). (let f : Frame = record { node = node; slot = Item 0 } in f) ∷ reverse l) c.new-frames.ensures.items))
     (item_begins S.tells S.left S.faults a b t u k d node c.requires o count h.goes h.answers one e m w.answers (let p = w.goes.same_bound in let q = w.moves in let r = w.placed.within in omega arith) c.eq.result (λ h. same_true the_type (search rules) m marker.Switch (sym c.eq.ensures ∙ h)) (λ h s. let x : c.eq.result ≡ true = c.eq.ensures ∙ ap (λ v. sameb the_type v marker.Switch) s in cc) n lt)
 
-pub returns-clause-kept : goal.returns-clause-kept
-returns-clause-kept g c =
+pub returns-clause-still_ready : goal.returns-clause-still_ready
+returns-clause-still_ready g c =
     let S = g.S.Source in
     let a = c.args.builder.now in let t = shown_tables c.args.tables.now in let k = c.args.cursor.now in
     let b = c.open_array.new.builder in let u = shown_tables c.open_array.new.tables in
@@ -103,7 +103,7 @@ returns-clause-kept g c =
     let one : count ≡ 1 = omega arith in
     let m = c.in_ok-item.item in
     let w = c.in_ok-item.ensures in
-    marker_owed 1 a b u k d e w.placed w.goes.same_bound w.moves (array_kept a b t u k d node.0 c.requires o h.placed (let x = h.goes.same_bound in let y = h.answers.taken in omega arith))
+    marker_owed 1 a b u k d e w.placed w.goes.same_bound w.moves (array_still_ready a b t u k d node.0 c.requires o h.placed (let x = h.goes.same_bound in let y = h.answers.taken in omega arith))
 
 pub returns-clause-holds : goal.returns-clause-holds
 returns-clause-holds g c =

@@ -8,7 +8,7 @@ use Rattle.amf0_tables.specs.TableParts0.{shown_tables}
 use Rattle.amf0_tables.specs.Layout0.{read0}
 use Rattle.amf0_tables.specs.Layout0State.{state0_of, switched}
 use Rattle.amf0_read.proofs.Starts0.{made, ended}
-use Rattle.amf0_read.proofs.NodeStarts0.{switched_kept, switched_is, switched_names}
+use Rattle.amf0_read.proofs.NodeStarts0.{switched_still_ready, switched_is, switched_names}
 use Rattle.amf0_read.proofs.node.read_switched.Goals as goal
 
 pub returns-in_err-value-clause-starts : goal.returns-in_err-value-clause-starts
@@ -26,8 +26,8 @@ returns-clause-starts g c = λ v n lt.
     made S.tells S.left S.faults (λ (x : Stored). read x (state_of b k)) (value_layout n s.amf3) (λ x. read0 x.value (switched s x.state)) (state0_of b u) c.in_ok-value.value c.args.cursor.now c.read_value.new.cursor c.in_ok-value.value e.goes (e.answers n lt) e.continues.placed
     (switched_is a b t k c.args.cursor.now c.read_value.new.cursor c.requires e.continues u c.switch.ensures c.in_ok-value.value)
 
-pub returns-clause-kept : goal.returns-clause-kept
-returns-clause-kept g c = switched_kept c.args.builder.now c.read_value.new.builder (shown_tables c.args.tables.now) c.read_value.new.tables c.args.cursor.now c.read_value.new.cursor c.requires c.in_ok-value.ensures.continues (shown_tables c.switch.new.self) c.switch.ensures
+pub returns-clause-still_ready : goal.returns-clause-still_ready
+returns-clause-still_ready g c = switched_still_ready c.args.builder.now c.read_value.new.builder (shown_tables c.args.tables.now) c.read_value.new.tables c.args.cursor.now c.read_value.new.cursor c.requires c.in_ok-value.ensures.continues (shown_tables c.switch.new.self) c.switch.ensures
 
 pub returns-clause-holds : goal.returns-clause-holds
 returns-clause-holds g c =

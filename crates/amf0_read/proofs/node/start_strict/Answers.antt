@@ -7,7 +7,7 @@ use Rattle.amf0_read.specs.declared.frame.Todo.TheVariants.{Items}
 use Rattle.amf0_read.specs.Leaves0.{count_layout}
 use Rattle.amf0_read.specs.Frames0.{todo}
 use Rattle.amf0_read.proofs.Starts0.{ended, opened}
-use Rattle.amf0_read.proofs.NodeStarts0.{array_kept, array_items, items_are}
+use Rattle.amf0_read.proofs.NodeStarts0.{array_still_ready, array_items, items_are}
 use Rattle.amf0_read.proofs.node.start_strict.Goals as goal
 
 pub returns-in_err-count-clause-starts : goal.returns-in_err-count-clause-starts
@@ -24,10 +24,10 @@ returns-clause-starts g c = λ v n lt.
     opened S.tells S.left S.faults (λ (k : ℕ). k) count_layout (λ k. with_items v k (state0_of a t) array) (todo v n i (Items c.in_ok-count.count) (state0_of b u)) c.args.cursor.now c.read_count.new.cursor c.in_ok-count.count c.in_ok-count.ensures.answers
     (items_are a b t u c.args.cursor.now c.read_count.new.cursor i c.requires c.in_ok-node.ensures.ok v n c.in_ok-count.count)
 
-pub returns-clause-kept : goal.returns-clause-kept
-returns-clause-kept g c =
+pub returns-clause-still_ready : goal.returns-clause-still_ready
+returns-clause-still_ready g c =
     let e = c.in_ok-count.ensures in
-    array_kept c.args.builder.now c.open_array.new.builder (shown_tables c.args.tables.now) (shown_tables c.open_array.new.tables) c.args.cursor.now c.read_count.new.cursor c.in_ok-node.node.0 c.requires c.in_ok-node.ensures.ok e.placed (let x = e.goes.same_bound in let y = e.answers.taken in omega arith)
+    array_still_ready c.args.builder.now c.open_array.new.builder (shown_tables c.args.tables.now) (shown_tables c.open_array.new.tables) c.args.cursor.now c.read_count.new.cursor c.in_ok-node.node.0 c.requires c.in_ok-node.ensures.ok e.placed (let x = e.goes.same_bound in let y = e.answers.taken in omega arith)
 
 pub returns-clause-holds : goal.returns-clause-holds
 returns-clause-holds g c =

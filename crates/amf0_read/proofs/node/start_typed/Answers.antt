@@ -7,7 +7,7 @@ use Rattle.amf0_read.specs.declared.frame.Todo.TheVariants.{Pairs}
 use Rattle.amf0_read.specs.Ready0.{text_read}
 use Rattle.amf0_read.specs.Frames0.{todo}
 use Rattle.amf0_read.proofs.Starts0.{ended, opened}
-use Rattle.amf0_read.proofs.NodeStarts0.{object_kept, object_pairs, members_are}
+use Rattle.amf0_read.proofs.NodeStarts0.{object_still_ready, object_pairs, members_are}
 use Rattle.amf0_read.proofs.node.start_typed.Goals as goal
 
 pub returns-in_err-class-clause-starts : goal.returns-in_err-class-clause-starts
@@ -27,10 +27,10 @@ returns-clause-starts g c = λ v n lt.
     opened S.tells S.left S.faults (text_read y t) (short_layout (state0_of a t)) (with_members v n) (todo v n i Pairs (state0_of b u)) c.args.cursor.now c.read_short_text.new.cursor class (e.answers t c.requires.amf3.tables)
     (members_are a y b t u c.args.cursor.now c.read_short_text.new.cursor class.0 i c.requires c.is_built.ensures.built e.kept c.in_ok-node.ensures.ok v n (text_at y class.0))
 
-pub returns-clause-kept : goal.returns-clause-kept
-returns-clause-kept g c =
+pub returns-clause-still_ready : goal.returns-clause-still_ready
+returns-clause-still_ready g c =
     let e = c.in_ok-class.ensures in
-    object_kept c.args.builder.now c.read_short_text.new.builder c.open_object.new.builder (shown_tables c.args.tables.now) (shown_tables c.open_object.new.tables) c.args.cursor.now c.read_short_text.new.cursor c.in_ok-class.class.0 c.in_ok-node.node.0 c.requires c.is_built.ensures.built e.kept c.in_ok-node.ensures.ok e.placed (let x = e.goes.same_bound in let y = e.moves in omega arith)
+    object_still_ready c.args.builder.now c.read_short_text.new.builder c.open_object.new.builder (shown_tables c.args.tables.now) (shown_tables c.open_object.new.tables) c.args.cursor.now c.read_short_text.new.cursor c.in_ok-class.class.0 c.in_ok-node.node.0 c.requires c.is_built.ensures.built e.kept c.in_ok-node.ensures.ok e.placed (let x = e.goes.same_bound in let y = e.moves in omega arith)
 
 pub returns-clause-holds : goal.returns-clause-holds
 returns-clause-holds g c =

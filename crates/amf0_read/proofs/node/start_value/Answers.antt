@@ -20,8 +20,8 @@ use Rattle.amf0_read.specs.Leaves0.{place_layout}
 use Rattle.amf0_read.specs.Ready0.{text_read}
 use Rattle.amf0_read.specs.Frames0.{todo}
 use Rattle.amf0_read.proofs.Starts0.{made, ended, by_marker}
-use Rattle.amf0_read.proofs.TextReads0.{text_is, text_there, text_grows, text_kept}
-use Rattle.amf0_read.proofs.NodeStarts0.{object_kept, object_pairs, members_are}
+use Rattle.amf0_read.proofs.TextReads0.{text_is, text_there, text_grows, text_still_ready}
+use Rattle.amf0_read.proofs.NodeStarts0.{object_still_ready, object_pairs, members_are}
 use Rattle.amf0_read.proofs.node.start_value.Goals as goal
 
 pub returns-in_err-text-in-Text-clause-starts : goal.returns-in_err-text-in-Text-clause-starts
@@ -41,10 +41,10 @@ returns-in_ok-text-in-Text-clause-starts g c = λ v n lt.
     by_marker S.tells S.left c.args.marker marker.Text v n s (state0_of y t) c.args.cursor.now c.read_short_text.new.cursor (Ok (start.Value (value.Text x))) c.in-Text.is
     (made S.tells S.left S.faults (text_read y t) (short_layout s) (λ (x : TextRead0). read0 (value.Text (record { 0 = x.id })) x.state) (state0_of y t) (value.Text x) c.args.cursor.now c.read_short_text.new.cursor x e.goes (e.answers t c.requires.amf3.tables) e.placed refl)
 
-pub returns-in_ok-text-in-Text-clause-kept : goal.returns-in_ok-text-in-Text-clause-kept
-returns-in_ok-text-in-Text-clause-kept g c =
+pub returns-in_ok-text-in-Text-clause-still_ready : goal.returns-in_ok-text-in-Text-clause-still_ready
+returns-in_ok-text-in-Text-clause-still_ready g c =
     let e = c.in_ok-text-in-Text.ensures in
-    text_kept c.args.builder.now c.read_short_text.new.builder (shown_tables c.args.tables.now) c.in_ok-text-in-Text.text.0 c.args.cursor.now c.read_short_text.new.cursor c.requires c.is_built.ensures.built e.kept e.placed (let x = e.goes.same_bound in let y = e.moves in omega arith)
+    text_still_ready c.args.builder.now c.read_short_text.new.builder (shown_tables c.args.tables.now) c.in_ok-text-in-Text.text.0 c.args.cursor.now c.read_short_text.new.cursor c.requires c.is_built.ensures.built e.kept e.placed (let x = e.goes.same_bound in let y = e.moves in omega arith)
 
 pub returns-in_ok-text-in-Text-clause-holds : goal.returns-in_ok-text-in-Text-clause-holds
 returns-in_ok-text-in-Text-clause-holds g c =
@@ -69,10 +69,10 @@ returns-in_ok-text-in-LongText-clause-starts g c = λ v n lt.
     by_marker S.tells S.left c.args.marker marker.LongText v n s (state0_of y t) c.args.cursor.now c.read_long_text.new.cursor (Ok (start.Value (value.Text x))) c.in-LongText.is
     (made S.tells S.left S.faults (text_read y t) (long_layout s) (λ (x : TextRead0). read0 (value.Text (record { 0 = x.id })) x.state) (state0_of y t) (value.Text x) c.args.cursor.now c.read_long_text.new.cursor x e.goes (e.answers t c.requires.amf3.tables) e.placed refl)
 
-pub returns-in_ok-text-in-LongText-clause-kept : goal.returns-in_ok-text-in-LongText-clause-kept
-returns-in_ok-text-in-LongText-clause-kept g c =
+pub returns-in_ok-text-in-LongText-clause-still_ready : goal.returns-in_ok-text-in-LongText-clause-still_ready
+returns-in_ok-text-in-LongText-clause-still_ready g c =
     let e = c.in_ok-text-in-LongText.ensures in
-    text_kept c.args.builder.now c.read_long_text.new.builder (shown_tables c.args.tables.now) c.in_ok-text-in-LongText.text.0 c.args.cursor.now c.read_long_text.new.cursor c.requires c.is_built-in-LongText.ensures.built e.kept e.placed (let x = e.goes.same_bound in let y = e.moves in omega arith)
+    text_still_ready c.args.builder.now c.read_long_text.new.builder (shown_tables c.args.tables.now) c.in_ok-text-in-LongText.text.0 c.args.cursor.now c.read_long_text.new.cursor c.requires c.is_built-in-LongText.ensures.built e.kept e.placed (let x = e.goes.same_bound in let y = e.moves in omega arith)
 
 pub returns-in_ok-text-in-LongText-clause-holds : goal.returns-in_ok-text-in-LongText-clause-holds
 returns-in_ok-text-in-LongText-clause-holds g c =
@@ -168,14 +168,14 @@ returns-in_ok-node-in-Object-clause-starts g c = λ v n lt.
     by_marker S.tells S.left c.args.marker marker.Object v n s z k k (Ok (start.Open c.in_ok-node-in-Object.node Pairs)) c.in-Object.is
     (subst (λ w. Leads S.tells S.left (with_members v n (new_text0 s [])) w k k) same (leads_nowhere S.tells S.left S.faults (with_members v n (new_text0 s [])) k c.requires.amf3.placed))
 
-pub returns-in_ok-node-in-Object-clause-kept : goal.returns-in_ok-node-in-Object-clause-kept
-returns-in_ok-node-in-Object-clause-kept g c =
+pub returns-in_ok-node-in-Object-clause-still_ready : goal.returns-in_ok-node-in-Object-clause-still_ready
+returns-in_ok-node-in-Object-clause-still_ready g c =
     let a = c.args.builder.now in let y = c.keep_empty_text.new.builder in let b = c.open_object.new.builder in let t = shown_tables c.args.tables.now in let u = shown_tables c.open_object.new.tables in
     let e = c.in_ok-class-in-Object.ensures in
     let class = c.in_ok-class-in-Object.class in
     let i = c.in_ok-node-in-Object.node.0 in
     let k = c.args.cursor.now in
-    object_kept a y b t u k k class.0 i c.requires e.built e.kept c.in_ok-node-in-Object.ensures.ok c.requires.amf3.placed (omega arith)
+    object_still_ready a y b t u k k class.0 i c.requires e.built e.kept c.in_ok-node-in-Object.ensures.ok c.requires.amf3.placed (omega arith)
 
 pub returns-in_ok-node-in-Object-clause-holds : goal.returns-in_ok-node-in-Object-clause-holds
 returns-in_ok-node-in-Object-clause-holds g c =

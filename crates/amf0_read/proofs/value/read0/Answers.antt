@@ -3,7 +3,7 @@ use Rattle.amf0_tables.specs.TableParts0.{shown_tables}
 use Rattle.amf3_read.specs.Answer.{left_of}
 use Rattle.amf0_read.specs.Fronts0.{form_of}
 use Rattle.amf0_read.specs.Frames0.{owed}
-use Rattle.amf0_read.proofs.Stack0.{kept_twice}
+use Rattle.amf0_read.proofs.Stack0.{ready_twice}
 use Rattle.amf0_read.proofs.ReadAnswers0.{passed, ended, whole_ended, whole_answered, whole_raised}
 use Rattle.amf0_read.proofs.value.read0.Goals as goal
 
@@ -58,4 +58,4 @@ returns-clause-raises g c =
     let y = e.leads n (omega arith) in
     whole_raised S.tells S.left S.faults a b t u c.is_built.ensures.built c.requires.tables k d b1 u1 x x.is_call x.now (reverse x.frames.items) m n e.goes y
     c.in_ok-value.value (c.in_ok-value.ensures.answers y.fuel y.fuels y.enough y.fueled) c.at-start.ensures.within (c.in_ok-value.ensures.goes.same_bound ∙ e.goes.same_bound)
-    (kept_twice 0 (owed x.now) 0 a b1 b u1 u k m d e.kept c.in_ok-value.ensures.kept)
+    (ready_twice 0 (owed x.now) 0 a b1 b u1 u k m d e.still_ready c.in_ok-value.ensures.still_ready)

@@ -30,7 +30,7 @@ loop-now-preserved-in-Begun g c =
     let so = subst (λ (w : Now). StackSo S.tells S.left S.faults old es a b t u c.args.cursor.now d w fs) c.in-Begun.is c.loop-now.invariant in
     let h = c.in_ok-start_value-in-Begun.ensures in
     subst (λ (w : Now). StackSo S.tells S.left S.faults old es a c.start_value.new.builder t (shown_tables c.start_value.new.tables) c.args.cursor.now c.start_value.new.cursor w fs) (sym c.now-now.ensures)
-    (so_start S.tells S.left S.faults old es a t c.args.cursor.now b u d fs c.in-Begun.marker so c.start_value.new.builder (shown_tables c.start_value.new.tables) c.start_value.new.cursor h.kept (let x = h.goes.same_bound in let y = h.stays in omega arith) c.in_ok-start_value-in-Begun.field-0 h.goes h.starts h.holds)
+    (so_start S.tells S.left S.faults old es a t c.args.cursor.now b u d fs c.in-Begun.marker so c.start_value.new.builder (shown_tables c.start_value.new.tables) c.start_value.new.cursor h.still_ready (let x = h.goes.same_bound in let y = h.stays in omega arith) c.in_ok-start_value-in-Begun.field-0 h.goes h.starts h.holds)
 
 pub returns-in_default-clause-answers : goal.returns-in_default-clause-answers
 returns-in_default-clause-answers g c = λ fuel fuels lt f.
@@ -54,7 +54,7 @@ loop-now-preserved-in-Wait g c =
     let so = subst (λ (w : Now). StackSo S.tells S.left S.faults old es a b t u c.args.cursor.now d w fs) c.in-Open.is c.loop-now.invariant in
     let h = rw c.in-Wait.is at c.in_ok-slot-in-Open.ensures in
     subst (StackSo S.tells S.left S.faults old es a c.go_on.new.builder t u c.args.cursor.now c.go_on.new.cursor (now.Begun c.in-Wait.marker)) (sym (pushed c.push.new.self.items c.loop-now.frames.items c.push.result c.in_ok-push-in-Wait.field-0 (record { node = c.in-Open.node; slot = c.in-Wait.slot }) c.in_ok-push-in-Wait.was c.push.ensures.items))
-    (go_wait S.tells S.left S.faults old es a t c.args.cursor.now b u d fs c.in-Open.node c.in-Open.todo so c.go_on.new.builder c.go_on.new.cursor c.in-Wait.slot c.in-Wait.marker h.kept (let x = h.goes.same_bound in let y = h.moves in let z = h.kept.placed.within in omega arith) h.goes h.answers h.holds)
+    (go_wait S.tells S.left S.faults old es a t c.args.cursor.now b u d fs c.in-Open.node c.in-Open.todo so c.go_on.new.builder c.go_on.new.cursor c.in-Wait.slot c.in-Wait.marker h.still_ready (let x = h.goes.same_bound in let y = h.moves in let z = h.still_ready.placed.within in omega arith) h.goes h.answers h.holds)
 
 pub loop-now-preserved : goal.loop-now-preserved
 loop-now-preserved g c =
@@ -62,7 +62,7 @@ loop-now-preserved g c =
     let old = c.args.now in let es = reverse c.args.frames.items in let a = c.args.builder.now in let t = shown_tables c.args.tables.now in let b = c.loop-now.builder in let u = shown_tables c.loop-now.tables in let d = c.loop-now.cursor in let fs = reverse c.loop-now.frames.items in
     let so = subst (λ (w : Now). StackSo S.tells S.left S.faults old es a b t u c.args.cursor.now d w fs) c.in-Open.is c.loop-now.invariant in
     let h = rw c.in-Closed.is at c.in_ok-slot-in-Open.ensures in
-    go_closed S.tells S.left S.faults old es a t c.args.cursor.now b u d fs c.in-Open.node c.in-Open.todo so c.go_on.new.builder c.go_on.new.cursor h.kept (let x = h.goes.same_bound in let y = h.moves in omega arith) h.goes h.answers h.holds
+    go_closed S.tells S.left S.faults old es a t c.args.cursor.now b u d fs c.in-Open.node c.in-Open.todo so c.go_on.new.builder c.go_on.new.cursor h.still_ready (let x = h.goes.same_bound in let y = h.moves in omega arith) h.goes h.answers h.holds
 
 pub loop-now-preserved-in-Given : goal.loop-now-preserved-in-Given
 loop-now-preserved-in-Given g c =

@@ -6,7 +6,7 @@ use Rattle.amf0_tables.specs.TableParts0.{shown_tables}
 use Rattle.amf_graph.specs.declared.value.Value.{Value}
 use Rattle.amf3_read.proofs.LayoutBinds.{passed_on}
 use Rattle.amf0_read.specs.Frames0.{current, rest, owed}
-use Rattle.amf0_read.proofs.ValueReads0.{led_answers, kept_on}
+use Rattle.amf0_read.proofs.ValueReads0.{led_answers, ready_on}
 use Rattle.amf0_read.proofs.value.read_value0.Goals as goal
 
 pub returns-in_err-frames-clause-answers : goal.returns-in_err-frames-clause-answers
@@ -25,8 +25,8 @@ returns-clause-answers g c = λ n lt.
     led_answers S.tells S.left S.faults (λ (v : Value). read0 v (state0_of b u)) (value0_layout n false (state0_of c.args.builder.now (shown_tables c.args.tables.now)))
     (bind (current y.fuel x.now (state0_of b1 u1)) (rest y.fuels (reverse x.frames.items))) c.args.cursor.now m d x c.read_on.result e.goes y.leads.leads (c.read_on.ensures.answers y.fuel y.fuels y.enough y.fueled)
 
-pub returns-clause-kept : goal.returns-clause-kept
-returns-clause-kept g c =
+pub returns-clause-still_ready : goal.returns-clause-still_ready
+returns-clause-still_ready g c =
     let e = c.in_ok-frames.ensures in
     let x = c.in_ok-frames.field-0 in
-    kept_on 0 (owed x.now) 0 c.args.builder.now c.read_front.new.builder c.read_on.new.builder (shown_tables c.read_front.new.tables) (shown_tables c.read_on.new.tables) c.args.cursor.now c.read_front.new.cursor c.read_on.new.cursor c.read_on.result e.kept c.read_on.ensures.kept
+    ready_on 0 (owed x.now) 0 c.args.builder.now c.read_front.new.builder c.read_on.new.builder (shown_tables c.read_front.new.tables) (shown_tables c.read_on.new.tables) c.args.cursor.now c.read_front.new.cursor c.read_on.new.cursor c.read_on.result e.still_ready c.read_on.ensures.still_ready

@@ -5,17 +5,17 @@ use Rattle.amf_graph.specs.Views.{named}
 use Rattle.amf_graph.proofs.NameOrder.{by_name_length}
 use Rattle.amf_iso.specs.Contents.{named_pairs, pairs_of, pair_content}
 use Rattle.amf0_write.specs.declared.unwritten.Unwritten.TheVariants.{Pairs}
-use Rattle.amf0_write.specs.Unwritten0.{IsMetPair, parts_left}
+use Rattle.amf0_write.specs.Unwritten0.{IsMetPair, segments_left}
 use Rattle.amf0_write.specs.Writes0.{pairs_then}
 use Rattle.amf0_write.proofs.MetValues0.{sorted_met}
-use Rattle.amf0_write.proofs.Runs0.{all_reverse, parts_pushed, turns_pushed, runs_pushed}
+use Rattle.amf0_write.proofs.Runs0.{all_reverse, segments_pushed, turns_pushed, runs_pushed}
 use Rattle.amf0_write.proofs.open.push_pairs.Goals as goal
 
 pub returns-clause-left : goal.returns-clause-left
 returns-clause-left c =
     let a = c.args.graph.now.arena in
     let old = c.args.waiting.now.items in
-    parts_pushed a old c.push.new.self.items (Pairs c.reverse.new.self) c.in_ok-push.ensures.items ∙ ap (λ ps. pairs_then (named_pairs a ps) ++ parts_left a old) (ap reverse c.reverse.ensures.items ∙ reverse-reverse c.in_ok-pairs.pairs.items) ∙ ap (λ ws. pairs_then ws ++ parts_left a old) c.in_ok-pairs.ensures.content
+    segments_pushed a old c.push.new.self.items (Pairs c.reverse.new.self) c.in_ok-push.ensures.items ∙ ap (λ ps. pairs_then (named_pairs a ps) ++ segments_left a old) (ap reverse c.reverse.ensures.items ∙ reverse-reverse c.in_ok-pairs.pairs.items) ∙ ap (λ ws. pairs_then ws ++ segments_left a old) c.in_ok-pairs.ensures.content
 
 pub returns-clause-runs : goal.returns-clause-runs
 returns-clause-runs c = λ h.

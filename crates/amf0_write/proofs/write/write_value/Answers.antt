@@ -23,9 +23,9 @@ pub returns-clause-grown : goal.returns-clause-grown
 returns-clause-grown c = λ e.
     grown_tables (content c.args.graph.now) c.in_ok-output.output c.value-result.new.self c.args.tables.now c.put_back.new.tables c.put_back.result.items c.in_ok-output.ensures.tables c.in_ok-output.ensures.loose c.put_back.ensures.tables (ap (λ v. v.items) c.put_back.ensures.loose) c.requires.tables (c.value-result.ensures.grown e)
 
-pub returns-clause-kept : goal.returns-clause-kept
-returns-clause-kept c =
+pub returns-clause-untouched : goal.returns-clause-untouched
+returns-clause-untouched c =
     let old = c.args.out.now.items in
     let len : c.len-start.result ≡ length old = omega (arith, c.len-start.ensures, c.args.out.now.ok.0) in
-    let front = c.value-result.ensures.kept old (begins_itself old c.in_ok-output.output.bytes.items (ap (λ v. v.items) c.in_ok-output.ensures.bytes)) in
+    let front = c.value-result.ensures.keeps old (begins_itself old c.in_ok-output.output.bytes.items (ap (λ v. v.items) c.in_ok-output.ensures.bytes)) in
     on_err_then _ c.value-result.result (λ ended. c.put_back.ensures.cut (c.is_err.ensures.value ∙ ended) ∙ taken_back old c.value-result.new.self.bytes.items c.len-start.result len front)

@@ -1,6 +1,6 @@
 use Rattle.std.proofs.Common.{sym, ◌∙◌}
 use Rattle.amf3_layout.specs.Layout3State.{state_of}
-use Rattle.amf3_read.proofs.GoesOn.{name_ended, name_empty, name_some, name_waits, name_opens, value_waits, value_holds, closed_goes, closed_kept, closed_holds}
+use Rattle.amf3_read.proofs.GoesOn.{name_ended, name_empty, name_some, name_waits, name_opens, value_waits, value_holds, closed_goes, closed_still_ready, closed_holds}
 use Rattle.amf3_read.proofs.Empties.{tells_empty, ended_step}
 use Rattle.amf3_read.proofs.fill.go_on.Goals as goal
 
@@ -51,8 +51,8 @@ returns-in-Nothing-clause-answers g c =
     let S = g.S.Source in
     closed_goes S.tells S.left S.faults c.args.node.0 c.args.todo c.args.builder.now c.args.tables.now c.args.cursor.now c.requires.ready.placed c.close_node.new.self c.close_node.ensures c.in-Nothing.ensures
 
-pub returns-in-Nothing-clause-kept : goal.returns-in-Nothing-clause-kept
-returns-in-Nothing-clause-kept g c = closed_kept c.args.node.0 c.args.todo c.args.builder.now c.close_node.new.self c.args.tables.now c.args.cursor.now c.requires.ready c.requires.opened c.requires.suits c.in-Nothing.ensures c.close_node.ensures
+pub returns-in-Nothing-clause-still_ready : goal.returns-in-Nothing-clause-still_ready
+returns-in-Nothing-clause-still_ready g c = closed_still_ready c.args.node.0 c.args.todo c.args.builder.now c.close_node.new.self c.args.tables.now c.args.cursor.now c.requires.ready c.requires.opened c.requires.suits c.in-Nothing.ensures c.close_node.ensures
 
 pub returns-in-Nothing-clause-holds : goal.returns-in-Nothing-clause-holds
 returns-in-Nothing-clause-holds g c = closed_holds c.args.node.0 c.args.todo c.args.builder.now c.close_node.new.self c.args.tables.now c.args.cursor.now c.requires.ready c.requires.opened c.requires.suits c.in-Nothing.ensures c.close_node.ensures

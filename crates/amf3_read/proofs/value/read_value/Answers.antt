@@ -31,7 +31,7 @@ loop-now-preserved-in-Value g c =
     let a = c.args.builder.now in let b = c.loop-now.builder in let t = c.args.tables.now in let u = c.loop-now.tables in let d = c.loop-now.cursor in let fs = reverse c.loop-now.frames.items in
     let so = subst (λ (w : Now). StackSo S.tells S.left S.faults a b t u c.args.cursor.now d w fs) c.in-Wanted.is c.loop-now.invariant in
     let h = rw c.in-Value.is at c.in_ok-value-in-Wanted.ensures in
-    so_value S.tells S.left S.faults a b t u c.args.cursor.now d fs so c.start_value.new.builder c.start_value.new.tables c.start_value.new.cursor c.in-Value.value h.goes h.starts h.kept h.holds h.moves
+    so_value S.tells S.left S.faults a b t u c.args.cursor.now d fs so c.start_value.new.builder c.start_value.new.tables c.start_value.new.cursor c.in-Value.value h.goes h.starts h.still_ready h.holds h.moves
 
 pub loop-now-preserved-in-Open-2 : goal.loop-now-preserved-in-Open-2
 loop-now-preserved-in-Open-2 g c =
@@ -39,7 +39,7 @@ loop-now-preserved-in-Open-2 g c =
     let a = c.args.builder.now in let b = c.loop-now.builder in let t = c.args.tables.now in let u = c.loop-now.tables in let d = c.loop-now.cursor in let fs = reverse c.loop-now.frames.items in
     let so = subst (λ (w : Now). StackSo S.tells S.left S.faults a b t u c.args.cursor.now d w fs) c.in-Wanted.is c.loop-now.invariant in
     let h = rw c.in-Open-2.is at c.in_ok-value-in-Wanted.ensures in
-    so_open S.tells S.left S.faults a b t u c.args.cursor.now d fs so c.start_value.new.builder c.start_value.new.tables c.start_value.new.cursor c.in-Open-2.node c.in-Open-2.todo h.goes h.starts h.kept h.holds h.moves
+    so_open S.tells S.left S.faults a b t u c.args.cursor.now d fs so c.start_value.new.builder c.start_value.new.tables c.start_value.new.cursor c.in-Open-2.node c.in-Open-2.todo h.goes h.starts h.still_ready h.holds h.moves
 
 pub returns-in_default-clause-answers : goal.returns-in_default-clause-answers
 returns-in_default-clause-answers g c = λ n lt.
@@ -87,7 +87,7 @@ loop-now-preserved-in-Wait g c =
     let so = subst (λ (w : Now). StackSo S.tells S.left S.faults a b t u c.args.cursor.now d w fs) c.in-Open.is c.loop-now.invariant in
     let h = rw c.in-Wait.is at c.in_ok-slot-in-Open.ensures in
     subst (StackSo S.tells S.left S.faults a c.go_on.new.builder t c.go_on.new.tables c.args.cursor.now c.go_on.new.cursor now.Wanted) (sym (pushed c.push-in-Wait.new.self.items c.loop-now.frames.items c.push-in-Wait.result c.in_ok-push-in-Wait.field-0 (record { node = c.in-Open.node; slot = c.in-Wait.slot; todo = c.in-Wait.rest }) c.in_ok-push-in-Wait.was c.push-in-Wait.ensures.items))
-    (go_wait S.tells S.left S.faults a b t u c.args.cursor.now d fs c.in-Open.node c.in-Open.todo so c.go_on.new.builder c.go_on.new.tables c.go_on.new.cursor h.kept h.stays (let x = h.goes.same_bound in let y = h.stays in omega arith) c.in-Wait.slot c.in-Wait.rest h.goes h.answers h.holds)
+    (go_wait S.tells S.left S.faults a b t u c.args.cursor.now d fs c.in-Open.node c.in-Open.todo so c.go_on.new.builder c.go_on.new.tables c.go_on.new.cursor h.still_ready h.stays (let x = h.goes.same_bound in let y = h.stays in omega arith) c.in-Wait.slot c.in-Wait.rest h.goes h.answers h.holds)
 
 pub loop-now-preserved-in-Open-3 : goal.loop-now-preserved-in-Open-3
 loop-now-preserved-in-Open-3 g c =
@@ -95,7 +95,7 @@ loop-now-preserved-in-Open-3 g c =
     let a = c.args.builder.now in let b = c.loop-now.builder in let t = c.args.tables.now in let u = c.loop-now.tables in let d = c.loop-now.cursor in let fs = reverse c.loop-now.frames.items in
     let so = subst (λ (w : Now). StackSo S.tells S.left S.faults a b t u c.args.cursor.now d w fs) c.in-Open.is c.loop-now.invariant in
     let h = rw c.in-Open-3.is at c.in_ok-slot-in-Open.ensures in
-    go_open S.tells S.left S.faults a b t u c.args.cursor.now d fs c.in-Open.node c.in-Open.todo so c.go_on.new.builder c.go_on.new.tables c.go_on.new.cursor h.kept h.stays (let x = h.goes.same_bound in let y = h.stays in omega arith) c.in-Open-3.rest h.goes h.answers h.holds
+    go_open S.tells S.left S.faults a b t u c.args.cursor.now d fs c.in-Open.node c.in-Open.todo so c.go_on.new.builder c.go_on.new.tables c.go_on.new.cursor h.still_ready h.stays (let x = h.goes.same_bound in let y = h.stays in omega arith) c.in-Open-3.rest h.goes h.answers h.holds
 
 pub loop-now-preserved : goal.loop-now-preserved
 loop-now-preserved g c =
@@ -103,4 +103,4 @@ loop-now-preserved g c =
     let a = c.args.builder.now in let b = c.loop-now.builder in let t = c.args.tables.now in let u = c.loop-now.tables in let d = c.loop-now.cursor in let fs = reverse c.loop-now.frames.items in
     let so = subst (λ (w : Now). StackSo S.tells S.left S.faults a b t u c.args.cursor.now d w fs) c.in-Open.is c.loop-now.invariant in
     let h = rw c.in-Closed.is at c.in_ok-slot-in-Open.ensures in
-    go_closed S.tells S.left S.faults a b t u c.args.cursor.now d fs c.in-Open.node c.in-Open.todo so c.go_on.new.builder c.go_on.new.tables c.go_on.new.cursor h.kept h.stays (let x = h.goes.same_bound in let y = h.stays in omega arith) h.goes h.answers h.holds
+    go_closed S.tells S.left S.faults a b t u c.args.cursor.now d fs c.in-Open.node c.in-Open.todo so c.go_on.new.builder c.go_on.new.tables c.go_on.new.cursor h.still_ready h.stays (let x = h.goes.same_bound in let y = h.stays in omega arith) h.goes h.answers h.holds

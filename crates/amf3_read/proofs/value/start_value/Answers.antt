@@ -165,5 +165,5 @@ returns-in-Node-clause-starts g c =
     let d = c.read_marker.new.cursor in
     let z : State3 = state_of c.start_node.new.builder c.start_node.new.tables in
     let e = c.start_node.ensures in
-    value_starts S.tells S.left S.faults s c.args.cursor.now d c.in_ok-read_marker.field-0 (marker.Node c.in-Node.kind) c.in-Node.is m.goes m.answers m.moves z c.start_node.new.cursor c.start_node.result e.stays (on_ok_weaker c.start_node.result (λ k. k.placed.within) e.kept) e.goes.same_bound
+    value_starts S.tells S.left S.faults s c.args.cursor.now d c.in_ok-read_marker.field-0 (marker.Node c.in-Node.kind) c.in-Node.is m.goes m.answers m.moves z c.start_node.new.cursor c.start_node.result e.stays (on_ok_weaker c.start_node.result (λ k. k.placed.within) e.still_ready) e.goes.same_bound
     (λ k. e.starts (value_layout k) k)

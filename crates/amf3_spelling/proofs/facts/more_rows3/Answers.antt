@@ -4,7 +4,7 @@ use Rattle.amf3_spelling.proofs.facts.more_rows3.Goals as goal
 
 pub returns : goal.returns
 returns c = record {
-  order_kept = rows.order_kept;
+  order_stays = rows.order_stays;
   name_twice = rows.name_twice;
   name_by_place = rows.name_by_place;
   open_node = rows.open_node;

@@ -5,10 +5,10 @@ use Rattle.amf_graph.proofs.NameOrder.{by_name_length}
 use Rattle.amf3_spelling.specs.ByteSpelling.{pairs_then}
 use Rattle.amf_iso.specs.Contents.{pairs_of}
 use Rattle.amf3_write.specs.declared.unwritten.Unwritten.TheVariants.{Pairs, Sorted}
-use Rattle.amf3_write.specs.Unwritten.{parts_left, IsStoredPair, AreStoredPairs}
+use Rattle.amf3_write.specs.Unwritten.{segments_left, IsStoredPair, AreStoredPairs}
 use Rattle.amf3_write.proofs.FoundSteps.{all_reverse}
 use Rattle.amf3_write.proofs.InOrder.{already_by_name}
-use Rattle.amf3_write.proofs.Runs.{parts_pushed, turns_pushed, runs_pushed, stored_pairs}
+use Rattle.amf3_write.proofs.Runs.{segments_pushed, turns_pushed, runs_pushed, stored_pairs}
 use Rattle.amf3_write.proofs.WroteNodes.{true_is}
 use Rattle.amf3_write.proofs.open.push_pairs.Goals as goal
 
@@ -16,7 +16,7 @@ pub returns-clause-left : goal.returns-clause-left
 returns-clause-left c =
     let a = c.args.graph.now.arena in
     let old = c.args.waiting.now.items in
-    parts_pushed a old c.push-2.new.self.items (Sorted c.reverse.new.self) c.in_ok-push-2.ensures.items ∙ ap (λ ps. pairs_then (pairs_of a ps) [] ++ parts_left a old) (ap reverse c.reverse.ensures.items ∙ reverse-reverse c.in_ok-sorted.sorted.items) ∙ ap (λ ws. pairs_then ws [] ++ parts_left a old) c.in_ok-sorted.ensures.content
+    segments_pushed a old c.push-2.new.self.items (Sorted c.reverse.new.self) c.in_ok-push-2.ensures.items ∙ ap (λ ps. pairs_then (pairs_of a ps) [] ++ segments_left a old) (ap reverse c.reverse.ensures.items ∙ reverse-reverse c.in_ok-sorted.sorted.items) ∙ ap (λ ws. pairs_then ws [] ++ segments_left a old) c.in_ok-sorted.ensures.content
 
 pub returns-clause-runs : goal.returns-clause-runs
 returns-clause-runs c = λ h.
@@ -36,8 +36,8 @@ pub returns-then-are_by_name-clause-left : goal.returns-then-are_by_name-clause-
 returns-then-are_by_name-clause-left c =
     let a = c.args.graph.now.arena in
     let old = c.args.waiting.now.items in
-    parts_pushed a old c.push.new.self.items (Pairs c.args.pairs) c.in_ok-push.ensures.items
-    ∙ ap (λ ws. pairs_then ws [] ++ parts_left a old) (already_by_name (pairs_of a c.args.pairs.now) (c.are_by_name.ensures.0 (true_is c.are_by_name.result c.if-are_by_name.true)))
+    segments_pushed a old c.push.new.self.items (Pairs c.args.pairs) c.in_ok-push.ensures.items
+    ∙ ap (λ ws. pairs_then ws [] ++ segments_left a old) (already_by_name (pairs_of a c.args.pairs.now) (c.are_by_name.ensures.0 (true_is c.are_by_name.result c.if-are_by_name.true)))
 
 pub returns-then-are_by_name-clause-runs : goal.returns-then-are_by_name-clause-runs
 returns-then-are_by_name-clause-runs c = λ h.

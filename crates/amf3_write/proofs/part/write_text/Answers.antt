@@ -12,9 +12,9 @@ returns-clause-written c =
     text_written (text_at c.args.graph.now.arena c.args.text.0) c.in_ok-output.output c.text-result.new.self c.args.tables.now.tables c.put_back.new.tables.tables c.args.out.now.items c.put_back.new.bytes.items
     c.in_ok-output.ensures.tables (ap (λ v. v.items) c.in_ok-output.ensures.bytes) c.put_back.ensures.tables (ap (λ v. v.items) (c.put_back.ensures.whole (c.is_err.ensures.value ∙ ok))) (subst (λ y. WritesStep (word y) c.in_ok-output.output c.text-result.new.self) c.text.ensures h)) c.text-result.ensures.ok
 
-pub returns-clause-kept : goal.returns-clause-kept
-returns-clause-kept c =
+pub returns-clause-untouched : goal.returns-clause-untouched
+returns-clause-untouched c =
     let old = c.args.out.now.items in
     let len : c.len-start.result ≡ length old = omega (arith, c.len-start.ensures, c.args.out.now.ok.0) in
-    let front = c.text-result.ensures.kept _ (own_front c.in_ok-output.output c.args.tables.now.tables old c.in_ok-output.ensures.tables (ap (λ v. v.items) c.in_ok-output.ensures.bytes)) in
+    let front = c.text-result.ensures.keeps _ (own_front c.in_ok-output.output c.args.tables.now.tables old c.in_ok-output.ensures.tables (ap (λ v. v.items) c.in_ok-output.ensures.bytes)) in
     on_err_then _ c.text-result.result (λ ended. c.put_back.ensures.cut (c.is_err.ensures.value ∙ ended) ∙ taken_back old c.text-result.new.self.bytes.items c.len-start.result len front.bytes)

@@ -20,14 +20,14 @@ returns-clause-lack c = λ l e. stops_at (content c.args.graph.now) (value_conte
 
 pub returns-clause-nodes : goal.returns-clause-nodes
 returns-clause-nodes c =
-    let front = c.value-result.ensures.kept _ (own_front c.in_ok-output.output c.args.tables.now.tables c.args.out.now.items c.in_ok-output.ensures.tables (ap (λ v. v.items) c.in_ok-output.ensures.bytes)) in
+    let front = c.value-result.ensures.keeps _ (own_front c.in_ok-output.output c.args.tables.now.tables c.args.out.now.items c.in_ok-output.ensures.tables (ap (λ v. v.items) c.in_ok-output.ensures.bytes)) in
     subst (λ (t : Tables). BeginsWith c.args.tables.now.tables.nodes t.nodes) (sym c.put_back.ensures.tables) front.nodes
 
-pub returns-clause-kept : goal.returns-clause-kept
-returns-clause-kept c =
+pub returns-clause-untouched : goal.returns-clause-untouched
+returns-clause-untouched c =
     let old = c.args.out.now.items in
     let len : c.len-start.result ≡ length old = omega (arith, c.len-start.ensures, c.args.out.now.ok.0) in
-    let front = c.value-result.ensures.kept _ (own_front c.in_ok-output.output c.args.tables.now.tables old c.in_ok-output.ensures.tables (ap (λ v. v.items) c.in_ok-output.ensures.bytes)) in
+    let front = c.value-result.ensures.keeps _ (own_front c.in_ok-output.output c.args.tables.now.tables old c.in_ok-output.ensures.tables (ap (λ v. v.items) c.in_ok-output.ensures.bytes)) in
     on_err_then _ c.value-result.result (λ ended. c.put_back.ensures.cut (c.is_err.ensures.value ∙ ended) ∙ taken_back old c.value-result.new.self.bytes.items c.len-start.result len front.bytes)
 
 pub returns-clause-tables : goal.returns-clause-tables

@@ -3,14 +3,14 @@ use Rattle.amf_graph.specs.Arena.{value_content}
 use Rattle.amf3_spelling.specs.ByteSpelling.{value, values_then}
 use Rattle.amf_iso.specs.Contents.{values_of}
 use Rattle.amf3_write.specs.declared.unwritten.Unwritten.TheVariants.{Values}
-use Rattle.amf3_write.specs.Unwritten.{parts_left}
-use Rattle.amf3_write.proofs.Runs.{parts_pushed, turns_pushed}
+use Rattle.amf3_write.specs.Unwritten.{segments_left}
+use Rattle.amf3_write.proofs.Runs.{segments_pushed, turns_pushed}
 use Rattle.amf3_write.proofs.unwritten.next_item.Goals as goal
 
 pub returns-in_ok-push-in-Some-clause-left : goal.returns-in_ok-push-in-Some-clause-left
 returns-in_ok-push-in-Some-clause-left c = λ a.
     let old = c.args.waiting.now.items in
-    ap (λ w. value (value_content a c.in-Some.value.now) ∷ w) (parts_pushed a old c.push.new.self.items (Values c.in-Some.rest) c.in_ok-push-in-Some.ensures.items) ∙ sym (ap (λ vs. values_then (values_of a vs) [] ++ parts_left a old) c.in-Some.ensures.cases.0)
+    ap (λ w. value (value_content a c.in-Some.value.now) ∷ w) (segments_pushed a old c.push.new.self.items (Values c.in-Some.rest) c.in_ok-push-in-Some.ensures.items) ∙ sym (ap (λ vs. values_then (values_of a vs) [] ++ segments_left a old) c.in-Some.ensures.cases.0)
 
 pub returns-in_ok-push-in-Some-clause-turns : goal.returns-in_ok-push-in-Some-clause-turns
 returns-in_ok-push-in-Some-clause-turns c = omega (arith, turns_pushed c.args.waiting.now.items c.push.new.self.items (Values c.in-Some.rest) c.in_ok-push-in-Some.ensures.items, c.in-Some.ensures.cases.1)

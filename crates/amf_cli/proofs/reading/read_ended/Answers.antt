@@ -4,7 +4,7 @@ use Rattle.amf_io.specs.Cursor.{source_of, place, unread}
 use Rattle.amf_cli.specs.declared.content.Content.{Content as KeptContent}
 use Rattle.amf_cli.specs.Content.{content_of}
 use Rattle.amf_cli.specs.Input.{one}
-use Rattle.amf_cli.specs.Reading.{IsReadOne, AnswersOne}
+use Rattle.amf_cli.specs.ReadContent.{IsReadOne, AnswersOne}
 use Rattle.amf_cli.specs.Run.{IsInputOf}
 use Rattle.amf_cli.proofs.Inputs.{whole_ends, whole_read, whole_end_ends, end_of_input, left_behind, nothing_left, taken_by, taken_behind}
 use Rattle.amf_cli.proofs.reading.read_ended.Goals as goal

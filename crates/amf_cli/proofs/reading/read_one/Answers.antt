@@ -9,7 +9,7 @@ use Rattle.amf_cli.specs.declared.content.Content.{Content as KeptContent}
 use Rattle.amf_cli.specs.declared.content.Content.TheVariants as kept
 use Rattle.amf_cli.specs.declared.format.Format.TheVariants.{Amf3, Amf0, Packet}
 use Rattle.amf_cli.specs.Content.{content_of, packet}
-use Rattle.amf_cli.specs.Reading.{AnswersOne}
+use Rattle.amf_cli.specs.ReadContent.{AnswersOne}
 use Rattle.amf_cli.proofs.Inputs.{of_value, answers_mapped, goes_mapped, packet_answers}
 use Rattle.amf_cli.proofs.reading.read_one.Goals as goal
 

@@ -5,7 +5,7 @@ use Rattle.amf_graph.specs.Rooted.{RootedArena, content}
 use Rattle.amf0_tables.specs.TableParts0.{shown_tables}
 use Rattle.amf_cli.specs.declared.format.Format.TheVariants.{Amf0}
 use Rattle.amf_cli.specs.Content.{value}
-use Rattle.amf_cli.specs.Reading.{IsReadOne}
+use Rattle.amf_cli.specs.ReadContent.{IsReadOne}
 use Rattle.amf_cli.proofs.Inputs.{from_nothing0, one_read0, one_ends0}
 use Rattle.amf_cli.proofs.reading.read_one0.Goals as goal
 

@@ -4,7 +4,7 @@ use Rattle.amf_io.specs.Cursor.{source_of, place, bound, unread}
 use Rattle.amf_graph.specs.Rooted.{RootedArena, content}
 use Rattle.amf_cli.specs.declared.format.Format.TheVariants.{Amf3}
 use Rattle.amf_cli.specs.Content.{value}
-use Rattle.amf_cli.specs.Reading.{IsReadOne}
+use Rattle.amf_cli.specs.ReadContent.{IsReadOne}
 use Rattle.amf_cli.proofs.Inputs.{from_nothing, one_read, one_ends}
 use Rattle.amf_cli.proofs.reading.read_one3.Goals as goal
 

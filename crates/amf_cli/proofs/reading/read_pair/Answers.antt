@@ -5,7 +5,7 @@ use Rattle.amf_graph.specs.Rooted.{RootedArena, content}
 use Rattle.amf_cli.specs.Content.{value}
 use Rattle.amf_cli.specs.Input.{two}
 use Rattle.amf_cli.specs.declared.format.Format.TheVariants.{Amf3}
-use Rattle.amf_cli.specs.Reading.{IsReadOne, AnswersOne}
+use Rattle.amf_cli.specs.ReadContent.{IsReadOne, AnswersOne}
 use Rattle.amf_cli.specs.Run.{ArePairIn}
 use Rattle.amf_cli.proofs.Inputs.{of_value, pair_first_ends, pair_second_ends, pair_read, pair_end_ends, end_of_input, left_behind, nothing_left, taken_by, taken_behind, taken_last, read_told, ends_told}
 use Rattle.amf_cli.proofs.reading.read_pair.Goals as goal

@@ -6,7 +6,7 @@ use Rattle.amf_cli.specs.declared.content.Content.{Content as KeptContent}
 use Rattle.amf_cli.specs.declared.format.Format.{Format}
 use Rattle.amf_cli.specs.Content.{content_of, packet, file}
 use Rattle.amf_cli.specs.Formats.{IsWritten, IsUnwritten}
-use Rattle.amf_cli.specs.Reading.{GoesInto}
+use Rattle.amf_cli.specs.ReadContent.{GoesInto}
 use Rattle.amf_cli.proofs.Goes.{of_values, is_packet, is_file, was_read}
 use Rattle.amf_cli.proofs.spelling.spell.Goals as goal
 

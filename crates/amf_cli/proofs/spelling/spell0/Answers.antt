@@ -6,7 +6,7 @@ use Rattle.amf_cli.specs.Content.{value}
 use Rattle.amf_cli.proofs.spelling.spell0.Goals as goal
 
 pub write0-requires : goal.write0-requires
-write0-requires c = c.lowering_is_kept.ensures.lowered (content c.args.graph.now) (content c.in-Ok.low) c.in-Ok.ensures
+write0-requires c = c.graphs_have_one_lowering.ensures.lowered (content c.args.graph.now) (content c.in-Ok.low) c.in-Ok.ensures
 
 pub returns-in-Ok-write0-clause-written : goal.returns-in-Ok-write0-clause-written
 returns-in-Ok-write0-clause-written c =

@@ -25,4 +25,4 @@ returns-in-Err-NoSpelling-clause-tells c =
     λ (g : Graph) i. unspelled0 g (content c.args.graph.now) (content c.in_ok-low.low) l.node l.kind i c.in_ok-low.ensures (c.in-Err-NoSpelling.ensures.lack l (ap Err c.in-Err-NoSpelling.field-0-is))
 
 pub write0-requires : goal.write0-requires
-write0-requires c = c.lowering_is_kept.ensures.lowered (content c.args.graph.now) (content c.in_ok-low.low) c.in_ok-low.ensures
+write0-requires c = c.graphs_have_one_lowering.ensures.lowered (content c.args.graph.now) (content c.in_ok-low.low) c.in_ok-low.ensures

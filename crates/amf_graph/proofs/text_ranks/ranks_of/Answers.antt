@@ -5,7 +5,7 @@ use Rattle.std.specs.Ordering.{is_lt}
 use Rattle.amf_graph.specs.declared.value.TextId.{TextId}
 use Rattle.amf_graph.specs.Arena.{IsTextId, text_at}
 use Rattle.amf_graph.proofs.Alls.{all_at}
-use Rattle.amf_graph.proofs.Ranks.{bytes_cmp, RankedTo, none_ranked, none_before, rank_kept, rank_more, rank_entered, get_or_same}
+use Rattle.amf_graph.proofs.Ranks.{bytes_cmp, RankedTo, none_ranked, none_before, rank_stays, rank_more, rank_entered, get_or_same}
 use Rattle.amf_graph.proofs.text_ranks.ranks_of.Goals as goal
 use Rattle.amf_graph.proofs.text_ranks.ranks_of.Goals.{then-is_lt, else-is_lt}
 
@@ -36,7 +36,7 @@ loop-text-preserved c =
     let ranked : RankedTo a.texts ranks next c.if-is_lt.rank =
     elim c.if-is_lt.branch [
       | then-is_lt w ↦ subst (RankedTo a.texts ranks next) (sym w.rank-is) (rank_more a.texts ranks last next c.loop-text.rank (sym got ∙ w.if-is_lt.true) h.ranked)
-      | else-is_lt w ↦ subst (RankedTo a.texts ranks next) (sym w.rank-is) (rank_kept a.texts ranks last next c.loop-text.rank (sym got ∙ w.if-is_lt.false) up h.ranked)
+      | else-is_lt w ↦ subst (RankedTo a.texts ranks next) (sym w.rank-is) (rank_stays a.texts ranks last next c.loop-text.rank (sym got ∙ w.if-is_lt.false) up h.ranked)
     ]
     in
     let room : k < length ranks = subst (λ n. k < n) (sym h.count) there in

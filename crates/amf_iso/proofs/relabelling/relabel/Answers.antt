@@ -3,15 +3,15 @@ use Rattle.std.proofs.Common.{◌≡◌, length, sym, ap, ◌∙◌, subst}
 use Rattle.amf_graph.specs.Isomorphic.{Isomorphic}
 use Rattle.amf_graph.specs.Order.{IsOrder}
 use Rattle.amf_graph.specs.Rooted.{RootedArena, content}
-use Rattle.amf_graph.specs.Renumbered.{numbers_of, renumbered, IsPart}
+use Rattle.amf_graph.specs.Renumbered.{numbers_of, renumbered, IsSelfContained}
 use Rattle.amf3_spelling.specs.KeptTables.{below}
-use Rattle.amf_iso.proofs.OrderParts.{order_is_part}
+use Rattle.amf_iso.proofs.ClosedOrders.{order_is_self_contained}
 use Rattle.amf_iso.proofs.Orders.{ok_implies}
 use Rattle.amf_iso.proofs.Relabelled.{relabelled_count, relabelled_order, relabelled_isomorphic}
 use Rattle.amf_iso.proofs.relabelling.relabel.Goals as goal
 
 pub renumbered-requires : goal.renumbered-requires
-renumbered-requires c = subst (IsPart c.args.graph.now) (sym c.nodes.ensures) (order_is_part c.args.graph.now c.args.numbering.now c.requires)
+renumbered-requires c = subst (IsSelfContained c.args.graph.now) (sym c.nodes.ensures) (order_is_self_contained c.args.graph.now c.args.numbering.now c.requires)
 
 pub returns-clause-isomorphic : goal.returns-clause-isomorphic
 returns-clause-isomorphic c =

@@ -14,7 +14,7 @@ returns-in-Err-clause-writes c =
     let L = LacksFirst 0 (bodies (packet_of c.args.packet.now)) in
     ends_more P P L L c.args.out.now.items c.append_packet.new.out.items c.args.out.now.items c.truncate.new.self.items c.in-Err.end (λ v n k x. x) c.in-Err.ensures.writes
 
-pub returns-in-Err-clause-kept : goal.returns-in-Err-clause-kept
-returns-in-Err-clause-kept c =
+pub returns-in-Err-clause-untouched : goal.returns-in-Err-clause-untouched
+returns-in-Err-clause-untouched c =
     let n : c.len-start.result ≡ length c.args.out.now.items = omega (arith, c.len-start.ensures, c.args.out.now.ok.0) in
     c.truncate.ensures.items ∙ taken_back c.args.out.now.items c.append_packet.new.out.items c.len-start.result n c.in-Err.ensures.grows

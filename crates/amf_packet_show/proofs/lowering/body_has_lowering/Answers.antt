@@ -15,5 +15,5 @@ returns-in-Amf3 c = subst (λ (b : KeptBody). HasLoweredBody (body_of b)) (sym c
 pub returns-in-Plain : goal.returns-in-Plain
 returns-in-Plain c =
     let f = c.is_finished.ensures in
-    let low = c.lowering_is_kept.ensures.built c.in-Plain.graph.arena c.in-Plain.graph.root f.finished f.bounds f.names in
+    let low = c.graphs_have_one_lowering.ensures.built c.in-Plain.graph.arena c.in-Plain.graph.root f.finished f.bounds f.names in
     subst (λ (b : KeptBody). HasLoweredBody (body_of b)) (sym c.in-Plain.is) (record { form = form.Plain; graph = low.0 }, (refl, low.1.is))

@@ -5,7 +5,7 @@ use Rattle.amf_graph.specs.Order.{values_met}
 use Rattle.amf_graph.specs.Rooted.{content}
 use Rattle.amf3_spelling.proofs.Clean.{below_length}
 use Rattle.amf_sol.specs.HolderTest.{is_node}
-use Rattle.amf_sol.proofs.Holders.{not_held, is_held, numbered_there, more_kept}
+use Rattle.amf_sol.proofs.Holders.{not_held, is_held, numbered_there, more_stays}
 use Rattle.amf_sol.proofs.holder.is_held.Goals as goal
 
 pub holds-requires : goal.holds-requires
@@ -29,7 +29,7 @@ loop-number-preserved c =
     let a = c.in_ok-holds.ensures in
     let b = c.if-branch.false in
     let e : list_any (is_node c.args.held.0) (values_met (node_at g j)) ≡ false = cc in
-    λ k i lt f. more_kept c.args.numbering.now c.loop-number.number k i j (λ n. list_any (is_node c.args.held.0) (values_met (node_at g n)) ≡ false) c.loop-number.invariant c.node_at.ensures e lt f
+    λ k i lt f. more_stays c.args.numbering.now c.loop-number.number k i j (λ n. list_any (is_node c.args.held.0) (values_met (node_at g n)) ≡ false) c.loop-number.invariant c.node_at.ensures e lt f
 
 pub returns-clause-unheld : goal.returns-clause-unheld
 returns-clause-unheld c =

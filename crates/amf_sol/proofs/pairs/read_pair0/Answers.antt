@@ -59,7 +59,7 @@ put-requires-clause-there g c =
     let n1 = c.in_ok-name.ensures in let v1 = c.in_ok-value.ensures in
     let r = c.requires.ready in let h = c.requires.holder in
     let rb : Ready0 0 b t d = name0_ready a b t x.0 k d r c.is_built.ensures.built n1.kept n1.moves n1.goes.same_bound n1.placed in
-    let grows = pair0_grows S.tells S.left S.faults a b b2 t u x v k d e r h n1.kept rb n1.moves n1.goes.same_bound v1.answers v1.kept v1.goes.same_bound in
+    let grows = pair0_grows S.tells S.left S.faults a b b2 t u x v k d e r h n1.kept rb n1.moves n1.goes.same_bound v1.answers v1.still_ready v1.goes.same_bound in
     subst (λ i. i < length b2.nodes) (sym c.requires.first) (holder_there a b2 (left_of k) h grows r.amf3.built)
 
 pub put-requires-clause-opened : goal.put-requires-clause-opened
@@ -72,7 +72,7 @@ put-requires-clause-opened g c =
     let n1 = c.in_ok-name.ensures in let v1 = c.in_ok-value.ensures in
     let r = c.requires.ready in let h = c.requires.holder in
     let rb : Ready0 0 b t d = name0_ready a b t x.0 k d r c.is_built.ensures.built n1.kept n1.moves n1.goes.same_bound n1.placed in
-    let grows = pair0_grows S.tells S.left S.faults a b b2 t u x v k d e r h n1.kept rb n1.moves n1.goes.same_bound v1.answers v1.kept v1.goes.same_bound in
+    let grows = pair0_grows S.tells S.left S.faults a b b2 t u x v k d e r h n1.kept rb n1.moves n1.goes.same_bound v1.answers v1.still_ready v1.goes.same_bound in
     subst (λ i. (stored_at b2 i).is_open ≡ true) (sym c.requires.first) (holder_open a b2 (left_of k) h grows r.amf3.built)
 
 pub put-requires-clause-room : goal.put-requires-clause-room
@@ -85,7 +85,7 @@ put-requires-clause-room g c =
     let n1 = c.in_ok-name.ensures in let v1 = c.in_ok-value.ensures in
     let r = c.requires.ready in let h = c.requires.holder in
     let rb : Ready0 0 b t d = name0_ready a b t x.0 k d r c.is_built.ensures.built n1.kept n1.moves n1.goes.same_bound n1.placed in
-    let grows = pair0_grows S.tells S.left S.faults a b b2 t u x v k d e r h n1.kept rb n1.moves n1.goes.same_bound v1.answers v1.kept v1.goes.same_bound in
+    let grows = pair0_grows S.tells S.left S.faults a b b2 t u x v k d e r h n1.kept rb n1.moves n1.goes.same_bound v1.answers v1.still_ready v1.goes.same_bound in
     subst (λ i. HasRoom b2 (stored_at b2 i) (Named x v)) (sym c.requires.first) (holder_room a b2 (left_of k) h grows r.amf3.built x v)
 
 pub put-requires-clause-names : goal.put-requires-clause-names
@@ -98,7 +98,7 @@ put-requires-clause-names g c =
     let n1 = c.in_ok-name.ensures in let v1 = c.in_ok-value.ensures in
     let r = c.requires.ready in let h = c.requires.holder in
     let rb : Ready0 0 b t d = name0_ready a b t x.0 k d r c.is_built.ensures.built n1.kept n1.moves n1.goes.same_bound n1.placed in
-    (pair0_text S.tells S.left S.faults a b b2 t u x v k d e r h n1.kept rb n1.moves n1.goes.same_bound v1.answers v1.kept v1.goes.same_bound, pair0_names S.tells S.left S.faults a b b2 t u x v k d e r h n1.kept rb n1.moves n1.goes.same_bound v1.answers v1.kept v1.goes.same_bound)
+    (pair0_text S.tells S.left S.faults a b b2 t u x v k d e r h n1.kept rb n1.moves n1.goes.same_bound v1.answers v1.still_ready v1.goes.same_bound, pair0_names S.tells S.left S.faults a b b2 t u x v k d e r h n1.kept rb n1.moves n1.goes.same_bound v1.answers v1.still_ready v1.goes.same_bound)
 
 pub kept-requires : goal.kept-requires
 kept-requires g c =
@@ -110,7 +110,7 @@ kept-requires g c =
     let n1 = c.in_ok-name.ensures in let v1 = c.in_ok-value.ensures in
     let r = c.requires.ready in let h = c.requires.holder in
     let rb : Ready0 0 b t d = name0_ready a b t x.0 k d r c.is_built.ensures.built n1.kept n1.moves n1.goes.same_bound n1.placed in
-    let grows = pair0_grows S.tells S.left S.faults a b b2 t u x v k d e r h n1.kept rb n1.moves n1.goes.same_bound v1.answers v1.kept v1.goes.same_bound in
+    let grows = pair0_grows S.tells S.left S.faults a b b2 t u x v k d e r h n1.kept rb n1.moves n1.goes.same_bound v1.answers v1.still_ready v1.goes.same_bound in
     λ w. not_full a b2 (left_of k) h grows r.amf3.built (subst (λ i. 268435455 ≤ size_of (stored_at b2 i)) c.requires.first (c.put.ensures.full.0 w))
 
 pub returns-clause-answers : goal.returns-clause-answers
@@ -141,7 +141,7 @@ returns-clause-ready g c =
     let f = c.read_pair_end.new.cursor in let b3 = c.put.new.self in
     let w = c.in_ok-read_pair_end.ensures in
     let is : b3 ≡ changed (more_part (Named x v)) 0 b2 = done _ c.put.result c.in_ok-kept.field-0 c.in_ok-kept.ensures.ok c.put.ensures.ok ∙ ap (λ i. changed (more_part (Named x v)) i b2) c.requires.first in
-    pair0_ready S.tells S.left S.faults a b b2 t u x v k d e r h n1.kept rb n1.moves n1.goes.same_bound v1.answers v1.kept v1.goes.same_bound f b3 is w.placed w.moves w.goes.same_bound
+    pair0_ready S.tells S.left S.faults a b b2 t u x v k d e r h n1.kept rb n1.moves n1.goes.same_bound v1.answers v1.still_ready v1.goes.same_bound f b3 is w.placed w.moves w.goes.same_bound
 
 pub returns-clause-holder : goal.returns-clause-holder
 returns-clause-holder g c =
@@ -156,4 +156,4 @@ returns-clause-holder g c =
     let f = c.read_pair_end.new.cursor in let b3 = c.put.new.self in
     let w = c.in_ok-read_pair_end.ensures in
     let is : b3 ≡ changed (more_part (Named x v)) 0 b2 = done _ c.put.result c.in_ok-kept.field-0 c.in_ok-kept.ensures.ok c.put.ensures.ok ∙ ap (λ i. changed (more_part (Named x v)) i b2) c.requires.first in
-    pair0_holder S.tells S.left S.faults a b b2 t u x v k d e r h n1.kept rb n1.moves n1.goes.same_bound v1.answers v1.kept v1.goes.same_bound f b3 is w.placed w.moves w.goes.same_bound
+    pair0_holder S.tells S.left S.faults a b b2 t u x v k d e r h n1.kept rb n1.moves n1.goes.same_bound v1.answers v1.still_ready v1.goes.same_bound f b3 is w.placed w.moves w.goes.same_bound

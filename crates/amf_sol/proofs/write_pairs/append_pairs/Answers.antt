@@ -20,7 +20,7 @@ append_pairs0-requires-clause-holder c =
     lowered_holder (content c.holder-holder.result.now) (content c.in_ok-low-in-Amf0.low) c.in_ok-low-in-Amf0.ensures (subst (λ (z : RootedArena). HasHolder (content z)) (sym c.holder-holder.ensures) c.is_stored.ensures.holder)
 
 pub append_pairs0-requires-clause-low : goal.append_pairs0-requires-clause-low
-append_pairs0-requires-clause-low c = c.lowering_is_kept.ensures.lowered (content c.holder-holder.result.now) (content c.in_ok-low-in-Amf0.low) c.in_ok-low-in-Amf0.ensures
+append_pairs0-requires-clause-low c = c.graphs_have_one_lowering.ensures.lowered (content c.holder-holder.result.now) (content c.in_ok-low-in-Amf0.low) c.in_ok-low-in-Amf0.ensures
 
 pub returns-in-Amf3-clause-written : goal.returns-in-Amf3-clause-written
 returns-in-Amf3-clause-written c =

@@ -12,5 +12,5 @@ pub returns-in-Amf0 : goal.returns-in-Amf0
 returns-in-Amf0 c =
     let f = c.is_finished.ensures in
     let g = c.holder.result.now in
-    let low = c.lowering_is_kept.ensures.built g.arena g.root f.finished f.bounds f.names in
+    let low = c.graphs_have_one_lowering.ensures.built g.arena g.root f.finished f.bounds f.names in
     of_graph (shared c.args.file.now) low.0 (sym c.version.ensures ∙ c.in-Amf0.is) (subst (λ (x : RootedArena). IsLoweringOf (content x) low.0) c.holder.ensures low.1.is)

@@ -8,7 +8,7 @@ use Rattle.amf0_write.specs.declared.unwritten.Unwritten.TheVariants.{Values}
 use Rattle.amf0_write.specs.Writes0.{Adds, values_then, pairs_then, ecma, strict}
 use Rattle.amf0_write.proofs.Leading0.{adds_then}
 use Rattle.amf0_write.proofs.MetValues0.{none_from, some_from, pairs_none, pairs_length}
-use Rattle.amf0_write.proofs.Runs0.{on_ok, parts_pushed, turns_pushed}
+use Rattle.amf0_write.proofs.Runs0.{on_ok, segments_pushed, turns_pushed}
 use Rattle.amf0_write.proofs.output.Output.array.Goals as goal
 
 pub returns-in_ok-push-clause-opened : goal.returns-in_ok-push-clause-opened
@@ -20,10 +20,10 @@ returns-in_ok-push-clause-opened c =
     let same = length-map c.args.items.now (value_content a) in
     record {
       bytes = 0x0A ∷ to_be_bytes w32 (length (values_of a c.args.items.now));
-      parts = values_then (values_of a c.args.items.now);
+      segments = values_then (values_of a c.args.items.now);
       is = strict refl (ap (pairs_of a) none) (omega (arith, same, c.requires.few));
       adds = subst (λ k. Adds (0x0A ∷ to_be_bytes w32 k) o c.count.new.self) (sym same) (adds_then (0x0A ∷ []) (to_be_bytes w32 n) o c.byte.new.self c.count.new.self c.in_ok-byte.ensures.adds c.in_ok-count.ensures.adds);
-      left = parts_pushed a c.args.waiting.now.items c.push.new.self.items (Values c.args.items) c.in_ok-push.ensures.items;
+      left = segments_pushed a c.args.waiting.now.items c.push.new.self.items (Values c.args.items) c.in_ok-push.ensures.items;
     }
 
 pub returns-in_ok-push-clause-turns : goal.returns-in_ok-push-clause-turns
@@ -39,7 +39,7 @@ returns-in_ok-count-2-clause-opened c =
     let same = pairs_length a c.args.names.now in
     on_ok c.push_pairs.result (λ e. record {
       bytes = 0x08 ∷ to_be_bytes w32 (length (pairs_of a c.args.names.now));
-      parts = pairs_then (by_name (pairs_of a c.args.names.now));
+      segments = pairs_then (by_name (pairs_of a c.args.names.now));
       is = ecma refl (ap (values_of a) (c.requires.form filled)) (λ z. filled (pairs_none a c.args.names.now z)) (omega (arith, same, c.requires.few_names));
       adds = subst (λ k. Adds (0x08 ∷ to_be_bytes w32 k) o m) (sym same) (adds_then (0x08 ∷ []) (to_be_bytes w32 n) o c.byte-else-is_empty.new.self m c.in_ok-byte-2.ensures.adds c.in_ok-count-2.ensures.adds);
       left = e;

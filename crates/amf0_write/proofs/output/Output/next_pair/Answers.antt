@@ -4,10 +4,10 @@ use Rattle.amf_graph.specs.Rooted.{content}
 use Rattle.amf_graph.proofs.Lists.{length_pushed}
 use Rattle.amf_iso.specs.Contents.{named_pairs}
 use Rattle.amf0_write.specs.declared.unwritten.Unwritten.TheVariants.{Pairs}
-use Rattle.amf0_write.specs.Unwritten0.{IsMetPair, parts_left}
+use Rattle.amf0_write.specs.Unwritten0.{IsMetPair, segments_left}
 use Rattle.amf0_write.specs.Writes0.{name, value, pairs_then}
 use Rattle.amf0_write.proofs.Leading0.{leads_from, leads_to, leads_name}
-use Rattle.amf0_write.proofs.Runs0.{rest_of, top_of, parts_pushed, turns_pushed, pairs_popped, runs_pushed}
+use Rattle.amf0_write.proofs.Runs0.{rest_of, top_of, segments_pushed, turns_pushed, pairs_popped, runs_pushed}
 use Rattle.amf0_write.proofs.output.Output.next_pair.Goals as goal
 
 pub short-requires : goal.short-requires
@@ -22,11 +22,11 @@ returns-in_ok-push-in-Some-clause-leads c = λ g h.
     let v = value (value_content a c.in-Some.value) in
     let x = c.in-Some.name.now in
     let top = top_of (IsMetPair g) c.args.pairs.items c.pop.new.self.items (c.in-Some.name, c.in-Some.value) c.in-Some.ensures.items h in
-    let rest : _ = pairs_then (named_pairs a (reverse c.pop.new.self.items)) ++ parts_left a old in
-    leads_from (content g) (pairs_then (named_pairs a (reverse c.args.pairs.items)) ++ parts_left a old) (name x ∷ v ∷ rest) (v ∷ parts_left a c.push.new.self.items) c.args.self.now c.short.new.self
-    (ap (λ w. w ++ parts_left a old) (pairs_popped a c.args.pairs.items c.pop.new.self.items (c.in-Some.name, c.in-Some.value) c.in-Some.ensures.items))
-    (leads_to (content g) (name x ∷ v ∷ rest) (v ∷ rest) (v ∷ parts_left a c.push.new.self.items) c.args.self.now c.short.new.self
-    (ap (λ w. v ∷ w) (sym (parts_pushed a old c.push.new.self.items (Pairs c.pop.new.self) c.in_ok-push-in-Some.ensures.items)))
+    let rest : _ = pairs_then (named_pairs a (reverse c.pop.new.self.items)) ++ segments_left a old in
+    leads_from (content g) (pairs_then (named_pairs a (reverse c.args.pairs.items)) ++ segments_left a old) (name x ∷ v ∷ rest) (v ∷ segments_left a c.push.new.self.items) c.args.self.now c.short.new.self
+    (ap (λ w. w ++ segments_left a old) (pairs_popped a c.args.pairs.items c.pop.new.self.items (c.in-Some.name, c.in-Some.value) c.in-Some.ensures.items))
+    (leads_to (content g) (name x ∷ v ∷ rest) (v ∷ rest) (v ∷ segments_left a c.push.new.self.items) c.args.self.now c.short.new.self
+    (ap (λ w. v ∷ w) (sym (segments_pushed a old c.push.new.self.items (Pairs c.pop.new.self) c.in_ok-push-in-Some.ensures.items)))
     (leads_name (content g) x _ (v ∷ rest) c.args.self.now c.short.new.self top.named.0 top.short refl c.in_ok-short-in-Some.ensures.adds))
 
 pub returns-in_ok-push-in-Some-clause-runs : goal.returns-in_ok-push-in-Some-clause-runs

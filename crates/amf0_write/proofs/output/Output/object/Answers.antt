@@ -23,14 +23,14 @@ returns-clause-opened c =
     on_ok c.push_pairs.result (λ e. elim c.if-is_empty.branch [
       | then-is_empty+in_ok-byte w ↦ record {
         bytes = 0x03 ∷ [];
-        parts = ps;
+        segments = ps;
         is = plain t refl c.requires.open (class ∙ none_from x c.is_empty.result c.is_empty.ensures w.if-is_empty.true);
         adds = subst (λ z. Adds (0x03 ∷ []) o z) (sym w.self-is) w.in_ok-byte.ensures.adds;
         left = e;
       }
       | else-is_empty+in_ok-byte-2+in_ok-short w ↦ record {
         bytes = 0x10 ∷ to_be_bytes w16 (length t.class) ++ t.class;
-        parts = ps;
+        segments = ps;
         is = typed t refl c.requires.open (λ z. some_from x c.is_empty.result c.is_empty.ensures w.if-is_empty.false (sym class ∙ z)) (text_in a _ c.is_finished.ensures.finished there) c.requires.class;
         adds = subst (λ z. Adds (0x10 ∷ to_be_bytes w16 (length t.class) ++ t.class) o z) (sym w.self-is)
             (subst (λ (y : List ℕ). Adds (0x10 ∷ to_be_bytes w16 (length y) ++ y) o w.short.new.self) (sym class)

@@ -9,7 +9,7 @@ use Rattle.amf_graph.specs.Views.{named}
 use Rattle.amf_iso.specs.Contents.{pairs_of, values_of}
 use Rattle.amf0_tables.specs.Lowered.{IsLowHead}
 use Rattle.amf0_tables.specs.Spells0.{IsOpenTraits}
-use Rattle.amf0_write.specs.Unwritten0.{parts_left}
+use Rattle.amf0_write.specs.Unwritten0.{segments_left}
 use Rattle.amf0_write.specs.Writes0.{Adds, Opened}
 use Rattle.amf0_write.proofs.Leading0.{adds_then}
 use Rattle.amf0_write.proofs.MetValues0.{shown, node_in, node_there, node_fits, text_in, text_within, reached_node, met_items, met_names}
@@ -55,7 +55,7 @@ returns-in_ok-double-in-Date-clause-leads c =
     let m = c.enter_loose.new.self in
     let e = ap (λ (x : Node). x.head) (shown a c.args.graph.now.root i (closed (date p) [] []) c.in-Date.ensures) in
     on_ok c.raw.result (λ h.
-    leads_loose g i (node_there a c.args.graph.now.root i c.requires.met.names) (node_fits a c.args.graph.now.root i c.is_finished.ensures.finished c.requires.met.names) (0x0B ∷ to_be_bytes w64 p ++ 0 ∷ 0 ∷ []) (parts_left a c.args.waiting.now.items) c.args.self.now m c.raw.new.self c.args.node refl c.requires.new
+    leads_loose g i (node_there a c.args.graph.now.root i c.requires.met.names) (node_fits a c.args.graph.now.root i c.is_finished.ensures.finished c.requires.met.names) (0x0B ∷ to_be_bytes w64 p ++ 0 ∷ 0 ∷ []) (segments_left a c.args.waiting.now.items) c.args.self.now m c.raw.new.self c.args.node refl c.requires.new
     c.in_ok-enter_loose-in-Date.ensures.ok c.in_ok-enter_loose-in-Date.ensures.loose c.in_ok-enter_loose-in-Date.ensures.bytes (dated p e)
     (adds_then (0x0B ∷ []) (to_be_bytes w64 p ++ 0 ∷ 0 ∷ []) m c.byte.new.self c.raw.new.self c.in_ok-byte-in-Date.ensures.adds
     (adds_then (to_be_bytes w64 p) (0 ∷ 0 ∷ []) c.byte.new.self c.double.new.self c.raw.new.self c.in_ok-double-in-Date.ensures.adds h))) c.raw.ensures.adds
@@ -72,7 +72,7 @@ returns-in_ok-byte-in-XmlDocument-clause-leads c =
     let e = ap (λ (x : Node). x.head) (shown a c.args.graph.now.root i n s.1) in
     let named_there = (node_in a i n c.is_finished.ensures.finished c.requires.met.names s.1).head in
     on_ok c.long.result (λ h.
-    leads_loose g i (node_there a c.args.graph.now.root i c.requires.met.names) (node_fits a c.args.graph.now.root i c.is_finished.ensures.finished c.requires.met.names) (0x0F ∷ to_be_bytes w32 (length x) ++ x) (parts_left a c.args.waiting.now.items) c.args.self.now m c.long.new.self c.args.node refl c.requires.new
+    leads_loose g i (node_there a c.args.graph.now.root i c.requires.met.names) (node_fits a c.args.graph.now.root i c.is_finished.ensures.finished c.requires.met.names) (0x0F ∷ to_be_bytes w32 (length x) ++ x) (segments_left a c.args.waiting.now.items) c.args.self.now m c.long.new.self c.args.node refl c.requires.new
     c.in_ok-enter_loose-in-XmlDocument.ensures.ok c.in_ok-enter_loose-in-XmlDocument.ensures.loose c.in_ok-enter_loose-in-XmlDocument.ensures.bytes (documented x e (text_in a s.0 c.is_finished.ensures.finished named_there) (omega (arith, text_within a s.0 c.is_finished.ensures.bounds named_there)))
     (subst (λ (y : List ℕ). Adds (0x0F ∷ to_be_bytes w32 (length y) ++ y) m c.long.new.self) s.2
     (adds_then (0x0F ∷ []) (to_be_bytes w32 (length c.in-XmlDocument.text.now) ++ c.in-XmlDocument.text.now) m c.byte-in-XmlDocument.new.self c.long.new.self c.in_ok-byte-in-XmlDocument.ensures.adds h))) c.long.ensures.adds
@@ -83,8 +83,8 @@ returns-in_ok-enter-in-Array-clause-leads c =
     let a = c.args.graph.now.arena in
     let i = c.args.node.0 in
     let n = closed array (named c.in-Array.names.now) c.in-Array.items.now in
-    let before = parts_left a c.args.waiting.now.items in
-    let after = parts_left a c.array.new.waiting.items in
+    let before = segments_left a c.args.waiting.now.items in
+    let after = segments_left a c.array.new.waiting.items in
     let m = c.enter.new.self in
     on_ok c.array.result (λ h.
     leads_opened g i (node_there a c.args.graph.now.root i c.requires.met.names) (node_fits a c.args.graph.now.root i c.is_finished.ensures.finished c.requires.met.names) before after c.args.self.now m c.array.new.self c.requires.new
@@ -104,8 +104,8 @@ returns-in_ok-enter-in-Object-clause-leads c =
     let fits = node_fits a c.args.graph.now.root i c.is_finished.ensures.finished c.requires.met.names in
     let none : values_of a c.in-Object.sealed.now ≡ [] = sym (ap (λ (x : Node). x.values) s) ∙ no_sealed (node_at g i) t (ap (λ (x : Node). x.head) s) open_traits fits in
     let whole : node_at g i ≡ record { head = graph.object t; names = ps; values = [] } = s ∙ ap (λ vs. record { head = graph.object t; names = ps; values = vs }) none in
-    let before = parts_left a c.args.waiting.now.items in
-    let after = parts_left a c.object.new.waiting.items in
+    let before = segments_left a c.args.waiting.now.items in
+    let after = segments_left a c.object.new.waiting.items in
     let m = c.enter-in-Object.new.self in
     on_ok c.object.result (λ h.
     leads_opened g i (node_there a c.args.graph.now.root i c.requires.met.names) fits before after c.args.self.now m c.object.new.self c.requires.new

@@ -3,7 +3,7 @@ use Rattle.std.proofs.lemmas.List.{append-nil, nil_from_length}
 use Rattle.amf_graph.proofs.Counting.{missing}
 use Rattle.amf_graph.specs.Arena.{value_content}
 use Rattle.amf_graph.specs.Rooted.{content}
-use Rattle.amf0_write.specs.Unwritten0.{AreRunsOf, IsRunOf, IsNextOf, next_parts, parts_left}
+use Rattle.amf0_write.specs.Unwritten0.{AreRunsOf, IsRunOf, IsNextOf, next_segments, segments_left}
 use Rattle.amf0_write.specs.Written0.{AreTables0}
 use Rattle.amf0_write.specs.Writes0.{value, done_of, Leads}
 use Rattle.amf0_write.proofs.Grown0.{grown_still, grown_then}
@@ -16,9 +16,9 @@ loop-top-init c =
     let a = c.args.graph.now.arena in
     let whole = value (value_content a c.args.value) ∷ [] in
     record {
-      leads = leads_same (content c.args.graph.now) whole (parts_left a c.in_ok-waiting.waiting.items) c.args.self.now (sym (ap (parts_left a) c.in_ok-waiting.ensures.items));
+      leads = leads_same (content c.args.graph.now) whole (segments_left a c.in_ok-waiting.waiting.items) c.args.self.now (sym (ap (segments_left a) c.in_ok-waiting.ensures.items));
       runs = subst (AreRunsOf c.args.graph.now) (sym c.in_ok-waiting.ensures.items) (c.requires.met, tt);
-      kept = λ front h. h;
+      keeps = λ front h. h;
     }
 
 pub next_value-requires : goal.next_value-requires
@@ -47,10 +47,10 @@ returns-in_err-begin-clause-lack c = λ e.
     let a = c.args.graph.now.arena in
     let whole = value (value_content a c.args.value) ∷ [] in
     let left = c.next_value.new.waiting.items in
-    let now = value (value_content a c.in-Some-next.value) ∷ parts_left a left in
+    let now = value (value_content a c.in-Some-next.value) ∷ segments_left a left in
     let top = top_of (IsRunOf c.args.graph.now) c.loop-top.waiting.items c.pop.new.self.items c.in-Some.top c.in-Some.ensures.items c.loop-top.invariant.runs in
     let before = turned g a whole c.pop.new.self.items c.loop-top.waiting.items left c.in-Some.top c.in_ok-next.next c.args.self.now c.loop-top.self c.next_value.new.self c.in-Some.ensures.items c.loop-top.invariant.leads (c.in_ok-next.ensures.leads c.args.graph.now top) in
-    let begun = subst (λ next. Leads g whole (next_parts a next ++ parts_left a left) c.args.self.now c.next_value.new.self) c.in-Some-next.is before in
+    let begun = subst (λ next. Leads g whole (next_segments a next ++ segments_left a left) c.args.self.now c.next_value.new.self) c.in-Some-next.is before in
     stops_behind g whole now c.args.self.now c.next_value.new.self begun (c.in_err-begin.ensures.lack (same_stop c.from_residual-in_err-begin.result c.in_err-begin.field-0.0 c.from_residual-in_err-begin.ensures.1 e))
 
 pub returns-in_err-begin-clause-grown : goal.returns-in_err-begin-clause-grown
@@ -72,14 +72,14 @@ loop-top-preserved-in-Continue-branch-3 c =
     let a = c.args.graph.now.arena in
     let whole = value (value_content a c.args.value) ∷ [] in
     let left = c.next_value.new.waiting.items in
-    let now = value (value_content a c.in-Some-next.value) ∷ parts_left a left in
+    let now = value (value_content a c.in-Some-next.value) ∷ segments_left a left in
     let top = top_of (IsRunOf c.args.graph.now) c.loop-top.waiting.items c.pop.new.self.items c.in-Some.top c.in-Some.ensures.items c.loop-top.invariant.runs in
     let before = turned g a whole c.pop.new.self.items c.loop-top.waiting.items left c.in-Some.top c.in_ok-next.next c.args.self.now c.loop-top.self c.next_value.new.self c.in-Some.ensures.items c.loop-top.invariant.leads (c.in_ok-next.ensures.leads c.args.graph.now top) in
-    let begun = subst (λ next. Leads g whole (next_parts a next ++ parts_left a left) c.args.self.now c.next_value.new.self) c.in-Some-next.is before in
+    let begun = subst (λ next. Leads g whole (next_segments a next ++ segments_left a left) c.args.self.now c.next_value.new.self) c.in-Some-next.is before in
     record {
-      leads = leads_then g whole now (parts_left a c.begin.new.waiting.items) c.args.self.now c.next_value.new.self c.begin.new.self begun c.in_ok-begin.ensures.leads;
+      leads = leads_then g whole now (segments_left a c.begin.new.waiting.items) c.args.self.now c.next_value.new.self c.begin.new.self begun c.in_ok-begin.ensures.leads;
       runs = c.in_ok-begin.ensures.runs;
-      kept = λ front h. c.in_ok-begin.ensures.kept front (c.in_ok-next.ensures.kept front (c.loop-top.invariant.kept front h));
+      keeps = λ front h. c.in_ok-begin.ensures.keeps front (c.in_ok-next.ensures.keeps front (c.loop-top.invariant.keeps front h));
     }
 
 pub loop-top-smaller-in-Continue-branch-3 : goal.loop-top-smaller-in-Continue-branch-3
@@ -100,9 +100,9 @@ loop-top-preserved c =
     let left = c.next_value.new.waiting.items in
     let before = turned g a whole c.pop.new.self.items c.loop-top.waiting.items left c.in-Some.top c.in_ok-next.next c.args.self.now c.loop-top.self c.next_value.new.self c.in-Some.ensures.items c.loop-top.invariant.leads (c.in_ok-next.ensures.leads c.args.graph.now top) in
     record {
-      leads = subst (λ next. Leads g whole (next_parts a next ++ parts_left a left) c.args.self.now c.next_value.new.self) c.in_default-next.is before;
+      leads = subst (λ next. Leads g whole (next_segments a next ++ segments_left a left) c.args.self.now c.next_value.new.self) c.in_default-next.is before;
       runs = (c.in_ok-next.ensures.runs c.args.graph.now top rest).1;
-      kept = λ front h. c.in_ok-next.ensures.kept front (c.loop-top.invariant.kept front h);
+      keeps = λ front h. c.in_ok-next.ensures.keeps front (c.loop-top.invariant.keeps front h);
     }
 
 pub loop-top-smaller : goal.loop-top-smaller
@@ -119,4 +119,4 @@ returns-clause-leads c =
     let v = value_content a c.args.value in
     let none : c.pop.new.self.items ≡ [] = nil_from_length c.pop.new.self.items (sym c.pop.new.self.ok.0 ∙ c.in_default.ensures.cases.1) in
     let empty : c.loop-top.waiting.items ≡ [] = c.in_default.ensures.items ∙ append-nil c.pop.new.self.items ∙ none in
-    leads_to g (value v ∷ []) (parts_left a c.loop-top.waiting.items) [] c.args.self.now c.loop-top.self (ap (parts_left a) empty) c.loop-top.invariant.leads
+    leads_to g (value v ∷ []) (segments_left a c.loop-top.waiting.items) [] c.args.self.now c.loop-top.self (ap (segments_left a) empty) c.loop-top.invariant.leads

@@ -3,27 +3,27 @@ use Rattle.std.proofs.lemmas.List.{length-map}
 use Rattle.amf_graph.specs.Arena.{value_content}
 use Rattle.amf_graph.specs.ByName.{by_name}
 use Rattle.amf_graph.specs.Rooted.{content}
-use Rattle.amf3_spelling.specs.ByteSpelling.{Part, step, number, values_then, pairs_then}
+use Rattle.amf3_spelling.specs.ByteSpelling.{Segment, step, number, values_then, pairs_then}
 use Rattle.amf_iso.specs.Contents.{pairs_of, values_of}
 use Rattle.amf3_write.specs.declared.unwritten.Unwritten.TheVariants.{Values}
-use Rattle.amf3_write.specs.Unwritten.{parts_left}
+use Rattle.amf3_write.specs.Unwritten.{segments_left}
 use Rattle.amf3_write.specs.Writes.{WritesStep}
 use Rattle.amf3_write.proofs.Wrote.{on_ok}
 use Rattle.amf3_write.proofs.Leading.{leads_to, leads_step}
-use Rattle.amf3_write.proofs.Runs.{parts_pushed, turns_pushed, pairs_before}
+use Rattle.amf3_write.proofs.Runs.{segments_pushed, turns_pushed, pairs_before}
 use Rattle.amf3_write.proofs.output.Output.array.Goals as goal
 
 pub returns-clause-leads : goal.returns-clause-leads
 returns-clause-leads c =
     let g = content c.args.graph.now in
     let a = c.args.graph.now.arena in
-    let old = parts_left a c.args.waiting.now.items in
-    let mid = parts_left a c.push.new.self.items in
-    let now = parts_left a c.push_pairs.new.waiting.items in
+    let old = segments_left a c.args.waiting.now.items in
+    let mid = segments_left a c.push.new.self.items in
+    let now = segments_left a c.push_pairs.new.waiting.items in
     let ws = by_name (pairs_of a c.args.names.now) in
     let vs = values_of a c.args.items.now in
     let count = ap (λ k. 2 * k + 1) (sym (length-map c.args.items.now (value_content a))) in
-    let left = parts_pushed a c.args.waiting.now.items c.push.new.self.items (Values c.args.items) c.in_ok-push.ensures.items in
+    let left = segments_pushed a c.args.waiting.now.items c.push.new.self.items (Values c.args.items) c.in_ok-push.ensures.items in
     on_ok c.push_pairs.result (λ e.
     leads_to g (step (number (2 * length vs + 1)) ∷ (pairs_then ws (values_then vs []) ++ old)) (pairs_then ws (values_then vs []) ++ old) now c.args.self.now c.number.new.self (pairs_before ws (values_then vs []) old mid now left e)
     (leads_step g (number (2 * length vs + 1)) (pairs_then ws (values_then vs []) ++ old) c.args.self.now c.number.new.self (subst (λ j. WritesStep (number j) c.args.self.now c.number.new.self) count c.in_ok-number.ensures.ok))) c.push_pairs.ensures.left

@@ -1,6 +1,6 @@
 use Rattle.std.proofs.Common.{◌+◌, ◌*◌, length}
 use Rattle.amf3_spelling.specs.ByteSpelling.{number, raw}
-use Rattle.amf3_write.proofs.WroteParts.{wrote_two}
+use Rattle.amf3_write.proofs.WroteSegments.{wrote_two}
 use Rattle.amf3_write.proofs.output.Output.counted.Goals as goal
 
 pub returns-clause-ok : goal.returns-clause-ok

@@ -2,7 +2,7 @@ use Rattle.std.proofs.Common.{subst}
 use Rattle.std.specs.Int.{to_be_bytes, w64}
 use Rattle.amf3_spelling.specs.ByteSpelling.{byte, raw}
 use Rattle.amf3_write.specs.Writes.{WritesStep}
-use Rattle.amf3_write.proofs.WroteParts.{wrote_two}
+use Rattle.amf3_write.proofs.WroteSegments.{wrote_two}
 use Rattle.amf3_write.proofs.output.Output.double.Goals as goal
 
 pub returns-clause-ok : goal.returns-clause-ok

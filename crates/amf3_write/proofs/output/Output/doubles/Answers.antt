@@ -3,7 +3,7 @@ use Rattle.std.proofs.lemmas.List.{length-map}
 use Rattle.amf_wire.specs.declared.pattern.Pattern.{Pattern}
 use Rattle.amf3_spelling.specs.ByteSpelling.{step, number, flag, raw, eight_bytes}
 use Rattle.amf3_write.specs.Writes.{WritesSteps}
-use Rattle.amf3_write.proofs.WroteParts.{wrote_third, bits}
+use Rattle.amf3_write.proofs.WroteSegments.{wrote_third, bits}
 use Rattle.amf3_write.proofs.output.Output.doubles.Goals as goal
 
 pub returns-clause-ok : goal.returns-clause-ok

@@ -4,7 +4,7 @@ use Rattle.std.specs.Int.{to_be_bytes, w32, cast_unsigned}
 use Rattle.amf3_spelling.specs.ByteSpelling.{raw, signed_bytes}
 use Rattle.amf3_write.specs.Writes.{WritesStep}
 use Rattle.amf3_write.proofs.Wrote.{each_there}
-use Rattle.amf3_write.proofs.WroteParts.{wrote_more_raw, signed_more}
+use Rattle.amf3_write.proofs.WroteSegments.{wrote_more_raw, signed_more}
 use Rattle.amf3_write.proofs.output.Output.int_items.Goals as goal
 
 pub loop-int-preserved : goal.loop-int-preserved
@@ -17,7 +17,7 @@ loop-int-preserved c =
     record {
       written = wrote_more_raw (signed_bytes (take i xs)) (to_be_bytes w32 (cast_unsigned w32 (get_or xs i (pos 0)))) (signed_bytes (take (i + 1) xs)) c.args.self.now c.loop-int.self c.raw.new.self (signed_more xs i (pos 0) within) c.loop-int.invariant.written
           (subst (λ x. WritesStep (raw x) c.loop-int.self c.raw.new.self) (c.to_be_bytes.ensures ∙ ap (to_be_bytes w32) bits) c.in_ok-raw.ensures.ok);
-      kept = λ front h. c.in_ok-raw.ensures.kept front (c.loop-int.invariant.kept front h);
+      keeps = λ front h. c.in_ok-raw.ensures.keeps front (c.loop-int.invariant.keeps front h);
       tables = c.raw.ensures.tables ∙ c.loop-int.invariant.tables;
       known = c.raw.ensures.known ∙ c.loop-int.invariant.known;
     }

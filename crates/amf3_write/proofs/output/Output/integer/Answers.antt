@@ -3,7 +3,7 @@ use Rattle.std.proofs.lemmas.Int.{to_z-of_z}
 use Rattle.amf_wire.specs.Integer.{integer_bits}
 use Rattle.amf3_spelling.specs.ByteSpelling.{byte, number}
 use Rattle.amf3_write.specs.Writes.{WritesStep}
-use Rattle.amf3_write.proofs.WroteParts.{wrote_two, fits_wide}
+use Rattle.amf3_write.proofs.WroteSegments.{wrote_two, fits_wide}
 use Rattle.amf3_write.proofs.output.Output.integer.Goals as goal
 
 pub returns-clause-ok : goal.returns-clause-ok

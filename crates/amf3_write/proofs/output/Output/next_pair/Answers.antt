@@ -1,12 +1,12 @@
 use Rattle.std.proofs.Common.{◌≡◌, ◌++◌, ◌∷◌, [], ap, sym, subst, length, arith}
 use Rattle.amf_graph.specs.Arena.{text_at, value_content}
 use Rattle.amf_graph.specs.Rooted.{content}
-use Rattle.amf3_spelling.specs.ByteSpelling.{Part, step, value, word, pairs_then}
+use Rattle.amf3_spelling.specs.ByteSpelling.{Segment, step, value, word, pairs_then}
 use Rattle.amf_iso.specs.Contents.{pairs_of}
 use Rattle.amf3_write.specs.declared.unwritten.Unwritten.TheVariants.{Pairs}
-use Rattle.amf3_write.specs.Unwritten.{AreStoredPairs, parts_left}
+use Rattle.amf3_write.specs.Unwritten.{AreStoredPairs, segments_left}
 use Rattle.amf3_write.proofs.Leading.{leads_from, leads_to, leads_step}
-use Rattle.amf3_write.proofs.Runs.{parts_pushed, turns_pushed, runs_pushed}
+use Rattle.amf3_write.proofs.Runs.{segments_pushed, turns_pushed, runs_pushed}
 use Rattle.amf3_write.proofs.output.Output.next_pair.Goals as goal
 
 pub text_of-requires-clause-id : goal.text_of-requires-clause-id
@@ -20,11 +20,11 @@ returns-in_ok-push-in-Some-clause-leads c =
     let pair = c.in-Some.pair.now in
     let v = value (value_content a pair.1) in
     let name = text_at a pair.0.0 in
-    let rest : _ = pairs_then (pairs_of a c.in-Some.rest.now) [] ++ parts_left a old in
-    leads_from g (pairs_then (pairs_of a c.args.pairs.now) [] ++ parts_left a old) (step (word name) ∷ v ∷ rest) (v ∷ parts_left a c.push.new.self.items) c.args.self.now c.text_of.new.self
-    (ap (λ ps. pairs_then (pairs_of a ps) [] ++ parts_left a old) c.in-Some.ensures.cases.0)
-    (leads_to g (step (word name) ∷ v ∷ rest) (v ∷ rest) (v ∷ parts_left a c.push.new.self.items) c.args.self.now c.text_of.new.self
-    (ap (λ w. v ∷ w) (sym (parts_pushed a old c.push.new.self.items (Pairs c.in-Some.rest) c.in_ok-push-in-Some.ensures.items)))
+    let rest : _ = pairs_then (pairs_of a c.in-Some.rest.now) [] ++ segments_left a old in
+    leads_from g (pairs_then (pairs_of a c.args.pairs.now) [] ++ segments_left a old) (step (word name) ∷ v ∷ rest) (v ∷ segments_left a c.push.new.self.items) c.args.self.now c.text_of.new.self
+    (ap (λ ps. pairs_then (pairs_of a ps) [] ++ segments_left a old) c.in-Some.ensures.cases.0)
+    (leads_to g (step (word name) ∷ v ∷ rest) (v ∷ rest) (v ∷ segments_left a c.push.new.self.items) c.args.self.now c.text_of.new.self
+    (ap (λ w. v ∷ w) (sym (segments_pushed a old c.push.new.self.items (Pairs c.in-Some.rest) c.in_ok-push-in-Some.ensures.items)))
     (leads_step g (word name) (v ∷ rest) c.args.self.now c.text_of.new.self c.in_ok-text_of-in-Some.ensures.ok))
 
 pub returns-in_ok-push-in-Some-clause-runs : goal.returns-in_ok-push-in-Some-clause-runs

@@ -1,6 +1,6 @@
 use Rattle.std.proofs.Common.{◌++◌, ap, sym, ◌∙◌, subst}
 use Rattle.amf_graph.specs.Rooted.{content}
-use Rattle.amf3_write.specs.Unwritten.{IsRunOf, run_parts, next_parts, parts_left}
+use Rattle.amf3_write.specs.Unwritten.{IsRunOf, run_segments, next_segments, segments_left}
 use Rattle.amf3_write.proofs.Wrote.{if_ok}
 use Rattle.amf3_write.proofs.Leading.{leads_same}
 use Rattle.amf3_write.proofs.output.Output.next_value.Goals as goal
@@ -9,9 +9,9 @@ pub returns-in-Values-clause-leads : goal.returns-in-Values-clause-leads
 returns-in-Values-clause-leads c =
     let g = content c.args.graph.now in
     let a = c.args.graph.now.arena in
-    let old = parts_left a c.args.waiting.now.items in
+    let old = segments_left a c.args.waiting.now.items in
     if_ok c.next_item.result (λ next e.
-    leads_same g (run_parts a c.args.run ++ old) (next_parts a next ++ parts_left a c.next_item.new.waiting.items) c.args.self.now (ap (λ run. run_parts a run ++ old) c.in-Values.is ∙ sym e)) (c.next_item.ensures.left a)
+    leads_same g (run_segments a c.args.run ++ old) (next_segments a next ++ segments_left a c.next_item.new.waiting.items) c.args.self.now (ap (λ run. run_segments a run ++ old) c.in-Values.is ∙ sym e)) (c.next_item.ensures.left a)
 
 pub returns-in-Values-clause-runs : goal.returns-in-Values-clause-runs
 returns-in-Values-clause-runs c = λ k. let a = c.args.graph.now.arena in c.next_item.ensures.runs a (subst (λ run. IsRunOf a run) c.in-Values.is c.requires.run) k
@@ -20,9 +20,9 @@ pub returns-in-Entries-clause-leads : goal.returns-in-Entries-clause-leads
 returns-in-Entries-clause-leads c =
     let g = content c.args.graph.now in
     let a = c.args.graph.now.arena in
-    let old = parts_left a c.args.waiting.now.items in
+    let old = segments_left a c.args.waiting.now.items in
     if_ok c.next_key.result (λ next e.
-    leads_same g (run_parts a c.args.run ++ old) (next_parts a next ++ parts_left a c.next_key.new.waiting.items) c.args.self.now (ap (λ run. run_parts a run ++ old) c.in-Entries.is ∙ sym e)) (c.next_key.ensures.left a)
+    leads_same g (run_segments a c.args.run ++ old) (next_segments a next ++ segments_left a c.next_key.new.waiting.items) c.args.self.now (ap (λ run. run_segments a run ++ old) c.in-Entries.is ∙ sym e)) (c.next_key.ensures.left a)
 
 pub returns-in-Entries-clause-runs : goal.returns-in-Entries-clause-runs
 returns-in-Entries-clause-runs c = λ k. let a = c.args.graph.now.arena in c.next_key.ensures.runs a (subst (λ run. IsRunOf a run) c.in-Entries.is c.requires.run) k

@@ -5,13 +5,13 @@ use Rattle.amf_graph.specs.ByName.{by_name}
 use Rattle.amf_graph.specs.Graph.{object}
 use Rattle.amf_graph.specs.Rooted.{content}
 use Rattle.amf3_spelling.specs.Tables.{plain}
-use Rattle.amf3_spelling.specs.ByteSpelling.{Part, step, traits, values_then, pairs_then, layout}
+use Rattle.amf3_spelling.specs.ByteSpelling.{Segment, step, traits, values_then, pairs_then, segments_of}
 use Rattle.amf_iso.specs.Contents.{pairs_of, values_of}
 use Rattle.amf3_write.specs.declared.unwritten.Unwritten.TheVariants.{Values}
-use Rattle.amf3_write.specs.Unwritten.{parts_left, turns_left}
+use Rattle.amf3_write.specs.Unwritten.{segments_left, turns_left}
 use Rattle.amf3_write.specs.Writes.{Leads, WritesStep}
 use Rattle.amf3_write.proofs.Leading.{leads_to, leads_step}
-use Rattle.amf3_write.proofs.Runs.{parts_pushed, turns_pushed, values_before}
+use Rattle.amf3_write.proofs.Runs.{segments_pushed, turns_pushed, values_before}
 use Rattle.amf3_write.proofs.output.Output.object.Goals as goal
 use Rattle.amf3_write.proofs.output.Output.object.Goals.{then-class+in_ok-push_pairs, else-class}
 
@@ -23,17 +23,17 @@ returns-clause-leads c =
     let t = traits_content a (stored_traits v.class v.dynamic v.sealed.now) in
     let ws = by_name (pairs_of a c.args.members.now) in
     let vs = values_of a c.args.sealed.now in
-    let old = parts_left a c.args.waiting.now.items in
+    let old = segments_left a c.args.waiting.now.items in
     let members = cond v.dynamic (pairs_then ws []) [] in
-    let mid : parts_left a c.if-class.waiting.items ≡ members ++ old =
+    let mid : segments_left a c.if-class.waiting.items ≡ members ++ old =
     elim c.if-class.branch [
-      | then-class+in_ok-push_pairs w ↦ ap (λ z. parts_left a z.items) w.waiting-is ∙ w.in_ok-push_pairs.ensures.left ∙ ap (λ d. cond d (pairs_then ws []) [] ++ old) (sym w.if-class.true)
-      | else-class w ↦ ap (λ z. parts_left a z.items) w.waiting-is ∙ ap (λ d. cond d (pairs_then ws []) [] ++ old) (sym w.if-class.false)
+      | then-class+in_ok-push_pairs w ↦ ap (λ z. segments_left a z.items) w.waiting-is ∙ w.in_ok-push_pairs.ensures.left ∙ ap (λ d. cond d (pairs_then ws []) [] ++ old) (sym w.if-class.true)
+      | else-class w ↦ ap (λ z. segments_left a z.items) w.waiting-is ∙ ap (λ d. cond d (pairs_then ws []) [] ++ old) (sym w.if-class.false)
     ] in
-    let now = parts_left a c.push.new.self.items in
-    let left = parts_pushed a c.if-class.waiting.items c.push.new.self.items (Values c.args.sealed) c.in_ok-push.ensures.items in
-    subst (λ (x : StoredTraits). Leads g (layout (object (traits_content a x)) ws vs ++ old) now c.args.self.now c.traits.new.self) (sym c.traits-class.ensures)
-    (leads_to g (step (traits (plain t)) ∷ (values_then vs members ++ old)) (values_then vs members ++ old) now c.args.self.now c.traits.new.self (values_before vs members old (parts_left a c.if-class.waiting.items) now mid left)
+    let now = segments_left a c.push.new.self.items in
+    let left = segments_pushed a c.if-class.waiting.items c.push.new.self.items (Values c.args.sealed) c.in_ok-push.ensures.items in
+    subst (λ (x : StoredTraits). Leads g (segments_of (object (traits_content a x)) ws vs ++ old) now c.args.self.now c.traits.new.self) (sym c.traits-class.ensures)
+    (leads_to g (step (traits (plain t)) ∷ (values_then vs members ++ old)) (values_then vs members ++ old) now c.args.self.now c.traits.new.self (values_before vs members old (segments_left a c.if-class.waiting.items) now mid left)
     (leads_step g (traits (plain t)) (values_then vs members ++ old) c.args.self.now c.traits.new.self
     (subst (λ (x : StoredTraits). WritesStep (traits (plain (traits_content a x))) c.args.self.now c.traits.new.self) c.traits-class.ensures c.in_ok-traits.ensures.ok)))
 

@@ -7,14 +7,14 @@ use Rattle.amf_graph.specs.Graph.{Node}
 use Rattle.amf_graph.specs.Rooted.{content}
 use Rattle.amf_graph.specs.Views.{flat}
 use Rattle.amf3_spelling.specs.Tables.{external}
-use Rattle.amf3_spelling.specs.ByteSpelling.{Part, step, value, number, flag, raw, word, unused, traits, values_then, signed_bytes, four_bytes, eight_bytes}
+use Rattle.amf3_spelling.specs.ByteSpelling.{Segment, step, value, number, flag, raw, word, unused, traits, values_then, signed_bytes, four_bytes, eight_bytes}
 use Rattle.amf_iso.specs.Contents.{values_of}
 use Rattle.amf3_write.specs.declared.unwritten.Unwritten.TheVariants.{One, Values, Entries}
-use Rattle.amf3_write.specs.Contents.{node_parts}
-use Rattle.amf3_write.specs.Unwritten.{parts_left}
+use Rattle.amf3_write.specs.Contents.{node_segments}
+use Rattle.amf3_write.specs.Unwritten.{segments_left}
 use Rattle.amf3_write.specs.Writes.{WritesSteps, Leads}
 use Rattle.amf3_write.proofs.Leading.{leads_then, leads_to, leads_step, leads_steps}
-use Rattle.amf3_write.proofs.Runs.{parts_pushed, turns_pushed, flat_length}
+use Rattle.amf3_write.proofs.Runs.{segments_pushed, turns_pushed, flat_length}
 use Rattle.amf3_write.proofs.WroteNodes.{shown, node_within}
 use Rattle.amf3_write.proofs.output.Output.open.Goals as goal
 
@@ -22,11 +22,11 @@ pub returns-in_ok-counted-in-XmlDocument-clause-leads : goal.returns-in_ok-count
 returns-in_ok-counted-in-XmlDocument-clause-leads c =
     let g = content c.args.graph.now in
     let a = c.args.graph.now.arena in
-    let old = parts_left a c.args.waiting.now.items in
+    let old = segments_left a c.args.waiting.now.items in
     let o = c.args.self.now in
     let n = c.counted.new.self in
     let s = c.in-XmlDocument.ensures in
-    subst (λ (x : Node). Leads g (node_parts x ++ old) old o n) (sym (shown a c.args.graph.now.root c.args.node.0 _ s.1))
+    subst (λ (x : Node). Leads g (node_segments x ++ old) old o n) (sym (shown a c.args.graph.now.root c.args.node.0 _ s.1))
     (subst (λ (x : List ℕ). Leads g (step (number (2 * length x + 1)) ∷ step (raw x) ∷ old) old o n) s.2
     (leads_steps g (step (number (2 * length c.in-XmlDocument.text.now + 1)) ∷ step (raw c.in-XmlDocument.text.now) ∷ []) old o n c.in_ok-counted-in-XmlDocument.ensures.ok))
 
@@ -34,11 +34,11 @@ pub returns-in_ok-counted-in-Xml-clause-leads : goal.returns-in_ok-counted-in-Xm
 returns-in_ok-counted-in-Xml-clause-leads c =
     let g = content c.args.graph.now in
     let a = c.args.graph.now.arena in
-    let old = parts_left a c.args.waiting.now.items in
+    let old = segments_left a c.args.waiting.now.items in
     let o = c.args.self.now in
     let n = c.counted-in-Xml.new.self in
     let s = c.in-Xml.ensures in
-    subst (λ (x : Node). Leads g (node_parts x ++ old) old o n) (sym (shown a c.args.graph.now.root c.args.node.0 _ s.1))
+    subst (λ (x : Node). Leads g (node_segments x ++ old) old o n) (sym (shown a c.args.graph.now.root c.args.node.0 _ s.1))
     (subst (λ (x : List ℕ). Leads g (step (number (2 * length x + 1)) ∷ step (raw x) ∷ old) old o n) s.2
     (leads_steps g (step (number (2 * length c.in-Xml.text.now + 1)) ∷ step (raw c.in-Xml.text.now) ∷ []) old o n c.in_ok-counted-in-Xml.ensures.ok))
 
@@ -46,56 +46,56 @@ pub returns-in_ok-counted-in-Bytes-clause-leads : goal.returns-in_ok-counted-in-
 returns-in_ok-counted-in-Bytes-clause-leads c =
     let g = content c.args.graph.now in
     let a = c.args.graph.now.arena in
-    let old = parts_left a c.args.waiting.now.items in
+    let old = segments_left a c.args.waiting.now.items in
     let x = c.in-Bytes.bytes.now in
-    subst (λ (z : Node). Leads g (node_parts z ++ old) old c.args.self.now c.counted-in-Bytes.new.self) (sym (shown a c.args.graph.now.root c.args.node.0 _ c.in-Bytes.ensures))
+    subst (λ (z : Node). Leads g (node_segments z ++ old) old c.args.self.now c.counted-in-Bytes.new.self) (sym (shown a c.args.graph.now.root c.args.node.0 _ c.in-Bytes.ensures))
     (leads_steps g (step (number (2 * length x + 1)) ∷ step (raw x) ∷ []) old c.args.self.now c.counted-in-Bytes.new.self c.in_ok-counted-in-Bytes.ensures.ok)
 
 pub returns-in_ok-date-in-Date-clause-leads : goal.returns-in_ok-date-in-Date-clause-leads
 returns-in_ok-date-in-Date-clause-leads c =
     let g = content c.args.graph.now in
     let a = c.args.graph.now.arena in
-    let old = parts_left a c.args.waiting.now.items in
-    subst (λ (z : Node). Leads g (node_parts z ++ old) old c.args.self.now c.date.new.self) (sym (shown a c.args.graph.now.root c.args.node.0 _ c.in-Date.ensures))
+    let old = segments_left a c.args.waiting.now.items in
+    subst (λ (z : Node). Leads g (node_segments z ++ old) old c.args.self.now c.date.new.self) (sym (shown a c.args.graph.now.root c.args.node.0 _ c.in-Date.ensures))
     (leads_steps g (step unused ∷ step (raw (to_be_bytes w64 c.in-Date.milliseconds.0)) ∷ []) old c.args.self.now c.date.new.self c.in_ok-date-in-Date.ensures.ok)
 
 pub returns-in_ok-ints-in-Ints-clause-leads : goal.returns-in_ok-ints-in-Ints-clause-leads
 returns-in_ok-ints-in-Ints-clause-leads c =
     let g = content c.args.graph.now in
     let a = c.args.graph.now.arena in
-    let old = parts_left a c.args.waiting.now.items in
+    let old = segments_left a c.args.waiting.now.items in
     let x = c.in-Ints.items.now in
-    subst (λ (z : Node). Leads g (node_parts z ++ old) old c.args.self.now c.ints.new.self) (sym (shown a c.args.graph.now.root c.args.node.0 _ c.in-Ints.ensures))
+    subst (λ (z : Node). Leads g (node_segments z ++ old) old c.args.self.now c.ints.new.self) (sym (shown a c.args.graph.now.root c.args.node.0 _ c.in-Ints.ensures))
     (leads_steps g (step (number (2 * length x + 1)) ∷ step (flag c.in-Ints.fixed) ∷ step (raw (signed_bytes x)) ∷ []) old c.args.self.now c.ints.new.self c.in_ok-ints-in-Ints.ensures.ok)
 
 pub returns-in_ok-uints-in-Uints-clause-leads : goal.returns-in_ok-uints-in-Uints-clause-leads
 returns-in_ok-uints-in-Uints-clause-leads c =
     let g = content c.args.graph.now in
     let a = c.args.graph.now.arena in
-    let old = parts_left a c.args.waiting.now.items in
+    let old = segments_left a c.args.waiting.now.items in
     let x = c.in-Uints.items.now in
-    subst (λ (z : Node). Leads g (node_parts z ++ old) old c.args.self.now c.uints.new.self) (sym (shown a c.args.graph.now.root c.args.node.0 _ c.in-Uints.ensures))
+    subst (λ (z : Node). Leads g (node_segments z ++ old) old c.args.self.now c.uints.new.self) (sym (shown a c.args.graph.now.root c.args.node.0 _ c.in-Uints.ensures))
     (leads_steps g (step (number (2 * length x + 1)) ∷ step (flag c.in-Uints.fixed) ∷ step (raw (four_bytes x)) ∷ []) old c.args.self.now c.uints.new.self c.in_ok-uints-in-Uints.ensures.ok)
 
 pub returns-in_ok-doubles-in-Doubles-clause-leads : goal.returns-in_ok-doubles-in-Doubles-clause-leads
 returns-in_ok-doubles-in-Doubles-clause-leads c =
     let g = content c.args.graph.now in
     let a = c.args.graph.now.arena in
-    let old = parts_left a c.args.waiting.now.items in
+    let old = segments_left a c.args.waiting.now.items in
     let x = map (λ p. p.0) c.in-Doubles.items.now in
-    subst (λ (z : Node). Leads g (node_parts z ++ old) old c.args.self.now c.doubles.new.self) (sym (shown a c.args.graph.now.root c.args.node.0 _ c.in-Doubles.ensures))
+    subst (λ (z : Node). Leads g (node_segments z ++ old) old c.args.self.now c.doubles.new.self) (sym (shown a c.args.graph.now.root c.args.node.0 _ c.in-Doubles.ensures))
     (leads_steps g (step (number (2 * length x + 1)) ∷ step (flag c.in-Doubles.fixed) ∷ step (raw (eight_bytes x)) ∷ []) old c.args.self.now c.doubles.new.self c.in_ok-doubles-in-Doubles.ensures.ok)
 
 pub returns-in_ok-push-in-Wrapper-clause-leads : goal.returns-in_ok-push-in-Wrapper-clause-leads
 returns-in_ok-push-in-Wrapper-clause-leads c =
     let g = content c.args.graph.now in
     let a = c.args.graph.now.arena in
-    let old = parts_left a c.args.waiting.now.items in
-    let now = parts_left a c.push.new.self.items in
+    let old = segments_left a c.args.waiting.now.items in
+    let now = segments_left a c.push.new.self.items in
     let v = value (value_content a c.in-Wrapper.value) in
     let x = traits (external c.in-Wrapper.class) in
-    subst (λ (z : Node). Leads g (node_parts z ++ old) now c.args.self.now c.wrapper.new.self) (sym (shown a c.args.graph.now.root c.args.node.0 _ c.in-Wrapper.ensures))
-    (leads_to g (step x ∷ v ∷ old) (v ∷ old) now c.args.self.now c.wrapper.new.self (sym (parts_pushed a c.args.waiting.now.items c.push.new.self.items (One c.in-Wrapper.value) c.in_ok-push-in-Wrapper.ensures.items))
+    subst (λ (z : Node). Leads g (node_segments z ++ old) now c.args.self.now c.wrapper.new.self) (sym (shown a c.args.graph.now.root c.args.node.0 _ c.in-Wrapper.ensures))
+    (leads_to g (step x ∷ v ∷ old) (v ∷ old) now c.args.self.now c.wrapper.new.self (sym (segments_pushed a c.args.waiting.now.items c.push.new.self.items (One c.in-Wrapper.value) c.in_ok-push-in-Wrapper.ensures.items))
     (leads_step g x (v ∷ old) c.args.self.now c.wrapper.new.self c.in_ok-wrapper-in-Wrapper.ensures.ok))
 
 pub returns-in_ok-push-in-Wrapper-clause-turns : goal.returns-in_ok-push-in-Wrapper-clause-turns
@@ -105,8 +105,8 @@ pub returns-in_ok-push-in-Values-clause-leads : goal.returns-in_ok-push-in-Value
 returns-in_ok-push-in-Values-clause-leads c =
     let g = content c.args.graph.now in
     let a = c.args.graph.now.arena in
-    let old = parts_left a c.args.waiting.now.items in
-    let now = parts_left a c.push-in-Values.new.self.items in
+    let old = segments_left a c.args.waiting.now.items in
+    let now = segments_left a c.push-in-Values.new.self.items in
     let o = c.args.self.now in
     let m = c.vector.new.self in
     let n = c.text_of.new.self in
@@ -114,8 +114,8 @@ returns-in_ok-push-in-Values-clause-leads c =
     let x = word (text_at a c.in-Values.of.0) in
     let head = step (number (2 * length vs + 1)) ∷ step (flag c.in-Values.fixed) ∷ [] in
     let count = sym (length-map c.in-Values.items.now (value_content a)) in
-    subst (λ (z : Node). Leads g (node_parts z ++ old) now o n) (sym (shown a c.args.graph.now.root c.args.node.0 _ c.in-Values.ensures))
-    (leads_to g (head ++ step x ∷ (values_then vs [] ++ old)) (values_then vs [] ++ old) now o n (sym (parts_pushed a c.args.waiting.now.items c.push-in-Values.new.self.items (Values c.in-Values.items) c.in_ok-push-in-Values.ensures.items))
+    subst (λ (z : Node). Leads g (node_segments z ++ old) now o n) (sym (shown a c.args.graph.now.root c.args.node.0 _ c.in-Values.ensures))
+    (leads_to g (head ++ step x ∷ (values_then vs [] ++ old)) (values_then vs [] ++ old) now o n (sym (segments_pushed a c.args.waiting.now.items c.push-in-Values.new.self.items (Values c.in-Values.items) c.in_ok-push-in-Values.ensures.items))
     (leads_then g (head ++ step x ∷ (values_then vs [] ++ old)) (step x ∷ (values_then vs [] ++ old)) (values_then vs [] ++ old) o m n
     (leads_steps g head (step x ∷ (values_then vs [] ++ old)) o m (subst (λ k. WritesSteps (step (number (2 * k + 1)) ∷ step (flag c.in-Values.fixed) ∷ []) o m) count c.in_ok-vector-in-Values.ensures.ok))
     (leads_step g x (values_then vs [] ++ old) m n c.in_ok-text_of-in-Values.ensures.ok)))
@@ -134,16 +134,16 @@ pub returns-in_ok-push-in-Dictionary-clause-leads : goal.returns-in_ok-push-in-D
 returns-in_ok-push-in-Dictionary-clause-leads c =
     let g = content c.args.graph.now in
     let a = c.args.graph.now.arena in
-    let old = parts_left a c.args.waiting.now.items in
-    let now = parts_left a c.push-in-Dictionary.new.self.items in
+    let old = segments_left a c.args.waiting.now.items in
+    let now = segments_left a c.push-in-Dictionary.new.self.items in
     let o = c.args.self.now in
     let m = c.vector-in-Dictionary.new.self in
     let es = c.in-Dictionary.entries.now in
     let vs = values_of a (flat es) in
     let head = step (number (length vs + 1)) ∷ step (flag c.in-Dictionary.weak) ∷ [] in
     let count : 2 * length es + 1 ≡ length vs + 1 = ap (λ k. k + 1) (sym (length-map (flat es) (value_content a) ∙ flat_length es)) in
-    subst (λ (z : Node). Leads g (node_parts z ++ old) now o m) (sym (shown a c.args.graph.now.root c.args.node.0 _ c.in-Dictionary.ensures))
-    (leads_to g (head ++ (values_then vs [] ++ old)) (values_then vs [] ++ old) now o m (sym (parts_pushed a c.args.waiting.now.items c.push-in-Dictionary.new.self.items (Entries c.in-Dictionary.entries) c.in_ok-push-in-Dictionary.ensures.items))
+    subst (λ (z : Node). Leads g (node_segments z ++ old) now o m) (sym (shown a c.args.graph.now.root c.args.node.0 _ c.in-Dictionary.ensures))
+    (leads_to g (head ++ (values_then vs [] ++ old)) (values_then vs [] ++ old) now o m (sym (segments_pushed a c.args.waiting.now.items c.push-in-Dictionary.new.self.items (Entries c.in-Dictionary.entries) c.in_ok-push-in-Dictionary.ensures.items))
     (leads_steps g head (values_then vs [] ++ old) o m (subst (λ k. WritesSteps (step (number k) ∷ step (flag c.in-Dictionary.weak) ∷ []) o m) count c.in_ok-vector-in-Dictionary.ensures.ok)))
 
 pub returns-in_ok-push-in-Dictionary-clause-turns : goal.returns-in_ok-push-in-Dictionary-clause-turns

@@ -17,6 +17,6 @@ loop-text-preserved c =
     record {
       written = subst (λ xs. WritesTexts xs c.args.self.now c.text_of.new.self) (sym (texts_more a c.args.texts.now i (record { 0 = 0 }) within))
           (wrote_more_text (texts_at a (take i c.args.texts.now)) (text_at a (get_or c.args.texts.now i (record { 0 = 0 })).0) c.args.self.now c.loop-text.self c.text_of.new.self c.loop-text.invariant.written c.in_ok-text_of.ensures.ok);
-      kept = λ front h. c.in_ok-text_of.ensures.kept front (c.loop-text.invariant.kept front h);
+      keeps = λ front h. c.in_ok-text_of.ensures.keeps front (c.loop-text.invariant.keeps front h);
       ready = c.in_ok-text_of.ensures.ready;
     }

@@ -6,6 +6,6 @@ use Rattle.amf3_write.proofs.output.Output.texts_of.Given as goal
 abbrev pub invariant-loop-text : goal.invariant-loop-text
 invariant-loop-text l = record {
   written : WritesTexts (texts_at l.graph.arena (take l.text-index l.texts)) l.initial.self l.self;
-  kept : Keeps l.initial.self l.self;
+  keeps : Keeps l.initial.self l.self;
   ready : IsReady l.graph.arena l.self.tables l.self.known;
 }

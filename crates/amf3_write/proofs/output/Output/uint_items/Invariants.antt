@@ -6,7 +6,7 @@ use Rattle.amf3_write.proofs.output.Output.uint_items.Given as goal
 abbrev pub invariant-loop-uint : goal.invariant-loop-uint
 invariant-loop-uint l = record {
   written : WritesStep (raw (four_bytes (take l.uint-index l.items))) l.initial.self l.self;
-  kept : Keeps l.initial.self l.self;
+  keeps : Keeps l.initial.self l.self;
   tables : l.self.tables ≡ l.initial.self.tables;
   known : l.self.known ≡ l.initial.self.known;
 }

@@ -1,6 +1,6 @@
 use Rattle.std.proofs.Common.{◌+◌, ◌*◌, length}
 use Rattle.amf3_spelling.specs.ByteSpelling.{number, flag, raw, four_bytes}
-use Rattle.amf3_write.proofs.WroteParts.{wrote_third}
+use Rattle.amf3_write.proofs.WroteSegments.{wrote_third}
 use Rattle.amf3_write.proofs.output.Output.uints.Goals as goal
 
 pub returns-clause-ok : goal.returns-clause-ok

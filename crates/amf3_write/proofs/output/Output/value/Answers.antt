@@ -3,12 +3,12 @@ use Rattle.std.proofs.lemmas.List.{append-nil, nil_from_length}
 use Rattle.amf_graph.specs.Arena.{value_content}
 use Rattle.amf_graph.specs.Rooted.{content}
 use Rattle.amf3_spelling.specs.ByteSpelling.{value}
-use Rattle.amf3_write.specs.Unwritten.{IsRunOf, IsNextOf, next_parts, parts_left}
+use Rattle.amf3_write.specs.Unwritten.{IsRunOf, IsNextOf, next_segments, segments_left}
 use Rattle.amf3_write.specs.Writes.{Leads}
 use Rattle.amf3_write.proofs.FoundSteps.{rest_of, top_of}
 use Rattle.amf3_write.proofs.Leading.{leads_then, leads_to, stops_behind, written_value}
 use Rattle.amf3_write.proofs.Runs.{turns_pushed, turned}
-use Rattle.amf3_write.proofs.Turns.{kept_less, falls_less}
+use Rattle.amf3_write.proofs.Turns.{keeps_less, falls_less}
 use Rattle.amf3_write.proofs.WroteNodes.{same_end}
 use Rattle.amf3_write.proofs.output.Output.value.Goals as goal
 
@@ -35,9 +35,9 @@ returns-in_err-begin-clause-lack c = λ l e.
     let a = c.args.graph.now.arena in
     let whole = value (value_content a c.args.value) ∷ [] in
     let left = c.next_value.new.waiting.items in
-    let now = value (value_content a c.in-Some-next.value) ∷ parts_left a left in
+    let now = value (value_content a c.in-Some-next.value) ∷ segments_left a left in
     let before = turned g a whole c.pop.new.self.items c.loop-top.waiting.items left c.in-Some.top c.in_ok-next.next c.args.self.now c.loop-top.self c.next_value.new.self c.in-Some.ensures.items c.loop-top.invariant.leads c.in_ok-next.ensures.leads in
-    let begun = subst (λ next. Leads g whole (next_parts a next ++ parts_left a left) c.args.self.now c.next_value.new.self) c.in-Some-next.is before in
+    let begun = subst (λ next. Leads g whole (next_segments a next ++ segments_left a left) c.args.self.now c.next_value.new.self) c.in-Some-next.is before in
     stops_behind g whole now c.args.self.now c.next_value.new.self l begun (c.in_err-begin.ensures.lack l (same_end c.from_residual-in_err-begin.result c.in_err-begin.field-0.0 l c.from_residual-in_err-begin.ensures.1 e))
 
 pub loop-top-preserved-in-Continue-branch-3 : goal.loop-top-preserved-in-Continue-branch-3
@@ -46,22 +46,22 @@ loop-top-preserved-in-Continue-branch-3 c =
     let a = c.args.graph.now.arena in
     let whole = value (value_content a c.args.value) ∷ [] in
     let left = c.next_value.new.waiting.items in
-    let now = value (value_content a c.in-Some-next.value) ∷ parts_left a left in
+    let now = value (value_content a c.in-Some-next.value) ∷ segments_left a left in
     let before = turned g a whole c.pop.new.self.items c.loop-top.waiting.items left c.in-Some.top c.in_ok-next.next c.args.self.now c.loop-top.self c.next_value.new.self c.in-Some.ensures.items c.loop-top.invariant.leads c.in_ok-next.ensures.leads in
-    let begun = subst (λ next. Leads g whole (next_parts a next ++ parts_left a left) c.args.self.now c.next_value.new.self) c.in-Some-next.is before in
+    let begun = subst (λ next. Leads g whole (next_segments a next ++ segments_left a left) c.args.self.now c.next_value.new.self) c.in-Some-next.is before in
     record {
-      leads = leads_then g whole now (parts_left a c.begin.new.waiting.items) c.args.self.now c.next_value.new.self c.begin.new.self begun c.in_ok-begin.ensures.leads;
+      leads = leads_then g whole now (segments_left a c.begin.new.waiting.items) c.args.self.now c.next_value.new.self c.begin.new.self begun c.in_ok-begin.ensures.leads;
       runs = c.in_ok-begin.ensures.runs;
       ready = c.in_ok-begin.ensures.ready;
-      kept = λ front h. c.in_ok-begin.ensures.kept front (c.in_ok-next.ensures.kept front (c.loop-top.invariant.kept front h));
+      keeps = λ front h. c.in_ok-begin.ensures.keeps front (c.in_ok-next.ensures.keeps front (c.loop-top.invariant.keeps front h));
     }
 
 pub loop-top-smaller-in-Continue-branch-3 : goal.loop-top-smaller-in-Continue-branch-3
 loop-top-smaller-in-Continue-branch-3 c =
     let n = length c.args.graph.now.arena.nodes in
     let top = turns_pushed c.pop.new.self.items c.loop-top.waiting.items c.in-Some.top c.in-Some.ensures.items in
-    let kept = kept_less n c.loop-top.self c.next_value.new.self c.in_ok-next.ensures.kept in
-    let falls = falls_less n c.next_value.new.self c.begin.new.self _ _ c.in_ok-begin.ensures.kept c.in_ok-begin.ensures.falls in
+    let kept = keeps_less n c.loop-top.self c.next_value.new.self c.in_ok-next.ensures.keeps in
+    let falls = falls_less n c.next_value.new.self c.begin.new.self _ _ c.in_ok-begin.ensures.keeps c.in_ok-begin.ensures.falls in
     omega (arith, top, kept, falls, c.in_ok-next.ensures.turns)
 
 pub loop-top-preserved : goal.loop-top-preserved
@@ -73,17 +73,17 @@ loop-top-preserved c =
     let left = c.next_value.new.waiting.items in
     let before = turned g a whole c.pop.new.self.items c.loop-top.waiting.items left c.in-Some.top c.in_ok-next.next c.args.self.now c.loop-top.self c.next_value.new.self c.in-Some.ensures.items c.loop-top.invariant.leads c.in_ok-next.ensures.leads in
     record {
-      leads = subst (λ next. Leads g whole (next_parts a next ++ parts_left a left) c.args.self.now c.next_value.new.self) c.in_default-next.is before;
+      leads = subst (λ next. Leads g whole (next_segments a next ++ segments_left a left) c.args.self.now c.next_value.new.self) c.in_default-next.is before;
       runs = (c.in_ok-next.ensures.runs rest).1;
       ready = c.in_ok-next.ensures.ready;
-      kept = λ front h. c.in_ok-next.ensures.kept front (c.loop-top.invariant.kept front h);
+      keeps = λ front h. c.in_ok-next.ensures.keeps front (c.loop-top.invariant.keeps front h);
     }
 
 pub loop-top-smaller : goal.loop-top-smaller
 loop-top-smaller c =
     let n = length c.args.graph.now.arena.nodes in
     let top = turns_pushed c.pop.new.self.items c.loop-top.waiting.items c.in-Some.top c.in-Some.ensures.items in
-    let kept = kept_less n c.loop-top.self c.next_value.new.self c.in_ok-next.ensures.kept in
+    let kept = keeps_less n c.loop-top.self c.next_value.new.self c.in_ok-next.ensures.keeps in
     omega (arith, top, kept, c.in_ok-next.ensures.turns)
 
 pub returns-clause-ok : goal.returns-clause-ok
@@ -93,4 +93,4 @@ returns-clause-ok c =
     let v = value_content a c.args.value in
     let none : c.pop.new.self.items ≡ [] = nil_from_length c.pop.new.self.items (sym c.pop.new.self.ok.0 ∙ c.in_default.ensures.cases.1) in
     let empty : c.loop-top.waiting.items ≡ [] = c.in_default.ensures.items ∙ append-nil c.pop.new.self.items ∙ none in
-    written_value g v c.args.self.now c.loop-top.self (leads_to g (value v ∷ []) (parts_left a c.loop-top.waiting.items) [] c.args.self.now c.loop-top.self (ap (parts_left a) empty) c.loop-top.invariant.leads)
+    written_value g v c.args.self.now c.loop-top.self (leads_to g (value v ∷ []) (segments_left a c.loop-top.waiting.items) [] c.args.self.now c.loop-top.self (ap (segments_left a) empty) c.loop-top.invariant.leads)

@@ -3,16 +3,16 @@ use Rattle.amf_graph.specs.Arena.{value_content}
 use Rattle.amf_graph.specs.Rooted.{content}
 use Rattle.amf_graph.proofs.Counting.{missing}
 use Rattle.amf3_spelling.specs.ByteSpelling.{value}
-use Rattle.amf3_write.specs.Unwritten.{AreRunsOf, parts_left, turns_left}
+use Rattle.amf3_write.specs.Unwritten.{AreRunsOf, segments_left, turns_left}
 use Rattle.amf3_write.specs.Writes.{Leads, Keeps, IsReady}
 use Rattle.amf3_write.proofs.output.Output.value.Given as goal
 
 abbrev pub invariant-loop-top : goal.invariant-loop-top
 invariant-loop-top l = record {
-  leads : Leads (content l.graph) (value (value_content l.graph.arena l.fn.value) ∷ []) (parts_left l.graph.arena l.waiting.items) l.initial.self l.self;
+  leads : Leads (content l.graph) (value (value_content l.graph.arena l.fn.value) ∷ []) (segments_left l.graph.arena l.waiting.items) l.initial.self l.self;
   runs : AreRunsOf l.graph.arena l.waiting.items;
   ready : IsReady l.graph.arena l.self.tables l.self.known;
-  kept : Keeps l.initial.self l.self;
+  keeps : Keeps l.initial.self l.self;
 }
 
 abbrev pub decreases-loop-top : goal.decreases-loop-top

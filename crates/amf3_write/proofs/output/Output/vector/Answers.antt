@@ -1,6 +1,6 @@
 use Rattle.std.proofs.Common.{◌+◌, ◌*◌}
 use Rattle.amf3_spelling.specs.ByteSpelling.{number, flag}
-use Rattle.amf3_write.proofs.WroteParts.{wrote_two}
+use Rattle.amf3_write.proofs.WroteSegments.{wrote_two}
 use Rattle.amf3_write.proofs.output.Output.vector.Goals as goal
 
 pub returns-clause-ok : goal.returns-clause-ok

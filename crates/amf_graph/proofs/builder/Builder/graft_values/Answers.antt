@@ -2,7 +2,7 @@
 use Rattle.std.proofs.Common.{subst}
 use Rattle.amf_graph.specs.Arena.{Arena}
 use Rattle.amf_graph.specs.Grafting.{Grafted, IsTooMuch}
-use Rattle.amf_graph.proofs.GraftMade.{grafted_made, copies_count, copies_names, kept_built, kept_within}
+use Rattle.amf_graph.proofs.GraftMade.{grafted_made, copies_count, copies_names, keeps_built, keeps_within}
 use Rattle.amf_graph.proofs.CutSizes.{not_too_much}
 use Rattle.amf_graph.proofs.builder.Builder.graft_values.Goals as goal
 
@@ -13,8 +13,8 @@ invariant_of-self-2 c =
     let copying = c.in_ok-copying.copying in
     let old = c.self.inside.store in
     let f = c.is_finished.ensures in (
-      kept_built a vs old c.append.new.self c.in_ok-copies-2.field-0 c.in_ok-copies.copies.items copying c.in_ok-copying.ensures.exact c.in_ok-copying.ensures.behind c.in_ok-copies-2.ensures c.in_ok-append.ensures.ok c.in_ok-copies.ensures f.finished f.bounds c.requires c.self.invariant.0 c.self.invariant.1 c.is_too_much.result c.is_too_much.ensures c.if-is_too_much.false,
-      kept_within a vs old c.append.new.self c.in_ok-copies-2.field-0 c.in_ok-copies.copies.items copying c.in_ok-copying.ensures.exact c.in_ok-copying.ensures.behind c.in_ok-copies-2.ensures c.in_ok-append.ensures.ok c.in_ok-copies.ensures f.finished f.bounds c.requires c.self.invariant.0 c.self.invariant.1 c.is_too_much.result c.is_too_much.ensures c.if-is_too_much.false,
+      keeps_built a vs old c.append.new.self c.in_ok-copies-2.field-0 c.in_ok-copies.copies.items copying c.in_ok-copying.ensures.exact c.in_ok-copying.ensures.behind c.in_ok-copies-2.ensures c.in_ok-append.ensures.ok c.in_ok-copies.ensures f.finished f.bounds c.requires c.self.invariant.0 c.self.invariant.1 c.is_too_much.result c.is_too_much.ensures c.if-is_too_much.false,
+      keeps_within a vs old c.append.new.self c.in_ok-copies-2.field-0 c.in_ok-copies.copies.items copying c.in_ok-copying.ensures.exact c.in_ok-copying.ensures.behind c.in_ok-copies-2.ensures c.in_ok-append.ensures.ok c.in_ok-copies.ensures f.finished f.bounds c.requires c.self.invariant.0 c.self.invariant.1 c.is_too_much.result c.is_too_much.ensures c.if-is_too_much.false,
     )
 
 pub returns-clause-ok : goal.returns-clause-ok

@@ -3,7 +3,7 @@ use Rattle.std.proofs.Common.{◌≡◌, ◌<◌, ◌++◌, ◌∷◌, [], lengt
 use Rattle.std.proofs.lemmas.Option.{slice_get_read}
 use Rattle.std.proofs.lemmas.List.{length-set}
 use Rattle.amf_graph.specs.Gather.{ArePlaces, placed, with_entry}
-use Rattle.amf_graph.proofs.Placing.{few_placed, entry_kept, entry_new, places_push, some_is, none_is}
+use Rattle.amf_graph.proofs.Placing.{few_placed, entry_stays, entry_new, places_push, some_is, none_is}
 use Rattle.amf_graph.proofs.number_set.NumberSet.add.Goals as goal
 
 unplaced : (c : goal.After-self-1) → slice_get c.self.inside.places.items c.args.item ≡ Some None
@@ -31,4 +31,4 @@ returns-else-is_none-clause-ok c =
     let s = some_is c.index.result.now c.if-is_none.ensures in
     let l : c.args.item < length c.self.inside.places.items = subst (λ w. c.args.item < w.count) (sym c.self.view_is) c.requires in
     let read : slice_get c.self.inside.places.items c.args.item ≡ Some (Some s.0) = slice_get_read c.self.inside.places.items (length c.self.inside.places.items) c.args.item c.index.result.now refl l c.index.ensures ∙ ap (λ w. Some w) s.1 in
-    rw (← c.self.view_is) (ap (λ w. placed (length c.self.inside.places.items) w) (sym (entry_kept s.0 c.args.item c.self.inside.items.items c.self.inside.places.items c.self.invariant read)))
+    rw (← c.self.view_is) (ap (λ w. placed (length c.self.inside.places.items) w) (sym (entry_stays s.0 c.args.item c.self.inside.items.items c.self.inside.places.items c.self.invariant read)))

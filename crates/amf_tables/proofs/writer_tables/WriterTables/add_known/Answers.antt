@@ -3,7 +3,7 @@ use Rattle.amf_graph.specs.Arena.{text_at}
 use Rattle.amf3_spelling.specs.Tables.{Tables}
 use Rattle.amf_tables.specs.KnownPlaces.{AreKnown}
 use Rattle.amf_tables.specs.ShownTraits.{shown_entry}
-use Rattle.amf_tables.proofs.WrittenEntries.{written_pushed, entry_added, entries_kept}
+use Rattle.amf_tables.proofs.WrittenEntries.{written_pushed, entry_added, entries_as_before}
 use Rattle.amf_tables.proofs.writer_tables.WriterTables.add_known.Goals as goal
 
 pub push-requires-clause-known : goal.push-requires-clause-known
@@ -16,4 +16,4 @@ pub returns-clause-ok : goal.returns-clause-ok
 returns-clause-ok c = entry_added c.push.result c.self.inside.texts c.self.inside.traits (shown_entry c.args.graph.now.arena c.args.traits.now) c.push.new.self c.self.inside.nodes c.args.self.now c.push.ensures.ok c.self.view_is
 
 pub returns-clause-err : goal.returns-clause-err
-returns-clause-err c = entries_kept c.push.result c.self.inside.texts c.self.inside.traits c.push.new.self c.self.inside.nodes c.args.self.now c.push.ensures.err c.self.view_is
+returns-clause-err c = entries_as_before c.push.result c.self.inside.texts c.self.inside.traits c.push.new.self c.self.inside.nodes c.args.self.now c.push.ensures.err c.self.view_is

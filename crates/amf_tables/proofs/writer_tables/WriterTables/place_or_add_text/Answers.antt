@@ -1,4 +1,4 @@
-use Rattle.amf_tables.proofs.WrittenEntries.{written_found, rest_found, text_kept}
+use Rattle.amf_tables.proofs.WrittenEntries.{written_found, rest_found, text_as_before}
 use Rattle.amf_tables.proofs.writer_tables.WriterTables.place_or_add_text.Goals as goal
 
 pub invariant_of-self : goal.invariant_of-self
@@ -11,4 +11,4 @@ pub returns-clause-rest : goal.returns-clause-rest
 returns-clause-rest c = rest_found c.place_or_push.result c.self.inside.texts c.args.bytes.now c.place_or_push.new.self c.self.inside.traits c.self.inside.nodes c.args.self.now c.place_or_push.ensures.ok c.place_or_push.ensures.err c.self.invariant c.self.view_is
 
 pub returns-clause-err : goal.returns-clause-err
-returns-clause-err c = text_kept c.place_or_push.result c.self.inside.texts c.place_or_push.new.self c.self.inside.traits c.self.inside.nodes c.args.self.now c.place_or_push.ensures.err c.self.view_is
+returns-clause-err c = text_as_before c.place_or_push.result c.self.inside.texts c.place_or_push.new.self c.self.inside.traits c.self.inside.nodes c.args.self.now c.place_or_push.ensures.err c.self.view_is

@@ -1,4 +1,4 @@
--- What was written, part by part.
+-- What was written, segment by segment.
 use Rattle.std.proofs.Common.{◌≡◌, ℕ, ◌+◌, ◌<◌, List, [], ◌∷◌, ◌++◌, length, map, take, get_or, sym, refl, ap, ◌∙◌, subst, append_assoc, append-nil, add-one, arith, ℤ, pos, negsuc, SFits}
 use Rattle.std.specs.Int.{to_be_bytes, w32, w64, cast_unsigned}
 use Rattle.std.proofs.Math.Seq.{take-suc}
@@ -8,7 +8,7 @@ use Rattle.amf_wire.specs.declared.pattern.Pattern.{Pattern}
 use Rattle.amf_wire.specs.Integer.{IsInteger}
 use Rattle.amf_graph.specs.Graph.{Value}
 use Rattle.amf3_spelling.specs.Tables.{Tables, with_words}
-use Rattle.amf3_spelling.specs.ByteSpelling.{Then, Step, number, unused, raw, Part, step, value, Parts, signed_bytes, four_bytes, eight_bytes}
+use Rattle.amf3_spelling.specs.ByteSpelling.{Then, Step, number, unused, raw, Segment, step, value, Segments, signed_bytes, four_bytes, eight_bytes}
 use Rattle.amf3_write.specs.declared.output.Output.{Output}
 use Rattle.amf3_write.specs.Writes.{Writes, WritesStep, WritesSteps}
 
@@ -19,13 +19,13 @@ pub wrote_unused : (o m : Output) → WritesStep (number 1) o m → WritesStep u
 wrote_unused o m h = record { bytes = h.bytes; spelled = (h.spelled.0, ((0, h.spelled.1.0, refl), h.spelled.1.1), h.spelled.2); appended = h.appended }
 
 module _ (R : Value → Tables → List ℕ → Tables → Type 0) where
-  abbrev WritesThese : List Part → Output → Output → Type 0
-  WritesThese ps = Writes (Parts R canonical ps)
+  abbrev WritesThese : List Segment → Output → Output → Type 0
+  WritesThese ps = Writes (Segments R canonical ps)
 
   pub wrote_none : (o : Output) → WritesThese [] o o
   wrote_none o = record { bytes = []; spelled = (refl, refl); appended = sym (append-nil o.bytes.items) }
 
-  pub wrote_step : (x : Step) (ps : List Part) (o m n : Output) → WritesStep x o m → WritesThese ps m n → WritesThese (step x ∷ ps) o n
+  pub wrote_step : (x : Step) (ps : List Segment) (o m n : Output) → WritesStep x o m → WritesThese ps m n → WritesThese (step x ∷ ps) o n
   wrote_step x ps o m n h k = record {
     bytes = h.bytes ++ k.bytes;
     spelled = record { front = h.bytes; back = k.bytes; mid = m.tables; joined = refl; first = h.spelled; second = k.spelled };
@@ -35,15 +35,15 @@ module _ (R : Value → Tables → List ℕ → Tables → Type 0) where
   pub wrote_one : (x : Step) (o m : Output) → WritesStep x o m → WritesThese (step x ∷ []) o m
   wrote_one x o m h = wrote_step x [] o m m h (wrote_none m)
 
-  parts_append : (ps qs : List Part) (t u v : Tables) (b c : List ℕ) → Parts R canonical ps t b u → Parts R canonical qs u c v → Parts R canonical (ps ++ qs) t (b ++ c) v
-  parts_append [] qs t u v b c h k = subst (λ z. Parts R canonical qs t z v) (sym (ap (λ z. z ++ c) h.0)) (subst (λ z. Parts R canonical qs z c v) h.1 k)
-  parts_append (step x ∷ ps) qs t u v b c h k = record { front = h.front; back = h.back ++ c; mid = h.mid; joined = ap (λ z. z ++ c) h.joined ∙ append_assoc h.front h.back c; first = h.first; second = parts_append ps qs h.mid u v h.back c h.second k }
-  parts_append (value x ∷ ps) qs t u v b c h k = record { front = h.front; back = h.back ++ c; mid = h.mid; joined = ap (λ z. z ++ c) h.joined ∙ append_assoc h.front h.back c; first = h.first; second = parts_append ps qs h.mid u v h.back c h.second k }
+  segments_append : (ps qs : List Segment) (t u v : Tables) (b c : List ℕ) → Segments R canonical ps t b u → Segments R canonical qs u c v → Segments R canonical (ps ++ qs) t (b ++ c) v
+  segments_append [] qs t u v b c h k = subst (λ z. Segments R canonical qs t z v) (sym (ap (λ z. z ++ c) h.0)) (subst (λ z. Segments R canonical qs z c v) h.1 k)
+  segments_append (step x ∷ ps) qs t u v b c h k = record { front = h.front; back = h.back ++ c; mid = h.mid; joined = ap (λ z. z ++ c) h.joined ∙ append_assoc h.front h.back c; first = h.first; second = segments_append ps qs h.mid u v h.back c h.second k }
+  segments_append (value x ∷ ps) qs t u v b c h k = record { front = h.front; back = h.back ++ c; mid = h.mid; joined = ap (λ z. z ++ c) h.joined ∙ append_assoc h.front h.back c; first = h.first; second = segments_append ps qs h.mid u v h.back c h.second k }
 
-  pub wrote_both : (ps qs : List Part) (o m n : Output) → WritesThese ps o m → WritesThese qs m n → WritesThese (ps ++ qs) o n
+  pub wrote_both : (ps qs : List Segment) (o m n : Output) → WritesThese ps o m → WritesThese qs m n → WritesThese (ps ++ qs) o n
   wrote_both ps qs o m n h k = record {
     bytes = h.bytes ++ k.bytes;
-    spelled = parts_append ps qs o.tables m.tables n.tables h.bytes k.bytes h.spelled k.spelled;
+    spelled = segments_append ps qs o.tables m.tables n.tables h.bytes k.bytes h.spelled k.spelled;
     appended = joined o.bytes.items m.bytes.items n.bytes.items h.bytes k.bytes h.appended k.appended;
   }
 

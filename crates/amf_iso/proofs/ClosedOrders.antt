@@ -8,7 +8,7 @@ use Rattle.amf_graph.specs.Order.{is_array, values_met, IsOrder}
 use Rattle.amf_graph.specs.Arena.{Arena, StoredNode, node_content, value_content}
 use Rattle.amf_graph.specs.Building.{stored_at}
 use Rattle.amf_graph.specs.Rooted.{RootedArena, content}
-use Rattle.amf_graph.specs.Renumbered.{StandsIn, IsPart}
+use Rattle.amf_graph.specs.Renumbered.{StandsIn, IsSelfContained}
 use Rattle.amf_graph.proofs.Growth.{names_content, values_content}
 use Rattle.amf_graph.proofs.Alls.{each_from}
 use Rattle.amf_graph.proofs.Lists.{no_entry}
@@ -42,8 +42,8 @@ met_stand a order n h =
     let both = each_met (In order) (is_array (node_content a n).head) (by_name ps) (values_content a n.values) h in
     (names_stand a order n.names (by_name_all_back (λ p. In order p.1) ps (seconds_all (In order) (by_name ps) both.0)), values_stand a order n.values both.1)
 
-pub order_is_part : (g : RootedArena) (order : List ℕ) → IsOrder (content g) order → IsPart g order
-order_is_part g order w =
+pub order_is_self_contained : (g : RootedArena) (order : List ℕ) → IsOrder (content g) order → IsSelfContained g order
+order_is_self_contained g order w =
     let closed = walk_closed w in
     let stand : (k i : ℕ) → slice_get order k ≡ Some i → AllByRecursion (λ p. StandsIn order p.1) (stored_at g.arena i).names × AllByRecursion (StandsIn order) (stored_at g.arena i).values =
     λ k i e. met_stand g.arena order (stored_at g.arena i) (subst (λ n. AllByRecursion (In order) (values_met n)) (shown g.arena g.root i (stored_at g.arena i) refl) (closed.1 k i (omega arith) e)) in

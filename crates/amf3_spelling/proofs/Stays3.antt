@@ -7,7 +7,7 @@ use Rattle.amf_graph.proofs.Lists.{at_left, at_end, at_push, length_pushed}
 use Rattle.amf_graph.proofs.Walks.{Within, distinct_push}
 use Rattle.amf3_spelling.specs.Tables.{Tables, add_node}
 use Rattle.amf3_spelling.specs.Refusals3.{leaf_marker}
-use Rattle.amf3_spelling.proofs.ByteSpelling.{Spelling, Step, StepOf, Part, step, value, Lifted, Parts, Placed, ValueBy, NodeIn, Spells, leaf_layout, byte, layout}
+use Rattle.amf3_spelling.proofs.ByteSpelling.{Spelling, Step, StepOf, Segment, step, value, Lifted, Segments, Placed, ValueBy, NodeIn, Spells, leaf_segments, byte, segments_of}
 
 abbrev pub Listed : List ℕ → List ℕ → Type 0
 Listed xs ys = (k i : ℕ) → slice_get xs k ≡ Some i → (l : ℕ) × (slice_get ys l ≡ Some i)
@@ -20,14 +20,14 @@ pub record Proper (g : Graph) (t : Tables) : Type 0 where
   pub within : Within g t.done
 
 -- what a spelling does to the tables of nodes
-pub record Kept (g : Graph) (t t' : Tables) : Type 0 where
+pub record Stays (g : Graph) (t t' : Tables) : Type 0 where
   pub longer : length t.done ≤ length t'.done
   pub stays : (k i : ℕ) → slice_get t.done k ≡ Some i → slice_get t'.done k ≡ Some i
   pub proper : Proper g t → Proper g t'
   pub level : t.nodes ≡ t.done → t'.nodes ≡ t'.done
 
-pub kept_same : (g : Graph) (t t' : Tables) → t'.nodes ≡ t.nodes → t'.done ≡ t.done → Kept g t t'
-kept_same g t t' e f = record {
+pub stays_same : (g : Graph) (t t' : Tables) → t'.nodes ≡ t.nodes → t'.done ≡ t.done → Stays g t t'
+stays_same g t t' e f = record {
   longer = omega (arith, ap length f);
   stays = λ k i h. ap (λ w. slice_get w k) f ∙ h;
   proper = λ p. record {
@@ -39,16 +39,16 @@ kept_same g t t' e f = record {
   level = λ l. e ∙ l ∙ sym f;
 }
 
-pub kept_trans : (g : Graph) (t u v : Tables) → Kept g t u → Kept g u v → Kept g t v
-kept_trans g t u v a b = record {
+pub stays_twice : (g : Graph) (t u v : Tables) → Stays g t u → Stays g u v → Stays g t v
+stays_twice g t u v a b = record {
   longer = omega (arith, a.longer, b.longer);
   stays = λ k i h. b.stays k i (a.stays k i h);
   proper = λ p. b.proper (a.proper p);
   level = λ l. b.level (a.level l);
 }
 
-pub kept_begin : (g : Graph) (t : Tables) (n : ℕ) → n < length g.nodes → Absent t.done n → Kept g t (add_node t n)
-kept_begin g t n l new = record {
+pub stays_begun : (g : Graph) (t : Tables) (n : ℕ) → n < length g.nodes → Absent t.done n → Stays g t (add_node t n)
+stays_begun g t n l new = record {
   longer = omega (arith, length_pushed t.done n);
   stays = λ k i h. at_left t.done (n ∷ []) k i h;
   proper = λ p. record {
@@ -64,32 +64,32 @@ kept_begin g t n l new = record {
 }
 
 abbrev pub Keeps : Graph → Spelling Tables → Type 0
-Keeps g A = (t : Tables) (b : List ℕ) (t' : Tables) → A t b t' → Kept g t t'
+Keeps g A = (t : Tables) (b : List ℕ) (t' : Tables) → A t b t' → Stays g t t'
 
 pub keeps_step : (g : Graph) (s : Style) (x : Step) → Keeps g (Lifted (StepOf s x))
-keeps_step g s x t b t' p = kept_same g t t' (ap (λ (w : Tables). w.nodes) p.2) (ap (λ (w : Tables). w.done) p.2)
+keeps_step g s x t b t' p = stays_same g t t' (ap (λ (w : Tables). w.nodes) p.2) (ap (λ (w : Tables). w.done) p.2)
 
-pub keeps_parts : (g : Graph) (s : Style) (R : Value → Spelling Tables) → ((v : Value) → Keeps g (R v)) → (ps : List Part) → Keeps g (Parts R s ps)
-keeps_parts g s R h [] t b t' p = kept_same g t t' (ap (λ (w : Tables). w.nodes) p.1) (ap (λ (w : Tables). w.done) p.1)
-keeps_parts g s R h (step x ∷ ps) t b t' p = kept_trans g t p.mid t' (keeps_step g s x t p.front p.mid p.first) (keeps_parts g s R h ps p.mid p.back t' p.second)
-keeps_parts g s R h (value v ∷ ps) t b t' p = kept_trans g t p.mid t' (h v t p.front p.mid p.first) (keeps_parts g s R h ps p.mid p.back t' p.second)
+pub keeps_segments : (g : Graph) (s : Style) (R : Value → Spelling Tables) → ((v : Value) → Keeps g (R v)) → (ps : List Segment) → Keeps g (Segments R s ps)
+keeps_segments g s R h [] t b t' p = stays_same g t t' (ap (λ (w : Tables). w.nodes) p.1) (ap (λ (w : Tables). w.done) p.1)
+keeps_segments g s R h (step x ∷ ps) t b t' p = stays_twice g t p.mid t' (keeps_step g s x t p.front p.mid p.first) (keeps_segments g s R h ps p.mid p.back t' p.second)
+keeps_segments g s R h (value v ∷ ps) t b t' p = stays_twice g t p.mid t' (h v t p.front p.mid p.first) (keeps_segments g s R h ps p.mid p.back t' p.second)
 
-pub keeps_leaf : (g : Graph) (s : Style) (x : Leaf) → Keeps g (Parts (λ v t b t'. ⊥) s (step (byte (leaf_marker x)) ∷ leaf_layout x))
-keeps_leaf g s x = keeps_parts g s (λ v t b t'. ⊥) (λ v t b t' p. absurd p) (step (byte (leaf_marker x)) ∷ leaf_layout x)
+pub keeps_leaf : (g : Graph) (s : Style) (x : Leaf) → Keeps g (Segments (λ v t b t'. ⊥) s (step (byte (leaf_marker x)) ∷ leaf_segments x))
+keeps_leaf g s x = keeps_segments g s (λ v t b t'. ⊥) (λ v t b t' p. absurd p) (step (byte (leaf_marker x)) ∷ leaf_segments x)
 
 pub keeps_value : (g : Graph) (s : Style) (N : ℕ → Spelling Tables) → ((i : ℕ) → Keeps g (N i)) → (v : Value) → Keeps g (ValueBy N s g v)
 keeps_value g s N h (leaf x) t b t' p = keeps_leaf g s x t b t' p.1
 keeps_value g s N h (node i) t b t' p = h i t p.0 t' p.2
 
 pub keeps_placed : (g : Graph) (s : Style) (i : ℕ) → Keeps g (Placed s i)
-keeps_placed g s i t b t' p = kept_same g t t' (ap (λ (w : Tables). w.nodes) p.same) (ap (λ (w : Tables). w.done) p.same)
+keeps_placed g s i t b t' p = stays_same g t t' (ap (λ (w : Tables). w.nodes) p.same) (ap (λ (w : Tables). w.done) p.same)
 
 pub keeps_node : (g : Graph) (s : Style) (d i : ℕ) → Keeps g (NodeIn d s g i)
 keeps_node g s zero i t b t' p = keeps_placed g s i t b t' p
 keeps_node g s (suc d) i t b t' (inl p) = keeps_placed g s i t b t' p
 keeps_node g s (suc d) i t b t' (inr p) =
-    kept_trans g t (add_node t i) t' (kept_begin g t i p.exists p.new)
-    (keeps_parts g s (Spells d s g) (keeps_value g s (NodeIn d s g) (keeps_node g s d)) (layout (node_at g i).head p.wire (node_at g i).values) (add_node t i) b t' p.body)
+    stays_twice g t (add_node t i) t' (stays_begun g t i p.exists p.new)
+    (keeps_segments g s (Spells d s g) (keeps_value g s (NodeIn d s g) (keeps_node g s d)) (segments_of (node_at g i).head p.wire (node_at g i).values) (add_node t i) b t' p.body)
 
 pub keeps_spells : (g : Graph) (s : Style) (d : ℕ) (v : Value) → Keeps g (Spells d s g v)
 keeps_spells g s d = keeps_value g s (NodeIn d s g) (keeps_node g s d)

@@ -3,14 +3,14 @@ use Rattle.amf0_tables.proofs.Low as low
 use Rattle.amf0_tables.proofs.LowBounds as bounds
 use Rattle.amf0_tables.proofs.LoweredLow as lowered
 use Rattle.amf0_tables.proofs.BuiltLowering as built
-use Rattle.amf0_tables.proofs.laws.lowering_is_kept.Goals as goal
+use Rattle.amf0_tables.proofs.laws.graphs_have_one_lowering.Goals as goal
 
 pub returns : goal.returns
 returns c = record {
   exist = laws.lowering_exists;
   alone = laws.one_lowering;
   lowered = lowered.lowering_is_lowered;
-  kept = low.kept;
+  lowered_alike = low.lowered_alike;
   same = laws.lowered_same;
   whole = λ g h w l. bounds.low_whole g w h l;
   ready = bounds.ready_lowering;

@@ -1,4 +1,4 @@
--- How the parts of an input are read. A device of proofs.
+-- What is read of an input: a content, the end, and what it may be written as. A device of proofs.
 use Rattle.std.specs.Prelude.{◌≡◌, ℕ, ◌<◌, List, [], length, true, Result, Ok, Err}
 use Rattle.amf_wire.specs.Style.{free}
 use Rattle.amf_io.specs.Field.{Field}
