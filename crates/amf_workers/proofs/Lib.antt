@@ -1,0 +1,5 @@
+pub mod Owned
+pub mod Made
+pub mod Hiring
+pub mod TakenIn
+pub mod Whole
