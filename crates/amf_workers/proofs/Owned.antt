@@ -8,29 +8,25 @@ use Rattle.amf_desk.specs.Histories.{own}
 use Rattle.amf_desk.proofs.Own.{own_here, own_other}
 
 -- how many entries the passes from n on have, m of them
-pub owned : (n m : ℕ) → List Event → ℕ
+abbrev pub owned : (n m : ℕ) → List Event → ℕ
 owned n zero xs = 0
 owned n (suc m) xs = length (own n xs) + owned (n + 1) m xs
 
 owned_none : (n m : ℕ) → owned n m [] ≡ 0
-unfolding owned
 owned_none n zero = refl
 owned_none n (suc m) = let r = owned_none (n + 1) m in omega arith
 
 -- an entry of a number below n counts for none of them
 owned_below : (n m : ℕ) (x : Event) (xs : List Event) → x.caller < n → owned n m (x ∷ xs) ≡ owned n m xs
-unfolding owned
 owned_below n zero x xs lt = refl
 owned_below n (suc m) x xs lt = let a = ap length (own_other n x xs (λ e. omega arith)) in let r = owned_below (n + 1) m x xs (omega arith) in omega arith
 
 -- nor one of a number past them
 owned_past : (n m : ℕ) (x : Event) (xs : List Event) → n + m ≤ x.caller → owned n m (x ∷ xs) ≡ owned n m xs
-unfolding owned
 owned_past n zero x xs le = refl
 owned_past n (suc m) x xs le = let a = ap length (own_other n x xs (λ e. omega arith)) in let r = owned_past (n + 1) m x xs (omega arith) in omega arith
 
 owned_step : (n m : ℕ) (x : Event) (xs : List Event) → owned n m (x ∷ xs) ≤ owned n m xs + 1
-unfolding owned
 owned_step n zero x xs = omega arith
 owned_step n (suc m) x xs = dite (ℕ_discrete x.caller n)
     (λ is. let a = ap length (own_here n x xs is) in let r = owned_below (n + 1) m x xs (omega arith) in omega arith)

@@ -1,6 +1,7 @@
 -- Where the first pass has all calls again that were not made, the history consists of the workers' entries.
 use Rattle.std.proofs.Common.{◌≡◌, ◌≢◌, ℕ, zero, suc, ◌+◌, ◌*◌, ◌^◌, ◌<◌, ◌≤◌, Bool, true, false, ◌||◌, ◌⊎◌, ⊎_elim, inl, inr, List, [], ◌∷◌, ◌++◌, length, map, get_or, sum_by, refl, ap, sym, ◌∙◌, subst, arith, append-nil, length-append}
 use Rattle.std.specs.List.{All, AllByRecursion, list_any}
+use Rattle.std.proofs.lemmas.List.{length-map}
 use Rattle.std.proofs.lemmas.List.Sums.{sum_by-cons}
 use Rattle.amf_broker.specs.History.{Entry as Event}
 use Rattle.amf_io.specs.Front.{CountsBack}
@@ -53,42 +54,39 @@ module _ {H L : Type 0} (hall : OfHall H L) (link : OfLink L) (services : List E
   Of = Shift hall link services each
 
   -- the entries of the workers, added up
-  made_by : List Of → ℕ
+  abbrev made_by : List Of → ℕ
   made_by [] = 0
   made_by (s ∷ ss) = length (entries_of s.served.links) + made_by ss
 
-  budgets : (first : Held) (share n : ℕ) (ss : List Of) → EachFrom n (λ i s. IsFresh first share i s.before) ss → sum_by (λ (p : Held). p.budget) (map (λ s. s.after) ss) + made_by ss ≡ length ss * share
-  unfolding made_by
-  budgets first share n [] h = omega arith
-  budgets first share n (s ∷ ss) h =
-      let rest = budgets first share (n + 1) ss h.1 in let here = s.served.pass.budget in let had = h.0.budget in
-      omega (arith, sum_by-cons (λ (p : Held). p.budget) s.after (map (λ s. s.after) ss), suc-mul (length ss) share)
+  budgets : (first : Held) (n : ℕ) (ss : List Of) → EachFrom n (λ i s. IsFresh first (2 ^ 55) i s.before) ss → sum_by (λ (p : Held). p.budget) (map (λ s. s.after) ss) + made_by ss ≡ length ss * 2 ^ 55
+  budgets first n [] h = omega arith
+  budgets first n (s ∷ ss) h =
+      let rest = budgets first (n + 1) ss h.1 in let here = s.served.pass.budget in let had = h.0.budget in
+      omega (arith, sum_by-cons (λ (p : Held). p.budget) s.after (map (λ s. s.after) ss))
 
   -- a worker's new entries are its own in what it has seen, and so the history begins with them
-  own_new : (first : Held) (share i : ℕ) (s : Of) (h : List Event) → IsFresh first share i s.before → Begins s.after.seen h → Begins (entries_of s.served.links) (own i h)
-  own_new first share i s h fresh b =
+  own_new : (first : Held) (i : ℕ) (s : Of) (h : List Event) → IsFresh first (2 ^ 55) i s.before → Begins s.after.seen h → Begins (entries_of s.served.links) (own i h)
+  own_new first i s h fresh b =
       let mine : own i s.after.seen ≡ entries_of s.served.links =
           subst (λ (k : ℕ). own k s.after.seen ≡ own k s.before.seen ++ entries_of s.served.links) fresh.number s.served.pass.own_entries
           ∙ ap (λ (l : List Event). l ++ entries_of s.served.links) fresh.none_own in
       subst (λ (l : List Event). Begins l (own i h)) mine (own_begins i s.after.seen h b)
 
-  begun : (first : Held) (share n : ℕ) (ss : List Of) (h : List Event) → EachFrom n (λ i s. IsFresh first share i s.before) ss → AllByRecursion (λ (p : Held). Begins p.seen h) (map (λ s. s.after) ss)
+  begun : (first : Held) (n : ℕ) (ss : List Of) (h : List Event) → EachFrom n (λ i s. IsFresh first (2 ^ 55) i s.before) ss → AllByRecursion (λ (p : Held). Begins p.seen h) (map (λ s. s.after) ss)
     → EachFrom n (λ i s. Begins (entries_of s.served.links) (own i h)) ss
-  begun first share n [] h fresh seen = tt
-  begun first share n (s ∷ ss) h fresh seen = (own_new first share n s h fresh.0 seen.0, begun first share (n + 1) ss h fresh.1 seen.1)
+  begun first n [] h fresh seen = tt
+  begun first n (s ∷ ss) h fresh seen = (own_new first n s h fresh.0 seen.0, begun first (n + 1) ss h fresh.1 seen.1)
 
   few_made : (n : ℕ) (ss : List Of) (h : List Event) → EachFrom n (λ i s. Begins (entries_of s.served.links) (own i h)) ss → made_by ss ≤ owned n (length ss) h
-  unfolding made_by owned
   few_made n [] h b = omega arith
   few_made n (s ∷ ss) h b = let here = begins_shorter (entries_of s.served.links) (own n h) b.0 in let rest = few_made (n + 1) ss h b.1 in omega arith
 
-  exact : (first : Held) (share n : ℕ) (ss : List Of) (h : List Event) → EachFrom n (λ i s. IsFresh first share i s.before) ss → EachFrom n (λ i s. Begins (entries_of s.served.links) (own i h)) ss → owned n (length ss) h ≤ made_by ss
+  exact : (first : Held) (n : ℕ) (ss : List Of) (h : List Event) → EachFrom n (λ i s. IsFresh first (2 ^ 55) i s.before) ss → EachFrom n (λ i s. Begins (entries_of s.served.links) (own i h)) ss → owned n (length ss) h ≤ made_by ss
     → EachFrom n (λ i s. (s.before.number ≡ i) × (own i h ≡ entries_of s.served.links)) ss
-  unfolding made_by owned
-  exact first share n [] h fresh b le = tt
-  exact first share n (s ∷ ss) h fresh b le =
+  exact first n [] h fresh b le = tt
+  exact first n (s ∷ ss) h fresh b le =
       let here = begins_shorter (entries_of s.served.links) (own n h) b.0 in let rest = few_made (n + 1) ss h b.1 in
-      ((fresh.0.number, begins_whole (entries_of s.served.links) (own n h) b.0 (omega arith)), exact first share (n + 1) ss h fresh.1 b.1 (omega arith))
+      ((fresh.0.number, begins_whole (entries_of s.served.links) (own n h) b.0 (omega arith)), exact first (n + 1) ss h fresh.1 b.1 (omega arith))
 
   further : (seen h : List Event) (ps : List Held) → Begins seen h → AllByRecursion (λ (p : Held). Begins p.seen seen) ps → AllByRecursion (λ (p : Held). Begins p.seen h) ps
   further seen h [] b all = tt
@@ -107,21 +105,20 @@ module _ {H L : Type 0} (hall : OfHall H L) (link : OfLink L) (services : List E
       (λ e. ⊎_elim (λ (f : failed_in s.end ≡ true). let l = here.0 f in omega arith) (λ (f : list_any failed_in (map (λ s. s.end) ss) ≡ true). let l = rest.0 f in omega arith) (or_yes (failed_in s.end) (list_any failed_in (map (λ s. s.end) ss)) e),
       λ e. let no = or_no (failed_in s.end) (list_any failed_in (map (λ s. s.end) ss)) e in let a = here.1 no.0 in let b = rest.1 no.1 in omega arith)
 
-  pub worked : (first hired last : Held) (share : ℕ) (hs : List H) (xs ys : List (Post H L)) (told : Closed) (starved faulty : Bool)
-    → first.destinations ≡ destinations → AllHired first share 1 hs xs → AllByRecursion (IsNew hall link services each) hs → AllServed hall link services each xs ys
-    → hired.destinations ≡ first.destinations → hired.budget + length hs * share ≡ 2 ^ 62 → Gathered hired last (map (λ w. w.worker.pass) ys) → ClosedAs last told
+  pub worked : (first hired last : Held) (hs : List H) (xs ys : List (Post H L)) (told : Closed) (starved faulty : Bool)
+    → first.destinations ≡ destinations → AllHired first (2 ^ 55) 1 hs xs → AllByRecursion (IsNew hall link services each) hs → AllServed hall link services each xs ys
+    → hired.destinations ≡ first.destinations → hired.budget + length hs * 2 ^ 55 ≡ 2 ^ 62 → Gathered hired last (map (λ w. w.worker.pass) ys) → ClosedAs last told
     → starved ≡ list_any starved_in (map (λ w. w.end) ys) → faulty ≡ list_any failed_in (map (λ w. w.end) ys)
     → (w : Worked hall link services each hs told starved faulty) × (map (λ s. s.returned) w.shifts ≡ map (λ y. y.worker.hall) ys)
-  worked first hired last share hs xs ys told starved faulty names all new served same budget g c st fa =
-      let m : Made hall link services each first share 1 hs ys = made hall link services each first share 1 hs xs ys all new served in
+  worked first hired last hs xs ys told starved faulty names all new served same budget g c st fa =
+      let m : Made hall link services each first (2 ^ 55) 1 hs ys = made hall link services each first (2 ^ 55) 1 hs xs ys all new served in
       let h : List Event = c.history in
       let later : Begins last.seen h = (c.later.0, c.later.1) in
       let seen : AllByRecursion (λ (p : Held). Begins p.seen h) (map (λ s. s.after) m.shifts) = subst (AllByRecursion (λ (p : Held). Begins p.seen h)) (sym m.after) (further last.seen h (map (λ y. y.worker.pass) ys) later g.seen) in
-      let b = begun first share 1 m.shifts h m.fresh seen in
-      let left = budgets first share 1 m.shifts m.fresh in
-      let many : length m.shifts ≡ length hs = sym (length-map (λ (s : Of). s.opened) m.shifts) ∙ ap length m.opened in
+      let b = begun first 1 m.shifts h m.fresh seen in
+      let left = budgets first 1 m.shifts m.fresh in
+      let many : length m.shifts ≡ length hs = sym (length-map m.shifts (λ (s : Of). s.opened)) ∙ ap length m.opened in
       let sums : sum_by (λ (p : Held). p.budget) (map (λ s. s.after) m.shifts) ≡ sum_by (λ (p : Held). p.budget) (map (λ y. y.worker.pass) ys) = ap (sum_by (λ (p : Held). p.budget)) m.after in
-      let shares : length m.shifts * share ≡ length hs * share = ap (λ (k : ℕ). k * share) many in
       let whole = g.budget in let room = c.room in
       let few : length h ≤ made_by m.shifts = omega arith in
       let most = owned_all 1 (length m.shifts) h in let least = few_made 1 m.shifts h b in
@@ -132,8 +129,25 @@ module _ {H L : Type 0} (hall : OfHall H L) (link : OfLink L) (services : List E
         closed = c;
         destinations_are = g.destinations ∙ (same ∙ names);
         callers = all_owned 1 (length m.shifts) h (omega arith);
-        entries = exact first share 1 m.shifts h m.fresh b (omega arith);
+        entries = exact first 1 m.shifts h m.fresh b (omega arith);
         starved_is = st ∙ ap (list_any starved_in) (sym m.ends);
         answered = λ e. answered m.shifts (sym (st ∙ ap (list_any starved_in) (sym m.ends)) ∙ e);
         faulty_is = fa ∙ ap (list_any failed_in) (sym m.ends);
       }, m.returned)
+
+  -- the halls are new
+  pub all_new : (hs : List H) → All (λ h. hall.faults h ≡ 0) hs → All (λ h. hall.served h ≡ []) hs → AllByRecursion (IsNew hall link services each) hs
+  all_new [] whole fresh = tt
+  all_new (g ∷ gs) whole fresh = ((whole 0 g (omega arith), fresh 0 g (omega arith)), all_new gs (λ k d lt. whole (suc k) d (omega arith)) (λ k d lt. fresh (suc k) d (omega arith)))
+
+  -- their passes can be joined
+  pub can_join : (first : Held) (n : ℕ) (hs : List H) (xs ys : List (Post H L)) → 0 < n → AllHired first (2 ^ 55) n hs xs → AllServed hall link services each xs ys → AllByRecursion (CanJoin first.desk) ys
+  can_join first n [] [] [] up all s = tt
+  can_join first n [] [] (y ∷ ys) up all s = let e = s.0 in absurd (omega arith)
+  can_join first n [] (x ∷ xs) ys up all s = absurd all
+  can_join first n (g ∷ gs) [] ys up all s = absurd all
+  can_join first n (g ∷ gs) (x ∷ xs) [] up all s = let e = s.0 in absurd (omega arith)
+  can_join first n (g ∷ gs) (x ∷ xs) (y ∷ ys) up all s =
+      let served : Served hall link services each x.worker.pass y.worker.pass x.worker.hall y.worker.hall y.end = s.1 0 x (omega arith) in let e = s.0 in
+      let fresh = all.0.fresh in let number : y.worker.pass.number ≡ n = served.pass.number ∙ fresh.number in
+      ((served.pass.desk ∙ fresh.desk_is, λ z. absurd (omega arith)), can_join first (n + 1) gs xs ys (omega arith) all.1 (omega arith, λ i d lt. s.1 (suc i) d (omega arith)))
