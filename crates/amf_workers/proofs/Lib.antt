@@ -3,3 +3,4 @@ pub mod Made
 pub mod Hiring
 pub mod TakenIn
 pub mod Whole
+pub mod Opened

@@ -77,6 +77,10 @@ module _ {F H : Type 0} (front : OfFront F H) (faults : H → ℕ) where
     counts = subst (CountsBack (front.faults a) (front.faults c)) (sym (sum_by-append faults hs ks)) (counts_both (front.faults a) (front.faults b) (front.faults c) (sum_by faults hs) (sum_by faults ks) p.counts q.counts);
   }
 
+  pub took_one : (a b : F) (h : H) → (front.tells b → front.tells a) → (front.tells b → front.asked b ≡ front.asked a) → (front.tells b → front.to_open b ≡ front.to_open a) → (front.tells b → front.halls b ≡ front.halls a ++ h ∷ [])
+    → CountsBack (front.faults a) (front.faults b) (faults h) → TookBack front faults a b (h ∷ [])
+  took_one a b h tells asked to_open halls c = record { tells = tells; asked = asked; to_open = to_open; took_back = halls; counts = subst (CountsBack (front.faults a) (front.faults b)) (let e : faults h ≡ sum_by faults (h ∷ []) = omega arith in e) c }
+
   -- the halls that were given back, of those that were to be
   pub record HallsSoFar (a b : F) (all left : List H) : Type 0 where
     pub done : List H
@@ -121,5 +125,11 @@ module _ {F H : Type 0} (front : OfFront F H) (faults : H → ℕ) where
       faulty = any_last failed_in s.done w ends.faulty ends'.faulty s.faulty (faulty ∙ ap (λ (e : WorkerEnd). ends.faulty || failed_in e) told);
     }
 
-    pub done_is_all : (p q : Held) (a b : F) (ends : Ends) (all left : List (Post H L)) (s : SoFar p q a b ends all left) → length left ≡ 0 → all ≡ s.done
-    done_is_all p q a b ends all left s none = all_popped all s.done left s.parts none
+    pub all_taken : (p q : Held) (a b : F) (ends : Ends) (all left : List (Post H L)) → SoFar p q a b ends all left → length left ≡ 0
+      → Gathered p q (map (λ w. w.worker.pass) all) × TookBack front faults a b (map (λ w. w.worker.hall) all) × (ends.starved ≡ list_any starved_in (map (λ w. w.end) all)) × (ends.faulty ≡ list_any failed_in (map (λ w. w.end) all))
+    all_taken p q a b ends all left s none =
+        let is : s.done ≡ all = sym (all_popped all s.done left s.parts none) in (
+          subst (λ (l : List (Post H L)). Gathered p q (map (λ w. w.worker.pass) l)) is s.passes,
+          subst (λ (l : List (Post H L)). TookBack front faults a b (map (λ w. w.worker.hall) l)) is s.halls,
+          subst (λ (l : List (Post H L)). ends.starved ≡ list_any starved_in (map (λ w. w.end) l)) is s.starved,
+          subst (λ (l : List (Post H L)). ends.faulty ≡ list_any failed_in (map (λ w. w.end) l)) is s.faulty)

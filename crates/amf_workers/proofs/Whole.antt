@@ -34,7 +34,7 @@ begins_shorter : (xs ys : List Event) → Begins xs ys → length xs ≤ length 
 begins_shorter xs ys b = omega (arith, ap length b.1, length-append xs b.0)
 
 or_no : (a b : Bool) → (a || b) ≡ false → (a ≡ false) × (b ≡ false)
-or_no true b e = cc
+or_no true b e = (cc)
 or_no false b e = (refl, e)
 
 or_yes : (a b : Bool) → (a || b) ≡ true → (a ≡ true) ⊎ (b ≡ true)
@@ -42,8 +42,8 @@ or_yes true b e = inl refl
 or_yes false b e = inr e
 
 failed_counts : (end : WorkerEnd) (now : ℕ) → CountsFront 0 now end → (failed_in end ≡ true → 0 < now) × (failed_in end ≡ false → now ≡ 0)
-failed_counts (Done starved) now c = (λ e. cc, λ e. c)
-failed_counts (FrontFault starved) now c = let r = c.1 in (λ e. omega arith, λ e. cc)
+failed_counts (Done starved) now c = (λ e. (cc), λ e. c)
+failed_counts (FrontFault starved) now c = let r = c.1 in (λ e. omega arith, λ e. (cc))
 
 pub counts_faults : (faulty : Bool) (before now sum : ℕ) → CountsBack before now sum → (faulty ≡ true → 0 < sum) × (faulty ≡ false → sum ≡ 0) → CountsFaults before now faulty
 counts_faults true before now sum c h = (c.never_falls, c.rises (h.0 refl))
@@ -98,7 +98,7 @@ module _ {H L : Type 0} (hall : OfHall H L) (link : OfLink L) (services : List E
 
   -- a hall failed exactly where a worker says so
   pub failed_sum : (ss : List Of) → (list_any failed_in (map (λ s. s.end) ss) ≡ true → 0 < sum_by hall.faults (map (λ s. s.returned) ss)) × (list_any failed_in (map (λ s. s.end) ss) ≡ false → sum_by hall.faults (map (λ s. s.returned) ss) ≡ 0)
-  failed_sum [] = (λ e. cc, λ e. refl)
+  failed_sum [] = (λ e. (cc), λ e. refl)
   failed_sum (s ∷ ss) =
       let here = failed_counts s.end (hall.faults s.returned) (subst (λ (k : ℕ). CountsFront k (hall.faults s.returned) s.end) s.whole s.served.front) in let rest = failed_sum ss in
       let sum = sum_by-cons hall.faults s.returned (map (λ s. s.returned) ss) in
@@ -141,7 +141,7 @@ module _ {H L : Type 0} (hall : OfHall H L) (link : OfLink L) (services : List E
   all_new (g ∷ gs) whole fresh = ((whole 0 g (omega arith), fresh 0 g (omega arith)), all_new gs (λ k d lt. whole (suc k) d (omega arith)) (λ k d lt. fresh (suc k) d (omega arith)))
 
   -- their passes can be joined
-  pub can_join : (first : Held) (n : ℕ) (hs : List H) (xs ys : List (Post H L)) → 0 < n → AllHired first (2 ^ 55) n hs xs → AllServed hall link services each xs ys → AllByRecursion (CanJoin first.desk) ys
+  pub can_join : (first : Held) (n : ℕ) (hs : List H) (xs ys : List (Post H L)) → 0 < n → AllHired first (2 ^ 55) n hs xs → AllServed hall link services each xs ys → AllByRecursion (CanJoin first) ys
   can_join first n [] [] [] up all s = tt
   can_join first n [] [] (y ∷ ys) up all s = let e = s.0 in absurd (omega arith)
   can_join first n [] (x ∷ xs) ys up all s = absurd all

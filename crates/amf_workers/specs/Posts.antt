@@ -1,6 +1,5 @@
 -- Workers that are hired, at work, and taken in. A device of proofs.
 use Rattle.std.specs.Prelude.{◌≡◌, ◌≢◌, ℕ, ◌+◌, ◌<◌, List, [], ◌∷◌, length, slice_index_or, ⊤}
-use Rattle.atomic_table.specs.Seated.{TableId}
 use Rattle.amf_desk.specs.Histories.{own}
 use Rattle.amf_desk.specs.Passes.{Held}
 use Rattle.amf_service.specs.Registry.{Entry}
@@ -31,5 +30,5 @@ abbrev pub AllServed : {H L : Type 0} → OfHall H L → OfLink L → List Entry
 AllServed {H} {L} hall link services each xs ys = (length ys ≡ length xs) × ((i : ℕ) (d : Post H L) → i < length xs → Served hall link services each (slice_index_or xs i d).worker.pass (slice_index_or ys i d).worker.pass (slice_index_or xs i d).worker.hall (slice_index_or ys i d).worker.hall (slice_index_or ys i d).end)
 
 -- the worker's pass can be joined into the first one of the desk
-abbrev pub CanJoin : {H L : Type 0} → TableId → Post H L → Type 0
-CanJoin desk w = (w.worker.pass.desk ≡ desk) × (w.worker.pass.number ≢ 0)
+abbrev pub CanJoin : {H L : Type 0} → Held → Post H L → Type 0
+CanJoin first w = (w.worker.pass.desk ≡ first.desk) × (w.worker.pass.number ≢ 0)

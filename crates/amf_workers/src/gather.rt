@@ -40,6 +40,7 @@ impl Ends {
 }
 
 /// Gives the hall of a worker back to the front, joins its pass into the first one, and tells how it ended.
+#[tactic(none)]
 fn take_in<F: Front>(
     desk: &Desk,
     first: &mut Pass,
@@ -61,6 +62,7 @@ fn take_in<F: Front>(
 
 /// Gives the halls of the workers back to the front, in their order, joins their passes into the first one, and tells how they
 /// ended. The desk is that of all passes, of which the first one is not among the workers'.
+#[tactic(none)]
 pub(crate) fn gather<F: Front>(
     desk: &Desk,
     first: &mut Pass,
@@ -68,7 +70,7 @@ pub(crate) fn gather<F: Front>(
     mut posts: Vec<Post<F::Hall>>,
 ) -> Ends
     requires desk { first.old.desk ≡ desk.now }
-    requires workers { AllByRecursion (CanJoin desk.now) posts.items }
+    requires workers { AllByRecursion (CanJoin first.old) posts.items }
     ensures passes { Gathered first.old first.new (map (λ w. w.worker.pass) posts.items) }
     ensures halls { TookBack (record { tells = F.tells; asked = F.asked; to_open = F.to_open; halls = F.halls; faults = F.faults }) F.Hall.faults front.old front.new (map (λ w. w.worker.hall) posts.items) }
     ensures starved { result.starved ≡ list_any starved_in (map (λ w. w.end) posts.items) }
@@ -88,12 +90,13 @@ pub(crate) fn gather<F: Front>(
 }
 
 /// Gives halls back to the front, in their order.
+#[tactic(none)]
 pub(crate) fn give_back<F: Front>(front: &mut F, mut halls: Vec<F::Hall>)
     ensures { TookBack (record { tells = F.tells; asked = F.asked; to_open = F.to_open; halls = F.halls; faults = F.faults }) F.Hall.faults front.old front.new halls.items }
 {
     halls.reverse();
-    while let Some(hall) = halls.pop() {
-        front.back(hall);
+    while let Some(unserved) = halls.pop() {
+        front.back(unserved);
     }
     halls.destroy_empty();
 }
