@@ -1,5 +1,5 @@
 -- How workers are hired, one after the other.
-use Rattle.std.proofs.Common.{◌≡◌, ℕ, zero, suc, ◌+◌, ◌*◌, ◌^◌, ◌<◌, ◌≤◌, List, [], ◌∷◌, ◌++◌, length, get_or, reverse, ◌-◌, refl, ap, sym, ◌∙◌, subst, arith, append_assoc, append-nil, length-append}
+use Rattle.std.proofs.Common.{◌≡◌, ℕ, zero, suc, ◌+◌, ◌*◌, ◌^◌, ◌<◌, ◌≤◌, List, [], ◌∷◌, ◌++◌, length, get_or, reverse, Option, Some, None, MatchOption, ◌-◌, refl, ap, sym, ◌∙◌, subst, arith, append_assoc, append-nil, length-append}
 use Rattle.std.specs.List.{AllByRecursion}
 use Rattle.std.proofs.lemmas.List.{reverse-append, reverse-reverse}
 use Rattle.amf_desk.specs.Histories.{own, NoneBy}
@@ -22,6 +22,11 @@ empty (x ∷ xs) e = absurd (omega arith)
 -- or nothing is left
 pub all_popped : {X : Type 0} (all done left : List X) → all ≡ done ++ reverse left → length left ≡ 0 → all ≡ done
 all_popped all done left e none = e ∙ (ap (λ l. done ++ reverse l) (empty left none) ∙ append-nil done)
+
+-- nothing was popped since nothing was there
+pub none_there : {X : Type 0} (r : Option X) (m n : ℕ) → MatchOption r ((m ≡ 0) × (n ≡ 0)) (λ _. n + 1 ≡ m) → ((x : X) → r ≡ Some x → ⊥) → (m ≡ 0) × (n ≡ 0)
+none_there None m n h not = h
+none_there (Some x) m n h not = absurd (not x refl)
 
 of_middle : {X : Type 0} (P : X → Type 0) (done rest : List X) (x : X) → AllByRecursion P ((done ++ x ∷ []) ++ rest) → P x
 of_middle P [] rest x h = h.0

@@ -1,7 +1,7 @@
 -- Where the first pass has all calls again that were not made, the history consists of the workers' entries.
-use Rattle.std.proofs.Common.{◌≡◌, ◌≢◌, ℕ, zero, suc, ◌+◌, ◌*◌, ◌^◌, ◌<◌, ◌≤◌, Bool, true, false, ◌||◌, ◌⊎◌, ⊎_elim, inl, inr, List, [], ◌∷◌, ◌++◌, length, map, get_or, sum_by, refl, ap, sym, ◌∙◌, subst, arith, append-nil, length-append}
+use Rattle.std.proofs.Common.{◌≡◌, ◌≢◌, ℕ, zero, suc, ◌+◌, ◌*◌, ◌^◌, ◌<◌, ◌≤◌, Bool, true, false, ◌||◌, ◌⊎◌, ⊎_elim, inl, inr, List, [], ◌∷◌, ◌++◌, length, map, get_or, take, drop, sum_by, refl, ap, sym, ◌∙◌, subst, arith, append-nil, length-append}
 use Rattle.std.specs.List.{All, AllByRecursion, list_any}
-use Rattle.std.proofs.lemmas.List.{length-map}
+use Rattle.std.proofs.lemmas.List.{length-map, take-append-le, take_all}
 use Rattle.std.proofs.lemmas.List.Sums.{sum_by-cons}
 use Rattle.amf_broker.specs.History.{Entry as Event}
 use Rattle.amf_io.specs.Front.{CountsBack}
@@ -15,12 +15,17 @@ use Rattle.amf_gateway.specs.declared.worker.WorkerEnd.TheVariants.{Done, FrontF
 use Rattle.amf_gateway.specs.Served.{Served, entries_of, starved_in, CountsFront, IsWholeUnlessFault}
 use Rattle.amf_gateway.specs.Tells.{OfLink, OfHall}
 use Rattle.amf_workers.specs.declared.post.Post.{Post}
-use Rattle.amf_workers.specs.Gathered.{Gathered}
+use Rattle.amf_workers.specs.Gathered.{Gathered, TookBack}
 use Rattle.amf_workers.specs.Halls.{Worked}
+use Rattle.amf_workers.specs.OfFront.{OfFront}
 use Rattle.amf_workers.specs.Posts.{IsFresh, AllHired, AllServed, CanJoin}
 use Rattle.amf_workers.specs.Together.{destinations, EachFrom, failed_in, Shift, CountsFaults}
 use Rattle.amf_workers.proofs.Made.{IsNew, Made, made}
 use Rattle.amf_workers.proofs.Owned.{owned, owned_all, all_owned}
+
+-- what was lent as a slice is back
+pub written_back : {X : Type 0} (new old : List X) (n : ℕ) → length new ≡ length old → n ≡ length old → take n (new ++ drop (length new) old) ≡ new
+written_back new old n same len = take-append-le n new (drop (length new) old) (omega arith) ∙ take_all n new (omega arith)
 
 no_more : (xs ys : List Event) → length (xs ++ ys) ≤ length xs → xs ++ ys ≡ xs
 no_more xs [] le = append-nil xs
@@ -141,13 +146,27 @@ module _ {H L : Type 0} (hall : OfHall H L) (link : OfLink L) (services : List E
   all_new (g ∷ gs) whole fresh = ((whole 0 g (omega arith), fresh 0 g (omega arith)), all_new gs (λ k d lt. whole (suc k) d (omega arith)) (λ k d lt. fresh (suc k) d (omega arith)))
 
   -- their passes can be joined
-  pub can_join : (first : Held) (n : ℕ) (hs : List H) (xs ys : List (Post H L)) → 0 < n → AllHired first (2 ^ 55) n hs xs → AllServed hall link services each xs ys → AllByRecursion (CanJoin first) ys
-  can_join first n [] [] [] up all s = tt
-  can_join first n [] [] (y ∷ ys) up all s = let e = s.0 in absurd (omega arith)
-  can_join first n [] (x ∷ xs) ys up all s = absurd all
-  can_join first n (g ∷ gs) [] ys up all s = absurd all
-  can_join first n (g ∷ gs) (x ∷ xs) [] up all s = let e = s.0 in absurd (omega arith)
-  can_join first n (g ∷ gs) (x ∷ xs) (y ∷ ys) up all s =
+  can_join : (first now : Held) (n : ℕ) (hs : List H) (xs ys : List (Post H L)) → now.desk ≡ first.desk → 0 < n → AllHired first (2 ^ 55) n hs xs → AllServed hall link services each xs ys → AllByRecursion (CanJoin now) ys
+  can_join first now n [] [] [] same up all s = tt
+  can_join first now n [] [] (y ∷ ys) same up all s = let e = s.0 in absurd (omega arith)
+  can_join first now n [] (x ∷ xs) ys same up all s = absurd all
+  can_join first now n (g ∷ gs) [] ys same up all s = absurd all
+  can_join first now n (g ∷ gs) (x ∷ xs) [] same up all s = let e = s.0 in absurd (omega arith)
+  can_join first now n (g ∷ gs) (x ∷ xs) (y ∷ ys) same up all s =
       let served : Served hall link services each x.worker.pass y.worker.pass x.worker.hall y.worker.hall y.end = s.1 0 x (omega arith) in let e = s.0 in
       let fresh = all.0.fresh in let number : y.worker.pass.number ≡ n = served.pass.number ∙ fresh.number in
-      ((served.pass.desk ∙ fresh.desk_is, λ z. absurd (omega arith)), can_join first (n + 1) gs xs ys (omega arith) all.1 (omega arith, λ i d lt. s.1 (suc i) d (omega arith)))
+      ((served.pass.desk ∙ (fresh.desk_is ∙ sym same), λ z. absurd (omega arith)), can_join first now (n + 1) gs xs ys same (omega arith) all.1 (omega arith, λ i d lt. s.1 (suc i) d (omega arith)))
+
+  pub join_all : (first now : Held) (hs : List H) (xs was ys : List (Post H L)) → now.desk ≡ first.desk → AllHired first (2 ^ 55) 1 hs xs → was ≡ xs → AllServed hall link services each was ys → AllByRecursion (CanJoin now) ys
+  join_all first now hs xs was ys same all is served = can_join first now 1 hs xs ys same (omega arith) all (subst (λ (l : List (Post H L)). AllServed hall link services each l ys) is served)
+
+  pub halls_served : {F : Type 0} (front : OfFront F H) (a b : F) (first hired last : Held) (hs : List H) (xs was ys back : List (Post H L)) (told : Closed) (starved faulty : Bool)
+    → first.destinations ≡ destinations → AllHired first (2 ^ 55) 1 hs xs → All (λ h. hall.faults h ≡ 0) hs → All (λ h. hall.served h ≡ []) hs → was ≡ xs → AllServed hall link services each was ys
+    → hired.destinations ≡ first.destinations → hired.budget + length hs * 2 ^ 55 ≡ 2 ^ 62 → back ≡ ys → Gathered hired last (map (λ w. w.worker.pass) back) → ClosedAs last told
+    → TookBack front hall.faults a b (map (λ w. w.worker.hall) back) → starved ≡ list_any starved_in (map (λ w. w.end) back) → faulty ≡ list_any failed_in (map (λ w. w.end) back)
+    → (w : Worked hall link services each hs told starved faulty) × TookBack front hall.faults a b (map (λ s. s.returned) w.shifts)
+  halls_served {F} front a b first hired last hs xs was ys back told starved faulty names all whole fresh was_is served same budget back_is g c took st fa =
+      let done = worked first hired last hs xs ys told starved faulty names all (all_new hs whole fresh) (subst (λ (l : List (Post H L)). AllServed hall link services each l ys) was_is served) same budget
+          (subst (λ (l : List (Post H L)). Gathered hired last (map (λ w. w.worker.pass) l)) back_is g) c
+          (st ∙ ap (λ (l : List (Post H L)). list_any starved_in (map (λ w. w.end) l)) back_is) (fa ∙ ap (λ (l : List (Post H L)). list_any failed_in (map (λ w. w.end) l)) back_is) in
+      (done.0, subst (TookBack front hall.faults a b) (ap (λ (l : List (Post H L)). map (λ w. w.worker.hall) l) back_is ∙ sym done.1) took)

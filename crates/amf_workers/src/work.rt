@@ -18,7 +18,6 @@ use std::thread::Threads;
 const MOST_WORKERS: usize = 64;
 
 /// All workers serve at once, each up to `each` links of its hall. The desk is that of their passes.
-#[tactic(none)]
 pub(crate) fn work_all<R: Threads + Wait + Sync, H: Hall, G: Gate>(
     rt: &R,
     alloc: Global,

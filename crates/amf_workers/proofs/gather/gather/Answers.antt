@@ -1,6 +1,6 @@
 use Rattle.std.proofs.Common.{◌≡◌, ◌+◌, ℕ, length, reverse, vec_len, refl, ◌∙◌, arith, rules}
 use Rattle.amf_workers.specs.Posts.{CanJoin}
-use Rattle.amf_workers.proofs.Hiring.{popped, of_popped}
+use Rattle.amf_workers.proofs.Hiring.{none_there, popped, of_popped}
 use Rattle.amf_workers.proofs.TakenIn.{none_taken, one_taken, all_taken}
 use Rattle.amf_workers.proofs.gather.gather.Goals as goal
 
@@ -26,16 +26,16 @@ loop-post-preserved g c =
     one_taken _ _ _ _ _ _ _ _ _ _ _ _ _ c.in-Some.post c.take_in-end.result c.loop-post.invariant c.in-Some.ensures.items e.pass e.hall e.end c.and-ends.ensures.starved c.and-ends.ensures.faulty
 
 pub destroy_empty-requires : goal.destroy_empty-requires
-destroy_empty-requires g c = c.in-None.ensures.cases.1
+destroy_empty-requires g c = (none_there c.pop.result (vec_len c.loop-post.posts) (vec_len c.pop.new.self) c.pop.ensures.cases c.in_default.not-Some).1
 
 pub returns-clause-passes : goal.returns-clause-passes
-returns-clause-passes g c = let len : length c.loop-post.posts.items ≡ vec_len c.loop-post.posts = search rules in (all_taken _ _ _ _ _ _ _ _ _ c.loop-post.invariant (len ∙ c.in-None.ensures.cases.0)).0
+returns-clause-passes g c = let len : length c.loop-post.posts.items ≡ vec_len c.loop-post.posts = search rules in (all_taken _ _ _ _ _ _ _ _ _ c.loop-post.invariant (len ∙ (none_there c.pop.result (vec_len c.loop-post.posts) (vec_len c.pop.new.self) c.pop.ensures.cases c.in_default.not-Some).0)).0
 
 pub returns-clause-halls : goal.returns-clause-halls
-returns-clause-halls g c = let len : length c.loop-post.posts.items ≡ vec_len c.loop-post.posts = search rules in (all_taken _ _ _ _ _ _ _ _ _ c.loop-post.invariant (len ∙ c.in-None.ensures.cases.0)).1
+returns-clause-halls g c = let len : length c.loop-post.posts.items ≡ vec_len c.loop-post.posts = search rules in (all_taken _ _ _ _ _ _ _ _ _ c.loop-post.invariant (len ∙ (none_there c.pop.result (vec_len c.loop-post.posts) (vec_len c.pop.new.self) c.pop.ensures.cases c.in_default.not-Some).0)).1
 
 pub returns-clause-starved : goal.returns-clause-starved
-returns-clause-starved g c = let len : length c.loop-post.posts.items ≡ vec_len c.loop-post.posts = search rules in (all_taken _ _ _ _ _ _ _ _ _ c.loop-post.invariant (len ∙ c.in-None.ensures.cases.0)).2
+returns-clause-starved g c = let len : length c.loop-post.posts.items ≡ vec_len c.loop-post.posts = search rules in (all_taken _ _ _ _ _ _ _ _ _ c.loop-post.invariant (len ∙ (none_there c.pop.result (vec_len c.loop-post.posts) (vec_len c.pop.new.self) c.pop.ensures.cases c.in_default.not-Some).0)).2
 
 pub returns-clause-faulty : goal.returns-clause-faulty
-returns-clause-faulty g c = let len : length c.loop-post.posts.items ≡ vec_len c.loop-post.posts = search rules in (all_taken _ _ _ _ _ _ _ _ _ c.loop-post.invariant (len ∙ c.in-None.ensures.cases.0)).3
+returns-clause-faulty g c = let len : length c.loop-post.posts.items ≡ vec_len c.loop-post.posts = search rules in (all_taken _ _ _ _ _ _ _ _ _ c.loop-post.invariant (len ∙ (none_there c.pop.result (vec_len c.loop-post.posts) (vec_len c.pop.new.self) c.pop.ensures.cases c.in_default.not-Some).0)).3

@@ -1,5 +1,7 @@
-use Rattle.std.proofs.Common.{◌≡◌, ◌+◌, ◌*◌, ◌^◌, ℕ, length, vec_len, refl, sym, ap, ◌∙◌, subst, arith, rules}
-use Rattle.amf_workers.proofs.Hiring.{SoFar, as_many, none_hired, one_hired, all_hired}
+use Rattle.std.proofs.Common.{◌≡◌, ◌+◌, ◌*◌, ◌^◌, ℕ, false, List, length, vec_len, refl, sym, ap, ◌∙◌, subst, arith, rules}
+use Rattle.amf_gateway.specs.declared.worker.WorkerEnd.TheVariants.{Done}
+use Rattle.amf_workers.specs.declared.post.Post.{Post}
+use Rattle.amf_workers.proofs.Hiring.{none_there, SoFar, as_many, none_hired, one_hired, all_hired}
 use Rattle.amf_workers.proofs.hire.hire.Goals as goal
 
 pub returns-in_default-clause-desk : goal.returns-in_default-clause-desk
@@ -18,13 +20,13 @@ loop-hall-init g c =
     }
 
 pub split-pass-requires-clause-desk : goal.split-pass-requires-clause-desk
-split-pass-requires-clause-desk g c κs within = c.loop-hall.invariant.so_far.desk ∙ c.requires.desk
+split-pass-requires-clause-desk g c = c.loop-hall.invariant.so_far.desk ∙ c.requires.desk
 
 pub split-pass-requires-clause-first : goal.split-pass-requires-clause-first
-split-pass-requires-clause-first g c κs within = c.loop-hall.invariant.so_far.number
+split-pass-requires-clause-first g c = c.loop-hall.invariant.so_far.number
 
 pub split-pass-requires-clause-share : goal.split-pass-requires-clause-share
-split-pass-requires-clause-share g c κs within =
+split-pass-requires-clause-share g c =
     let inv = c.loop-hall.invariant in let s = inv.so_far in let b = s.budget in let m = as_many c.args.first.now 1 s.done c.loop-hall.posts.items s.hired in
     let n : length c.loop-hall.posts.items ≡ vec_len c.loop-hall.posts = search rules in let t = inv.total in let few = c.requires.room.0 in let most = c.requires.room.1 in
     let one : vec_len c.pop.new.self + 1 ≡ vec_len c.loop-hall.halls = c.in-Some.ensures.len in omega arith
@@ -44,15 +46,17 @@ loop-hall-preserved g c =
     let b = s.budget in let m = as_many c.args.first.now 1 s.done c.loop-hall.posts.items s.hired in
     let n : length c.loop-hall.posts.items ≡ vec_len c.loop-hall.posts = search rules in let t = inv.total in let few = c.requires.room.0 in let most = c.requires.room.1 in
     let one : vec_len c.pop.new.self + 1 ≡ vec_len c.loop-hall.halls = c.in-Some.ensures.len in
+    let hired : Post g.row.H.Denot g.row.H-Link.Denot = record { worker = c.new.result; end = Done false } in
     let number = inv.number in let room = inv.room in let longer = push.len in let same = push.capacity in record {
-      so_far = ?;
+      so_far = subst (λ (l : List (Post g.row.H.Denot g.row.H-Link.Denot)). SoFar c.args.first.now c.split-pass.new.pass c.args.halls.items c.pop.new.self.items l) (sym push.items)
+          (one_hired c.args.first.now c.loop-hall.first c.split-pass.new.pass c.split-pass.result c.args.halls.items c.loop-hall.halls.items c.pop.new.self.items c.loop-hall.posts.items c.in-Some.hall hired s c.in-Some.ensures.items (omega arith) split.old split.new split.fresh c.new.ensures.pass c.new.ensures.hall);
       number = omega arith;
       total = omega arith;
       room = omega arith;
     }
 
 pub destroy_empty-requires : goal.destroy_empty-requires
-destroy_empty-requires g c = c.in-None.ensures.cases.1
+destroy_empty-requires g c = (none_there c.pop.result (vec_len c.loop-hall.halls) (vec_len c.pop.new.self) c.pop.ensures.cases c.in_default-pop.not-Some).1
 
 pub returns-clause-desk : goal.returns-clause-desk
 returns-clause-desk g c = let s = c.loop-hall.invariant.so_far in (s.desk, s.destinations, s.number)
@@ -60,5 +64,5 @@ returns-clause-desk g c = let s = c.loop-hall.invariant.so_far in (s.desk, s.des
 pub returns-clause-posts : goal.returns-clause-posts
 returns-clause-posts g c =
     let len : length c.loop-hall.halls.items ≡ vec_len c.loop-hall.halls = search rules in let many : length c.args.halls.items ≡ vec_len c.args.halls = search rules in
-    let all = all_hired c.args.first.now c.loop-hall.first c.args.halls.items c.loop-hall.halls.items c.loop-hall.posts.items c.loop-hall.invariant.so_far (len ∙ c.in-None.ensures.cases.0) in
+    let all = all_hired c.args.first.now c.loop-hall.first c.args.halls.items c.loop-hall.halls.items c.loop-hall.posts.items c.loop-hall.invariant.so_far (len ∙ (none_there c.pop.result (vec_len c.loop-hall.halls) (vec_len c.pop.new.self) c.pop.ensures.cases c.in_default-pop.not-Some).0) in
     (all.0, subst (λ (k : ℕ). c.loop-hall.first.budget + k * 2 ^ 55 ≡ c.args.first.now.budget) many all.1)

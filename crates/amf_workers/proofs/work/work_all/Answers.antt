@@ -1,14 +1,8 @@
 use Rattle.std.proofs.Common.{rules}
 use Rattle.amf_workers.proofs.work.work_all.Goals as goal
 
-pub for_each_mut-requires-sync-F : goal.for_each_mut-requires-sync-F
-for_each_mut-requires-sync-F g c κs within = search rules
-
 pub for_each_mut-requires-clause-threads : goal.for_each_mut-requires-clause-threads
 for_each_mut-requires-clause-threads g c κs within = search rules
-
-pub for_each_mut-requires-clause-accepts : goal.for_each_mut-requires-clause-accepts
-for_each_mut-requires-clause-accepts g c κs within = search rules
 
 pub returns : goal.returns
 returns g c = search rules
