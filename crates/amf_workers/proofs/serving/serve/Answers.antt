@@ -38,4 +38,5 @@ returns-in-Err-Failed g c =
     let e = c.open.ensures in failed _ _ _ _ _ c.open.result e.tells e.back (c.in-Err-Failed.is ∙ ap (λ x. Err x) c.in-Err-Failed.field-0-is) e.asked e.gives e.cause
 
 pub returns : goal.returns
-returns g c = ?
+returns g c =
+    let e = c.open.ensures in no_memory _ _ _ _ _ c.open.result e.tells e.back (c.in-Err-Memory.is ∙ ap (λ x. Err x) c.in-Err-Memory.field-0-is) e.gives e.cause
