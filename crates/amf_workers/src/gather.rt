@@ -40,13 +40,7 @@ impl Ends {
 }
 
 /// Gives the hall of a worker back to the front, joins its pass into the first one, and tells how it ended.
-#[tactic(none)]
-fn take_in<F: Front>(
-    desk: &Desk,
-    first: &mut Pass,
-    front: &mut F,
-    post: Post<F::Hall>,
-) -> WorkerEnd
+fn take_in<F: Front>(desk: &Desk, first: &mut Pass, front: &mut F, post: Post<F::Hall>) -> WorkerEnd
     requires desk { first.old.desk ≡ desk.now }
     requires worker { (post.worker.pass.desk ≡ desk.now) × (post.worker.pass.number ≢ 0) }
     ensures pass { JoinedTo first.old post.worker.pass first.new }
@@ -62,7 +56,6 @@ fn take_in<F: Front>(
 
 /// Gives the halls of the workers back to the front, in their order, joins their passes into the first one, and tells how they
 /// ended. The desk is that of all passes, of which the first one is not among the workers'.
-#[tactic(none)]
 pub(crate) fn gather<F: Front>(
     desk: &Desk,
     first: &mut Pass,
@@ -90,7 +83,6 @@ pub(crate) fn gather<F: Front>(
 }
 
 /// Gives halls back to the front, in their order.
-#[tactic(none)]
 pub(crate) fn give_back<F: Front>(front: &mut F, mut halls: Vec<F::Hall>)
     ensures { TookBack (record { tells = F.tells; asked = F.asked; to_open = F.to_open; halls = F.halls; faults = F.faults }) F.Hall.faults front.old front.new halls.items }
 {

@@ -12,7 +12,6 @@ const SHARE: u64 = 1 << 55;
 
 /// Splits off a pass of 2^55 calls for each hall, in order, and makes workers of them, numbered from 0. The pass is the first of
 /// the desk, none was split off it yet, and there are at most 64 halls. The halls are handed back where there is no memory.
-#[tactic(none)]
 pub(crate) fn hire<H: Hall>(
     alloc: Global,
     desk: &Desk,

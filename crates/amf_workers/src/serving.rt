@@ -18,7 +18,6 @@ use std::thread::Threads;
 
 /// A worker for each hall serves it, all at once, and the halls go back to the front. The desk is new and the pass its first one,
 /// and there are at most 64 halls, of which none has served or failed.
-#[tactic(none)]
 fn serve_halls<R: Threads + Wait + Sync, F: Front, G: Gate>(
     rt: &R,
     alloc: Global,
@@ -57,7 +56,6 @@ where
 /// Opens a hall for each worker, at most 64, serves up to `each` links of each hall, all halls at once in threads of their own,
 /// and gives the halls back to the front. All links are served at one desk, with the destinations `chat` and `news`. It may
 /// wait for the links.
-#[tactic(none)]
 pub fn serve<R: Threads + Wait + Sync, F: Front, G: Gate>(
     rt: &R,
     alloc: Global,

@@ -39,4 +39,4 @@ returns-in-Err-Failed g c =
 
 pub returns : goal.returns
 returns g c =
-    let e = c.open.ensures in no_memory _ _ _ _ _ c.open.result e.tells e.back (c.in-Err-Memory.is ∙ ap (λ x. Err x) c.in-Err-Memory.field-0-is) e.gives e.cause
+    let e = c.open.ensures in no_memory _ c.args.port c.args.workers _ _ c.open.result e.tells e.back (c.in-Err-Memory.is ∙ ap (λ x. Err x) c.in-Err-Memory.field-0-is) e.gives e.cause

@@ -24,16 +24,10 @@ returns-in-Err g c =
     let front : OfFront g.row.F.Denot g.row.F-Hall.Denot = record { tells = f.tells; asked = f.asked; to_open = f.to_open; halls = f.halls; faults = f.faults } in
     subst (TookBack front g.F.Hall.Hall.faults c.args.front.now c.give_back.new.front) c.in-Err.ensures.back c.give_back.ensures
 
-pub same-desk : goal.same-desk
-same-desk g c = refl
-
 pub work_all-requires-after_bounds : goal.work_all-requires-after_bounds
 work_all-requires-after_bounds g c κs within = λ k d lt.
     subst (λ (l : List (Post g.row.F-Hall.Denot g.row.F-Hall-Link.Denot)). k < length l → (get_or l k d).worker.pass.desk ≡ c.args.desk) (sym c.as_mut_slice.ensures.value)
     (λ less. one_desk c.args.first 1 c.args.halls.items c.in-Ok.posts.items c.in-Ok.ensures.posts.0 k d less ∙ ap (λ (p : Held). p.desk) c.requires.first) lt
-
-pub same-first : goal.same-first
-same-first g c = refl
 
 pub gather-ends-requires-clause-desk : goal.gather-ends-requires-clause-desk
 gather-ends-requires-clause-desk g c κs within = c.hire.ensures.desk.0 ∙ ap (λ (p : Held). p.desk) c.requires.first
