@@ -1,4 +1,4 @@
--- What the messages of a packet were answered, as it is kept.
+-- A device of proofs: what the messages of a packet were answered, as it is kept.
 use Rattle.std.specs.Prelude.{◌≡◌, ◌<◌, ◌≤◌, ◌^◌, ℕ, Bool, true, if◌then◌else◌, List, [], length, map, Option, Some, None}
 use Rattle.std.specs.List.{AllByRecursion, AllZip}
 use Rattle.amf_wire.specs.Text.{IsText}

@@ -1,4 +1,4 @@
--- What a call of a service comes to, and what a message of a packet is answered, as they are kept.
+-- A device of proofs: what a call of a service comes to, and what a message of a packet is answered, as they are kept.
 use Rattle.std.specs.Prelude.{◌≡◌, ◌≤◌, ℕ, Bool, true, false, List, [], ◌∷◌, map, codes, Option, Some, None}
 use Rattle.amf_graph.specs.declared.lack.LackKind.{LackKind}
 use Rattle.amf_graph.specs.declared.value.Value.{Value as Stored}
@@ -30,10 +30,6 @@ use Rattle.amf_gateway.specs.Remoting.{empty_arguments}
 use Rattle.amf_gateway.specs.Replies.{Answer}
 use Rattle.amf_gateway.specs.Runs.{IsSpelling, Finds, nothing, gave, Runs}
 use Rattle.amf_gateway.specs.Serving.{none_left}
-
--- what services mean that are kept under names, by what each knows and gives
-abbrev pub services_by : {K S : Type 0} → List (K × S) → (K → List ℕ) → (S → List ℕ → Bool) → (S → List ℕ → Graph → Given) → List Entry
-services_by es name knows gives = map (λ e. record { name = name e.0; means = record { knows = knows e.1; gives = gives e.1 } }) es
 
 -- Calls.
 

@@ -1,4 +1,4 @@
--- What a plan came to between two states of the outside, and how much of one was begun.
+-- A device of proofs: what a plan came to between two states of the outside, and how much of one was begun.
 use Rattle.std.specs.Prelude.{◌≡◌, ℕ, List, [], ◌∷◌, ◌++◌}
 use Rattle.amf_broker.specs.History.{Entry as Event}
 use Rattle.amf_graph.specs.declared.lack.LackKind.{LackKind}

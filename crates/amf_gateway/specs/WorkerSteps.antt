@@ -1,4 +1,4 @@
--- What the steps of a worker come to. A device of proofs.
+-- A device of proofs: what the steps of a worker come to.
 use Rattle.std.specs.Prelude.{◌≡◌, ℕ, Bool, List, [], ◌∷◌, ◌++◌, ⊤}
 use Rattle.amf_desk.specs.Passes.{Held}
 use Rattle.amf_service.specs.Registry.{Entry}
