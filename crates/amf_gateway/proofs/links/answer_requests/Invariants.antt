@@ -1,4 +1,4 @@
-use Rattle.std.proofs.Common.{◌≡◌, ◌≤◌, ◌++◌}
+use Rattle.std.proofs.Common.{◌≡◌, ◌++◌}
 use Rattle.amf_gateway.proofs.Coming.{Come, rest_of}
 use Rattle.amf_gateway.specs.Links.{most_requests}
 use Rattle.amf_gateway.specs.Services.{services_by}
