@@ -1,4 +1,4 @@
-use Rattle.std.proofs.Common.{◌≡◌, IfOk, OnErr, subst}
+use Rattle.std.proofs.Common.{◌≡◌, IfOk, OnErr, rules, subst}
 use Rattle.std.proofs.lemmas.Int.{to_z-of_z}
 use Rattle.std.specs.Prelude.{ℤ}
 use mir.Val.{SFits}
