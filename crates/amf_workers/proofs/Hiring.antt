@@ -81,9 +81,9 @@ module _ {H L : Type 0} (first : Held) where
 
   -- a pass is split off for one more hall
   pub one_hired : (now now' p : Held) (all left left' : List H) (ws : List (Post H L)) (h : H) (w : Post H L) → SoFar now all left ws → left ≡ left' ++ h ∷ [] → 2 ^ 55 ≤ now.budget
-    → now' ≡ record { desk = now.desk; destinations = now.destinations; number = 0; seen = now.seen; budget = now.budget - 2 ^ 55; splits = now.splits + 1 }
-    → p ≡ record { desk = now.desk; destinations = now.destinations; number = now.splits + 1; seen = now.seen; budget = 2 ^ 55; splits = 0 }
-    → NoneBy p.number p.seen → w.worker.pass ≡ p → w.worker.hall ≡ h → SoFar now' all left' (ws ++ w ∷ [])
+      → now' ≡ record { desk = now.desk; destinations = now.destinations; number = 0; seen = now.seen; budget = now.budget - 2 ^ 55; splits = now.splits + 1 }
+      → p ≡ record { desk = now.desk; destinations = now.destinations; number = now.splits + 1; seen = now.seen; budget = 2 ^ 55; splits = 0 }
+      → NoneBy p.number p.seen → w.worker.pass ≡ p → w.worker.hall ≡ h → SoFar now' all left' (ws ++ w ∷ [])
   one_hired now now' p all left left' ws h w s is few split new none pass hall =
       let splits = s.splits in let budget = s.budget in
       let number : p.number ≡ 1 + length s.done = ap (λ (q : Held). q.number) new ∙ (let e : now.splits + 1 ≡ 1 + length s.done = omega arith in e) in

@@ -1,5 +1,5 @@
 -- How halls are given back and passes joined, one after the other.
-use Rattle.std.proofs.Common.{◌≡◌, ◌≢◌, ℕ, zero, suc, ◌+◌, ◌<◌, ◌≤◌, ◌⊎◌, ⊎_elim, Bool, true, false, ◌||◌, List, [], ◌∷◌, ◌++◌, length, map, reverse, sum_by, refl, ap, sym, ◌∙◌, subst, arith, append_assoc, append-nil}
+use Rattle.std.proofs.Common.{◌≡◌, ℕ, zero, suc, ◌+◌, Bool, true, false, ◌||◌, List, [], ◌∷◌, ◌++◌, length, map, reverse, sum_by, refl, ap, sym, ◌∙◌, subst, arith, append_assoc, append-nil}
 use Rattle.std.specs.List.{AllByRecursion, list_any}
 use Rattle.std.proofs.lemmas.List.{map-append}
 use Rattle.std.proofs.lemmas.List.Folds.{list_any-append}
@@ -78,7 +78,7 @@ module _ {F H : Type 0} (front : OfFront F H) (faults : H → ℕ) where
   }
 
   pub took_one : (a b : F) (h : H) → (front.tells b → front.tells a) → (front.tells b → front.asked b ≡ front.asked a) → (front.tells b → front.to_open b ≡ front.to_open a) → (front.tells b → front.halls b ≡ front.halls a ++ h ∷ [])
-    → CountsBack (front.faults a) (front.faults b) (faults h) → TookBack front faults a b (h ∷ [])
+      → CountsBack (front.faults a) (front.faults b) (faults h) → TookBack front faults a b (h ∷ [])
   took_one a b h tells asked to_open halls c = record { tells = tells; asked = asked; to_open = to_open; took_back = halls; counts = subst (CountsBack (front.faults a) (front.faults b)) (let e : faults h ≡ sum_by faults (h ∷ []) = omega arith in e) c }
 
   -- the halls that were given back, of those that were to be
@@ -115,7 +115,7 @@ module _ {F H : Type 0} (front : OfFront F H) (faults : H → ℕ) where
         ∙ (sym (list_any-append test (map (λ w. w.end) done) (w.end ∷ [])) ∙ ap (list_any test) (sym (map-append (λ (w : Post H L). w.end) done (w ∷ []))))))
 
     pub one_taken : (p q r : Held) (a b c : F) (ends ends' : Ends) (all left left' : List (Post H L)) (w : Post H L) (end : WorkerEnd) → SoFar p q a b ends all left → left ≡ left' ++ w ∷ []
-      → JoinedTo q w.worker.pass r → TookBack front faults b c (w.worker.hall ∷ []) → end ≡ w.end → ends'.starved ≡ (ends.starved || starved_in end) → ends'.faulty ≡ (ends.faulty || failed_in end) → SoFar p r a c ends' all left'
+        → JoinedTo q w.worker.pass r → TookBack front faults b c (w.worker.hall ∷ []) → end ≡ w.end → ends'.starved ≡ (ends.starved || starved_in end) → ends'.faulty ≡ (ends.faulty || failed_in end) → SoFar p r a c ends' all left'
     one_taken p q r a b c ends ends' all left left' w end s is join took told starved faulty = record {
       done = s.done ++ w ∷ [];
       parts = popped all s.done left left' w s.parts is;
@@ -126,10 +126,11 @@ module _ {F H : Type 0} (front : OfFront F H) (faults : H → ℕ) where
     }
 
     pub all_taken : (p q : Held) (a b : F) (ends : Ends) (all left : List (Post H L)) → SoFar p q a b ends all left → length left ≡ 0
-      → Gathered p q (map (λ w. w.worker.pass) all) × TookBack front faults a b (map (λ w. w.worker.hall) all) × (ends.starved ≡ list_any starved_in (map (λ w. w.end) all)) × (ends.faulty ≡ list_any failed_in (map (λ w. w.end) all))
+        → Gathered p q (map (λ w. w.worker.pass) all) × TookBack front faults a b (map (λ w. w.worker.hall) all) × (ends.starved ≡ list_any starved_in (map (λ w. w.end) all)) × (ends.faulty ≡ list_any failed_in (map (λ w. w.end) all))
     all_taken p q a b ends all left s none =
         let is : s.done ≡ all = sym (all_popped all s.done left s.parts none) in (
           subst (λ (l : List (Post H L)). Gathered p q (map (λ w. w.worker.pass) l)) is s.passes,
           subst (λ (l : List (Post H L)). TookBack front faults a b (map (λ w. w.worker.hall) l)) is s.halls,
           subst (λ (l : List (Post H L)). ends.starved ≡ list_any starved_in (map (λ w. w.end) l)) is s.starved,
-          subst (λ (l : List (Post H L)). ends.faulty ≡ list_any failed_in (map (λ w. w.end) l)) is s.faulty)
+          subst (λ (l : List (Post H L)). ends.faulty ≡ list_any failed_in (map (λ w. w.end) l)) is s.faulty,
+        )

@@ -1,5 +1,5 @@
 -- Where the first pass has all calls again that were not made, the history consists of the workers' entries.
-use Rattle.std.proofs.Common.{◌≡◌, ◌≢◌, ℕ, zero, suc, ◌+◌, ◌*◌, ◌^◌, ◌<◌, ◌≤◌, Bool, true, false, ◌||◌, ◌⊎◌, ⊎_elim, inl, inr, List, [], ◌∷◌, ◌++◌, length, map, get_or, take, drop, sum_by, refl, ap, sym, ◌∙◌, subst, arith, append-nil, length-append}
+use Rattle.std.proofs.Common.{◌≡◌, ℕ, suc, ◌+◌, ◌*◌, ◌^◌, ◌<◌, ◌≤◌, Bool, true, false, ◌||◌, ◌⊎◌, ⊎_elim, inl, inr, List, [], ◌∷◌, ◌++◌, length, map, take, drop, sum_by, refl, ap, sym, ◌∙◌, subst, arith, append-nil, length-append}
 use Rattle.std.specs.List.{All, AllByRecursion, list_any}
 use Rattle.std.proofs.lemmas.List.{length-map, take-append-le, take_all}
 use Rattle.std.proofs.lemmas.List.Sums.{sum_by-cons}
@@ -73,12 +73,12 @@ module _ {H L : Type 0} (hall : OfHall H L) (link : OfLink L) (services : List E
   own_new : (first : Held) (i : ℕ) (s : Of) (h : List Event) → IsFresh first (2 ^ 55) i s.before → Begins s.after.seen h → Begins (entries_of s.served.links) (own i h)
   own_new first i s h fresh b =
       let mine : own i s.after.seen ≡ entries_of s.served.links =
-          subst (λ (k : ℕ). own k s.after.seen ≡ own k s.before.seen ++ entries_of s.served.links) fresh.number s.served.pass.own_entries
-          ∙ ap (λ (l : List Event). l ++ entries_of s.served.links) fresh.none_own in
+      subst (λ (k : ℕ). own k s.after.seen ≡ own k s.before.seen ++ entries_of s.served.links) fresh.number s.served.pass.own_entries
+      ∙ ap (λ (l : List Event). l ++ entries_of s.served.links) fresh.none_own in
       subst (λ (l : List Event). Begins l (own i h)) mine (own_begins i s.after.seen h b)
 
   begun : (first : Held) (n : ℕ) (ss : List Of) (h : List Event) → EachFrom n (λ i s. IsFresh first (2 ^ 55) i s.before) ss → AllByRecursion (λ (p : Held). Begins p.seen h) (map (λ s. s.after) ss)
-    → EachFrom n (λ i s. Begins (entries_of s.served.links) (own i h)) ss
+      → EachFrom n (λ i s. Begins (entries_of s.served.links) (own i h)) ss
   begun first n [] h fresh seen = tt
   begun first n (s ∷ ss) h fresh seen = (own_new first n s h fresh.0 seen.0, begun first (n + 1) ss h fresh.1 seen.1)
 
@@ -87,7 +87,7 @@ module _ {H L : Type 0} (hall : OfHall H L) (link : OfLink L) (services : List E
   few_made n (s ∷ ss) h b = let here = begins_shorter (entries_of s.served.links) (own n h) b.0 in let rest = few_made (n + 1) ss h b.1 in omega arith
 
   exact : (first : Held) (n : ℕ) (ss : List Of) (h : List Event) → EachFrom n (λ i s. IsFresh first (2 ^ 55) i s.before) ss → EachFrom n (λ i s. Begins (entries_of s.served.links) (own i h)) ss → owned n (length ss) h ≤ made_by ss
-    → EachFrom n (λ i s. (s.before.number ≡ i) × (own i h ≡ entries_of s.served.links)) ss
+      → EachFrom n (λ i s. (s.before.number ≡ i) × (own i h ≡ entries_of s.served.links)) ss
   exact first n [] h fresh b le = tt
   exact first n (s ∷ ss) h fresh b le =
       let here = begins_shorter (entries_of s.served.links) (own n h) b.0 in let rest = few_made (n + 1) ss h b.1 in
@@ -106,15 +106,16 @@ module _ {H L : Type 0} (hall : OfHall H L) (link : OfLink L) (services : List E
   failed_sum [] = (λ e. (cc), λ e. refl)
   failed_sum (s ∷ ss) =
       let here = failed_counts s.end (hall.faults s.returned) (subst (λ (k : ℕ). CountsFront k (hall.faults s.returned) s.end) s.whole s.served.front) in let rest = failed_sum ss in
-      let sum = sum_by-cons hall.faults s.returned (map (λ s. s.returned) ss) in
-      (λ e. ⊎_elim (λ (f : failed_in s.end ≡ true). let l = here.0 f in omega arith) (λ (f : list_any failed_in (map (λ s. s.end) ss) ≡ true). let l = rest.0 f in omega arith) (or_yes (failed_in s.end) (list_any failed_in (map (λ s. s.end) ss)) e),
-      λ e. let no = or_no (failed_in s.end) (list_any failed_in (map (λ s. s.end) ss)) e in let a = here.1 no.0 in let b = rest.1 no.1 in omega arith)
+      let sum = sum_by-cons hall.faults s.returned (map (λ s. s.returned) ss) in (
+        λ e. ⊎_elim (λ (f : failed_in s.end ≡ true). let l = here.0 f in omega arith) (λ (f : list_any failed_in (map (λ s. s.end) ss) ≡ true). let l = rest.0 f in omega arith) (or_yes (failed_in s.end) (list_any failed_in (map (λ s. s.end) ss)) e),
+        λ e. let no = or_no (failed_in s.end) (list_any failed_in (map (λ s. s.end) ss)) e in let a = here.1 no.0 in let b = rest.1 no.1 in omega arith,
+      )
 
   pub worked : (first hired last : Held) (hs : List H) (xs ys : List (Post H L)) (told : Closed) (starved faulty : Bool)
-    → first.destinations ≡ destinations → AllHired first (2 ^ 55) 1 hs xs → AllByRecursion (IsNew hall link services each) hs → AllServed hall link services each xs ys
-    → hired.destinations ≡ first.destinations → hired.budget + length hs * 2 ^ 55 ≡ 2 ^ 62 → Gathered hired last (map (λ w. w.worker.pass) ys) → ClosedAs last told
-    → starved ≡ list_any starved_in (map (λ w. w.end) ys) → faulty ≡ list_any failed_in (map (λ w. w.end) ys)
-    → (w : Worked hall link services each hs told starved faulty) × (map (λ s. s.returned) w.shifts ≡ map (λ y. y.worker.hall) ys)
+      → first.destinations ≡ destinations → AllHired first (2 ^ 55) 1 hs xs → AllByRecursion (IsNew hall link services each) hs → AllServed hall link services each xs ys
+      → hired.destinations ≡ first.destinations → hired.budget + length hs * 2 ^ 55 ≡ 2 ^ 62 → Gathered hired last (map (λ w. w.worker.pass) ys) → ClosedAs last told
+      → starved ≡ list_any starved_in (map (λ w. w.end) ys) → faulty ≡ list_any failed_in (map (λ w. w.end) ys)
+      → (w : Worked hall link services each hs told starved faulty) × (map (λ s. s.returned) w.shifts ≡ map (λ y. y.worker.hall) ys)
   worked first hired last hs xs ys told starved faulty names all new served same budget g c st fa =
       let m : Made hall link services each first (2 ^ 55) 1 hs ys = made hall link services each first (2 ^ 55) 1 hs xs ys all new served in
       let h : List Event = c.history in
@@ -126,19 +127,21 @@ module _ {H L : Type 0} (hall : OfHall H L) (link : OfLink L) (services : List E
       let sums : sum_by (λ (p : Held). p.budget) (map (λ s. s.after) m.shifts) ≡ sum_by (λ (p : Held). p.budget) (map (λ y. y.worker.pass) ys) = ap (sum_by (λ (p : Held). p.budget)) m.after in
       let whole = g.budget in let room = c.room in
       let few : length h ≤ made_by m.shifts = omega arith in
-      let most = owned_all 1 (length m.shifts) h in let least = few_made 1 m.shifts h b in
-      (record {
-        shifts = m.shifts;
-        opened = m.opened;
-        closing = last;
-        closed = c;
-        destinations_are = g.destinations ∙ (same ∙ names);
-        callers = all_owned 1 (length m.shifts) h (omega arith);
-        entries = exact first 1 m.shifts h m.fresh b (omega arith);
-        starved_is = st ∙ ap (list_any starved_in) (sym m.ends);
-        answered = λ e. answered m.shifts (sym (st ∙ ap (list_any starved_in) (sym m.ends)) ∙ e);
-        faulty_is = fa ∙ ap (list_any failed_in) (sym m.ends);
-      }, m.returned)
+      let most = owned_all 1 (length m.shifts) h in let least = few_made 1 m.shifts h b in (
+        record {
+          shifts = m.shifts;
+          opened = m.opened;
+          closing = last;
+          closed = c;
+          destinations_are = g.destinations ∙ (same ∙ names);
+          callers = all_owned 1 (length m.shifts) h (omega arith);
+          entries = exact first 1 m.shifts h m.fresh b (omega arith);
+          starved_is = st ∙ ap (list_any starved_in) (sym m.ends);
+          answered = λ e. answered m.shifts (sym (st ∙ ap (list_any starved_in) (sym m.ends)) ∙ e);
+          faulty_is = fa ∙ ap (list_any failed_in) (sym m.ends);
+        },
+        m.returned,
+      )
 
   -- the halls are new
   pub all_new : (hs : List H) → All (λ h. hall.faults h ≡ 0) hs → All (λ h. hall.served h ≡ []) hs → AllByRecursion (IsNew hall link services each) hs
@@ -161,12 +164,12 @@ module _ {H L : Type 0} (hall : OfHall H L) (link : OfLink L) (services : List E
   join_all first now hs xs was ys same all is served = can_join first now 1 hs xs ys same (omega arith) all (subst (λ (l : List (Post H L)). AllServed hall link services each l ys) is served)
 
   pub halls_served : {F : Type 0} (front : OfFront F H) (a b : F) (first hired last : Held) (hs : List H) (xs was ys back : List (Post H L)) (told : Closed) (starved faulty : Bool)
-    → first.destinations ≡ destinations → AllHired first (2 ^ 55) 1 hs xs → All (λ h. hall.faults h ≡ 0) hs → All (λ h. hall.served h ≡ []) hs → was ≡ xs → AllServed hall link services each was ys
-    → hired.destinations ≡ first.destinations → hired.budget + length hs * 2 ^ 55 ≡ 2 ^ 62 → back ≡ ys → Gathered hired last (map (λ w. w.worker.pass) back) → ClosedAs last told
-    → TookBack front hall.faults a b (map (λ w. w.worker.hall) back) → starved ≡ list_any starved_in (map (λ w. w.end) back) → faulty ≡ list_any failed_in (map (λ w. w.end) back)
-    → (w : Worked hall link services each hs told starved faulty) × TookBack front hall.faults a b (map (λ s. s.returned) w.shifts)
+      → first.destinations ≡ destinations → AllHired first (2 ^ 55) 1 hs xs → All (λ h. hall.faults h ≡ 0) hs → All (λ h. hall.served h ≡ []) hs → was ≡ xs → AllServed hall link services each was ys
+      → hired.destinations ≡ first.destinations → hired.budget + length hs * 2 ^ 55 ≡ 2 ^ 62 → back ≡ ys → Gathered hired last (map (λ w. w.worker.pass) back) → ClosedAs last told
+      → TookBack front hall.faults a b (map (λ w. w.worker.hall) back) → starved ≡ list_any starved_in (map (λ w. w.end) back) → faulty ≡ list_any failed_in (map (λ w. w.end) back)
+      → (w : Worked hall link services each hs told starved faulty) × TookBack front hall.faults a b (map (λ s. s.returned) w.shifts)
   halls_served {F} front a b first hired last hs xs was ys back told starved faulty names all whole fresh was_is served same budget back_is g c took st fa =
       let done = worked first hired last hs xs ys told starved faulty names all (all_new hs whole fresh) (subst (λ (l : List (Post H L)). AllServed hall link services each l ys) was_is served) same budget
-          (subst (λ (l : List (Post H L)). Gathered hired last (map (λ w. w.worker.pass) l)) back_is g) c
-          (st ∙ ap (λ (l : List (Post H L)). list_any starved_in (map (λ w. w.end) l)) back_is) (fa ∙ ap (λ (l : List (Post H L)). list_any failed_in (map (λ w. w.end) l)) back_is) in
+      (subst (λ (l : List (Post H L)). Gathered hired last (map (λ w. w.worker.pass) l)) back_is g) c
+      (st ∙ ap (λ (l : List (Post H L)). list_any starved_in (map (λ w. w.end) l)) back_is) (fa ∙ ap (λ (l : List (Post H L)). list_any failed_in (map (λ w. w.end) l)) back_is) in
       (done.0, subst (TookBack front hall.faults a b) (ap (λ (l : List (Post H L)). map (λ w. w.worker.hall) l) back_is ∙ sym done.1) took)

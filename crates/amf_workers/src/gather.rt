@@ -41,12 +41,7 @@ impl Ends {
 
 /// Gives the hall of a worker back to the front, joins its pass into the first one, and tells how it ended.
 #[tactic(none)]
-fn take_in<F: Front>(
-    desk: &Desk,
-    first: &mut Pass,
-    front: &mut F,
-    post: Post<F::Hall>,
-) -> WorkerEnd
+fn take_in<F: Front>(desk: &Desk, first: &mut Pass, front: &mut F, post: Post<F::Hall>) -> WorkerEnd
     requires desk { first.old.desk ≡ desk.now }
     requires worker { (post.worker.pass.desk ≡ desk.now) × (post.worker.pass.number ≢ 0) }
     ensures pass { JoinedTo first.old post.worker.pass first.new }

@@ -17,7 +17,8 @@ const COMMAND: &[u8] = b"\x0A\x81\x13\x4Dflex.messaging.messages.CommandMessage"
 const ASYNC: &[u8] = b"\x0A\x81\x03\x49flex.messaging.messages.AsyncMessage";
 
 /// The names of the members that all messages have.
-const NAMES: &[u8] = b"\x09body\x11clientId\x17destination\x0Fheaders\x13messageId\x15timeToLive\x13timestamp\x1BcorrelationId";
+const NAMES: &[u8] =
+    b"\x09body\x11clientId\x17destination\x0Fheaders\x13messageId\x15timeToLive\x13timestamp\x1BcorrelationId";
 
 const OPERATION: &[u8] = b"\x13operation";
 
@@ -68,7 +69,9 @@ fn requests(alloc: Global, messages: &[&[&[u8]]]) -> Result<Vec<u8>, Fail> {
             body.extend_from_slice(part)?;
         }
         let size = body.len();
-        let head = format!(in alloc; "POST /amf HTTP/1.1\r\nHost: h\r\nContent-Type: application/x-amf\r\nContent-Length: {size}\r\n\r\n")?;
+        let head = format!(in alloc;
+            "POST /amf HTTP/1.1\r\nHost: h\r\nContent-Type: application/x-amf\r\nContent-Length: {size}\r\n\r\n"
+        )?;
         bytes.extend_from_slice(head.as_bytes())?;
         bytes.extend_from_slice(body.as_slice())?;
     }
@@ -103,7 +106,9 @@ fn two_workers_at_one_desk(rt: HostRuntime) -> Result<(), Fail> {
     let one = requests(alloc, &[PING])?;
     let two = requests(alloc, &[PING, SUBSCRIBE, PUBLISH, POLL, PUBLISH])?;
     let mut front = front(alloc, one.as_slice(), two.as_slice())?;
-    let registry = Registry::new(alloc, Vec::new(alloc)).ok().ok_or("no registry")?;
+    let registry = Registry::new(alloc, Vec::new(alloc))
+        .ok()
+        .ok_or("no registry")?;
     let answer = serve(&rt, alloc, &mut front, &OpenGate, &registry, 0, 2, 1);
     assert_eq!(rt;
         answer,
