@@ -1,7 +1,6 @@
 -- Shifts, of the workers as they were hired and as they have served.
-use Rattle.std.proofs.Common.{◌≡◌, ℕ, suc, ◌+◌, ◌*◌, ◌<◌, ◌≤◌, Bool, true, false, List, [], ◌∷◌, length, map, get_or, refl, ap, sym, ◌∙◌, subst, arith}
+use Rattle.std.proofs.Common.{◌≡◌, ℕ, suc, ◌+◌, List, [], ◌∷◌, map, refl, ap, subst, arith}
 use Rattle.std.specs.List.{AllByRecursion}
-use Rattle.amf_desk.specs.Histories.{own}
 use Rattle.amf_desk.specs.Passes.{Held}
 use Rattle.amf_service.specs.Registry.{Entry}
 use Rattle.amf_gateway.specs.declared.worker.WorkerEnd.{WorkerEnd}

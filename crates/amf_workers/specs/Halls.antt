@@ -1,5 +1,5 @@
 -- What serving opened halls comes to. A device of proofs.
-use Rattle.std.specs.Prelude.{◌≡◌, ℕ, ◌+◌, ◌<◌, ◌≤◌, Bool, false, List, [], ◌++◌, length, map}
+use Rattle.std.specs.Prelude.{◌≡◌, ℕ, ◌+◌, ◌<◌, ◌≤◌, Bool, false, List, length, map}
 use Rattle.std.specs.List.{AllByRecursion, list_any}
 use Rattle.amf_desk.specs.declared.closed.Closed.{Closed}
 use Rattle.amf_desk.specs.Histories.{own}

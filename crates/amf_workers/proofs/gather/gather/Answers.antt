@@ -1,4 +1,4 @@
-use Rattle.std.proofs.Common.{◌≡◌, ◌+◌, ℕ, length, reverse, vec_len, refl, ◌∙◌, arith, rules}
+use Rattle.std.proofs.Common.{◌≡◌, ◌+◌, length, reverse, vec_len, refl, ◌∙◌, arith, rules}
 use Rattle.amf_workers.specs.Posts.{CanJoin}
 use Rattle.amf_workers.proofs.Hiring.{none_there, popped, of_popped}
 use Rattle.amf_workers.proofs.TakenIn.{none_taken, one_taken, all_taken}

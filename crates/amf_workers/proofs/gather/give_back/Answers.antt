@@ -1,4 +1,4 @@
-use Rattle.std.proofs.Common.{◌≡◌, ◌+◌, ℕ, length, vec_len, ◌∙◌, arith, rules}
+use Rattle.std.proofs.Common.{◌≡◌, ◌+◌, length, vec_len, ◌∙◌, arith, rules}
 use Rattle.amf_workers.proofs.Hiring.{none_there}
 use Rattle.amf_workers.proofs.TakenIn.{took_one, halls_none, halls_next, halls_all}
 use Rattle.amf_workers.proofs.gather.give_back.Goals as goal

@@ -1,4 +1,4 @@
-use Rattle.std.proofs.Common.{◌≡◌, ◌+◌, ◌*◌, ◌^◌, ℕ, false, List, length, vec_len, refl, sym, ap, ◌∙◌, subst, arith, rules}
+use Rattle.std.proofs.Common.{◌≡◌, ◌+◌, ◌*◌, ◌^◌, ℕ, false, List, length, vec_len, refl, sym, ◌∙◌, subst, arith, rules}
 use Rattle.amf_gateway.specs.declared.worker.WorkerEnd.TheVariants.{Done}
 use Rattle.amf_workers.specs.declared.post.Post.{Post}
 use Rattle.amf_workers.proofs.Hiring.{none_there, SoFar, as_many, none_hired, one_hired, all_hired}
