@@ -1,4 +1,8 @@
-use crate::*;
+use amf_wire::{
+    Name, NameEnd, Pattern, U29, U29Read, be16_at, be32_at, be64_at, first_bad, is_amf_text,
+    one_shortest_u29, pattern_of, read_u29, sign29, unsign29, whole_numbers, whole_of,
+    worked_facts, write_u29,
+};
 use std::test::Fail;
 
 #[test]
