@@ -2,4 +2,12 @@
 #![tactic(auto)]
 
 #[cfg(test)]
+mod io_cursor_tests;
+#[cfg(test)]
+mod io_format_tests;
+#[cfg(test)]
+mod io_hall_tests;
+#[cfg(test)]
+mod io_outside_tests;
+#[cfg(test)]
 mod wire_tests;

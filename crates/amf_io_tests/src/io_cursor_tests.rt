@@ -1,6 +1,6 @@
 ghost use Rattle.amf_io.specs.Cursor.{Counts};
 
-use crate::{Cursor, CursorEnd, FaultlessSource, MemorySource, Source, Window};
+use amf_io::{Cursor, CursorEnd, FaultlessSource, MemorySource, Source, Window};
 use std::alloc::Global;
 
 /// The first byte, with a cursor that is gone then. Where there is no memory for it, the source

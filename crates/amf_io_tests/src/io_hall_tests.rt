@@ -1,6 +1,6 @@
 ghost use Rattle.std.specs.Prelude.{◌≡◌, length, IfOk};
 
-use crate::{
+use amf_io::{
     Clock, Dice, Failed, FaultlessFront, FaultlessHall, FaultlessLink, FaultlessSink,
     FaultlessSource, Front, Gate, Hall, Joined, Link, MemoryFront, MemoryHall, MemoryLink,
     MemorySink, MemorySource, OpenEnd, OpenGate,

@@ -1,4 +1,4 @@
-use crate::{
+use amf_io::{
     Failed, FaultlessSink, MemorySink, Sink, Source, StandardError, StandardInput, StandardOutput,
 };
 
