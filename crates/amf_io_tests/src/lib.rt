@@ -2,6 +2,10 @@
 #![tactic(auto)]
 
 #[cfg(test)]
+mod http_loopback_tests;
+#[cfg(test)]
+mod http_tests;
+#[cfg(test)]
 mod io_cursor_tests;
 #[cfg(test)]
 mod io_format_tests;

@@ -1,4 +1,4 @@
-use crate::{HttpBuffer, next_request, write_response};
+use amf_http::{HttpBuffer, next_request, write_response};
 use amf_io::{Clock, Dice, Front, Hall, TcpFront, TcpHall};
 use std::io::{Read, Write};
 use std::net::{TcpListener, TcpStream};

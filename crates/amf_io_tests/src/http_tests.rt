@@ -1,7 +1,7 @@
 ghost use Rattle.std.specs.Prelude.{◌≡◌};
 ghost use Rattle.amf_http.specs.Response.{is_status};
 
-use super::*;
+use amf_http::{AnswerEnd, HttpBuffer, HttpEnd, next_request, write_response};
 use amf_io::{FaultlessSink, FaultlessSource, Joined, MemorySink, MemorySource};
 use amf_wire::Memory;
 use std::alloc::Global;
