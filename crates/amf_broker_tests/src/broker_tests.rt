@@ -1,4 +1,6 @@
-use crate::*;
+use amf_broker::{
+    Answer, Broker, Call, ClientId, ClientIds, Deliveries, Delivery, Reply, SubId, SubIds, Topic,
+};
 use amf_wire::Name;
 use std::alloc::Global;
 use std::process::Abort;

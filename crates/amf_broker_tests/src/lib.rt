@@ -1,0 +1,5 @@
+//! Tests of the broker and its desk, and nothing else.
+#![tactic(auto)]
+
+#[cfg(test)]
+mod broker_tests;
