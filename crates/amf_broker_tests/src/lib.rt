@@ -3,3 +3,5 @@
 
 #[cfg(test)]
 mod broker_tests;
+#[cfg(test)]
+mod desk_tests;

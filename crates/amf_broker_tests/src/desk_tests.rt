@@ -1,8 +1,8 @@
 ghost use Rattle.std.specs.Prelude.{◌≡◌, ◌≢◌, ◌+◌, ◌^◌, ◌≤◌, All, IfOk};
 ghost use Rattle.std.specs.Thread.{IsSync};
 
-use crate::*;
 use amf_broker::{Call, ClientId, Deliveries, Reply, SubId, Topic};
+use amf_desk::{Closed, Desk, DeskEnd, Pass};
 use amf_wire::Name;
 use std::alloc::Global;
 use std::process::Abort;
