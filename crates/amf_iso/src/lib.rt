@@ -13,8 +13,6 @@ mod numbering;
 mod pairs;
 mod parts;
 mod relabelling;
-#[cfg(test)]
-mod tests;
 
 pub use compare::isomorphic;
 pub use met::values_met;

@@ -2,8 +2,8 @@ ghost use Rattle.std.specs.Prelude.{◌≡◌, length, IfOk, OnOk};
 ghost use Rattle.amf_graph.specs.Arena.{Names};
 ghost use Rattle.amf_graph.specs.Building.{kept_text};
 
-use crate::{Numbering, by_name, ids_by_name, isomorphic, relabel, values_met};
 use amf_graph::{Builder, NodeId, Part, Rooted, Shape, TextId, Value};
+use amf_iso::{Numbering, by_name, ids_by_name, isomorphic, relabel, values_met};
 use amf_wire::is_amf_text;
 use std::alloc::Global;
 use std::test::Fail;
