@@ -5,3 +5,5 @@
 mod graph_tests;
 #[cfg(test)]
 mod tables_tests;
+#[cfg(test)]
+mod vectors_tests;

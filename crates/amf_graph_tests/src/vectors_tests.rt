@@ -1,5 +1,5 @@
-use crate::{make, vectors};
 use amf_graph::{NodeId, NodeView, Value};
+use amf_vectors::{make, vectors};
 use std::test::Fail;
 
 #[test]
