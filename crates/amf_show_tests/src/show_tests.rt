@@ -2,8 +2,8 @@ ghost use Rattle.std.specs.Prelude.{◌≡◌, length, IfOk, OnOk};
 ghost use Rattle.amf_graph.specs.Arena.{Names};
 ghost use Rattle.amf_graph.specs.Building.{kept_text};
 
-use crate::{count_nodes, listing_laws, listing_rows, show, show_text};
 use amf_graph::{Builder, Leaf, Part, Rooted, Shape, TextId, Value, Wrapped};
+use amf_show::{count_nodes, listing_laws, listing_rows, show, show_text};
 use amf_wire::{Pattern, is_amf_text};
 use std::alloc::Global;
 use std::process::Abort;
