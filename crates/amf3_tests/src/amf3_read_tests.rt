@@ -1,4 +1,3 @@
-use crate::{Values3, pairs_have_one_verdict, read3, read3_text, texts_have_one_verdict};
 use amf_graph::{Builder, NodeId, NodeView, Rooted, TextId, Value};
 use amf_io::{
     Cursor, MemorySource, ReadEnd, Reason, Refusal, faults_are_first, next_kind_is_fixed,
@@ -6,6 +5,7 @@ use amf_io::{
 };
 use amf_tables::Tables3;
 use amf_wire::Pattern;
+use amf3_read::{Values3, pairs_have_one_verdict, read3, read3_text, texts_have_one_verdict};
 use std::alloc::Global;
 use std::test::Fail;
 

@@ -1,0 +1,5 @@
+//! Tests of the reader and the writer of AMF 3, and nothing else.
+#![tactic(auto)]
+
+#[cfg(test)]
+mod amf3_read_tests;
