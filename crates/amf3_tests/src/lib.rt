@@ -3,3 +3,5 @@
 
 #[cfg(test)]
 mod amf3_read_tests;
+#[cfg(test)]
+mod amf3_write_tests;

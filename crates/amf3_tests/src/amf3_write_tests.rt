@@ -3,12 +3,12 @@ ghost use Rattle.amf_graph.specs.Arena.{IsTextId, Names, value_content};
 ghost use Rattle.amf_graph.specs.Reached.{IsReachedValue};
 ghost use Rattle.amf_graph.specs.Rooted.{content};
 
-use crate::{
-    GraphTables, write3, write3_keyed, write3_part, write3_part_of, write3_text, write3_text_of,
-};
 use amf_graph::{Builder, Lack, LackKind, NodeView, Part, Rooted, Shape, TextId, Value, WriteEnd};
 use amf_tables::WriterTables;
 use amf_wire::is_amf_text;
+use amf3_write::{
+    GraphTables, write3, write3_keyed, write3_part, write3_part_of, write3_text, write3_text_of,
+};
 use std::alloc::Global;
 use std::test::Fail;
 
