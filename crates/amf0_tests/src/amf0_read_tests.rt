@@ -1,7 +1,7 @@
-use crate::{Read0, read0};
 use amf_graph::{Builder, NodeId, NodeView, Rooted, TextId, Value};
 use amf_io::{Cursor, MemorySource, ReadEnd, Reason, Refusal};
 use amf_wire::Pattern;
+use amf0_read::{Read0, read0};
 use amf0_tables::{Form, Tables0};
 use std::alloc::Global;
 use std::test::Fail;

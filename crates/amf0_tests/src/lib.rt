@@ -1,0 +1,5 @@
+//! Tests of the reader and the writer of AMF 0, and nothing else.
+#![tactic(auto)]
+
+#[cfg(test)]
+mod amf0_read_tests;
