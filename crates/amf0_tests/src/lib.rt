@@ -3,3 +3,5 @@
 
 #[cfg(test)]
 mod amf0_read_tests;
+#[cfg(test)]
+mod amf0_write_tests;

@@ -1,11 +1,11 @@
 ghost use Rattle.std.specs.Prelude.{◌≡◌, IfOk};
 ghost use Rattle.amf_graph.specs.Arena.{Names};
 
-use crate::{first_lack0, lower, write0, write0_part};
 use amf_graph::{Builder, Lack, LackKind, Leaf, Part, Rooted, Shape, Value, Wrapped, WriteEnd};
 use amf_tables::WriterTables;
 use amf_wire::{Pattern, is_amf_text};
 use amf0_tables::graphs_have_one_lowering;
+use amf0_write::{first_lack0, lower, write0, write0_part};
 use std::alloc::Global;
 use std::process::Abort;
 use std::test::Fail;
