@@ -1,18 +1,18 @@
-ghost use Rattle.std.specs.Prelude.{◌≡◌, length, IfOk, OnOk};
+ghost use Rattle.std.specs.Prelude.{◌≡◌, IfOk};
 ghost use Rattle.amf_wire.specs.Text.{IsText};
 ghost use Rattle.amf_graph.specs.Arena.{Names};
-ghost use Rattle.amf_graph.specs.Building.{kept_text};
 ghost use Rattle.amf_graph.specs.declared.value.Value.TheVariants.{Null};
 ghost use Rattle.flex_msgs.specs.Built.{IsReply};
 
-use crate::replies::add_command;
-use crate::writing::{add_headers, add_object};
-use crate::{
+use amf_graph::{Builder, Rooted, Shape, Value};
+use amf_io::{Cursor, MemorySource};
+use amf_tables::Tables3;
+use amf_wire::Name;
+use amf3_read::read3;
+use flex_msgs::{
     FaultText, Member, NotAMessage, Reply, Request, acknowledge, delivered, error, invalidate,
     is_stored, published, sync, view,
 };
-use amf_graph::{Builder, Part, Rooted, Shape, TextId, Value};
-use amf_wire::{Name, is_amf_text};
 use std::alloc::Global;
 use std::process::Abort;
 use std::test::Fail;
@@ -24,17 +24,6 @@ fn name(alloc: Global, characters: &str) -> Result<Name, Fail>
     Ok(Name::from_bytes(alloc, characters.as_bytes())?)
 }
 
-/// Keeps a text.
-fn text(builder: &mut Builder, bytes: &[u8]) -> Result<TextId, Fail>
-    ensures id { IfOk result (λ text. text.0 ≡ length builder.old.texts) }
-    ensures kept { OnOk result (builder.new ≡ kept_text builder.old bytes.now) }
-{
-    if !is_amf_text(bytes) {
-        return Err("no text")?;
-    }
-    Ok(builder.text(bytes)?)
-}
-
 /// The graph with this root.
 fn finished(builder: Builder, root: Value) -> Result<Rooted, Fail>
     requires { Names builder root }
@@ -43,46 +32,57 @@ fn finished(builder: Builder, root: Value) -> Result<Rooted, Fail>
     Ok(graph)
 }
 
+/// The graph that these bytes of AMF 3 spell.
+fn graph_of(alloc: Global, bytes: &[u8]) -> Result<Rooted, Fail> {
+    let mut source = MemorySource::new(alloc, bytes, 1000, 0, &[])?;
+    let mut cursor = Cursor::new(alloc, &mut source, 1000)?;
+    let mut builder = Builder::new(alloc)?;
+    let mut tables = Tables3::new(alloc)?;
+    let Ok(root) = read3(alloc, &mut cursor, &mut builder, &mut tables) else {
+        return Err("no value")?;
+    };
+    Ok(builder.finish(root).ok().ok_or("an open node")?)
+}
+
+/// Spells a text in AMF 3.
+fn spell(out: &mut Vec<u8>, text: &str) -> Result<(), Fail> {
+    if text.len() >= 64 {
+        return Err("a long text")?;
+    }
+    out.push(text.len() as u8 * 2 + 1)?;
+    out.extend_from_slice(text.as_bytes())?;
+    Ok(())
+}
+
 /// A message of this class with one member, which is undefined.
 fn with_member(alloc: Global, class: &str, member: &str) -> Result<Rooted, Fail> {
-    let mut builder = Builder::new(alloc)?;
-    let class = text(&mut builder, class.as_bytes())?;
-    let member = text(&mut builder, member.as_bytes())?;
-    let traits = builder.traits(class, true, &[])?;
-    let members = [(member, Value::Undefined)];
-    let root = add_object(&mut builder, traits, &[], &members)?;
-    finished(builder, Value::Node(root))
+    let mut bytes = vec![in alloc; 0x0A, 0x0B]?;
+    spell(&mut bytes, class)?;
+    spell(&mut bytes, member)?;
+    bytes.extend_from_slice(&[0x00, 0x01])?;
+    graph_of(alloc, &bytes)
 }
 
 /// A CommandMessage whose operation stands among the sealed members and among the others.
 fn with_two_operations(alloc: Global, sealed: u8, other: u8) -> Result<Rooted, Fail> {
-    let mut builder = Builder::new(alloc)?;
-    let class = text(&mut builder, b"flex.messaging.messages.CommandMessage")?;
-    let member = text(&mut builder, b"operation")?;
-    let traits = builder.traits(class, true, &[member])?;
-    let members = [(member, Value::Integer(i32::from(other)))];
-    let root = add_object(
-        &mut builder,
-        traits,
-        &[Value::Integer(i32::from(sealed))],
-        &members,
-    )?;
-    finished(builder, Value::Node(root))
+    let mut bytes = vec![in alloc; 0x0A, 0x1B]?;
+    spell(&mut bytes, "flex.messaging.messages.CommandMessage")?;
+    spell(&mut bytes, "operation")?;
+    bytes.extend_from_slice(&[0x04, sealed])?;
+    spell(&mut bytes, "operation")?;
+    bytes.extend_from_slice(&[0x04, other, 0x01])?;
+    graph_of(alloc, &bytes)
 }
 
 /// An AsyncMessage with headers that are an array of one name, which is undefined.
 fn with_header(alloc: Global, header: &str) -> Result<Rooted, Fail> {
-    let mut builder = Builder::new(alloc)?;
-    let class = text(&mut builder, b"flex.messaging.messages.AsyncMessage")?;
-    let member = text(&mut builder, b"headers")?;
-    let header = text(&mut builder, header.as_bytes())?;
-    let traits = builder.traits(class, true, &[])?;
-    let headers = builder.open_node(Shape::Array)?;
-    builder.put(headers, Part::Named(header, Value::Undefined))?;
-    builder.close_node(headers);
-    let members = [(member, Value::Node(headers))];
-    let root = add_object(&mut builder, traits, &[], &members)?;
-    finished(builder, Value::Node(root))
+    let mut bytes = vec![in alloc; 0x0A, 0x0B]?;
+    spell(&mut bytes, "flex.messaging.messages.AsyncMessage")?;
+    spell(&mut bytes, "headers")?;
+    bytes.extend_from_slice(&[0x09, 0x01])?;
+    spell(&mut bytes, header)?;
+    bytes.extend_from_slice(&[0x00, 0x01, 0x01])?;
+    graph_of(alloc, &bytes)
 }
 
 /// What a message is told: its client, destination, DSId and identifier.
@@ -101,13 +101,35 @@ fn told(alloc: Global, texts: [&str; 4]) -> Result<Reply, Fail>
     })
 }
 
+/// An object of nine sealed members, with the class and the names of a CommandMessage.
+const COMMAND: &[u8] = b"\x0A\x81\x13\x4Dflex.messaging.messages.CommandMessage\
+    \x09body\x11clientId\x17destination\x0Fheaders\x13messageId\
+    \x15timeToLive\x13timestamp\x1BcorrelationId\x13operation";
+
+/// Spells a text that is a value; where `is_null`, the empty one is null.
+fn spell_value(out: &mut Vec<u8>, text: &str, is_null: bool) -> Result<(), Fail> {
+    if is_null && text.is_empty() {
+        out.push(0x01)?;
+        return Ok(());
+    }
+    out.push(0x06)?;
+    spell(out, text)
+}
+
 /// A CommandMessage.
 fn command(alloc: Global, operation: u8, texts: [&str; 4]) -> Result<Rooted, Fail> {
-    let mut builder = Builder::new(alloc)?;
-    let reply = told(alloc, texts)?;
-    let headers = add_headers(&mut builder, &reply.ds_id)?;
-    let root = add_command(alloc, &mut builder, &reply, operation, Value::Null, headers)?;
-    finished(builder, root)
+    let mut bytes = COMMAND.to_vec(alloc)?;
+    bytes.push(0x01)?;
+    spell_value(&mut bytes, texts[0], true)?;
+    spell_value(&mut bytes, texts[1], false)?;
+    bytes.extend_from_slice(b"\x0A\x0B\x01\x09DSId")?;
+    spell_value(&mut bytes, texts[2], false)?;
+    bytes.push(0x01)?;
+    spell_value(&mut bytes, texts[3], false)?;
+    bytes.extend_from_slice(&[0x04, 0x00, 0x05, 0, 0, 0, 0, 0, 0, 0, 0])?;
+    spell_value(&mut bytes, "c", false)?;
+    bytes.extend_from_slice(&[0x04, operation])?;
+    graph_of(alloc, &bytes)
 }
 
 /// Checks why a graph is no message, or that it is one.

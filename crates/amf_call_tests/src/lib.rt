@@ -1,0 +1,5 @@
+//! Tests of the messages of Flex clients and of services, and nothing else.
+#![tactic(auto)]
+
+#[cfg(test)]
+mod flex_tests;
