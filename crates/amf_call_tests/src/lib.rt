@@ -3,3 +3,5 @@
 
 #[cfg(test)]
 mod flex_tests;
+#[cfg(test)]
+mod service_tests;

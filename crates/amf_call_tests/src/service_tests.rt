@@ -1,15 +1,17 @@
 ghost use Rattle.std.specs.Prelude.{◌≡◌, ◌≤◌, ◌<◌, true, [], bytes_eq, codes, length, pos, IfOk, OnOk};
 ghost use Rattle.std.specs.List.{AllByRecursion};
-ghost use Rattle.amf_graph.specs.Arena.{Names as NamesIn};
+ghost use Rattle.amf_graph.specs.Arena.{Names as NamesIn, array};
 ghost use Rattle.amf_graph.specs.Bounds.{weight};
-ghost use Rattle.amf_graph.specs.Building.{no_arena, kept_text};
+ghost use Rattle.amf_graph.specs.Building.{no_arena, kept_text, kept_node, closed};
 ghost use Rattle.amf_graph.specs.Graph.{leaf, integer};
 ghost use Rattle.amf_service.specs.Meaning.{result as Gave, heaviest_arguments};
 ghost use Rattle.amf_service.specs.Shipped.{items_of, or_fault};
 
-use crate::texts::add_array;
-use crate::*;
-use amf_graph::{Builder, Part, Rooted, Shape, TextId, Value};
+use amf_graph::{BuildEnd, Builder, NodeId, Part, Rooted, Shape, TextId, Value};
+use amf_service::{
+    CallEnd, Echo, Names, Registry, RegistryEnd, Service, ServiceEnd, Sum, fault, is_named, items,
+    service_laws, service_rows, whole,
+};
 use amf_wire::{Name, Pattern, is_amf_text};
 use std::alloc::Global;
 use std::process::Abort;
@@ -84,6 +86,21 @@ fn are_small(items: &[Value]) -> bool
         }
     }
     true
+}
+
+/// Adds an array of these values.
+fn add_array(builder: &mut Builder, items: &[Value]) -> Result<NodeId, BuildEnd>
+    requires names { AllByRecursion (NamesIn builder.old) items.now }
+    ensures id { IfOk result (λ n. n.0 ≡ length builder.old.nodes) }
+    ensures ok { OnOk result (builder.new ≡ kept_node builder.old (closed array [] items.now)) }
+{
+    builder.is_built();
+    let node = builder.open_node(Shape::Array)?;
+    for item in items {
+        builder.put(node, Part::Item(*item))?;
+    }
+    builder.close_node(node);
+    Ok(node)
 }
 
 /// An array of these numbers, which are few and small.

@@ -7,7 +7,7 @@ use Rattle.amf_graph.specs.Building.{no_arena}
 use Rattle.amf_graph.proofs.Alls.{all_push}
 use Rattle.amf_service.proofs.MadeArrays.{one_more}
 use Rattle.amf_service.proofs.Totals.{all_taken}
-use Rattle.amf_service.proofs.tests.are_small.Goals as goal
+use Rattle.amf_call_tests.proofs.service_tests.are_small.Goals as goal
 
 pub loop-item-preserved : goal.loop-item-preserved
 loop-item-preserved c =

@@ -12,7 +12,7 @@ use Rattle.amf_service.specs.Meaning.{Given, Meanings, given, result}
 use Rattle.amf_service.specs.Shipped.{wrong_arguments, items_of, or_fault}
 use Rattle.amf_service.proofs.Answering.{known, faulted, wrong_is_fault}
 use Rattle.amf_service.proofs.Lawful.{leaf_alike}
-use Rattle.amf_service.proofs.tests.CountService.answers.Goals as goal
+use Rattle.amf_call_tests.proofs.service_tests.CountService.answers.Goals as goal
 
 abbrev counted : List Value → Given
 counted vs = result (record { nodes = []; root = leaf (integer (pos (length vs))) })

@@ -7,7 +7,7 @@ use Rattle.amf_graph.specs.Isomorphic.{ValuesMatch, StandIn}
 use Rattle.amf_service.specs.Meaning.{result}
 use Rattle.amf_service.specs.Shipped.{items_of}
 use Rattle.amf_service.proofs.Lawful.{fault_match, zip_length, items_alike, leaf_alike}
-use Rattle.amf_service.proofs.tests.CountService.is_lawful.Goals as goal
+use Rattle.amf_call_tests.proofs.service_tests.CountService.is_lawful.Goals as goal
 
 pub returns : goal.returns
 returns c = record {
