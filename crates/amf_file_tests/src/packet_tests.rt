@@ -4,12 +4,12 @@ ghost use Rattle.amf_packet.specs.Content.{packet_of};
 ghost use Rattle.amf_packet.specs.Packet.{is_version};
 ghost use Rattle.amf_packet.specs.WrittenPacket.{HasTexts};
 
-use crate::{
+use amf_graph::{Builder, Lack, LackKind, Rooted, Value};
+use amf_io::{Cursor, MemorySource, ReadEnd, Reason, Refusal};
+use amf_packet::{
     Body, Headers, Message, Messages, Packet, PacketEnd, packet_rows, packet_verdict_rows,
     packets_have_one_verdict, read_packet, write_packet,
 };
-use amf_graph::{Builder, Lack, LackKind, Rooted, Value};
-use amf_io::{Cursor, MemorySource, ReadEnd, Reason, Refusal};
 use amf_wire::{Name, is_amf_text};
 use std::alloc::Global;
 use std::test::Fail;
