@@ -2,4 +2,6 @@
 #![tactic(auto)]
 
 #[cfg(test)]
+mod packet_show_tests;
+#[cfg(test)]
 mod show_tests;

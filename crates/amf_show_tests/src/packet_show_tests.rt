@@ -1,8 +1,8 @@
-use crate::{
-    count_packet_nodes, packet_has_lowering, packet_laws, packet_listing_rows, show_packet,
-};
 use amf_io::{Cursor, MemorySource};
 use amf_packet::{Packet, read_packet};
+use amf_packet_show::{
+    count_packet_nodes, packet_has_lowering, packet_laws, packet_listing_rows, show_packet,
+};
 use std::alloc::Global;
 use std::test::Fail;
 
