@@ -3,3 +3,9 @@
 
 #[cfg(test)]
 mod packet_tests;
+#[cfg(test)]
+mod sol_read_tests;
+#[cfg(test)]
+mod sol_tests;
+#[cfg(test)]
+mod sol_write_tests;

@@ -1,6 +1,6 @@
-use crate::{SharedObject, SolVersion, read_sol};
 use amf_graph::NodeView;
 use amf_io::{Cursor, MemorySource, ReadEnd, Reason, Refusal};
+use amf_sol::{SharedObject, SolVersion, read_sol};
 use std::alloc::Global;
 use std::test::Fail;
 

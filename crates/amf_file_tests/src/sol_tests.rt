@@ -1,8 +1,8 @@
-use crate::{
+use amf_graph::{Builder, Part, Rooted, Shape, Value};
+use amf_sol::{
     SharedObject, SolEnd, SolVersion, file_faults_are_first, files_fix_next_kind,
     files_have_holders, files_have_one_verdict, worked_files,
 };
-use amf_graph::{Builder, Part, Rooted, Shape, Value};
 use amf_wire::{Name, is_amf_text};
 use std::alloc::Global;
 use std::test::Fail;

@@ -1,8 +1,8 @@
 ghost use Rattle.std.specs.Prelude.{◌≡◌, IfOk};
 ghost use Rattle.amf_graph.specs.Arena.{Names};
 
-use crate::{SharedObject, SolVersion, files_or_lacks, write_sol};
 use amf_graph::{Builder, Lack, LackKind, Leaf, Part, Rooted, Shape, Value, WriteEnd};
+use amf_sol::{SharedObject, SolVersion, files_or_lacks, write_sol};
 use amf_wire::{Name, Pattern, is_amf_text};
 use std::alloc::Global;
 use std::process::Abort;
