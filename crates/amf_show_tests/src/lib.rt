@@ -5,3 +5,5 @@
 mod packet_show_tests;
 #[cfg(test)]
 mod show_tests;
+#[cfg(test)]
+mod sol_show_tests;

@@ -1,6 +1,6 @@
-use crate::{file_has_lowering, file_laws, file_listing_rows, show_file};
 use amf_graph::{Builder, Part, Rooted, Shape, Value};
 use amf_sol::{SharedObject, SolVersion};
+use amf_sol_show::{file_has_lowering, file_laws, file_listing_rows, show_file};
 use amf_wire::{Name, is_amf_text};
 use std::alloc::Global;
 use std::test::Fail;
