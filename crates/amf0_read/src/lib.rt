@@ -8,8 +8,6 @@ mod front;
 mod leaf;
 mod marker;
 mod node;
-#[cfg(test)]
-mod tests;
 mod text;
 mod value;
 

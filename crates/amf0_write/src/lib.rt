@@ -11,8 +11,6 @@ mod open;
 mod output;
 mod part_lack;
 mod stop;
-#[cfg(test)]
-mod tests;
 mod unwritten;
 mod values;
 mod write;

@@ -14,8 +14,6 @@ mod leaf;
 mod node;
 mod number;
 mod opening;
-#[cfg(test)]
-mod tests;
 mod text;
 mod traits;
 mod value;

@@ -10,8 +10,6 @@ mod open;
 mod output;
 mod pairs;
 mod part;
-#[cfg(test)]
-mod tests;
 mod traits;
 mod unwritten;
 mod values;

@@ -26,6 +26,3 @@ pub use limits::{MAX_CLIENTS, MAX_IDLE, MAX_MESSAGE, MAX_QUEUED, MAX_SUBS, MAX_S
 pub use payload::Payload;
 pub use reply::{Answer, ClientIds, Deliveries, Delivery, Reply, SubIds};
 pub use topic::Topic;
-
-#[cfg(test)]
-mod tests;

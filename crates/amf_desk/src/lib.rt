@@ -19,6 +19,3 @@ pub use desk::Desk;
 pub use laws::{all_was_seen, own_entries, seen_goes_on};
 pub use pass::Pass;
 pub use view::{DeskRule, Entry, Stage, View};
-
-#[cfg(test)]
-mod tests;

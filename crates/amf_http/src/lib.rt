@@ -6,14 +6,10 @@ mod ends;
 mod fields;
 mod judge;
 mod laws;
-#[cfg(test)]
-mod loopback_tests;
 mod next;
 mod read;
 mod request;
 mod response;
-#[cfg(test)]
-mod tests;
 
 pub use buffer::HttpBuffer;
 pub use ends::{AnswerEnd, HttpEnd};

@@ -4,24 +4,18 @@
 mod calls;
 mod clock;
 mod cursor;
-#[cfg(test)]
-mod cursor_tests;
 mod dice;
 mod ends;
 mod format;
 mod front;
 mod gate;
 mod hall;
-#[cfg(test)]
-mod hall_tests;
 mod link;
 mod memory_front;
 mod memory_hall;
 mod memory_sink;
 mod memory_source;
 mod numbers;
-#[cfg(test)]
-mod outside_tests;
 mod reason;
 mod sink;
 mod source;

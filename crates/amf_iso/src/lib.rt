@@ -5,8 +5,6 @@
 
 mod compare;
 mod equal_texts;
-#[cfg(test)]
-mod graph_tests;
 mod heads;
 mod matches;
 mod met;
@@ -15,10 +13,6 @@ mod numbering;
 mod pairs;
 mod parts;
 mod relabelling;
-#[cfg(test)]
-mod tables_tests;
-#[cfg(test)]
-mod tests;
 
 pub use compare::isomorphic;
 pub use met::values_met;

@@ -8,8 +8,6 @@ mod packet_end;
 mod read;
 mod read_body;
 mod read_field;
-#[cfg(test)]
-mod tests;
 mod write;
 mod write_body;
 mod write_parts;

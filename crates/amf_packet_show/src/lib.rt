@@ -7,8 +7,6 @@ mod lines;
 mod listing;
 mod lowering;
 mod nodes;
-#[cfg(test)]
-mod tests;
 
 pub use facts::{packet_laws, packet_listing_rows};
 pub use listing::show_packet;

@@ -23,6 +23,3 @@ pub use names::Names;
 pub use registry::{CallEnd, Registry, RegistryEnd};
 pub use service::{Service, ServiceEnd};
 pub use sum::Sum;
-
-#[cfg(test)]
-mod tests;

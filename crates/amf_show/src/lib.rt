@@ -11,8 +11,6 @@ mod listing;
 mod node;
 mod numbers;
 mod pairs;
-#[cfg(test)]
-mod tests;
 mod text;
 mod value;
 mod vectors;

@@ -9,18 +9,12 @@ mod holder;
 mod laws;
 mod pairs;
 mod read;
-#[cfg(test)]
-mod read_tests;
 mod shared_object;
 mod sol_end;
 mod sol_version;
-#[cfg(test)]
-mod tests;
 mod write;
 mod write_head;
 mod write_pairs;
-#[cfg(test)]
-mod write_tests;
 
 pub use facts::worked_files;
 pub use laws::{

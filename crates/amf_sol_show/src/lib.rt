@@ -4,8 +4,6 @@
 mod facts;
 mod listing;
 mod lowering;
-#[cfg(test)]
-mod tests;
 
 pub use facts::{file_laws, file_listing_rows};
 pub use listing::show_file;

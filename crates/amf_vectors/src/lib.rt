@@ -4,8 +4,6 @@
 mod facts;
 mod maker;
 mod numbers;
-#[cfg(test)]
-mod tests;
 mod vector;
 
 pub use facts::made_rows;

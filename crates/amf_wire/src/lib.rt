@@ -7,8 +7,6 @@ mod integer;
 mod memory;
 mod name;
 mod pattern;
-#[cfg(test)]
-mod tests;
 mod text;
 mod u29;
 mod u29_bytes;

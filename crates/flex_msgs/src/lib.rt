@@ -10,8 +10,6 @@ mod replies;
 mod reply;
 mod request;
 mod stored;
-#[cfg(test)]
-mod tests;
 mod viewing;
 mod writing;
 

@@ -1,6 +1,0 @@
--- The pass is still of its desk, with its number.
-use Rattle.std.proofs.Common.{◌≡◌}
-use Rattle.amf_desk.proofs.tests.Worker.work.Given as goal
-
-abbrev pub invariant-loop-round : goal.invariant-loop-round
-invariant-loop-round g l = (l.self.pass.desk ≡ l.initial.self.pass.desk) × (l.self.pass.number ≡ l.initial.self.pass.number)

@@ -1,6 +1,0 @@
--- All passes are of the desk, and those of the workers are not the first.
-use Rattle.std.proofs.Common.{◌≡◌, ◌≢◌, All}
-use Rattle.amf_desk.proofs.tests.hire.Given as goal
-
-abbrev pub invariant-loop-number : goal.invariant-loop-number
-invariant-loop-number l = (l.first.desk ≡ l.desk) × (l.first.number ≡ 0) × All (λ w. (w.pass.desk ≡ l.desk) × (w.pass.number ≢ 0)) l.workers.items

@@ -1,0 +1,196 @@
+ghost use Rattle.std.specs.Prelude.{◌≡◌, true, IfOk};
+ghost use Rattle.amf_wire.specs.Text.{IsText};
+ghost use Rattle.amf_packet.specs.Content.{packet_of};
+ghost use Rattle.amf_packet.specs.Packet.{is_version};
+ghost use Rattle.amf_packet.specs.WrittenPacket.{HasTexts};
+
+use amf_graph::{Builder, Lack, LackKind, Rooted, Value};
+use amf_io::{Cursor, MemorySource, ReadEnd, Reason, Refusal};
+use amf_packet::{
+    Body, Headers, Message, Messages, Packet, PacketEnd, packet_rows, packet_verdict_rows,
+    packets_have_one_verdict, read_packet, write_packet,
+};
+use amf_wire::{Name, is_amf_text};
+use std::alloc::Global;
+use std::test::Fail;
+
+/// Two headers and two messages in all forms, with a flag, lengths and texts that no writer gives.
+const ODD: &[u8] = b"\x00\x03\x00\x02\
+    \x00\x01h\x07\x12\x34\x56\x78\x0A\x00\x00\x00\x01\x0C\x00\x00\x00\x02hi\
+    \x00\x00\x00\x00\x00\x00\x00\x11\x04\x80\x05\
+    \x00\x02\
+    \x00\x01t\x00\x02/1\x00\x00\x00\x01\x0A\x00\x00\x00\x01\x11\x04\x05\
+    \x00\x00\x00\x01r\x99\x99\x99\x99\x0A\x00\x00\x00\x02\x11\x01\x05";
+
+/// The same packet as it is written behind a byte that was there.
+const CANONICAL: &[u8] = b"\xAA\x00\x03\x00\x02\
+    \x00\x01h\x01\xFF\xFF\xFF\xFF\x0A\x00\x00\x00\x01\x02\x00\x02hi\
+    \x00\x00\x00\xFF\xFF\xFF\xFF\x11\x04\x05\
+    \x00\x02\
+    \x00\x01t\x00\x02/1\xFF\xFF\xFF\xFF\x0A\x00\x00\x00\x01\x11\x04\x05\
+    \x00\x00\x00\x01r\xFF\xFF\xFF\xFF\x11\x09\x05\x01\x01\x01";
+
+/// Two messages, of which the second has the empty name in an object, and AMF 3 behind it.
+const NAMELESS: &[u8] = b"\x00\x00\x00\x00\x00\x02\
+    \x00\x00\x00\x00\x00\x00\x00\x00\x05\
+    \x00\x00\x00\x00\x00\x00\x00\x00\x0A\x00\x00\x00\x02\x03\x00\x00\x05\x00\x00\x09\x11\x01";
+
+/// What is read of these bytes within a limit, in pieces of at most so many.
+fn read_of(
+    alloc: Global,
+    bytes: &[u8],
+    limit: u16,
+    most: usize,
+) -> Result<Result<Packet, ReadEnd>, Fail>
+    ensures version { IfOk result (λ read. IfOk read (λ packet. is_version packet.version ≡ true)) }
+    ensures texts { IfOk result (λ read. IfOk read (λ packet. HasTexts (packet_of packet))) }
+{
+    let mut source = MemorySource::new(alloc, bytes, most, 0, &[])?;
+    let mut cursor = Cursor::new(alloc, &mut source, limit as u32)?;
+    Ok(read_packet(alloc, &mut cursor))
+}
+
+/// What the packet that is read of these bytes gives behind a byte that was there, and how its writing ended.
+fn written_of(
+    alloc: Global,
+    bytes: &[u8],
+    most: usize,
+) -> Result<(Vec<u8>, Result<(), PacketEnd>), Fail> {
+    let Ok(packet) = read_of(alloc, bytes, 200, most)? else {
+        return Err("no packet".into());
+    };
+    let mut out = vec![in alloc; 0xAA]?;
+    let end = write_packet(alloc, &packet, &mut out);
+    Ok((out, end))
+}
+
+#[test]
+fn keeps_names_flags_and_forms(rt: HostRuntime) -> Result<(), Fail> {
+    packet_rows();
+    packet_verdict_rows();
+    packets_have_one_verdict();
+    for most in [1, 65536] {
+        let (out, end) = written_of(rt.alloc(), ODD, most)?;
+        assert_eq!(rt; end, Ok(()));
+        assert_eq!(rt; out.as_slice(), CANONICAL, "in pieces of {most}");
+    }
+    Ok(())
+}
+
+#[test]
+fn refuses_the_first_wrong_field(rt: HostRuntime) -> Result<(), Fail> {
+    let rows: [(&[u8], Reason, u32); 10] = [
+        (b"", Reason::Truncated, 0),
+        (b"\x00\x02", Reason::BadVersion, 0),
+        (b"\x00\x00\x00", Reason::Truncated, 2),
+        (b"\x00\x00\x00\x00\x00", Reason::Truncated, 4),
+        (b"\x00\x00\x00\x01\x00\x02h", Reason::Truncated, 6),
+        (b"\x00\x00\x00\x01\x00\x01\xFF", Reason::BadText, 6),
+        (b"\x00\x00\x00\x01\x00\x00\x01\x00", Reason::Truncated, 7),
+        (
+            b"\x00\x00\x00\x01\x00\x00\x01\x00\x00\x00\x00\x04",
+            Reason::BadMarker,
+            11,
+        ),
+        // No value knows the tables of the one before.
+        (
+            b"\x00\x00\x00\x00\x00\x02\
+            \x00\x00\x00\x00\x00\x00\x00\x00\x0A\x00\x00\x00\x00\
+            \x00\x00\x00\x00\x00\x00\x00\x00\x07\x00\x00",
+            Reason::BadReference,
+            27,
+        ),
+        // The limit stands inside the length of the second header.
+        (ODD, Reason::TooLarge, 27),
+    ];
+    for (bytes, reason, at) in rows {
+        for most in [1, 65536] {
+            let end = read_of(rt.alloc(), bytes, 30, most)?.err();
+            assert_eq!(rt;
+                end,
+                Some(ReadEnd::Refused(Refusal { reason, at })),
+                "{bytes:?}"
+            );
+        }
+    }
+    Ok(())
+}
+
+/// A text of so many bytes.
+fn letters(alloc: Global, size: usize) -> Result<Vec<u8>, Fail>
+    ensures { IfOk result (λ text. IsText text.items) }
+{
+    let text = vec![in alloc; b'a'; size]?;
+    if is_amf_text(&text) {
+        Ok(text)
+    } else {
+        Err("no text".into())
+    }
+}
+
+fn null(alloc: Global) -> Result<Rooted, Fail> {
+    let graph = Builder::new(alloc)?
+        .finish(Value::Null)
+        .ok()
+        .ok_or("an open node")?;
+    Ok(graph)
+}
+
+/// A packet of one message with this target.
+fn targeted(alloc: Global, target: &[u8], graph: Rooted) -> Result<Packet, Fail>
+    requires { IsText target.now }
+    ensures version { IfOk result (λ packet. is_version packet.version ≡ true) }
+    ensures texts { IfOk result (λ packet. HasTexts (packet_of packet)) }
+{
+    let mut messages = Vec::new(alloc);
+    messages.push(Message {
+        target: Name::of_bytes(alloc, target)?,
+        response: Name::of_bytes(alloc, b"")?,
+        body: Body::Plain(graph),
+    })?;
+    Ok(Packet {
+        version: 1,
+        headers: Headers::of_vec(Vec::new(alloc)),
+        messages: Messages::of_vec(messages),
+    })
+}
+
+#[test]
+fn tells_which_value_is_not_written(rt: HostRuntime) -> Result<(), Fail> {
+    let lack = Lack {
+        kind: LackKind::EmptyName,
+        node: 1,
+    };
+    let (out, end) = written_of(rt.alloc(), NAMELESS, 65536)?;
+    assert_eq!(rt; end, Err(PacketEnd::NoSpelling { value: 1, lack }));
+    assert_eq!(rt; out.as_slice(), b"\xAA".as_slice());
+    // A text of one byte too many.
+    let target = letters(rt.alloc(), 65536)?;
+    let packet = targeted(rt.alloc(), &target, null(rt.alloc())?)?;
+    let mut out = vec![in rt.alloc(); 0xAA]?;
+    let end = write_packet(rt.alloc(), &packet, &mut out);
+    assert_eq!(rt; end, Err(PacketEnd::LongText(0)));
+    assert_eq!(rt; out.as_slice(), b"\xAA".as_slice());
+    Ok(())
+}
+
+#[test]
+fn says_why_nothing_was_written(rt: HostRuntime) -> Result<(), Fail> {
+    let lack = Lack {
+        kind: LackKind::EmptyName,
+        node: 2,
+    };
+    for (end, words) in [
+        (PacketEnd::TooMany, "too many headers or messages"),
+        (PacketEnd::LongText(3), "a long text with value 3"),
+        (
+            PacketEnd::NoSpelling { value: 1, lack },
+            "no spelling of value 1 from node 2",
+        ),
+        (PacketEnd::Memory, "no memory"),
+    ] {
+        let said = format!(in rt.alloc(); "{end}")?;
+        assert_eq!(rt; said.as_str(), words);
+    }
+    Ok(())
+}

@@ -1,0 +1,17 @@
+//! Tests of numbers and texts, of the outside and of HTTP, and nothing else.
+#![tactic(auto)]
+
+#[cfg(test)]
+mod http_loopback_tests;
+#[cfg(test)]
+mod http_tests;
+#[cfg(test)]
+mod io_cursor_tests;
+#[cfg(test)]
+mod io_format_tests;
+#[cfg(test)]
+mod io_hall_tests;
+#[cfg(test)]
+mod io_outside_tests;
+#[cfg(test)]
+mod wire_tests;

@@ -1,0 +1,5 @@
+//! Tests of the canonical order and of isomorphism, and nothing else.
+#![tactic(auto)]
+
+#[cfg(test)]
+mod iso_tests;
