@@ -22,6 +22,7 @@ use amf_broker::{Deliveries, Delivery, SubId, SubIds};
 use amf_wire::{Memory, Name};
 use flex_msgs::Reply;
 use std::alloc::Global;
+use std::hash::RandomState;
 
 /// What an invalidate says of the poll: its number of a client and its `messageId`, and no destination. It gives up where
 /// there is no memory.
@@ -81,6 +82,7 @@ fn endings<O: Outside>(
 /// gives up where there is no memory.
 fn synced(
     alloc: Global,
+    keys: Option<RandomState>,
     reply: Reply,
     deliveries: &[Delivery],
     endings: &[Reply],
@@ -95,7 +97,7 @@ fn synced(
     ensures { IfOk result (λ a. Tells (say_sync reply deliveries.now (map invalidate_graph endings.now)) a) }
 {
     match sync_of(alloc, &reply, deliveries, endings)? {
-        Some(graph) => answered(alloc, reply, graph),
+        Some(graph) => answered(alloc, keys, reply, graph),
         None => {
             let fault = no_form(alloc)?;
             failed(alloc, reply, &fault)
@@ -118,9 +120,10 @@ fn sync<O: Outside>(
     ensures stopped { OnErr result (Stopped O.handed (sync_plan (context_in context.now) deliveries.now ended.now) outside.old outside.new) }
 {
     let empty = Name::of_bytes(alloc, b"")?;
+    let keys = outside.keys();
     let reply = fresh(alloc, outside, context, &empty)?;
     let endings = endings(alloc, outside, context, ended)?;
-    synced(alloc, reply, deliveries, &endings)
+    synced(alloc, keys, reply, deliveries, &endings)
 }
 
 /// Whether a batch has nothing in it.

@@ -20,21 +20,22 @@ use crate::outside::{Outside, Unanswered};
 use crate::packets::{answers_to, has_long_uri};
 use amf_graph::Rooted;
 use amf_io::{Cursor, FaultlessSource, ReadEnd, Window};
-use amf_packet::{Body, Message, Packet, PacketEnd, read_packet, write_packet};
+use amf_packet::{Body, Message, Packet, PacketEnd, read_packet, write_packet_keyed};
 use amf_service::Registry;
 use amf_wire::Memory;
 use std::alloc::Global;
+use std::hash::RandomState;
 
 /// The most bytes of a body.
 const MOST_BODY: u32 = 1_048_576;
 
 /// The bytes of a packet. It gives up where there is no memory.
-fn bytes_of(alloc: Global, packet: &Packet) -> Result<Vec<u8>, Memory>
+fn bytes_of(alloc: Global, keys: Option<RandomState>, packet: &Packet) -> Result<Vec<u8>, Memory>
     requires { IsWritablePacket packet.now }
     ensures { IfOk result (λ bytes. (p : PacketContent) → PacketsMatch p (packet_of packet.now) → IsPacked p bytes.items) }
 {
     let mut bytes = Vec::new(alloc);
-    match write_packet(alloc, packet, &mut bytes) {
+    match write_packet_keyed(alloc, keys, packet, &mut bytes) {
         Ok(()) => Ok(bytes),
         Err(PacketEnd::Memory) => Err(Memory),
         // Each value was written alone, and each count and URI has room.
@@ -131,8 +132,9 @@ fn answer_packet<O: Outside>(
     ensures ran { let services : List Entry = services_by registry.now.services.entries (λ x. x.items) (λ s. knows (s.vtable, s.value)) (λ s. gives (s.vtable, s.value)) in IfOk result (λ bytes. Ran O.handed (packet_bytes services (packet_of packet.now)) outside.old outside.new (Some bytes.items)) }
     ensures stopped { let services : List Entry = services_by registry.now.services.entries (λ x. x.items) (λ s. knows (s.vtable, s.value)) (λ s. gives (s.vtable, s.value)) in OnErr result (Stopped O.handed (packet_bytes services (packet_of packet.now)) outside.old outside.new) }
 {
+    let keys = outside.keys();
     let back = answers_to(alloc, outside, registry, packet)?;
-    let bytes = bytes_of(alloc, &back)?;
+    let bytes = bytes_of(alloc, keys, &back)?;
     Ok(bytes)
 }
 

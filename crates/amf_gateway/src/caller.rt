@@ -9,6 +9,7 @@ use amf_broker::{Call, Reply};
 use amf_desk::{Desk, DeskEnd, Pass};
 use amf_io::{Gate, Hall};
 use std::alloc::Global;
+use std::hash::RandomState;
 use std::sync::Wait;
 
 /// A worker's place at a desk, with what gives it moments and words, and the gate that is told of its calls.
@@ -19,6 +20,8 @@ pub struct Caller<'a, R: Wait, A: Hall, G: Gate> {
     pub(crate) calls: &'a mut u64,
     pub(crate) rt: &'a R,
     pub(crate) alloc: Global,
+    /// The keys by which a writer looks texts up; with none they are fixed.
+    pub(crate) keys: Option<RandomState>,
     pub(crate) desk: &'a Desk,
     pub(crate) gate: &'a G,
     pub(crate) worker: u32,
@@ -36,6 +39,7 @@ impl<R: Wait, A: Hall, G: Gate> Drop for Caller<'_, R, A, G> {
             calls: _calls,
             rt: _rt,
             alloc: _alloc,
+            keys: _keys,
             desk: _desk,
             gate: _gate,
             worker: _worker,
@@ -47,6 +51,10 @@ impl<R: Wait, A: Hall, G: Gate> Outside for Caller<'_, R, A, G> {
     ghost handed = { λ c d k. AidGoesOn A.tells_moments A.moments A.tells_words A.words (λ a b. SameLinks (A.tells_links a) (A.tells_links b) (A.coming a) (A.coming b) (A.served a) (A.served b) (A.faults a) (A.faults b)) c.aid.now d.aid.now k × PassGoesOn c.pass.now d.pass.now k.entries × (d.desk.now ≡ c.desk.now) × (d.pass.ghost_name ≡ c.pass.ghost_name) × (d.aid.ghost_name ≡ c.aid.ghost_name) × (d.calls.ghost_name ≡ c.calls.ghost_name) };
 
     ghost may_call = { λ c. c.pass.now.desk ≡ c.desk.now };
+
+    fn keys(&self) -> Option<RandomState> {
+        self.keys
+    }
 
     fn moment(&mut self) -> u64 {
         self.aid.now()

@@ -35,5 +35,5 @@ pub use facts::{
     tried_is_run,
 };
 pub use links::LinkEnd;
-pub use serve::serve_link;
+pub use serve::{serve_link, serve_link_keyed};
 pub use worker::{Worker, WorkerEnd};

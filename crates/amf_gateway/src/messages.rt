@@ -19,9 +19,10 @@ ghost use Rattle.amf_gateway.specs.Runs.{Finds, IsSpelling};
 
 use amf_graph::{BuildEnd, Builder, Rooted, Value, WriteEnd};
 use amf_wire::{Memory, Name};
-use amf3_write::write3;
+use amf3_write::write3_keyed;
 use flex_msgs::{Common, FaultText, Reply, acknowledge, error, published};
 use std::alloc::Global;
+use std::hash::RandomState;
 
 /// What a builder answers where it has room.
 pub(crate) fn kept<T>(built: Result<T, BuildEnd>) -> Result<T, Memory>
@@ -117,11 +118,15 @@ fn published_of(
 }
 
 /// The canonical spelling of a graph in AMF 3, if it has one. It gives up where there is no memory.
-fn spelling_of(alloc: Global, graph: &Rooted) -> Result<Option<Name>, Memory>
+fn spelling_of(
+    alloc: Global,
+    keys: Option<RandomState>,
+    graph: &Rooted,
+) -> Result<Option<Name>, Memory>
     ensures { IfOk result (λ b. (g : Graph) → Isomorphic g (content graph.now) → Finds (IsSpelling whole g) b) }
 {
     let mut bytes = Vec::new(alloc);
-    match write3(alloc, graph, &mut bytes) {
+    match write3_keyed(alloc, keys, graph, &mut bytes) {
         Ok(()) => Ok(Some(Name::of_bytes(alloc, bytes.as_slice())?)),
         Err(WriteEnd::NoSpelling(_)) => Ok(None),
         Err(WriteEnd::Memory) => Err(Memory),
@@ -131,6 +136,7 @@ fn spelling_of(alloc: Global, graph: &Rooted) -> Result<Option<Name>, Memory>
 /// The bytes of the message that is stored of one that is published, if it has a spelling. It gives up where there is no memory.
 pub(crate) fn stored_message(
     alloc: Global,
+    keys: Option<RandomState>,
     graph: &Rooted,
     common: &Common,
     correlation: &Name,
@@ -143,5 +149,5 @@ pub(crate) fn stored_message(
     ensures { IfOk result (λ m. Finds (IsSpelling whole (published_graph (content graph.now) (told graph.now.arena common.now) correlation.now moment)) m) }
 {
     let built = published_of(alloc, graph, common, correlation, moment)?;
-    spelling_of(alloc, &built)
+    spelling_of(alloc, keys, &built)
 }

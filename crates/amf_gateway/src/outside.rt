@@ -7,6 +7,7 @@ ghost use Rattle.amf_gateway.specs.Small.{IsSmall};
 use amf_broker::{Call, Reply};
 use amf_wire::Memory;
 use std::alloc::{AllocError, AllocFailed};
+use std::hash::RandomState;
 
 /// Why a request was not answered.
 #[derive(Clone, Copy, Debug, PartialEq, Eq)]
@@ -42,6 +43,9 @@ pub trait Outside {
 
     /// Whether it may call the desk.
     ghost may_call: { Self → Type 0 };
+
+    /// The keys by which a writer looks texts up; with none they are fixed.
+    fn keys(&self) -> Option<RandomState>;
 
     /// The moment now, in milliseconds.
     fn moment(&mut self) -> u64

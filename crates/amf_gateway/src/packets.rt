@@ -20,6 +20,7 @@ use amf_packet::{Body, Headers, Message, Messages, Packet};
 use amf_service::Registry;
 use amf_wire::{Memory, Name};
 use std::alloc::Global;
+use std::hash::RandomState;
 
 /// The most bytes that a response URI has: it leaves room for a suffix in 16 bits.
 const MOST_URI: usize = 65_526;
@@ -53,13 +54,14 @@ fn answer_flex<O: Outside>(
 /// Answers a call that names a service and an operation by its target. It asks for nothing outside.
 fn answer_call(
     alloc: Global,
+    keys: Option<RandomState>,
     registry: &Registry,
     message: &Message,
 ) -> Result<MessageAnswer, Unanswered>
     requires { body_weight message.now.body ≤ most_body }
     ensures { let services : List Entry = services_by registry.now.services.entries (λ x. x.items) (λ s. knows (s.vtable, s.value)) (λ s. gives (s.vtable, s.value)) in IfOk result (λ x. TellsMessage (plain_plan services (body_of message.now.body) (at_last_dot message.now.target)) x) }
 {
-    Ok(plain_call(alloc, registry, &message.target, &message.body)?)
+    Ok(plain_call(alloc, keys, registry, &message.target, &message.body)?)
 }
 
 /// Answers a message: a Flex request where its target is `null`, and else a call that the target names.
@@ -78,7 +80,7 @@ fn answer_to<O: Outside>(
     if is_request {
         answer_flex(alloc, outside, registry, &message.body)
     } else {
-        answer_call(alloc, registry, message)
+        answer_call(alloc, outside.keys(), registry, message)
     }
 }
 

@@ -31,9 +31,10 @@ use amf_service::{Registry, items};
 use amf_wire::{Memory, Name};
 use amf0_tables::{Form, graphs_have_one_lowering};
 use amf0_write::{lower, write0};
-use amf3_write::write3;
+use amf3_write::write3_keyed;
 use flex_msgs::FaultText;
 use std::alloc::Global;
+use std::hash::RandomState;
 
 /// What a message of a packet is answered: a result or a status, and a value.
 #[derive(Drop)]
@@ -65,12 +66,12 @@ fn body_in(form: Form, graph: Rooted) -> Body
 }
 
 /// Whether a graph has a spelling in AMF 3. It gives up where there is no memory.
-fn is_spelled3(alloc: Global, graph: &Rooted) -> Result<bool, Memory>
+fn is_spelled3(alloc: Global, keys: Option<RandomState>, graph: &Rooted) -> Result<bool, Memory>
     ensures tells { IfOk result (λ t. (g : Graph) → Isomorphic g (content graph.now) → TellsSpelled whole g t) }
     ensures lacks { IfOk result (λ t. t ≡ true → LacksNothing (record { form = Form.Amf3; graph = content graph.now })) }
 {
     let mut bytes = Vec::new(alloc);
-    match write3(alloc, graph, &mut bytes) {
+    match write3_keyed(alloc, keys, graph, &mut bytes) {
         Ok(()) => Ok(true),
         Err(WriteEnd::NoSpelling(_)) => Ok(false),
         Err(WriteEnd::Memory) => Err(Memory),
@@ -95,11 +96,15 @@ fn is_spelled0(alloc: Global, graph: &Rooted) -> Result<bool, Memory>
 }
 
 /// AMF 3 where a graph has a spelling in it. It gives up where there is no memory.
-fn amf3_form(alloc: Global, graph: &Rooted) -> Result<Option<Form>, Memory>
+fn amf3_form(
+    alloc: Global,
+    keys: Option<RandomState>,
+    graph: &Rooted,
+) -> Result<Option<Form>, Memory>
     ensures found { IfOk result (λ found. (g : Graph) → Isomorphic g (content graph.now) → Runs (amf3_plan g) none_left nothing (gave found none_left)) }
     ensures lacks { IfOk result (λ found. (f : Form) → found ≡ Some f → LacksNothing (record { form = f; graph = content graph.now })) }
 {
-    let spelled = is_spelled3(alloc, graph)?;
+    let spelled = is_spelled3(alloc, keys, graph)?;
     if spelled {
         Ok(Some(Form::Amf3))
     } else {
@@ -108,7 +113,11 @@ fn amf3_form(alloc: Global, graph: &Rooted) -> Result<Option<Form>, Memory>
 }
 
 /// AMF 0 where a graph has a spelling in it, and else AMF 3 where it has one there. It gives up where there is no memory.
-fn plain_form(alloc: Global, graph: &Rooted) -> Result<Option<Form>, Memory>
+fn plain_form(
+    alloc: Global,
+    keys: Option<RandomState>,
+    graph: &Rooted,
+) -> Result<Option<Form>, Memory>
     ensures found { IfOk result (λ found. (g : Graph) → Isomorphic g (content graph.now) → Runs (form_plan Form.Plain g) none_left nothing (gave found none_left)) }
     ensures lacks { IfOk result (λ found. (f : Form) → found ≡ Some f → LacksNothing (record { form = f; graph = content graph.now })) }
 {
@@ -116,20 +125,25 @@ fn plain_form(alloc: Global, graph: &Rooted) -> Result<Option<Form>, Memory>
     if spelled {
         Ok(Some(Form::Plain))
     } else {
-        amf3_form(alloc, graph)
+        amf3_form(alloc, keys, graph)
     }
 }
 
 /// The form in which a value is answered to a request of this form, if it has a spelling in one. It gives up where there is no
 /// memory.
-fn form_for(alloc: Global, form: Form, graph: &Rooted) -> Result<Option<Form>, Memory>
+fn form_for(
+    alloc: Global,
+    keys: Option<RandomState>,
+    form: Form,
+    graph: &Rooted,
+) -> Result<Option<Form>, Memory>
     ensures found { IfOk result (λ found. (g : Graph) → Isomorphic g (content graph.now) → Runs (form_plan form g) none_left nothing (gave found none_left)) }
     ensures lacks { IfOk result (λ found. (f : Form) → found ≡ Some f → LacksNothing (record { form = f; graph = content graph.now })) }
 {
     match form {
-        Form::Plain => plain_form(alloc, graph),
-        Form::Amf3 => amf3_form(alloc, graph),
-        Form::Call => amf3_form(alloc, graph),
+        Form::Plain => plain_form(alloc, keys, graph),
+        Form::Amf3 => amf3_form(alloc, keys, graph),
+        Form::Call => amf3_form(alloc, keys, graph),
     }
 }
 
@@ -156,10 +170,15 @@ fn failed(alloc: Global, form: Form, fault: &FaultText) -> Result<MessageAnswer,
 }
 
 /// The answer with this result, or where it has no spelling the one that says so. It gives up where there is no memory.
-fn succeeded(alloc: Global, form: Form, graph: Rooted) -> Result<MessageAnswer, Memory>
+fn succeeded(
+    alloc: Global,
+    keys: Option<RandomState>,
+    form: Form,
+    graph: Rooted,
+) -> Result<MessageAnswer, Memory>
     ensures { IfOk result (λ x. (g : Graph) → Isomorphic g (content graph) → TellsMessage (succeeded_plan form g) x) }
 {
-    let found = form_for(alloc, form, &graph)?;
+    let found = form_for(alloc, keys, form, &graph)?;
     match found {
         Some(found) => Ok(MessageAnswer {
             well: true,
@@ -173,12 +192,17 @@ fn succeeded(alloc: Global, form: Form, graph: Rooted) -> Result<MessageAnswer, 
 }
 
 /// What is answered of a call. It gives up where there is no memory.
-fn outcome(alloc: Global, form: Form, answer: CallAnswer) -> Result<MessageAnswer, Memory>
+fn outcome(
+    alloc: Global,
+    keys: Option<RandomState>,
+    form: Form,
+    answer: CallAnswer,
+) -> Result<MessageAnswer, Memory>
     requires { AnswerFits answer }
     ensures { IfOk result (λ x. (c : Called) → ComesTo c answer → TellsMessage (outcome_plan form c) x) }
 {
     match answer {
-        CallAnswer::Gave(graph) => succeeded(alloc, form, graph),
+        CallAnswer::Gave(graph) => succeeded(alloc, keys, form, graph),
         CallAnswer::Failed(fault) => failed(alloc, form, &fault),
     }
 }
@@ -186,6 +210,7 @@ fn outcome(alloc: Global, form: Form, answer: CallAnswer) -> Result<MessageAnswe
 /// Calls with these arguments. It gives up where there is no memory.
 fn call(
     alloc: Global,
+    keys: Option<RandomState>,
     registry: &Registry,
     form: Form,
     target: &Target,
@@ -195,7 +220,7 @@ fn call(
     ensures { let services : List Entry = services_by registry.now.services.entries (λ x. x.items) (λ s. knows (s.vtable, s.value)) (λ s. gives (s.vtable, s.value)) in IfOk result (λ x. (g : Graph) → IsWhole g → Isomorphic g (content args.now) → TellsMessage (call_plan services form target.now (Some g)) x) }
 {
     let answer = call_service(alloc, registry, &target.service, &target.operation, args)?;
-    outcome(alloc, form, answer)
+    outcome(alloc, keys, form, answer)
 }
 
 /// An array whose one item is the root of a graph. It gives up where there is no memory.
@@ -214,6 +239,7 @@ fn in_array(alloc: Global, graph: &Rooted) -> Result<Rooted, Memory>
 /// Calls with a graph as arguments, where it is an array without names. It gives up where there is no memory.
 fn call_with_items(
     alloc: Global,
+    keys: Option<RandomState>,
     registry: &Registry,
     form: Form,
     target: &Target,
@@ -224,7 +250,7 @@ fn call_with_items(
 {
     graph.is_finished();
     match items(graph) {
-        Some(_) => call(alloc, registry, form, target, graph),
+        Some(_) => call(alloc, keys, registry, form, target, graph),
         None => {
             let fault = bad_message(alloc)?;
             failed(alloc, form, &fault)
@@ -235,6 +261,7 @@ fn call_with_items(
 /// Calls with the arguments that a body is. It gives up where there is no memory.
 fn call_with_body(
     alloc: Global,
+    keys: Option<RandomState>,
     registry: &Registry,
     target: &Target,
     body: &Body,
@@ -246,10 +273,10 @@ fn call_with_body(
         Body::Call(graph) => {
             graph.is_finished();
             let args = in_array(alloc, graph)?;
-            call(alloc, registry, Form::Call, target, &args)
+            call(alloc, keys, registry, Form::Call, target, &args)
         }
-        Body::Amf3(graph) => call_with_items(alloc, registry, Form::Amf3, target, graph),
-        Body::Plain(graph) => call_with_items(alloc, registry, Form::Plain, target, graph),
+        Body::Amf3(graph) => call_with_items(alloc, keys, registry, Form::Amf3, target, graph),
+        Body::Plain(graph) => call_with_items(alloc, keys, registry, Form::Plain, target, graph),
     }
 }
 
@@ -257,6 +284,7 @@ fn call_with_body(
 /// It gives up where there is no memory.
 pub(crate) fn plain_call(
     alloc: Global,
+    keys: Option<RandomState>,
     registry: &Registry,
     uri: &Name,
     body: &Body,
@@ -266,7 +294,7 @@ pub(crate) fn plain_call(
 {
     let target = Target::of(alloc, uri)?;
     match target {
-        Some(target) => call_with_body(alloc, registry, &target, body),
+        Some(target) => call_with_body(alloc, keys, registry, &target, body),
         None => {
             let fault = no_service(alloc)?;
             failed(alloc, form_of(body), &fault)

@@ -79,8 +79,9 @@ pub fn publish<O: Outside>(
     ensures says { IfOk result (λ a. Says O.handed (publish_plan (content graph.now) (told graph.now.arena common.now) correlation.now) outside.old outside.new a) }
     ensures stopped { OnErr result (Stopped O.handed (publish_plan (content graph.now) (told graph.now.arena common.now) correlation.now) outside.old outside.new) }
 {
+    let keys = outside.keys();
     let moment = outside.moment();
-    match stored_message(alloc, graph, common, correlation, moment)? {
+    match stored_message(alloc, keys, graph, common, correlation, moment)? {
         Some(message) => publish_message(alloc, outside, common, moment, message),
         None => publish_nothing(alloc, outside, common, moment),
     }

@@ -90,9 +90,10 @@ fn acknowledge<O: Outside>(
     ensures stopped { OnErr result ((g : Graph) → Stopped O.handed (acknowledge_plan (context_in context.now) [] g g.root) outside.old outside.new) }
 {
     let empty = Name::of_bytes(alloc, b"")?;
+    let keys = outside.keys();
     let mut reply = fresh(alloc, outside, context, &empty)?;
     let graph = acknowledge_with(alloc, &mut reply, value)?;
-    answered(alloc, reply, graph)
+    answered(alloc, keys, reply, graph)
 }
 
 /// What is said of a call. It gives up where there is no memory.

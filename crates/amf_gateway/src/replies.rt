@@ -17,9 +17,10 @@ use crate::numbers::identifier;
 use crate::outside::Outside;
 use amf_graph::{Rooted, Value, WriteEnd};
 use amf_wire::{Memory, Name};
-use amf3_write::write3;
+use amf3_write::write3_keyed;
 use flex_msgs::{FaultText, Reply};
 use std::alloc::Global;
+use std::hash::RandomState;
 
 /// What a Flex request is answered: a result or a status, and the graph of the message.
 #[derive(Drop)]
@@ -90,13 +91,18 @@ pub(crate) fn failed(
 }
 
 /// The answer with this graph, or where it has no spelling the error that says so. It gives up where there is no memory.
-pub(crate) fn answered(alloc: Global, reply: Reply, graph: Rooted) -> Result<FlexAnswer, Memory>
+pub(crate) fn answered(
+    alloc: Global,
+    keys: Option<RandomState>,
+    reply: Reply,
+    graph: Rooted,
+) -> Result<FlexAnswer, Memory>
     requires texts { IsReply reply }
     requires short { IsShortReply reply }
     ensures { IfOk result (λ a. (g : Graph) → Isomorphic g (content graph) → Tells (answered_plan reply g) a) }
 {
     let mut bytes = Vec::new(alloc);
-    match write3(alloc, &graph, &mut bytes) {
+    match write3_keyed(alloc, keys, &graph, &mut bytes) {
         Ok(()) => Ok(FlexAnswer { well: true, graph }),
         Err(WriteEnd::NoSpelling(_)) => failed(alloc, reply, &no_form(alloc)?),
         Err(WriteEnd::Memory) => Err(Memory),
@@ -132,7 +138,8 @@ pub fn acknowledge_null<O: Outside>(
     ensures says { IfOk result (λ a. Says O.handed (acknowledge_null_plan (context_in context.now) client.now) outside.old outside.new a) }
     ensures stopped { OnErr result (Stopped O.handed (acknowledge_null_plan (context_in context.now) client.now) outside.old outside.new) }
 {
+    let keys = outside.keys();
     let reply = fresh(alloc, outside, context, client)?;
     let graph = acknowledge_of(alloc, &reply)?;
-    answered(alloc, reply, graph)
+    answered(alloc, keys, reply, graph)
 }

@@ -14,12 +14,14 @@ use amf_desk::{Desk, Pass};
 use amf_io::{Gate, Hall, Link};
 use amf_service::Registry;
 use std::alloc::Global;
+use std::hash::RandomState;
 use std::sync::Wait;
 
 /// Answers the requests of a link, one after the other, with the moments and the words of the aid and the calls of the pass.
 fn answer_at_desk<R: Wait, L: Link, A: Hall, G: Gate>(
     rt: &R,
     alloc: Global,
+    keys: Option<RandomState>,
     link: &mut L,
     registry: &Registry,
     desk: &Desk,
@@ -38,6 +40,7 @@ fn answer_at_desk<R: Wait, L: Link, A: Hall, G: Gate>(
         calls,
         rt,
         alloc,
+        keys,
         desk,
         gate,
         worker,
@@ -51,6 +54,9 @@ fn answer_at_desk<R: Wait, L: Link, A: Hall, G: Gate>(
 ///
 /// `Closed`, `Refused` and `Truncated` say that all was answered. `ReadFault` and `WriteFault` come only where the link failed on
 /// that side, `Spent` only where the pass may make no more calls, and `Memory` where there is no room.
+///
+/// The writers look texts up by fixed keys, so whoever knows them can send a request that takes long: `serve_link_keyed` is
+/// passed others.
 pub fn serve_link<R: Wait, L: Link, A: Hall, G: Gate>(
     rt: &R,
     alloc: Global,
@@ -66,8 +72,31 @@ pub fn serve_link<R: Wait, L: Link, A: Hall, G: Gate>(
     requires { pass.old.desk ≡ desk.now }
     ensures { let services : List Entry = services_by registry.now.services.entries (λ x. x.items) (λ s. knows (s.vtable, s.value)) (λ s. gives (s.vtable, s.value)) in (k : Taken) × ServesLink (record { tells_left = L.tells_left; left = L.left; tells_held = L.tells_held; held = L.held; read_faults = L.read_faults; write_faults = L.write_faults }) (record { tells_links = A.tells_links; coming = A.coming; served = A.served; faults = A.faults; tells_moments = A.tells_moments; moments = A.moments; tells_words = A.tells_words; words = A.words }) services pass.old pass.new aid.old aid.new (record { came = link.old; left = link.new; took = k; end = end_of result }) }
 {
+    serve_link_keyed(
+        rt, alloc, None, link, registry, desk, pass, aid, gate, worker, calls,
+    )
+}
+
+/// Does what `serve_link` does, with writers that look texts up by these keys, or by fixed ones where there are none. What is
+/// answered is the same for all keys.
+pub fn serve_link_keyed<R: Wait, L: Link, A: Hall, G: Gate>(
+    rt: &R,
+    alloc: Global,
+    keys: Option<RandomState>,
+    link: &mut L,
+    registry: &Registry,
+    desk: &Desk,
+    pass: &mut Pass,
+    aid: &mut A,
+    gate: &G,
+    worker: u32,
+    calls: &mut u64,
+) -> LinkEnd
+    requires { pass.old.desk ≡ desk.now }
+    ensures { let services : List Entry = services_by registry.now.services.entries (λ x. x.items) (λ s. knows (s.vtable, s.value)) (λ s. gives (s.vtable, s.value)) in (k : Taken) × ServesLink (record { tells_left = L.tells_left; left = L.left; tells_held = L.tells_held; held = L.held; read_faults = L.read_faults; write_faults = L.write_faults }) (record { tells_links = A.tells_links; coming = A.coming; served = A.served; faults = A.faults; tells_moments = A.tells_moments; moments = A.moments; tells_words = A.tells_words; words = A.words }) services pass.old pass.new aid.old aid.new (record { came = link.old; left = link.new; took = k; end = end_of result }) }
+{
     let end = answer_at_desk(
-        rt, alloc, link, registry, desk, pass, aid, gate, worker, calls,
+        rt, alloc, keys, link, registry, desk, pass, aid, gate, worker, calls,
     );
     known(pass, end)
 }

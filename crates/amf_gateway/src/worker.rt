@@ -6,11 +6,12 @@ ghost use Rattle.amf_gateway.specs.Services.{services_by};
 ghost use Rattle.amf_gateway.specs.Served.{Served};
 ghost use Rattle.amf_gateway.specs.WorkerSteps.{ServedNext};
 
-use crate::serve::serve_link;
+use crate::serve::serve_link_keyed;
 use amf_desk::{Desk, Pass};
 use amf_io::{Failed, Gate, Hall};
 use amf_service::Registry;
 use std::alloc::Global;
+use std::hash::RandomState;
 use std::sync::Wait;
 
 /// A worker at a desk, which serves the links of its hall.
@@ -21,6 +22,8 @@ pub struct Worker<H: Hall> {
     pub hall: H,
     /// How many calls of the desk it has made, up to 2^64 - 1.
     pub calls: u64,
+    /// The keys by which its writers look texts up; with none they are fixed.
+    pub keys: Option<RandomState>,
 }
 
 /// Why a worker ended, and whether a link of it ended for want of memory.
@@ -40,8 +43,18 @@ fn either(before: bool, now: bool) -> bool
 }
 
 impl<H: Hall> Worker<H> {
-    /// A worker that has made no calls.
+    /// A worker that has made no calls. Its writers look texts up by fixed keys, so whoever knows them can send a request that
+    /// takes long: `keyed` is passed others.
     pub fn new(number: u32, pass: Pass, hall: H) -> Worker<H>
+        ensures number { result.number ≡ number }
+        ensures pass { result.pass ≡ pass }
+        ensures hall { result.hall ≡ hall }
+    {
+        Worker::keyed(number, pass, hall, None)
+    }
+
+    /// A worker that has made no calls, whose writers look texts up by these keys, or by fixed ones where there are none.
+    pub fn keyed(number: u32, pass: Pass, hall: H, keys: Option<RandomState>) -> Worker<H>
         ensures number { result.number ≡ number }
         ensures pass { result.pass ≡ pass }
         ensures hall { result.hall ≡ hall }
@@ -51,6 +64,7 @@ impl<H: Hall> Worker<H> {
             pass,
             hall,
             calls: 0,
+            keys,
         }
     }
 
@@ -64,6 +78,7 @@ impl<H: Hall> Worker<H> {
             pass,
             hall,
             calls: _,
+            keys: _,
         } = self;
         (pass, hall)
     }
@@ -81,9 +96,10 @@ impl<H: Hall> Worker<H> {
         requires { self.old.pass.desk ≡ desk.now }
         ensures { let services : List Entry = services_by registry.now.services.entries (λ x. x.items) (λ s. knows (s.vtable, s.value)) (λ s. gives (s.vtable, s.value)) in ServedNext (record { tells_links = H.tells_links; coming = H.coming; served = H.served; faults = H.faults; tells_moments = H.tells_moments; moments = H.moments; tells_words = H.tells_words; words = H.words }) (record { tells_left = H.Link.tells_left; left = H.Link.left; tells_held = H.Link.tells_held; held = H.Link.held; read_faults = H.Link.read_faults; write_faults = H.Link.write_faults }) services self.old.pass self.new.pass self.old.hall self.new.hall link result }
     {
-        let end = serve_link(
+        let end = serve_link_keyed(
             rt,
             alloc,
+            self.keys,
             &mut link,
             registry,
             desk,

@@ -6,17 +6,19 @@ use amf_desk::{Desk, Pass};
 use amf_gateway::{Worker, WorkerEnd};
 use amf_io::Hall;
 use std::alloc::Global;
+use std::hash::RandomState;
 
 /// How many calls a worker may make.
 const SHARE: u64 = 1 << 55;
 
-/// Splits off a pass of 2^55 calls for each hall, in order, and makes workers of them, numbered from 0. The pass is the first of
+/// Splits off a pass of 2^55 calls for each hall, in order, and makes workers of them, numbered from 0, with these keys. The pass is the first of
 /// the desk, none was split off it yet, and there are at most 64 halls. The halls are handed back where there is no memory.
 pub(crate) fn hire<H: Hall>(
     alloc: Global,
     desk: &Desk,
     first: &mut Pass,
     mut halls: Vec<H>,
+    keys: Option<RandomState>,
 ) -> Result<Vec<Post<H>>, Vec<H>>
     requires desk { first.old.desk ≡ desk.now }
     requires first { (first.old.number ≡ 0) × (first.old.splits ≡ 0) }
@@ -33,7 +35,7 @@ pub(crate) fn hire<H: Hall>(
     while let Some(hall) = halls.pop() {
         let pass = desk.split(first, SHARE);
         posts.push_reserved(Post {
-            worker: Worker::new(number, pass, hall),
+            worker: Worker::keyed(number, pass, hall, keys),
             end: WorkerEnd::Done { starved: false },
         });
         number += 1;

@@ -13,12 +13,13 @@ use amf_desk::{Desk, Pass};
 use amf_io::{Front, Gate, Hall, OpenEnd};
 use amf_service::Registry;
 use std::alloc::Global;
+use std::hash::RandomState;
 use std::sync::Wait;
 use std::thread::Threads;
 
 /// A worker for each hall serves it, all at once, and the halls go back to the front. The desk is new and the pass its first one,
 /// and there are at most 64 halls, of which none has served or failed.
-fn serve_halls<R: Threads + Wait + Sync, F: Front, G: Gate>(
+fn serve_halls<R: Threads + Wait + RandomSource + Sync, F: Front, G: Gate>(
     rt: &R,
     alloc: Global,
     desk: Desk,
@@ -37,7 +38,8 @@ where
     requires fresh { All (λ h. F.Hall.served h ≡ []) halls.items }
     ensures { let services : List Entry = services_by registry.now.services.entries (λ x. x.items) (λ s. knows (s.vtable, s.value)) (λ s. gives (s.vtable, s.value)) in ServesHalls (record { tells = F.tells; asked = F.asked; to_open = F.to_open; halls = F.halls; faults = F.faults }) (record { tells_links = F.Hall.tells_links; coming = F.Hall.coming; served = F.Hall.served; faults = F.Hall.faults; tells_moments = F.Hall.tells_moments; moments = F.Hall.moments; tells_words = F.Hall.tells_words; words = F.Hall.words }) (record { tells_left = F.Hall.Link.tells_left; left = F.Hall.Link.left; tells_held = F.Hall.Link.tells_held; held = F.Hall.Link.held; read_faults = F.Hall.Link.read_faults; write_faults = F.Hall.Link.write_faults }) services each halls.items front.old front.new result }
 {
-    let mut posts = match hire(alloc, &desk, &mut first, halls) {
+    let keys = RandomState::new(rt).ok();
+    let mut posts = match hire(alloc, &desk, &mut first, halls, keys) {
         Ok(posts) => posts,
         Err(halls) => {
             give_back(front, halls);
@@ -56,7 +58,10 @@ where
 /// Opens a hall for each worker, at most 64, serves up to `each` links of each hall, all halls at once in threads of their own,
 /// and gives the halls back to the front. All links are served at one desk, with the destinations `chat` and `news`. It may
 /// wait for the links.
-pub fn serve<R: Threads + Wait + Sync, F: Front, G: Gate>(
+///
+/// The runtime gives the keys by which the workers' writers look texts up, so that no request can be made that takes long; where
+/// it gives none, they are fixed.
+pub fn serve<R: Threads + Wait + RandomSource + Sync, F: Front, G: Gate>(
     rt: &R,
     alloc: Global,
     front: &mut F,

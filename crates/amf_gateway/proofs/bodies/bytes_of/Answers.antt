@@ -10,7 +10,7 @@ pub write_packet-requires-clause-texts : goal.write_packet-requires-clause-texts
 write_packet-requires-clause-texts c = has_texts c.args.packet.now c.requires
 
 pub returns-in-Ok : goal.returns-in-Ok
-returns-in-Ok c = λ (r : Packet) m. is_packed c.args.packet.now c.requires _ c.write_packet.new.out.items c.new-bytes.ensures.items c.in-Ok.ensures.written r m
+returns-in-Ok c = λ (r : Packet) m. is_packed c.args.packet.now c.requires _ c.write_packet_keyed.new.out.items c.new-bytes.ensures.items c.in-Ok.ensures.written r m
 
 pub unreachable-requires : goal.unreachable-requires
 unreachable-requires c = let e = c.in-Err-TooMany in not_many c.args.packet.now c.requires (e.ensures.many.0 (ap Err e.field-0-is))

@@ -9,7 +9,7 @@ use Rattle.amf_gateway.proofs.messages.spelling_of.Goals as goal
 pub returns-in-Ok : goal.returns-in-Ok
 returns-in-Ok c = λ (g : Graph) i.
     subst (λ (b : List ℕ). Spelled3 canonical g b) (sym (c.in_ok-of_bytes-in-Ok.ensures ∙ c.as_slice.ensures.value))
-    (spelled_alike g c.args.graph.now c.write3.new.out.items i (spelled (content c.args.graph.now) _ c.write3.new.out.items c.new-bytes.ensures.items c.in-Ok.ensures.written))
+    (spelled_alike g c.args.graph.now c.write3_keyed.new.out.items i (spelled (content c.args.graph.now) _ c.write3_keyed.new.out.items c.new-bytes.ensures.items c.in-Ok.ensures.written))
 
 pub returns-in-Err-NoSpelling : goal.returns-in-Err-NoSpelling
 returns-in-Err-NoSpelling c =

@@ -11,7 +11,7 @@ use Rattle.amf_gateway.proofs.plain_call.is_spelled3.Goals as goal
 pub returns-in-Ok-clause-tells : goal.returns-in-Ok-clause-tells
 returns-in-Ok-clause-tells c = λ (g : Graph) i.
     let h = content c.args.graph.now in
-    let b = c.write3.new.out.items in
+    let b = c.write3_keyed.new.out.items in
     (b, same_canonical h g (isomorphic_sym g h i) b (spelled h _ b c.new-bytes.ensures.items c.in-Ok.ensures.written))
 
 pub returns-in-Ok-clause-lacks : goal.returns-in-Ok-clause-lacks

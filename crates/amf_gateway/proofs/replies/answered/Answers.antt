@@ -9,7 +9,7 @@ use Rattle.amf_gateway.proofs.Spelling.{spelled, unspelled, told_well, told_badl
 use Rattle.amf_gateway.proofs.replies.answered.Goals as goal
 
 pub returns-in-Ok : goal.returns-in-Ok
-returns-in-Ok c = λ (g : Graph) i. told_well c.args.reply g c.args.graph c.write3.new.out.items i (spelled (content c.args.graph) _ c.write3.new.out.items c.new-bytes.ensures.items c.in-Ok.ensures.written)
+returns-in-Ok c = λ (g : Graph) i. told_well c.args.reply g c.args.graph c.write3_keyed.new.out.items i (spelled (content c.args.graph) _ c.write3_keyed.new.out.items c.new-bytes.ensures.items c.in-Ok.ensures.written)
 
 pub returns-in_ok-no_form-in-Err-NoSpelling : goal.returns-in_ok-no_form-in-Err-NoSpelling
 returns-in_ok-no_form-in-Err-NoSpelling c =

@@ -46,10 +46,10 @@ loop-hall-preserved g c =
     let b = s.budget in let m = as_many c.args.first.now 1 s.done c.loop-hall.posts.items s.hired in
     let n : length c.loop-hall.posts.items ≡ vec_len c.loop-hall.posts = search rules in let t = inv.total in let few = c.requires.room.0 in let most = c.requires.room.1 in
     let one : vec_len c.pop.new.self + 1 ≡ vec_len c.loop-hall.halls = c.in-Some.ensures.len in
-    let hired : Post g.row.H.Denot g.row.H-Link.Denot = record { worker = c.new.result; end = Done false } in
+    let hired : Post g.row.H.Denot g.row.H-Link.Denot = record { worker = c.keyed.result; end = Done false } in
     let number = inv.number in let room = inv.room in let longer = push.len in let same = push.capacity in record {
       so_far = subst (λ (l : List (Post g.row.H.Denot g.row.H-Link.Denot)). SoFar c.args.first.now c.split-pass.new.pass c.args.halls.items c.pop.new.self.items l) (sym push.items)
-          (one_hired c.args.first.now c.loop-hall.first c.split-pass.new.pass c.split-pass.result c.args.halls.items c.loop-hall.halls.items c.pop.new.self.items c.loop-hall.posts.items c.in-Some.hall hired s c.in-Some.ensures.items (omega arith) split.old split.new split.fresh c.new.ensures.pass c.new.ensures.hall);
+          (one_hired c.args.first.now c.loop-hall.first c.split-pass.new.pass c.split-pass.result c.args.halls.items c.loop-hall.halls.items c.pop.new.self.items c.loop-hall.posts.items c.in-Some.hall hired s c.in-Some.ensures.items (omega arith) split.old split.new split.fresh c.keyed.ensures.pass c.keyed.ensures.hall);
       number = omega arith;
       total = omega arith;
       room = omega arith;
