@@ -1,5 +1,5 @@
 -- How many calls of the desk a plan makes at most: one for each message, and so no more than 65,535 for each request and 65,535,000 for each link.
-use Rattle.std.proofs.Common.{◌≡◌, ℕ, zero, suc, ◌+◌, ◌-◌, ◌*◌, ◌^◌, ◌<◌, ◌≤◌, ⊎_elim, Bool, true, false, if◌then◌else◌, List, [], ◌∷◌, ◌++◌, length, Option, Some, None, refl, sym, ap, ◌∙◌, subst, arith, ℤ, pos, negsuc}
+use Rattle.std.proofs.Common.{◌≡◌, ℕ, zero, suc, ◌+◌, ◌-◌, ◌*◌, ◌^◌, ◌<◌, ◌≤◌, ◌⊎◌, inl, inr, Bool, true, false, if◌then◌else◌, List, [], ◌∷◌, ◌++◌, length, Option, Some, None, refl, sym, ap, ◌∙◌, subst, arith, ℤ, pos, negsuc}
 use Rattle.std.specs.Prelude.{map, ⊤, ◌==◌, ◌||◌, bytes_eq, decimal}
 use Rattle.std.proofs.lemmas.List.{length-map}
 use Rattle.amf_wire.specs.Style.{free}
@@ -39,9 +39,14 @@ use Rattle.amf_gateway.specs.Runs.{Finds, IsUnpacked, Supply, Done, nothing, Tak
 no_calls : (d : Done) (n : ℕ) → d ≡ nothing → length d.calls ≤ n
 no_calls d n e = omega (arith, ap (λ (x : Done). length x.calls) e)
 
-took : {A : Type 0} (xs : List A) (next : A → List A → Type 0) (P : Type 0) → ((x : A) (ys : List A) → next x ys → P) → Takes xs ⊥ next → P
-took [] next P f t = absurd t
-took (x ∷ xs) next P f t = f x xs t
+-- nothing was done, or this
+either : {B : Type 0} (d : Done) (n : ℕ) → (d ≡ nothing) ⊎ B → (B → length d.calls ≤ n) → length d.calls ≤ n
+either d n (inl e) f = no_calls d n e
+either d n (inr c) f = f c
+
+took : {A : Type 0} (xs : List A) (next : A → List A → Type 0) (P : Type 0) → Takes xs ⊥ next → ((x : A) (ys : List A) → next x ys → P) → P
+took [] next P t f = absurd t
+took (x ∷ xs) next P t f = f x xs t
 
 module _ {X : Type 0} where
   -- so many calls at the most, whatever is taken, asked and found
@@ -74,17 +79,18 @@ module _ {X : Type 0} where
   if_most n false p q h k = k
 
   pub begun_few : (n : ℕ) (p : Plan X) (s : Supply) (d : Done) → AtMost n p → Begun p s d → length d.calls ≤ n
-  begun_few n (gives x) s d h b = none d n b
-  begun_few n (takes_moment next) s d h b = ⊎_elim (λ e. no_calls d n e) (λ t. took s.moments _ (length d.calls ≤ n) (λ m ms c. begun_few n (next m) _ d (h m) c) t) b
-  begun_few n (takes_word next) s d h b = ⊎_elim (λ e. no_calls d n e) (λ t. took s.words _ (length d.calls ≤ n) (λ w ws c. begun_few n (next w) _ d (h w) c) t) b
-  begun_few n (calls at call next) s d h b = let e = h.1 in
-      ⊎_elim (λ e. no_calls d n e) (λ t. took s.replies _ (length d.calls ≤ n) (λ r rs c. let few = begun_few h.0 (next r) _ c.0 (h.2 r) c.1 in omega (arith, ap (λ (x : Done). length x.calls) c.2)) t) b
-  begun_few n (spells how g next) s d h b = ⊎_elim (λ e. no_calls d n e) (λ c. begun_few n (next c.0) s d (h c.0) c.2) b
-  begun_few n (reads message next) s d h b = ⊎_elim (λ e. no_calls d n e) (λ c. begun_few n (next c.0) s d (h c.0) c.2) b
-  begun_few n (cuts bytes next) s d h b = ⊎_elim (λ e. no_calls d n e) (λ c. begun_few n (next c.0) s d (h c.0) c.2) b
-  begun_few n (unpacks bytes next) s d h b = ⊎_elim (λ e. no_calls d n e) (λ c. begun_few n (next c.0) s d (h c.0 c.1) c.2) b
-  begun_few n (packs p next) s d h b = ⊎_elim (λ e. no_calls d n e) (λ c. begun_few n (next c.0) s d (h c.0) c.2) b
-  begun_few n (writes answer next) s d h b = ⊎_elim (λ e. no_calls d n e) (λ c. let few = begun_few n next s c.0 h c.1 in omega (arith, ap (λ (x : Done). length x.calls) c.2)) b
+  begun_few n (gives x) s d h b = no_calls d n b
+  begun_few n (takes_moment next) s d h b = either d n b (λ t. took s.moments _ (length d.calls ≤ n) t (λ m ms c. begun_few n (next m) (record s { moments = ms }) d (h m) c))
+  begun_few n (takes_word next) s d h b = either d n b (λ t. took s.words _ (length d.calls ≤ n) t (λ w ws c. begun_few n (next w) (record s { words = ws }) d (h w) c))
+  begun_few n (calls at call next) s d h b =
+      let more = h.1 in
+      either d n b (λ t. took s.replies _ (length d.calls ≤ n) t (λ r rs c. let few = begun_few h.0 (next r) (record s { replies = rs }) c.0 (h.2 r) c.1 in omega (arith, ap (λ (x : Done). length x.calls) c.2)))
+  begun_few n (spells how g next) s d h b = either d n b (λ c. begun_few n (next c.0) s d (h c.0) c.2)
+  begun_few n (reads message next) s d h b = either d n b (λ c. begun_few n (next c.0) s d (h c.0) c.2)
+  begun_few n (cuts bytes next) s d h b = either d n b (λ c. begun_few n (next c.0) s d (h c.0) c.2)
+  begun_few n (unpacks bytes next) s d h b = either d n b (λ c. begun_few n (next c.0) s d (h c.0 c.1) c.2)
+  begun_few n (packs p next) s d h b = either d n b (λ c. begun_few n (next c.0) s d (h c.0) c.2)
+  begun_few n (writes answer next) s d h b = either d n b (λ c. let few = begun_few n next s c.0 h c.1 in omega (arith, ap (λ (x : Done). length x.calls) c.2))
 
 module _ {X Y : Type 0} where
   then_most : (n m : ℕ) (p : Plan X) (f : X → Plan Y) → AtMost n p → ((x : X) → AtMost m (f x)) → AtMost (n + m) (◌>>=◌ p f)
