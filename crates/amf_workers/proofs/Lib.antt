@@ -1,3 +1,4 @@
+pub mod FewCalls
 pub mod Owned
 pub mod Made
 pub mod Hiring

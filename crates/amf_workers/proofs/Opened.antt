@@ -84,6 +84,7 @@ module _ {F H L : Type 0} (front : OfFront F H) (hall : OfHall H L) (link : OfLi
         entries = w.entries;
         starved_is = w.starved_is;
         answered = w.answered;
+        calls_left = w.calls_left;
         faulty_is = w.faulty_is;
         counts = subst (λ (n : ℕ). CountsFaults n (front.faults c) faulty) o.counts counted;
       }

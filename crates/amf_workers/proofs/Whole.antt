@@ -13,13 +13,15 @@ use Rattle.amf_service.specs.Registry.{Entry}
 use Rattle.amf_gateway.specs.declared.worker.WorkerEnd.{WorkerEnd}
 use Rattle.amf_gateway.specs.declared.worker.WorkerEnd.TheVariants.{Done, FrontFault}
 use Rattle.amf_gateway.specs.Served.{Served, entries_of, starved_in, CountsFront, IsWholeUnlessFault}
+use Rattle.amf_gateway.specs.ServesLink.{Service, IsServed, bytes_of}
 use Rattle.amf_gateway.specs.Tells.{OfLink, OfHall}
 use Rattle.amf_workers.specs.declared.post.Post.{Post}
 use Rattle.amf_workers.specs.Gathered.{Gathered, TookBack}
 use Rattle.amf_workers.specs.Halls.{Worked}
 use Rattle.amf_workers.specs.OfFront.{OfFront}
 use Rattle.amf_workers.specs.Posts.{IsFresh, AllHired, AllServed, CanJoin}
-use Rattle.amf_workers.specs.Together.{destinations, EachFrom, failed_in, Shift, CountsFaults}
+use Rattle.amf_workers.specs.Together.{destinations, EachFrom, failed_in, Shift, CountsFaults, TellsBoth}
+use Rattle.amf_workers.proofs.FewCalls.{few_entries}
 use Rattle.amf_workers.proofs.Made.{IsNew, Made, made}
 use Rattle.amf_workers.proofs.Owned.{owned, owned_all, all_owned}
 
@@ -101,6 +103,19 @@ module _ {H L : Type 0} (hall : OfHall H L) (link : OfLink L) (services : List E
   answered [] e = tt
   answered (s ∷ ss) e = let no = or_no (starved_in s.end) (list_any starved_in (map (λ s. s.end) ss)) e in (s.served.whole no.0, answered ss no.1)
 
+  few_by : (vs : List (Service L)) → AllByRecursion (IsServed link services) vs → AllByRecursion (TellsBoth link) vs → length (entries_of vs) ≤ length vs * 65535000
+  few_by [] served told = omega arith
+  few_by (v ∷ vs) served told =
+      let here = few_entries services (bytes_of link v) v.took v.end (served.0.serves told.0.0 told.0.1) in let rest = few_by vs served.1 told.1 in
+      omega (arith, length-append v.took.entries (entries_of vs))
+
+  some_left : (s : Of) → s.before.budget ≡ 2 ^ 55 → each ≤ 1000000 → AllByRecursion (TellsBoth link) s.served.links → 0 < s.after.budget
+  some_left s had few told = let made = few_by s.served.links s.served.each_served told in let most = s.served.at_most in let spent = s.served.pass.budget in omega arith
+
+  calls_left : (first : Held) (n : ℕ) (ss : List Of) → EachFrom n (λ i s. IsFresh first (2 ^ 55) i s.before) ss → each ≤ 1000000 → AllByRecursion (λ s. AllByRecursion (TellsBoth link) s.served.links → 0 < s.after.budget) ss
+  calls_left first n [] fresh few = tt
+  calls_left first n (s ∷ ss) fresh few = (λ told. some_left s fresh.0.budget few told, calls_left first (n + 1) ss fresh.1 few)
+
   -- a hall failed exactly where a worker says so
   pub failed_sum : (ss : List Of) → (list_any failed_in (map (λ s. s.end) ss) ≡ true → 0 < sum_by hall.faults (map (λ s. s.returned) ss)) × (list_any failed_in (map (λ s. s.end) ss) ≡ false → sum_by hall.faults (map (λ s. s.returned) ss) ≡ 0)
   failed_sum [] = (λ e. (cc), λ e. refl)
@@ -138,6 +153,7 @@ module _ {H L : Type 0} (hall : OfHall H L) (link : OfLink L) (services : List E
           entries = exact first 1 m.shifts h m.fresh b (omega arith);
           starved_is = st ∙ ap (list_any starved_in) (sym m.ends);
           answered = λ e. answered m.shifts (sym (st ∙ ap (list_any starved_in) (sym m.ends)) ∙ e);
+            calls_left = calls_left first 1 m.shifts m.fresh;
           faulty_is = fa ∙ ap (list_any failed_in) (sym m.ends);
         },
         m.returned,

@@ -11,7 +11,7 @@ use Rattle.amf_workers.specs.declared.answer.ServeAnswer.{ServeAnswer}
 use Rattle.amf_workers.specs.declared.answer.ServeAnswer.TheVariants.{Memory, NotOpened, Closed as WasClosed}
 use Rattle.amf_workers.specs.Gathered.{TookBack}
 use Rattle.amf_workers.specs.OfFront.{OfFront}
-use Rattle.amf_workers.specs.Together.{destinations, EachFrom, failed_in, Shift}
+use Rattle.amf_workers.specs.Together.{destinations, EachFrom, failed_in, Shift, TellsBoth}
 
 -- the workers' shifts, one for each hall, and the history of the desk that was closed after them
 pub record Worked {H L : Type 0} (hall : OfHall H L) (link : OfLink L) (services : List Entry) (each : ℕ) (halls : List H) (told : Closed) (starved faulty : Bool) : Type 0 where
@@ -24,6 +24,7 @@ pub record Worked {H L : Type 0} (hall : OfHall H L) (link : OfLink L) (services
   pub entries : EachFrom 1 (λ i s. (s.before.number ≡ i) × (own i closed.history ≡ entries_of s.served.links)) shifts
   pub starved_is : starved ≡ list_any starved_in (map (λ s. s.end) shifts)
   pub answered : starved ≡ false → AllByRecursion (λ s. 0 < s.after.budget → AllByRecursion (IsWholeUnlessFault link) s.served.links) shifts
+  pub calls_left : each ≤ 1000000 → AllByRecursion (λ s. AllByRecursion (TellsBoth link) s.served.links → 0 < s.after.budget) shifts
   pub faulty_is : faulty ≡ list_any failed_in (map (λ s. s.end) shifts)
 
 -- the front has the halls again, served by the workers, or as they were where memory was wanting

@@ -9,6 +9,7 @@ use Rattle.amf_service.specs.Registry.{Entry}
 use Rattle.amf_gateway.specs.declared.worker.WorkerEnd.{WorkerEnd}
 use Rattle.amf_gateway.specs.declared.worker.WorkerEnd.TheVariants.{Done, FrontFault}
 use Rattle.amf_gateway.specs.Served.{Served, entries_of, starved_in, IsWholeUnlessFault}
+use Rattle.amf_gateway.specs.ServesLink.{Service}
 use Rattle.amf_gateway.specs.Tells.{OfLink, OfHall}
 use Rattle.amf_workers.specs.declared.answer.ServeAnswer.{ServeAnswer}
 use Rattle.amf_workers.specs.declared.answer.ServeAnswer.TheVariants.{Memory, NotOpened, Closed as WasClosed}
@@ -39,6 +40,10 @@ pub record Shift {H L : Type 0} (hall : OfHall H L) (link : OfLink L) (services 
   pub fresh : hall.served opened ≡ []
   pub served : Served hall link services each before after opened returned end
 
+-- the link told what it had left when it came, and tells what it holds
+abbrev pub TellsBoth : {L : Type 0} → OfLink L → Service L → Type 0
+TellsBoth link v = link.tells_left v.came × link.tells_held v.left
+
 -- a front's count rises where a hall failed, and else stays
 abbrev pub CountsFaults : (before now : ℕ) → Bool → Type 0
 CountsFaults before now true = (before ≤ now) × Rose before now
@@ -62,6 +67,8 @@ pub record Together {F H L : Type 0} (front : OfFront F H) (hall : OfHall H L) (
   -- starved exactly where a link ended for want of memory; where none did and a worker has calls left, each link of it was answered whole unless it had a fault
   pub starved_is : starved ≡ list_any starved_in (map (λ s. s.end) shifts)
   pub answered : starved ≡ false → AllByRecursion (λ s. 0 < s.after.budget → AllByRecursion (IsWholeUnlessFault link) s.served.links) shifts
+  -- a worker of at most a million links has calls left, where the links tell
+  pub calls_left : each ≤ 1000000 → AllByRecursion (λ s. AllByRecursion (TellsBoth link) s.served.links → 0 < s.after.budget) shifts
   -- faulty exactly where a hall failed
   pub faulty_is : faulty ≡ list_any failed_in (map (λ s. s.end) shifts)
   pub counts : CountsFaults (front.faults a) (front.faults b) faulty
