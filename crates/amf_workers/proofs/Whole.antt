@@ -153,7 +153,7 @@ module _ {H L : Type 0} (hall : OfHall H L) (link : OfLink L) (services : List E
           entries = exact first 1 m.shifts h m.fresh b (omega arith);
           starved_is = st ∙ ap (list_any starved_in) (sym m.ends);
           answered = λ e. answered m.shifts (sym (st ∙ ap (list_any starved_in) (sym m.ends)) ∙ e);
-            calls_left = calls_left first 1 m.shifts m.fresh;
+          calls_left = calls_left first 1 m.shifts m.fresh;
           faulty_is = fa ∙ ap (list_any failed_in) (sym m.ends);
         },
         m.returned,
