@@ -14,6 +14,7 @@ use amf_io::{Front, Gate, Hall, OpenEnd};
 use amf_service::Registry;
 use std::alloc::Global;
 use std::hash::RandomState;
+use std::random::RandomSource;
 use std::sync::Wait;
 use std::thread::Threads;
 
