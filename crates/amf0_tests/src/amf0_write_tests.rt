@@ -1,17 +1,27 @@
 ghost use Rattle.std.specs.Prelude.{◌≡◌, IfOk};
 ghost use Rattle.amf_graph.specs.Arena.{Names};
 
-use amf_graph::{Builder, Lack, LackKind, Leaf, Part, Rooted, Shape, Value, Wrapped, WriteEnd};
-use amf_tables::WriterTables;
-use amf_wire::{Pattern, is_amf_text};
+use amf_graph::{Builder, Lack, LackKind, Part, Rooted, Shape, Value, WriteEnd};
+use amf_io::{Cursor, MemorySource};
+use amf_tables::{Tables3, WriterTables};
+use amf_wire::{U29, is_amf_text, write_u29};
 use amf0_tables::graphs_have_one_lowering;
 use amf0_write::{first_lack0, lower, write0, write0_part};
+use amf3_read::read3;
 use std::alloc::Global;
-use std::process::Abort;
 use std::test::Fail;
 
-/// The bits of 1.
-const ONE: Pattern = Pattern(0x3FF0_0000_0000_0000);
+/// The graph that these bytes of AMF 3 spell.
+fn graph_of(alloc: Global, bytes: &[u8]) -> Result<Rooted, Fail> {
+    let mut source = MemorySource::new(alloc, bytes, 65536, 0, &[])?;
+    let mut cursor = Cursor::new(alloc, &mut source, 100_000)?;
+    let mut builder = Builder::new(alloc)?;
+    let mut tables = Tables3::new(alloc)?;
+    let Ok(root) = read3(alloc, &mut cursor, &mut builder, &mut tables) else {
+        return Err("no value")?;
+    };
+    Ok(builder.finish(root).ok().ok_or("an open node")?)
+}
 
 /// What is written of the lowered graph, behind a byte that was there.
 fn written(alloc: Global, graph: &Rooted) -> Result<Vec<u8>, WriteEnd> {
@@ -54,47 +64,39 @@ fn finished(builder: Builder, root: Value) -> Result<Rooted, Fail>
 
 #[test]
 fn values_without_nodes(rt: HostRuntime) -> Result<(), Fail> {
-    for (root, bytes) in [
-        (Value::Undefined, b"\xAA\x06".as_slice()),
-        (Value::Null, b"\xAA\x05"),
-        (Value::Bool(false), b"\xAA\x01\x00"),
-        (Value::Bool(true), b"\xAA\x01\x01"),
+    for (spelled, bytes) in [
+        (b"\x00".as_slice(), b"\xAA\x06".as_slice()),
+        (b"\x01", b"\xAA\x05"),
+        (b"\x02", b"\xAA\x01\x00"),
+        (b"\x03", b"\xAA\x01\x01"),
+        (b"\x04\x00", b"\xAA\x00\x00\x00\x00\x00\x00\x00\x00\x00"),
+        (b"\x04\x05", b"\xAA\x00\x40\x14\x00\x00\x00\x00\x00\x00"),
         (
-            Value::Integer(0),
-            b"\xAA\x00\x00\x00\x00\x00\x00\x00\x00\x00",
-        ),
-        (
-            Value::Integer(5),
-            b"\xAA\x00\x40\x14\x00\x00\x00\x00\x00\x00",
-        ),
-        (
-            Value::Integer(-1),
+            b"\x04\xFF\xFF\xFF\xFF",
             b"\xAA\x00\xBF\xF0\x00\x00\x00\x00\x00\x00",
         ),
         (
-            Value::Double(ONE),
+            b"\x05\x3F\xF0\x00\x00\x00\x00\x00\x00",
             b"\xAA\x00\x3F\xF0\x00\x00\x00\x00\x00\x00",
         ),
     ] {
-        let graph = finished(Builder::new(rt.alloc())?, root)?;
-        assert_eq!(rt; written(rt.alloc(), &graph)?.as_slice(), bytes, "{root:?}");
+        let graph = graph_of(rt.alloc(), spelled)?;
+        assert_eq!(rt;
+            written(rt.alloc(), &graph)?.as_slice(),
+            bytes,
+            "{spelled:?}"
+        );
     }
     Ok(())
 }
 
 #[test]
 fn nodes_without_parts(rt: HostRuntime) -> Result<(), Fail> {
-    let mut builder = Builder::new(rt.alloc())?;
-    assert!(rt; is_amf_text(b"a"));
-    let a = builder.text(b"a")?;
-    let date = builder.leaf(Leaf::Date(ONE))?;
-    let document = builder.leaf(Leaf::XmlDocument(a))?;
-    let root = builder.open_node(Shape::Array)?;
-    builder.put(root, Part::Item(Value::Node(date)))?;
-    builder.put(root, Part::Item(Value::Node(document)))?;
-    builder.put(root, Part::Item(Value::Text(a)))?;
-    builder.close_node(root);
-    let graph = finished(builder, Value::Node(root))?;
+    // An array of a date, an XML document and a text.
+    let graph = graph_of(
+        rt.alloc(),
+        b"\x09\x07\x01\x08\x01\x3F\xF0\x00\x00\x00\x00\x00\x00\x07\x03a\x06\x03a",
+    )?;
     let bytes =
         b"\xAA\x0A\x00\x00\x00\x03\x0B\x3F\xF0\x00\x00\x00\x00\x00\x00\x00\x00\x0F\x00\x00\x00\x01a\x02\x00\x01a".as_slice();
     assert_eq!(rt; written(rt.alloc(), &graph)?.as_slice(), bytes);
@@ -103,15 +105,8 @@ fn nodes_without_parts(rt: HostRuntime) -> Result<(), Fail> {
 
 #[test]
 fn a_shared_node_and_a_ring(rt: HostRuntime) -> Result<(), Fail> {
-    let mut builder = Builder::new(rt.alloc())?;
-    let root = builder.open_node(Shape::Array)?;
-    let inner = builder.open_node(Shape::Array)?;
-    builder.put(root, Part::Item(Value::Node(inner)))?;
-    builder.put(root, Part::Item(Value::Node(inner)))?;
-    builder.put(inner, Part::Item(Value::Node(root)))?;
-    builder.close_node(inner);
-    builder.close_node(root);
-    let graph = finished(builder, Value::Node(root))?;
+    // An array of one array twice, which holds the first.
+    let graph = graph_of(rt.alloc(), b"\x09\x05\x01\x09\x03\x01\x09\x00\x09\x02")?;
     let bytes = b"\xAA\x0A\x00\x00\x00\x02\x0A\x00\x00\x00\x01\x07\x00\x00\x07\x00\x01".as_slice();
     assert_eq!(rt; written(rt.alloc(), &graph)?.as_slice(), bytes);
     Ok(())
@@ -119,15 +114,7 @@ fn a_shared_node_and_a_ring(rt: HostRuntime) -> Result<(), Fail> {
 
 #[test]
 fn names_in_order(rt: HostRuntime) -> Result<(), Fail> {
-    let mut builder = Builder::new(rt.alloc())?;
-    assert!(rt; is_amf_text(b"a") && is_amf_text(b"b"));
-    let (a, b) = (builder.text(b"a")?, builder.text(b"b")?);
-    let root = builder.open_node(Shape::Array)?;
-    builder.put(root, Part::Named(b, Value::Null))?;
-    builder.put(root, Part::Named(a, Value::Bool(true)))?;
-    builder.put(root, Part::Named(b, Value::Undefined))?;
-    builder.close_node(root);
-    let graph = finished(builder, Value::Node(root))?;
+    let graph = graph_of(rt.alloc(), b"\x09\x01\x03b\x01\x03a\x03\x00\x00\x01")?;
     let bytes =
         b"\xAA\x08\x00\x00\x00\x03\x00\x01a\x01\x01\x00\x01b\x05\x00\x01b\x06\x00\x00\x09".as_slice();
     assert_eq!(rt; written(rt.alloc(), &graph)?.as_slice(), bytes);
@@ -164,24 +151,15 @@ fn sealed_members_are_members(rt: HostRuntime) -> Result<(), Fail> {
 
 #[test]
 fn wrappers_within_one_another(rt: HostRuntime) -> Result<(), Fail> {
-    let mut builder = Builder::new(rt.alloc())?;
-    let first = builder.open_node(Shape::Wrapper(Wrapped::ArrayList))?;
-    let second = builder.open_node(Shape::Wrapper(Wrapped::ObjectProxy))?;
-    let third = builder.open_node(Shape::Wrapper(Wrapped::ArrayCollection))?;
-    let ring = builder.open_node(Shape::Wrapper(Wrapped::ArrayList))?;
-    let root = builder.open_node(Shape::Array)?;
-    builder.put(first, Part::Item(Value::Node(second)))?;
-    builder.put(second, Part::Item(Value::Node(third)))?;
-    builder.put(third, Part::Item(Value::Integer(5)))?;
-    builder.put(ring, Part::Item(Value::Node(ring)))?;
-    builder.put(root, Part::Item(Value::Node(first)))?;
-    builder.put(root, Part::Item(Value::Node(ring)))?;
-    builder.close_node(first);
-    builder.close_node(second);
-    builder.close_node(third);
-    builder.close_node(ring);
-    builder.close_node(root);
-    let graph = finished(builder, Value::Node(root))?;
+    // Three wrappers over 5, and one that wraps itself.
+    let graph = graph_of(
+        rt.alloc(),
+        b"\x09\x05\x01\
+            \x0A\x07\x37flex.messaging.io.ArrayList\
+            \x0A\x07\x3Bflex.messaging.io.ObjectProxy\
+            \x0A\x07\x43flex.messaging.io.ArrayCollection\x04\x05\
+            \x0A\x01\x0A\x08",
+    )?;
     let bytes = b"\xAA\x0A\x00\x00\x00\x02\x00\x40\x14\x00\x00\x00\x00\x00\x00\x05".as_slice();
     assert_eq!(rt; written(rt.alloc(), &graph)?.as_slice(), bytes);
     Ok(())
@@ -189,17 +167,11 @@ fn wrappers_within_one_another(rt: HostRuntime) -> Result<(), Fail> {
 
 #[test]
 fn the_least_lack(rt: HostRuntime) -> Result<(), Fail> {
-    let mut builder = Builder::new(rt.alloc())?;
-    assert!(rt; is_amf_text(b"a"));
-    let a = builder.text(b"a")?;
-    let date = builder.leaf(Leaf::Date(ONE))?;
-    let xml = builder.leaf(Leaf::Xml(a))?;
-    let root = builder.open_node(Shape::Array)?;
-    builder.put(root, Part::Item(Value::Node(date)))?;
-    builder.put(root, Part::Item(Value::Node(xml)))?;
-    builder.put(root, Part::Item(Value::Node(date)))?;
-    builder.close_node(root);
-    let graph = finished(builder, Value::Node(root))?;
+    // An array of a date twice, with XML between.
+    let graph = graph_of(
+        rt.alloc(),
+        b"\x09\x07\x01\x08\x01\x3F\xF0\x00\x00\x00\x00\x00\x00\x0B\x03a\x08\x02",
+    )?;
     let shared = Lack {
         kind: LackKind::Shared,
         node: 1,
@@ -210,11 +182,7 @@ fn the_least_lack(rt: HostRuntime) -> Result<(), Fail> {
 
 #[test]
 fn parts_one_after_another(rt: HostRuntime) -> Result<(), Fail> {
-    let mut builder = Builder::new(rt.alloc())?;
-    let root = builder.open_node(Shape::Array)?;
-    builder.put(root, Part::Item(Value::Null))?;
-    builder.close_node(root);
-    let graph = finished(builder, Value::Node(root))?;
+    let graph = graph_of(rt.alloc(), b"\x09\x03\x01\x01")?;
     let bytes = b"\xAA\x0A\x00\x00\x00\x01\x05\x07\x00\x00".as_slice();
     assert_eq!(rt; twice(rt.alloc(), &graph)?.as_slice(), bytes);
     assert_eq!(rt; first_lack0(rt.alloc(), &graph, 1)?, None);
@@ -223,9 +191,7 @@ fn parts_one_after_another(rt: HostRuntime) -> Result<(), Fail> {
 
 #[test]
 fn a_date_of_two_parts(rt: HostRuntime) -> Result<(), Fail> {
-    let mut builder = Builder::new(rt.alloc())?;
-    let date = builder.leaf(Leaf::Date(ONE))?;
-    let graph = finished(builder, Value::Node(date))?;
+    let graph = graph_of(rt.alloc(), b"\x08\x01\x3F\xF0\x00\x00\x00\x00\x00\x00")?;
     let shared = Lack {
         kind: LackKind::Shared,
         node: 0,
@@ -237,27 +203,30 @@ fn a_date_of_two_parts(rt: HostRuntime) -> Result<(), Fail> {
     Ok(())
 }
 
-/// The graph of an array with this text as an item, and with one name.
-fn named(alloc: Global, rt: &impl Abort, length: usize) -> Result<Rooted, Fail> {
-    let mut builder = Builder::new(alloc)?;
-    let bytes = vec![in alloc; b'a'; length]?;
-    assert!(rt; is_amf_text(bytes.as_slice()));
-    let text = builder.text(&bytes)?;
-    let root = builder.open_node(Shape::Array)?;
-    builder.put(root, Part::Named(text, Value::Text(text)))?;
-    builder.close_node(root);
-    finished(builder, Value::Node(root))
+/// The graph of an array with a text of so many bytes as an item, and with one name.
+fn named(alloc: Global, length: u32) -> Result<Rooted, Fail> {
+    if length > 65_536 {
+        return Err("a long text")?;
+    }
+    let size = U29::new(length * 2 + 1).ok_or("a number of 29 bits")?;
+    let mut bytes = vec![in alloc; 0x09, 0x01]?;
+    bytes.extend_from_slice(write_u29(size).as_slice())?;
+    for _ in 0..length {
+        bytes.push(b'a')?;
+    }
+    bytes.extend_from_slice(&[0x06, 0x00, 0x01])?;
+    graph_of(alloc, &bytes)
 }
 
 #[test]
 fn long_names_and_texts(rt: HostRuntime) -> Result<(), Fail> {
     let alloc = rt.alloc();
-    let out = written(alloc, &named(alloc, &rt, 65_535)?)?;
+    let out = written(alloc, &named(alloc, 65_535)?)?;
     assert_eq!(rt; out.len(), 1 + 5 + 2 + 65_535 + 3 + 65_535 + 3);
     let long_name = Lack {
         kind: LackKind::LongName,
         node: 0,
     };
-    assert_eq!(rt; lack(alloc, &named(alloc, &rt, 65_536)?), Some(long_name));
+    assert_eq!(rt; lack(alloc, &named(alloc, 65_536)?), Some(long_name));
     Ok(())
 }
