@@ -11,6 +11,8 @@ mod command_tests;
 mod content;
 mod facts;
 mod format;
+#[cfg(test)]
+mod hostile_tests;
 mod kind;
 #[cfg(test)]
 mod large_tests;
@@ -26,6 +28,8 @@ mod real_tests;
 mod report;
 mod run;
 mod run_end;
+#[cfg(test)]
+mod serve_tests;
 mod serving;
 #[cfg(test)]
 mod sol_tests;
