@@ -125,7 +125,12 @@ fn repeated(
 }
 
 /// Runs over a long input in pieces, and looks at the error line.
-fn check_lack<R: RandomSource + Threads + Wait + Abort + Sync>(rt: &R, alloc: Global, input: &[u8], line: &'static [u8]) {
+fn check_lack<R: RandomSource + Threads + Wait + Abort + Sync>(
+    rt: &R,
+    alloc: Global,
+    input: &[u8],
+    line: &'static [u8],
+) {
     let want = ended(TO.as_slice(), b"", 7, line);
     for pieces in [(1 << 20, 0), (1000, 0), (1 << 20, 9)] {
         check(rt, alloc, input, pieces, &want);

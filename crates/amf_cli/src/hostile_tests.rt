@@ -10,8 +10,7 @@ static PACKET: [&str; 3] = ["canon", "--from", "packet"];
 static SOL: [&str; 3] = ["canon", "--from", "sol"];
 
 /// A packet and a file that are accepted.
-const CALL: &[u8] =
-    b"\0\0\0\0\0\x01\0\x09echo.echo\0\x02/1\0\0\0\x0A\x0A\0\0\0\x01\x02\0\x02hi";
+const CALL: &[u8] = b"\0\0\0\0\0\x01\0\x09echo.echo\0\x02/1\0\0\0\x0A\x0A\0\0\0\x01\x02\0\x02hi";
 
 const FILE: &[u8] = b"\0\xBF\0\0\0\x17TCSO\0\x04\0\0\0\0\0\x01t\0\0\0\0\0\x01a\x01\x01\0";
 
@@ -26,13 +25,36 @@ fn sizes_without_their_bytes(rt: HostRuntime) {
         line,
     };
     let cases = [
-        refused(b"\x09\xFF\xFF\xFF\xFF\x01", b"amf: refused Truncated at 6\n"),
-        refused(b"\x0A\xFF\xFF\xFF\xF3\x01", b"amf: refused Truncated at 6\n"),
-        refused(b"\x0D\xFF\xFF\xFF\xFF\x00", b"amf: refused Truncated at 6\n"),
-        refused(b"\x06\xFF\xFF\xFF\xFF\x61", b"amf: refused Truncated at 5\n"),
-        refused(b"\x11\xFF\xFF\xFF\xFF\x00", b"amf: refused Truncated at 6\n"),
-        cut(PACKET.as_slice(), b"\0\0\xFF\xFF", b"amf: refused Truncated at 4\n"),
-        cut(AMF0.as_slice(), b"\x0A\xFF\xFF\xFF\xFF", b"amf: refused Truncated at 5\n"),
+        refused(
+            b"\x09\xFF\xFF\xFF\xFF\x01",
+            b"amf: refused Truncated at 6\n",
+        ),
+        refused(
+            b"\x0A\xFF\xFF\xFF\xF3\x01",
+            b"amf: refused Truncated at 6\n",
+        ),
+        refused(
+            b"\x0D\xFF\xFF\xFF\xFF\x00",
+            b"amf: refused Truncated at 6\n",
+        ),
+        refused(
+            b"\x06\xFF\xFF\xFF\xFF\x61",
+            b"amf: refused Truncated at 5\n",
+        ),
+        refused(
+            b"\x11\xFF\xFF\xFF\xFF\x00",
+            b"amf: refused Truncated at 6\n",
+        ),
+        cut(
+            PACKET.as_slice(),
+            b"\0\0\xFF\xFF",
+            b"amf: refused Truncated at 4\n",
+        ),
+        cut(
+            AMF0.as_slice(),
+            b"\x0A\xFF\xFF\xFF\xFF",
+            b"amf: refused Truncated at 5\n",
+        ),
     ];
     check_rows(&rt, rt.alloc(), &cases);
 }
@@ -56,16 +78,29 @@ fn fronts_of_accepted_inputs(rt: HostRuntime) {
             let line = ran.line.as_bytes();
             assert!(rt;
                 line.starts_with(b"amf: refused Truncated at ")
-                    || line == b"amf: refused BadLength at 2\n".as_slice() && words.contains(&"sol"),
+                    || line == b"amf: refused BadLength at 2\n".as_slice()
+                        && words.contains(&"sol"),
                 "{words:?} cut at {cut}"
             );
         }
     }
     for vector in vectors() {
         for cut in 0..vector.input.len() {
-            let ran = run_over(&rt, rt.alloc(), &["canon"], &vector.input[..cut], (100, 0), &[], &[]);
+            let ran = run_over(
+                &rt,
+                rt.alloc(),
+                &["canon"],
+                &vector.input[..cut],
+                (100, 0),
+                &[],
+                &[],
+            );
             assert_eq!(rt; ran.status, 1, "cut at {cut}");
-            assert!(rt; ran.line.as_bytes().starts_with(b"amf: refused Truncated at "));
+            assert!(rt;
+                ran.line
+                    .as_bytes()
+                    .starts_with(b"amf: refused Truncated at ")
+            );
         }
     }
 }
@@ -81,14 +116,34 @@ fn reads_that_fail(rt: HostRuntime) -> Result<(), Fail> {
     }
     for vector in vectors() {
         for failing in 0..=vector.input.len() as u64 {
-            let ran = run_over(&rt, rt.alloc(), &["canon"], vector.input, (1, 0), &[failing], &[]);
+            let ran = run_over(
+                &rt,
+                rt.alloc(),
+                &["canon"],
+                vector.input,
+                (1, 0),
+                &[failing],
+                &[],
+            );
             assert_eq!(rt; ran.status, 3, "at read {failing}");
         }
     }
     // A refusal that is met before the read that fails.
     for failing in 0..4u64 {
-        let ran = run_over(&rt, rt.alloc(), PACKET.as_slice(), b"\0\x02\0\0", (1, 0), &[failing], &[]);
-        assert_eq!(rt; ran.status, if failing < 2 { 3 } else { 1 }, "at read {failing}");
+        let ran = run_over(
+            &rt,
+            rt.alloc(),
+            PACKET.as_slice(),
+            b"\0\x02\0\0",
+            (1, 0),
+            &[failing],
+            &[],
+        );
+        assert_eq!(rt;
+            ran.status,
+            if failing < 2 { 3 } else { 1 },
+            "at read {failing}"
+        );
     }
     Ok(())
 }

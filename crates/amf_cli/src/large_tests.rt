@@ -20,7 +20,12 @@ fn nested(alloc: Global, count: usize, inside: &[u8]) -> Result<Vec<u8>, AllocEr
 }
 
 /// Runs `canon` over an input, which is its own canonical spelling.
-fn check_itself<R: RandomSource + Threads + Wait + Abort + Sync>(rt: &R, alloc: Global, input: &[u8], pieces: (usize, usize)) {
+fn check_itself<R: RandomSource + Threads + Wait + Abort + Sync>(
+    rt: &R,
+    alloc: Global,
+    input: &[u8],
+    pieces: (usize, usize),
+) {
     check_canon(rt, alloc, input, pieces, input);
 }
 

@@ -45,7 +45,9 @@ use crate::arguments::{Arguments, Environment};
 use crate::report::end_with;
 use crate::run_end::RunEnd;
 use crate::start::start;
-use amf_io::{Front, Hall, OpenGate, Sink, Source, StandardError, StandardInput, StandardOutput, TcpFront};
+use amf_io::{
+    Front, Hall, OpenGate, Sink, Source, StandardError, StandardInput, StandardOutput, TcpFront,
+};
 use amf_service::{Echo, Names, Registry, Service, Sum};
 use amf_wire::Name;
 use std::alloc::Global;

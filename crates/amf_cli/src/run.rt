@@ -54,14 +54,7 @@ pub const LIMIT: u32 = 67_108_864;
 ///
 /// The runtime gives the keys by which the writer looks texts up, so that no input can be made that takes long; where it
 /// gives none, they are fixed.
-pub fn run<
-    R: RandomSource + Threads + Wait + Sync,
-    I: Source,
-    O: Sink,
-    E: Sink,
-    F: Front,
-    G: Gate,
->(
+pub fn run<R: RandomSource + Threads + Wait + Sync, I: Source, O: Sink, E: Sink, F: Front, G: Gate>(
     rt: &R,
     alloc: Global,
     words: &[Name],
@@ -149,9 +142,7 @@ where
         → Reports result (E.held err.old) (E.held err.new) }
 {
     let keys = RandomState::new(rt).ok();
-    match execute(
-        rt, alloc, keys, words, input, out, front, gate, registry,
-    ) {
+    match execute(rt, alloc, keys, words, input, out, front, gate, registry) {
         Ok(()) => 0,
         // The status is decided: a failure of the error line does not change it.
         Err(end) => end_with(end, err),

@@ -87,11 +87,7 @@ static FIRST: [Ask; 4] = [
 ];
 
 /// A hall of links with these requests, whose calls of `next` with these numbers fail.
-fn hall(
-    alloc: Global,
-    links: &[&[Ask]],
-    failing: &[u64],
-) -> Result<MemoryHall<MemoryLink>, Memory>
+fn hall(alloc: Global, links: &[&[Ask]], failing: &[u64]) -> Result<MemoryHall<MemoryLink>, Memory>
     ensures whole { IfOk result (λ h. h.failed ≡ 0) }
     ensures fresh { IfOk result (λ h. length h.links.served.items ≡ 0) }
 {
@@ -139,7 +135,15 @@ fn serve<R: RandomSource + Threads + Wait + Abort + Sync, G: Gate>(
     let mut output = MemorySink::new(alloc, 100, failing_writes)?;
     let mut line = MemorySink::new(alloc, 100, &[])?;
     let status = run(
-        rt, alloc, &names, &mut input, &mut output, &mut line, front, gate, &registry,
+        rt,
+        alloc,
+        &names,
+        &mut input,
+        &mut output,
+        &mut line,
+        front,
+        gate,
+        &registry,
     );
     Ok(Ran {
         status,
@@ -206,7 +210,14 @@ fn serves_with_faults(rt: HostRuntime) -> Result<(), Fail> {
         (&[1], &[], &[0], 4, b"", b"amf: write fault\n"),
     ] {
         let mut front = front_of_one(alloc, &[&FIRST, &FIRST], next, open)?;
-        let ran = serve(&rt, alloc, TWO_LINKS.as_slice(), &mut front, &OpenGate, write)?;
+        let ran = serve(
+            &rt,
+            alloc,
+            TWO_LINKS.as_slice(),
+            &mut front,
+            &OpenGate,
+            write,
+        )?;
         assert_eq!(rt; ran.status, status);
         assert_eq!(rt; ran.output.as_bytes(), output);
         assert_eq!(rt; ran.line.as_bytes(), line);
@@ -245,7 +256,11 @@ impl Gate for Turns {
     }
 
     fn after(&self, worker: u32, call: u64) {
-        let answered = if worker == 0 { &self.first } else { &self.second };
+        let answered = if worker == 0 {
+            &self.first
+        } else {
+            &self.second
+        };
         answered.store(call, Ordering::SeqCst);
     }
 }

@@ -70,9 +70,7 @@ where
 {
     match words_of(alloc, arguments) {
         Ok(words) => {
-            let status = run(
-                rt, alloc, &words, input, out, err, front, gate, registry,
-            );
+            let status = run(rt, alloc, &words, input, out, err, front, gate, registry);
             ExitCode::from(status)
         }
         Err(_) => ExitCode::from(end_with(RunEnd::NoMemory, err)),

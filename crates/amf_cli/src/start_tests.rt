@@ -1,8 +1,8 @@
 use crate::arguments::{Arguments, Environment, words_of};
 use crate::start::start;
 use amf_io::{
-    FaultlessFront, FaultlessLink, MemorySink, MemorySource, OpenGate, StandardError, StandardInput,
-    StandardOutput,
+    FaultlessFront, FaultlessLink, MemorySink, MemorySource, OpenGate, StandardError,
+    StandardInput, StandardOutput,
 };
 use amf_service::Registry;
 use amf_wire::{Memory, Name};
@@ -91,8 +91,10 @@ fn starts_over_streams_in_memory(rt: HostRuntime) -> Result<(), Fail> {
 /// The exit code over the real streams, of which the input is empty.
 #[test]
 fn starts_over_the_real_streams(rt: HostRuntime) -> Result<(), Fail> {
-    let mut front: FaultlessFront<FaultlessLink> =
-        FaultlessFront::new(rt.alloc(), Vec::new(rt.alloc()))?;
+    let mut front: FaultlessFront<FaultlessLink> = FaultlessFront::new(
+        rt.alloc(),
+        Vec::new(rt.alloc()),
+    )?;
     let registry = Registry::new(rt.alloc(), Vec::new(rt.alloc())).expect(&rt, "a registry");
     for (word, code) in [(b"canon".as_slice(), 1), (b"cannon", 2)] {
         let exit = start(

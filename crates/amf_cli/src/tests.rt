@@ -1,7 +1,7 @@
 use crate::run::run;
 use amf_io::{
-    FaultlessFront, FaultlessLink, FaultlessSink, FaultlessSource, MemorySink, MemorySource, OpenGate,
-    Sink, Source,
+    FaultlessFront, FaultlessLink, FaultlessSink, FaultlessSource, MemorySink, MemorySource,
+    OpenGate, Sink, Source,
 };
 use amf_service::Registry;
 use amf_wire::Name;
@@ -114,14 +114,12 @@ pub(crate) struct Ran {
 }
 
 /// Runs with a front without halls, and without services.
-pub(crate) fn run_alone<R: RandomSource + Threads + Wait + Abort + Sync, I: Source, O: Sink, E: Sink>(
-    rt: &R,
-    alloc: Global,
-    words: &[Name],
-    input: &mut I,
-    out: &mut O,
-    err: &mut E,
-) -> u8 {
+pub(crate) fn run_alone<
+    R: RandomSource + Threads + Wait + Abort + Sync,
+    I: Source,
+    O: Sink,
+    E: Sink,
+>(rt: &R, alloc: Global, words: &[Name], input: &mut I, out: &mut O, err: &mut E) -> u8 {
     let front = FaultlessFront::new(alloc, Vec::new(alloc));
     let mut front: FaultlessFront<FaultlessLink> = front.expect(rt, "a front");
     let registry = Registry::new(alloc, Vec::new(alloc)).expect(rt, "a registry");

@@ -79,8 +79,13 @@ pub(crate) fn served<R: Wait + Abort, L: Link>(
     let mut names = Vec::new(alloc);
     names.push(Name::of_bytes(alloc, b"chat")?)?;
     names.push(Name::of_bytes(alloc, b"news")?)?;
-    let mut hall: MemoryHall<MemoryLink> =
-        MemoryHall::new(alloc, Vec::new(alloc), moments, &[], &[])?;
+    let mut hall: MemoryHall<MemoryLink> = MemoryHall::new(
+        alloc,
+        Vec::new(alloc),
+        moments,
+        &[],
+        &[],
+    )?;
     let Ok((desk, mut pass)) = Desk::open(alloc, names) else {
         return Err("no desk".into());
     };
@@ -101,7 +106,11 @@ pub(crate) fn has_in_order(bytes: &[u8], pieces: &[&[u8]]) -> bool {
     let mut rest = bytes;
     for piece in pieces {
         match place_of(rest, piece) {
-            Some(place) => rest = rest.get(place..).unwrap_or(&[]).get(piece.len()..).unwrap_or(&[]),
+            Some(place) => rest = rest
+                .get(place..)
+                .unwrap_or(&[])
+                .get(piece.len()..)
+                .unwrap_or(&[]),
             None => return false,
         }
     }

@@ -77,7 +77,14 @@ fn first_answers(alloc: Global) -> Result<Vec<u8>, AllocError> {
     let ping = flex_response(
         alloc,
         b"1",
-        &[ACKNOWLEDGE, NAMES, b"\x01\x01\x06\x01", HEADERS, FRESH, PING],
+        &[
+            ACKNOWLEDGE,
+            NAMES,
+            b"\x01\x01\x06\x01",
+            HEADERS,
+            FRESH,
+            PING,
+        ],
     )?;
     let subscribe = flex_response(
         alloc,
@@ -238,16 +245,25 @@ fn idle_clients_end(rt: HostRuntime) -> Result<(), Fail> {
     ];
     let ways = Ways {
         moments: &[
-            0, 0, 0, 0, 1_000, 1_000, 600_000, 600_000, 600_000, 600_000, 599_000, 599_000, 1_200_000,
-            1_200_000,
+            0, 0, 0, 0, 1_000, 1_000, 600_000, 600_000, 600_000, 600_000, 599_000, 599_000,
+            1_200_000, 1_200_000,
         ],
         ..PLAINLY
     };
     let got = answered(&rt, alloc, &all_asked(alloc, &asks)?, ways)?;
     assert_eq!(rt; got.end, LinkEnd::Closed);
     let wanted: [&[u8]; 11] = [
-        b"/0/onResult", b"/1/onResult", b"/2/onResult", b"/3/onResult", b"/4/onStatus", b"Client.NoClient",
-        b"/5/onResult", b"AcknowledgeMessage", b"/6/onStatus", b"Client.NoClient", b"no such client",
+        b"/0/onResult",
+        b"/1/onResult",
+        b"/2/onResult",
+        b"/3/onResult",
+        b"/4/onStatus",
+        b"Client.NoClient",
+        b"/5/onResult",
+        b"AcknowledgeMessage",
+        b"/6/onStatus",
+        b"Client.NoClient",
+        b"no such client",
     ];
     assert!(rt; has_in_order(&got.written, &wanted));
     assert_eq!(rt; count_of(&got.written, b"AsyncMessage"), 0);
@@ -281,9 +297,22 @@ fn numbered_polls(rt: HostRuntime) -> Result<(), Fail> {
     let got = answered(&rt, alloc, &all_asked(alloc, &asks)?, PLAINLY)?;
     assert_eq!(rt; got.end, LinkEnd::Closed);
     let wanted: [&[u8]; 16] = [
-        b"/0/onResult", b"/1/onResult", b"/2/onResult", b"/3/onResult", HELLO, b"/4/onResult", b"/5/onResult", HELLO,
-        b"/6/onResult", AGAIN, b"/7/onStatus", b"Client.BadNumber", b"/8/onStatus", b"bad poll number",
-        b"/9/onResult", b"AcknowledgeMessage",
+        b"/0/onResult",
+        b"/1/onResult",
+        b"/2/onResult",
+        b"/3/onResult",
+        HELLO,
+        b"/4/onResult",
+        b"/5/onResult",
+        HELLO,
+        b"/6/onResult",
+        AGAIN,
+        b"/7/onStatus",
+        b"Client.BadNumber",
+        b"/8/onStatus",
+        b"bad poll number",
+        b"/9/onResult",
+        b"AcknowledgeMessage",
     ];
     assert!(rt; has_in_order(&got.written, &wanted));
     assert_eq!(rt; count_of(&got.written, b"AsyncMessage"), 3);
@@ -328,7 +357,12 @@ fn too_many_clients(rt: HostRuntime) -> Result<(), Fail> {
     assert_eq!(rt; got.closed.calls, 1_025);
     assert_eq!(rt; count_of(&got.written, b"/1/onResult"), 1_024);
     assert_eq!(rt; count_of(&got.written, b"/1/onStatus"), 1);
-    let wanted: [&[u8]; 4] = [b"\x06\x091024", b"/1/onStatus", b"Server.Full", b"too many clients"];
+    let wanted: [&[u8]; 4] = [
+        b"\x06\x091024",
+        b"/1/onStatus",
+        b"Server.Full",
+        b"too many clients",
+    ];
     assert!(rt; has_in_order(&got.written, &wanted));
     Ok(())
 }

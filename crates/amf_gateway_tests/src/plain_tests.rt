@@ -8,18 +8,14 @@ use std::process::Abort;
 use std::test::Fail;
 
 /// A call of `echo.echo` with the text `hi`.
-const ECHO: &[u8] =
-    b"\0\0\0\0\0\x01\0\x09echo.echo\0\x02/1\0\0\0\x0A\x0A\0\0\0\x01\x02\0\x02hi";
+const ECHO: &[u8] = b"\0\0\0\0\0\x01\0\x09echo.echo\0\x02/1\0\0\0\x0A\x0A\0\0\0\x01\x02\0\x02hi";
 
-const ECHOED: &[u8] =
-    b"\0\0\0\0\0\x01\0\x0B/1/onResult\0\x04null\xFF\xFF\xFF\xFF\x02\0\x02hi";
+const ECHOED: &[u8] = b"\0\0\0\0\0\x01\0\x0B/1/onResult\0\x04null\xFF\xFF\xFF\xFF\x02\0\x02hi";
 
 /// A call of another operation, and one of a service that is not there.
-const OTHER: &[u8] =
-    b"\0\0\0\0\0\x01\0\x0Aecho.other\0\x02/1\0\0\0\x0A\x0A\0\0\0\x01\x02\0\x02hi";
+const OTHER: &[u8] = b"\0\0\0\0\0\x01\0\x0Aecho.other\0\x02/1\0\0\0\x0A\x0A\0\0\0\x01\x02\0\x02hi";
 
-const NOBODY: &[u8] =
-    b"\0\0\0\0\0\x01\0\x09nobody.op\0\x02/1\0\0\0\x0A\x0A\0\0\0\x01\x02\0\x02hi";
+const NOBODY: &[u8] = b"\0\0\0\0\0\x01\0\x09nobody.op\0\x02/1\0\0\0\x0A\x0A\0\0\0\x01\x02\0\x02hi";
 
 const NO_OPERATION: &[u8] =
     b"\0\0\0\0\0\x01\0\x0B/1/onStatus\0\x04null\xFF\xFF\xFF\xFF\x03\0\x04code\x02\0\x12Client.NoOperation\0\x0Bdescription\x02\0\x11no such operation\0\x05level\x02\0\x05error\0\0\x09";

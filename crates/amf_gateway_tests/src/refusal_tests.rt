@@ -43,13 +43,37 @@ const EMPTY: &[u8] = b"Content-Length: 0";
 fn heads_that_are_refused(rt: HostRuntime) -> Result<(), Fail> {
     let alloc = rt.alloc();
     for (lines, status, phrase) in [
-        ([POST, HOST, TYPE, b"X: y"], 411, b"411 Length Required".as_slice()),
-        ([POST, HOST, TYPE, b"Content-Encoding: gzip"], 415, b"415 Unsupported Media Type"),
-        ([b"POST /x HTTP/1.1", HOST, TYPE, EMPTY], 404, b"404 Not Found"),
-        ([POST, HOST, TYPE, b"Transfer-Encoding: chunked"], 501, b"501 Not Implemented"),
-        ([POST, HOST, TYPE, b"Content-Length: 1048577"], 413, b"413 Content Too Large"),
+        (
+            [POST, HOST, TYPE, b"X: y"],
+            411,
+            b"411 Length Required".as_slice(),
+        ),
+        (
+            [POST, HOST, TYPE, b"Content-Encoding: gzip"],
+            415,
+            b"415 Unsupported Media Type",
+        ),
+        (
+            [b"POST /x HTTP/1.1", HOST, TYPE, EMPTY],
+            404,
+            b"404 Not Found",
+        ),
+        (
+            [POST, HOST, TYPE, b"Transfer-Encoding: chunked"],
+            501,
+            b"501 Not Implemented",
+        ),
+        (
+            [POST, HOST, TYPE, b"Content-Length: 1048577"],
+            413,
+            b"413 Content Too Large",
+        ),
         ([POST, TYPE, EMPTY, b"X: y"], 400, b"400 Bad Request"),
-        ([POST, HOST, TYPE, b"Expect: 100-continue"], 417, b"417 Expectation Failed"),
+        (
+            [POST, HOST, TYPE, b"Expect: 100-continue"],
+            417,
+            b"417 Expectation Failed",
+        ),
         ([POST, HOST, TYPE, EMPTY], 400, b"400 Bad Request"),
     ] {
         let got = answered(&rt, alloc, &head(alloc, &lines)?, PLAINLY)?;
