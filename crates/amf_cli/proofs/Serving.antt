@@ -1,5 +1,5 @@
 -- How a run with `serve` ends.
-use Rattle.std.proofs.Common.{◌≡◌, ◌≢◌, ◌⊎◌, inl, inr, ℕ, Bool, true, false, List, [], ◌++◌, Result, Ok, Err, refl, subst, arith}
+use Rattle.std.proofs.Common.{◌≡◌, ◌≢◌, ◌⊎◌, inl, inr, ℕ, Bool, true, false, List, [], ◌++◌, Result, Ok, Err, refl, sym, ap, ◌∙◌, subst, arith}
 use Rattle.std.specs.Prelude.{◌≤◌, ⊤}
 use Rattle.amf_io.specs.Outside.{Rose}
 use Rattle.amf_desk.specs.declared.closed.Closed.{Closed}
@@ -104,12 +104,23 @@ front_counts before now told held holds a (Err NoMemory) c e = tt
 front_counts before now told held holds a (Err FrontFault) c e = subst (λ f. CountsFaults before now f) e.1 c
 front_counts before now told held holds a (Err (NoForm v l)) c e = tt
 
+-- an end of another command says nothing of the front
+pub no_front_counts : (n : ℕ) (r : End) → r ≢ Err FrontFault → CountsFront n n r
+no_front_counts n (Ok x) no = refl
+no_front_counts n (Err (Refused f)) no = tt
+no_front_counts n (Err Usage) no = tt
+no_front_counts n (Err ReadFault) no = tt
+no_front_counts n (Err WriteFault) no = tt
+no_front_counts n (Err NoMemory) no = tt
+no_front_counts n (Err FrontFault) no = absurd (no refl)
+no_front_counts n (Err (NoForm v l)) no = tt
+
 -- The statuses.
 
 pub done_served : (Came : ServeAnswer → Type 0) (told : Type 0) (held now : List ℕ) (x : Unit {0}) → ServesTo Came told held now (Ok x) → ServeRun Came told held now 0
 done_served Came told held now x (a, c, fed, well, whole) = record { answer = a; came = c; fed = fed; well = λ z. well; faulty = λ z. absurd (omega arith); whole = λ n. whole; front = λ z. absurd (omega arith) }
 
-pub served_by : (Came : ServeAnswer → Type 0) (told : Type 0) (held now : List ℕ) (e : RunEnd) → (status_of e ≡ 0) ⊎ (status_of e ≡ 4) ⊎ (status_of e ≡ 6) → ServesTo Came told held now (Err e) → ServeRun Came told held now (status_of e)
+served_by : (Came : ServeAnswer → Type 0) (told : Type 0) (held now : List ℕ) (e : RunEnd) → (status_of e ≡ 0) ⊎ (status_of e ≡ 4) ⊎ (status_of e ≡ 6) → ServesTo Came told held now (Err e) → ServeRun Came told held now (status_of e)
 served_by Came told held now (Refused f) h s = absurd s
 served_by Came told held now Usage h s = absurd s
 served_by Came told held now ReadFault h s = absurd s
@@ -118,20 +129,63 @@ served_by Came told held now NoMemory h s = elim h [ inl e ↦ absurd (omega (ar
 served_by Came told held now FrontFault h (a, c, fed, faulty, whole) = record { answer = a; came = c; fed = fed; well = λ z. absurd (omega arith); faulty = λ z. faulty; whole = λ n. whole; front = λ z. absurd (omega arith) }
 served_by Came told held now (NoForm v l) h s = absurd s
 
-pub serve_statuses : (e : RunEnd) → IsServeEnd (Err e) → (status_of e ≡ 0) ⊎ (status_of e ≡ 4) ⊎ (status_of e ≡ 5) ⊎ (status_of e ≡ 6)
-serve_statuses (Refused f) s = absurd s
-serve_statuses Usage s = absurd s
-serve_statuses ReadFault s = absurd s
-serve_statuses WriteFault s = inr (inl refl)
-serve_statuses NoMemory s = inr (inr (inl refl))
-serve_statuses FrontFault s = inr (inr (inr refl))
-serve_statuses (NoForm v l) s = absurd s
+pub served_with : (Came : ServeAnswer → Type 0) (told : Type 0) (held now : List ℕ) (e : RunEnd) (status : ℕ) → status ≡ status_of e → (status ≡ 0) ⊎ (status ≡ 4) ⊎ (status ≡ 6) → ServesTo Came told held now (Err e) → ServeRun Came told held now status
+served_with Came told held now e status is h s =
+    subst (λ (n : ℕ). ServeRun Came told held now n) (sym is) (served_by Came told held now e (subst (λ (n : ℕ). (n ≡ 0) ⊎ (n ≡ 4) ⊎ (n ≡ 6)) is h) s)
 
-pub front_counted : (before now : ℕ) (e : RunEnd) → status_of e ≡ 6 → CountsFront before now (Err e) → Rose before now
-front_counted before now (Refused f) h c = absurd (omega arith)
-front_counted before now Usage h c = absurd (omega arith)
-front_counted before now ReadFault h c = absurd (omega arith)
-front_counted before now WriteFault h c = absurd (omega arith)
-front_counted before now NoMemory h c = absurd (omega arith)
-front_counted before now FrontFault h c = c.1
-front_counted before now (NoForm v l) h c = absurd (omega arith)
+serve_status : (e : RunEnd) → IsServeEnd (Err e) → (status_of e ≡ 0) ⊎ (status_of e ≡ 4) ⊎ (status_of e ≡ 5) ⊎ (status_of e ≡ 6)
+serve_status (Refused f) s = absurd s
+serve_status Usage s = absurd s
+serve_status ReadFault s = absurd s
+serve_status WriteFault s = inr (inl refl)
+serve_status NoMemory s = inr (inr (inl refl))
+serve_status FrontFault s = inr (inr (inr refl))
+serve_status (NoForm v l) s = absurd s
+
+pub serves_with : (e : RunEnd) (status : ℕ) → status ≡ status_of e → IsServeEnd (Err e) → (status ≡ 0) ⊎ (status ≡ 4) ⊎ (status ≡ 5) ⊎ (status ≡ 6)
+serves_with e status is s = subst (λ (n : ℕ). (n ≡ 0) ⊎ (n ≡ 4) ⊎ (n ≡ 5) ⊎ (n ≡ 6)) (sym is) (serve_status e s)
+
+front_end : (e : RunEnd) → status_of e ≡ 6 → e ≡ FrontFault
+front_end (Refused f) h = absurd (omega arith)
+front_end Usage h = absurd (omega arith)
+front_end ReadFault h = absurd (omega arith)
+front_end WriteFault h = absurd (omega arith)
+front_end NoMemory h = absurd (omega arith)
+front_end FrontFault h = refl
+front_end (NoForm v l) h = absurd (omega arith)
+
+pub front_rose : (before now : ℕ) (e : RunEnd) → status_of e ≡ 6 → CountsFront before now (Err e) → Rose before now
+front_rose before now e h c = (subst (λ (x : RunEnd). CountsFront before now (Err x)) (front_end e h) c).1
+
+pub not_6 : (e : RunEnd) (status : ℕ) → status ≡ status_of e → (Err {Unit {0}} {RunEnd} e ≡ Err FrontFault → ⊥) → status ≢ 6
+not_6 e status is no six = no (ap (λ (x : RunEnd). Err {Unit {0}} {RunEnd} x) (front_end e (sym is ∙ six)))
+
+pub never_0 : (e : RunEnd) → status_of e ≡ 0 → ⊥
+never_0 (Refused f) h = absurd (omega arith)
+never_0 Usage h = absurd (omega arith)
+never_0 ReadFault h = absurd (omega arith)
+never_0 WriteFault h = absurd (omega arith)
+never_0 NoMemory h = absurd (omega arith)
+never_0 FrontFault h = absurd (omega arith)
+never_0 (NoForm v l) h = absurd (omega arith)
+
+pub within_7 : (e : RunEnd) → status_of e ≤ 7
+within_7 (Refused f) = omega arith
+within_7 Usage = omega arith
+within_7 ReadFault = omega arith
+within_7 WriteFault = omega arith
+within_7 NoMemory = omega arith
+within_7 FrontFault = omega arith
+within_7 (NoForm v l) = omega arith
+
+memory_is : (e : RunEnd) → status_of e ≡ 5 → e ≡ NoMemory
+memory_is (Refused f) h = absurd (omega arith)
+memory_is Usage h = absurd (omega arith)
+memory_is ReadFault h = absurd (omega arith)
+memory_is WriteFault h = absurd (omega arith)
+memory_is NoMemory h = refl
+memory_is FrontFault h = absurd (omega arith)
+memory_is (NoForm v l) h = absurd (omega arith)
+
+pub memory_end : (e : RunEnd) → status_of e ≡ 5 → Err {Unit {0}} {RunEnd} e ≡ Err NoMemory
+memory_end e h = ap (λ (x : RunEnd). Err {Unit {0}} {RunEnd} x) (memory_is e h)

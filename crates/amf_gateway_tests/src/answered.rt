@@ -105,23 +105,19 @@ pub(crate) fn served<R: Wait + Abort, L: Link>(
 pub(crate) fn has_in_order(bytes: &[u8], pieces: &[&[u8]]) -> bool {
     let mut rest = bytes;
     for piece in pieces {
-        match place_of(rest, piece) {
-            Some(place) => rest = rest
-                .get(place..)
-                .unwrap_or(&[])
-                .get(piece.len()..)
-                .unwrap_or(&[]),
+        match behind(rest, piece) {
+            Some(more) => rest = more,
             None => return false,
         }
     }
     true
 }
 
-/// Where the piece stands first.
-fn place_of(bytes: &[u8], piece: &[u8]) -> Option<usize> {
+/// What stands behind the first place where the piece stands.
+fn behind<'a>(bytes: &'a [u8], piece: &[u8]) -> Option<&'a [u8]> {
     for place in 0..bytes.len() {
-        if bytes[place..].starts_with(piece) {
-            return Some(place);
+        if let Some(rest) = bytes[place..].strip_prefix(piece) {
+            return Some(rest);
         }
     }
     None

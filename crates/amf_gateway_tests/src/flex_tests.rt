@@ -281,17 +281,16 @@ fn idle_clients_end(rt: HostRuntime) -> Result<(), Fail> {
 #[test]
 fn numbered_polls(rt: HostRuntime) -> Result<(), Fail> {
     let alloc = rt.alloc();
-    let numbered = |number: &'static [u8]| Ask::PollNumbered(b'1', number);
     let asks = [
         Ask::Connect,
         Ask::Subscribe(b'1'),
         Ask::Publish(b'1', HELLO),
-        numbered(b"\x0FAMFPoll\x06\x031\x01"),
+        Ask::PollNumbered(b'1', b"\x0FAMFPoll\x06\x031\x01"),
         Ask::Publish(b'1', AGAIN),
-        numbered(b"\x0FAMFPoll\x06\x031\x01"),
-        numbered(b"\x0FAMFPoll\x06\x032\x01"),
-        numbered(b"\x0FAMFPoll\x06\x031\x01"),
-        numbered(b"\x0FAMFPoll\x06\x030\x01"),
+        Ask::PollNumbered(b'1', b"\x0FAMFPoll\x06\x031\x01"),
+        Ask::PollNumbered(b'1', b"\x0FAMFPoll\x06\x032\x01"),
+        Ask::PollNumbered(b'1', b"\x0FAMFPoll\x06\x031\x01"),
+        Ask::PollNumbered(b'1', b"\x0FAMFPoll\x06\x030\x01"),
         Ask::Poll(b'1'),
     ];
     let got = answered(&rt, alloc, &all_asked(alloc, &asks)?, PLAINLY)?;

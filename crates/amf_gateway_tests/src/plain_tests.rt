@@ -5,6 +5,7 @@ use amf_gateway::LinkEnd;
 use amf_io::{Failed, Link};
 use std::alloc::Global;
 use std::process::Abort;
+use std::sync::Wait;
 use std::test::Fail;
 
 /// A call of `echo.echo` with the text `hi`.
@@ -84,8 +85,8 @@ fn a_request_that_is_cut_off(rt: HostRuntime) -> Result<(), Fail> {
 }
 
 /// What comes of the call where these reads and writes fail, by pieces of 16 bytes.
-fn faulty(
-    rt: &HostRuntime,
+fn faulty<R: Wait + Abort>(
+    rt: &R,
     alloc: Global,
     failing_reads: &[u64],
     failing_writes: &[u64],

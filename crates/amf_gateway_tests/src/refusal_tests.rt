@@ -44,33 +44,37 @@ fn heads_that_are_refused(rt: HostRuntime) -> Result<(), Fail> {
     let alloc = rt.alloc();
     for (lines, status, phrase) in [
         (
-            [POST, HOST, TYPE, b"X: y"],
+            [POST, HOST, TYPE, b"X: y".as_slice()],
             411,
             b"411 Length Required".as_slice(),
         ),
         (
-            [POST, HOST, TYPE, b"Content-Encoding: gzip"],
+            [POST, HOST, TYPE, b"Content-Encoding: gzip".as_slice()],
             415,
             b"415 Unsupported Media Type",
         ),
         (
-            [b"POST /x HTTP/1.1", HOST, TYPE, EMPTY],
+            [b"POST /x HTTP/1.1".as_slice(), HOST, TYPE, EMPTY],
             404,
             b"404 Not Found",
         ),
         (
-            [POST, HOST, TYPE, b"Transfer-Encoding: chunked"],
+            [POST, HOST, TYPE, b"Transfer-Encoding: chunked".as_slice()],
             501,
             b"501 Not Implemented",
         ),
         (
-            [POST, HOST, TYPE, b"Content-Length: 1048577"],
+            [POST, HOST, TYPE, b"Content-Length: 1048577".as_slice()],
             413,
             b"413 Content Too Large",
         ),
-        ([POST, TYPE, EMPTY, b"X: y"], 400, b"400 Bad Request"),
         (
-            [POST, HOST, TYPE, b"Expect: 100-continue"],
+            [POST, TYPE, EMPTY, b"X: y".as_slice()],
+            400,
+            b"400 Bad Request",
+        ),
+        (
+            [POST, HOST, TYPE, b"Expect: 100-continue".as_slice()],
             417,
             b"417 Expectation Failed",
         ),
@@ -83,7 +87,7 @@ fn heads_that_are_refused(rt: HostRuntime) -> Result<(), Fail> {
     let got = answered(
         &rt,
         alloc,
-        &head(alloc, &[b"GET /amf HTTP/1.1", HOST, TYPE, EMPTY])?,
+        &head(alloc, &[b"GET /amf HTTP/1.1".as_slice(), HOST, TYPE, EMPTY])?,
         PLAINLY,
     )?;
     assert_eq!(rt; got.end, LinkEnd::Refused(405));
