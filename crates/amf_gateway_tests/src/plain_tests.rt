@@ -108,11 +108,11 @@ fn faulty<R: Wait + Abort>(
 #[test]
 fn a_link_that_fails(rt: HostRuntime) -> Result<(), Fail> {
     let alloc = rt.alloc();
-    let mut ended = 0;
+    let mut ended = 0usize;
     for failing in 0..40u64 {
         match faulty(&rt, alloc, &[failing], &[])? {
             (LinkEnd::ReadFault, true) => {}
-            (LinkEnd::Closed, true) => ended += 1,
+            (LinkEnd::Closed, true) => ended = ended.saturating_add(1),
             _ => panic!(rt; "read {failing}"),
         }
     }
@@ -122,7 +122,7 @@ fn a_link_that_fails(rt: HostRuntime) -> Result<(), Fail> {
     for failing in 0..40u64 {
         match faulty(&rt, alloc, &[], &[failing])? {
             (LinkEnd::WriteFault, true) => {}
-            (LinkEnd::Closed, true) => ended += 1,
+            (LinkEnd::Closed, true) => ended = ended.saturating_add(1),
             _ => panic!(rt; "write {failing}"),
         }
     }
@@ -165,7 +165,7 @@ impl Link for Patient<'_> {
         if self.sent == self.all || buf.len() < self.request.len() {
             return Ok(0);
         }
-        self.sent += 1;
+        self.sent = self.sent.saturating_add(1);
         buf[..self.request.len()].copy_from_slice(self.request);
         Ok(self.request.len())
     }
