@@ -1,4 +1,5 @@
 -- The definitions that contracts cite.
+pub mod Limits
 pub mod State
 pub mod Machine
 pub mod History

@@ -1,7 +1,7 @@
 -- The broker as a machine: the answer to each call, and the state after it.
 use Rattle.std.specs.Prelude.{ℕ, ◌+◌, Bool, not, ◌&&◌, ◌==◌, nat_lt, nat_le, ◌||◌, if◌then◌else◌, List, [], ◌∷◌, ◌++◌, length, map, filter, find, Option, Some, None, is_some, bytes_eq}
 use Rattle.std.specs.List.{list_any}
-use Rattle.amf_broker.specs.declared.limits.TheConstants.{MAX_CLIENTS, MAX_SUBS, MAX_QUEUED, MAX_SUBTOPIC, MAX_MESSAGE, MAX_IDLE}
+use Rattle.amf_broker.specs.Limits.{most_clients, most_subs, most_queued, most_subtopic, most_message, most_idle}
 use Rattle.amf_broker.specs.declared.topic.Topic.{Topic}
 use Rattle.amf_broker.specs.declared.call.Call.{Call}
 use Rattle.amf_broker.specs.declared.call.Call.TheVariants.{Connect, Subscribe, Unsubscribe, Publish, Poll, PollNumbered, Disconnect}
@@ -76,7 +76,7 @@ places_of client b = length (subs_of client b.subs) + length (ended_of client b.
 abbrev pub topic_refusal : Board → Topic → Option Reply
 topic_refusal b topic =
     if not (list_any (bytes_eq topic.destination) b.destinations) then Some (NoTopic topic.destination)
-    else if nat_lt MAX_SUBTOPIC (length topic.subtopic) then Some (TooLong MAX_SUBTOPIC)
+    else if nat_lt most_subtopic (length topic.subtopic) then Some (TooLong most_subtopic)
     else None
 
 -- the first refusal, or else the second
@@ -92,16 +92,16 @@ abbrev pub number_refusal : ℕ → ℕ → Option Reply
 number_refusal last number = if number == last + 1 || (number == last && nat_le 1 last) then None else Some (BadNumber last)
 
 abbrev pub refusal : Board → Call → Option Reply
-refusal b Connect = if nat_le MAX_CLIENTS (length b.clients) then Some (Full MAX_CLIENTS) else None
+refusal b Connect = if nat_le most_clients (length b.clients) then Some (Full most_clients) else None
 refusal b (Subscribe client topic) =
     or_then (client_refusal b client) (or_then (topic_refusal b topic)
-    (if nat_le MAX_SUBS (places_of client b) then Some (TooManySubs MAX_SUBS) else None))
+    (if nat_le most_subs (places_of client b) then Some (TooManySubs most_subs) else None))
 refusal b (Unsubscribe client sub) =
     or_then (client_refusal b client)
     (if list_any (λ u. u.id == sub && u.client == client) b.subs then None else Some (NoSub sub))
 refusal b (Publish client topic message) =
     or_then (client_refusal b client) (or_then (topic_refusal b topic)
-    (if nat_lt MAX_MESSAGE (length message) then Some (TooLong MAX_MESSAGE) else None))
+    (if nat_lt most_message (length message) then Some (TooLong most_message) else None))
 refusal b (Poll client) = client_refusal b client
 refusal b (PollNumbered client number) = or_then (client_refusal b client) (number_refusal (last_of client b.clients) number)
 refusal b (Disconnect client) = client_refusal b client
@@ -149,7 +149,7 @@ abbrev pub ended_first : ℕ → Spread → Spread
 ended_first sub spread = record { clients = spread.clients; ended = sub ∷ spread.ended }
 
 abbrev pub is_full : ℕ → List Connection → Bool
-is_full client clients = nat_le MAX_QUEUED (length (queue_of client clients))
+is_full client clients = nat_le most_queued (length (queue_of client clients))
 
 -- a message reaches these subscriptions one after another. Each gets a delivery at the back of its client's queue, or ends where that queue is full
 abbrev pub spread : ℕ → List ℕ → List Subscription → List Connection → Spread
@@ -230,7 +230,7 @@ later present moment = if nat_le present moment then moment else present
 
 -- no call has named the client for so long that it expires
 abbrev pub is_idle : ℕ → Connection → Bool
-is_idle present c = nat_le (c.seen + MAX_IDLE) present
+is_idle present c = nat_le (c.seen + most_idle) present
 
 -- the clients that expire at a call of this moment, in order of their numbers
 abbrev pub expired_at : ℕ → Board → List ℕ

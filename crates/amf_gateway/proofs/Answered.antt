@@ -1,5 +1,5 @@
 -- Answering a link one request at a time comes to what the link is answered.
-use Rattle.std.proofs.Common.{◌≡◌, ◌∙◌, ℕ, zero, suc, Bool, true, false, ◌==◌, ◌||◌, if◌then◌else◌, List, [], ◌∷◌, ◌++◌, map, Option, Some, None, refl, sym, ap, subst, inl, inr, append_assoc, append-nil}
+use Rattle.std.proofs.Common.{◌≡◌, ◌∙◌, ℕ, suc, Bool, true, false, ◌==◌, ◌||◌, if◌then◌else◌, List, [], ◌∷◌, ◌++◌, map, Option, Some, None, refl, sym, ap, subst, inr, append_assoc}
 use Rattle.std.proofs.lemmas.List.{map-append}
 use Rattle.amf_broker.specs.declared.call.Call.{Call}
 use Rattle.amf_broker.specs.declared.reply.Reply.{Reply as Replied}
@@ -7,17 +7,17 @@ use Rattle.amf_http.specs.Response.{response}
 use Rattle.amf_packet.specs.Packet.{Packet}
 use Rattle.amf_service.specs.Registry.{Entry}
 use Rattle.amf_gateway.specs.Answered.{packet_bytes, if_packet}
-use Rattle.amf_gateway.specs.Answering.{Next, over, status_alone, packet, answer_with, next_by, next, goes_on, one_more}
+use Rattle.amf_gateway.specs.Answering.{Next, packet, answer_with, next_by, next, goes_on, one_more}
 use Rattle.amf_gateway.specs.Begun.{Begun}
 use Rattle.amf_gateway.specs.Did.{none_taken, both_taken}
-use Rattle.amf_gateway.specs.Links.{LinkEnd, closed, turn_away, closed_or, answer_packet, answer_body, answer_request, link_of}
-use Rattle.amf_gateway.specs.LinkSteps.{Gives, Begins}
+use Rattle.amf_gateway.specs.Links.{LinkEnd, turn_away, answer_packet, answer_body, answer_request, link_of}
+use Rattle.amf_gateway.specs.LinkSteps.{Gives}
 use Rattle.amf_gateway.specs.Packets.{answers_to, has_long}
-use Rattle.amf_gateway.specs.Plan.{Cut, at_end, cut_short, turned_away, request, Plan, gives, takes_moment, takes_word, calls, spells, reads, cuts, unpacks, packs, writes, ◌>>=◌, bytes_of}
+use Rattle.amf_gateway.specs.Plan.{Cut, at_end, cut_short, turned_away, request, Plan, gives, takes_moment, takes_word, calls, spells, reads, cuts, unpacks, packs, writes, ◌>>=◌}
 use Rattle.amf_gateway.specs.Respond.{joined}
-use Rattle.amf_gateway.specs.Runs.{Supply, Done, nothing, and_answer, Outcome, gave, Runs}
+use Rattle.amf_gateway.specs.Runs.{Supply, Done, and_answer, Outcome, gave, Runs}
 use Rattle.amf_gateway.specs.Serving.{ServeEnd, ended, read_fault, write_fault, no_memory, spent, LinkBytes, Taken, supply_of, calls_of, did, none_left, more, ServesBy}
-use Rattle.amf_gateway.proofs.Composed.{both, runs_then, runs_more, begun_more, begun_first, begun_then, none_begun}
+use Rattle.amf_gateway.proofs.Composed.{both, runs_then, runs_more, begun_then}
 
 -- The plans.
 

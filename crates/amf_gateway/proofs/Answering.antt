@@ -1,6 +1,6 @@
 -- Messages answered one after another.
-use Rattle.std.proofs.Common.{◌≡◌, ◌∙◌, ℕ, zero, suc, ◌+◌, ◌<◌, ◌≤◌, ◌^◌, Bool, true, false, List, [], ◌∷◌, ◌++◌, length, map, take, drop, get_or, add-one, refl, sym, ap, subst, arith, length-append, append_assoc}
-use Rattle.std.specs.Prelude.{codes, ◌||◌, if◌then◌else◌}
+use Rattle.std.proofs.Common.{◌≡◌, ◌∙◌, ℕ, zero, suc, ◌+◌, ◌<◌, ◌≤◌, Bool, true, false, List, [], ◌∷◌, ◌++◌, length, map, take, drop, get_or, add-one, refl, sym, ap, subst, arith, length-append, append_assoc}
+use Rattle.std.specs.Prelude.{codes, ◌||◌}
 use Rattle.std.specs.List.{AllByRecursion, AllZip, concat, list_any}
 use Rattle.std.proofs.lemmas.Bool.{ltb-false}
 use Rattle.std.proofs.lemmas.List.{append-nil}
@@ -11,7 +11,7 @@ use Rattle.amf_packet.specs.declared.packet.Message.{Message as KeptMessage}
 use Rattle.amf_packet.specs.declared.packet.Header.{Header as KeptHeader}
 use Rattle.amf_packet.specs.declared.packet.Packet.{Packet as KeptPacket}
 use Rattle.amf_packet.specs.Content.{body_of, header_of, message_of, packet_of}
-use Rattle.amf_packet.specs.Packet.{Body, Message, Packet}
+use Rattle.amf_packet.specs.Packet.{Message}
 use Rattle.amf_service.specs.Registry.{Entry}
 use Rattle.amf_gateway.specs.declared.plain_call.MessageAnswer.{MessageAnswer}
 use Rattle.amf_gateway.specs.Alike.{BodiesMatch, HeadersMatch, MessagesMatch}
@@ -22,7 +22,7 @@ use Rattle.amf_gateway.specs.Packets.{null_uri, answer_to, suffix, message_back,
 use Rattle.amf_gateway.specs.Plan.{Plan, gives, ◌>>=◌}
 use Rattle.amf_gateway.specs.Replies.{Answer}
 use Rattle.amf_gateway.specs.Serving.{Taken}
-use Rattle.amf_gateway.proofs.Doing.{HandsNone, HandsBoth, ran_then, ran_nothing, stopped_first, stopped_then, stopped_between, not_begun}
+use Rattle.amf_gateway.proofs.Doing.{HandsNone, HandsBoth, ran_then, ran_nothing, stopped_first, stopped_then, stopped_between}
 
 -- the message that was made matches the one that is said
 pub back_matches : (response : List ℕ) (x : MessageAnswer) (y : Answer) (m : KeptMessage) → AnswersMessage x y → m.target ≡ response ++ suffix x.well → m.response ≡ null_uri → m.body ≡ x.body → MessagesMatch (message_back response y) (message_of m)

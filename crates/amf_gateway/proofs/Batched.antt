@@ -1,12 +1,12 @@
 -- Messages that are added one after another to an empty builder, and the sync that holds them.
-use Rattle.std.proofs.Common.{◌≡◌, ◌∙◌, ℕ, zero, suc, ◌+◌, ◌*◌, ◌<◌, ◌≤◌, List, [], ◌∷◌, ◌++◌, ◌⊎◌, length, map, refl, sym, ap, subst, arith, inl, inr, append_assoc, append-nil, length-append}
+use Rattle.std.proofs.Common.{◌≡◌, ◌∙◌, ℕ, suc, ◌+◌, ◌<◌, ◌≤◌, List, [], ◌∷◌, ◌++◌, ◌⊎◌, length, map, refl, sym, ap, subst, arith, inl, inr, append_assoc, append-nil, length-append}
 use Rattle.std.specs.Prelude.{decimal}
 use Rattle.std.specs.List.{AllByRecursion}
 use Rattle.amf_graph.specs.declared.value.Value.{Value as Stored}
 use Rattle.amf_graph.specs.Arena.{Arena, IsFinished, IsBuilt, Names, graph_of, value_content}
 use Rattle.amf_graph.specs.Bounds.{weight}
 use Rattle.amf_graph.specs.Building.{no_arena, stored_at}
-use Rattle.amf_graph.specs.Grafting.{node_value, Grafted}
+use Rattle.amf_graph.specs.Grafting.{node_value}
 use Rattle.amf_graph.specs.Graph.{Graph, Node}
 use Rattle.amf_graph.specs.Isomorphic.{Isomorphic}
 use Rattle.amf_graph.specs.Rooted.{RootedArena, content}

@@ -1,5 +1,5 @@
 -- What a message that was built says.
-use Rattle.std.proofs.Common.{◌≡◌, ◌∙◌, ℕ, ◌+◌, ◌<◌, ◌≤◌, List, [], ◌∷◌, length, refl, sym, ap, subst, arith, inl, inr}
+use Rattle.std.proofs.Common.{◌≡◌, ℕ, ◌+◌, ◌≤◌, List, [], ◌∷◌, length, refl, sym, ap, subst, arith, inl, inr}
 use Rattle.amf_graph.specs.declared.value.Value.{Value as Stored}
 use Rattle.amf_graph.specs.declared.value.Value.TheVariants.{Null}
 use Rattle.amf_graph.specs.Arena.{Arena, IsBuilt, IsFinished, Names, Completes, graph_of, value_content}
@@ -7,7 +7,7 @@ use Rattle.amf_graph.specs.Bounds.{weight}
 use Rattle.amf_graph.specs.Building.{no_arena}
 use Rattle.amf_graph.specs.Grafting.{Grafted, IsTooMuch}
 use Rattle.amf_graph.specs.GraftLaws.{GraftPairs}
-use Rattle.amf_graph.specs.Graph.{Graph, leaf}
+use Rattle.amf_graph.specs.Graph.{Graph}
 use Rattle.amf_graph.specs.Isomorphic.{StandIn, ValuesMatch, Isomorphic}
 use Rattle.amf_graph.specs.Roots.{SameFrom}
 use Rattle.amf_graph.specs.Rooted.{RootedArena, content}

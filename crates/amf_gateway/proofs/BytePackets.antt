@@ -1,20 +1,17 @@
 -- Packets of version 3 with one message, put together from the bytes of its value.
-use Rattle.std.proofs.Common.{◌≡◌, ℕ, ◌<◌, ◌^◌, Bool, true, false, List, [], ◌∷◌, ◌++◌, length, append-nil, Some, refl, sym, ap, ◌∙◌, arith}
+use Rattle.std.proofs.Common.{◌≡◌, ℕ, ◌<◌, ◌^◌, true, false, List, [], ◌∷◌, ◌++◌, length, append-nil, Some, refl, sym, ap, ◌∙◌, arith}
 use Rattle.std.specs.Int.{to_be_bytes, w16, w32}
 use Rattle.amf_io.specs.Field.{Field, flat, field, contents, text_kind, u16_kind, u32_kind, no_refusal}
 use Rattle.amf_wire.specs.Style.{Style, free, canonical}
-use Rattle.amf_wire.specs.Text.{IsText, is_text}
+use Rattle.amf_wire.specs.Text.{is_text}
 use Rattle.amf_wire.proofs.TextTest.{is_text-is}
 use Rattle.amf_graph.specs.Graph.{Graph}
-use Rattle.amf_graph.specs.Isomorphic.{Isomorphic}
-use Rattle.amf3_spelling.specs.Spells3.{Spelled3}
 use Rattle.amf3_spelling.proofs.Decides3.{same_bytes_isomorphic}
 use Rattle.amf0_tables.specs.declared.form.Form.{Form}
 use Rattle.amf0_tables.specs.declared.form.Form.TheVariants.{Call, Amf3}
 use Rattle.amf0_tables.specs.Segments0.{Short, marker0_field}
 use Rattle.amf0_tables.specs.Tables0.{no_tables0}
 use Rattle.amf_packet.specs.Packet.{Message, Packet, Beside, BodyBy, LengthBy, HeaderBy, MessageBy, ListBy, VersionBy, SpellsPacket, SpelledPacket, version_refusal, call_fields}
-use Rattle.amf_gateway.specs.Alike.{PacketsMatch}
 use Rattle.amf_gateway.specs.Runs.{IsUnpacked, IsPacked}
 use Rattle.amf_gateway.proofs.Speller.{bytes_by, spells}
 use Rattle.amf_gateway.proofs.WholeTest.{a_whole_graph, is_there, whole_by}

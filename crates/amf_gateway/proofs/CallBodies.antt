@@ -1,6 +1,6 @@
 -- The body of a call is null or a value that is reached, and what the headers name is the same in graphs that are.
 use Rattle.std.proofs.Common.{◌≡◌, ℕ, ◌⊎◌, List, Option, Some, None, refl, inl, inr}
-use Rattle.amf_graph.specs.Graph.{Value, leaf, node, null, Graph, node_at}
+use Rattle.amf_graph.specs.Graph.{Value, leaf, node, null, node_at}
 use Rattle.amf_graph.specs.Isomorphic.{ValuesMatch, StandIn}
 use Rattle.amf_graph.specs.Reached.{Reached, at_root, inside, Holds, IsReachedValue}
 use Rattle.flex_msgs.specs.Lookup.{pairs_of}

@@ -1,15 +1,15 @@
 -- What comes of a call, for arguments that are the same but for the numbers of their nodes.
-use Rattle.std.proofs.Common.{◌≡◌, ◌∙◌, ℕ, List, Option, Some, None, refl, sym, ap, subst}
+use Rattle.std.proofs.Common.{◌≡◌, Some, None, refl, sym, subst}
 use Rattle.amf_graph.specs.Graph.{Graph}
 use Rattle.amf_graph.specs.Isomorphic.{Isomorphic}
 use Rattle.amf_graph.specs.Rooted.{content}
 use Rattle.amf_graph.proofs.Isomorphisms.{isomorphic_trans}
 use Rattle.flex_msgs.specs.declared.reply.FaultText.{FaultText}
-use Rattle.amf_service.specs.Meaning.{Given, result, fault, Called, no_service, no_operation, given}
+use Rattle.amf_service.specs.Meaning.{result, fault, Called, no_service, no_operation, given}
 use Rattle.amf_service.specs.ServiceLaws.{CalledMatch}
 use Rattle.amf_gateway.specs.declared.calling.CallAnswer.{CallAnswer}
 use Rattle.amf_gateway.specs.declared.calling.CallAnswer.TheVariants.{Gave, Failed}
-use Rattle.amf_gateway.specs.Calls.{cause_of, ComesTo}
+use Rattle.amf_gateway.specs.Calls.{ComesTo}
 
 same_result : (g h : Graph) → given (result g) ≡ given (result h) → g ≡ h
 same_result g h e = cc

@@ -1,11 +1,11 @@
 -- Nodes that are all closed stay so.
-use Rattle.std.proofs.Common.{◌≡◌, ℕ, zero, suc, Bool, false, List, [], ◌∷◌, ◌++◌, get_or, map, refl, sym, subst}
+use Rattle.std.proofs.Common.{◌≡◌, ℕ, zero, suc, false, List, [], ◌∷◌, get_or, refl, sym, subst}
 use Rattle.std.specs.List.{AllByRecursion}
 use Rattle.amf_graph.specs.declared.value.Value.{Value as Stored}
 use Rattle.amf_graph.specs.Graph as graph
 use Rattle.amf_graph.specs.Arena.{Arena, StoredNode, IsFinished}
-use Rattle.amf_graph.specs.Building.{no_stored, stored_at}
-use Rattle.amf_graph.specs.Grafting.{Renaming, Grafted, copied_nodes, renaming, renamed_node}
+use Rattle.amf_graph.specs.Building.{no_stored}
+use Rattle.amf_graph.specs.Grafting.{Renaming, Grafted, copied_nodes, renaming}
 use Rattle.amf_graph.proofs.Alls.{all_append}
 use Rattle.flex_msgs.specs.Built.{Adds}
 

@@ -1,13 +1,13 @@
 -- How far a link was served between two states of the outside.
-use Rattle.std.proofs.Common.{◌≡◌, ◌∙◌, ℕ, suc, ◌+◌, ◌==◌, Bool, false, arith, List, [], ◌∷◌, ◌++◌, Result, Ok, Err, refl, sym, ap, subst, append_assoc, append-nil}
+use Rattle.std.proofs.Common.{◌≡◌, ◌∙◌, ℕ, suc, ◌+◌, ◌==◌, Bool, false, arith, List, [], ◌∷◌, ◌++◌, Ok, Err, refl, sym, ap, subst, append_assoc, append-nil}
 use Rattle.amf_http.specs.Response.{response}
 use Rattle.amf_service.specs.Registry.{Entry}
 use Rattle.amf_gateway.specs.declared.links.LinkEnd.{LinkEnd as Ending}
-use Rattle.amf_gateway.specs.declared.links.LinkEnd.TheVariants.{Closed, Memory}
+use Rattle.amf_gateway.specs.declared.links.LinkEnd.TheVariants.{Memory}
 use Rattle.amf_gateway.specs.Answering.{one_more}
 use Rattle.amf_gateway.specs.Did.{none_taken, both_taken}
 use Rattle.amf_gateway.specs.Links.{LinkEnd, closed, link_of, link, most_requests}
-use Rattle.amf_gateway.specs.LinkSteps.{end_of, ServedLink, StepsBy, Steps}
+use Rattle.amf_gateway.specs.LinkSteps.{end_of, ServedLink, Steps}
 use Rattle.amf_gateway.specs.Plan.{Plan, gives}
 use Rattle.amf_gateway.specs.Respond.{joined}
 use Rattle.amf_gateway.specs.Runs.{gave, Runs}

@@ -1,8 +1,8 @@
 -- One plan and then another: what comes of both, what was begun of both, and what more supply leaves.
-use Rattle.std.proofs.Common.{◌≡◌, ℕ, List, [], ◌∷◌, ◌++◌, ◌⊎◌, refl, sym, ap, ◌∙◌, subst, inl, inr}
+use Rattle.std.proofs.Common.{◌≡◌, List, [], ◌∷◌, ◌++◌, ◌⊎◌, refl, sym, ap, ◌∙◌, subst, inl, inr}
 use Rattle.amf_gateway.specs.Begun.{Begun}
 use Rattle.amf_gateway.specs.Plan.{Plan, gives, takes_moment, takes_word, calls, spells, reads, cuts, unpacks, packs, writes, ◌>>=◌}
-use Rattle.amf_gateway.specs.Runs.{Supply, Done, nothing, and_call, and_answer, Outcome, gave, ran_out, Takes, Runs}
+use Rattle.amf_gateway.specs.Runs.{Supply, Done, nothing, Outcome, gave, ran_out, Takes, Runs}
 use Rattle.amf_gateway.specs.Serving.{more}
 
 -- what is done first, and then more

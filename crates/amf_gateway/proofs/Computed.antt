@@ -1,5 +1,5 @@
 -- What is computed of a plan is what comes of it.
-use Rattle.std.proofs.Common.{◌≡◌, ℕ, List, [], ◌∷◌, refl}
+use Rattle.std.proofs.Common.{◌≡◌, List, [], ◌∷◌, refl}
 use Rattle.amf_gateway.specs.Plan.{Plan, gives, takes_moment, takes_word, calls, spells, reads, cuts, unpacks, packs, writes}
 use Rattle.amf_gateway.specs.Runs.{Supply, Done, Outcome, Runs, Takes, nothing, and_call, ran_out}
 use Rattle.amf_gateway.specs.Tried.{Answers, Tried, tried, taken, TakesRight, called, IsRight}

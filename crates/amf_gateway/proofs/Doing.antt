@@ -13,12 +13,12 @@ use Rattle.amf_gateway.specs.Begun.{Begun}
 use Rattle.amf_broker.specs.declared.reply.Reply.TheVariants.{Client, Subscribed}
 use Rattle.amf_gateway.specs.Commands.{ask, acknowledged, say_subscribed, say_connected, is_new, connect, ping}
 use Rattle.amf_gateway.specs.Kept.{connect_in}
-use Rattle.amf_gateway.specs.Did.{none_taken, moment_taken, word_taken, entry_taken, both_taken, Ran, Stopped, AnswersFlex, Tells, Says}
-use Rattle.amf_gateway.specs.Plan.{Plan, whole, gives, ◌>>=◌, moment, reply_to, spelling_of}
+use Rattle.amf_gateway.specs.Did.{none_taken, moment_taken, word_taken, entry_taken, both_taken, Ran, Stopped, Tells, Says}
+use Rattle.amf_gateway.specs.Plan.{Plan, whole, ◌>>=◌, moment, reply_to, spelling_of}
 use Rattle.amf_gateway.specs.Replies.{Answer, Context, context_of, with_client, reply_with, fresh, acknowledge_null}
 use Rattle.amf_gateway.specs.Runs.{Supply, Done, nothing, and_call, Outcome, gave, Runs, Finds, IsSpelling}
 use Rattle.amf_gateway.specs.Serving.{Taken, supply_of, did, none_left, more}
-use Rattle.amf_gateway.proofs.Composed.{both, runs_then, runs_more, begun_more, begun_first, begun_then, none_begun}
+use Rattle.amf_gateway.proofs.Composed.{both, runs_then, runs_more, begun_first, begun_then, none_begun}
 
 replies_of : List Event → List Replied
 replies_of es = map (λ e. e.answer.reply) es

@@ -13,7 +13,7 @@ use Rattle.amf_gateway.specs.Did.{Ran, Stopped, Says, Tells}
 use Rattle.amf_gateway.specs.Plan.{Plan, gives, ◌>>=◌}
 use Rattle.amf_gateway.specs.Replies.{Context, Answer, fresh, acknowledge_null}
 use Rattle.amf_gateway.specs.Serving.{Taken}
-use Rattle.amf_gateway.proofs.Doing.{HandsNone, HandsBoth, not_begun, ran_then, ran_nothing, says_then, says_told, stopped_then, stopped_first, stopped_between}
+use Rattle.amf_gateway.proofs.Doing.{HandsNone, HandsBoth, ran_then, ran_nothing, says_then, says_told, stopped_then, stopped_first, stopped_between}
 
 -- so far came these, and what the rest of the plan comes to makes what the whole comes to
 pub record Ahead {O : Type 0} (handed : O → O → Taken → Type 0) (whole rest : Plan (List Graph)) (start now : O) (front : List Graph) : Type 0 where

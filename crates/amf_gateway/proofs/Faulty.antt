@@ -1,5 +1,5 @@
 -- The object of a fault, text by text.
-use Rattle.std.proofs.Common.{◌≡◌, ◌∙◌, ℕ, true, List, [], ◌∷◌, length, refl, sym, ap, subst, codes}
+use Rattle.std.proofs.Common.{◌≡◌, ◌∙◌, ℕ, true, List, [], ◌∷◌, length, ap, codes}
 use Rattle.amf_wire.specs.Text.{is_text, IsText}
 use Rattle.amf_wire.proofs.TextTest.{is_text-is}
 use Rattle.amf_graph.specs.declared.value.TextId.{TextId}

@@ -1,5 +1,5 @@
 -- A request that was viewed: its names are texts that a builder takes, and what is none is answered alike.
-use Rattle.std.proofs.Common.{◌≡◌, ◌∙◌, List, Option, Some, None, refl, sym, ap}
+use Rattle.std.proofs.Common.{◌≡◌, ◌∙◌, List, Some, None, refl, sym, ap}
 use Rattle.amf_graph.specs.declared.value.Value.{Value as Stored}
 use Rattle.amf_graph.specs.Arena.{Arena, IsFinished, graph_of, value_content}
 use Rattle.amf_graph.specs.Bounds.{IsWithinBounds}

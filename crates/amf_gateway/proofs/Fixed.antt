@@ -1,18 +1,17 @@
 -- What a link is answered is fixed by its arguments.
-use Rattle.std.proofs.Common.{◌≡◌, ℕ, zero, suc, Bool, true, false, List, [], ◌∷◌, ◌++◌, length, Option, Some, None, refl, sym, ap, ◌∙◌, subst}
+use Rattle.std.proofs.Common.{◌≡◌, ℕ, zero, suc, Bool, List, [], ◌∷◌, ◌++◌, length, Option, Some, refl, sym, ap, ◌∙◌, subst}
 use Rattle.std.specs.Prelude.{◌==◌, ◌||◌, nat_lt, if◌then◌else◌}
 use Rattle.std.specs.List.{AllByRecursion, AllZip, list_any}
-use Rattle.amf_broker.specs.declared.call.Call.{Call}
 use Rattle.amf_graph.specs.Reached.{IsWhole}
 use Rattle.amf_http.specs.Response.{response}
 use Rattle.amf_packet.specs.Packet.{Message, Packet}
 use Rattle.amf_service.specs.Registry.{Entry}
 use Rattle.amf_gateway.specs.Alike.{MessagesMatch, PacketsMatch}
 use Rattle.amf_gateway.specs.Links.{LinkEnd, closed, turn_away, closed_or, answer_packet, answer_body, answer_request, link_of, link, most_requests}
-use Rattle.amf_gateway.specs.Packets.{answer_to, suffix, null_uri, message_back, messages_back, packet_back, answers_to, is_long, has_long}
+use Rattle.amf_gateway.specs.Packets.{answer_to, suffix, message_back, messages_back, packet_back, answers_to, is_long, has_long}
 use Rattle.amf_gateway.specs.Plan.{Cut, at_end, cut_short, turned_away, request, Plan, gives, writes, ◌>>=◌, bytes_of}
 use Rattle.amf_gateway.specs.Replies.{Answer}
-use Rattle.amf_gateway.specs.Respond.{Told, end_of, Responds}
+use Rattle.amf_gateway.specs.Respond.{Told, end_of}
 use Rattle.amf_gateway.specs.RespondLaws.{AreLawful, AnswersAreFixed, BegunIsBeginning}
 use Rattle.amf_gateway.specs.Runs.{IsWholePacket, Done, Outcome, gave, ran_out}
 use Rattle.amf_gateway.proofs.Laws.{Laws, BehindAlike}

@@ -1,5 +1,5 @@
 -- What was given, step by step.
-use Rattle.std.proofs.Common.{◌≡◌, ◌∙◌, ℕ, ◌+◌, List, [], ◌∷◌, ◌++◌, length, refl, sym, ap, subst, arith, append-nil}
+use Rattle.std.proofs.Common.{◌≡◌, ◌∙◌, ℕ, ◌+◌, List, [], ◌∷◌, ◌++◌, sym, subst, arith, append-nil}
 use Rattle.amf_io.specs.Outside.{Keeps}
 use Rattle.amf_broker.specs.declared.call.Call.{Call}
 use Rattle.amf_broker.specs.declared.reply.Answer.{Answer}

@@ -1,12 +1,11 @@
 -- An array in an empty builder, behind the copy of a graph whose root it holds.
-use Rattle.std.proofs.Common.{◌≡◌, ◌∙◌, ℕ, zero, suc, ◌+◌, ◌<◌, ◌≤◌, false, cond, List, [], ◌∷◌, ◌++◌, length, map, get_or, sum_by, refl, sym, ap, subst, arith}
-use Rattle.std.specs.List.{AllByRecursion, AllZip}
+use Rattle.std.proofs.Common.{◌≡◌, ◌∙◌, ℕ, ◌+◌, ◌<◌, ◌≤◌, false, cond, List, [], ◌∷◌, ◌++◌, length, map, get_or, sum_by, refl, sym, ap, subst, arith}
 use Rattle.std.proofs.Math.ListN.{get_or-map}
 use Rattle.std.proofs.lemmas.List.{append-nil, length-map}
 use Rattle.std.proofs.lemmas.List.Sums.{sum_by-append}
 use Rattle.amf_graph.specs.declared.value.Value.{Value as Stored}
 use Rattle.amf_graph.specs.Graph.{Value, node, Node, Graph, node_at, no_node}
-use Rattle.amf_graph.specs.Isomorphic.{ValuesMatch, NodesMatch, StandIn, Isomorphic}
+use Rattle.amf_graph.specs.Isomorphic.{StandIn, Isomorphic}
 use Rattle.amf_graph.specs.Arena.{Arena, StoredNode, array, Names, IsFinished, NodesComplete, Extends, Completes, value_content, node_content, graph_of}
 use Rattle.amf_graph.specs.Bounds.{weight, bytes_of}
 use Rattle.amf_graph.specs.Building.{no_arena, no_stored, kept_node, closed}

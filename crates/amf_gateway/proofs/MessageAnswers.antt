@@ -1,5 +1,5 @@
 -- One message answered: a Flex request or a plain call.
-use Rattle.std.proofs.Common.{◌≡◌, ◌∙◌, ℕ, Bool, true, false, List, refl, sym, ap, subst}
+use Rattle.std.proofs.Common.{◌≡◌, ◌∙◌, Bool, true, false, List, sym, subst}
 use Rattle.std.specs.Prelude.{bytes_eq, if◌then◌else◌}
 use Rattle.amf0_tables.specs.declared.form.Form.TheVariants.{Amf3}
 use Rattle.amf_packet.specs.declared.body.Body.TheVariants as kept
@@ -16,7 +16,7 @@ use Rattle.amf_gateway.specs.Plan.{Plan}
 use Rattle.amf_gateway.specs.PlainCalls.{at_last_dot, plain_call}
 use Rattle.amf_gateway.specs.Replies.{Answer}
 use Rattle.amf_gateway.specs.Serving.{Taken}
-use Rattle.amf_gateway.proofs.Doing.{HandsNone, ran_nothing, not_begun}
+use Rattle.amf_gateway.proofs.Doing.{HandsNone, ran_nothing}
 
 flex_is : (x : FlexAnswer) (y : Answer) → AnswersFlex x y → AnswersMessage (record { well = x.well; body = kept.Amf3 x.graph }) y
 flex_is x y is = record { well = is.well; body = record { form = is.form; graph = is.graph }; spelled = is.spelled }

@@ -1,9 +1,9 @@
 -- Messages that are the same but for the numbers of their nodes are answered alike.
-use Rattle.std.proofs.Common.{◌≡◌, ℕ, suc, ◌⊎◌, Bool, true, false, List, [], ◌∷◌, ◌++◌, length, Option, Some, None, refl, sym, ap, ◌∙◌, subst, arith, inl, inr}
+use Rattle.std.proofs.Common.{◌≡◌, ℕ, suc, ◌⊎◌, List, [], ◌∷◌, length, Option, Some, None, refl, sym, ap, ◌∙◌, subst, arith, inl, inr}
 use Rattle.std.specs.Prelude.{ℤ, pos, negsuc, ◌==◌, bytes_eq, codes, slice_get, if◌then◌else◌}
-use Rattle.std.specs.List.{AllByRecursion, AllZip}
+use Rattle.std.specs.List.{AllZip}
 use Rattle.amf_broker.specs.declared.call.Call.{Call}
-use Rattle.amf_broker.specs.declared.call.Call.TheVariants.{Connect, Subscribe, Unsubscribe, Publish, Poll, PollNumbered, Disconnect}
+use Rattle.amf_broker.specs.declared.call.Call.TheVariants.{Connect, Subscribe, Unsubscribe, Disconnect}
 use Rattle.amf_broker.specs.declared.reply.Reply.{Reply as Told}
 use Rattle.amf_graph.specs.Graph as graph
 use Rattle.amf_graph.specs.Graph.{Leaf, Value, leaf, node, Head, array, Node, Graph, node_at, IsValue, HasTexts, Fits}
@@ -13,7 +13,7 @@ use Rattle.amf_graph.specs.Isomorphic.{ValuesMatch, PairsMatch, NodesMatch, Stan
 use Rattle.amf_graph.specs.Reached.{Reached, at_root, inside, Holds, IsReachedValue, IsWhole}
 use Rattle.amf0_tables.specs.declared.form.Form.{Form}
 use Rattle.amf0_tables.specs.declared.form.Form.TheVariants as form
-use Rattle.amf_packet.specs.Packet.{Body, Message}
+use Rattle.amf_packet.specs.Packet.{Message}
 use Rattle.flex_msgs.specs.Asked as asked
 use Rattle.flex_msgs.specs.Asked.{Asked, remoting, command, async, Viewed, not_object, not_served, wrong_kind, request}
 use Rattle.flex_msgs.specs.declared.reply.FaultText.{FaultText}
@@ -21,21 +21,21 @@ use Rattle.flex_msgs.specs.FlexLaws.{ToldMatch, AskedMatch, ViewedMatch}
 use Rattle.flex_msgs.specs.Lookup.{pairs_of}
 use Rattle.flex_msgs.specs.Messages.{items_node}
 use Rattle.flex_msgs.specs.Viewing.{value_view}
-use Rattle.amf_service.specs.Meaning.{Given, result, fault, GivenMatch, Called, no_service, no_operation, given}
+use Rattle.amf_service.specs.Meaning.{result, fault, Called, no_service, no_operation, given}
 use Rattle.amf_service.specs.Registry.{Entry, called}
 use Rattle.amf_service.specs.ServiceLaws.{CalledMatch}
 use Rattle.amf_service.specs.Shipped.{unnamed, items_by_kind, items_at, items_of, one_of}
-use Rattle.amf_gateway.specs.Alike.{BodiesMatch, MessagesMatch}
+use Rattle.amf_gateway.specs.Alike.{MessagesMatch}
 use Rattle.amf_gateway.specs.Causes as causes
 use Rattle.amf_gateway.specs.Causes.{bad_message, service_fault, no_form}
 use Rattle.amf_gateway.specs.Commands as commands
-use Rattle.amf_gateway.specs.Commands.{client_of, topic_of, poll_call, named_in, say_batch, say_subscribed, say_connected, acknowledged, publish_spelled}
+use Rattle.amf_gateway.specs.Commands.{client_of, topic_of, poll_call, named_in, say_subscribed, say_connected, acknowledged, publish_spelled}
 use Rattle.amf_gateway.specs.Flex as flex
 use Rattle.amf_gateway.specs.Numbers.{number_in}
 use Rattle.amf_gateway.specs.Packets.{answer_to, null_uri}
-use Rattle.amf_gateway.specs.Plan.{Plan, lowered, whole, gives, ◌>>=◌}
+use Rattle.amf_gateway.specs.Plan.{Plan, gives, ◌>>=◌}
 use Rattle.amf_gateway.specs.PlainCalls as plain
-use Rattle.amf_gateway.specs.PlainCalls.{at_last_dot, Target, in_array, answer_in, fault_graph, fault_node}
+use Rattle.amf_gateway.specs.PlainCalls.{at_last_dot, Target, fault_graph, fault_node}
 use Rattle.amf_gateway.specs.Remoting as remote
 use Rattle.amf_gateway.specs.Remoting.{empty_arguments, if_items}
 use Rattle.amf_gateway.specs.Replies.{Answer, Context, context_of, no_context, error, no_nodes, acknowledge_null}

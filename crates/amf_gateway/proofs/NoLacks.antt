@@ -1,5 +1,5 @@
 -- What has a spelling lacks nothing, nor does a fault.
-use Rattle.std.proofs.Common.{◌≡◌, ◌∙◌, ◌≢◌, ℕ, zero, suc, ◌+◌, ◌<◌, ◌≤◌, ◌^◌, false, List, [], ◌∷◌, length, get_or, slice_get, Option, Some, None, refl, sym, ap, subst, arith, inl, inr, codes}
+use Rattle.std.proofs.Common.{◌≡◌, ℕ, zero, suc, ◌<◌, List, [], length, slice_get, Option, Some, None, refl, sym, ap, subst, arith, inl, inr, codes}
 use Rattle.std.proofs.lemmas.Option.{slice_get_within}
 use Rattle.amf_io.specs.Field.{Field}
 use Rattle.amf_wire.specs.Style.{canonical}
@@ -13,13 +13,13 @@ use Rattle.amf_graph.proofs.Isomorphisms.{isomorphic_sym, isomorphic_trans}
 use Rattle.amf_graph.proofs.Lists.{entry}
 use Rattle.amf_graph.proofs.OrderExists.{isomorphic_refl}
 use Rattle.amf_graph.proofs.Reaching.{order_once, order_reached}
-use Rattle.amf3_spelling.specs.Lacks3.{Lacks3, IsLack3}
+use Rattle.amf3_spelling.specs.Lacks3.{IsLack3}
 use Rattle.amf3_spelling.specs.Spells3.{IsSpelling3}
 use Rattle.amf3_spelling.proofs.FirstLack3.{nothing_lacks}
 use Rattle.amf3_spelling.proofs.LacksAlike.{lack_is, lacks_alike}
 use Rattle.amf0_tables.specs.declared.form.Form.TheVariants.{Amf3, Plain}
-use Rattle.amf0_tables.specs.Lacks0.{Lacks0, IsLack0, NodeLacks0}
-use Rattle.amf0_tables.specs.Lowered.{Low, ends, LowNode, IsLoweringOf}
+use Rattle.amf0_tables.specs.Lacks0.{IsLack0, NodeLacks0}
+use Rattle.amf0_tables.specs.Lowered.{Low, ends, IsLoweringOf}
 use Rattle.amf0_tables.specs.Spells0.{IsSpelling0}
 use Rattle.amf0_tables.proofs.Decides0.{same_canonical0}
 use Rattle.amf0_tables.proofs.LackTwice0.{spelling_or_lack0}

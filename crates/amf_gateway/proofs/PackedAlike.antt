@@ -1,5 +1,5 @@
 -- Packets that are the same but for the numbers of their nodes have the same canonical bytes.
-use Rattle.std.proofs.Common.{◌≡◌, ℕ, ◌+◌, ◌<◌, suc, Bool, true, false, List, [], ◌∷◌, ◌++◌, length, refl, sym, ap, ◌∙◌, subst, arith}
+use Rattle.std.proofs.Common.{◌≡◌, ℕ, ◌+◌, suc, Bool, true, false, List, [], ◌∷◌, ◌++◌, length, refl, sym, ap, ◌∙◌, subst, arith}
 use Rattle.std.specs.Int.{to_be_bytes, w16, w32}
 use Rattle.std.specs.List.{AllZip}
 use Rattle.amf_io.specs.Field.{Field, flat, field, contents, raw_kind, text_kind, u16_kind, u32_kind, no_refusal}

@@ -1,9 +1,7 @@
 -- How plain calls are answered, by what is known of their parts.
-use Rattle.std.proofs.Common.{◌≡◌, ◌∙◌, ℕ, Bool, true, false, List, [], ◌∷◌, Option, Some, None, refl, sym, ap, subst}
-use Rattle.std.specs.Option.{option_map}
+use Rattle.std.proofs.Common.{◌≡◌, true, false, List, Option, Some, None, refl, sym, subst}
 use Rattle.amf_graph.specs.Graph.{Graph}
 use Rattle.amf_graph.specs.Isomorphic.{Isomorphic}
-use Rattle.amf_graph.specs.Rooted.{RootedArena, content}
 use Rattle.amf0_tables.specs.declared.form.Form.{Form}
 use Rattle.amf0_tables.specs.declared.form.Form.TheVariants.{Call, Amf3, Plain}
 use Rattle.amf_packet.specs.declared.body.Body.{Body as KeptBody}
@@ -17,7 +15,7 @@ use Rattle.amf_gateway.specs.Alike.{BodiesMatch}
 use Rattle.amf_gateway.specs.Calls.{cause_of, TellsSpelled, LacksNothing, AnswersMessage, TellsMessage}
 use Rattle.amf_gateway.specs.Causes as causes
 use Rattle.amf_gateway.specs.Plan.{Plan, whole, lowered, gives}
-use Rattle.amf_gateway.specs.PlainCalls.{Target, form_in_amf3, form_for, if_plain, if_formed, if_array, answer_in, reply_form, failed, succeeded, outcome, arguments, call, plain_call, fault_graph}
+use Rattle.amf_gateway.specs.PlainCalls.{Target, form_in_amf3, form_for, if_formed, if_array, answer_in, reply_form, failed, succeeded, outcome, arguments, call, plain_call, fault_graph}
 use Rattle.amf_gateway.specs.Replies.{Answer}
 use Rattle.amf_gateway.specs.Runs.{nothing, gave, Runs}
 use Rattle.amf_gateway.specs.Serving.{none_left}

@@ -17,8 +17,8 @@ use Rattle.amf_gateway.specs.Batches.{in_front, delivered, deliveries, synced}
 use Rattle.amf_gateway.specs.Batching.{Adds, AddsDelivery, GrewWithin, HoldsAll, Reads, ReadsAll, IsSync, say_sync}
 use Rattle.amf_gateway.specs.Causes.{no_form}
 use Rattle.amf_gateway.specs.Did.{AnswersFlex, Tells}
-use Rattle.amf_gateway.specs.Plan.{Plan, gives}
-use Rattle.amf_gateway.specs.Replies.{Answer, answered, failed}
+use Rattle.amf_gateway.specs.Plan.{gives}
+use Rattle.amf_gateway.specs.Replies.{answered, failed}
 use Rattle.amf_gateway.specs.Runs.{IsStored, Finds, nothing, gave}
 use Rattle.amf_gateway.specs.Serving.{none_left}
 use Rattle.amf_gateway.proofs.Composed.{runs_then}

@@ -1,13 +1,13 @@
 -- Replies that are made of graphs which are the same but for the numbers of their nodes.
-use Rattle.std.proofs.Common.{◌≡◌, ℕ, suc, ◌+◌, ◌<◌, Bool, true, false, List, [], ◌∷◌, ◌++◌, length, Option, Some, None, refl, sym, ap, ◌∙◌, subst, arith}
+use Rattle.std.proofs.Common.{◌≡◌, ℕ, ◌+◌, Bool, true, false, List, [], ◌∷◌, ◌++◌, Option, Some, None, refl, arith}
 use Rattle.std.specs.Prelude.{decimal, if◌then◌else◌}
 use Rattle.std.specs.List.{AllZip}
 use Rattle.amf_broker.specs.declared.call.Call.{Call}
 use Rattle.amf_broker.specs.declared.reply.Delivery.{Delivery}
 use Rattle.amf_broker.specs.declared.reply.Reply.{Reply as Told}
 use Rattle.amf_broker.specs.declared.reply.Reply.TheVariants.{Client, Subscribed, Batch, Numbered, Again}
-use Rattle.amf_graph.specs.Graph.{Value, leaf, node, Node, Graph}
-use Rattle.amf_graph.specs.Isomorphic.{ValuesMatch, NodesMatch, StandIn, Isomorphic}
+use Rattle.amf_graph.specs.Graph.{Value, Graph}
+use Rattle.amf_graph.specs.Isomorphic.{ValuesMatch, StandIn, Isomorphic}
 use Rattle.amf_graph.specs.Roots.{SameFrom}
 use Rattle.flex_msgs.specs.declared.reply.Reply.{Reply}
 use Rattle.flex_msgs.specs.declared.reply.FaultText.{FaultText}

@@ -1,12 +1,11 @@
 -- What serving a link did is a beginning of what the link is answered.
-use Rattle.std.proofs.Common.{◌≡◌, ℕ, List, [], ◌∷◌, ◌++◌, refl, sym, ap, ◌∙◌, subst, append_assoc, append-nil}
+use Rattle.std.proofs.Common.{◌≡◌, ℕ, List, [], ◌∷◌, ◌++◌, refl, sym, ap, ◌∙◌, append_assoc, append-nil}
 use Rattle.amf_service.specs.Registry.{Entry}
-use Rattle.amf_gateway.specs.Begun.{Begun}
-use Rattle.amf_gateway.specs.Links.{LinkEnd, link}
+use Rattle.amf_gateway.specs.Links.{link}
 use Rattle.amf_gateway.specs.Respond.{Told, Responds, joined, written}
 use Rattle.amf_gateway.specs.RespondLaws.{AreLawful, BegunIsBeginning, IsBeginning}
 use Rattle.amf_gateway.specs.Runs.{Supply, gave}
-use Rattle.amf_gateway.specs.Serving.{ServeEnd, ended, read_fault, write_fault, no_memory, spent, LinkBytes, Taken, supply_of, calls_of, did, none_left, Wholly, Partly, AreWritten, Serves, more, ServedIsBeginning}
+use Rattle.amf_gateway.specs.Serving.{ServeEnd, ended, read_fault, write_fault, no_memory, spent, LinkBytes, Taken, supply_of, calls_of, did, none_left, Partly, AreWritten, Serves, more, ServedIsBeginning}
 use Rattle.amf_gateway.proofs.Composed.{begun_more, runs_begun}
 
 joined_both : (xs ys : List (List ℕ)) → joined (xs ++ ys) ≡ joined xs ++ joined ys

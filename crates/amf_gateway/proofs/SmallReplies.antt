@@ -1,5 +1,5 @@
 -- Every reply of a legal history is small.
-use Rattle.std.proofs.Common.{◌≡◌, ◌∙◌, ℕ, ◌+◌, ◌<◌, ◌≤◌, Bool, true, false, not, List, [], ◌∷◌, ◌++◌, length, refl, sym, ap, subst, arith, inl, inr, length-append, ⊎_elim}
+use Rattle.std.proofs.Common.{◌≡◌, ◌∙◌, ℕ, ◌+◌, ◌<◌, ◌≤◌, Bool, true, false, not, List, [], ◌∷◌, ◌++◌, length, refl, sym, ap, subst, arith, inl, inr, length-append}
 use Rattle.std.specs.Prelude.{◌==◌, ◌&&◌, ◌||◌, nat_le, nat_lt, filter, ◌≢◌, if◌then◌else◌, Option, Some, None, bytes_eq}
 use Rattle.std.specs.List.{AllByRecursion, list_any}
 use Rattle.std.proofs.lemmas.Bool.Decides.{nat_tests, eqb_tells}
@@ -13,8 +13,8 @@ use Rattle.amf_broker.specs.declared.reply.Delivery.{Delivery}
 use Rattle.amf_broker.specs.declared.reply.Answer.{Answer}
 use Rattle.amf_broker.specs.declared.reply.Reply.{Reply}
 use Rattle.amf_broker.specs.declared.reply.Reply.TheVariants.{Full, NoClient, NoTopic, TooLong, TooManySubs, NoSub, BadNumber}
-use Rattle.amf_broker.specs.State.{State, Board, Connection, Subscription, first, first_board}
-use Rattle.amf_broker.specs.Machine.{client_at, is_connected, at_client, queue_of, queue_in, ended_of, ended_in, kept_of, kept_in, kept_ended_of, subs_of, places_of, is_same_topic, topic_refusal, or_then, client_refusal, number_refusal, last_of, refusal, new_client, connected, subscribed, unsubscribed, published, polled, with_delivery, with_ended, emptied, kept_as, seen_at, Spread, spread, ended_first, is_full, subscribers, still_live, served, same_batch, next_batch, found, advanced, without, without_all, sighted, named_by, unless, reply_on, answer_to, after, later, expired_at}
+use Rattle.amf_broker.specs.State.{State, Board, Connection, Subscription, first}
+use Rattle.amf_broker.specs.Machine.{client_at, is_connected, at_client, queue_of, queue_in, ended_of, ended_in, kept_of, kept_ended_of, subs_of, places_of, is_same_topic, topic_refusal, or_then, client_refusal, last_of, refusal, new_client, connected, subscribed, unsubscribed, published, polled, with_delivery, with_ended, emptied, kept_as, seen_at, spread, ended_first, is_full, subscribers, served, same_batch, next_batch, found, without, without_all, sighted, named_by, unless, reply_on, answer_to, after, later, expired_at}
 use Rattle.amf_broker.specs.History.{Entry, IsLegal, IsAnsweredFrom}
 use Rattle.amf_gateway.specs.Small.{IsSmallBatch, IsSmall}
 

@@ -1,27 +1,27 @@
 -- A speller of AMF 3 that proves what it gives: of graphs of arrays, objects and small values in which each node stands once. By it worked facts of bytes are decided.
-use Rattle.std.proofs.Common.{◌≡◌, ◌≢◌, ℕ, zero, suc, ◌+◌, ◌*◌, ◌/◌, ◌%◌, ◌<◌, ◌≤◌, ◌⊎◌, Bool, true, false, cond, List, [], ◌∷◌, ◌++◌, length, slice_get, Option, Some, None, refl, sym, ap, ◌∙◌, subst, arith, inl, inr, pos}
+use Rattle.std.proofs.Common.{◌≡◌, ◌≢◌, ℕ, zero, suc, ◌+◌, ◌*◌, ◌/◌, ◌%◌, ◌<◌, ◌⊎◌, Bool, true, false, cond, List, [], ◌∷◌, length, slice_get, Option, Some, None, refl, sym, ap, ◌∙◌, subst, arith, inl, inr, pos}
 use Rattle.std.specs.Prelude.{◌==◌, bytes_eq}
 use Rattle.std.specs.Int.{to_be_bytes, w64}
 use Rattle.std.proofs.Math.Dec.{ltb}
 use Rattle.std.proofs.lemmas.Bool.Decides.{Decides-eqb, Decides-ltb}
 use Rattle.std.proofs.lemmas.Slice.Eq.{bytes_eq-Decides}
-use Rattle.amf_io.specs.Field.{Field, flat, field, raw_kind}
+use Rattle.amf_io.specs.Field.{flat, field, raw_kind}
 use Rattle.amf_wire.specs.Style.{Style, free, canonical, Only}
 use Rattle.amf_wire.specs.Text.{is_text, IsText}
 use Rattle.amf_wire.specs.U29.{IsU29}
 use Rattle.amf_wire.proofs.TextTest.{is_text-is}
 use Rattle.amf_wire.proofs.Shortest.{small, middle}
 use Rattle.amf_graph.specs.declared.wrapped.Wrapped.{Wrapped}
-use Rattle.amf_graph.specs.Graph.{Leaf, null, integer, double, text, Value, leaf, node, Traits, Head, array, object, Node, Graph, node_at, Fits, AreMembers, AllNamed}
+use Rattle.amf_graph.specs.Graph.{Leaf, null, integer, double, text, Value, leaf, node, Traits, Head, array, object, Graph, node_at, Fits, AreMembers, AllNamed}
 use Rattle.amf_graph.specs.ByName.{by_name}
 use Rattle.amf_graph.specs.Order.{Absent}
-use Rattle.amf3_spelling.specs.Tables.{Entry, plain, external, Words, add_text, add_entry, Tables, no_tables, with_words, add_node}
+use Rattle.amf3_spelling.specs.Tables.{Entry, plain, external, Words, add_entry, Tables, no_tables, with_words, add_node}
 use Rattle.amf3_spelling.specs.Then.{Spelling, Then}
-use Rattle.amf3_spelling.specs.Refusals3.{marker, text_header_kind}
-use Rattle.amf3_spelling.specs.Words3.{Text, Texts, whole, NoPlaceBelow, TraitsBy, given, placed, EntryTexts}
+use Rattle.amf3_spelling.specs.Refusals3.{marker}
+use Rattle.amf3_spelling.specs.Words3.{Text, Texts, NoPlaceBelow, given, placed}
 use Rattle.amf3_spelling.specs.Segments3.{Segment, word, value, Lifted, Segments, segments_of}
 use Rattle.amf3_spelling.specs.Headers3.{HeaderBy, marker_field, header_field}
-use Rattle.amf3_spelling.specs.Spells3.{LeafBy, ValueBy, InlineIn, SpellsIn, Spelled3}
+use Rattle.amf3_spelling.specs.Spells3.{ValueBy, InlineIn, SpellsIn, Spelled3}
 use Rattle.amf3_spelling.proofs.Build.{Built, both, lifted, a_leaf, a_null, an_integer, no_text, new_text, old_text, a_text, no_segments, word_segment, value_segment, absent_nil, absent_cons, unnamed, unnamed_zero}
 
 -- one step and then another, where both are there

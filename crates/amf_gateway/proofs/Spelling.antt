@@ -1,5 +1,5 @@
 -- What is said of an answer by what was written of its graph.
-use Rattle.std.proofs.Common.{◌≡◌, ◌∙◌, ℕ, List, [], ◌∷◌, ◌++◌, Option, Some, None, refl, sym, ap, subst}
+use Rattle.std.proofs.Common.{◌≡◌, ◌∙◌, ℕ, List, [], ◌++◌, Some, None, refl, ap}
 use Rattle.std.proofs.Common.{true, false}
 use Rattle.amf_io.specs.Field.{flat}
 use Rattle.amf_wire.specs.Style.{canonical}
@@ -20,7 +20,7 @@ use Rattle.amf_gateway.specs.declared.replies.FlexAnswer.{FlexAnswer}
 use Rattle.amf_gateway.specs.Causes.{no_form}
 use Rattle.amf_gateway.specs.Did.{AnswersFlex, Tells}
 use Rattle.amf_gateway.specs.Plan.{whole}
-use Rattle.amf_gateway.specs.Replies.{Answer, failed, in_amf3, answered}
+use Rattle.amf_gateway.specs.Replies.{failed, in_amf3, answered}
 use Rattle.amf_gateway.specs.Runs.{Finds, IsSpelling}
 use Rattle.amf_gateway.proofs.NoLacks.{error_lacks_none}
 

@@ -15,7 +15,6 @@ use Rattle.uuid.specs.declared.Version.TheVariants.{Random}
 use Rattle.uuid.specs.Parts.{with_variant, with_version}
 use Rattle.uuid.specs.Text.{hex_digit, nibble, digit_place, is_hyphen_place, lower, hyphenated_text}
 use Rattle.uuid.proofs.TextLemmas.{by_index_ascii, by_index_length, hex_digit_ascii, nibble_small}
-use Rattle.flex_msgs.specs.declared.reply.FaultText.{FaultText}
 use Rattle.amf_gateway.specs.Kept.{Fits, FaultFits}
 use Rattle.amf_gateway.specs.Numbers.{identifier}
 use Rattle.amf_gateway.specs.Replies.{nil, or_nil}

@@ -1,5 +1,5 @@
 -- What all the bytes of a body spell: a packet that was read to its end, and no packet where one ends earlier or is refused.
-use Rattle.std.proofs.Common.{◌≡◌, ◌∙◌, ◌↔◌, ℕ, ◌+◌, ◌<◌, ◌≤◌, ◌^◌, Bool, true, false, List, [], ◌∷◌, ◌++◌, length, map, Option, Some, None, Result, Ok, Err, refl, sym, ap, subst, arith}
+use Rattle.std.proofs.Common.{◌≡◌, ◌∙◌, ℕ, ◌+◌, ◌<◌, ◌≤◌, ◌^◌, Bool, List, [], ◌∷◌, ◌++◌, length, map, Some, None, Err, refl, sym, ap, arith}
 use Rattle.std.specs.Prelude.{sum_by}
 use Rattle.std.specs.List.{AllByRecursion}
 use Rattle.std.proofs.lemmas.List.{append-nil, length-map}
@@ -14,14 +14,14 @@ use Rattle.amf_io.specs.Cursor.{EndsByFault, Counts}
 use Rattle.amf_io.specs.ReadEnds.{CountsEnd}
 use Rattle.amf_io.specs.Field.{Field, flat}
 use Rattle.amf_io.specs.Stretch.{IsTaken, stretch}
-use Rattle.amf_io.specs.Verdict.{IsRefused, IsInputRefused, refused, trailing, IsInputAccepted}
+use Rattle.amf_io.specs.Verdict.{IsInputRefused, trailing}
 use Rattle.amf_wire.specs.Style.{free}
 use Rattle.amf_wire.specs.Text.{IsText}
 use Rattle.amf_graph.specs.Reached.{IsWhole}
 use Rattle.amf_packet.specs.declared.packet.Message.{Message as KeptMessage}
 use Rattle.amf_packet.specs.declared.packet.Packet.{Packet as KeptPacket}
 use Rattle.amf_packet.specs.Content.{body_of, message_of, packet_of}
-use Rattle.amf_packet.specs.Packet.{Message, Packet, Each, MessageBy, SpellsPacket, IsPacketReading}
+use Rattle.amf_packet.specs.Packet.{Message, Each, MessageBy, SpellsPacket, IsPacketReading}
 use Rattle.amf_packet.specs.PacketAnswer.{body_weight, messages_weight, packet_weight}
 use Rattle.amf_packet.proofs.PacketVerdicts.{packet_verdicts}
 use Rattle.amf_packet.proofs.Spelled.{has_version}

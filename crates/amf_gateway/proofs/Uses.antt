@@ -5,7 +5,7 @@ use Rattle.std.proofs.lemmas.List.Sums.{sum_by-cons}
 use Rattle.std.proofs.lemmas.Option.{same_Some, slice_get_within}
 use Rattle.amf_graph.specs.declared.value.Value.{Value as Stored}
 use Rattle.amf_graph.specs.declared.value.Value.TheVariants.{Text}
-use Rattle.amf_graph.specs.Arena.{Arena, StoredTraits, StoredHead, xml_document, object, xml, values, StoredNode, no_traits, Names, HeadNames, IsFinished}
+use Rattle.amf_graph.specs.Arena.{Arena, StoredTraits, StoredHead, xml_document, xml, values, StoredNode, no_traits, Names, HeadNames, IsFinished}
 use Rattle.amf_graph.specs.Bounds.{weight, bytes_of}
 use Rattle.amf_graph.specs.Building.{no_stored, stored_at}
 use Rattle.amf_graph.specs.Grafting.{StandsAt, IsCut, Cut, Reaches, UsesTraits, UsesText, of_root, of_head, of_name, of_value, of_class, of_sealed, HeadText, HoldsStored, text_value}

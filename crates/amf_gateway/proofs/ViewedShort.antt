@@ -1,5 +1,5 @@
 -- The names of a request that was viewed are texts of its graph or empty, and so no longer than these.
-use Rattle.std.proofs.Common.{◌≡◌, ◌∙◌, ℕ, zero, suc, ◌<◌, ◌≤◌, Bool, true, false, List, [], ◌∷◌, ◌++◌, length, get_or, map, Option, Some, None, refl, sym, ap, subst, arith}
+use Rattle.std.proofs.Common.{◌≡◌, ℕ, zero, suc, ◌<◌, Bool, true, false, List, [], ◌∷◌, length, get_or, map, Option, Some, None, refl, subst, arith}
 use Rattle.std.specs.Prelude.{ℤ, bytes_eq, if◌then◌else◌}
 use Rattle.std.specs.List.{AllByRecursion}
 use Rattle.std.proofs.lemmas.Option.{same_Some}
@@ -13,7 +13,7 @@ use Rattle.flex_msgs.specs.declared.request.Member.{Member}
 use Rattle.flex_msgs.specs.declared.request.Member.TheVariants as member
 use Rattle.flex_msgs.specs.Asked.{Told, Asked, remoting, command, async, Viewed, request}
 use Rattle.flex_msgs.specs.Built.{IsShort}
-use Rattle.flex_msgs.specs.Classes.{remoting_class, command_class, async_class, served_class, body_name, client_name, destination_name, headers_name, message_name, correlation_name, operation_name, ds_id_name, subtopic_name}
+use Rattle.flex_msgs.specs.Classes.{remoting_class, command_class, async_class, served_class, client_name, destination_name, headers_name, message_name, correlation_name, operation_name, ds_id_name, subtopic_name}
 use Rattle.flex_msgs.specs.Lookup.{last_or, value_named, sealed_pairs, members_of, pairs_by_kind, pairs_of}
 use Rattle.flex_msgs.specs.Viewing.{text_or_null, text_alone, whole_number, or_wrong, common_view, served_view, kind_view, value_view}
 

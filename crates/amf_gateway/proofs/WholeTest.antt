@@ -1,8 +1,8 @@
 -- A test whether a graph is whole, which proves it: of graphs of arrays and objects.
-use Rattle.std.proofs.Common.{◌≡◌, ℕ, zero, suc, ◌<◌, Bool, true, false, List, [], ◌∷◌, length, slice_get, Option, Some, None, refl, sym, ap, ◌∙◌, subst, arith, inl, inr, pos}
+use Rattle.std.proofs.Common.{◌≡◌, ℕ, zero, suc, ◌<◌, Bool, true, false, List, [], ◌∷◌, length, slice_get, Option, Some, None, subst, arith, inl, inr, pos}
 use Rattle.std.specs.List.{AllByRecursion}
 use Rattle.amf_wire.specs.Text.{IsText}
-use Rattle.amf_graph.specs.Graph.{Leaf, integer, double, text, IsLeaf, Value, leaf, node, IsValue, Head, array, object, Node, Graph, node_at, no_node, Fits, HasHeadTexts}
+use Rattle.amf_graph.specs.Graph.{Leaf, integer, double, text, IsLeaf, Value, leaf, node, IsValue, Head, array, object, Node, Graph, node_at, Fits, HasHeadTexts}
 use Rattle.amf_graph.specs.Reached.{Reached, at_root, inside, Holds, IsReachedValue, IsWhole}
 use Rattle.amf_gateway.proofs.Speller.{and_then, less, a_text_is, it_fits}
 

@@ -1,5 +1,5 @@
 -- Graphs of arguments: what they reach is there and as its kind wants it, and isomorphic graphs make isomorphic arguments.
-use Rattle.std.proofs.Common.{◌≡◌, ℕ, zero, suc, ◌+◌, ◌<◌, ◌⊎◌, List, [], ◌∷◌, ◌++◌, length, get_or, slice_get, Some, refl, sym, ap, ◌∙◌, subst, arith, inl, inr, length-append}
+use Rattle.std.proofs.Common.{◌≡◌, ℕ, zero, suc, ◌+◌, ◌<◌, ◌⊎◌, List, [], ◌∷◌, length, get_or, slice_get, Some, refl, sym, ap, ◌∙◌, subst, arith, inl, inr, length-append}
 use Rattle.std.proofs.lemmas.List.{get_or-append-add, get_or_append_left}
 use Rattle.amf_graph.specs.Graph.{Value, node, Node, Graph, node_at, no_node, IsValue, HasTexts, Fits}
 use Rattle.amf_graph.specs.Isomorphic.{ValuesMatch, StandIn, Isomorphic}

@@ -1,5 +1,5 @@
 -- A packet that can be written: no count, text or value of it is in the way.
-use Rattle.std.proofs.Common.{◌≡◌, ◌∙◌, ℕ, ◌<◌, ◌≤◌, ◌^◌, List, [], ◌∷◌, ◌++◌, length, map, slice_get, Some, refl, sym, ap, subst, arith, inl, inr}
+use Rattle.std.proofs.Common.{◌≡◌, ◌∙◌, ℕ, List, [], ◌∷◌, ◌++◌, length, map, sym, ap, subst, arith, inl, inr}
 use Rattle.std.specs.List.{AllByRecursion}
 use Rattle.std.proofs.lemmas.List.{length-map}
 use Rattle.amf_io.specs.Field.{flat}
@@ -9,12 +9,12 @@ use Rattle.amf_graph.proofs.Matched.{all_get}
 use Rattle.amf_packet.specs.declared.packet.Header.{Header as KeptHeader}
 use Rattle.amf_packet.specs.declared.packet.Message.{Message as KeptMessage}
 use Rattle.amf_packet.specs.declared.packet.Packet.{Packet as KeptPacket}
-use Rattle.amf_packet.specs.Content.{body_of, header_of, message_of, packet_of}
-use Rattle.amf_packet.specs.Packet.{Body, Packet}
+use Rattle.amf_packet.specs.Content.{header_of, message_of, packet_of}
+use Rattle.amf_packet.specs.Packet.{Packet}
 use Rattle.amf_packet.specs.PacketLacks.{bodies, texts_by_value, IsTooMany, AreShort, IsLongText, IsPacketLack}
 use Rattle.amf_packet.specs.WrittenPacket.{HasTexts, AppendsPacket}
 use Rattle.amf_gateway.specs.Alike.{PacketsMatch}
-use Rattle.amf_gateway.specs.Answered.{IsWritable, AreWritable, IsWritablePacket}
+use Rattle.amf_gateway.specs.Answered.{AreWritable, IsWritablePacket}
 use Rattle.amf_gateway.specs.Calls.{LacksNothing}
 use Rattle.amf_gateway.specs.Runs.{IsPacked}
 

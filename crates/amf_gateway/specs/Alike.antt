@@ -1,5 +1,5 @@
 -- Packets that are the same but for the numbers of the nodes of their graphs.
-use Rattle.std.specs.Prelude.{◌≡◌, ℕ, List}
+use Rattle.std.specs.Prelude.{◌≡◌}
 use Rattle.std.specs.List.{AllZip}
 use Rattle.amf_graph.specs.Isomorphic.{Isomorphic}
 use Rattle.amf_packet.specs.Packet.{Body, Header, Message, Packet}

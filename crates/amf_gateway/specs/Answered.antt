@@ -1,5 +1,5 @@
--- What the messages of a packet were answered, as it is kept.
-use Rattle.std.specs.Prelude.{◌≡◌, ◌<◌, ◌≤◌, ◌^◌, ℕ, Bool, true, if◌then◌else◌, List, [], length, map, Option, Some, None}
+-- A device of proofs: what the messages of a packet were answered, as it is kept.
+use Rattle.std.specs.Prelude.{◌≡◌, ◌<◌, ◌≤◌, ◌^◌, ℕ, true, if◌then◌else◌, List, [], length, map, Option, Some, None}
 use Rattle.std.specs.List.{AllByRecursion, AllZip}
 use Rattle.amf_wire.specs.Text.{IsText}
 use Rattle.amf_packet.specs.declared.packet.Message.{Message as KeptMessage}

@@ -1,5 +1,5 @@
--- How a link is answered one request at a time: what comes next, and then the rest.
-use Rattle.std.specs.Prelude.{ℕ, ◌==◌, ◌||◌, Bool, List, Option, Some, None}
+-- A device of proofs: how a link is answered one request at a time: what comes next, and then the rest.
+use Rattle.std.specs.Prelude.{ℕ, ◌||◌, Bool, List, Option, Some, None}
 use Rattle.amf_http.specs.Response.{response}
 use Rattle.amf_service.specs.Registry.{Entry}
 use Rattle.amf_gateway.specs.Links.{LinkEnd, closed, truncated, turn_away, closed_or}

@@ -1,4 +1,4 @@
--- What the code of batches makes: messages that were read from their bytes, and messages that are added one after another.
+-- A device of proofs: what the code of batches makes: messages that were read from their bytes, and messages that are added one after another.
 use Rattle.std.specs.Prelude.{◌≡◌, ℕ, ◌+◌, ◌≤◌, Bool, true, false, List, ◌∷◌, [], ◌++◌, length, decimal, Option, Some, None, Result}
 use Rattle.amf_wire.specs.Style.{free}
 use Rattle.amf_io.specs.declared.ends.ReadEnd.{ReadEnd}

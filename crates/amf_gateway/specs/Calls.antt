@@ -1,5 +1,5 @@
--- What a call of a service comes to, and what a message of a packet is answered, as they are kept.
-use Rattle.std.specs.Prelude.{◌≡◌, ◌≤◌, ℕ, Bool, true, false, List, [], ◌∷◌, map, codes, Option, Some, None}
+-- A device of proofs: what a call of a service comes to, and what a message of a packet is answered, as they are kept.
+use Rattle.std.specs.Prelude.{◌≡◌, ◌≤◌, ℕ, Bool, true, false, List, [], ◌∷◌, codes, Option, Some, None}
 use Rattle.amf_graph.specs.declared.lack.LackKind.{LackKind}
 use Rattle.amf_graph.specs.declared.value.Value.{Value as Stored}
 use Rattle.amf_graph.specs.declared.value.Value.TheVariants.{Null}
@@ -16,9 +16,8 @@ use Rattle.amf_packet.specs.Content.{body_of}
 use Rattle.amf_packet.specs.Packet.{Body}
 use Rattle.amf_packet.specs.PacketLacks.{IsBodyLack}
 use Rattle.flex_msgs.specs.declared.reply.FaultText.{FaultText}
-use Rattle.amf_service.specs.Meaning.{Given, result, fault, Called, given, heaviest_result}
+use Rattle.amf_service.specs.Meaning.{result, fault, Called, given, heaviest_result}
 use Rattle.amf_service.specs.Meaning as meaning
-use Rattle.amf_service.specs.Registry.{Entry}
 use Rattle.amf_gateway.specs.declared.calling.CallAnswer.{CallAnswer}
 use Rattle.amf_gateway.specs.declared.calling.CallAnswer.TheVariants.{Gave, Failed}
 use Rattle.amf_gateway.specs.declared.plain_call.MessageAnswer.{MessageAnswer}
@@ -30,10 +29,6 @@ use Rattle.amf_gateway.specs.Remoting.{empty_arguments}
 use Rattle.amf_gateway.specs.Replies.{Answer}
 use Rattle.amf_gateway.specs.Runs.{IsSpelling, Finds, nothing, gave, Runs}
 use Rattle.amf_gateway.specs.Serving.{none_left}
-
--- what services mean that are kept under names, by what each knows and gives
-abbrev pub services_by : {K S : Type 0} → List (K × S) → (K → List ℕ) → (S → List ℕ → Bool) → (S → List ℕ → Graph → Given) → List Entry
-services_by es name knows gives = map (λ e. record { name = name e.0; means = record { knows = knows e.1; gives = gives e.1 } }) es
 
 -- Calls.
 

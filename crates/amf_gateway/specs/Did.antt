@@ -1,5 +1,5 @@
--- What a plan came to between two states of the outside, and how much of one was begun.
-use Rattle.std.specs.Prelude.{◌≡◌, ℕ, List, [], ◌∷◌, ◌++◌}
+-- A device of proofs: what a plan came to between two states of the outside, and how much of one was begun.
+use Rattle.std.specs.Prelude.{◌≡◌, ℕ, [], ◌∷◌, ◌++◌}
 use Rattle.amf_broker.specs.History.{Entry as Event}
 use Rattle.amf_graph.specs.declared.lack.LackKind.{LackKind}
 use Rattle.amf_graph.specs.Isomorphic.{Isomorphic}

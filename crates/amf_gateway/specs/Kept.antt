@@ -1,4 +1,4 @@
--- What the code keeps of a request, and the room that it has.
+-- A device of proofs: what the code keeps of a request, and the room that it has.
 use Rattle.std.specs.Prelude.{List, ℕ}
 use Rattle.amf_wire.specs.Text.{IsText}
 use Rattle.flex_msgs.specs.Built.{IsShort}

@@ -16,20 +16,11 @@ pub mod Begun
 pub mod Respond
 pub mod RespondLaws
 pub mod Serving
-pub mod Did
-pub mod Kept
-pub mod Calls
-pub mod Answered
-pub mod Handed
-pub mod HandedLaws
-pub mod Small
-pub mod Answering
+pub mod Services
 pub mod Tells
+pub mod Handed
 pub mod ServesLink
-pub mod LinkSteps
 pub mod Served
-pub mod WorkerSteps
-pub mod Batching
 pub mod Tried
 pub mod WorkedTexts
 pub mod WorkedClient
@@ -38,3 +29,14 @@ pub mod WorkedOrder
 pub mod WorkedPlain
 pub mod WorkedRemoting
 pub mod WorkedLinks
+-- Devices of the proofs: no clause of a public call needs them.
+pub mod Did
+pub mod Kept
+pub mod Calls
+pub mod Answered
+pub mod HandedLaws
+pub mod Small
+pub mod Answering
+pub mod LinkSteps
+pub mod WorkerSteps
+pub mod Batching

@@ -1,5 +1,5 @@
--- What the steps of answering a link come to, by their results. A device of proofs, but for ServedLink.
-use Rattle.std.specs.Prelude.{◌≡◌, ℕ, ◌≤◌, ◌||◌, Bool, true, false, if◌then◌else◌, IsTrue, List, [], ◌∷◌, ◌++◌, Option, Some, None, Result, Ok, Err, ⊤}
+-- A device of proofs: what the steps of answering a link come to, by their results.
+use Rattle.std.specs.Prelude.{◌≡◌, ℕ, ◌≤◌, Bool, true, false, if◌then◌else◌, IsTrue, List, [], ◌++◌, Some, None, Result, Ok, Err, ⊤}
 use Rattle.amf_io.specs.Outside.{Rose}
 use Rattle.amf_http.specs.declared.ends.AnswerEnd.{AnswerEnd}
 use Rattle.amf_http.specs.declared.ends.AnswerEnd.TheVariants as unwritten_by

@@ -2,7 +2,7 @@
 use Rattle.std.specs.Prelude.{ℕ, List, [], ◌∷◌, Option, Some, None}
 use Rattle.amf_graph.specs.Graph.{Value, leaf, null, node, array, Graph}
 use Rattle.flex_msgs.specs.Asked.{Told}
-use Rattle.amf_service.specs.Meaning.{Given, result, fault, Called, given}
+use Rattle.amf_service.specs.Meaning.{result, fault, Called, given}
 use Rattle.amf_service.specs.Meaning as meaning
 use Rattle.amf_service.specs.Registry.{Entry, called}
 use Rattle.amf_service.specs.Shipped.{items_at}

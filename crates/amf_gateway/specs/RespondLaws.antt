@@ -2,7 +2,6 @@
 use Rattle.std.specs.Prelude.{◌≡◌, ℕ, List, ◌++◌}
 use Rattle.std.specs.List.{AllByRecursion}
 use Rattle.amf_wire.specs.Style.{free}
-use Rattle.amf_broker.specs.declared.call.Call.{Call}
 use Rattle.amf_packet.specs.Packet.{Packet, SpelledPacket}
 use Rattle.amf_service.specs.Meaning.{IsLawful}
 use Rattle.amf_service.specs.Registry.{Entry}

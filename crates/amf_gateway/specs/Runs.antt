@@ -1,5 +1,5 @@
 -- What comes of a plan, from what there is to take. Graphs enter it through their canonical bytes alone.
-use Rattle.std.specs.Prelude.{◌≡◌, ℕ, ◌<◌, ◌⊎◌, List, [], ◌∷◌, length, Option, Some, None}
+use Rattle.std.specs.Prelude.{◌≡◌, ℕ, ◌<◌, List, [], ◌∷◌, length, Option, Some, None}
 use Rattle.std.specs.List.{AllByRecursion}
 use Rattle.amf_wire.specs.Style.{free, canonical}
 use Rattle.amf_broker.specs.declared.call.Call.{Call}

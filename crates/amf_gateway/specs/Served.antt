@@ -1,5 +1,5 @@
 -- What a worker did with the links of its hall.
-use Rattle.std.specs.Prelude.{◌≡◌, ℕ, ◌<◌, ◌≤◌, ◌⊎◌, ◌||◌, Bool, true, false, List, [], ◌∷◌, ◌++◌, length, map, ⊤}
+use Rattle.std.specs.Prelude.{◌≡◌, ℕ, ◌<◌, ◌≤◌, ◌⊎◌, Bool, false, List, [], ◌∷◌, ◌++◌, length, map, ⊤}
 use Rattle.std.specs.List.{AllByRecursion, list_any}
 use Rattle.amf_io.specs.Outside.{Rose, Steady}
 use Rattle.amf_broker.specs.History.{Entry as Event}

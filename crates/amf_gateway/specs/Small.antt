@@ -1,4 +1,4 @@
--- How much a reply of the desk hands out at most.
+-- A device of proofs: how much a reply of the desk hands out at most.
 use Rattle.std.specs.Prelude.{ℕ, ◌≤◌, List, length}
 use Rattle.std.specs.List.{AllByRecursion}
 use Rattle.amf_broker.specs.declared.limits.TheConstants.{MAX_SUBS, MAX_QUEUED, MAX_MESSAGE}

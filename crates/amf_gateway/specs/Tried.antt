@@ -1,5 +1,5 @@
 -- A plan computed, where what is spelled and read is given: by this worked facts are decided.
-use Rattle.std.specs.Prelude.{◌≡◌, ℕ, List, [], ◌∷◌, Option, Some, None}
+use Rattle.std.specs.Prelude.{◌≡◌, ℕ, List, [], ◌∷◌, Option}
 use Rattle.amf_broker.specs.declared.call.Call.{Call}
 use Rattle.amf_graph.specs.Graph.{Graph}
 use Rattle.amf_packet.specs.Packet.{Packet}

@@ -1,6 +1,5 @@
 -- The first requests of a Flex client and their answers, byte for byte. The clock and the dice give 0.
-use Rattle.std.specs.Prelude.{◌≡◌, ℕ, true, List, [], ◌∷◌, ◌++◌, codes, Some}
-use Rattle.amf_wire.specs.Style.{free, canonical}
+use Rattle.std.specs.Prelude.{◌≡◌, ℕ, true, List, [], ◌∷◌, ◌++◌, codes}
 use Rattle.amf_broker.specs.declared.call.Call.{Call}
 use Rattle.amf_broker.specs.declared.call.Call.TheVariants.{Connect, Subscribe, Publish, Poll}
 use Rattle.amf_broker.specs.declared.reply.Delivery.{Delivery}
@@ -10,7 +9,7 @@ use Rattle.amf_http.specs.Response.{response}
 use Rattle.amf_service.specs.Shipped.{shipped}
 use Rattle.amf_gateway.specs.Links.{closed, LinkEnd, answer_body}
 use Rattle.amf_gateway.specs.Plan.{Plan, gives, ◌>>=◌, packet_in}
-use Rattle.amf_gateway.specs.Runs.{Supply, Done, gave, Runs}
+use Rattle.amf_gateway.specs.Runs.{gave, Runs}
 use Rattle.amf_gateway.specs.WorkedClient.{first_id, zero_id, chat_topic, supply, zeros}
 
 -- Parts.

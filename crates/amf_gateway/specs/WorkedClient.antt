@@ -1,5 +1,5 @@
 -- The first requests of a Flex client and their answers, by content: a ping, a subscribe, a publish, a poll that has a message and one that has none. The clock and the dice give 0.
-use Rattle.std.specs.Prelude.{◌≡◌, ℕ, true, List, [], ◌∷◌, ◌++◌, codes, Option, Some, None}
+use Rattle.std.specs.Prelude.{◌≡◌, ℕ, true, List, [], ◌∷◌, codes, Some, None}
 use Rattle.amf_graph.specs.Graph.{Value, leaf, node, double, Node, Graph}
 use Rattle.amf_broker.specs.declared.topic.Topic.{Topic}
 use Rattle.amf_broker.specs.declared.call.Call.{Call}
@@ -16,9 +16,9 @@ use Rattle.flex_msgs.specs.WorkedFlex.{command_graph}
 use Rattle.amf_graph.specs.Graph as graph
 use Rattle.amf_service.specs.Shipped.{shipped}
 use Rattle.amf_gateway.specs.Packets.{answer_to, null_uri}
-use Rattle.amf_gateway.specs.Plan.{Cut, at_end}
+use Rattle.amf_gateway.specs.Plan.{at_end}
 use Rattle.amf_gateway.specs.Replies.{Answer, in_amf3}
-use Rattle.amf_gateway.specs.Runs.{Supply, Done, gave}
+use Rattle.amf_gateway.specs.Runs.{Supply, gave}
 use Rattle.amf_gateway.specs.Tried.{Answers, Tried, tried}
 
 -- The requests.

@@ -10,7 +10,7 @@ use Rattle.amf_gateway.specs.Plan.{Plan, Cut, at_end, cut_short, turned_away, re
 use Rattle.amf_gateway.specs.PlainCalls.{answer_in}
 use Rattle.amf_gateway.specs.Runs.{gave}
 use Rattle.amf_gateway.specs.Tried.{Answers, Tried, tried}
-use Rattle.amf_gateway.specs.WorkedClient.{spelled_all, supply}
+use Rattle.amf_gateway.specs.WorkedClient.{supply}
 use Rattle.amf_gateway.specs.WorkedPlain.{array_of, hi, item, calls}
 
 -- echo.echo is called, in a packet of version 3

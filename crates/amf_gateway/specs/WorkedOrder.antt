@@ -1,7 +1,7 @@
 -- Worked facts of what is called and taken, in which order, and of messages that have no form. The supplies hold what is taken, and no more unless it is said.
-use Rattle.std.specs.Prelude.{◌≡◌, ℕ, true, false, List, [], ◌∷◌, ◌++◌, codes, Some, None}
+use Rattle.std.specs.Prelude.{◌≡◌, ℕ, true, List, [], ◌∷◌, codes, Some, None}
 use Rattle.amf_graph.specs.declared.value.Value.TheVariants.{Null}
-use Rattle.amf_graph.specs.Graph.{Value, Graph, node, leaf, text}
+use Rattle.amf_graph.specs.Graph.{Value, Graph, node, text}
 use Rattle.amf_graph.specs.Graph as graph
 use Rattle.amf_broker.specs.declared.call.Call.TheVariants.{Connect, Subscribe, Unsubscribe, Publish, Poll, PollNumbered, Disconnect}
 use Rattle.amf_broker.specs.declared.reply.Reply.{Reply}
@@ -10,17 +10,17 @@ use Rattle.amf_packet.specs.Packet.{Message}
 use Rattle.flex_msgs.specs.declared.reply.Reply.{Reply as Values}
 use Rattle.flex_msgs.specs.Answers.{acknowledge_graph, invalidate_graph, delivered_graph, sync_graph}
 use Rattle.flex_msgs.specs.Classes.{ds_id_name, plain_traits, command_traits}
-use Rattle.flex_msgs.specs.Messages.{text_of, null_value, number_value, message_node, headers_node}
+use Rattle.flex_msgs.specs.Messages.{text_of, null_value, number_value, message_node}
 use Rattle.flex_msgs.specs.WorkedFlex.{command_graph}
 use Rattle.amf_service.specs.Shipped.{shipped}
 use Rattle.amf_gateway.specs.Causes.{bad_message, no_form, not_served}
 use Rattle.amf_gateway.specs.Numbers.{identifier}
-use Rattle.amf_gateway.specs.Packets.{answer_to, null_uri}
-use Rattle.amf_gateway.specs.Plan.{Cut, at_end}
+use Rattle.amf_gateway.specs.Packets.{answer_to}
+use Rattle.amf_gateway.specs.Plan.{at_end}
 use Rattle.amf_gateway.specs.Replies.{Answer, in_amf3, failed, nil, no_nodes}
 use Rattle.amf_gateway.specs.Runs.{nothing, gave, ran_out}
 use Rattle.amf_gateway.specs.Tried.{Answers, Tried, tried}
-use Rattle.amf_gateway.specs.WorkedClient.{one, chat, chat_topic, stored, stored_bytes, delivery, spelled_all, supply, flex_message, for_message, does, subscribe, publish, poll, ping}
+use Rattle.amf_gateway.specs.WorkedClient.{one, chat, chat_topic, stored, stored_bytes, delivery, supply, flex_message, for_message, does, subscribe, publish, poll, ping}
 
 -- the values of a reply whose words are 1 and 2
 abbrev pub values : (client destination ds_id correlation : List ℕ) (moment : ℕ) → Values

@@ -1,6 +1,6 @@
 -- Worked facts of plain remoting: what is answered, and in which form. It makes no call, and takes nothing.
-use Rattle.std.specs.Prelude.{◌≡◌, ℕ, true, false, if◌then◌else◌, List, [], ◌∷◌, ◌++◌, codes, Option, Some, None}
-use Rattle.amf_graph.specs.Graph.{Value, Graph, Node, leaf, node, integer, double, array}
+use Rattle.std.specs.Prelude.{◌≡◌, ℕ, true, false, List, [], ◌∷◌, codes, Option, Some, None}
+use Rattle.amf_graph.specs.Graph.{Value, Graph, leaf, node, double}
 use Rattle.amf0_tables.specs.declared.form.Form.{Form}
 use Rattle.amf0_tables.specs.declared.form.Form.TheVariants.{Call, Amf3, Plain}
 use Rattle.amf_packet.specs.Packet.{Message}
@@ -8,7 +8,7 @@ use Rattle.flex_msgs.specs.Messages.{text_of, null_value, number_value, items_no
 use Rattle.amf_service.specs.Shipped.{shipped}
 use Rattle.amf_gateway.specs.Causes.{cause}
 use Rattle.amf_gateway.specs.Packets.{answer_to, message_back}
-use Rattle.amf_gateway.specs.Plan.{Spelling, lowered, whole, at_end}
+use Rattle.amf_gateway.specs.Plan.{Spelling, lowered, whole}
 use Rattle.amf_gateway.specs.PlainCalls.{answer_in, fault_graph}
 use Rattle.amf_gateway.specs.Replies.{Answer}
 use Rattle.amf_gateway.specs.Tried.{Answers, Tried, tried}

@@ -1,12 +1,11 @@
 -- Worked facts of calls by RemotingMessages.
-use Rattle.std.specs.Prelude.{◌≡◌, ℕ, true, false, List, [], ◌∷◌, ◌++◌, codes}
+use Rattle.std.specs.Prelude.{◌≡◌, ℕ, true, false, List, [], ◌∷◌, codes}
 use Rattle.amf_graph.specs.Graph.{Value, Graph, Node, leaf, node, double, object}
 use Rattle.amf_graph.specs.Graph as graph
 use Rattle.flex_msgs.specs.Answers.{acknowledge_graph}
 use Rattle.flex_msgs.specs.Classes.{remoting_class}
 use Rattle.flex_msgs.specs.Messages.{text_of, null_value, number_value, items_node}
-use Rattle.amf_gateway.specs.Causes.{cause, bad_message, no_form}
-use Rattle.amf_gateway.specs.Remoting.{empty_arguments}
+use Rattle.amf_gateway.specs.Causes.{cause, no_form}
 use Rattle.amf_gateway.specs.Replies.{Answer, in_amf3, failed, nil}
 use Rattle.amf_gateway.specs.Tried.{Tried}
 use Rattle.amf_gateway.specs.WorkedClient.{spelled_all, does}

@@ -12,7 +12,7 @@ ghost use Rattle.amf_packet.specs.Packet.{Packet as PacketContent};
 ghost use Rattle.amf_service.specs.Registry.{Entry};
 ghost use Rattle.amf_gateway.specs.Alike.{PacketsMatch};
 ghost use Rattle.amf_gateway.specs.Answered.{IsWritablePacket, IsReadable, IsAnswerable, Unpacks, packet_bytes, if_packet, body_bytes, most_body};
-ghost use Rattle.amf_gateway.specs.Calls.{services_by};
+ghost use Rattle.amf_gateway.specs.Services.{services_by};
 ghost use Rattle.amf_gateway.specs.Did.{Ran, Stopped};
 ghost use Rattle.amf_gateway.specs.Runs.{IsPacked};
 

@@ -8,7 +8,8 @@ ghost use Rattle.amf_graph.specs.Reached.{IsWhole};
 ghost use Rattle.amf_graph.specs.Rooted.{content};
 ghost use Rattle.amf_service.specs.Meaning.{Called, heaviest_arguments};
 ghost use Rattle.amf_service.specs.Registry.{Entry, called, AnswersCall};
-ghost use Rattle.amf_gateway.specs.Calls.{services_by, ComesTo, AnswerFits};
+ghost use Rattle.amf_gateway.specs.Services.{services_by};
+ghost use Rattle.amf_gateway.specs.Calls.{ComesTo, AnswerFits};
 
 use crate::causes::{no_operation, no_service, service_fault};
 use amf_graph::Rooted;

@@ -9,7 +9,7 @@ ghost use Rattle.amf_packet.specs.PacketAnswer.{body_weight};
 ghost use Rattle.amf_service.specs.Registry.{Entry};
 ghost use Rattle.flex_msgs.specs.Asked.{IsRequest, asked as asked_content};
 ghost use Rattle.flex_msgs.specs.Viewing.{value_view};
-ghost use Rattle.amf_gateway.specs.Calls.{services_by};
+ghost use Rattle.amf_gateway.specs.Services.{services_by};
 ghost use Rattle.amf_gateway.specs.Causes.{bad_message as bad_message_cause};
 ghost use Rattle.amf_gateway.specs.Did.{Stopped, Says};
 ghost use Rattle.amf_gateway.specs.Flex.{flex as flex_plan, message_of, asked_answer, viewed_answer};

@@ -29,19 +29,11 @@ mod sync_messages;
 mod target;
 mod worker;
 
-pub use caller::Caller;
-pub use commands::{disconnect, ping, subscribe, unsubscribe};
 pub use facts::{
     answers_are_fixed, byte_rows, client_rows, form_rows, link_rows, order_rows, packets_are_same,
     plain_rows, poll_rows, remoting_rows, run_out_rows, served_is_beginning, text_rows,
     tried_is_run,
 };
 pub use links::LinkEnd;
-pub use numbers::{identifier, number_in};
-pub use outside::{Outside, Unanswered};
-pub use polls::poll;
-pub use publishing::publish;
-pub use replies::FlexAnswer;
 pub use serve::serve_link;
-pub use target::Target;
 pub use worker::{Worker, WorkerEnd};

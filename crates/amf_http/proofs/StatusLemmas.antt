@@ -1,5 +1,5 @@
 -- Each status of the table is one that is written, and a body that nothing refuses is short.
-use Rattle.std.proofs.Common.{◌≡◌, ◌∙◌, ℕ, ◌≤◌, nat_lt, length, arith, Bool, true, false, IsTrue, List, [], ◌∷◌, Option, Some, None, if◌then◌else◌, subst, sym, refl}
+use Rattle.std.proofs.Common.{◌≡◌, ℕ, ◌≤◌, nat_lt, arith, Bool, true, false, IsTrue, List, [], ◌∷◌, Option, Some, None, if◌then◌else◌, subst, sym, refl}
 use Rattle.std.proofs.lemmas.Bool.Decides.{nat_tests}
 use Rattle.amf_http.specs.Fields.{body_size}
 use Rattle.amf_http.specs.Request.{IsHeadRefused, IsHeadAccepted, no_head, by_table}

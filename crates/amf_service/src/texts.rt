@@ -7,7 +7,7 @@ ghost use Rattle.amf_graph.specs.ByName.{stable_sort};
 ghost use Rattle.amf_graph.specs.Isomorphic.{Isomorphic};
 ghost use Rattle.amf_graph.specs.Rooted.{content};
 ghost use Rattle.amf_graph.specs.declared.limits.TheConstants.{MAX_COUNT};
-ghost use Rattle.amf_service.specs.Made.{texts_of, AreTextsOf, AreBytesOf, seconds_of};
+ghost use Rattle.amf_service.specs.Made.{texts_of, AreTextsOf};
 ghost use Rattle.amf_service.specs.Meaning.{heaviest_arguments};
 ghost use Rattle.amf_service.specs.Shipped.{is_before, texts_graph};
 
@@ -15,34 +15,6 @@ use crate::copies::{kept, whole};
 use amf_graph::{Builder, NodeId, Part, Rooted, Shape, TextId, Value};
 use amf_wire::Memory;
 use std::alloc::Global;
-
-/// Texts of a graph, each with its bytes.
-fn with_bytes<'g>(
-    alloc: Global,
-    texts: &[TextId],
-    graph: &'g Rooted,
-) -> Result<Vec<(&'g [u8], TextId)>, Memory>
-    requires { AreTextsOf graph.now.arena texts.now }
-    ensures texts { IfOk result (λ pairs. seconds_of pairs.items ≡ texts.now) }
-    ensures bytes { IfOk result (λ pairs. AreBytesOf graph.now.arena pairs.items) }
-{
-    let mut pairs = Vec::new(alloc);
-    for text in texts {
-        pairs.push((graph.text(*text), *text))?;
-    }
-    Ok(pairs)
-}
-
-/// The texts of pairs.
-fn seconds(alloc: Global, pairs: &[(&[u8], TextId)]) -> Result<Vec<TextId>, Memory>
-    ensures { IfOk result (λ texts. texts.items ≡ seconds_of pairs.now) }
-{
-    let mut texts = Vec::new(alloc);
-    for (_, text) in pairs {
-        texts.push(*text)?;
-    }
-    Ok(texts)
-}
 
 /// Texts of a graph in the order of their bytes. It gives up where there is no memory.
 pub(crate) fn in_order(
@@ -55,9 +27,9 @@ pub(crate) fn in_order(
     ensures there { IfOk result (λ sorted. AreTextsOf graph.now.arena sorted.items) }
     ensures count { IfOk result (λ sorted. length sorted.items ≡ length texts.now) }
 {
-    let mut pairs = with_bytes(alloc, texts, graph)?;
-    pairs.sort_by(|p, q| p.0.cmp(q.0))?;
-    seconds(alloc, &pairs)
+    let mut sorted = texts.to_vec(alloc)?;
+    sorted.sort_by(|x, y| graph.compare_texts(*x, *y))?;
+    Ok(sorted)
 }
 
 /// Adds an array of these values.

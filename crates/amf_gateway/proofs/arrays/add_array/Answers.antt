@@ -1,5 +1,5 @@
 -- An array gets its items one after another.
-use Rattle.std.proofs.Common.{◌≡◌, [], take, get_or, length, sym, ap, ◌∙◌, arith}
+use Rattle.std.proofs.Common.{◌≡◌, [], take, get_or, sym, ap, ◌∙◌, arith}
 use Rattle.amf_graph.specs.declared.value.Value.TheVariants.{Undefined}
 use Rattle.amf_graph.specs.declared.part.Part.TheVariants.{Item}
 use Rattle.amf_graph.specs.Arena.{array}

@@ -1,8 +1,7 @@
-use Rattle.std.proofs.Common.{◌≡◌, ◌∙◌, ℕ, List, [], ap, map, IfOk, OnErr, subst, sym}
-use Rattle.std.proofs.lemmas.Result.{IfOk-weaker, on_err_weaker}
+use Rattle.std.proofs.Common.{◌≡◌, ℕ, List, map, IfOk, subst}
+use Rattle.std.proofs.lemmas.Result.{IfOk-weaker}
 use Rattle.flex_msgs.specs.declared.reply.Reply.{Reply}
 use Rattle.flex_msgs.specs.Answers.{invalidate_graph}
-use Rattle.amf_graph.specs.Graph.{Graph}
 use Rattle.amf_gateway.specs.Batches.{sync}
 use Rattle.amf_gateway.specs.Batching.{say_sync}
 use Rattle.amf_gateway.specs.Did.{Ran, Stopped, Tells}

@@ -11,7 +11,7 @@ use Rattle.amf_packet.specs.declared.packet.Message.{Message as KeptMessage}
 use Rattle.amf_packet.specs.Content.{body_of, packet_of}
 use Rattle.amf_packet.specs.Packet.{SpellsPacket, IsPacketReading}
 use Rattle.amf_packet.specs.PacketAnswer.{packet_weight}
-use Rattle.amf_gateway.specs.Answered.{Unpacks, most_body}
+use Rattle.amf_gateway.specs.Answered.{Unpacks}
 use Rattle.amf_packet.specs.declared.packet.Packet.{Packet as KeptPacket}
 use Rattle.amf_gateway.proofs.Arguments.{by_test}
 use Rattle.amf_gateway.proofs.Unpacked.{none_spelled, more_follows, packet_read, no_fault}

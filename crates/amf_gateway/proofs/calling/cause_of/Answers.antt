@@ -1,7 +1,6 @@
 -- Each end has its cause.
 use Rattle.std.proofs.Common.{◌≡◌, ◌∙◌, Some, Err, IfOk, sym, ap, subst}
 use Rattle.std.proofs.lemmas.Result.{IfOk-weaker}
-use Rattle.amf_graph.specs.Rooted.{RootedArena}
 use Rattle.amf_service.specs.declared.registry.CallEnd.{CallEnd}
 use Rattle.amf_service.specs.Meaning.{Called}
 use Rattle.amf_service.specs.Registry.{AnswersCall}

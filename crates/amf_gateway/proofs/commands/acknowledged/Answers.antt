@@ -1,4 +1,4 @@
-use Rattle.std.proofs.Common.{◌≡◌, OnErr}
+use Rattle.std.proofs.Common.{◌≡◌}
 use Rattle.amf_gateway.specs.Commands.{acknowledged}
 use Rattle.amf_gateway.specs.Kept.{context_in}
 use Rattle.amf_gateway.proofs.Doing.{at_err, not_begun}

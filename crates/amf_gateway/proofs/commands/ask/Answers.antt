@@ -1,4 +1,4 @@
-use Rattle.std.proofs.Common.{◌≡◌, IfOk, OnErr}
+use Rattle.std.proofs.Common.{◌≡◌, IfOk}
 use Rattle.std.proofs.lemmas.Result.{IfOk-weaker, on_err_weaker}
 use Rattle.amf_gateway.specs.Did.{moment_taken}
 use Rattle.amf_gateway.proofs.Doing.{asked_ran, asked_stopped}

@@ -1,12 +1,9 @@
-use Rattle.std.proofs.Common.{◌≡◌, ◌∙◌, ℕ, [], OnErr, refl, ap}
-use Rattle.amf_broker.specs.declared.topic.Topic.{Topic}
+use Rattle.std.proofs.Common.{◌≡◌, refl}
 use Rattle.amf_broker.specs.declared.call.Call.TheVariants.{Connect}
 use Rattle.amf_broker.specs.declared.reply.Reply.{Reply}
 use Rattle.amf_gateway.specs.Commands.{say_connected}
-use Rattle.amf_gateway.specs.Kept.{context_in, names_told}
-use Rattle.amf_gateway.specs.Numbers.{number_in}
-use Rattle.amf_gateway.specs.Replies.{Context, context_of}
-use Rattle.amf_gateway.proofs.Doing.{at_err, not_begun, asked_says, asked_ended, asked_first}
+use Rattle.amf_gateway.specs.Kept.{context_in}
+use Rattle.amf_gateway.proofs.Doing.{at_err, asked_says, asked_ended, asked_first}
 use Rattle.amf_gateway.proofs.commands.connect.Goals as goal
 
 pub returns-in_err-reply-clause-stopped : goal.returns-in_err-reply-clause-stopped

@@ -1,9 +1,8 @@
-use Rattle.std.proofs.Common.{◌≡◌, ◌∙◌, ℕ, [], OnErr, refl, ap}
-use Rattle.amf_broker.specs.declared.topic.Topic.{Topic}
+use Rattle.std.proofs.Common.{◌≡◌, ◌∙◌, ℕ, [], ap}
 use Rattle.amf_broker.specs.declared.call.Call.TheVariants.{Disconnect}
 use Rattle.amf_broker.specs.declared.reply.Reply.{Reply}
 use Rattle.amf_gateway.specs.Commands.{disconnect, client_of, acknowledged}
-use Rattle.amf_gateway.specs.Kept.{context_in, names_told}
+use Rattle.amf_gateway.specs.Kept.{names_told}
 use Rattle.amf_gateway.specs.Numbers.{number_in}
 use Rattle.amf_gateway.specs.Replies.{Context, context_of}
 use Rattle.amf_gateway.proofs.Doing.{at_err, not_begun, asked_says, asked_ended, asked_first}

@@ -1,9 +1,9 @@
-use Rattle.std.proofs.Common.{◌≡◌, ◌∙◌, [], decimal, IfOk, OnErr, sym, ap, subst}
+use Rattle.std.proofs.Common.{◌≡◌, ◌∙◌, [], decimal, IfOk, ap, subst}
 use Rattle.std.proofs.lemmas.Result.{IfOk-weaker, on_err_weaker}
 use Rattle.amf_gateway.specs.Did.{Stopped, Says}
 use Rattle.amf_gateway.specs.Plan.{Plan}
-use Rattle.amf_gateway.specs.Replies.{Answer, Context, acknowledge_null, with_client}
-use Rattle.amf_gateway.specs.Kept.{context_in, names_told}
+use Rattle.amf_gateway.specs.Replies.{Answer, acknowledge_null, with_client}
+use Rattle.amf_gateway.specs.Kept.{context_in}
 use Rattle.amf_gateway.specs.Commands.{say_connected, acknowledged}
 use Rattle.amf_gateway.proofs.Doing.{at_err, not_begun, other_connected, said_connected}
 use Rattle.amf_gateway.proofs.commands.say_connected.Goals as goal

@@ -1,9 +1,9 @@
-use Rattle.std.proofs.Common.{◌≡◌, ◌∙◌, ℕ, [], OnErr, refl, ap}
+use Rattle.std.proofs.Common.{◌≡◌, ◌∙◌, ℕ, ap}
 use Rattle.amf_broker.specs.declared.topic.Topic.{Topic}
 use Rattle.amf_broker.specs.declared.call.Call.TheVariants.{Subscribe}
 use Rattle.amf_broker.specs.declared.reply.Reply.{Reply}
 use Rattle.amf_gateway.specs.Commands.{subscribe, client_of, topic_of, say_subscribed}
-use Rattle.amf_gateway.specs.Kept.{context_in, names_told}
+use Rattle.amf_gateway.specs.Kept.{names_told}
 use Rattle.amf_gateway.specs.Numbers.{number_in}
 use Rattle.amf_gateway.specs.Replies.{Context, context_of}
 use Rattle.amf_gateway.proofs.Doing.{at_err, not_begun, asked_says, asked_ended, asked_first}

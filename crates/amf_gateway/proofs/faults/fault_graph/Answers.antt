@@ -1,8 +1,8 @@
 -- What was built is the graph that is said.
-use Rattle.std.proofs.Common.{◌≡◌, ◌∙◌, refl, sym, ap, subst}
+use Rattle.std.proofs.Common.{◌≡◌, ◌∙◌, ap}
 use Rattle.amf_graph.specs.Arena.{Arena, graph_of}
 use Rattle.amf_graph.specs.declared.value.Value.{Value as Stored}
-use Rattle.amf_graph.specs.Rooted.{RootedArena, content}
+use Rattle.amf_graph.specs.Rooted.{content}
 use Rattle.amf_gateway.specs.Calls.{fault_arena}
 use Rattle.amf_gateway.proofs.faults.fault_graph.Goals as goal
 

@@ -1,4 +1,12 @@
-use Rattle.std.proofs.Common.{◌≡◌, IfOk, OnErr}
+use Rattle.std.proofs.Common.{◌≡◌, IfOk, OnErr, rules, subst}
+use Rattle.std.proofs.lemmas.Int.{to_z-of_z}
+use Rattle.std.specs.Prelude.{ℤ}
+use mir.Val.{SFits}
+use mir.Syntax.{w64}
+use Rattle.amf_graph.specs.Rooted.{content}
+use Rattle.flex_msgs.specs.Asked.{told}
+use Rattle.amf_gateway.specs.Commands.{command}
+use Rattle.amf_gateway.specs.Did.{Stopped, Says}
 use Rattle.amf_gateway.proofs.Doing.{at_err}
 use Rattle.amf_gateway.proofs.flex.answer_request.Goals as goal
 
@@ -9,10 +17,14 @@ pub returns-in_ok-answer-in-Remoting-clause-says : goal.returns-in_ok-answer-in-
 returns-in_ok-answer-in-Remoting-clause-says g c = rw c.in-Remoting.is c.in_ok-answer-in-Remoting.ensures.says
 
 pub returns-in-Command-clause-says : goal.returns-in-Command-clause-says
-returns-in-Command-clause-says g c = rw c.in-Command.is c.command.ensures.says
+returns-in-Command-clause-says g c =
+    let fits : SFits w64 c.in-Command.operation = search rules in
+    rw c.in-Command.is (subst (λ (z : ℤ). IfOk c.command.result (λ a. Says g.O.Outside.handed (command (content c.args.graph.now) (told c.args.graph.now.arena c.in-Command.common) z) c.args.outside.now c.command.new.outside a)) (to_z-of_z w64 c.in-Command.operation fits) c.command.ensures.says)
 
 pub returns-in-Command-clause-stopped : goal.returns-in-Command-clause-stopped
-returns-in-Command-clause-stopped g c = rw c.in-Command.is c.command.ensures.stopped
+returns-in-Command-clause-stopped g c =
+    let fits : SFits w64 c.in-Command.operation = search rules in
+    rw c.in-Command.is (subst (λ (z : ℤ). OnErr c.command.result (Stopped g.O.Outside.handed (command (content c.args.graph.now) (told c.args.graph.now.arena c.in-Command.common) z) c.args.outside.now c.command.new.outside)) (to_z-of_z w64 c.in-Command.operation fits) c.command.ensures.stopped)
 
 pub returns-in-Async-clause-says : goal.returns-in-Async-clause-says
 returns-in-Async-clause-says g c = rw c.in-Async.is c.publish.ensures.says

@@ -1,10 +1,9 @@
-use Rattle.std.proofs.Common.{◌≡◌, IfOk, OnErr, refl, subst}
+use Rattle.std.proofs.Common.{◌≡◌, IfOk, refl, subst}
 use Rattle.std.proofs.lemmas.Result.{IfOk-weaker, on_err_weaker}
 use Rattle.amf_packet.specs.Content.{body_of}
 use Rattle.amf_gateway.specs.Did.{Stopped, Says}
 use Rattle.amf_gateway.specs.Plan.{Plan}
 use Rattle.amf_gateway.specs.Replies.{Answer}
-use Rattle.amf_gateway.proofs.Doing.{at_err}
 use Rattle.amf_gateway.proofs.Fitting.{flex_is, flex_none}
 use Rattle.amf_gateway.proofs.flex.flex.Goals as goal
 

@@ -1,8 +1,7 @@
-use Rattle.std.proofs.Common.{◌≡◌, ◌∙◌, IfOk, OnErr, ap, subst}
+use Rattle.std.proofs.Common.{◌≡◌, ◌∙◌, ap, subst}
 use Rattle.flex_msgs.specs.declared.reply.FaultText.{FaultText}
 use Rattle.amf_gateway.specs.Causes.{bad_message}
 use Rattle.amf_gateway.specs.Did.{Stopped, Says}
-use Rattle.amf_gateway.specs.Kept.{context_in}
 use Rattle.amf_gateway.specs.Plan.{Plan}
 use Rattle.amf_gateway.specs.Replies.{Context, no_context, Answer, error}
 use Rattle.amf_gateway.proofs.Doing.{at_err, not_begun}

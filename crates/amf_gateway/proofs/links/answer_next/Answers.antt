@@ -1,4 +1,3 @@
-use Rattle.std.proofs.Common.{◌∙◌, ◌++◌}
 use Rattle.std.proofs.lemmas.Result.{err_from_is_err_and}
 use Rattle.amf_gateway.proofs.Stepped.{stepped_none, stepped_unwritten, stepped_written, counts_none}
 use Rattle.amf_gateway.proofs.links.answer_next.Goals as goal

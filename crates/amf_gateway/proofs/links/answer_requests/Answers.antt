@@ -1,4 +1,4 @@
-use Rattle.std.proofs.Common.{◌∙◌, ◌-◌, refl, sym, ap, subst, arith}
+use Rattle.std.proofs.Common.{◌∙◌, ◌-◌, refl, sym, arith}
 use Rattle.amf_gateway.proofs.Coming.{come_none, come_step, come_ends, come_over, rest_of, rest_before, rest_none, served_link}
 use Rattle.amf_gateway.proofs.links.answer_requests.Goals as goal
 

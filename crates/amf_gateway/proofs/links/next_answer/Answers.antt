@@ -1,4 +1,3 @@
-use Rattle.std.proofs.Common.{◌++◌}
 use Rattle.amf_gateway.proofs.Stepped.{counts_request}
 use Rattle.amf_gateway.proofs.ReadNext.{request_comes, closed_comes, refused_comes, truncated_comes, memory_comes, fault_comes}
 use Rattle.amf_gateway.proofs.links.next_answer.Goals as goal

@@ -1,4 +1,4 @@
-use Rattle.std.proofs.Common.{◌≡◌, IfOk}
+use Rattle.std.proofs.Common.{◌≡◌}
 use Rattle.amf_gateway.proofs.Building.{acknowledge_built}
 use Rattle.amf_gateway.proofs.messages.acknowledge_of.Goals as goal
 

@@ -1,5 +1,4 @@
-use Rattle.std.proofs.Common.{◌≡◌, IfOk}
-use Rattle.flex_msgs.specs.Built.{Errors}
+use Rattle.std.proofs.Common.{◌≡◌}
 use Rattle.amf_gateway.proofs.Building.{error_built}
 use Rattle.amf_gateway.proofs.messages.error_of.Goals as goal
 

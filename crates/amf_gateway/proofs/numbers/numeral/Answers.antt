@@ -1,4 +1,4 @@
-use Rattle.std.proofs.Common.{◌≡◌, ◌∙◌, IfOk, decimal, sym, subst, arith}
+use Rattle.std.proofs.Common.{◌≡◌, ◌∙◌, IfOk, sym, subst, arith}
 use Rattle.std.proofs.lemmas.Result.{IfOk-weaker}
 use Rattle.amf_gateway.specs.Kept.{Fits}
 use Rattle.amf_gateway.proofs.Texts.{number_fits}

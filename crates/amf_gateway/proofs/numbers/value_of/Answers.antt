@@ -1,4 +1,4 @@
-use Rattle.std.proofs.Common.{◌≡◌, ◌+◌, ◌-◌, take, get_or, arith}
+use Rattle.std.proofs.Common.{◌≡◌, ◌+◌, ◌-◌, take, arith}
 use Rattle.std.specs.Str.Parse.{digits_value}
 use Rattle.amf_gateway.proofs.Digits.{value_more, value_front}
 use Rattle.amf_gateway.proofs.numbers.value_of.Goals as goal

@@ -1,8 +1,7 @@
 -- The packet of the messages that were answered.
-use Rattle.std.proofs.Common.{◌≡◌, ◌∙◌, ◌≤◌, ◌<◌, List, [], length, map, OnErr, refl, sym, ap, subst, arith}
+use Rattle.std.proofs.Common.{◌≡◌, ◌∙◌, ◌≤◌, List, length, refl, sym, ap, subst, arith}
 use Rattle.std.specs.List.{AllByRecursion}
 use Rattle.amf_packet.specs.declared.packet.Message.{Message as KeptMessage}
-use Rattle.amf_packet.specs.Content.{message_of}
 use Rattle.amf_packet.specs.PacketAnswer.{body_weight}
 use Rattle.amf_gateway.specs.Answered.{HasRoom, AreWritable, most_body}
 use Rattle.amf_gateway.proofs.Answering.{packet_said, packet_stopped}

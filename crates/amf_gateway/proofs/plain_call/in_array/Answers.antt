@@ -1,9 +1,9 @@
 -- The copy of a graph in an empty builder, and an array behind it.
-use Rattle.std.proofs.Common.{◌≡◌, ◌≤◌, ◌+◌, [], ◌∷◌, length, refl, sym, ap, subst, arith}
+use Rattle.std.proofs.Common.{◌≡◌, ◌≤◌, ◌+◌, [], ◌∷◌, length, refl, sym, subst, arith}
 use Rattle.amf_graph.specs.declared.value.Value.{Value as Stored}
 use Rattle.amf_graph.specs.Arena.{Names, array}
 use Rattle.amf_graph.specs.Bounds.{weight}
-use Rattle.amf_graph.specs.Building.{no_arena, kept_node, closed}
+use Rattle.amf_graph.specs.Building.{no_arena, closed}
 use Rattle.amf_graph.specs.Grafting.{Grafted, IsTooMuch}
 use Rattle.amf_graph.specs.Isomorphic.{Isomorphic}
 use Rattle.amf_graph.specs.Rooted.{RootedArena, content}

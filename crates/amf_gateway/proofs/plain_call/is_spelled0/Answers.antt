@@ -1,5 +1,5 @@
 -- What was written is the spelling of the lowered graph; a lack is told where there is none.
-use Rattle.std.proofs.Common.{◌≡◌, ◌∙◌, List, ℕ, ◌++◌, [], Err, ap}
+use Rattle.std.proofs.Common.{◌≡◌, ◌∙◌, List, ℕ, ◌++◌, Err, ap}
 use Rattle.amf_io.specs.Field.{flat}
 use Rattle.amf_graph.specs.Graph.{Graph}
 use Rattle.amf_graph.specs.Rooted.{content}

@@ -1,5 +1,5 @@
 -- What was written is the spelling; a lack is told where there is none.
-use Rattle.std.proofs.Common.{◌≡◌, [], Err, ap}
+use Rattle.std.proofs.Common.{◌≡◌, Err, ap}
 use Rattle.amf_graph.specs.Graph.{Graph}
 use Rattle.amf_graph.specs.Rooted.{content}
 use Rattle.amf_graph.proofs.Isomorphisms.{isomorphic_sym}

@@ -1,4 +1,4 @@
-use Rattle.std.proofs.Common.{◌≡◌, ◌∙◌, codes, OnErr, refl, ap}
+use Rattle.std.proofs.Common.{◌≡◌, codes, ap}
 use Rattle.amf_graph.specs.Arena.{value_content}
 use Rattle.amf_graph.specs.Rooted.{content}
 use Rattle.amf_broker.specs.declared.reply.Reply.{Reply}

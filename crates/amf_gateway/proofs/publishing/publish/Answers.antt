@@ -1,4 +1,4 @@
-use Rattle.std.proofs.Common.{◌≡◌, ℕ, List, Option, Some, None, OnErr, IfOk}
+use Rattle.std.proofs.Common.{◌≡◌, ℕ, Some, None, IfOk}
 use Rattle.std.proofs.lemmas.Result.{IfOk-weaker, on_err_weaker}
 use Rattle.amf_graph.specs.Rooted.{content}
 use Rattle.flex_msgs.specs.Answers.{published_graph}

@@ -1,10 +1,9 @@
-use Rattle.std.proofs.Common.{◌≡◌, ◌∙◌, ℕ, [], OnErr, refl, ap, Some}
-use Rattle.std.proofs.lemmas.Result.{on_err_weaker}
+use Rattle.std.proofs.Common.{◌≡◌, ◌∙◌, ℕ, [], ap, Some}
 use Rattle.amf_broker.specs.declared.topic.Topic.{Topic}
 use Rattle.amf_broker.specs.declared.call.Call.TheVariants.{Publish}
 use Rattle.amf_broker.specs.declared.reply.Reply.{Reply}
 use Rattle.amf_gateway.specs.Commands.{publish_spelled, client_of, topic_of, acknowledged}
-use Rattle.amf_gateway.specs.Kept.{context_in, names_told}
+use Rattle.amf_gateway.specs.Kept.{names_told}
 use Rattle.amf_gateway.specs.Plan.{reply_to}
 use Rattle.amf_gateway.specs.Replies.{Context, context_of}
 use Rattle.amf_gateway.proofs.Doing.{at_err, not_begun, replied_ran, replied_stopped, made_says, made_ended, made_first}

@@ -1,9 +1,8 @@
-use Rattle.std.proofs.Common.{◌≡◌, ◌∙◌, ap, subst, None, OnErr, IfOk}
-use Rattle.std.proofs.lemmas.Result.{IfOk-weaker}
+use Rattle.std.proofs.Common.{◌≡◌, ◌∙◌, ap, subst, None}
 use Rattle.flex_msgs.specs.declared.reply.FaultText.{FaultText}
 use Rattle.amf_gateway.specs.Commands.{publish_spelled}
 use Rattle.amf_gateway.specs.Did.{Stopped, Says}
-use Rattle.amf_gateway.specs.Kept.{context_in, names_told}
+use Rattle.amf_gateway.specs.Kept.{names_told}
 use Rattle.amf_gateway.specs.Plan.{Plan}
 use Rattle.amf_gateway.specs.Replies.{Context, context_of, Answer, error}
 use Rattle.amf_gateway.proofs.Doing.{at_err, not_begun}

@@ -1,5 +1,5 @@
 -- What comes of the call is said, or that there are no arguments.
-use Rattle.std.proofs.Common.{◌≡◌, IfOk, OnErr, refl}
+use Rattle.std.proofs.Common.{◌≡◌, IfOk, refl}
 use Rattle.std.proofs.lemmas.Result.{IfOk-weaker, on_err_weaker}
 use Rattle.flex_msgs.specs.Asked.{told}
 use Rattle.amf_gateway.proofs.Doing.{at_err, not_begun}

@@ -1,4 +1,4 @@
-use Rattle.std.proofs.Common.{◌≡◌, [], Some, Option, IfOk, OnErr, sym, subst}
+use Rattle.std.proofs.Common.{◌≡◌, IfOk, subst}
 use Rattle.std.proofs.lemmas.Result.{IfOk-weaker, on_err_weaker}
 use Rattle.amf_service.specs.Meaning.{Called}
 use Rattle.amf_gateway.specs.declared.calling.CallAnswer.{CallAnswer}

@@ -1,4 +1,4 @@
-use Rattle.std.proofs.Common.{◌≡◌, IfOk, OnErr, subst}
+use Rattle.std.proofs.Common.{◌≡◌, IfOk, subst}
 use Rattle.flex_msgs.specs.declared.reply.FaultText.{FaultText}
 use Rattle.amf_gateway.specs.Did.{Says, Stopped}
 use Rattle.amf_gateway.specs.Kept.{context_in}

@@ -1,4 +1,4 @@
-use Rattle.std.proofs.Common.{◌≡◌, IfOk, OnErr}
+use Rattle.std.proofs.Common.{◌≡◌, IfOk}
 use Rattle.std.proofs.lemmas.Result.{IfOk-weaker}
 use Rattle.flex_msgs.specs.declared.reply.Reply.{Reply}
 use Rattle.flex_msgs.specs.Answers.{acknowledge_graph}

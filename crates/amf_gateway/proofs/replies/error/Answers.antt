@@ -1,4 +1,4 @@
-use Rattle.std.proofs.Common.{◌≡◌, OnErr, IfOk}
+use Rattle.std.proofs.Common.{◌≡◌, IfOk}
 use Rattle.std.proofs.lemmas.Result.{IfOk-weaker}
 use Rattle.amf_gateway.specs.Kept.{context_in}
 use Rattle.amf_gateway.specs.Replies.{error}

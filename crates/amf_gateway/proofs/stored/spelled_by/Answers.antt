@@ -1,4 +1,4 @@
-use Rattle.std.proofs.Common.{◌≡◌, ◌∙◌, ℕ, ◌<◌, List, [], Err, subst, arith}
+use Rattle.std.proofs.Common.{◌≡◌, ◌∙◌, ◌<◌, Err, subst, arith}
 use Rattle.amf_io.specs.Cursor.{place, unread}
 use Rattle.amf_io.specs.Field.{AreBytes}
 use Rattle.amf_io.specs.InMemory.{faultless_left}

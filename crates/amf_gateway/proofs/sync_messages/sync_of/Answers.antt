@@ -1,5 +1,4 @@
-use Rattle.std.proofs.Common.{◌≡◌, ◌++◌, Option, map, subst}
-use Rattle.flex_msgs.specs.Answers.{invalidate_graph}
+use Rattle.std.proofs.Common.{◌≡◌, Option, subst}
 use Rattle.amf_gateway.specs.declared.sync_messages.Batch.{Batch}
 use Rattle.amf_gateway.specs.Batching.{ReadsAll}
 use Rattle.amf_gateway.proofs.sync_messages.sync_of.Goals as goal

@@ -1,4 +1,4 @@
-use Rattle.std.proofs.Common.{◌≡◌, length, true}
+use Rattle.std.proofs.Common.{◌≡◌, length}
 use Rattle.amf_gateway.proofs.Dots.{Parts}
 use Rattle.amf_gateway.proofs.target.parted.Given as goal
 

@@ -1,4 +1,4 @@
-use Rattle.std.proofs.Common.{◌≡◌, refl, sym, ap, subst, Ok, Err, [], ◌∷◌}
+use Rattle.std.proofs.Common.{◌≡◌, refl, Ok, Err}
 use Rattle.amf_io.specs.Outside.{SameLinks}
 use Rattle.amf_broker.specs.History.{Entry as Event}
 use Rattle.amf_gateway.specs.HandedLaws.{aid_none, links_self}

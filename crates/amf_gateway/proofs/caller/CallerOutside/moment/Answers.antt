@@ -1,4 +1,4 @@
-use Rattle.std.proofs.Common.{◌≡◌, refl, sym, ap, subst}
+use Rattle.std.proofs.Common.{◌≡◌, refl}
 use Rattle.amf_io.specs.Outside.{SameLinks}
 use Rattle.amf_gateway.specs.HandedLaws.{pass_none}
 use Rattle.amf_gateway.proofs.Handing.{aid_moment}

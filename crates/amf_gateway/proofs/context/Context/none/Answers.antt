@@ -1,6 +1,5 @@
 use Rattle.std.proofs.Common.{◌≡◌, [], refl, sym, subst, arith}
 use Rattle.amf_gateway.specs.Kept.{Fits}
-use Rattle.amf_gateway.specs.Replies.{nil}
 use Rattle.amf_gateway.proofs.Texts.{tested, nil_fits}
 use Rattle.amf_gateway.proofs.context.Context.none.Goals as goal
 

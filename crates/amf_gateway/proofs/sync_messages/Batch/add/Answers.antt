@@ -1,4 +1,4 @@
-use Rattle.std.proofs.Common.{◌≡◌, List, ℕ, Option, Some, sym, refl, subst, arith}
+use Rattle.std.proofs.Common.{◌≡◌, List, ℕ, Option, Some, sym, refl, subst}
 use Rattle.std.specs.Option.{option_map}
 use Rattle.amf_graph.specs.Graph.{Graph}
 use Rattle.amf_graph.specs.Rooted.{RootedArena, content}

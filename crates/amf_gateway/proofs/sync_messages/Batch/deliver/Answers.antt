@@ -1,5 +1,4 @@
-use Rattle.std.proofs.Common.{◌≡◌, ◌∙◌, ap, decimal, sym, subst}
-use Rattle.std.proofs.lemmas.Result.{IfOk-weaker}
+use Rattle.std.proofs.Common.{◌≡◌, ◌∙◌, ap, decimal, subst}
 use Rattle.amf_graph.specs.Arena.{Names}
 use Rattle.amf_gateway.proofs.Batched.{never_full, delivered_grew, delivered_adds}
 use Rattle.amf_gateway.proofs.sync_messages.Batch.deliver.Goals as goal

@@ -1,4 +1,4 @@
-use Rattle.std.proofs.Common.{◌∙◌, arith, rules}
+use Rattle.std.proofs.Common.{arith}
 use Rattle.amf_gateway.proofs.SoFar.{sofar_none, sofar_next, served_each, served_all, served_until}
 use Rattle.amf_gateway.proofs.worker.Worker.serve.Goals as goal
 

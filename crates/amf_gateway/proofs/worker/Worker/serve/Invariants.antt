@@ -1,4 +1,4 @@
-use Rattle.amf_gateway.specs.Calls.{services_by}
+use Rattle.amf_gateway.specs.Services.{services_by}
 use Rattle.amf_gateway.proofs.SoFar.{SoFar}
 use Rattle.amf_gateway.proofs.worker.Worker.serve.Given as goal
 

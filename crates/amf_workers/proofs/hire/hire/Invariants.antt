@@ -1,0 +1,15 @@
+use Rattle.std.proofs.Common.{◌≡◌, ◌+◌, ◌≤◌, vec_len}
+use Rattle.std.specs.Prelude.{vec_capacity}
+use Rattle.amf_workers.proofs.Hiring.{SoFar}
+use Rattle.amf_workers.proofs.hire.hire.Given as goal
+
+abbrev pub invariant-loop-hall : goal.invariant-loop-hall
+invariant-loop-hall g l = record {
+  so_far : SoFar l.fn.first l.first l.fn.halls.items l.halls.items l.posts.items;
+  number : l.number ≡ vec_len l.posts;
+  total : vec_len l.posts + vec_len l.halls ≡ vec_len l.fn.halls;
+  room : vec_len l.posts + vec_len l.halls ≤ vec_capacity l.posts;
+}
+
+abbrev pub decreases-loop-hall : goal.decreases-loop-hall
+decreases-loop-hall g l = vec_len l.halls

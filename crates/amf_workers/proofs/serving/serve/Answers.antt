@@ -1,0 +1,42 @@
+use Rattle.std.proofs.Common.{◌≡◌, List, length, vec_len, Err, ap, ◌∙◌, arith, rules}
+use Rattle.amf_service.specs.Registry.{Entry}
+use Rattle.amf_gateway.specs.Services.{services_by}
+use Rattle.amf_gateway.specs.Tells.{OfLink, OfHall}
+use Rattle.amf_workers.specs.OfFront.{OfFront}
+use Rattle.amf_workers.proofs.Opened.{not_asked, failed, no_memory, serves}
+use Rattle.amf_workers.proofs.serving.serve.Goals as goal
+
+pub returns-in_default : goal.returns-in_default
+returns-in_default g c = not_asked _ _
+
+pub serve_halls-requires-clause-first : goal.serve_halls-requires-clause-first
+serve_halls-requires-clause-first g c κs within = c.in-Ok.ensures
+
+pub serve_halls-requires-clause-few : goal.serve_halls-requires-clause-few
+serve_halls-requires-clause-few g c κs within =
+    let many : vec_len c.in-Ok-open.halls ≡ length c.in-Ok-open.halls.items = search rules in let asked = c.in-Ok-open.ensures.workers in let most = c.requires in omega arith
+
+pub serve_halls-requires-clause-whole : goal.serve_halls-requires-clause-whole
+serve_halls-requires-clause-whole g c κs within = c.in-Ok-open.ensures.whole
+
+pub serve_halls-requires-clause-fresh : goal.serve_halls-requires-clause-fresh
+serve_halls-requires-clause-fresh g c κs within = c.in-Ok-open.ensures.fresh
+
+pub returns-in-Ok-open : goal.returns-in-Ok-open
+returns-in-Ok-open g c =
+    let f = g.F.Front in let h = g.F.Hall in let k = g.F.Hall.Link.Link in
+    let front : OfFront g.row.F.Denot g.row.F-Hall.Denot = record { tells = f.tells; asked = f.asked; to_open = f.to_open; halls = f.halls; faults = f.faults } in
+    let hall : OfHall g.row.F-Hall.Denot g.row.F-Hall-Link.Denot = record { tells_links = h.Hall.tells_links; coming = h.Hall.coming; served = h.Hall.served; faults = h.Hall.faults; tells_moments = h.Clock.tells_moments; moments = h.Clock.moments; tells_words = h.Dice.tells_words; words = h.Dice.words } in
+    let link : OfLink g.row.F-Hall-Link.Denot = record { tells_left = k.tells_left; left = k.left; tells_held = k.tells_held; held = k.held; read_faults = k.read_faults; write_faults = k.write_faults } in
+    let services : List Entry = services_by c.args.registry.now.services.entries (λ x. x.items) (λ s. (goal.Service-dyn g (s.vtable, s.value)).knows s.value) (λ s. (goal.Service-dyn g (s.vtable, s.value)).gives s.value) in
+    let e = c.in-Ok-open.ensures in
+    serves front hall link services c.args.port c.args.workers c.args.each c.args.front.now c.open.new.self c.serve_halls.new.front c.in-Ok-open.halls.items c.serve_halls.result
+    (record { tells = e.tells; asked = e.asked; gave = e.gives; many = e.workers; halls = e.back; counts = e.cause }) e.whole c.serve_halls.ensures
+
+pub returns-in-Err-Failed : goal.returns-in-Err-Failed
+returns-in-Err-Failed g c =
+    let e = c.open.ensures in failed _ _ _ _ _ c.open.result e.tells e.back (c.in-Err-Failed.is ∙ ap (λ x. Err x) c.in-Err-Failed.field-0-is) e.asked e.gives e.cause
+
+pub returns : goal.returns
+returns g c =
+    let e = c.open.ensures in no_memory _ c.args.port c.args.workers _ _ c.open.result e.tells e.back (c.in-Err-Memory.is ∙ ap (λ x. Err x) c.in-Err-Memory.field-0-is) e.gives e.cause

@@ -1,0 +1,16 @@
+//! Workers at one desk, each in a thread of its own.
+#![tactic(auto)]
+
+mod answer;
+mod gather;
+mod hire;
+mod opening;
+mod post;
+mod serving;
+mod work;
+
+pub use answer::ServeAnswer;
+pub use serving::serve;
+
+#[cfg(test)]
+mod tests;

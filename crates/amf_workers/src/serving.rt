@@ -1,0 +1,82 @@
+ghost use Rattle.std.specs.Prelude.{◌≡◌, ◌≤◌, ◌^◌, [], List, All, vec_len};
+ghost use Rattle.amf_service.specs.Registry.{Entry};
+ghost use Rattle.amf_gateway.specs.Services.{services_by};
+ghost use Rattle.amf_workers.specs.Together.{Serves, destinations};
+ghost use Rattle.amf_workers.specs.Halls.{ServesHalls};
+
+use crate::answer::ServeAnswer;
+use crate::gather::{gather, give_back};
+use crate::hire::hire;
+use crate::opening::open_desk;
+use crate::work::work_all;
+use amf_desk::{Desk, Pass};
+use amf_io::{Front, Gate, Hall, OpenEnd};
+use amf_service::Registry;
+use std::alloc::Global;
+use std::sync::Wait;
+use std::thread::Threads;
+
+/// A worker for each hall serves it, all at once, and the halls go back to the front. The desk is new and the pass its first one,
+/// and there are at most 64 halls, of which none has served or failed.
+fn serve_halls<R: Threads + Wait + Sync, F: Front, G: Gate>(
+    rt: &R,
+    alloc: Global,
+    desk: Desk,
+    mut first: Pass,
+    front: &mut F,
+    gate: &G,
+    registry: &Registry,
+    halls: Vec<F::Hall>,
+    each: u64,
+) -> ServeAnswer
+where
+    <F::Hall as Hall>::Link: Send,
+    requires first { first ≡ record { desk = desk; destinations = destinations; number = 0; seen = []; budget = 2 ^ 62; splits = 0 } }
+    requires few { vec_len halls ≤ 64 }
+    requires whole { All (λ h. F.Hall.faults h ≡ 0) halls.items }
+    requires fresh { All (λ h. F.Hall.served h ≡ []) halls.items }
+    ensures { let services : List Entry = services_by registry.now.services.entries (λ x. x.items) (λ s. knows (s.vtable, s.value)) (λ s. gives (s.vtable, s.value)) in ServesHalls (record { tells = F.tells; asked = F.asked; to_open = F.to_open; halls = F.halls; faults = F.faults }) (record { tells_links = F.Hall.tells_links; coming = F.Hall.coming; served = F.Hall.served; faults = F.Hall.faults; tells_moments = F.Hall.tells_moments; moments = F.Hall.moments; tells_words = F.Hall.tells_words; words = F.Hall.words }) (record { tells_left = F.Hall.Link.tells_left; left = F.Hall.Link.left; tells_held = F.Hall.Link.tells_held; held = F.Hall.Link.held; read_faults = F.Hall.Link.read_faults; write_faults = F.Hall.Link.write_faults }) services each halls.items front.old front.new result }
+{
+    let mut posts = match hire(alloc, &desk, &mut first, halls) {
+        Ok(posts) => posts,
+        Err(halls) => {
+            give_back(front, halls);
+            return ServeAnswer::Memory;
+        }
+    };
+    work_all(rt, alloc, &desk, registry, gate, posts.as_mut_slice(), each);
+    let ends = gather(&desk, &mut first, front, posts);
+    ServeAnswer::Closed {
+        counts: desk.close(rt, first),
+        starved: ends.starved,
+        faulty: ends.faulty,
+    }
+}
+
+/// Opens a hall for each worker, at most 64, serves up to `each` links of each hall, all halls at once in threads of their own,
+/// and gives the halls back to the front. All links are served at one desk, with the destinations `chat` and `news`. It may
+/// wait for the links.
+pub fn serve<R: Threads + Wait + Sync, F: Front, G: Gate>(
+    rt: &R,
+    alloc: Global,
+    front: &mut F,
+    gate: &G,
+    registry: &Registry,
+    port: u16,
+    workers: u32,
+    each: u64,
+) -> ServeAnswer
+where
+    <F::Hall as Hall>::Link: Send,
+    requires { workers ≤ 64 }
+    ensures { let services : List Entry = services_by registry.now.services.entries (λ x. x.items) (λ s. knows (s.vtable, s.value)) (λ s. gives (s.vtable, s.value)) in Serves (record { tells = F.tells; asked = F.asked; to_open = F.to_open; halls = F.halls; faults = F.faults }) (record { tells_links = F.Hall.tells_links; coming = F.Hall.coming; served = F.Hall.served; faults = F.Hall.faults; tells_moments = F.Hall.tells_moments; moments = F.Hall.moments; tells_words = F.Hall.tells_words; words = F.Hall.words }) (record { tells_left = F.Hall.Link.tells_left; left = F.Hall.Link.left; tells_held = F.Hall.Link.tells_held; held = F.Hall.Link.held; read_faults = F.Hall.Link.read_faults; write_faults = F.Hall.Link.write_faults }) services port workers each front.old front.new result }
+{
+    let Ok((desk, first)) = open_desk(alloc) else {
+        return ServeAnswer::Memory;
+    };
+    match front.open(alloc, port, workers) {
+        Ok(halls) => serve_halls(rt, alloc, desk, first, front, gate, registry, halls, each),
+        Err(OpenEnd::Failed) => ServeAnswer::NotOpened,
+        Err(OpenEnd::Memory) => ServeAnswer::Memory,
+    }
+}
