@@ -183,3 +183,11 @@ reads_seen (Some c) seen words same utf8 h = (utf8, subst (λ (ws : List Text). 
 pub none_seen : (o : Option Task) (seen words : List Text) → seen ≡ words → IfNone o ((t : Task) → Asks seen t → ⊥) → IfNone o (HasReading words → ⊥)
 none_seen (Some c) seen words same h = tt
 none_seen None seen words same h = λ has. h has.0 (subst (λ (ws : List Text). Asks ws has.0) (sym same) has.1.1)
+
+-- ---- what was asked
+
+pub was_asked : (words : List Text) (o : Option Task) (t u : Task) → o ≡ Some t → t ≡ u → IfSome o (AsksFor words) → AsksFor words u
+was_asked words o t u e f h = subst (AsksFor words) f (subst (λ (x : Option Task). IfSome x (AsksFor words)) e h)
+
+pub none_asked : (words : List Text) (o : Option Task) → o ≡ None → IfNone o (HasReading words → ⊥) → HasReading words → ⊥
+none_asked words o e h = subst (λ (x : Option Task). IfNone x (HasReading words → ⊥)) e h

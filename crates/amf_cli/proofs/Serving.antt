@@ -1,6 +1,7 @@
 -- How a run with `serve` ends.
 use Rattle.std.proofs.Common.{◌≡◌, ◌≢◌, ◌⊎◌, inl, inr, ℕ, Bool, true, false, List, [], ◌++◌, Result, Ok, Err, refl, sym, ap, ◌∙◌, subst, arith}
 use Rattle.std.specs.Prelude.{◌≤◌, ⊤}
+use Rattle.std.proofs.lemmas.List.{append-nil}
 use Rattle.amf_io.specs.Outside.{Rose}
 use Rattle.amf_desk.specs.declared.closed.Closed.{Closed}
 use Rattle.amf_service.specs.Registry.{Entry}
@@ -9,6 +10,7 @@ use Rattle.amf_workers.specs.OfFront.{OfFront}
 use Rattle.amf_workers.specs.Together.{CountsFaults, Serves}
 use Rattle.amf_workers.specs.declared.answer.ServeAnswer.{ServeAnswer}
 use Rattle.amf_workers.specs.declared.answer.ServeAnswer.TheVariants as answer
+use Rattle.amf_cli.specs.declared.command.ServeOptions.{ServeOptions}
 use Rattle.amf_cli.specs.declared.run_end.RunEnd.{RunEnd}
 use Rattle.amf_cli.specs.declared.run_end.RunEnd.TheVariants.{Refused, Usage, ReadFault, WriteFault, NoMemory, FrontFault, NoForm}
 use Rattle.amf_cli.specs.Lines.{served_line, status_of}
@@ -34,6 +36,18 @@ writes_concluded before now told held holds line true r faulty t c = tt
 writes_concluded before now told held holds line false (Ok x) true t c = c
 writes_concluded before now told held holds line false (Ok x) false t c = c
 writes_concluded before now told held holds line false (Err e) faulty t c = c
+
+-- the same of an answer and an end that are these
+pub concluded_as : (told : Type 0) (held now : List ℕ) (a : ServeAnswer) (counts : Closed) (starved : Bool) (r : End) (faulty : Bool) (e : End) → a ≡ answer.Closed counts starved faulty → e ≡ first_end starved r faulty → TellsLine told held now (served_line counts) r → EndsServe told held now a e
+concluded_as told held now a counts starved r faulty e is ends t =
+    subst (λ (x : ServeAnswer). EndsServe told held now x e) (sym is) (subst (λ (x : End). EndsServe told held now (answer.Closed counts starved faulty) x) (sym ends) (concluded told held now counts starved r faulty t))
+
+pub writes_as : (before now : ℕ) (told : Type 0) (held holds line : List ℕ) (starved : Bool) (r : End) (faulty : Bool) (e : End) → e ≡ first_end starved r faulty → TellsLine told held holds line r → CountsWrites before now r → CountsWrites before now e
+writes_as before now told held holds line starved r faulty e ends t c = subst (λ (x : End). CountsWrites before now x) (sym ends) (writes_concluded before now told held holds line starved r faulty t c)
+
+-- where the front was not opened nothing is written
+pub not_opened : (told : Type 0) (held : List ℕ) (a : ServeAnswer) → a ≡ answer.NotOpened → EndsServe told held held a (Err FrontFault)
+not_opened told held a is = subst (λ (x : ServeAnswer). EndsServe told held held x (Err FrontFault)) (sym is) (refl, refl, λ t. sym (append-nil held))
 
 -- an end by what serving came to is one of a run with `serve`
 pub ends_serve : (told : Type 0) (held now : List ℕ) (a : ServeAnswer) (r : End) → EndsServe told held now a r → IsServeEnd r
@@ -114,6 +128,10 @@ no_front_counts n (Err WriteFault) no = tt
 no_front_counts n (Err NoMemory) no = tt
 no_front_counts n (Err FrontFault) no = absurd (no refl)
 no_front_counts n (Err (NoForm v l)) no = tt
+
+-- by the options that the words give
+pub served_again : {F H L : Type 0} (front : OfFront F H) (hall : OfHall H L) (link : OfLink L) (services : List Entry) (a b : F) (told : Type 0) (held now : List ℕ) (r : End) (o p : ServeOptions) → o ≡ p → ServesTo (Serves front hall link services o.port o.workers o.each a b) told held now r → ServesTo (Serves front hall link services p.port p.workers p.each a b) told held now r
+served_again front hall link services a b told held now r o p e s = subst (λ (q : ServeOptions). ServesTo (Serves front hall link services q.port q.workers q.each a b) told held now r) e s
 
 -- The statuses.
 
