@@ -207,3 +207,7 @@ memory_is (NoForm v l) h = absurd (omega arith)
 
 pub memory_end : (e : RunEnd) → status_of e ≡ 5 → Err {Unit {0}} {RunEnd} e ≡ Err NoMemory
 memory_end e h = ap (λ (x : RunEnd). Err {Unit {0}} {RunEnd} x) (memory_is e h)
+
+-- the same of a status that is this one
+pub run_again : (Came : ServeAnswer → Type 0) (told : Type 0) (held now : List ℕ) (n m : ℕ) → m ≡ n → ServeRun Came told held now n → ServeRun Came told held now m
+run_again Came told held now n m is r = subst (λ (k : ℕ). ServeRun Came told held now k) (sym is) r
