@@ -92,6 +92,6 @@ run_rows = record {
   file_counted = (2, (0 ∷ 1 ∷ [], first 0 (omega arith) (absent_nil 0) (first 1 (omega arith) (absent_cons 0 [] 1 (λ e. omega arith) (absent_nil 1)) (again 1 1 refl over)), refl), refl);
   lacking_line = refl;
   counted_line = refl;
-  served_line = refl;
+  line_of_serve = refl;
   measured_line = refl;
 }

@@ -103,5 +103,5 @@ pub record RunRows : Type 0 where
   -- the number of the value that lacks a spelling
   pub lacking_line : no_form_line 3 (record { kind = NoForm; node = 12 }) ≡ codes "amf: no form NoForm node 12 value 3\n"
   pub counted_line : count_line 12 ≡ codes "ok nodes 12\n"
-  pub served_line : served_line (record { calls = 4; published = 1; delivered = 12; queued = 0 }) ≡ codes "calls 4 published 1 delivered 12 queued 0\n"
+  pub line_of_serve : served_line (record { calls = 4; published = 1; delivered = 12; queued = 0 }) ≡ codes "calls 4 published 1 delivered 12 queued 0\n"
   pub measured_line : measure_line 3 (0x09 ∷ 0x01 ∷ 0x01 ∷ []) ≡ codes "nodes 3 bytes 3 sum 11\n"

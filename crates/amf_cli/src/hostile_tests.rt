@@ -14,16 +14,20 @@ const CALL: &[u8] = b"\0\0\0\0\0\x01\0\x09echo.echo\0\x02/1\0\0\0\x0A\x0A\0\0\0\
 
 const FILE: &[u8] = b"\0\xBF\0\0\0\x17TCSO\0\x04\0\0\0\0\0\x01t\0\0\0\0\0\x01a\x01\x01\0";
 
-/// Sizes that no input can have are met at its end, and take no memory.
-#[test]
-fn sizes_without_their_bytes(rt: HostRuntime) {
-    let cut = |words: &'static [&'static str], input: &'static [u8], line: &'static [u8]| Case {
+/// Words with an input that is refused.
+fn cut(words: &'static [&'static str], input: &'static [u8], line: &'static [u8]) -> Case {
+    Case {
         words,
         input,
         status: 1,
         output: b"",
         line,
-    };
+    }
+}
+
+/// Sizes that no input can have are met at its end, and take no memory.
+#[test]
+fn sizes_without_their_bytes(rt: HostRuntime) {
     let cases = [
         refused(
             b"\x09\xFF\xFF\xFF\xFF\x01",
