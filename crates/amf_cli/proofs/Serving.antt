@@ -135,6 +135,9 @@ served_again front hall link services a b told held now r o p e s = subst (λ (q
 
 -- The statuses.
 
+abbrev Ended : RunEnd → End
+Ended e = Err e
+
 pub done_served : (Came : ServeAnswer → Type 0) (told : Type 0) (held now : List ℕ) (x : Unit {0}) → ServesTo Came told held now (Ok x) → ServeRun Came told held now 0
 done_served Came told held now x (a, c, fed, well, whole) = record { answer = a; came = c; fed = fed; well = λ z. well; faulty = λ z. absurd (omega arith); whole = λ n. whole; front = λ z. absurd (omega arith) }
 
@@ -175,8 +178,8 @@ front_end (NoForm v l) h = absurd (omega arith)
 pub front_rose : (before now : ℕ) (e : RunEnd) → status_of e ≡ 6 → CountsFront before now (Err e) → Rose before now
 front_rose before now e h c = (subst (λ (x : RunEnd). CountsFront before now (Err x)) (front_end e h) c).1
 
-pub not_6 : (e : RunEnd) (status : ℕ) → status ≡ status_of e → (Err {Unit {0}} {RunEnd} e ≡ Err FrontFault → ⊥) → status ≢ 6
-not_6 e status is no six = no (ap (λ (x : RunEnd). Err {Unit {0}} {RunEnd} x) (front_end e (sym is ∙ six)))
+pub not_6 : (e : RunEnd) (status : ℕ) → status ≡ status_of e → (Ended e ≡ Err FrontFault → ⊥) → status ≢ 6
+not_6 e status is no six = no (ap Ended (front_end e (sym is ∙ six)))
 
 pub never_0 : (e : RunEnd) → status_of e ≡ 0 → ⊥
 never_0 (Refused f) h = absurd (omega arith)
@@ -205,8 +208,8 @@ memory_is NoMemory h = refl
 memory_is FrontFault h = absurd (omega arith)
 memory_is (NoForm v l) h = absurd (omega arith)
 
-pub memory_end : (e : RunEnd) → status_of e ≡ 5 → Err {Unit {0}} {RunEnd} e ≡ Err NoMemory
-memory_end e h = ap (λ (x : RunEnd). Err {Unit {0}} {RunEnd} x) (memory_is e h)
+pub memory_end : (e : RunEnd) → status_of e ≡ 5 → Ended e ≡ Err NoMemory
+memory_end e h = ap Ended (memory_is e h)
 
 -- the same of a status that is this one
 pub run_again : (Came : ServeAnswer → Type 0) (told : Type 0) (held now : List ℕ) (n m : ℕ) → m ≡ n → ServeRun Came told held now n → ServeRun Came told held now m
