@@ -226,6 +226,7 @@ fn serves_with_faults(rt: HostRuntime) -> Result<(), Fail> {
 }
 
 /// Holds calls until others are answered, so that two workers are at work at once. It gives up after 50,000,000 looks.
+#[derive(Drop)]
 struct Turns {
     first: AtomicU64,
     second: AtomicU64,

@@ -38,7 +38,7 @@ pub(crate) struct Answered {
 }
 
 /// What comes of a link with these bytes at a new desk with `chat` and `news`. The dice give 0, and the one service is `echo`.
-pub(crate) fn answered<R: Wait + Abort>(
+pub(crate) fn answer_of<R: Wait + Abort>(
     rt: &R,
     alloc: Global,
     bytes: &[u8],

@@ -1,4 +1,4 @@
-use crate::answered::{PLAINLY, Ways, answered, count_of, has_in_order};
+use crate::answered::{PLAINLY, Ways, answer_of, count_of, has_in_order};
 use crate::requests::{
     ACKNOWLEDGE, ASYNC, COMMAND, FRESH, HEADERS, NAMES, OPERATION, PING, TIMES, flex_request,
     flex_response, joined, request,
@@ -145,7 +145,7 @@ fn the_first_requests_of_a_client(rt: HostRuntime) -> Result<(), Fail> {
     let asked = first_requests(alloc)?;
     let wanted = first_answers(alloc)?;
     for pieces in [(usize::MAX, 0), (1, 0), (100, 0)] {
-        let got = answered(&rt, alloc, &asked, Ways { pieces, ..PLAINLY })?;
+        let got = answer_of(&rt, alloc, &asked, Ways { pieces, ..PLAINLY })?;
         assert_eq!(rt; got.end, LinkEnd::Closed);
         assert!(rt; got.written.as_slice() == wanted.as_slice());
         let closed = Closed {
@@ -250,7 +250,7 @@ fn idle_clients_end(rt: HostRuntime) -> Result<(), Fail> {
         ],
         ..PLAINLY
     };
-    let got = answered(&rt, alloc, &all_asked(alloc, &asks)?, ways)?;
+    let got = answer_of(&rt, alloc, &all_asked(alloc, &asks)?, ways)?;
     assert_eq!(rt; got.end, LinkEnd::Closed);
     let wanted: [&[u8]; 11] = [
         b"/0/onResult",
@@ -293,7 +293,7 @@ fn numbered_polls(rt: HostRuntime) -> Result<(), Fail> {
         Ask::PollNumbered(b'1', b"\x0FAMFPoll\x06\x030\x01"),
         Ask::Poll(b'1'),
     ];
-    let got = answered(&rt, alloc, &all_asked(alloc, &asks)?, PLAINLY)?;
+    let got = answer_of(&rt, alloc, &all_asked(alloc, &asks)?, PLAINLY)?;
     assert_eq!(rt; got.end, LinkEnd::Closed);
     let wanted: [&[u8]; 16] = [
         b"/0/onResult",
@@ -351,7 +351,7 @@ fn pings(alloc: Global, count: u16) -> Result<Vec<u8>, AllocError> {
 fn too_many_clients(rt: HostRuntime) -> Result<(), Fail> {
     let alloc = rt.alloc();
     let asked = request(alloc, &pings(alloc, 1_025)?)?;
-    let got = answered(&rt, alloc, &asked, PLAINLY)?;
+    let got = answer_of(&rt, alloc, &asked, PLAINLY)?;
     assert_eq!(rt; got.end, LinkEnd::Closed);
     assert_eq!(rt; got.closed.calls, 1_025);
     assert_eq!(rt; count_of(&got.written, b"/1/onResult"), 1_024);

@@ -1,4 +1,4 @@
-use crate::answered::{PLAINLY, Ways, answered, served};
+use crate::answered::{PLAINLY, Ways, answer_of, served};
 use crate::requests::{joined, request, response};
 use amf_desk::Closed;
 use amf_gateway::LinkEnd;
@@ -37,7 +37,7 @@ const NO_CALLS: Closed = Closed {
 fn calls_of_services(rt: HostRuntime) -> Result<(), Fail> {
     let alloc = rt.alloc();
     for (asked, wanted) in [(ECHO, ECHOED), (OTHER, NO_OPERATION), (NOBODY, NO_SERVICE)] {
-        let got = answered(&rt, alloc, &request(alloc, asked)?, PLAINLY)?;
+        let got = answer_of(&rt, alloc, &request(alloc, asked)?, PLAINLY)?;
         assert_eq!(rt; got.end, LinkEnd::Closed);
         assert!(rt; got.written.as_slice() == response(alloc, wanted)?.as_slice());
         assert_eq!(rt; got.closed, NO_CALLS);
@@ -58,7 +58,7 @@ fn two_calls_in_any_pieces(rt: HostRuntime) -> Result<(), Fail> {
             pieces: (usize::MAX, cut),
             ..PLAINLY
         };
-        let got = answered(&rt, alloc, &two, ways)?;
+        let got = answer_of(&rt, alloc, &two, ways)?;
         assert_eq!(rt; got.end, LinkEnd::Closed, "cut at {cut}");
         assert!(rt; got.written.as_slice() == both.as_slice(), "cut at {cut}");
     }
@@ -71,7 +71,7 @@ fn a_request_that_is_cut_off(rt: HostRuntime) -> Result<(), Fail> {
     let alloc = rt.alloc();
     let whole = request(alloc, ECHO)?;
     for cut in 0..whole.len() {
-        let got = answered(&rt, alloc, &whole[..cut], PLAINLY)?;
+        let got = answer_of(&rt, alloc, &whole[..cut], PLAINLY)?;
         let want = if cut == 0 {
             LinkEnd::Closed
         } else {
@@ -98,7 +98,7 @@ fn faulty<R: Wait + Abort>(
         failing_writes,
         moments: &[],
     };
-    let got = answered(rt, alloc, &request(alloc, ECHO)?, ways)?;
+    let got = answer_of(rt, alloc, &request(alloc, ECHO)?, ways)?;
     let wanted = response(alloc, ECHOED)?;
     let is_front = wanted.starts_with(got.written.as_slice());
     Ok((got.end, is_front))

@@ -1,4 +1,4 @@
-use crate::answered::{PLAINLY, answered};
+use crate::answered::{PLAINLY, answer_of};
 use crate::requests::{joined, request};
 use amf_gateway::LinkEnd;
 use std::alloc::{AllocError, Global};
@@ -80,11 +80,11 @@ fn heads_that_are_refused(rt: HostRuntime) -> Result<(), Fail> {
         ),
         ([POST, HOST, TYPE, EMPTY], 400, b"400 Bad Request"),
     ] {
-        let got = answered(&rt, alloc, &head(alloc, &lines)?, PLAINLY)?;
+        let got = answer_of(&rt, alloc, &head(alloc, &lines)?, PLAINLY)?;
         assert_eq!(rt; got.end, LinkEnd::Refused(status));
         assert!(rt; got.written.as_slice() == refusal(alloc, phrase)?.as_slice());
     }
-    let got = answered(
+    let got = answer_of(
         &rt,
         alloc,
         &head(alloc, &[b"GET /amf HTTP/1.1".as_slice(), HOST, TYPE, EMPTY])?,
@@ -101,7 +101,7 @@ fn a_head_without_an_end(rt: HostRuntime) -> Result<(), Fail> {
     let alloc = rt.alloc();
     let mut endless = Vec::new(alloc);
     endless.resize(8192, b'A')?;
-    let got = answered(&rt, alloc, &endless, PLAINLY)?;
+    let got = answer_of(&rt, alloc, &endless, PLAINLY)?;
     assert_eq!(rt; got.end, LinkEnd::Refused(431));
     let wanted = refusal(alloc, b"431 Request Header Fields Too Large")?;
     assert!(rt; got.written.as_slice() == wanted.as_slice());
@@ -128,7 +128,7 @@ fn bodies_that_are_refused(rt: HostRuntime) -> Result<(), Fail> {
         b"\0\0\0\0\0\0\0",
         long_response.as_slice(),
     ] {
-        let got = answered(&rt, alloc, &request(alloc, packet)?, PLAINLY)?;
+        let got = answer_of(&rt, alloc, &request(alloc, packet)?, PLAINLY)?;
         assert_eq!(rt; got.end, LinkEnd::Refused(400));
         assert_eq!(rt; got.closed.calls, 0);
         assert!(rt; got.written.as_slice() == refusal(alloc, b"400 Bad Request")?.as_slice());
