@@ -10,18 +10,22 @@ use Rattle.amf_words.specs.Words.{Text, HasOptions, is_name, value_of}
 use Rattle.amf_words.proofs.OneValue.{one_value}
 use Rattle.amf_cli.specs.declared.command.Command.{Command}
 use Rattle.amf_cli.specs.declared.command.Command.TheVariants as command
+use Rattle.amf_cli.specs.declared.command.ServeOptions.{ServeOptions}
+use Rattle.amf_cli.specs.declared.command.Task.{Task}
+use Rattle.amf_cli.specs.declared.command.Task.TheVariants as task
 use Rattle.amf_cli.specs.declared.format.Format.{Format}
 use Rattle.amf_cli.specs.declared.format.Format.TheVariants.{Amf3}
 use Rattle.amf_cli.specs.declared.kind.Kind.{Kind}
 use Rattle.amf_cli.specs.declared.kind.Kind.TheVariants as kind
-use Rattle.amf_cli.specs.Commands.{Asks, HasReading, Reads, canon_from, canon_to, command_for, format_or, gen_of, goes_to, is_numeral, name_of, number_at, options_for}
-use Rattle.amf_cli.specs.Askable.{IsAskable}
+use Rattle.amf_cli.specs.Commands.{Asks, AsksFor, HasReading, Reads, ReadsServe, IsServing, canon_from, canon_to, format_or, gen_of, goes_to, is_numeral, name_of, number_at, options_for, serve_of, task_for}
+use Rattle.amf_cli.specs.Askable.{IsAskable, IsPossible, IsServable}
 
 named : Text → Kind
 named t = if bytes_eq t (codes "canon") then kind.Canon
     else (if bytes_eq t (codes "check") then kind.Check
     else (if bytes_eq t (codes "show") then kind.Show
-    else (if bytes_eq t (codes "same") then kind.Same else kind.Gen)))
+    else (if bytes_eq t (codes "same") then kind.Same
+    else (if bytes_eq t (codes "gen") then kind.Gen else kind.Serve))))
 
 named_is : (k : Kind) → named (name_of k) ≡ k
 unfolding named
@@ -30,6 +34,7 @@ named_is kind.Check = refl
 named_is kind.Show = refl
 named_is kind.Same = refl
 named_is kind.Gen = refl
+named_is kind.Serve = refl
 
 good : (k : Kind) → list_all is_name (options_for k) ≡ true
 good kind.Canon = refl
@@ -37,6 +42,7 @@ good kind.Check = refl
 good kind.Show = refl
 good kind.Same = refl
 good kind.Gen = refl
+good kind.Serve = refl
 
 head_or : List Text → Text
 head_or [] = []
@@ -54,15 +60,15 @@ same_tail : (a b : Text) (ws vs : List Text) → a ∷ ws ≡ b ∷ vs → ws �
 unfolding tail_of
 same_tail a b ws vs e = ap tail_of e
 
--- words ask for one command at most
-pub one_asked : (words : List Text) (c d : Command) → Asks words c → Asks words d → c ≡ d
-one_asked words c d (k, rest, g, is, has, gives) (l, rest2, h, is2, has2, gives2) =
+-- words ask for one thing at most
+pub one_asked : (words : List Text) (t u : Task) → Asks words t → Asks words u → t ≡ u
+one_asked words t u (k, rest, g, is, has, gives) (l, rest2, h, is2, has2, gives2) =
     let both : name_of k ∷ rest ≡ name_of l ∷ rest2 = sym is ∙ is2 in
     let kinds : k ≡ l = sym (named_is k) ∙ ap named (same_head _ _ _ _ both) ∙ named_is l in
     let has3 : HasOptions (options_for k) rest h = subst (λ (ws : List Text). HasOptions (options_for k) ws h) (sym (same_tail _ _ _ _ both)) (subst (λ (m : Kind). HasOptions (options_for m) rest2 h) (sym kinds) has2) in
     let values : value_of g ≡ value_of h = λ i x. one_value (options_for k) rest g h (good k) has has3 x i in
-    let some : Some c ≡ Some d = sym gives ∙ ap₂ command_for kinds values ∙ gives2 in
-    ap (λ o. unwrap_or o c) some
+    let some : Some t ≡ Some u = sym gives ∙ ap₂ task_for kinds values ∙ gives2 in
+    ap (λ o. unwrap_or o t) some
 
 -- a graph is asked for by a size that there is
 
@@ -100,18 +106,64 @@ mapped_sized : (make : Format → Command) (all : (f : Format) → IsAskable (ma
 mapped_sized make all None c e = cc
 mapped_sized make all (Some f) c e = subst IsAskable (same_Some (make f) c e) (all f)
 
-command_sized : (k : Kind) (value : Text → Option Text) (c : Command) → command_for k value ≡ Some c → IsAskable c
-command_sized kind.Canon value c e = canon_sized (format_or Amf3 (value (codes "from"))) (value (codes "to")) c e
-command_sized kind.Check value c e = mapped_sized command.Check (λ f. tt) (format_or Amf3 (value (codes "from"))) c e
-command_sized kind.Show value c e = mapped_sized command.Show (λ f. tt) (format_or Amf3 (value (codes "from"))) c e
-command_sized kind.Same value c e = subst IsAskable (same_Some command.Same c e) tt
-command_sized kind.Gen value c e = gen_sized (number_at 0 4294967295 (value (codes "seed"))) (number_at 1 1000000 (value (codes "size"))) c (number_within 1 1000000 (value (codes "size"))) e
+serve_sized : (port workers each : Option ℕ) (o : ServeOptions) → ((n : ℕ) → workers ≡ Some n → (1 ≤ n) × (n ≤ 64)) → serve_of port workers each ≡ Some o → IsServable o
+serve_sized None workers each o h e = cc
+serve_sized (Some p) None each o h e = cc
+serve_sized (Some p) (Some w) None o h e = cc
+serve_sized (Some p) (Some w) (Some n) o h e = subst IsServable (same_Some (record { port = p; workers = w; each = n }) o e) (h w refl)
 
-pub read_sized : (words : List Text) (c : Command) → Reads words c → IsAskable c
-read_sized words c (utf8, (k, rest, given, is, has, gives)) = command_sized k (value_of given) c gives
+output_possible : (o : Option Command) (all : (c : Command) → o ≡ Some c → IsAskable c) (t : Task) → option_map task.Output o ≡ Some t → IsPossible t
+output_possible None all t e = cc
+output_possible (Some c) all t e = subst IsPossible (same_Some (task.Output c) t e) (all c refl)
+
+serve_possible : (o : Option ServeOptions) (all : (s : ServeOptions) → o ≡ Some s → IsServable s) (t : Task) → option_map task.Serve o ≡ Some t → IsPossible t
+serve_possible None all t e = cc
+serve_possible (Some s) all t e = subst IsPossible (same_Some (task.Serve s) t e) (all s refl)
+
+task_possible : (k : Kind) (value : Text → Option Text) (t : Task) → task_for k value ≡ Some t → IsPossible t
+task_possible kind.Canon value t e = output_possible (canon_from (format_or Amf3 (value (codes "from"))) (value (codes "to"))) (canon_sized (format_or Amf3 (value (codes "from"))) (value (codes "to"))) t e
+task_possible kind.Check value t e = output_possible (option_map command.Check (format_or Amf3 (value (codes "from")))) (mapped_sized command.Check (λ f. tt) (format_or Amf3 (value (codes "from")))) t e
+task_possible kind.Show value t e = output_possible (option_map command.Show (format_or Amf3 (value (codes "from")))) (mapped_sized command.Show (λ f. tt) (format_or Amf3 (value (codes "from")))) t e
+task_possible kind.Same value t e = subst IsPossible (same_Some (task.Output command.Same) t e) tt
+task_possible kind.Gen value t e = output_possible (gen_of (number_at 0 4294967295 (value (codes "seed"))) (number_at 1 1000000 (value (codes "size")))) (λ c. gen_sized (number_at 0 4294967295 (value (codes "seed"))) (number_at 1 1000000 (value (codes "size"))) c (number_within 1 1000000 (value (codes "size")))) t e
+task_possible kind.Serve value t e = serve_possible (serve_of (number_at 0 65535 (value (codes "port"))) (number_at 1 64 (value (codes "workers"))) (number_at 1 1000000 (value (codes "each")))) (λ s. serve_sized (number_at 0 65535 (value (codes "port"))) (number_at 1 64 (value (codes "workers"))) (number_at 1 1000000 (value (codes "each"))) s (number_within 1 64 (value (codes "workers")))) t e
+
+pub asked_possible : (words : List Text) (t : Task) → AsksFor words t → IsPossible t
+asked_possible words t (utf8, (k, rest, given, is, has, gives)) = task_possible k (value_of given) t gives
+
+pub one_task : (words : List Text) (t u : Task) → AsksFor words t → AsksFor words u → t ≡ u
+one_task words t u a b = one_asked words t u a.1 b.1
+
+command_or : Command → Task → Command
+command_or c (task.Output d) = d
+command_or c (task.Serve o) = c
+
+options_or : ServeOptions → Task → ServeOptions
+options_or o (task.Output d) = o
+options_or o (task.Serve p) = p
 
 pub one_reading : (words : List Text) (c d : Command) → Reads words c → Reads words d → c ≡ d
-one_reading words c d a b = one_asked words c d a.1 b.1
+unfolding command_or
+one_reading words c d a b = ap (command_or c) (one_task words (task.Output c) (task.Output d) a b)
+
+pub one_serving : (words : List Text) (o p : ServeOptions) → ReadsServe words o → ReadsServe words p → o ≡ p
+unfolding options_or
+one_serving words o p a b = ap (options_or o) (one_task words (task.Serve o) (task.Serve p) a b)
+
+-- words that ask for an output ask for no links to be served
+
+writes_output : Task → Bool
+writes_output (task.Output c) = true
+writes_output (task.Serve o) = false
+
+pub not_both : (words : List Text) (c : Command) (o : ServeOptions) → Reads words c → ReadsServe words o → ⊥
+unfolding writes_output
+not_both words c o a b =
+    let e : true ≡ false = ap writes_output (one_task words (task.Output c) (task.Serve o) a b) in
+    cc
+
+pub not_serving : (words : List Text) (c : Command) → Reads words c → IsServing words → ⊥
+not_serving words c a b = not_both words c b.0 a b.1
 
 -- ---- words that are UTF-8
 
@@ -124,10 +176,18 @@ all_at [] i d lt h = absurd (omega arith)
 all_at (w ∷ ws) zero d lt h = h.0
 all_at (w ∷ ws) (suc i) d lt h = all_at ws i d (omega arith) h.1
 
-pub reads_seen : (o : Option Command) (seen words : List Text) → seen ≡ words → AllByRecursion IsUtf8 words → IfSome o (λ c. Asks seen c) → IfSome o (Reads words)
+pub reads_seen : (o : Option Task) (seen words : List Text) → seen ≡ words → AllByRecursion IsUtf8 words → IfSome o (λ t. Asks seen t) → IfSome o (AsksFor words)
 reads_seen None seen words same utf8 h = tt
 reads_seen (Some c) seen words same utf8 h = (utf8, subst (λ (ws : List Text). Asks ws c) same h)
 
-pub none_seen : (o : Option Command) (seen words : List Text) → seen ≡ words → IfNone o ((c : Command) → Asks seen c → ⊥) → IfNone o (HasReading words → ⊥)
+pub none_seen : (o : Option Task) (seen words : List Text) → seen ≡ words → IfNone o ((t : Task) → Asks seen t → ⊥) → IfNone o (HasReading words → ⊥)
 none_seen (Some c) seen words same h = tt
 none_seen None seen words same h = λ has. h has.0 (subst (λ (ws : List Text). Asks ws has.0) (sym same) has.1.1)
+
+-- ---- what was asked
+
+pub was_asked : (words : List Text) (o : Option Task) (t u : Task) → o ≡ Some t → t ≡ u → IfSome o (AsksFor words) → AsksFor words u
+was_asked words o t u e f h = subst (AsksFor words) f (subst (λ (x : Option Task). IfSome x (AsksFor words)) e h)
+
+pub none_asked : (words : List Text) (o : Option Task) → o ≡ None → IfNone o (HasReading words → ⊥) → HasReading words → ⊥
+none_asked words o e h = subst (λ (x : Option Task). IfNone x (HasReading words → ⊥)) e h

@@ -326,6 +326,7 @@ end_goes_on i L P Q input left run.ReadFault h = h
 end_goes_on i L P Q input left run.Usage h = h
 end_goes_on i L P Q input left run.WriteFault h = h
 end_goes_on i L P Q input left run.NoMemory h = tt
+end_goes_on i L P Q input left run.FrontFault h = h
 end_goes_on i L P Q input left (run.NoForm v l) h = absurd h.0
 
 -- what was read is so as a content

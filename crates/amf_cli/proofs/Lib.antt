@@ -7,3 +7,4 @@ mod Inputs
 mod Statuses
 mod MadeAgain
 mod RunRows
+mod Serving

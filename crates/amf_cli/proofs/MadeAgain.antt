@@ -67,6 +67,7 @@ no_other_end Q g bytes rest run.Usage s w r c = absurd r
 no_other_end Q g bytes rest run.ReadFault s w r c = absurd (omega (arith, c.1))
 no_other_end Q g bytes rest run.WriteFault s w r c = absurd r
 no_other_end Q g bytes rest run.NoMemory s w r c = refl
+no_other_end Q g bytes rest run.FrontFault s w r c = absurd r
 no_other_end Q g bytes rest (run.NoForm v l) s w r c = absurd r.0
 
 -- and give the graph back

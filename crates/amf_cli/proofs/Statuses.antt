@@ -5,7 +5,7 @@ use Rattle.amf_cli.specs.Input.{input_of, IsAcceptedAs, IsRefusedAs}
 use Rattle.amf_graph.specs.declared.lack.Lack.{Lack}
 use Rattle.amf_cli.specs.declared.command.Command.{Command}
 use Rattle.amf_cli.specs.declared.run_end.RunEnd.{RunEnd}
-use Rattle.amf_cli.specs.declared.run_end.RunEnd.TheVariants.{Refused, Usage, ReadFault, WriteFault, NoMemory, NoForm}
+use Rattle.amf_cli.specs.declared.run_end.RunEnd.TheVariants.{Refused, Usage, ReadFault, WriteFault, NoMemory, FrontFault, NoForm}
 use Rattle.amf_cli.specs.Lines.{status_of, line_of}
 use Rattle.amf_cli.specs.Run.{TakesInput, IsReading, CountsReads, CountsWrites, Makes, Lacks, RunsTo, WritesAll, WritesSome, IsHidden, IsRefusedWith, HasNoForm, Reports}
 use Rattle.amf_cli.proofs.Spelled.{once, made_not_refused, lacking_not_refused, made_not_lacking, lacks_ever}
@@ -20,6 +20,7 @@ refused_says c Usage input rest told seen held now before after h r l = absurd (
 refused_says c ReadFault input rest told seen held now before after h r l = absurd (omega arith)
 refused_says c WriteFault input rest told seen held now before after h r l = absurd (omega arith)
 refused_says c NoMemory input rest told seen held now before after h r l = absurd (omega arith)
+refused_says c FrontFault input rest told seen held now before after h r l = absurd (omega arith)
 refused_says c (NoForm v k) input rest told seen held now before after h r l = absurd (omega arith)
 
 pub hidden_says : (c : Command) (e : RunEnd) (input rest : List ℕ) (told : Type 0) (held now : List ℕ) → status_of e ≡ 3 → RunsTo c input rest told held now (Done e) → IsHidden (input_of c) input rest
@@ -28,6 +29,7 @@ hidden_says c Usage input rest told held now h r = absurd (omega arith)
 hidden_says c ReadFault input rest told held now h r = r
 hidden_says c WriteFault input rest told held now h r = absurd (omega arith)
 hidden_says c NoMemory input rest told held now h r = absurd (omega arith)
+hidden_says c FrontFault input rest told held now h r = absurd (omega arith)
 hidden_says c (NoForm v k) input rest told held now h r = absurd (omega arith)
 
 pub front_says : (c : Command) (e : RunEnd) (input rest : List ℕ) (told : Type 0) (held now : List ℕ) → status_of e ≡ 4 → RunsTo c input rest told held now (Done e) → WritesSome c input rest told held now
@@ -36,6 +38,7 @@ front_says c Usage input rest told held now h r = absurd (omega arith)
 front_says c ReadFault input rest told held now h r = absurd (omega arith)
 front_says c WriteFault input rest told held now h r = r
 front_says c NoMemory input rest told held now h r = absurd (omega arith)
+front_says c FrontFault input rest told held now h r = absurd (omega arith)
 front_says c (NoForm v k) input rest told held now h r = absurd (omega arith)
 
 pub accepted_says : (c : Command) (e : RunEnd) (input rest : List ℕ) (told : Type 0) (held now : List ℕ) → (Done e ≡ Err Usage → ⊥) → RunsTo c input rest told held now (Done e) → IsAcceptedAs (input_of c) input
@@ -45,6 +48,7 @@ accepted_says c Usage input rest told held now u r a = absurd (u refl)
 accepted_says c ReadFault input rest told held now u r a = inr (inl refl)
 accepted_says c WriteFault input rest told held now u r a = inr (inr (inl refl))
 accepted_says c NoMemory input rest told held now u r a = inr (inr (inr (inl refl)))
+accepted_says c FrontFault input rest told held now u r a = absurd r
 accepted_says c (NoForm v l) input rest told held now u r a = inr (inr (inr (inr refl)))
 
 pub not_accepted_says : (c : Command) (e : RunEnd) (input rest : List ℕ) (told : Type 0) (held now : List ℕ) → (Done e ≡ Err Usage → ⊥) → RunsTo c input rest told held now (Done e) → (reason : Reason) (at : ℕ) → IsRefusedAs (input_of c) input reason at
@@ -54,6 +58,7 @@ not_accepted_says c Usage input rest told held now u r reason at q = absurd (u r
 not_accepted_says c ReadFault input rest told held now u r reason at q = inr (inl refl)
 not_accepted_says c WriteFault input rest told held now u r reason at q = absurd (made_not_refused c input r.bytes reason at r.made q)
 not_accepted_says c NoMemory input rest told held now u r reason at q = inr (inr refl)
+not_accepted_says c FrontFault input rest told held now u r reason at q = absurd r
 not_accepted_says c (NoForm v l) input rest told held now u r reason at q = absurd (lacking_not_refused c input v l reason at r.0 q)
 
 pub done_not_refused : (c : Command) (input rest : List ℕ) (told : Type 0) (held now : List ℕ) → WritesAll c input rest told held now → (reason : Reason) (at : ℕ) → IsRefusedAs (input_of c) input reason at → ⊥
@@ -66,6 +71,7 @@ formed_says c Usage input rest told held now bytes u r m = absurd (u refl)
 formed_says c ReadFault input rest told held now bytes u r m = inr (inl refl)
 formed_says c WriteFault input rest told held now bytes u r m = inr (inr (inl refl))
 formed_says c NoMemory input rest told held now bytes u r m = inr (inr (inr refl))
+formed_says c FrontFault input rest told held now bytes u r m = absurd r
 formed_says c (NoForm v l) input rest told held now bytes u r m = absurd (made_not_lacking c input bytes v l m r.0)
 
 pub lacking_says : (c : Command) (e : RunEnd) (input rest : List ℕ) (told : Type 0) (held now : List ℕ) (n : ℕ) (l : Lack) → (Done e ≡ Err Usage → ⊥) → RunsTo c input rest told held now (Done e) → Lacks c input n l
@@ -75,6 +81,7 @@ lacking_says c Usage input rest told held now n l u r k = absurd (u refl)
 lacking_says c ReadFault input rest told held now n l u r k = inl refl
 lacking_says c WriteFault input rest told held now n l u r k = absurd (made_not_lacking c input r.bytes n l r.made k)
 lacking_says c NoMemory input rest told held now n l u r k = inr (inl refl)
+lacking_says c FrontFault input rest told held now n l u r k = absurd r
 lacking_says c (NoForm v j) input rest told held now n l u r k = inr (inr refl)
 
 pub no_form_says : (c : Command) (e : RunEnd) (input rest : List ℕ) (told seen : Type 0) (held now before after : List ℕ) → status_of e ≡ 7 → RunsTo c input rest told held now (Done e) → (seen → after ≡ before ++ line_of e) → HasNoForm c input rest seen before after
@@ -84,6 +91,7 @@ no_form_says c Usage input rest told seen held now before after h r l = absurd (
 no_form_says c ReadFault input rest told seen held now before after h r l = absurd (omega arith)
 no_form_says c WriteFault input rest told seen held now before after h r l = absurd (omega arith)
 no_form_says c NoMemory input rest told seen held now before after h r l = absurd (omega arith)
+no_form_says c FrontFault input rest told seen held now before after h r l = absurd (omega arith)
 no_form_says c (NoForm v k) input rest told seen held now before after h r l = record { number = v; lack = k; lacking = r.0; every = lacks_ever c input v k r.0; all_read = r.1; line = l }
 
 pub line_says : (e : RunEnd) (held now : List ℕ) → now ≡ held ++ line_of e → Reports (status_of e) held now
@@ -92,6 +100,7 @@ line_says Usage held now h = (Usage, refl, h)
 line_says ReadFault held now h = (ReadFault, refl, h)
 line_says WriteFault held now h = (WriteFault, refl, h)
 line_says NoMemory held now h = (NoMemory, refl, h)
+line_says FrontFault held now h = (FrontFault, refl, h)
 line_says (NoForm v l) held now h = (NoForm v l, refl, h)
 
 pub usage_status : (e : RunEnd) → Done e ≡ Err Usage → status_of e ≡ 2
@@ -100,6 +109,7 @@ usage_status Usage h = refl
 usage_status ReadFault h = absurd cc
 usage_status WriteFault h = absurd cc
 usage_status NoMemory h = absurd cc
+usage_status FrontFault h = absurd cc
 usage_status (NoForm v l) h = absurd cc
 
 pub form_status : (e : RunEnd) → status_of e ≡ 7 → (v : ℕ) × (l : Lack) × (Done e ≡ Err (NoForm v l))
@@ -108,6 +118,7 @@ form_status Usage h = absurd (omega arith)
 form_status ReadFault h = absurd (omega arith)
 form_status WriteFault h = absurd (omega arith)
 form_status NoMemory h = absurd (omega arith)
+form_status FrontFault h = absurd (omega arith)
 form_status (NoForm v l) h = (v, l, refl)
 
 -- without a fault the counts stay
@@ -118,15 +129,17 @@ reads_steady Usage before now c read = c
 reads_steady ReadFault before now c read = absurd (read refl)
 reads_steady WriteFault before now c read = c
 reads_steady NoMemory before now c read = c
+reads_steady FrontFault before now c read = c
 reads_steady (NoForm v l) before now c read = c
 
-pub writes_steady : (e : RunEnd) (before now : ℕ) → CountsWrites before now (Done e) → status_of e ≢ 4 → now ≡ before
-writes_steady (Refused f) before now c write = c
-writes_steady Usage before now c write = c
-writes_steady ReadFault before now c write = c
-writes_steady WriteFault before now c write = absurd (write refl)
-writes_steady NoMemory before now c write = c
-writes_steady (NoForm v l) before now c write = c
+pub writes_steady : (e : RunEnd) (before now : ℕ) → CountsWrites before now (Done e) → status_of e ≢ 4 → status_of e ≢ 5 → now ≡ before
+writes_steady (Refused f) before now c write memory = c
+writes_steady Usage before now c write memory = c
+writes_steady ReadFault before now c write memory = c
+writes_steady WriteFault before now c write memory = absurd (write refl)
+writes_steady NoMemory before now c write memory = absurd (memory refl)
+writes_steady FrontFault before now c write memory = c
+writes_steady (NoForm v l) before now c write memory = c
 
 pub memory_status : (e : RunEnd) → Done e ≡ Err NoMemory → status_of e ≡ 5
 memory_status (Refused f) h = absurd cc
@@ -134,6 +147,7 @@ memory_status Usage h = absurd cc
 memory_status ReadFault h = absurd cc
 memory_status WriteFault h = absurd cc
 memory_status NoMemory h = refl
+memory_status FrontFault h = absurd cc
 memory_status (NoForm v l) h = absurd cc
 
 pub reading_says : (c : Command) (e : RunEnd) → (status_of e ≡ 1) ⊎ (status_of e ≡ 3) → IsReading c (Done e) → TakesInput c
@@ -142,6 +156,7 @@ reading_says c Usage h r = elim h [ inl e ↦ absurd (omega (arith, e)) | inr e 
 reading_says c ReadFault h r = r
 reading_says c WriteFault h r = elim h [ inl e ↦ absurd (omega (arith, e)) | inr e ↦ absurd (omega (arith, e)) ]
 reading_says c NoMemory h r = elim h [ inl e ↦ absurd (omega (arith, e)) | inr e ↦ absurd (omega (arith, e)) ]
+reading_says c FrontFault h r = elim h [ inl e ↦ absurd (omega (arith, e)) | inr e ↦ absurd (omega (arith, e)) ]
 reading_says c (NoForm v l) h r = elim h [ inl e ↦ absurd (omega (arith, e)) | inr e ↦ absurd (omega (arith, e)) ]
 
 pub usage_end : (e : RunEnd) → status_of e ≡ 2 → Done e ≡ Err Usage
@@ -150,4 +165,5 @@ usage_end Usage h = refl
 usage_end ReadFault h = absurd (omega arith)
 usage_end WriteFault h = absurd (omega arith)
 usage_end NoMemory h = absurd (omega arith)
+usage_end FrontFault h = absurd (omega arith)
 usage_end (NoForm v l) h = absurd (omega arith)

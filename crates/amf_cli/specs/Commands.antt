@@ -6,6 +6,9 @@ use Rattle.std.specs.Str.Parse.{digits_value}
 use Rattle.amf_words.specs.Words.{Text, Given, HasOptions, value_of}
 use Rattle.amf_cli.specs.declared.command.Command.{Command}
 use Rattle.amf_cli.specs.declared.command.Command.TheVariants as command
+use Rattle.amf_cli.specs.declared.command.ServeOptions.{ServeOptions}
+use Rattle.amf_cli.specs.declared.command.Task.{Task}
+use Rattle.amf_cli.specs.declared.command.Task.TheVariants as task
 use Rattle.amf_cli.specs.declared.format.Format.{Format}
 use Rattle.amf_cli.specs.declared.format.Format.TheVariants.{Amf3, Amf0, Packet, Sol}
 use Rattle.amf_cli.specs.declared.kind.Kind.{Kind}
@@ -17,6 +20,7 @@ name_of kind.Check = codes "check"
 name_of kind.Show = codes "show"
 name_of kind.Same = codes "same"
 name_of kind.Gen = codes "gen"
+name_of kind.Serve = codes "serve"
 
 abbrev pub options_for : Kind → List Text
 options_for kind.Canon = codes "from" ∷ codes "to" ∷ []
@@ -24,6 +28,7 @@ options_for kind.Check = codes "from" ∷ []
 options_for kind.Show = codes "from" ∷ []
 options_for kind.Same = []
 options_for kind.Gen = codes "seed" ∷ codes "size" ∷ []
+options_for kind.Serve = codes "port" ∷ codes "workers" ∷ codes "each" ∷ []
 
 -- What a value says.
 
@@ -50,7 +55,7 @@ number_named least most text =
 abbrev pub number_at : ℕ → ℕ → Option Text → Option ℕ
 number_at least most = option_and_then (number_named least most)
 
--- What the values make of a command.
+-- What the values ask for.
 
 -- a value goes to either format of values, a packet to a packet alone, and a file to a file alone
 abbrev pub goes_to : Format → Format → Bool
@@ -76,21 +81,38 @@ abbrev pub gen_of : Option ℕ → Option ℕ → Option Command
 gen_of (Some seed) (Some size) = Some (command.Gen seed size)
 gen_of seed size = None
 
--- what the values of its options make of a command
-abbrev pub command_for : Kind → (Text → Option Text) → Option Command
-command_for kind.Canon value = canon_from (format_or Amf3 (value (codes "from"))) (value (codes "to"))
-command_for kind.Check value = option_map command.Check (format_or Amf3 (value (codes "from")))
-command_for kind.Show value = option_map command.Show (format_or Amf3 (value (codes "from")))
-command_for kind.Same value = Some command.Same
-command_for kind.Gen value = gen_of (number_at 0 4294967295 (value (codes "seed"))) (number_at 1 1000000 (value (codes "size")))
+-- all three numbers are given
+abbrev pub serve_of : Option ℕ → Option ℕ → Option ℕ → Option ServeOptions
+serve_of (Some port) (Some workers) (Some each) = Some (record { port = port; workers = workers; each = each })
+serve_of port workers each = None
 
--- the words ask for this command: its name comes first, and the rest gives it options with these values
-abbrev pub Asks : List Text → Command → Type 0
-Asks words c = (k : Kind) × (rest : List Text) × (given : Given) × (words ≡ name_of k ∷ rest) × HasOptions (options_for k) rest given × (command_for k (value_of given) ≡ Some c)
+-- by its name and the values of its options
+abbrev pub task_for : Kind → (Text → Option Text) → Option Task
+task_for kind.Canon value = option_map task.Output (canon_from (format_or Amf3 (value (codes "from"))) (value (codes "to")))
+task_for kind.Check value = option_map task.Output (option_map command.Check (format_or Amf3 (value (codes "from"))))
+task_for kind.Show value = option_map task.Output (option_map command.Show (format_or Amf3 (value (codes "from"))))
+task_for kind.Same value = Some (task.Output command.Same)
+task_for kind.Gen value = option_map task.Output (gen_of (number_at 0 4294967295 (value (codes "seed"))) (number_at 1 1000000 (value (codes "size"))))
+task_for kind.Serve value = option_map task.Serve (serve_of (number_at 0 65535 (value (codes "port"))) (number_at 1 64 (value (codes "workers"))) (number_at 1 1000000 (value (codes "each"))))
+
+-- the words ask for this: its name comes first, and the rest gives it options with these values
+abbrev pub Asks : List Text → Task → Type 0
+Asks words t = (k : Kind) × (rest : List Text) × (given : Given) × (words ≡ name_of k ∷ rest) × HasOptions (options_for k) rest given × (task_for k (value_of given) ≡ Some t)
 
 -- and each of them is UTF-8
+abbrev pub AsksFor : List Text → Task → Type 0
+AsksFor words t = AllByRecursion IsUtf8 words × Asks words t
+
+-- for a command that writes an output
 abbrev pub Reads : List Text → Command → Type 0
-Reads words c = AllByRecursion IsUtf8 words × Asks words c
+Reads words c = AsksFor words (task.Output c)
+
+-- for links to be served
+abbrev pub ReadsServe : List Text → ServeOptions → Type 0
+ReadsServe words o = AsksFor words (task.Serve o)
+
+abbrev pub IsServing : List Text → Type 0
+IsServing words = (o : ServeOptions) × ReadsServe words o
 
 abbrev pub HasReading : List Text → Type 0
-HasReading words = (c : Command) × Reads words c
+HasReading words = (t : Task) × AsksFor words t

@@ -6,7 +6,9 @@ pub mod Input
 pub mod Lines
 pub mod Written
 pub mod Run
+pub mod Serving
 pub mod WorkedRuns
 -- Devices of the proofs: no clause of a public call needs them.
 pub mod ReadContent
 pub mod Askable
+pub mod ServeEnds

@@ -1,4 +1,4 @@
--- The error lines, and the lines that `check` and `gen` write.
+-- The error lines, and the lines that `check`, `gen` and `serve` write.
 use Rattle.std.specs.Prelude.{ℕ, List, [], ◌∷◌, ◌++◌, length, codes, decimal}
 use Rattle.std.specs.List.{sum}
 use Rattle.amf_io.specs.declared.ends.Refusal.{Refusal}
@@ -9,8 +9,9 @@ use Rattle.amf_io.specs.declared.reason.Reason.TheVariants.{Truncated, BadMarker
 use Rattle.amf_graph.specs.declared.lack.Lack.{Lack}
 use Rattle.amf_graph.specs.declared.lack.LackKind.{LackKind}
 use Rattle.amf_graph.specs.declared.lack.LackKind.TheVariants as lacking
+use Rattle.amf_desk.specs.declared.closed.Closed.{Closed}
 use Rattle.amf_cli.specs.declared.run_end.RunEnd.{RunEnd}
-use Rattle.amf_cli.specs.declared.run_end.RunEnd.TheVariants.{Refused, Usage, ReadFault, WriteFault, NoMemory, NoForm}
+use Rattle.amf_cli.specs.declared.run_end.RunEnd.TheVariants.{Refused, Usage, ReadFault, WriteFault, NoMemory, FrontFault, NoForm}
 
 -- the end of a reader is that of the run
 abbrev pub end_of : ReadEnd → RunEnd
@@ -61,6 +62,7 @@ line_of Usage = codes "amf: usage\n"
 line_of ReadFault = codes "amf: read fault\n"
 line_of WriteFault = codes "amf: write fault\n"
 line_of NoMemory = codes "amf: no memory\n"
+line_of FrontFault = codes "amf: front fault\n"
 line_of (NoForm number l) = no_form_line number l
 
 abbrev pub status_of : RunEnd → ℕ
@@ -69,6 +71,7 @@ status_of Usage = 2
 status_of ReadFault = 3
 status_of WriteFault = 4
 status_of NoMemory = 5
+status_of FrontFault = 6
 status_of (NoForm number l) = 7
 
 -- how many nodes there are
@@ -78,3 +81,7 @@ count_line nodes = codes "ok nodes " ++ decimal nodes ++ line_feed
 -- how many nodes there are, how many bytes, and the sum of these
 abbrev pub measure_line : ℕ → List ℕ → List ℕ
 measure_line nodes bytes = codes "nodes " ++ decimal nodes ++ codes " bytes " ++ decimal (length bytes) ++ codes " sum " ++ decimal (sum bytes) ++ line_feed
+
+-- how many calls a desk answered, how many messages were published and delivered, and how many deliveries are still queued
+abbrev pub served_line : Closed → List ℕ
+served_line c = codes "calls " ++ decimal c.calls ++ codes " published " ++ decimal c.published ++ codes " delivered " ++ decimal c.delivered ++ codes " queued " ++ decimal c.queued ++ line_feed

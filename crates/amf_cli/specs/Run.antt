@@ -17,7 +17,7 @@ use Rattle.amf_cli.specs.Content.{Content, HasNodes, IsListed}
 use Rattle.amf_cli.specs.Formats.{GivesLength, IsSpelling, Spelled, IsFitted, IsAlike, IsLackIn, IsWritten, IsUnwritten}
 use Rattle.amf_cli.specs.Input.{most, Input, input_of, IsRefusedAs, IsUnsettledAs}
 use Rattle.amf_cli.specs.declared.run_end.RunEnd.{RunEnd}
-use Rattle.amf_cli.specs.declared.run_end.RunEnd.TheVariants.{Refused, Usage, ReadFault, WriteFault, NoMemory, NoForm}
+use Rattle.amf_cli.specs.declared.run_end.RunEnd.TheVariants.{Refused, Usage, ReadFault, WriteFault, NoMemory, FrontFault, NoForm}
 use Rattle.amf_cli.specs.Lines.{refusal_line, no_form_line, line_of, status_of, count_line, measure_line}
 use Rattle.amf_cli.specs.Written.{WritesFront}
 
@@ -141,6 +141,7 @@ ReadsInput i L P input rest (Err ReadFault) = IsHidden i input rest
 ReadsInput i L P input rest (Err Usage) = ⊥
 ReadsInput i L P input rest (Err WriteFault) = ⊥
 ReadsInput i L P input rest (Err NoMemory) = Unit {0}
+ReadsInput i L P input rest (Err FrontFault) = ⊥
 ReadsInput i L P input rest (Err (NoForm number l)) = L number l × (rest ≡ [])
 
 -- how the making of an output ends: where a command has an input, this is read
@@ -160,16 +161,18 @@ CountsReads before now (Err ReadFault) = (before ≤ now) × Rose before now
 CountsReads before now (Err Usage) = now ≡ before
 CountsReads before now (Err WriteFault) = now ≡ before
 CountsReads before now (Err NoMemory) = now ≡ before
+CountsReads before now (Err FrontFault) = now ≡ before
 CountsReads before now (Err (NoForm number l)) = now ≡ before
 
--- a write fault is counted, and without one the count stays
+-- a write fault is counted, and without one the count stays; of want of memory nothing is said
 abbrev pub CountsWrites : {T : Type 0} → ℕ → ℕ → Result T RunEnd → Type 0
 CountsWrites before now (Ok x) = now ≡ before
 CountsWrites before now (Err (Refused f)) = now ≡ before
 CountsWrites before now (Err ReadFault) = now ≡ before
 CountsWrites before now (Err Usage) = now ≡ before
 CountsWrites before now (Err WriteFault) = (before ≤ now) × Rose before now
-CountsWrites before now (Err NoMemory) = now ≡ before
+CountsWrites before now (Err NoMemory) = Unit {0}
+CountsWrites before now (Err FrontFault) = now ≡ before
 CountsWrites before now (Err (NoForm number l)) = now ≡ before
 
 -- an end that the reading of an input has
@@ -180,6 +183,7 @@ IsReadEnd (Err ReadFault) = Unit {0}
 IsReadEnd (Err Usage) = ⊥
 IsReadEnd (Err WriteFault) = ⊥
 IsReadEnd (Err NoMemory) = Unit {0}
+IsReadEnd (Err FrontFault) = ⊥
 IsReadEnd (Err (NoForm number l)) = ⊥
 
 -- an end that the making of an output has
@@ -190,6 +194,7 @@ IsOutputEnd c (Err ReadFault) = TakesInput c
 IsOutputEnd c (Err Usage) = ⊥
 IsOutputEnd c (Err WriteFault) = ⊥
 IsOutputEnd c (Err NoMemory) = Unit {0}
+IsOutputEnd c (Err FrontFault) = ⊥
 IsOutputEnd c (Err (NoForm number l)) = MayLack c
 
 -- what comes of an input comes only of a command that has one
@@ -198,14 +203,15 @@ IsReading c (Err (Refused f)) = TakesInput c
 IsReading c (Err ReadFault) = TakesInput c
 IsReading c _ = Unit {0}
 
--- nothing was asked of the output, but where it was written to
+-- nothing was asked of the output, but where it may have been written to
 abbrev pub IsUntouched : {S T : Type 0} → S → S → Result T RunEnd → Type 0
 IsUntouched before now (Ok x) = Unit {0}
 IsUntouched before now (Err (Refused f)) = now ≡ before
 IsUntouched before now (Err ReadFault) = now ≡ before
 IsUntouched before now (Err Usage) = now ≡ before
 IsUntouched before now (Err WriteFault) = Unit {0}
-IsUntouched before now (Err NoMemory) = now ≡ before
+IsUntouched before now (Err NoMemory) = Unit {0}
+IsUntouched before now (Err FrontFault) = Unit {0}
 IsUntouched before now (Err (NoForm number l)) = now ≡ before
 
 -- the output was written whole
@@ -232,6 +238,7 @@ RunsTo c input rest told held now (Err ReadFault) = IsHidden (input_of c) input 
 RunsTo c input rest told held now (Err Usage) = Unit {0}
 RunsTo c input rest told held now (Err WriteFault) = WritesSome c input rest told held now
 RunsTo c input rest told held now (Err NoMemory) = Unit {0}
+RunsTo c input rest told held now (Err FrontFault) = ⊥
 RunsTo c input rest told held now (Err (NoForm number l)) = Lacks c input number l × (rest ≡ [])
 
 -- the error line names the verdict

@@ -1,4 +1,4 @@
--- Worked facts of runs: what words say, which inputs are accepted and refused, what fixes no verdict yet, and the lines of `check` and `gen`.
+-- Worked facts of runs: what words say, which inputs are accepted and refused, what fixes no verdict yet, and the lines of `check`, `gen` and `serve`.
 use Rattle.std.specs.Prelude.{◌≡◌, ℕ, List, [], ◌∷◌, codes, Option, Some, None, if◌then◌else◌}
 use Rattle.std.specs.Str.{bytes_eq}
 use Rattle.amf_io.specs.declared.reason.Reason.{Reason}
@@ -12,12 +12,13 @@ use Rattle.amf_sol.specs.WorkedFiles.{one_true_bytes}
 use Rattle.amf_sol_show.specs.WorkedFileListings.{one_array_twice}
 use Rattle.amf_cli.specs.declared.command.Command.{Command}
 use Rattle.amf_cli.specs.declared.command.Command.TheVariants.{Canon, Check, Show, Same, Gen}
+use Rattle.amf_cli.specs.declared.command.Task.TheVariants.{Output, Serve}
 use Rattle.amf_cli.specs.declared.format.Format.TheVariants.{Amf3, Amf0, Packet, Sol}
 use Rattle.amf_cli.specs.declared.kind.Kind.TheVariants as kind
-use Rattle.amf_cli.specs.Commands.{command_for, number_named}
+use Rattle.amf_cli.specs.Commands.{number_named, task_for}
 use Rattle.amf_cli.specs.Content.{value, packet, file}
 use Rattle.amf_cli.specs.Input.{Accepts, one, input_of, IsAcceptedAs, IsRefusedAs, IsUnsettledAs}
-use Rattle.amf_cli.specs.Lines.{count_line, measure_line, no_form_line}
+use Rattle.amf_cli.specs.Lines.{count_line, measure_line, no_form_line, served_line}
 use Rattle.amf_cli.specs.Run.{IsCounted}
 
 abbrev pub Accepted : Command → List ℕ → Type 0
@@ -32,6 +33,10 @@ Unsettled c = IsUnsettledAs (input_of c)
 -- the values of options: these formats
 abbrev pub from_to : Option Text → Option Text → Text → Option Text
 from_to from to option = if bytes_eq option (codes "from") then from else (if bytes_eq option (codes "to") then to else None)
+
+-- the values of options: these three
+abbrev pub at_by_each : Text → Text → Text → Text → Option Text
+at_by_each port workers each option = if bytes_eq option (codes "port") then Some port else (if bytes_eq option (codes "workers") then Some workers else (if bytes_eq option (codes "each") then Some each else None))
 
 -- a date, behind an array to which the root does not lead
 abbrev pub second_reached : Graph
@@ -51,18 +56,27 @@ pub record RunRows : Type 0 where
   pub past_the_most : number_named 1 1000000 (codes "1000001") ≡ None
   pub the_most : number_named 0 4294967295 (codes "4294967295") ≡ Some 4294967295
   -- without options a value is one of AMF 3
-  pub check_alone : command_for kind.Check (λ option. None) ≡ Some (Check Amf3)
+  pub check_alone : task_for kind.Check (λ option. None) ≡ Some (Output (Check Amf3))
   -- a packet goes to a packet alone
-  pub packet_alone : command_for kind.Canon (from_to (Some (codes "packet")) None) ≡ Some (Canon Packet Packet)
-  pub packet_to_value : command_for kind.Canon (from_to (Some (codes "packet")) (Some (codes "amf3"))) ≡ None
-  pub value_to_packet : command_for kind.Canon (from_to None (Some (codes "packet"))) ≡ None
-  pub value_to_value : command_for kind.Canon (from_to (Some (codes "amf0")) (Some (codes "amf3"))) ≡ Some (Canon Amf0 Amf3)
+  pub packet_alone : task_for kind.Canon (from_to (Some (codes "packet")) None) ≡ Some (Output (Canon Packet Packet))
+  pub packet_to_value : task_for kind.Canon (from_to (Some (codes "packet")) (Some (codes "amf3"))) ≡ None
+  pub value_to_packet : task_for kind.Canon (from_to None (Some (codes "packet"))) ≡ None
+  pub value_to_value : task_for kind.Canon (from_to (Some (codes "amf0")) (Some (codes "amf3"))) ≡ Some (Output (Canon Amf0 Amf3))
   -- and a file to a file alone
-  pub file_alone : command_for kind.Canon (from_to (Some (codes "sol")) None) ≡ Some (Canon Sol Sol)
-  pub file_to_packet : command_for kind.Canon (from_to (Some (codes "sol")) (Some (codes "packet"))) ≡ None
-  pub packet_to_file : command_for kind.Canon (from_to (Some (codes "packet")) (Some (codes "sol"))) ≡ None
-  pub value_to_file : command_for kind.Canon (from_to None (Some (codes "sol"))) ≡ None
-  pub gen_alone : command_for kind.Gen (λ option. None) ≡ None
+  pub file_alone : task_for kind.Canon (from_to (Some (codes "sol")) None) ≡ Some (Output (Canon Sol Sol))
+  pub file_to_packet : task_for kind.Canon (from_to (Some (codes "sol")) (Some (codes "packet"))) ≡ None
+  pub packet_to_file : task_for kind.Canon (from_to (Some (codes "packet")) (Some (codes "sol"))) ≡ None
+  pub value_to_file : task_for kind.Canon (from_to None (Some (codes "sol"))) ≡ None
+  pub gen_alone : task_for kind.Gen (λ option. None) ≡ None
+  -- links are served at a port, by 1 to 64 workers, 1 to 1,000,000 each
+  pub serve_one : task_for kind.Serve (at_by_each (codes "0") (codes "1") (codes "1")) ≡ Some (Serve (record { port = 0; workers = 1; each = 1 }))
+  pub serve_most : task_for kind.Serve (at_by_each (codes "65535") (codes "64") (codes "1000000")) ≡ Some (Serve (record { port = 65535; workers = 64; each = 1000000 }))
+  pub port_too_great : task_for kind.Serve (at_by_each (codes "65536") (codes "1") (codes "1")) ≡ None
+  pub no_worker : task_for kind.Serve (at_by_each (codes "8080") (codes "0") (codes "1")) ≡ None
+  pub too_many_workers : task_for kind.Serve (at_by_each (codes "8080") (codes "65") (codes "1")) ≡ None
+  pub no_link : task_for kind.Serve (at_by_each (codes "8080") (codes "1") (codes "0")) ≡ None
+  pub too_many_links : task_for kind.Serve (at_by_each (codes "8080") (codes "1") (codes "1000001")) ≡ None
+  pub serve_alone : task_for kind.Serve (λ option. None) ≡ None
   -- of three bytes the field that begins at the second is not whole in the first two
   pub too_large : IsInputRefused (Accepts (one Amf3)) 2 (0x04 ∷ 0x80 ∷ 0x05 ∷ []) TooLarge 1
   pub as_large_as_the_limit : IsInputAccepted (Accepts (one Amf3)) 3 (0x04 ∷ 0x80 ∷ 0x05 ∷ [])
@@ -89,4 +103,5 @@ pub record RunRows : Type 0 where
   -- the number of the value that lacks a spelling
   pub lacking_line : no_form_line 3 (record { kind = NoForm; node = 12 }) ≡ codes "amf: no form NoForm node 12 value 3\n"
   pub counted_line : count_line 12 ≡ codes "ok nodes 12\n"
+  pub line_of_serve : served_line (record { calls = 4; published = 1; delivered = 12; queued = 0 }) ≡ codes "calls 4 published 1 delivered 12 queued 0\n"
   pub measured_line : measure_line 3 (0x09 ∷ 0x01 ∷ 0x01 ∷ []) ≡ codes "nodes 3 bytes 3 sum 11\n"

@@ -1,7 +1,10 @@
 use crate::tests::{Case, check, check_rows};
 use std::alloc::Global;
 use std::process::Abort;
+use std::random::RandomSource;
+use std::sync::Wait;
 use std::test::Fail;
+use std::thread::Threads;
 
 static FROM: [&str; 2] = ["canon", "--from=amf0"];
 
@@ -122,7 +125,12 @@ fn repeated(
 }
 
 /// Runs over a long input in pieces, and looks at the error line.
-fn check_lack(rt: &impl Abort, alloc: Global, input: &[u8], line: &'static [u8]) {
+fn check_lack<R: RandomSource + Threads + Wait + Abort + Sync>(
+    rt: &R,
+    alloc: Global,
+    input: &[u8],
+    line: &'static [u8],
+) {
     let want = ended(TO.as_slice(), b"", 7, line);
     for pieces in [(1 << 20, 0), (1000, 0), (1 << 20, 9)] {
         check(rt, alloc, input, pieces, &want);

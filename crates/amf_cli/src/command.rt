@@ -1,6 +1,7 @@
 ghost use Rattle.std.specs.Prelude.{IfOk, IfSome, IfNone};
 ghost use Rattle.amf_words.specs.Words.{texts};
-ghost use Rattle.amf_cli.specs.Commands.{Asks, Reads, HasReading};
+ghost use Rattle.amf_cli.specs.declared.command.Task.{Task};
+ghost use Rattle.amf_cli.specs.Commands.{Asks, AsksFor, HasReading};
 
 use crate::format::Format;
 use crate::kind::Kind;
@@ -9,7 +10,7 @@ use amf_words::options_of;
 use std::alloc::{AllocError, Global};
 use std::str;
 
-/// What the words of a command line ask for.
+/// A command that writes an output, which is made of the input or of numbers.
 #[derive(Clone, Copy, Debug, PartialEq, Eq)]
 pub enum Command {
     /// `canon`: the canonical spelling of one value, in the same format or another, of one packet, or of one file.
@@ -25,10 +26,29 @@ pub enum Command {
     Gen { seed: u32, size: u32 },
 }
 
-impl Command {
+/// Where `serve` serves links, by how many workers, and how many links each.
+#[derive(Clone, Copy, Debug, PartialEq, Eq)]
+pub struct ServeOptions {
+    pub port: u16,
+    /// From 1 to 64.
+    pub workers: u32,
+    /// From 1 to 1,000,000.
+    pub each: u32,
+}
+
+/// What the words of a command line ask for.
+#[derive(Clone, Copy, Debug, PartialEq, Eq)]
+pub enum Task {
+    /// A command that writes an output.
+    Output(Command),
+    /// `serve`: links are served, and a line tells how many calls, messages and deliveries there were.
+    Serve(ServeOptions),
+}
+
+impl Task {
     /// What the words ask for, if they have a reading: each has to be UTF-8.
-    pub fn of(alloc: Global, words: &[Name]) -> Result<Option<Command>, Memory>
-        ensures reads { IfOk result (λ r. IfSome r (Reads words.now)) }
+    pub fn of(alloc: Global, words: &[Name]) -> Result<Option<Task>, Memory>
+        ensures reads { IfOk result (λ r. IfSome r (AsksFor words.now)) }
         ensures none { IfOk result (λ r. IfNone r (HasReading words.now → ⊥)) }
     {
         let mut seen = Vec::new(alloc);
@@ -43,9 +63,9 @@ impl Command {
 }
 
 /// What the words ask for, if anything.
-fn asked<'a>(alloc: Global, words: &'a [&'a str]) -> Result<Option<Command>, AllocError>
-    ensures reads { IfOk result (λ r. IfSome r (λ c. Asks (texts words.now) c)) }
-    ensures none { IfOk result (λ r. IfNone r ((c : Command) → Asks (texts words.now) c → ⊥)) }
+fn asked<'a>(alloc: Global, words: &'a [&'a str]) -> Result<Option<Task>, AllocError>
+    ensures reads { IfOk result (λ r. IfSome r (λ t. Asks (texts words.now) t)) }
+    ensures none { IfOk result (λ r. IfNone r ((t : Task) → Asks (texts words.now) t → ⊥)) }
 {
     let Some((name, rest)) = words.split_first() else {
         return Ok(None);
@@ -54,7 +74,7 @@ fn asked<'a>(alloc: Global, words: &'a [&'a str]) -> Result<Option<Command>, All
         return Ok(None);
     };
     match options_of(alloc, name, kind.options(), rest)? {
-        Some(matches) => Ok(kind.command(&matches)),
+        Some(matches) => Ok(kind.task(&matches)),
         None => Ok(None),
     }
 }

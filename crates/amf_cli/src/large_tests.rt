@@ -4,7 +4,10 @@ use amf_graph::{BuildEnd, Builder};
 use amf_wire::{U29, is_amf_text, write_u29};
 use std::alloc::{AllocError, Global};
 use std::process::Abort;
+use std::random::RandomSource;
+use std::sync::Wait;
 use std::test::Fail;
+use std::thread::Threads;
 
 /// So many arrays within one another, and what the innermost holds.
 fn nested(alloc: Global, count: usize, inside: &[u8]) -> Result<Vec<u8>, AllocError> {
@@ -17,13 +20,18 @@ fn nested(alloc: Global, count: usize, inside: &[u8]) -> Result<Vec<u8>, AllocEr
 }
 
 /// Runs `canon` over an input, which is its own canonical spelling.
-fn check_itself(rt: &impl Abort, alloc: Global, input: &[u8], pieces: (usize, usize)) {
+fn check_itself<R: RandomSource + Threads + Wait + Abort + Sync>(
+    rt: &R,
+    alloc: Global,
+    input: &[u8],
+    pieces: (usize, usize),
+) {
     check_canon(rt, alloc, input, pieces, input);
 }
 
 /// Runs `canon` over an input, of which `output` is the canonical spelling.
-fn check_canon(
-    rt: &impl Abort,
+fn check_canon<R: RandomSource + Threads + Wait + Abort + Sync>(
+    rt: &R,
     alloc: Global,
     input: &[u8],
     pieces: (usize, usize),

@@ -1,5 +1,5 @@
 //! The program `amf`: writes the canonical spelling of any value of AMF 3 or AMF 0, in either, of any packet and of any shared object
-//! file, checks it, lists it, and tells whether two values are the same graph.
+//! file, checks it, lists it, tells whether two values are the same graph, and serves remoting calls over HTTP.
 #![tactic(auto)]
 
 #[cfg(test)]
@@ -11,6 +11,8 @@ mod command_tests;
 mod content;
 mod facts;
 mod format;
+#[cfg(test)]
+mod hostile_tests;
 mod kind;
 #[cfg(test)]
 mod large_tests;
@@ -27,6 +29,9 @@ mod report;
 mod run;
 mod run_end;
 #[cfg(test)]
+mod serve_tests;
+mod serving;
+#[cfg(test)]
 mod sol_tests;
 mod spelling;
 mod start;
@@ -36,18 +41,66 @@ mod start_tests;
 mod tests;
 mod writing;
 
-use crate::arguments::Environment;
+use crate::arguments::{Arguments, Environment};
+use crate::report::end_with;
+use crate::run_end::RunEnd;
 use crate::start::start;
-use amf_io::{StandardError, StandardInput, StandardOutput};
+use amf_io::{
+    Front, Hall, OpenGate, Sink, Source, StandardError, StandardInput, StandardOutput, TcpFront,
+};
+use amf_service::{Echo, Names, Registry, Service, Sum};
+use amf_wire::Name;
+use std::alloc::Global;
 use std::process::ExitCode;
+use std::random::RandomSource;
+use std::sync::Wait;
+use std::thread::Threads;
 
 fn main(rt: HostRuntime) -> ExitCode {
-    start(
+    let mut err = StandardError::new(rt.stderr());
+    let started = start_with_services(
         &rt,
         rt.alloc(),
         &Environment::new(&rt),
         &mut StandardInput::new(rt.stdin()),
         &mut StandardOutput::new(rt.stdout()),
-        &mut StandardError::new(rt.stderr()),
-    )
+        &mut err,
+        &mut TcpFront::new(rt),
+    );
+    match started {
+        Ok(code) => code,
+        Err(end) => ExitCode::from(end_with(end, &mut err)),
+    }
+}
+
+/// Does what the words say, with the services that are shipped, each under the name of its operation.
+fn start_with_services<
+    R: RandomSource + Threads + Wait + Sync,
+    A: Arguments,
+    I: Source,
+    O: Sink,
+    E: Sink,
+    F: Front,
+>(
+    rt: &R,
+    alloc: Global,
+    arguments: &A,
+    input: &mut I,
+    out: &mut O,
+    err: &mut E,
+    front: &mut F,
+) -> Result<ExitCode, RunEnd>
+where
+    <F::Hall as Hall>::Link: Send,
+{
+    let mut entries: Vec<(Name, Box<dyn Service>)> = Vec::new(alloc);
+    entries.push((Name::of_bytes(alloc, b"echo")?, Box::new(alloc, Echo)?))?;
+    entries.push((Name::of_bytes(alloc, b"sum")?, Box::new(alloc, Sum)?))?;
+    entries.push((Name::of_bytes(alloc, b"names")?, Box::new(alloc, Names)?))?;
+    let Ok(registry) = Registry::new(alloc, entries) else {
+        return Err(RunEnd::NoMemory);
+    };
+    Ok(start(
+        rt, alloc, arguments, input, out, err, front, &OpenGate, &registry,
+    ))
 }

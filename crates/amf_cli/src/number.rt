@@ -1,10 +1,11 @@
-ghost use Rattle.std.specs.Prelude.{◌≡◌};
+ghost use Rattle.std.specs.Prelude.{◌≡◌, ◌≤◌, IfSome};
 ghost use Rattle.std.specs.List.{list_all};
 ghost use Rattle.amf_cli.specs.Commands.{is_digit as digit, number_named};
 
 /// The number that 1 to 10 decimal digits name, where it is from `least` to `most`.
 pub fn number_in(text: &str, least: u32, most: u32) -> Option<u32>
-    ensures { result ≡ number_named least most text.now }
+    ensures named { result ≡ number_named least most text.now }
+    ensures within { IfSome result (λ n. n ≤ most) }
 {
     if text.is_empty() || text.len() > 10 || !are_digits(text.as_bytes()) {
         return None;

@@ -31,6 +31,7 @@ fn report<E: Sink>(end: RunEnd, err: &mut E) -> Result<(), Failed>
         RunEnd::ReadFault => write_all(err, b"amf: read fault\n"),
         RunEnd::WriteFault => write_all(err, b"amf: write fault\n"),
         RunEnd::NoMemory => write_all(err, b"amf: no memory\n"),
+        RunEnd::FrontFault => write_all(err, b"amf: front fault\n"),
         RunEnd::NoForm { value, lack } => report_lack(value, lack, err),
     }
 }

@@ -1,23 +1,33 @@
 ghost use Rattle.std.specs.Prelude.{◌≡◌, ℕ, ◌≢◌, ◌+◌, ◌≤◌, ◌⊎◌, ◌++◌, List, length};
+ghost use Rattle.amf_service.specs.Registry.{Entry};
+ghost use Rattle.amf_gateway.specs.Services.{services_by};
+ghost use Rattle.amf_workers.specs.Together.{Serves};
 ghost use Rattle.amf_io.specs.Outside.{Rose, Steady};
 ghost use Rattle.amf_io.specs.declared.reason.Reason.{Reason};
 ghost use Rattle.amf_cli.specs.Input.{most, input_of, IsAcceptedAs, IsRefusedAs};
 ghost use Rattle.amf_graph.specs.declared.lack.Lack.{Lack};
 ghost use Rattle.amf_cli.specs.declared.command.Command.{Command};
-ghost use Rattle.amf_cli.specs.Commands.{Reads, HasReading};
+ghost use Rattle.amf_cli.specs.declared.command.ServeOptions.{ServeOptions};
+ghost use Rattle.amf_cli.specs.Commands.{Reads, ReadsServe, IsServing, HasReading};
 ghost use Rattle.amf_cli.specs.Run.{TakesInput, Makes, Lacks, MayLack, IsOutputOf, CountsReads, CountsWrites, IsReading, IsUntouched, RunsTo, WritesAll, WritesSome, IsRefusedWith, IsHidden, HasNoForm, Reports};
+ghost use Rattle.amf_cli.specs.Serving.{ServeRun};
+ghost use Rattle.amf_cli.specs.ServeEnds.{IsServeEnd, ServesTo, CountsFront};
 ghost use Rattle.amf_cli.specs.Askable.{IsAskable};
 
-use crate::command::Command;
+use crate::command::{Command, Task};
 use crate::output::output_of;
 use crate::report::end_with;
 use crate::run_end::RunEnd;
+use crate::serving::serve_links;
 use crate::writing::write_whole;
-use amf_io::{Sink, Source};
+use amf_io::{Front, Gate, Hall, Sink, Source};
+use amf_service::Registry;
 use amf_wire::Name;
 use std::alloc::Global;
 use std::hash::RandomState;
 use std::random::RandomSource;
+use std::sync::Wait;
+use std::thread::Threads;
 
 /// The most bytes of an input: 64 MiB.
 pub const LIMIT: u32 = 67_108_864;
@@ -36,17 +46,28 @@ pub const LIMIT: u32 = 67_108_864;
 /// for the graph that is made of the numbers of `--seed`, 0 to 4,294,967,295, and `--size`, 1 to 1,000,000, and its canonical spelling
 /// in AMF 3. A number is 1 to 10 decimal digits.
 ///
+/// With `serve` nothing is read either: the front is opened at the port of `--port`, 0 to 65,535, for so many workers as `--workers` says,
+/// 1 to 64. Each worker serves up to as many links of its hall as `--each` says, 1 to 1,000,000, all at once, and their calls go to one
+/// broker with the destinations `chat` and `news`. Then all halls go back to the front, and the output is the line
+/// `calls A published B delivered C queued D`. A call of the desk is told to the gate before and after. `serve` may wait for others, and
+/// no other command does but for its streams.
+///
 /// The runtime gives the keys by which the writer looks texts up, so that no input can be made that takes long; where it
 /// gives none, they are fixed.
-pub fn run<R: RandomSource, I: Source, O: Sink, E: Sink>(
+pub fn run<R: RandomSource + Threads + Wait + Sync, I: Source, O: Sink, E: Sink, F: Front, G: Gate>(
     rt: &R,
     alloc: Global,
     words: &[Name],
     input: &mut I,
     out: &mut O,
     err: &mut E,
+    front: &mut F,
+    gate: &G,
+    registry: &Registry,
 ) -> u8
-    ensures statuses { (result ≤ 5) ⊎ (result ≡ 7) }
+where
+    <F::Hall as Hall>::Link: Send,
+    ensures statuses { result ≤ 7 }
 
     // 2 comes exactly where the words have no reading, but for want of memory; and where they have none, nothing is asked of the input.
     ensures usage { result ≡ 2 → HasReading words.now → ⊥ }
@@ -62,9 +83,9 @@ pub fn run<R: RandomSource, I: Source, O: Sink, E: Sink>(
     ensures again { (c : Command) → Reads words.now c → result ≡ 0 → I.tells input.old → O.tells out.new → IsOutputOf c (I.left input.old)
         → O.held out.new ≡ O.held out.old ++ I.left input.old }
 
-    // But for 3 the count of the input stays, and but for 4 that of the output. That of the error line never falls.
+    // But for 3 the count of the input stays, and but for 4 and 5 that of the output. That of the error line never falls.
     ensures no_read_fault { result ≢ 3 → I.faults input.new ≡ I.faults input.old }
-    ensures no_write_fault { result ≢ 4 → O.faults out.new ≡ O.faults out.old }
+    ensures no_write_fault { result ≢ 4 → result ≢ 5 → O.faults out.new ≡ O.faults out.old }
     ensures counted { E.faults err.old ≤ E.faults err.new }
 
     // 1: the verdict, with its reason and place on the error line.
@@ -99,8 +120,19 @@ pub fn run<R: RandomSource, I: Source, O: Sink, E: Sink>(
     ensures untaken { (c : Command) → Reads words.now c → (TakesInput c → ⊥) → input.new ≡ input.old }
     ensures reading { (c : Command) → Reads words.now c → (result ≡ 1) ⊎ (result ≡ 3) → TakesInput c }
 
-    // With any other status than 0 and 4 nothing is asked of the output.
-    ensures untouched { (result ≡ 1) ⊎ (result ≡ 2) ⊎ (result ≡ 3) ⊎ (result ≡ 5) ⊎ (result ≡ 7) → out.new ≡ out.old }
+    // With 1, 2, 3 and 7 nothing is asked of the output, and but for `serve` not with 5 either.
+    ensures untouched { (result ≡ 1) ⊎ (result ≡ 2) ⊎ (result ≡ 3) ⊎ (result ≡ 7) → out.new ≡ out.old }
+    ensures unwritten { result ≡ 5 → (IsServing words.now → ⊥) → out.new ≡ out.old }
+
+    // `serve`: what it came to, with 0, 4 and 6, is what workers at one desk did with the links of the front.
+    ensures served { (o : ServeOptions) → ReadsServe words.now o → (result ≡ 0) ⊎ (result ≡ 4) ⊎ (result ≡ 6) → let services : List Entry = services_by registry.now.services.entries (λ x. x.items) (λ s. knows (s.vtable, s.value)) (λ s. gives (s.vtable, s.value)) in ServeRun (Serves (record { tells = F.tells; asked = F.asked; to_open = F.to_open; halls = F.halls; faults = F.faults }) (record { tells_links = F.Hall.tells_links; coming = F.Hall.coming; served = F.Hall.served; faults = F.Hall.faults; tells_moments = F.Hall.tells_moments; moments = F.Hall.moments; tells_words = F.Hall.tells_words; words = F.Hall.words }) (record { tells_left = F.Hall.Link.tells_left; left = F.Hall.Link.left; tells_held = F.Hall.Link.tells_held; held = F.Hall.Link.held; read_faults = F.Hall.Link.read_faults; write_faults = F.Hall.Link.write_faults }) services o.port o.workers o.each front.old front.new) (O.tells out.new) (O.held out.old) (O.held out.new) result }
+    ensures serving { IsServing words.now → (result ≡ 0) ⊎ (result ≡ 4) ⊎ (result ≡ 5) ⊎ (result ≡ 6) }
+
+    // 6 comes only of `serve` and only where the front's count rose; with 0 that stays. Only `serve` asks anything of the front.
+    ensures front_fault { result ≡ 6 → Rose (F.faults front.old) (F.faults front.new) }
+    ensures no_front_fault { result ≡ 0 → F.faults front.new ≡ F.faults front.old }
+    ensures unasked { (IsServing words.now → ⊥) → (front.new ≡ front.old) × (result ≢ 6) }
+    ensures links { IsServing words.now → input.new ≡ input.old }
 
     // No byte of the input past the most is taken but the one that shows that there is more.
     ensures taken { I.tells input.old → length (I.left input.old) ≤ length (I.left input.new) + (most + 1) }
@@ -110,7 +142,7 @@ pub fn run<R: RandomSource, I: Source, O: Sink, E: Sink>(
         → Reports result (E.held err.old) (E.held err.new) }
 {
     let keys = RandomState::new(rt).ok();
-    match execute(alloc, keys, words, input, out) {
+    match execute(rt, alloc, keys, words, input, out, front, gate, registry) {
         Ok(()) => 0,
         // The status is decided: a failure of the error line does not change it.
         Err(end) => end_with(end, err),
@@ -118,13 +150,19 @@ pub fn run<R: RandomSource, I: Source, O: Sink, E: Sink>(
 }
 
 /// Does what the words say.
-fn execute<I: Source, O: Sink>(
+fn execute<R: Threads + Wait + Sync, I: Source, O: Sink, F: Front, G: Gate>(
+    rt: &R,
     alloc: Global,
     keys: Option<RandomState>,
     words: &[Name],
     input: &mut I,
     out: &mut O,
+    front: &mut F,
+    gate: &G,
+    registry: &Registry,
 ) -> Result<(), RunEnd>
+where
+    <F::Hall as Hall>::Link: Send,
     ensures usage { result ≡ Err RunEnd.Usage → HasReading words.now → ⊥ }
     ensures no_reading { (HasReading words.now → ⊥) → (result ≡ Err RunEnd.Usage) ⊎ (result ≡ Err RunEnd.NoMemory) }
     ensures read { result ≢ Err RunEnd.Usage → result ≢ Err RunEnd.NoMemory → HasReading words.now }
@@ -136,11 +174,18 @@ fn execute<I: Source, O: Sink>(
     ensures tells { O.tells out.new → O.tells out.old }
     ensures runs { (c : Command) → Reads words.now c → I.tells input.old → RunsTo c (I.left input.old) (I.left input.new) (O.tells out.new) (O.held out.old) (O.held out.new) result }
     ensures untouched { IsUntouched out.old out.new result }
+    ensures unwritten { (IsServing words.now → ⊥) → result ≡ Err RunEnd.NoMemory → out.new ≡ out.old }
     ensures reads { CountsReads (I.faults input.old) (I.faults input.new) result }
     ensures writes { CountsWrites (O.faults out.old) (O.faults out.new) result }
+    ensures served { (o : ServeOptions) → ReadsServe words.now o → let services : List Entry = services_by registry.now.services.entries (λ x. x.items) (λ s. knows (s.vtable, s.value)) (λ s. gives (s.vtable, s.value)) in ServesTo (Serves (record { tells = F.tells; asked = F.asked; to_open = F.to_open; halls = F.halls; faults = F.faults }) (record { tells_links = F.Hall.tells_links; coming = F.Hall.coming; served = F.Hall.served; faults = F.Hall.faults; tells_moments = F.Hall.tells_moments; moments = F.Hall.moments; tells_words = F.Hall.tells_words; words = F.Hall.words }) (record { tells_left = F.Hall.Link.tells_left; left = F.Hall.Link.left; tells_held = F.Hall.Link.tells_held; held = F.Hall.Link.held; read_faults = F.Hall.Link.read_faults; write_faults = F.Hall.Link.write_faults }) services o.port o.workers o.each front.old front.new) (O.tells out.new) (O.held out.old) (O.held out.new) result }
+    ensures serving { IsServing words.now → IsServeEnd result }
+    ensures faults { CountsFront (F.faults front.old) (F.faults front.new) result }
+    ensures unasked { (IsServing words.now → ⊥) → (front.new ≡ front.old) × (result ≢ Err RunEnd.FrontFault) }
+    ensures links { IsServing words.now → input.new ≡ input.old }
 {
-    match Command::of(alloc, words)? {
-        Some(command) => perform(alloc, keys, command, input, out),
+    match Task::of(alloc, words)? {
+        Some(Task::Output(command)) => perform(alloc, keys, command, input, out),
+        Some(Task::Serve(options)) => serve_links(rt, alloc, options, out, front, gate, registry),
         None => Err(RunEnd::Usage),
     }
 }
@@ -162,6 +207,8 @@ fn perform<I: Source, O: Sink>(
     ensures runs { I.tells input.old → RunsTo command (I.left input.old) (I.left input.new) (O.tells out.new) (O.held out.old) (O.held out.new) result }
     ensures taken { I.tells input.old → length (I.left input.old) ≤ length (I.left input.new) + (most + 1) }
     ensures untouched { IsUntouched out.old out.new result }
+    ensures unwritten { result ≡ Err RunEnd.NoMemory → out.new ≡ out.old }
+    ensures no_front { result ≢ Err RunEnd.FrontFault }
     ensures reads { CountsReads (I.faults input.old) (I.faults input.new) result }
     ensures writes { CountsWrites (O.faults out.old) (O.faults out.new) result }
 {

@@ -19,6 +19,8 @@ pub enum RunEnd {
     WriteFault,
     /// There was no memory left: status 5.
     NoMemory,
+    /// The front, or a hall of it, failed: status 6.
+    FrontFault,
     /// The value of this number is the first that has no canonical spelling, and this is its first lack: status 7. The one
     /// value of an input has the number 0, and so has a file; the values of a packet are counted from 0, those of the headers
     /// first.
@@ -38,6 +40,7 @@ impl RunEnd {
             RunEnd::ReadFault => 3,
             RunEnd::WriteFault => 4,
             RunEnd::NoMemory => 5,
+            RunEnd::FrontFault => 6,
             RunEnd::NoForm { .. } => 7,
         }
     }

@@ -1,6 +1,10 @@
 use crate::arguments::{Arguments, Environment, words_of};
 use crate::start::start;
-use amf_io::{MemorySink, MemorySource, StandardError, StandardInput, StandardOutput};
+use amf_io::{
+    FaultlessFront, FaultlessLink, MemorySink, MemorySource, OpenGate, StandardError,
+    StandardInput, StandardOutput,
+};
+use amf_service::Registry;
 use amf_wire::{Memory, Name};
 use std::alloc::Global;
 use std::env::FillError;
@@ -64,7 +68,19 @@ fn starts_over_streams_in_memory(rt: HostRuntime) -> Result<(), Fail> {
         let mut source = MemorySource::new(alloc, input, 9, 0, &[])?;
         let mut sink = MemorySink::new(alloc, 9, &[])?;
         let mut error = MemorySink::new(alloc, 100, &[])?;
-        let exit = start(&rt, alloc, &arguments, &mut source, &mut sink, &mut error);
+        let mut front: FaultlessFront<FaultlessLink> = FaultlessFront::new(alloc, Vec::new(alloc))?;
+        let registry = Registry::new(alloc, Vec::new(alloc)).expect(&rt, "a registry");
+        let exit = start(
+            &rt,
+            alloc,
+            &arguments,
+            &mut source,
+            &mut sink,
+            &mut error,
+            &mut front,
+            &OpenGate,
+            &registry,
+        );
         assert_eq!(rt; exit, ExitCode::from(code));
         assert_eq!(rt; sink.as_bytes(), output);
         assert_eq!(rt; error.as_bytes(), line);
@@ -75,6 +91,11 @@ fn starts_over_streams_in_memory(rt: HostRuntime) -> Result<(), Fail> {
 /// The exit code over the real streams, of which the input is empty.
 #[test]
 fn starts_over_the_real_streams(rt: HostRuntime) -> Result<(), Fail> {
+    let mut front: FaultlessFront<FaultlessLink> = FaultlessFront::new(
+        rt.alloc(),
+        Vec::new(rt.alloc()),
+    )?;
+    let registry = Registry::new(rt.alloc(), Vec::new(rt.alloc())).expect(&rt, "a registry");
     for (word, code) in [(b"canon".as_slice(), 1), (b"cannon", 2)] {
         let exit = start(
             &rt,
@@ -83,6 +104,9 @@ fn starts_over_the_real_streams(rt: HostRuntime) -> Result<(), Fail> {
             &mut StandardInput::new(rt.stdin()),
             &mut StandardOutput::new(rt.stdout()),
             &mut StandardError::new(rt.stderr()),
+            &mut front,
+            &OpenGate,
+            &registry,
         );
         assert_eq!(rt; exit, ExitCode::from(code));
     }

@@ -1,11 +1,16 @@
 use crate::run::run;
-use amf_io::{FaultlessSink, FaultlessSource, MemorySink, MemorySource};
+use amf_io::{
+    FaultlessFront, FaultlessLink, FaultlessSink, FaultlessSource, MemorySink, MemorySource,
+    OpenGate, Sink, Source,
+};
+use amf_service::Registry;
 use amf_wire::Name;
 use std::alloc::{AllocError, Global};
-use std::io;
 use std::process::Abort;
 use std::random::RandomSource;
+use std::sync::Wait;
 use std::test::Fail;
+use std::thread::Threads;
 
 static CANON: [&str; 1] = ["canon"];
 
@@ -108,19 +113,25 @@ pub(crate) struct Ran {
     pub line: MemorySink,
 }
 
-/// A runtime that has no random bytes to give.
-struct NoRandomness;
-
-impl RandomSource for NoRandomness {
-    fn fill_bytes(&self, _buf: &mut [u8]) -> io::Result<()> {
-        Err(io::Error::from(io::ErrorKind::Unsupported))
-    }
+/// Runs with a front without halls, and without services.
+pub(crate) fn run_alone<
+    R: RandomSource + Threads + Wait + Abort + Sync,
+    I: Source,
+    O: Sink,
+    E: Sink,
+>(rt: &R, alloc: Global, words: &[Name], input: &mut I, out: &mut O, err: &mut E) -> u8 {
+    let front = FaultlessFront::new(alloc, Vec::new(alloc));
+    let mut front: FaultlessFront<FaultlessLink> = front.expect(rt, "a front");
+    let registry = Registry::new(alloc, Vec::new(alloc)).expect(rt, "a registry");
+    run(
+        rt, alloc, words, input, out, err, &mut front, &OpenGate, &registry,
+    )
 }
 
 /// Runs over bytes that come in pieces of at most `most`, none across `cut`, where these reads and
 /// writes fail.
-pub(crate) fn run_over(
-    rt: &impl Abort,
+pub(crate) fn run_over<R: RandomSource + Threads + Wait + Abort + Sync>(
+    rt: &R,
     alloc: Global,
     words: &[&str],
     bytes: &[u8],
@@ -138,14 +149,7 @@ pub(crate) fn run_over(
     );
     let mut output = MemorySink::new(alloc, 2, failing_writes).expect(rt, "a sink");
     let mut line = MemorySink::new(alloc, 100, &[]).expect(rt, "a sink");
-    let status = run(
-        &NoRandomness,
-        alloc,
-        &names,
-        &mut input,
-        &mut output,
-        &mut line,
-    );
+    let status = run_alone(rt, alloc, &names, &mut input, &mut output, &mut line);
     Ran {
         status,
         output,
@@ -164,8 +168,8 @@ fn pieces_of(alloc: Global, len: usize) -> Result<Vec<(usize, usize)>, AllocErro
 }
 
 /// Runs over bytes in these pieces, and looks at the status, the output and the error line.
-pub(crate) fn check(
-    rt: &impl Abort,
+pub(crate) fn check<R: RandomSource + Threads + Wait + Abort + Sync>(
+    rt: &R,
     alloc: Global,
     bytes: &[u8],
     pieces: (usize, usize),
@@ -187,7 +191,11 @@ pub(crate) fn check(
 }
 
 /// Runs over each row all at once, a byte at a time, and split at each place.
-pub(crate) fn check_rows(rt: &impl Abort, alloc: Global, cases: &[Case]) {
+pub(crate) fn check_rows<R: RandomSource + Threads + Wait + Abort + Sync>(
+    rt: &R,
+    alloc: Global,
+    cases: &[Case],
+) {
     for case in cases {
         for pieces in pieces_of(alloc, case.input.len()).expect(rt, "pieces") {
             check(rt, alloc, case.input, pieces, case);
@@ -433,7 +441,7 @@ fn faultless_streams(rt: HostRuntime) -> Result<(), Fail> {
     let mut input = FaultlessSource::new(rt.alloc(), &[0x04, 0x80, 0x05], 1, 0)?;
     let mut output = FaultlessSink::new(rt.alloc(), 9)?;
     let mut line = FaultlessSink::new(rt.alloc(), 0)?;
-    let status = run(&rt, rt.alloc(), &words, &mut input, &mut output, &mut line);
+    let status = run_alone(&rt, rt.alloc(), &words, &mut input, &mut output, &mut line);
     assert_eq!(rt; status, 0);
     assert_eq!(rt; output.as_bytes(), [0x04, 0x05].as_slice());
     assert!(rt; !line.has_dropped());

@@ -1,8 +1,9 @@
-use Rattle.std.proofs.Common.{◌≡◌, ◌⊎◌, ◌++◌, inl, inr, sym, ap, subst, ◌∙◌}
+use Rattle.std.proofs.Common.{◌≡◌, ◌≤◌, ◌⊎◌, ◌++◌, inl, inr, sym, ap, subst, ◌∙◌}
 use Rattle.amf_io.specs.Outside.{Steady}
 use Rattle.amf_cli.specs.Run.{Reports}
 use Rattle.amf_cli.proofs.Spelled.{made_again, made_not_lacking}
 use Rattle.amf_cli.proofs.Statuses.{refused_says, hidden_says, front_says, no_form_says, accepted_says, not_accepted_says, formed_says, lacking_says, done_not_refused, line_says, usage_status, usage_end, memory_status, form_status, reading_says, reads_steady, writes_steady}
+use Rattle.amf_cli.proofs.Serving.{done_served, served_with, serves_with, front_rose, not_6, never_0, within_7, memory_end}
 use Rattle.amf_cli.proofs.run.run.Goals as goal
 
 pub returns-in-Ok-clause-not_accepted : goal.returns-in-Ok-clause-not_accepted
@@ -32,7 +33,7 @@ pub returns-in-Err-clause-no_read_fault : goal.returns-in-Err-clause-no_read_fau
 returns-in-Err-clause-no_read_fault g c = λ read. reads_steady c.in-Err.end _ _ c.in-Err.ensures.reads (λ e. read (c.end_with.ensures.status ∙ e))
 
 pub returns-in-Err-clause-no_write_fault : goal.returns-in-Err-clause-no_write_fault
-returns-in-Err-clause-no_write_fault g c = λ write. writes_steady c.in-Err.end _ _ c.in-Err.ensures.writes (λ e. write (c.end_with.ensures.status ∙ e))
+returns-in-Err-clause-no_write_fault g c = λ write memory. writes_steady c.in-Err.end _ _ c.in-Err.ensures.writes (λ e. write (c.end_with.ensures.status ∙ e)) (λ e. memory (c.end_with.ensures.status ∙ e))
 
 pub returns-in-Err-clause-refused : goal.returns-in-Err-clause-refused
 returns-in-Err-clause-refused g c = λ d w one told.
@@ -84,3 +85,27 @@ returns-in-Err-clause-front g c = λ d w four told. front_says d c.in-Err.end _ 
 
 pub returns-in-Err-clause-reading : goal.returns-in-Err-clause-reading
 returns-in-Err-clause-reading g c = λ d w h. reading_says d c.in-Err.end (subst (λ n. (n ≡ 1) ⊎ (n ≡ 3)) c.end_with.ensures.status h) (c.in-Err.ensures.reading d w)
+
+pub returns-in-Ok-clause-served : goal.returns-in-Ok-clause-served
+returns-in-Ok-clause-served g c = λ o w zero. done_served _ _ _ _ _ (c.in-Ok.ensures.served o w)
+
+pub returns-in-Err-clause-statuses : goal.returns-in-Err-clause-statuses
+returns-in-Err-clause-statuses g c = subst (λ n. n ≤ 7) (sym c.end_with.ensures.status) (within_7 c.in-Err.end)
+
+pub returns-in-Err-clause-unwritten : goal.returns-in-Err-clause-unwritten
+returns-in-Err-clause-unwritten g c = λ five none. c.in-Err.ensures.unwritten none (memory_end c.in-Err.end (sym c.end_with.ensures.status ∙ five))
+
+pub returns-in-Err-clause-served : goal.returns-in-Err-clause-served
+returns-in-Err-clause-served g c = λ o w h. served_with _ _ _ _ c.in-Err.end _ c.end_with.ensures.status h (c.in-Err.ensures.served o w)
+
+pub returns-in-Err-clause-serving : goal.returns-in-Err-clause-serving
+returns-in-Err-clause-serving g c = λ s. serves_with c.in-Err.end _ c.end_with.ensures.status (c.in-Err.ensures.serving s)
+
+pub returns-in-Err-clause-front_fault : goal.returns-in-Err-clause-front_fault
+returns-in-Err-clause-front_fault g c = λ six. front_rose _ _ c.in-Err.end (sym c.end_with.ensures.status ∙ six) c.in-Err.ensures.faults
+
+pub returns-in-Err-clause-no_front_fault : goal.returns-in-Err-clause-no_front_fault
+returns-in-Err-clause-no_front_fault g c = λ zero. absurd (never_0 c.in-Err.end (sym c.end_with.ensures.status ∙ zero))
+
+pub returns-in-Err-clause-unasked : goal.returns-in-Err-clause-unasked
+returns-in-Err-clause-unasked g c = λ none. let u = c.in-Err.ensures.unasked none in (u.0, not_6 c.in-Err.end _ c.end_with.ensures.status u.1)

@@ -4,7 +4,7 @@ use Rattle.std.specs.Str.{IsUtf8}
 use Rattle.std.proofs.lemmas.List.{take_all}
 use Rattle.amf_words.specs.Words.{Text, texts}
 use Rattle.amf_cli.proofs.Asked.{reads_seen, none_seen}
-use Rattle.amf_cli.proofs.command.Command.of.Goals as goal
+use Rattle.amf_cli.proofs.command.Task.of.Goals as goal
 
 pub returns-clause-reads : goal.returns-clause-reads
 returns-clause-reads c =

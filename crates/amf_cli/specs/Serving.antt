@@ -1,0 +1,34 @@
+-- What a run with `serve` came to.
+use Rattle.std.specs.Prelude.{◌≡◌, ◌≢◌, ℕ, Bool, true, false, List, [], ◌++◌}
+use Rattle.amf_workers.specs.declared.answer.ServeAnswer.{ServeAnswer}
+use Rattle.amf_workers.specs.declared.answer.ServeAnswer.TheVariants.{Memory, NotOpened, Closed}
+use Rattle.amf_cli.specs.Lines.{served_line}
+use Rattle.amf_cli.specs.Written.{WritesFront}
+
+-- whether memory was wanting, to a link or to all
+abbrev pub was_starved : ServeAnswer → Bool
+was_starved Memory = true
+was_starved NotOpened = false
+was_starved (Closed counts starved faulty) = starved
+
+-- whether the front or a hall of it failed
+abbrev pub had_fault : ServeAnswer → Bool
+had_fault Memory = false
+had_fault NotOpened = true
+had_fault (Closed counts starved faulty) = faulty
+
+-- what is to be written: the line, where the front was opened
+abbrev pub line_after : ServeAnswer → List ℕ
+line_after Memory = []
+line_after NotOpened = []
+line_after (Closed counts starved faulty) = served_line counts
+
+-- What serving came to, where the status is 0, 4 or 6: no link ended for want of memory; with 0 nothing failed, and with 6 the front or a hall of it; and the line was written whole, but with 4 a front of it.
+pub record ServeRun (Came : ServeAnswer → Type 0) (told : Type 0) (held now : List ℕ) (status : ℕ) : Type 0 where
+  pub answer : ServeAnswer
+  pub came : Came answer
+  pub fed : was_starved answer ≡ false
+  pub well : status ≡ 0 → had_fault answer ≡ false
+  pub faulty : status ≡ 6 → had_fault answer ≡ true
+  pub whole : status ≢ 4 → told → now ≡ held ++ line_after answer
+  pub front : status ≡ 4 → told → WritesFront held now (line_after answer)

@@ -1,0 +1,98 @@
+ghost use Rattle.std.specs.Prelude.{◌≡◌, List, IfOk};
+ghost use Rattle.amf_service.specs.Registry.{Entry};
+ghost use Rattle.amf_gateway.specs.Services.{services_by};
+ghost use Rattle.amf_workers.specs.Together.{Serves};
+ghost use Rattle.amf_cli.specs.Askable.{IsServable};
+ghost use Rattle.amf_cli.specs.Lines.{served_line as line};
+ghost use Rattle.amf_cli.specs.Run.{CountsWrites};
+ghost use Rattle.amf_cli.specs.ServeEnds.{first_end, TellsLine, IsServeEnd, EndsServe, ServesTo, CountsFront};
+
+use crate::command::ServeOptions;
+use crate::lines::served_line;
+use crate::run_end::RunEnd;
+use crate::writing::write_whole;
+use amf_desk::Closed;
+use amf_io::{Front, Gate, Hall, Sink};
+use amf_service::Registry;
+use amf_workers::{ServeAnswer, serve};
+use std::alloc::Global;
+use std::sync::Wait;
+use std::thread::Threads;
+
+/// Serves links by the options, and writes the line that tells how many calls, messages and deliveries there were.
+pub fn serve_links<R: Threads + Wait + Sync, O: Sink, F: Front, G: Gate>(
+    rt: &R,
+    alloc: Global,
+    options: ServeOptions,
+    out: &mut O,
+    front: &mut F,
+    gate: &G,
+    registry: &Registry,
+) -> Result<(), RunEnd>
+where
+    <F::Hall as Hall>::Link: Send,
+    requires { IsServable options }
+    ensures served { let services : List Entry = services_by registry.now.services.entries (λ x. x.items) (λ s. knows (s.vtable, s.value)) (λ s. gives (s.vtable, s.value)) in ServesTo (Serves (record { tells = F.tells; asked = F.asked; to_open = F.to_open; halls = F.halls; faults = F.faults }) (record { tells_links = F.Hall.tells_links; coming = F.Hall.coming; served = F.Hall.served; faults = F.Hall.faults; tells_moments = F.Hall.tells_moments; moments = F.Hall.moments; tells_words = F.Hall.tells_words; words = F.Hall.words }) (record { tells_left = F.Hall.Link.tells_left; left = F.Hall.Link.left; tells_held = F.Hall.Link.tells_held; held = F.Hall.Link.held; read_faults = F.Hall.Link.read_faults; write_faults = F.Hall.Link.write_faults }) services options.port options.workers options.each front.old front.new) (O.tells out.new) (O.held out.old) (O.held out.new) result }
+    ensures ends { IsServeEnd result }
+    ensures tells { O.tells out.new → O.tells out.old }
+    ensures writes { CountsWrites (O.faults out.old) (O.faults out.new) result }
+    ensures faults { CountsFront (F.faults front.old) (F.faults front.new) result }
+{
+    let answer = serve(
+        rt,
+        alloc,
+        front,
+        gate,
+        registry,
+        options.port,
+        options.workers,
+        u64::from(options.each),
+    );
+    conclude(alloc, answer, out)
+}
+
+/// Writes the line, where the front was opened, and says how the run ends.
+fn conclude<O: Sink>(alloc: Global, answer: ServeAnswer, out: &mut O) -> Result<(), RunEnd>
+    ensures ends { EndsServe (O.tells out.new) (O.held out.old) (O.held out.new) answer result }
+    ensures tells { O.tells out.new → O.tells out.old }
+    ensures writes { CountsWrites (O.faults out.old) (O.faults out.new) result }
+{
+    match answer {
+        ServeAnswer::Memory => Err(RunEnd::NoMemory),
+        ServeAnswer::NotOpened => Err(RunEnd::FrontFault),
+        ServeAnswer::Closed {
+            counts,
+            starved,
+            faulty,
+        } => {
+            let told = tell(alloc, &counts, out);
+            first_of(starved, told, faulty)
+        }
+    }
+}
+
+/// Writes the line of what a closed desk tells.
+fn tell<O: Sink>(alloc: Global, closed: &Closed, out: &mut O) -> Result<(), RunEnd>
+    ensures line { TellsLine (O.tells out.new) (O.held out.old) (O.held out.new) (line closed.now) result }
+    ensures tells { O.tells out.new → O.tells out.old }
+    ensures writes { CountsWrites (O.faults out.old) (O.faults out.new) result }
+{
+    let bytes = served_line(alloc, closed)?;
+    match write_whole(out, &bytes) {
+        Ok(()) => Ok(()),
+        Err(_) => Err(RunEnd::WriteFault),
+    }
+}
+
+/// Want of memory goes before a fault of the output, and this before one of the front.
+fn first_of(starved: bool, told: Result<(), RunEnd>, faulty: bool) -> Result<(), RunEnd>
+    ensures { result ≡ first_end starved told faulty }
+{
+    if starved {
+        return Err(RunEnd::NoMemory);
+    }
+    match told {
+        Ok(()) if faulty => Err(RunEnd::FrontFault),
+        told => told,
+    }
+}

@@ -1,0 +1,135 @@
+use amf_desk::{Closed, Desk};
+use amf_gateway::{LinkEnd, serve_link};
+use amf_io::{Joined, Link, MemoryHall, MemoryLink, MemorySink, MemorySource, OpenGate};
+use amf_service::{Echo, Registry, Service};
+use amf_wire::Name;
+use std::alloc::Global;
+use std::process::Abort;
+use std::sync::Wait;
+use std::test::Fail;
+
+/// How a link in memory gives its bytes and takes those of the answers, which of its calls fail, and what the clock gives.
+#[derive(Clone, Copy)]
+pub(crate) struct Ways<'a> {
+    /// The most bytes of a piece, and the offset that none crosses.
+    pub pieces: (usize, usize),
+    pub failing_reads: &'a [u64],
+    /// The most bytes that are taken at once.
+    pub most: usize,
+    pub failing_writes: &'a [u64],
+    pub moments: &'a [u64],
+}
+
+/// All at once, and nothing fails. The clock gives 0.
+pub(crate) const PLAINLY: Ways<'static> = Ways {
+    pieces: (usize::MAX, 0),
+    failing_reads: &[],
+    most: usize::MAX,
+    failing_writes: &[],
+    moments: &[],
+};
+
+/// What came of a link.
+#[derive(Drop)]
+pub(crate) struct Answered {
+    pub end: LinkEnd,
+    pub written: Vec<u8>,
+    pub closed: Closed,
+}
+
+/// What comes of a link with these bytes at a new desk with `chat` and `news`. The dice give 0, and the one service is `echo`.
+pub(crate) fn answer_of<R: Wait + Abort>(
+    rt: &R,
+    alloc: Global,
+    bytes: &[u8],
+    ways: Ways<'_>,
+) -> Result<Answered, Fail> {
+    let mut link = Joined {
+        source: MemorySource::new(
+            alloc,
+            bytes,
+            ways.pieces.0,
+            ways.pieces.1,
+            ways.failing_reads,
+        )?,
+        sink: MemorySink::new(alloc, ways.most, ways.failing_writes)?,
+    };
+    let (end, closed) = served(rt, alloc, &mut link, ways.moments)?;
+    let mut written = Vec::new(alloc);
+    written.extend_from_slice(link.sink.as_bytes())?;
+    Ok(Answered {
+        end,
+        written,
+        closed,
+    })
+}
+
+/// Serves a link at a new desk, which is closed then.
+pub(crate) fn served<R: Wait + Abort, L: Link>(
+    rt: &R,
+    alloc: Global,
+    link: &mut L,
+    moments: &[u64],
+) -> Result<(LinkEnd, Closed), Fail> {
+    let mut entries: Vec<(Name, Box<dyn Service>)> = Vec::new(alloc);
+    entries.push((Name::of_bytes(alloc, b"echo")?, Box::new(alloc, Echo)?))?;
+    let Ok(registry) = Registry::new(alloc, entries) else {
+        return Err("no registry".into());
+    };
+    let mut names = Vec::new(alloc);
+    names.push(Name::of_bytes(alloc, b"chat")?)?;
+    names.push(Name::of_bytes(alloc, b"news")?)?;
+    let mut hall: MemoryHall<MemoryLink> = MemoryHall::new(
+        alloc,
+        Vec::new(alloc),
+        moments,
+        &[],
+        &[],
+    )?;
+    let Ok((desk, mut pass)) = Desk::open(alloc, names) else {
+        return Err("no desk".into());
+    };
+    let mut calls = 0;
+    let end = serve_link(
+        rt, alloc, link, &registry, &desk, &mut pass, &mut hall, &OpenGate, 0, &mut calls,
+    );
+    if pass.budget() == 0 {
+        return Err("no calls left".into());
+    }
+    let closed = desk.close(rt, pass);
+    assert_eq!(rt; calls, closed.calls);
+    Ok((end, closed))
+}
+
+/// Whether the pieces stand there, one behind the other.
+pub(crate) fn has_in_order(bytes: &[u8], pieces: &[&[u8]]) -> bool {
+    let mut rest = bytes;
+    for piece in pieces {
+        match behind(rest, piece) {
+            Some(more) => rest = more,
+            None => return false,
+        }
+    }
+    true
+}
+
+/// What stands behind the first place where the piece stands.
+fn behind<'a>(bytes: &'a [u8], piece: &[u8]) -> Option<&'a [u8]> {
+    for place in 0..bytes.len() {
+        if let Some(rest) = bytes[place..].strip_prefix(piece) {
+            return Some(rest);
+        }
+    }
+    None
+}
+
+/// How often the piece stands there.
+pub(crate) fn count_of(bytes: &[u8], piece: &[u8]) -> usize {
+    let mut count = 0usize;
+    for place in 0..bytes.len() {
+        if bytes[place..].starts_with(piece) {
+            count = count.saturating_add(1);
+        }
+    }
+    count
+}
