@@ -35,25 +35,26 @@ pub const LIMIT: u32 = 67_108_864;
 /// Does what the words say, and gives the status of the program.
 ///
 /// `words` are those after the program's name. The first is the command, and the others are its options, each at most once, in
-/// any order, as `--x v` or `--x=v`. The formats are `amf3`, `amf0`, `packet` and `sol`; without `--from` it is `amf3`, and without `--to`
-/// the one of the input. A value goes to `amf3` and `amf0`, a packet to `packet` alone, and a
-/// shared object file to `sol` alone.
+/// any order, as `--x v` or `--x=v`. The formats are `amf3`, `amf0`, `packet` and `sol`; without `--from` it is `amf3`, and
+/// without `--to` the one of the input. A value goes to `amf3` and `amf0`, a packet to `packet` alone, and a shared object file
+/// to `sol` alone.
 ///
-/// With `canon` the input is one value, packet or file in the format that `--from` names, and the output is its canonical spelling in the
-/// format that `--to` names. With `check` and `show` the input is so too; the output is the line `ok nodes N`, where N is how many
-/// nodes the root of the value leads to, added over the values of a packet, or for a file that of its pairs, and its listing. With `same`, which has no options, the input is two AMF 3 values, one after the
-/// other, and the output is the line `same` or `different`. With `gen` nothing is read: the output is the line `nodes N bytes B sum S`
-/// for the graph that is made of the numbers of `--seed`, 0 to 4,294,967,295, and `--size`, 1 to 1,000,000, and its canonical spelling
-/// in AMF 3. A number is 1 to 10 decimal digits.
+/// With `canon` the input is one value, packet or file in the format that `--from` names, and the output is its canonical
+/// spelling in the format that `--to` names. With `check` and `show` the input is so too; the output is the line `ok nodes N`,
+/// where N is how many nodes the root of the value leads to, added over the values of a packet, or for a file that of its pairs,
+/// and its listing. With `same`, which has no options, the input is two AMF 3 values, one after the other, and the output is the
+/// line `same` or `different`. With `gen` nothing is read: the output is the line `nodes N bytes B sum S` for the graph that is
+/// made of the numbers of `--seed`, 0 to 4,294,967,295, and `--size`, 1 to 1,000,000, and its canonical spelling in AMF 3. A
+/// number is 1 to 10 decimal digits.
 ///
-/// With `serve` nothing is read either: the front is opened at the port of `--port`, 0 to 65,535, for so many workers as `--workers` says,
-/// 1 to 64. Each worker serves up to as many links of its hall as `--each` says, 1 to 1,000,000, all at once, and their calls go to one
-/// broker with the destinations `chat` and `news`. Then all halls go back to the front, and the output is the line
-/// `calls A published B delivered C queued D`. A call of the desk is told to the gate before and after. `serve` may wait for others, and
-/// no other command does but for its streams.
+/// With `serve` nothing is read either: the front is opened at the port of `--port`, 0 to 65,535, for so many workers as
+/// `--workers` says, 1 to 64. Each worker serves up to as many links of its hall as `--each` says, 1 to 1,000,000, all at once,
+/// and their calls go to one broker with the destinations `chat` and `news`. Then all halls go back to the front, and the output
+/// is the line `calls A published B delivered C queued D`. A call of the desk is told to the gate before and after. `serve` may
+/// wait for others, and no other command does but for its streams.
 ///
-/// The runtime gives the keys by which the writer looks texts up, so that no input can be made that takes long; where it
-/// gives none, they are fixed.
+/// The runtime gives the keys by which the writer looks texts up, so that no input can be made that takes long; where it gives
+/// none, they are fixed.
 pub fn run<R: RandomSource + Threads + Wait + Sync, I: Source, O: Sink, E: Sink, F: Front, G: Gate>(
     rt: &R,
     alloc: Global,
