@@ -3,11 +3,11 @@ use Rattle.amf_packet.specs.Packet.{Packet}
 use Rattle.amf_gateway.proofs.Writable.{has_texts, not_many, not_long, not_lacking, is_packed}
 use Rattle.amf_gateway.proofs.bodies.bytes_of.Goals as goal
 
-pub write_packet-requires-clause-version : goal.write_packet-requires-clause-version
-write_packet-requires-clause-version c = c.requires.version
+pub write_packet_keyed-requires-clause-version : goal.write_packet_keyed-requires-clause-version
+write_packet_keyed-requires-clause-version c = c.requires.version
 
-pub write_packet-requires-clause-texts : goal.write_packet-requires-clause-texts
-write_packet-requires-clause-texts c = has_texts c.args.packet.now c.requires
+pub write_packet_keyed-requires-clause-texts : goal.write_packet_keyed-requires-clause-texts
+write_packet_keyed-requires-clause-texts c = has_texts c.args.packet.now c.requires
 
 pub returns-in-Ok : goal.returns-in-Ok
 returns-in-Ok c = λ (r : Packet) m. is_packed c.args.packet.now c.requires _ c.write_packet_keyed.new.out.items c.new-bytes.ensures.items c.in-Ok.ensures.written r m
