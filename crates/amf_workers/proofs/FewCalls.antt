@@ -31,7 +31,7 @@ use Rattle.amf_gateway.specs.Packets.{null_uri, message_back, answer_to, message
 use Rattle.amf_gateway.specs.Plan.{Cut, at_end, cut_short, turned_away, request, Plan, gives, takes_moment, takes_word, calls, spells, reads, cuts, unpacks, packs, writes, ◌>>=◌}
 use Rattle.amf_gateway.specs.PlainCalls as plain
 use Rattle.amf_gateway.specs.Remoting as remote
-use Rattle.amf_gateway.specs.Replies.{context_of, with_client, no_context, Context, Answer, error, acknowledge, acknowledge_null}
+use Rattle.amf_gateway.specs.Replies.{context_of, with_client, no_context, Context, Answer, error, acknowledge, acknowledge_null, reply_with}
 use Rattle.amf_gateway.specs.Serving.{ServeEnd, ended, read_fault, write_fault, no_memory, spent, LinkBytes, Taken, supply_of, did, Partly, ServesBy, Serves}
 use Rattle.amf_gateway.proofs.Composed.{runs_begun}
 use Rattle.amf_gateway.specs.Runs.{Finds, IsUnpacked, Supply, Done, nothing, Takes}
@@ -129,7 +129,7 @@ synced_none r None ends = tt
 synced_none r (Some gs) ends = λ b. tt
 
 sync_none : (k : Context) (ds : List Delivery) (subs : List ℕ) → AtMost 0 (sync k ds subs)
-sync_none k ds subs = λ a b c. then_most 0 0 (invalidates k subs) _ (invalidates_none k subs) (λ ends. then_most 0 0 (deliveries ds) _ (deliveries_none ds) (λ gs. synced_none _ gs ends))
+sync_none k ds subs = λ a b c. then_most 0 0 (invalidates k subs) _ (invalidates_none k subs) (λ ends. then_most 0 0 (deliveries ds) _ (deliveries_none ds) (λ gs. synced_none (reply_with k [] a b c) gs ends))
 
 batch_none : (k : Context) (ds : List Delivery) (subs : List ℕ) → AtMost 0 (batch k ds subs)
 batch_none k [] [] = nulls_none k []

@@ -5,4 +5,4 @@ pub for_each_mut-requires-clause-threads : goal.for_each_mut-requires-clause-thr
 for_each_mut-requires-clause-threads g c κs within = search rules
 
 pub returns : goal.returns
-returns g c = search rules
+returns g c = c.for_each_mut.ensures
