@@ -1,6 +1,5 @@
 use Rattle.std.proofs.Common.{refl, sym, subst}
 use Rattle.amf_cli.specs.declared.command.Command.{Command}
-use Rattle.amf_cli.specs.declared.command.Task.{Task}
 use Rattle.amf_cli.specs.declared.command.Task.TheVariants.{Output, Serve}
 use Rattle.amf_cli.specs.Commands.{AsksFor}
 use Rattle.amf_cli.specs.Run.{RunsTo, MayLack, IsReading, TakesInput}
