@@ -1,5 +1,5 @@
 -- What was read in a format that goes to this one is a content of this one.
-use Rattle.std.proofs.Common.{◌≡◌, ℕ, true, List, [], ◌++◌, refl, ap, ◌∙◌}
+use Rattle.std.proofs.Common.{◌≡◌, ℕ, List, [], ◌++◌, refl, ap, ◌∙◌}
 use Rattle.amf_io.specs.Field.{flat}
 use Rattle.amf_graph.specs.declared.lack.Lack.{Lack}
 use Rattle.amf_graph.specs.Graph.{Graph}
@@ -15,7 +15,6 @@ use Rattle.amf_sol_show.specs.SameFile.{IsLoweredFile}
 use Rattle.amf_sol_show.proofs.Laws.{file_laws}
 use Rattle.amf_cli.specs.declared.format.Format.{Format}
 use Rattle.amf_cli.specs.declared.format.Format.TheVariants.{Amf3, Amf0, Packet, Sol}
-use Rattle.amf_cli.specs.Commands.{goes_to}
 use Rattle.amf_cli.specs.Content.{value, packet, file}
 use Rattle.amf_cli.specs.Formats.{IsWritten, IsUnwritten}
 use Rattle.amf_cli.specs.ReadContent.{GoesInto, IsPacketRead, IsOfValues}

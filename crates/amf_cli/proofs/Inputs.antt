@@ -4,7 +4,7 @@ use Rattle.std.specs.List.{AllByRecursion}
 use Rattle.std.proofs.lemmas.List.{append-nil, length-take}
 use Rattle.amf_io.specs.declared.window.Window.{Window}
 use Rattle.amf_io.specs.declared.cursor.Cursor.{Cursor}
-use Rattle.amf_io.specs.Cursor.{source_of, ahead, unread, EndsByFault, GivesEnd}
+use Rattle.amf_io.specs.Cursor.{source_of, ahead, unread}
 use Rattle.amf_io.specs.Cursor as cursors
 use Rattle.amf_io.specs.ReadEnds.{IsFaultedEnd, Goes}
 use Rattle.amf_io.specs.Field.{Field, flat}

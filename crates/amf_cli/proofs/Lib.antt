@@ -7,4 +7,4 @@ mod Inputs
 mod Statuses
 mod MadeAgain
 mod RunRows
-mod Serving
+mod ServeLaws

@@ -1,9 +1,8 @@
 -- The graph that is made has a canonical spelling, and what reads this gives the graph back.
-use Rattle.std.proofs.Common.{◌≡◌, ◌≢◌, ℕ, zero, suc, ◌-◌, ◌≤◌, Result, Err, List, [], ◌∷◌, ◌++◌, length, get_or, refl, sym, ap, ◌∙◌, subst, arith}
-use Rattle.std.specs.Prelude.{codes}
+use Rattle.std.proofs.Common.{◌≡◌, ℕ, zero, suc, ◌-◌, ◌≤◌, Err, List, [], ◌∷◌, length, get_or, refl, sym, ap, ◌∙◌, subst, arith}
 use Rattle.std.specs.List.{AllByRecursion}
 use Rattle.std.proofs.lemmas.List.{length-map}
-use Rattle.amf_wire.specs.Style.{free, canonical}
+use Rattle.amf_wire.specs.Style.{canonical}
 use Rattle.amf_graph.specs.Arena.{node_content}
 use Rattle.amf_graph.specs.declared.lack.LackKind.{LackKind}
 use Rattle.amf_graph.specs.declared.lack.LackKind.TheVariants.{EmptyName, NoForm, LongName, Shared, FarReference, LongFile}
@@ -12,7 +11,7 @@ use Rattle.amf_graph.specs.Rooted.{RootedArena, content}
 use Rattle.amf_graph.proofs.Reaching.{order_reached}
 use Rattle.amf3_spelling.specs.Lacks3.{NodeLacks3, IsLack3}
 use Rattle.amf3_spelling.specs.Spells3.{Spelled3}
-use Rattle.amf_graph.specs.Graph.{Node, Graph, array, no_node, node, node_at, AllNamed}
+use Rattle.amf_graph.specs.Graph.{Graph, no_node, node_at, AllNamed}
 use Rattle.amf_graph.specs.Reached.{IsNamed}
 use Rattle.amf_graph.proofs.Alls.{all_push}
 use Rattle.amf_vectors.specs.Made.{each, made_object, made}

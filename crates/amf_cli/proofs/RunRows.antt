@@ -1,5 +1,5 @@
 -- The worked facts of runs: each verdict is what reading the input computes to.
-use Rattle.std.proofs.Common.{◌≡◌, ℕ, ◌≤◌, true, cond, List, [], ◌∷◌, length, refl, arith, nat_lt}
+use Rattle.std.proofs.Common.{◌≡◌, ℕ, true, List, [], ◌∷◌, length, refl, arith, nat_lt}
 use Rattle.std.proofs.lemmas.List.{length-take}
 use Rattle.std.specs.Fmt.{digits}
 use Rattle.amf_io.specs.Outcomes.{Decides, Waits, read, run}

@@ -5,7 +5,7 @@ use Rattle.amf_io.specs.declared.reason.Reason.{Reason}
 use Rattle.amf_io.specs.Field.{Field, flat}
 use Rattle.amf_io.specs.Layout.{Layout, Runs, give, IsLayout}
 use Rattle.amf_io.specs.Outcomes.{Done, Bad, Short, run}
-use Rattle.amf_io.specs.Verdict.{IsFault, IsCutOff, IsAccepted, IsInputAccepted, faulty, truncated, too_large, IsInputRefused, refused, trailing}
+use Rattle.amf_io.specs.Verdict.{IsFault, IsCutOff, IsAccepted, faulty, truncated, too_large, IsInputRefused, refused, trailing}
 use Rattle.amf_io.proofs.Inputs.{judged_once}
 use Rattle.amf_io.proofs.Paths.{runs_run, runs_bind, flat-append}
 use Rattle.amf_io.proofs.Unique.{fault_run}

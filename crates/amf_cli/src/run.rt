@@ -151,7 +151,7 @@ where
 }
 
 /// Does what the words say.
-fn execute<R: Threads + Wait + Sync, I: Source, O: Sink, F: Front, G: Gate>(
+fn execute<R: RandomSource + Threads + Wait + Sync, I: Source, O: Sink, F: Front, G: Gate>(
     rt: &R,
     alloc: Global,
     keys: Option<RandomState>,

@@ -16,11 +16,12 @@ use amf_io::{Front, Gate, Hall, Sink};
 use amf_service::Registry;
 use amf_workers::{ServeAnswer, serve};
 use std::alloc::Global;
+use std::random::RandomSource;
 use std::sync::Wait;
 use std::thread::Threads;
 
 /// Serves links by the options, and writes the line that tells how many calls, messages and deliveries there were.
-pub fn serve_links<R: Threads + Wait + Sync, O: Sink, F: Front, G: Gate>(
+pub fn serve_links<R: RandomSource + Threads + Wait + Sync, O: Sink, F: Front, G: Gate>(
     rt: &R,
     alloc: Global,
     options: ServeOptions,

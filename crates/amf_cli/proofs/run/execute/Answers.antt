@@ -1,11 +1,10 @@
 use Rattle.std.proofs.Common.{refl, sym, subst}
 use Rattle.amf_cli.specs.declared.command.Command.{Command}
-use Rattle.amf_cli.specs.declared.command.Task.{Task}
 use Rattle.amf_cli.specs.declared.command.Task.TheVariants.{Output, Serve}
 use Rattle.amf_cli.specs.Commands.{AsksFor}
 use Rattle.amf_cli.specs.Run.{RunsTo, MayLack, IsReading, TakesInput}
 use Rattle.amf_cli.proofs.Asked.{asked_possible, none_asked, not_both, not_serving, one_reading, one_serving, was_asked}
-use Rattle.amf_cli.proofs.Serving.{no_front_counts, serve_not_usage, serve_reads, serve_untouched, served_again}
+use Rattle.amf_cli.proofs.ServeLaws.{no_front_counts, serve_not_usage, serve_reads, serve_untouched, served_again}
 use Rattle.amf_cli.proofs.run.execute.Goals as goal
 
 pub perform-requires : goal.perform-requires
@@ -13,8 +12,8 @@ perform-requires g c =
     let read : AsksFor c.args.words.now (Output c.in-Some-Output.command) = was_asked c.args.words.now _ _ _ c.in-Some-Output.is c.in-Some-Output.field-0-is c.in_ok-command.ensures.reads in
     asked_possible c.args.words.now (Output c.in-Some-Output.command) read
 
-pub serve_links-requires : goal.serve_links-requires
-serve_links-requires g c =
+pub serve_links-requires-after_bounds : goal.serve_links-requires-after_bounds
+serve_links-requires-after_bounds g c κs within =
     let read : AsksFor c.args.words.now (Serve c.in-Some-Serve.options) = was_asked c.args.words.now _ _ _ c.in-Some-Serve.is c.in-Some-Serve.field-0-is c.in_ok-command.ensures.reads in
     asked_possible c.args.words.now (Serve c.in-Some-Serve.options) read
 

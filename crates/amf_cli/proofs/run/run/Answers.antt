@@ -1,10 +1,14 @@
 use Rattle.std.proofs.Common.{◌≡◌, ◌≤◌, ◌⊎◌, ◌++◌, inl, inr, sym, ap, subst, ◌∙◌}
 use Rattle.amf_io.specs.Outside.{Steady}
+use Rattle.amf_cli.specs.declared.command.Task.TheVariants.{Output}
 use Rattle.amf_cli.specs.Run.{Reports}
 use Rattle.amf_cli.proofs.Spelled.{made_again, made_not_lacking}
 use Rattle.amf_cli.proofs.Statuses.{refused_says, hidden_says, front_says, no_form_says, accepted_says, not_accepted_says, formed_says, lacking_says, done_not_refused, line_says, usage_status, usage_end, memory_status, form_status, reading_says, reads_steady, writes_steady}
-use Rattle.amf_cli.proofs.Serving.{done_served, served_with, serves_with, front_rose, not_6, never_0, within_7, memory_end}
+use Rattle.amf_cli.proofs.ServeLaws.{done_served, served_with, serves_with, front_rose, not_6, never_0, within_7, memory_end}
 use Rattle.amf_cli.proofs.run.run.Goals as goal
+
+pub returns-in-Ok-clause-done : goal.returns-in-Ok-clause-done
+returns-in-Ok-clause-done g c = λ d w zero told. c.in-Ok.ensures.runs d w told
 
 pub returns-in-Ok-clause-not_accepted : goal.returns-in-Ok-clause-not_accepted
 returns-in-Ok-clause-not_accepted g c = λ d w told reason at q. absurd (done_not_refused d _ _ _ _ _ (c.in-Ok.ensures.runs d w told) reason at q)
@@ -45,12 +49,12 @@ returns-in-Err-clause-refused g c = λ d w one told.
 pub returns-in-Err-clause-accepted : goal.returns-in-Err-clause-accepted
 returns-in-Err-clause-accepted g c = λ d w told a.
     subst (λ n. (n ≡ 0) ⊎ (n ≡ 3) ⊎ (n ≡ 4) ⊎ (n ≡ 5) ⊎ (n ≡ 7)) (sym c.end_with.ensures.status)
-    (accepted_says d c.in-Err.end _ _ _ _ _ (λ h. c.in-Err.ensures.usage h (d, w)) (c.in-Err.ensures.runs d w told) a)
+    (accepted_says d c.in-Err.end _ _ _ _ _ (λ h. c.in-Err.ensures.usage h (Output d, w)) (c.in-Err.ensures.runs d w told) a)
 
 pub returns-in-Err-clause-not_accepted : goal.returns-in-Err-clause-not_accepted
 returns-in-Err-clause-not_accepted g c = λ d w told reason at q.
     subst (λ n. (n ≡ 1) ⊎ (n ≡ 3) ⊎ (n ≡ 5)) (sym c.end_with.ensures.status)
-    (not_accepted_says d c.in-Err.end _ _ _ _ _ (λ h. c.in-Err.ensures.usage h (d, w)) (c.in-Err.ensures.runs d w told) reason at q)
+    (not_accepted_says d c.in-Err.end _ _ _ _ _ (λ h. c.in-Err.ensures.usage h (Output d, w)) (c.in-Err.ensures.runs d w told) reason at q)
 
 pub returns-in-Err-clause-no_form : goal.returns-in-Err-clause-no_form
 returns-in-Err-clause-no_form g c = λ d w seven told.
@@ -65,12 +69,12 @@ returns-in-Err-clause-alone g c = λ d w seven. let f = form_status c.in-Err.end
 pub returns-in-Err-clause-formed : goal.returns-in-Err-clause-formed
 returns-in-Err-clause-formed g c = λ d w told bytes b.
     subst (λ n. (n ≡ 0) ⊎ (n ≡ 3) ⊎ (n ≡ 4) ⊎ (n ≡ 5)) (sym c.end_with.ensures.status)
-    (formed_says d c.in-Err.end _ _ _ _ _ bytes (λ h. c.in-Err.ensures.usage h (d, w)) (c.in-Err.ensures.runs d w told) b)
+    (formed_says d c.in-Err.end _ _ _ _ _ bytes (λ h. c.in-Err.ensures.usage h (Output d, w)) (c.in-Err.ensures.runs d w told) b)
 
 pub returns-in-Err-clause-lacking : goal.returns-in-Err-clause-lacking
 returns-in-Err-clause-lacking g c = λ d w told number l k.
     subst (λ n. (n ≡ 3) ⊎ (n ≡ 5) ⊎ (n ≡ 7)) (sym c.end_with.ensures.status)
-    (lacking_says d c.in-Err.end _ _ _ _ _ number l (λ u. c.in-Err.ensures.usage u (d, w)) (c.in-Err.ensures.runs d w told) k)
+    (lacking_says d c.in-Err.end _ _ _ _ _ number l (λ u. c.in-Err.ensures.usage u (Output d, w)) (c.in-Err.ensures.runs d w told) k)
 
 pub returns-in-Err-clause-line : goal.returns-in-Err-clause-line
 returns-in-Err-clause-line g c = λ told s.

@@ -1,4 +1,4 @@
-use Rattle.amf_cli.proofs.Serving.{came_counts, came_to, ends_serve, front_counts}
+use Rattle.amf_cli.proofs.ServeLaws.{came_counts, came_to, ends_serve, front_counts}
 use Rattle.amf_cli.proofs.serving.serve_links.Goals as goal
 
 pub returns-clause-served : goal.returns-clause-served

@@ -1,7 +1,24 @@
 use Rattle.std.proofs.Common.{◌≡◌, ◌⊎◌, ◌∙◌, sym, subst, ℕ, List}
-use Rattle.amf_cli.specs.Commands.{IsServing, Reads, ReadsServe}
-use Rattle.amf_cli.proofs.Serving.{run_again}
+use Rattle.amf_cli.specs.Commands.{HasReading, IsServing, Reads, ReadsServe}
+use Rattle.amf_cli.proofs.ServeLaws.{run_again}
 use Rattle.amf_cli.proofs.start.start.Goals as goal
+
+pub returns-in-Ok-clause-no_reading : goal.returns-in-Ok-clause-no_reading
+returns-in-Ok-clause-no_reading g c = λ told none.
+    subst (λ n. (n ≡ 2) ⊎ (n ≡ 5)) (sym c.from.ensures)
+    (c.run-status.ensures.no_reading (subst (λ (ws : List (List ℕ)). HasReading ws → ⊥) (sym (c.deref.ensures.value ∙ c.in-Ok.ensures told)) none))
+
+pub returns-in-Ok-clause-done : goal.returns-in-Ok-clause-done
+returns-in-Ok-clause-done g c = λ told d w zero source.
+    c.run-status.ensures.done d (subst (λ (ws : List (List ℕ)). Reads ws d) (sym (c.deref.ensures.value ∙ c.in-Ok.ensures told)) w) (sym c.from.ensures ∙ zero) source
+
+pub returns-in-Ok-clause-refused : goal.returns-in-Ok-clause-refused
+returns-in-Ok-clause-refused g c = λ told d w one source.
+    c.run-status.ensures.refused d (subst (λ (ws : List (List ℕ)). Reads ws d) (sym (c.deref.ensures.value ∙ c.in-Ok.ensures told)) w) (sym c.from.ensures ∙ one) source
+
+pub returns-in-Ok-clause-no_form : goal.returns-in-Ok-clause-no_form
+returns-in-Ok-clause-no_form g c = λ told d w seven source.
+    c.run-status.ensures.no_form d (subst (λ (ws : List (List ℕ)). Reads ws d) (sym (c.deref.ensures.value ∙ c.in-Ok.ensures told)) w) (sym c.from.ensures ∙ seven) source
 
 pub returns-in-Ok-clause-accepted : goal.returns-in-Ok-clause-accepted
 returns-in-Ok-clause-accepted g c = λ told d w source a.

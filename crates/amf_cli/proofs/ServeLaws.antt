@@ -1,6 +1,6 @@
 -- How a run with `serve` ends.
-use Rattle.std.proofs.Common.{◌≡◌, ◌≢◌, ◌⊎◌, inl, inr, ℕ, Bool, true, false, List, [], ◌++◌, Result, Ok, Err, refl, sym, ap, ◌∙◌, subst, arith}
-use Rattle.std.specs.Prelude.{◌≤◌, ⊤}
+use Rattle.std.proofs.Common.{◌≡◌, ◌≢◌, ◌⊎◌, inl, inr, ℕ, Bool, true, false, List, Ok, Err, refl, sym, ap, ◌∙◌, subst, arith}
+use Rattle.std.specs.Prelude.{◌≤◌}
 use Rattle.std.proofs.lemmas.List.{append-nil}
 use Rattle.amf_io.specs.Outside.{Rose}
 use Rattle.amf_desk.specs.declared.closed.Closed.{Closed}
@@ -120,14 +120,14 @@ front_counts before now told held holds a (Err (NoForm v l)) c e = tt
 
 -- an end of another command says nothing of the front
 pub no_front_counts : (n : ℕ) (r : End) → r ≢ Err FrontFault → CountsFront n n r
-no_front_counts n (Ok x) no = refl
-no_front_counts n (Err (Refused f)) no = tt
-no_front_counts n (Err Usage) no = tt
-no_front_counts n (Err ReadFault) no = tt
-no_front_counts n (Err WriteFault) no = tt
-no_front_counts n (Err NoMemory) no = tt
-no_front_counts n (Err FrontFault) no = absurd (no refl)
-no_front_counts n (Err (NoForm v l)) no = tt
+no_front_counts n (Ok x) other = refl
+no_front_counts n (Err (Refused f)) other = tt
+no_front_counts n (Err Usage) other = tt
+no_front_counts n (Err ReadFault) other = tt
+no_front_counts n (Err WriteFault) other = tt
+no_front_counts n (Err NoMemory) other = tt
+no_front_counts n (Err FrontFault) other = absurd (other refl)
+no_front_counts n (Err (NoForm v l)) other = tt
 
 -- by the options that the words give
 pub served_again : {F H L : Type 0} (front : OfFront F H) (hall : OfHall H L) (link : OfLink L) (services : List Entry) (a b : F) (told : Type 0) (held now : List ℕ) (r : End) (o p : ServeOptions) → o ≡ p → ServesTo (Serves front hall link services o.port o.workers o.each a b) told held now r → ServesTo (Serves front hall link services p.port p.workers p.each a b) told held now r
@@ -139,15 +139,15 @@ abbrev Ended : RunEnd → End
 Ended e = Err e
 
 pub done_served : (Came : ServeAnswer → Type 0) (told : Type 0) (held now : List ℕ) (x : Unit {0}) → ServesTo Came told held now (Ok x) → ServeRun Came told held now 0
-done_served Came told held now x (a, c, fed, well, whole) = record { answer = a; came = c; fed = fed; well = λ z. well; faulty = λ z. absurd (omega arith); whole = λ n. whole; front = λ z. absurd (omega arith) }
+done_served Came told held now x (a, c, (fed, well, whole)) = record { answer = a; came = c; fed = fed; well = λ z. well; faulty = λ z. absurd (omega arith); whole = λ n. whole; front = λ z. absurd (omega arith) }
 
 served_by : (Came : ServeAnswer → Type 0) (told : Type 0) (held now : List ℕ) (e : RunEnd) → (status_of e ≡ 0) ⊎ (status_of e ≡ 4) ⊎ (status_of e ≡ 6) → ServesTo Came told held now (Err e) → ServeRun Came told held now (status_of e)
 served_by Came told held now (Refused f) h s = absurd s
 served_by Came told held now Usage h s = absurd s
 served_by Came told held now ReadFault h s = absurd s
-served_by Came told held now WriteFault h (a, c, fed, front) = record { answer = a; came = c; fed = fed; well = λ z. absurd (omega arith); faulty = λ z. absurd (omega arith); whole = λ n. absurd (n refl); front = λ z. front }
+served_by Came told held now WriteFault h (a, c, (fed, front)) = record { answer = a; came = c; fed = fed; well = λ z. absurd (omega arith); faulty = λ z. absurd (omega arith); whole = λ n. absurd (n refl); front = λ z. front }
 served_by Came told held now NoMemory h s = elim h [ inl e ↦ absurd (omega (arith, e)) | inr e ↦ elim e [ inl f ↦ absurd (omega (arith, f)) | inr f ↦ absurd (omega (arith, f)) ] ]
-served_by Came told held now FrontFault h (a, c, fed, faulty, whole) = record { answer = a; came = c; fed = fed; well = λ z. absurd (omega arith); faulty = λ z. faulty; whole = λ n. whole; front = λ z. absurd (omega arith) }
+served_by Came told held now FrontFault h (a, c, (fed, faulty, whole)) = record { answer = a; came = c; fed = fed; well = λ z. absurd (omega arith); faulty = λ z. faulty; whole = λ n. whole; front = λ z. absurd (omega arith) }
 served_by Came told held now (NoForm v l) h s = absurd s
 
 pub served_with : (Came : ServeAnswer → Type 0) (told : Type 0) (held now : List ℕ) (e : RunEnd) (status : ℕ) → status ≡ status_of e → (status ≡ 0) ⊎ (status ≡ 4) ⊎ (status ≡ 6) → ServesTo Came told held now (Err e) → ServeRun Came told held now status
@@ -179,7 +179,7 @@ pub front_rose : (before now : ℕ) (e : RunEnd) → status_of e ≡ 6 → Count
 front_rose before now e h c = (subst (λ (x : RunEnd). CountsFront before now (Err x)) (front_end e h) c).1
 
 pub not_6 : (e : RunEnd) (status : ℕ) → status ≡ status_of e → (Ended e ≡ Err FrontFault → ⊥) → status ≢ 6
-not_6 e status is no six = no (ap Ended (front_end e (sym is ∙ six)))
+not_6 e status is other six = other (ap Ended (front_end e (sym is ∙ six)))
 
 pub never_0 : (e : RunEnd) → status_of e ≡ 0 → ⊥
 never_0 (Refused f) h = absurd (omega arith)
