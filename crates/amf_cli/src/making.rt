@@ -80,7 +80,7 @@ fn read_back(alloc: Global, graph: &Rooted, bytes: &[u8]) -> Result<(), Memory>
     requires within { length bytes.now ≤ most }
 {
     let mut source = FaultlessSource::new(alloc, bytes, bytes.len(), 0)?;
-    let read = match read_content(alloc, Format::Amf3, &mut source) {
+    let read = match read_content(alloc, None, Format::Amf3, &mut source) {
         Ok(read) => read,
         Err(end) => return Err(only_memory(end)),
     };

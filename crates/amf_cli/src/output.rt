@@ -34,9 +34,9 @@ pub fn output_of<I: Source>(
 {
     match command {
         Command::Canon { from, to } => converted(alloc, keys, from, to, input),
-        Command::Check { from } => checked(alloc, from, input),
-        Command::Show { from } => shown(alloc, from, input),
-        Command::Same => comparison(alloc, input),
+        Command::Check { from } => checked(alloc, keys, from, input),
+        Command::Show { from } => shown(alloc, keys, from, input),
+        Command::Same => comparison(alloc, keys, input),
         Command::Gen { seed, size } => Ok(measurement(alloc, keys, seed, size)?),
     }
 }
@@ -55,7 +55,7 @@ fn converted<I: Source>(
     ensures counts { CountsReads (I.faults input.old) (I.faults input.new) result }
     ensures ends { IsOutputEnd (Canon from to) result }
 {
-    let content = match read_content(alloc, from, input) {
+    let content = match read_content(alloc, keys, from, input) {
         Ok(content) => content,
         Err(end) => return Err(end),
     };
@@ -67,13 +67,17 @@ fn converted<I: Source>(
 }
 
 /// The line that says whether the two values that the input is are the same graph.
-fn comparison<I: Source>(alloc: Global, input: &mut I) -> Result<Vec<u8>, RunEnd>
+fn comparison<I: Source>(
+    alloc: Global,
+    keys: Option<RandomState>,
+    input: &mut I,
+) -> Result<Vec<u8>, RunEnd>
     ensures reads { I.tells input.old → ReadsInput two NeverLacks (λ line. IsCompared (I.left input.old) line.items) (I.left input.old) (I.left input.new) result }
     ensures taken { I.tells input.old → length (I.left input.old) ≤ length (I.left input.new) + (most + 1) }
     ensures counts { CountsReads (I.faults input.old) (I.faults input.new) result }
     ensures ends { IsReadEnd result }
 {
-    let (left, right) = read_graphs(alloc, input)?;
+    let (left, right) = read_graphs(alloc, keys, input)?;
     let line = if isomorphic(alloc, &left, &right)? {
         b"same\n".as_slice()
     } else {
@@ -83,24 +87,34 @@ fn comparison<I: Source>(alloc: Global, input: &mut I) -> Result<Vec<u8>, RunEnd
 }
 
 /// The line that says how many nodes the input has.
-fn checked<I: Source>(alloc: Global, from: Format, input: &mut I) -> Result<Vec<u8>, RunEnd>
+fn checked<I: Source>(
+    alloc: Global,
+    keys: Option<RandomState>,
+    from: Format,
+    input: &mut I,
+) -> Result<Vec<u8>, RunEnd>
     ensures reads { I.tells input.old → ReadsInput (one from) NeverLacks (λ line. IsChecked from (I.left input.old) line.items) (I.left input.old) (I.left input.new) result }
     ensures taken { I.tells input.old → length (I.left input.old) ≤ length (I.left input.new) + (most + 1) }
     ensures counts { CountsReads (I.faults input.old) (I.faults input.new) result }
     ensures ends { IsReadEnd result }
 {
-    let content = read_content(alloc, from, input)?;
+    let content = read_content(alloc, keys, from, input)?;
     let nodes = node_count(alloc, &content)?;
     Ok(count_line(alloc, nodes)?)
 }
 
 /// The listing of what the input is.
-fn shown<I: Source>(alloc: Global, from: Format, input: &mut I) -> Result<Vec<u8>, RunEnd>
+fn shown<I: Source>(
+    alloc: Global,
+    keys: Option<RandomState>,
+    from: Format,
+    input: &mut I,
+) -> Result<Vec<u8>, RunEnd>
     ensures reads { I.tells input.old → ReadsInput (one from) NeverLacks (λ bytes. IsShown from (I.left input.old) bytes.items) (I.left input.old) (I.left input.new) result }
     ensures taken { I.tells input.old → length (I.left input.old) ≤ length (I.left input.new) + (most + 1) }
     ensures counts { CountsReads (I.faults input.old) (I.faults input.new) result }
     ensures ends { IsReadEnd result }
 {
-    let content = read_content(alloc, from, input)?;
+    let content = read_content(alloc, keys, from, input)?;
     Ok(listing(alloc, &content)?)
 }

@@ -20,17 +20,19 @@ use crate::run::LIMIT;
 use crate::run_end::RunEnd;
 use amf_graph::{Builder, Rooted, Value};
 use amf_io::{Cursor, ReadEnd, Reason, Refusal, Source, Window};
-use amf_packet::{Packet, read_packet};
-use amf_sol::read_sol;
+use amf_packet::{Packet, read_packet_keyed};
+use amf_sol::read_sol_keyed;
 use amf_tables::Tables3;
 use amf0_read::read0;
 use amf0_tables::Tables0;
 use amf3_read::read3;
 use std::alloc::Global;
+use std::hash::RandomState;
 
-/// The value, the packet or the file that the input spells in a format.
+/// The value, the packet or the file that the input spells in a format. Texts are looked up by the keys.
 pub fn read_content<I: Source>(
     alloc: Global,
+    keys: Option<RandomState>,
     from: Format,
     input: &mut I,
 ) -> Result<Content, RunEnd>
@@ -42,11 +44,15 @@ pub fn read_content<I: Source>(
 {
     let window = Window::new(alloc, LIMIT)?;
     let mut cursor = Cursor::over(input, window);
-    read_whole(alloc, from, &mut cursor)
+    read_whole(alloc, keys, from, &mut cursor)
 }
 
 /// The two graphs that the input spells, one after the other.
-pub fn read_graphs<I: Source>(alloc: Global, input: &mut I) -> Result<(Rooted, Rooted), RunEnd>
+pub fn read_graphs<I: Source>(
+    alloc: Global,
+    keys: Option<RandomState>,
+    input: &mut I,
+) -> Result<(Rooted, Rooted), RunEnd>
     ensures reads { I.tells input.old → ReadsInput two NeverLacks (λ p. ArePairIn (content p.0) (content p.1) (I.left input.old)) (I.left input.old) (I.left input.new) result }
     ensures taken { I.tells input.old → length (I.left input.old) ≤ length (I.left input.new) + (most + 1) }
     ensures counts { CountsReads (I.faults input.old) (I.faults input.new) result }
@@ -54,12 +60,13 @@ pub fn read_graphs<I: Source>(alloc: Global, input: &mut I) -> Result<(Rooted, R
 {
     let window = Window::new(alloc, LIMIT)?;
     let mut cursor = Cursor::over(input, window);
-    read_pair(alloc, &mut cursor)
+    read_pair(alloc, keys, &mut cursor)
 }
 
 /// The value, the packet or the file that all the bytes of a cursor spell in a format.
 fn read_whole<S: Source>(
     alloc: Global,
+    keys: Option<RandomState>,
     from: Format,
     cursor: &mut Cursor<'_, S>,
 ) -> Result<Content, RunEnd>
@@ -73,13 +80,17 @@ fn read_whole<S: Source>(
     ensures ends { IsReadEnd result }
 {
     match from {
-        Format::Sol => read_file(alloc, cursor),
-        _ => read_ended(alloc, from, cursor),
+        Format::Sol => read_file(alloc, keys, cursor),
+        _ => read_ended(alloc, keys, from, cursor),
     }
 }
 
 /// The file that all the bytes of a cursor spell: nothing can follow it.
-fn read_file<S: Source>(alloc: Global, cursor: &mut Cursor<'_, S>) -> Result<Content, RunEnd>
+fn read_file<S: Source>(
+    alloc: Global,
+    keys: Option<RandomState>,
+    cursor: &mut Cursor<'_, S>,
+) -> Result<Content, RunEnd>
     requires at_start { place cursor.old ≡ 0 }
     requires limit { bound cursor.old ≡ most }
     ensures same_reference { (source_of cursor.new).ghost_name ≡ (source_of cursor.old).ghost_name }
@@ -89,13 +100,14 @@ fn read_file<S: Source>(alloc: Global, cursor: &mut Cursor<'_, S>) -> Result<Con
     ensures counts { CountsReads (S.faults (source_of cursor.old).now) (S.faults (source_of cursor.new).now) result }
     ensures ends { IsReadEnd result }
 {
-    let file = read_sol(alloc, cursor)?;
+    let file = read_sol_keyed(alloc, keys, cursor)?;
     Ok(Content::File(file))
 }
 
 /// The value or the packet that all the bytes of a cursor spell in a format.
 fn read_ended<S: Source>(
     alloc: Global,
+    keys: Option<RandomState>,
     from: Format,
     cursor: &mut Cursor<'_, S>,
 ) -> Result<Content, RunEnd>
@@ -109,7 +121,7 @@ fn read_ended<S: Source>(
     ensures counts { CountsReads (S.faults (source_of cursor.old).now) (S.faults (source_of cursor.new).now) result }
     ensures ends { IsReadEnd result }
 {
-    let content = read_one(alloc, from, cursor)?;
+    let content = read_one(alloc, keys, from, cursor)?;
     expect_end(cursor)?;
     Ok(content)
 }
@@ -117,6 +129,7 @@ fn read_ended<S: Source>(
 /// The two graphs that all the bytes of a cursor spell.
 fn read_pair<S: Source>(
     alloc: Global,
+    keys: Option<RandomState>,
     cursor: &mut Cursor<'_, S>,
 ) -> Result<(Rooted, Rooted), RunEnd>
     requires at_start { place cursor.old ≡ 0 }
@@ -127,8 +140,8 @@ fn read_pair<S: Source>(
     ensures counts { CountsReads (S.faults (source_of cursor.old).now) (S.faults (source_of cursor.new).now) result }
     ensures ends { IsReadEnd result }
 {
-    let left = read_one3(alloc, cursor)?;
-    let right = read_one3(alloc, cursor)?;
+    let left = read_one3(alloc, keys, cursor)?;
+    let right = read_one3(alloc, keys, cursor)?;
     expect_end(cursor)?;
     Ok((left, right))
 }
@@ -136,6 +149,7 @@ fn read_pair<S: Source>(
 /// The value or the packet that the next bytes of a cursor spell in a format, from empty tables.
 fn read_one<S: Source>(
     alloc: Global,
+    keys: Option<RandomState>,
     from: Format,
     cursor: &mut Cursor<'_, S>,
 ) -> Result<Content, ReadEnd>
@@ -145,9 +159,9 @@ fn read_one<S: Source>(
     ensures answers { AnswersOne content_of from (S.tells (source_of cursor.old).now) (unread S.left cursor.old) (unread S.left cursor.new) (place cursor.old) (place cursor.new) result }
 {
     match from {
-        Format::Amf3 => valued(read_one3(alloc, cursor)),
-        Format::Amf0 => valued(read_one0(alloc, cursor)),
-        Format::Packet => packeted(read_packet(alloc, cursor)),
+        Format::Amf3 => valued(read_one3(alloc, keys, cursor)),
+        Format::Amf0 => valued(read_one0(alloc, keys, cursor)),
+        Format::Packet => packeted(read_packet_keyed(alloc, keys, cursor)),
         Format::Sol => unreachable!(),
     }
 }
@@ -173,24 +187,32 @@ fn packeted(read: Result<Packet, ReadEnd>) -> Result<Content, ReadEnd>
 }
 
 /// The graph that the next bytes of a cursor spell in AMF 0, from empty tables.
-fn read_one0<S: Source>(alloc: Global, cursor: &mut Cursor<'_, S>) -> Result<Rooted, ReadEnd>
+fn read_one0<S: Source>(
+    alloc: Global,
+    keys: Option<RandomState>,
+    cursor: &mut Cursor<'_, S>,
+) -> Result<Rooted, ReadEnd>
     requires limit { bound cursor.old ≡ most }
     ensures goes { Goes S.tells S.left S.faults cursor.old cursor.new result }
     ensures answers { AnswersOne (λ g. of_graph (content g)) form.Amf0 (S.tells (source_of cursor.old).now) (unread S.left cursor.old) (unread S.left cursor.new) (place cursor.old) (place cursor.new) result }
 {
-    let mut builder = Builder::new(alloc)?;
+    let mut builder = Builder::keyed(alloc, keys)?;
     let mut tables = Tables0::new(alloc)?;
     let read = read0(alloc, cursor, &mut builder, &mut tables)?;
     Ok(whole(builder, read.value))
 }
 
 /// The graph that the next bytes of a cursor spell in AMF 3, from empty tables.
-fn read_one3<S: Source>(alloc: Global, cursor: &mut Cursor<'_, S>) -> Result<Rooted, ReadEnd>
+fn read_one3<S: Source>(
+    alloc: Global,
+    keys: Option<RandomState>,
+    cursor: &mut Cursor<'_, S>,
+) -> Result<Rooted, ReadEnd>
     requires limit { bound cursor.old ≡ most }
     ensures goes { Goes S.tells S.left S.faults cursor.old cursor.new result }
     ensures answers { AnswersOne (λ g. of_graph (content g)) form.Amf3 (S.tells (source_of cursor.old).now) (unread S.left cursor.old) (unread S.left cursor.new) (place cursor.old) (place cursor.new) result }
 {
-    let mut builder = Builder::new(alloc)?;
+    let mut builder = Builder::keyed(alloc, keys)?;
     let mut tables = Tables3::new(alloc)?;
     let root = read3(alloc, cursor, &mut builder, &mut tables)?;
     Ok(whole(builder, root))

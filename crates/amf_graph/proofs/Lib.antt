@@ -37,3 +37,6 @@ pub mod Used
 pub mod Copied
 pub mod GraftMade
 pub mod CutSizes
+pub mod Links
+pub mod Pieces
+pub mod Contents

@@ -14,6 +14,7 @@ pub mod Views
 pub mod Rooted
 pub mod Renumbered
 pub mod Grafting
+pub mod TextNumbers
 pub mod StandIns
 pub mod Roots
 pub mod GraftLaws
@@ -21,9 +22,13 @@ pub mod GraftKeeps
 pub mod WorkedGraphs
 pub mod WorkedFits
 pub mod FinishedFacts
+pub mod NumberFacts
 -- Devices of the proofs: no clause of a public call needs them.
 pub mod Bodies
 pub mod Gather
 pub mod Copying
 pub mod HaveStandIns
+pub mod KeptTexts
+pub mod TextPool
 pub mod TextRanks
+pub mod Chains

@@ -16,8 +16,9 @@ use crate::text_ranks::TextRanks;
 use crate::{
     BuildEnd, Leaf, NodeId, NodeKind, Part, Rooted, Shape, TextId, TraitsId, TraitsView, Value,
 };
-use amf_wire::{Memory, Name};
+use amf_wire::Memory;
 use std::alloc::Global;
+use std::hash::RandomState;
 use std::marker::Model;
 
 /// Builds a graph, from its texts, traits and nodes to its root.
@@ -49,12 +50,22 @@ pub struct Unfinished {
 
 impl Builder {
     /// A builder that holds nothing yet. It gives up where there is no memory.
+    ///
+    /// Its texts are looked up by fixed keys, so whoever knows them can make texts that take long: `keyed` is passed others.
     pub fn new(alloc: Global) -> Result<Builder, Memory>
+        ensures { IfOk result (λ builder. builder ≡ no_arena) }
+    {
+        Builder::keyed(alloc, None)
+    }
+
+    /// A builder that holds nothing yet, whose texts are looked up by these keys, or by fixed ones where there are none. What it
+    /// builds is the same for all keys. It gives up where there is no memory.
+    pub fn keyed(alloc: Global, keys: Option<RandomState>) -> Result<Builder, Memory>
         ensures { IfOk result (λ builder. builder ≡ no_arena) }
     {
         Ok(Builder {
             alloc,
-            store: Store::new(alloc),
+            store: Store::new(alloc, keys),
         })
     }
 
@@ -81,7 +92,7 @@ impl Builder {
         if place >= MAX_COUNT as usize || bytes.len() > MAX_COUNT as usize {
             return Err(BuildEnd::Full);
         }
-        self.store.keep_text(Name::of_bytes(self.alloc, bytes)?)?;
+        self.store.keep_text(bytes)?;
         Ok(TextId(place as u32))
     }
 

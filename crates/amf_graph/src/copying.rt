@@ -17,9 +17,10 @@ use crate::node::Node;
 use crate::number_set::NumberSet;
 use crate::reach::reached;
 use crate::store::Store;
+use crate::texts::Texts;
 use crate::uses::{used_texts, used_traits};
 use crate::{Leaf, NodeId, Rooted, TextId, TraitsId, Value};
-use amf_wire::{Memory, Name};
+use amf_wire::Memory;
 use std::alloc::Global;
 use std::marker::Model;
 
@@ -197,14 +198,14 @@ impl Copying {
         Ok(Class::new(self.text(class.class), class.dynamic, sealed))
     }
 
-    fn text_copies(&self, alloc: Global, graph: &Rooted) -> Result<Vec<Name>, Memory>
+    fn text_copies(&self, alloc: Global, graph: &Rooted) -> Result<Texts, Memory>
         requires { AreCounts self.now graph.now.arena }
-        ensures { IfOk result (λ copies. copies.items ≡ copied_texts graph.now.arena self.now.texts.items) }
+        ensures { IfOk result (λ copies. copies ≡ copied_texts graph.now.arena self.now.texts.items) }
     {
-        let mut copies = Vec::new(alloc);
+        let mut copies = graph.no_texts(alloc);
         for place in 0..self.texts.len() {
             let text = graph.text(TextId(self.texts.at(place)));
-            copies.push(Name::of_bytes(alloc, text)?)?;
+            copies.push(text)?;
         }
         Ok(copies)
     }

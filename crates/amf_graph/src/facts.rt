@@ -1,4 +1,5 @@
 ghost use Rattle.amf_graph.specs.FinishedFacts.{FinishedFacts};
+ghost use Rattle.amf_graph.specs.NumberFacts.{NumberFacts};
 ghost use Rattle.amf_graph.specs.WorkedFits.{FitRows};
 ghost use Rattle.amf_graph.specs.WorkedGraphs.{GraphRows};
 
@@ -17,4 +18,9 @@ pub fn fit_rows()
 /// was within bounds, and it completes itself.
 pub fn finished_facts()
     ensures { FinishedFacts }
+{}
+
+/// Two texts have one number exactly where they have the same bytes, and there are no more numbers than texts.
+pub fn number_facts()
+    ensures { NumberFacts }
 {}

@@ -4,6 +4,7 @@
 mod body;
 mod build_end;
 mod builder;
+mod chains;
 mod class;
 mod copying;
 mod facts;
@@ -23,7 +24,10 @@ mod rooted;
 mod shape;
 mod stand_ins;
 mod store;
+mod text_keys;
+mod text_pool;
 mod text_ranks;
+mod texts;
 mod uses;
 mod value;
 mod views;
@@ -32,7 +36,7 @@ mod write_end;
 
 pub use build_end::BuildEnd;
 pub use builder::{Builder, Unfinished};
-pub use facts::{finished_facts, fit_rows, graph_rows};
+pub use facts::{finished_facts, fit_rows, graph_rows, number_facts};
 pub use grafts::{graft_keeps, graft_laws};
 pub use kind::NodeKind;
 pub use lack::{Lack, LackKind};

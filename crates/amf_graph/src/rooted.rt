@@ -1,4 +1,4 @@
-ghost use Rattle.std.specs.Prelude.{◌≡◌, ◌<◌, false, length, get_or, IfOk};
+ghost use Rattle.std.specs.Prelude.{◌≡◌, ◌<◌, false, [], length, get_or, slice_get, Some, IfOk};
 ghost use Rattle.std.specs.Cmp.Lexicographic.{slice_cmp};
 ghost use Rattle.std.specs.List.{AllByRecursion};
 ghost use Rattle.std.specs.Ordering.{nat_cmp};
@@ -8,6 +8,7 @@ ghost use Rattle.amf_graph.specs.Bounds.{IsWithinBounds, count_end};
 ghost use Rattle.amf_graph.specs.Building.{stored_at, kind_of};
 ghost use Rattle.amf_graph.specs.Renumbered.{numbers_of, renumbered, IsSelfContained};
 ghost use Rattle.amf_graph.specs.StandIns.{GraphStandsFor};
+ghost use Rattle.amf_graph.specs.TextNumbers.{contents_of};
 ghost use Rattle.amf_graph.specs.TextRanks.{AreRanks};
 ghost use Rattle.amf_graph.specs.Views.{Shows, ShowsTraits};
 
@@ -16,6 +17,7 @@ use crate::renumber::{places_by_node, renumbered};
 use crate::stand_ins::stand_in;
 use crate::store::Store;
 use crate::text_ranks::TextRanks;
+use crate::texts::Texts;
 use crate::{NodeId, NodeKind, NodeView, TextId, TraitsId, TraitsView, Value};
 use amf_wire::Memory;
 use std::alloc::Global;
@@ -143,6 +145,29 @@ impl Rooted {
             (Some(x), Some(y)) => x.cmp(&y),
             _ => self.store.compare_texts(x, y),
         }
+    }
+
+    /// The number of a text's content, counted from 0 in the order in which contents come first. The text has to be there. Two
+    /// texts have one number exactly where they have the same bytes.
+    pub fn text_number(&self, text: TextId) -> u32
+        requires { text.0 < length self.now.arena.texts }
+        ensures { slice_get (contents_of self.now.arena.texts) result ≡ Some (text_at self.now.arena text.0) }
+    {
+        self.store.text_number(text)
+    }
+
+    /// How many contents the texts have: each number of one is below it.
+    pub fn content_count(&self) -> usize
+        ensures { result ≡ length (contents_of self.now.arena.texts) }
+    {
+        self.store.content_count()
+    }
+
+    /// No texts yet, which are looked up as those of this graph.
+    pub(crate) fn no_texts(&self, alloc: Global) -> Texts
+        ensures { result ≡ [] }
+    {
+        self.store.no_texts(alloc)
     }
 
     /// The traits at a place, which have to be there.

@@ -10,6 +10,7 @@ ghost use Rattle.amf_graph.specs.Renumbered.{numbers_of, renumbered_node, renumb
 ghost use Rattle.amf_graph.specs.HaveStandIns.{NodeHasStandIns};
 ghost use Rattle.amf_graph.specs.StandIns.{NodeStandsFor, opened_traits};
 ghost use Rattle.amf_graph.specs.Views.{Shows, ShowsTraits};
+ghost use Rattle.amf_graph.specs.TextNumbers.{contents_of};
 ghost use Rattle.amf_graph.specs.Bounds.{count_end};
 
 use crate::body::Body;
@@ -18,16 +19,18 @@ use crate::limits::MAX_COMPARED;
 use crate::name_marks::{mark_pairs, mark_sealed};
 use crate::node::{Node, first_open};
 use crate::stand_ins::{opened_classes, stand_in_nodes};
+use crate::texts::Texts;
 use crate::{Leaf, NodeId, NodeKind, NodeView, Part, TextId, TraitsId, TraitsView, Value};
-use amf_wire::{Memory, Name};
+use amf_wire::Memory;
 use std::alloc::Global;
 use std::cmp::Ordering;
+use std::hash::RandomState;
 use std::marker::Model;
 
 /// Texts, traits and nodes by their places.
 #[derive(Drop)]
 pub(crate) struct Store {
-    texts: Vec<Name>,
+    texts: Texts,
     traits: Vec<Class>,
     nodes: Vec<Node>,
 }
@@ -37,32 +40,23 @@ impl Model for Store {
 
     ghost Value = { Arena };
 
-    ghost view = { λ s. record { texts = s.texts.items; traits = s.traits.items; nodes = s.nodes.items } };
-}
-
-/// The bytes of a text, or none where there is no such text.
-fn bytes_at(texts: &[Name], text: TextId) -> &[u8]
-    ensures { result.now ≡ get_or texts.now text.0 [] }
-{
-    match texts.get(text.0 as usize) {
-        Some(name) => name.as_bytes(),
-        None => &[],
-    }
+    ghost view = { λ s. record { texts = s.texts; traits = s.traits.items; nodes = s.nodes.items } };
 }
 
 impl Store {
-    pub(crate) fn new(alloc: Global) -> Store
+    /// Nothing yet. Texts are looked up by these keys.
+    pub(crate) fn new(alloc: Global, keys: Option<RandomState>) -> Store
         ensures { result ≡ no_arena }
     {
         Store {
-            texts: Vec::new(alloc),
+            texts: Texts::new(alloc, keys),
             traits: Vec::new(alloc),
             nodes: Vec::new(alloc),
         }
     }
 
-    pub(crate) fn of(texts: Vec<Name>, traits: Vec<Class>, nodes: Vec<Node>) -> Store
-        ensures { result ≡ record { texts = texts.items; traits = traits.items; nodes = nodes.items } }
+    pub(crate) fn of(texts: Texts, traits: Vec<Class>, nodes: Vec<Node>) -> Store
+        ensures { result ≡ record { texts = texts; traits = traits.items; nodes = nodes.items } }
     {
         Store {
             texts,
@@ -76,10 +70,9 @@ impl Store {
         ensures ok { OnOk result (self.new ≡ joined self.old more) }
         ensures err { OnErr result (self.new ≡ self.old) }
     {
-        self.texts.reserve(more.texts.len())?;
         self.traits.reserve(more.traits.len())?;
         self.nodes.reserve(more.nodes.len())?;
-        self.texts.append(&mut more.texts)?;
+        self.texts.append(&more.texts)?;
         self.traits.append(&mut more.traits)?;
         self.nodes.append(&mut more.nodes)?;
         Ok(())
@@ -103,8 +96,8 @@ impl Store {
         self.nodes.len()
     }
 
-    pub(crate) fn keep_text(&mut self, text: Name) -> Result<(), Memory>
-        ensures ok { OnOk result (self.new ≡ kept_text self.old text) }
+    pub(crate) fn keep_text(&mut self, text: &[u8]) -> Result<(), Memory>
+        ensures ok { OnOk result (self.new ≡ kept_text self.old text.now) }
         ensures err { OnErr result (self.new ≡ self.old) }
     {
         self.texts.push(text)?;
@@ -163,23 +156,44 @@ impl Store {
         requires { text.0 < length self.now.texts }
         ensures { result.now ≡ text_at self.now text.0 }
     {
-        self.texts[text.0 as usize].as_bytes()
+        self.texts.get(text.0 as usize)
     }
 
     /// How two texts stand to one another by their bytes. A place with no text counts as an empty one.
     pub(crate) fn compare_texts(&self, x: TextId, y: TextId) -> Ordering
         ensures { result ≡ slice_cmp nat_cmp (text_at self.now x.0) (text_at self.now y.0) }
     {
-        bytes_at(&self.texts, x).cmp(bytes_at(&self.texts, y))
+        let text = self.texts.get(x.0 as usize);
+        text.cmp(self.texts.get(y.0 as usize))
     }
 
     /// Whether a text is too long to be compared byte by byte each time.
     pub(crate) fn has_long_text(&self) -> bool
-        ensures { result ≡ list_any (λ x. nat_lt MAX_COMPARED (length x)) self.now.texts }
+        ensures { result ≡ list_any (λ x. nat_lt MAX_COMPARED (length x)) (contents_of self.now.texts) }
     {
-        self.texts
-            .iter()
-            .any(|text| text.as_bytes().len() > MAX_COMPARED)
+        self.texts.has_longer(MAX_COMPARED)
+    }
+
+    /// The number of a text's content.
+    pub(crate) fn text_number(&self, text: TextId) -> u32
+        requires { text.0 < length self.now.texts }
+        ensures { slice_get (contents_of self.now.texts) result ≡ Some (text_at self.now text.0) }
+    {
+        self.texts.number(text.0 as usize)
+    }
+
+    /// How many contents the texts have.
+    pub(crate) fn content_count(&self) -> usize
+        ensures { result ≡ length (contents_of self.now.texts) }
+    {
+        self.texts.content_count()
+    }
+
+    /// No texts yet, which are looked up as those here.
+    pub(crate) fn no_texts(&self, alloc: Global) -> Texts
+        ensures { result ≡ [] }
+    {
+        self.texts.none(alloc)
     }
 
     /// By text whether it names a pair of a node or a sealed member of traits.
@@ -287,10 +301,11 @@ impl Store {
         requires numbers { length numbers.now ≡ length self.now.nodes }
         ensures { IfOk result (λ store. store ≡ renumbered_arena (number_in numbers.now) (numbers_of order.now) self.now) }
     {
+        let nodes = renumbered_nodes(alloc, &self.nodes, order, numbers)?;
         Ok(Store {
-            texts: copied_texts(alloc, &self.texts)?,
+            texts: self.texts.copy(alloc)?,
             traits: copied_traits(alloc, &self.traits)?,
-            nodes: renumbered_nodes(alloc, &self.nodes, order, numbers)?,
+            nodes,
         })
     }
 
@@ -302,21 +317,11 @@ impl Store {
         ensures nodes { IfOk result (λ store. AllZip (NodeStandsFor self.now.traits stand_ins.now) self.now.nodes store.nodes) }
     {
         Ok(Store {
-            texts: copied_texts(alloc, &self.texts)?,
+            texts: self.texts.copy(alloc)?,
             traits: opened_classes(alloc, &self.traits)?,
             nodes: stand_in_nodes(alloc, &self.nodes, &self.traits, stand_ins)?,
         })
     }
-}
-
-fn copied_texts(alloc: Global, texts: &[Name]) -> Result<Vec<Name>, Memory>
-    ensures { IfOk result (λ copies. copies.items ≡ texts.now) }
-{
-    let mut copies = Vec::new(alloc);
-    for text in texts {
-        copies.push(text.copy(alloc)?)?;
-    }
-    Ok(copies)
 }
 
 fn copied_traits(alloc: Global, traits: &[Class]) -> Result<Vec<Class>, Memory>

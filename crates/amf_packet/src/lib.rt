@@ -17,5 +17,5 @@ pub use body::Body;
 pub use facts::{packet_rows, packet_verdict_rows, packets_have_one_verdict};
 pub use packet::{Header, Headers, Message, Messages, Packet};
 pub use packet_end::PacketEnd;
-pub use read::read_packet;
+pub use read::{read_packet, read_packet_keyed};
 pub use write::{write_packet, write_packet_keyed};

@@ -14,6 +14,7 @@ use crate::read_field::{read_count, read_must, read_name, read_version};
 use crate::{Header, Headers, Message, Messages, Packet};
 use amf_io::{Cursor, ReadEnd, Source};
 use std::alloc::Global;
+use std::hash::RandomState;
 
 /// Reads a packet (AMF 0, 4.1), and leaves what follows it. Each value is read with fresh tables, into a graph of its own.
 /// Length fields are read and not checked. No more bytes than 2^27 - 1 may be left up to the cursor's limit.
@@ -21,7 +22,24 @@ use std::alloc::Global;
 /// `Refused` tells the first field that no packet has there, or where the input or its limit ends. `ReadFault` comes only
 /// where the count of the source's faults rose, `Memory` where there is no room for what is read. After an end the cursor is
 /// only to be dropped.
+///
+/// Texts are looked up by fixed keys, so whoever knows them can make a packet that takes long: `read_packet_keyed` is passed others.
 pub fn read_packet<S: Source>(alloc: Global, cursor: &mut Cursor<'_, S>) -> Result<Packet, ReadEnd>
+    requires room { left_of cursor.old < 2 ^ 27 }
+    ensures goes { Goes S.tells S.left S.faults cursor.old cursor.new result }
+    ensures answers { AnswersPacket S.tells S.left cursor.old cursor.new result }
+    ensures weighs { IfOk result (λ packet. place cursor.old + packet_weight packet ≤ place cursor.new) }
+{
+    read_packet_keyed(alloc, None, cursor)
+}
+
+/// Does what `read_packet` does, with texts that are looked up by these keys, or by fixed ones where there are none. What is read
+/// is the same for all keys.
+pub fn read_packet_keyed<S: Source>(
+    alloc: Global,
+    keys: Option<RandomState>,
+    cursor: &mut Cursor<'_, S>,
+) -> Result<Packet, ReadEnd>
     requires room { left_of cursor.old < 2 ^ 27 }
     ensures goes { Goes S.tells S.left S.faults cursor.old cursor.new result }
     ensures answers { AnswersPacket S.tells S.left cursor.old cursor.new result }
@@ -30,8 +48,8 @@ pub fn read_packet<S: Source>(alloc: Global, cursor: &mut Cursor<'_, S>) -> Resu
     // What is true of every cursor.
     let _start = cursor.at();
     let version = read_version(cursor)?;
-    let headers = read_headers(alloc, cursor)?;
-    let messages = read_messages(alloc, cursor)?;
+    let headers = read_headers(alloc, keys, cursor)?;
+    let messages = read_messages(alloc, keys, cursor)?;
     Ok(Packet {
         version,
         headers,
@@ -40,7 +58,11 @@ pub fn read_packet<S: Source>(alloc: Global, cursor: &mut Cursor<'_, S>) -> Resu
 }
 
 /// Reads how many headers there are, and then each.
-fn read_headers<S: Source>(alloc: Global, cursor: &mut Cursor<'_, S>) -> Result<Headers, ReadEnd>
+fn read_headers<S: Source>(
+    alloc: Global,
+    keys: Option<RandomState>,
+    cursor: &mut Cursor<'_, S>,
+) -> Result<Headers, ReadEnd>
     requires room { left_of cursor.old < 2 ^ 27 }
     ensures goes { Goes S.tells S.left S.faults cursor.old cursor.new result }
     ensures reads { ReadsFueled S.tells S.left (λ hs. ListBy (λ h. HeaderBy free (header_of h)) hs) (λ n. list_layout (header_layout n)) cursor.old cursor.new result }
@@ -50,13 +72,17 @@ fn read_headers<S: Source>(alloc: Global, cursor: &mut Cursor<'_, S>) -> Result<
     let count = read_count(cursor)?;
     let mut headers = Vec::new(alloc);
     for _ in 0..count {
-        headers.push(read_header(alloc, cursor)?)?;
+        headers.push(read_header(alloc, keys, cursor)?)?;
     }
     Ok(Headers::of_vec(headers))
 }
 
 /// Reads a header (AMF 0, 4.2).
-fn read_header<S: Source>(alloc: Global, cursor: &mut Cursor<'_, S>) -> Result<Header, ReadEnd>
+fn read_header<S: Source>(
+    alloc: Global,
+    keys: Option<RandomState>,
+    cursor: &mut Cursor<'_, S>,
+) -> Result<Header, ReadEnd>
     requires room { left_of cursor.old < 2 ^ 27 }
     ensures goes { Goes S.tells S.left S.faults cursor.old cursor.new result }
     ensures reads { ReadsFueled S.tells S.left (λ h. HeaderBy free (header_of h)) header_layout cursor.old cursor.new result }
@@ -65,12 +91,16 @@ fn read_header<S: Source>(alloc: Global, cursor: &mut Cursor<'_, S>) -> Result<H
 {
     let name = read_name(alloc, cursor)?;
     let must = read_must(cursor)?;
-    let body = read_body(alloc, cursor)?;
+    let body = read_body(alloc, keys, cursor)?;
     Ok(Header { name, must, body })
 }
 
 /// Reads how many messages there are, and then each.
-fn read_messages<S: Source>(alloc: Global, cursor: &mut Cursor<'_, S>) -> Result<Messages, ReadEnd>
+fn read_messages<S: Source>(
+    alloc: Global,
+    keys: Option<RandomState>,
+    cursor: &mut Cursor<'_, S>,
+) -> Result<Messages, ReadEnd>
     requires room { left_of cursor.old < 2 ^ 27 }
     ensures goes { Goes S.tells S.left S.faults cursor.old cursor.new result }
     ensures reads { ReadsFueled S.tells S.left (λ ms. ListBy (λ m. MessageBy free (message_of m)) ms) (λ n. list_layout (message_layout n)) cursor.old cursor.new result }
@@ -80,13 +110,17 @@ fn read_messages<S: Source>(alloc: Global, cursor: &mut Cursor<'_, S>) -> Result
     let count = read_count(cursor)?;
     let mut messages = Vec::new(alloc);
     for _ in 0..count {
-        messages.push(read_message(alloc, cursor)?)?;
+        messages.push(read_message(alloc, keys, cursor)?)?;
     }
     Ok(Messages::of_vec(messages))
 }
 
 /// Reads a message (AMF 0, 4.3).
-fn read_message<S: Source>(alloc: Global, cursor: &mut Cursor<'_, S>) -> Result<Message, ReadEnd>
+fn read_message<S: Source>(
+    alloc: Global,
+    keys: Option<RandomState>,
+    cursor: &mut Cursor<'_, S>,
+) -> Result<Message, ReadEnd>
     requires room { left_of cursor.old < 2 ^ 27 }
     ensures goes { Goes S.tells S.left S.faults cursor.old cursor.new result }
     ensures reads { ReadsFueled S.tells S.left (λ m. MessageBy free (message_of m)) message_layout cursor.old cursor.new result }
@@ -95,7 +129,7 @@ fn read_message<S: Source>(alloc: Global, cursor: &mut Cursor<'_, S>) -> Result<
 {
     let target = read_name(alloc, cursor)?;
     let response = read_name(alloc, cursor)?;
-    let body = read_body(alloc, cursor)?;
+    let body = read_body(alloc, keys, cursor)?;
     Ok(Message {
         target,
         response,

@@ -20,9 +20,14 @@ use amf_io::{Cursor, ReadEnd, Source};
 use amf0_read::read0;
 use amf0_tables::{Form, Tables0};
 use std::alloc::Global;
+use std::hash::RandomState;
 
 /// Reads the length of a value, and then the value, with fresh tables.
-pub fn read_body<S: Source>(alloc: Global, cursor: &mut Cursor<'_, S>) -> Result<Body, ReadEnd>
+pub fn read_body<S: Source>(
+    alloc: Global,
+    keys: Option<RandomState>,
+    cursor: &mut Cursor<'_, S>,
+) -> Result<Body, ReadEnd>
     requires room { left_of cursor.old < 2 ^ 27 }
     ensures goes { Goes S.tells S.left S.faults cursor.old cursor.new result }
     ensures reads { ReadsFueled S.tells S.left (λ b. SizedBy free (body_of b)) sized_layout cursor.old cursor.new result }
@@ -30,11 +35,15 @@ pub fn read_body<S: Source>(alloc: Global, cursor: &mut Cursor<'_, S>) -> Result
     ensures weighs { IfOk result (λ b. place cursor.old + body_weight b ≤ place cursor.new) }
 {
     read_length(cursor)?;
-    read_value(alloc, cursor)
+    read_value(alloc, keys, cursor)
 }
 
 /// Reads a value with fresh tables.
-fn read_value<S: Source>(alloc: Global, cursor: &mut Cursor<'_, S>) -> Result<Body, ReadEnd>
+fn read_value<S: Source>(
+    alloc: Global,
+    keys: Option<RandomState>,
+    cursor: &mut Cursor<'_, S>,
+) -> Result<Body, ReadEnd>
     requires room { left_of cursor.old < 2 ^ 27 }
     ensures goes { Goes S.tells S.left S.faults cursor.old cursor.new result }
     ensures reads { ReadsFueled S.tells S.left (λ b. BodyBy free (body_of b).form (body_of b).graph) body_layout cursor.old cursor.new result }
@@ -43,7 +52,7 @@ fn read_value<S: Source>(alloc: Global, cursor: &mut Cursor<'_, S>) -> Result<Bo
 {
     // What is true of every cursor.
     let _start = cursor.at();
-    let mut builder = Builder::new(alloc)?;
+    let mut builder = Builder::keyed(alloc, keys)?;
     let mut tables = Tables0::new(alloc)?;
     let read = read0(alloc, cursor, &mut builder, &mut tables)?;
     let graph = whole(builder, read.value);

@@ -21,7 +21,7 @@ pub use laws::{
     file_faults_are_first, files_fix_next_kind, files_have_holders, files_have_one_verdict,
     files_or_lacks,
 };
-pub use read::read_sol;
+pub use read::{read_sol, read_sol_keyed};
 pub use shared_object::SharedObject;
 pub use sol_end::SolEnd;
 pub use sol_version::SolVersion;

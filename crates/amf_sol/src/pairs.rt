@@ -20,10 +20,12 @@ use amf0_read::{read_short_text, read_value0};
 use amf0_tables::Tables0;
 use amf3_read::{kept, read_text, read_value};
 use std::alloc::Global;
+use std::hash::RandomState;
 
 /// Reads the pairs up to the end of the input into a new holder, which is the first node, and in no table.
 pub(crate) fn read_holder<S: Source>(
     alloc: Global,
+    keys: Option<RandomState>,
     cursor: &mut Cursor<'_, S>,
     version: SolVersion,
 ) -> Result<Rooted, ReadEnd>
@@ -32,7 +34,7 @@ pub(crate) fn read_holder<S: Source>(
     ensures goes { Goes S.tells S.left S.faults cursor.old cursor.new result }
     ensures answers { (n : ℕ) (name : List ℕ) → left_of cursor.old < n → AnswersHolder S.tells S.left version n name cursor.old cursor.new result }
 {
-    let mut builder = Builder::new(alloc)?;
+    let mut builder = Builder::keyed(alloc, keys)?;
     let holder = open_holder(&mut builder)?;
     read_pairs(alloc, cursor, &mut builder, holder, version)?;
     Ok(close_holder(builder, holder))

@@ -13,8 +13,8 @@ use Rattle.amf_cli.specs.ReadContent.{AnswersOne}
 use Rattle.amf_cli.proofs.Inputs.{of_value, answers_mapped, goes_mapped, packet_answers}
 use Rattle.amf_cli.proofs.reading.read_one.Goals as goal
 
-pub read_packet-requires : goal.read_packet-requires
-read_packet-requires g c = omega (arith, c.requires.limit)
+pub read_packet_keyed-requires : goal.read_packet_keyed-requires
+read_packet_keyed-requires g c = omega (arith, c.requires.limit)
 
 pub returns-in-Amf3-clause-goes : goal.returns-in-Amf3-clause-goes
 returns-in-Amf3-clause-goes g c =
@@ -50,17 +50,17 @@ returns-in-Amf0-clause-answers g c =
 
 pub returns-in-Packet-clause-goes : goal.returns-in-Packet-clause-goes
 returns-in-Packet-clause-goes g c =
-    subst (λ (r : Result KeptContent ReadEnd). Goes g.S.Source.tells g.S.Source.left g.S.Source.faults c.args.cursor.now c.read_packet.new.cursor r) (sym c.packeted.ensures)
-    (goes_mapped (λ (x : KeptPacket). kept.Packet x) g.S.Source.tells g.S.Source.left g.S.Source.faults c.args.cursor.now c.read_packet.new.cursor c.read_packet.result c.read_packet.ensures.goes)
+    subst (λ (r : Result KeptContent ReadEnd). Goes g.S.Source.tells g.S.Source.left g.S.Source.faults c.args.cursor.now c.read_packet_keyed.new.cursor r) (sym c.packeted.ensures)
+    (goes_mapped (λ (x : KeptPacket). kept.Packet x) g.S.Source.tells g.S.Source.left g.S.Source.faults c.args.cursor.now c.read_packet_keyed.new.cursor c.read_packet_keyed.result c.read_packet_keyed.ensures.goes)
 
 pub returns-in-Packet-clause-answers : goal.returns-in-Packet-clause-answers
 returns-in-Packet-clause-answers g c =
     let left = g.S.Source.left in
     let y = g.S.Source.tells (source_of c.args.cursor.now).now in
     let input = unread left c.args.cursor.now in
-    let rest = unread left c.read_packet.new.cursor in
+    let rest = unread left c.read_packet_keyed.new.cursor in
     let at = place c.args.cursor.now in
-    let k = place c.read_packet.new.cursor in
+    let k = place c.read_packet_keyed.new.cursor in
     subst (λ (r : Result KeptContent ReadEnd). AnswersOne content_of c.args.from y input rest at k r) (sym c.packeted.ensures)
-    (answers_mapped c.args.from Packet (λ (x : KeptPacket). kept.Packet x) (λ (x : KeptPacket). packet (packet_of x)) y input rest at k c.read_packet.result c.in-Packet.is (λ x. refl)
-    (packet_answers y input rest at k (bound c.args.cursor.now) c.read_packet.result c.requires.limit c.read_packet.ensures.answers))
+    (answers_mapped c.args.from Packet (λ (x : KeptPacket). kept.Packet x) (λ (x : KeptPacket). packet (packet_of x)) y input rest at k c.read_packet_keyed.result c.in-Packet.is (λ x. refl)
+    (packet_answers y input rest at k (bound c.args.cursor.now) c.read_packet_keyed.result c.requires.limit c.read_packet_keyed.ensures.answers))

@@ -5,4 +5,4 @@ use Rattle.amf_graph.proofs.builder.Builder.text.Goals as goal
 
 pub invariant_of-self-2 : goal.invariant_of-self-2
 invariant_of-self-2 c =
-    rw (c.in_ok-keep_text.ensures.ok, c.in_ok-of_bytes.ensures) (built_text _ _ c.self.invariant.0 c.requires, within_text _ _ c.self.invariant.1 (omega arith) (omega arith))
+    rw c.in_ok-keep_text.ensures.ok (built_text _ _ c.self.invariant.0 c.requires, within_text _ _ c.self.invariant.1 (omega arith) (omega arith))

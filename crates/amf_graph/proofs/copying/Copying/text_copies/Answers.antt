@@ -9,6 +9,5 @@ pub loop-place-preserved : goal.loop-place-preserved
 loop-place-preserved c =
     let k = c.loop-place.place in
     let here = subst (λ (w : Plan). slice_get w.texts.items k ≡ Some c.at.result) c.self.view_is c.at.ensures.here in
-    c.in_ok-push.ensures.items
-    ∙ ap (λ (x : List ℕ). c.loop-place.copies.items ++ x ∷ []) (c.in_ok-of_bytes.ensures ∙ c.text-text.ensures)
-    ∙ map_more (text_at c.args.graph.now.arena) c.args.self.now.texts.items k c.at.result c.loop-place.copies.items here c.loop-place.invariant
+    c.in_ok-push.ensures.ok ∙ ap (λ (x : List ℕ). c.loop-place.copies ++ x ∷ []) c.text-text.ensures
+    ∙ map_more (text_at c.args.graph.now.arena) c.args.self.now.texts.items k c.at.result c.loop-place.copies here c.loop-place.invariant

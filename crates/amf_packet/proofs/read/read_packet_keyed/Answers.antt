@@ -3,7 +3,7 @@ use Rattle.amf_io.proofs.CursorReads.{end_reads}
 use Rattle.amf_packet.specs.declared.packet.Packet.{Packet}
 use Rattle.amf_packet.specs.LayoutPacket.{and_then, version_layout, header_layout, message_layout, list_layout}
 use Rattle.amf_packet.proofs.PartReads.{packet_ended, packet_answered, versioned, headed_end}
-use Rattle.amf_packet.proofs.read.read_packet.Goals as goal
+use Rattle.amf_packet.proofs.read.read_packet_keyed.Goals as goal
 
 pub returns-in_err-version-clause-answers : goal.returns-in_err-version-clause-answers
 returns-in_err-version-clause-answers g c =

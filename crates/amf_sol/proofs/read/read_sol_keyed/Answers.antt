@@ -6,7 +6,7 @@ use Rattle.amf_sol.specs.FileAnswer.{IsFileTaken}
 use Rattle.amf_sol.specs.StoredFile.{StoredFile}
 use Rattle.amf_sol.proofs.FileAnswers.{length_sized, file_passed, length_end, rest_end, pairs_end, file_came, file_weighs, file_taken, file_other, name_text, name_short}
 use Rattle.amf_sol.proofs.Unheld.{file_holder}
-use Rattle.amf_sol.proofs.read.read_sol.Goals as goal
+use Rattle.amf_sol.proofs.read.read_sol_keyed.Goals as goal
 
 pub returns-in_err-length-clause-answers : goal.returns-in_err-length-clause-answers
 returns-in_err-length-clause-answers g c =

@@ -1,0 +1,31 @@
+-- Numbers by their hashes, in chains that lead to lower numbers. A device of proofs.
+use Rattle.std.specs.Prelude.{◌≡◌, ◌≢◌, ℕ, ◌-◌, ◌<◌, ◌≤◌, ◌^◌, List, length, get_or, bit_and}
+
+-- A link is one more than a number, or 0 for none. This one leads to the greatest number below an end that has a key, if one has.
+pub record LeadsTo (key : ℕ → ℕ) (bound wanted link : ℕ) : Type 0 where
+  pub within : link ≤ bound
+  pub has : 0 < link → key (link - 1) ≡ wanted
+  pub passed : (i : ℕ) → link ≤ i → i < bound → key i ≢ wanted
+
+abbrev pub hash_at : List ℕ → ℕ → ℕ
+hash_at hashes i = get_or hashes i 0
+
+-- the bucket of a number: the bits of its hash that the mask leaves
+abbrev pub bucket_at : ℕ → List ℕ → ℕ → ℕ
+bucket_at mask hashes i = bit_and (hash_at hashes i) mask
+
+-- the link of each of the first n numbers leads to the next lower one of its bucket
+abbrev pub AreNexts : ℕ → ℕ → List ℕ → List ℕ → Type 0
+AreNexts mask n hashes next = (i : ℕ) → i < n → LeadsTo (bucket_at mask hashes) i (bucket_at mask hashes i) (get_or next i 0)
+
+-- and the link of each bucket to its greatest number of them
+pub record AreLinked (mask n : ℕ) (hashes next buckets : List ℕ) : Type 0 where
+  pub heads : (b : ℕ) → b < length buckets → LeadsTo (bucket_at mask hashes) n b (get_or buckets b 0)
+  pub nexts : AreNexts mask n hashes next
+
+-- all numbers that have hashes are linked
+pub record AreChains (hashes next buckets : List ℕ) : Type 0 where
+  pub few : length hashes < 2 ^ 32
+  pub room : length hashes ≤ length buckets
+  pub links : length next ≡ length hashes
+  pub linked : AreLinked (length buckets - 1) (length hashes) hashes next buckets

@@ -1,0 +1,122 @@
+//! Texts, one behind the other in one list of bytes.
+
+ghost use Rattle.std.specs.Prelude.{◌≡◌, ◌<◌, ◌≤◌, [], ◌∷◌, ◌++◌, length, take, get_or, slice_range, nat_lt, IfOk, OnOk, OnErr};
+ghost use Rattle.std.specs.List.{list_any};
+ghost use Rattle.amf_graph.specs.TextPool.{pieces, AreEnds};
+
+use amf_wire::Memory;
+use std::alloc::Global;
+use std::marker::Model;
+
+/// Texts, each by the place where its bytes end.
+#[derive(Drop)]
+pub(crate) struct TextPool {
+    bytes: Vec<u8>,
+    ends: Vec<usize>,
+}
+
+impl Model for TextPool {
+    ghost use Rattle.std.specs.Prelude.{List, ℕ, length};
+    ghost use Rattle.amf_graph.specs.TextPool.{pieces, AreEnds};
+
+    ghost Value = { List (List ℕ) };
+
+    ghost view = { λ p. pieces p.bytes.items 0 p.ends.items };
+
+    ghost invariant = { λ p. AreEnds 0 (length p.bytes.items) p.ends.items };
+}
+
+/// Where the text at a place begins: where the one before ends.
+fn start_of(ends: &[usize], place: usize) -> usize
+    requires { place ≤ length ends.now }
+    ensures { result ≡ get_or (0 ∷ ends.now) place 0 }
+{
+    if place > 0 { ends[place - 1] } else { 0 }
+}
+
+/// The bytes from one place up to another.
+fn part(bytes: &[u8], start: usize, end: usize) -> &[u8]
+    requires start { start ≤ end }
+    requires end { end ≤ length bytes.now }
+    ensures { result.now ≡ slice_range bytes.now start end }
+{
+    &bytes[start..end]
+}
+
+/// The bytes of the text at a place.
+fn piece<'a>(bytes: &'a [u8], ends: &[usize], place: usize) -> &'a [u8]
+    requires ends { AreEnds 0 (length bytes.now) ends.now }
+    requires there { place < length ends.now }
+    ensures { result.now ≡ get_or (pieces bytes.now 0 ends.now) place [] }
+{
+    let start = start_of(ends, place);
+    part(bytes, start, ends[place])
+}
+
+impl TextPool {
+    pub(crate) fn new(alloc: Global) -> TextPool
+        ensures { result ≡ [] }
+    {
+        TextPool {
+            bytes: Vec::new(alloc),
+            ends: Vec::new(alloc),
+        }
+    }
+
+    pub(crate) fn len(&self) -> usize
+        ensures { result ≡ length self.now }
+    {
+        self.ends.len()
+    }
+
+    /// The bytes of a text.
+    pub(crate) fn get(&self, place: usize) -> &[u8]
+        requires { place < length self.now }
+        ensures { result.now ≡ get_or self.now place [] }
+    {
+        piece(&self.bytes, &self.ends, place)
+    }
+
+    /// Keeps a text behind the others. After an end nothing has changed.
+    pub(crate) fn push(&mut self, text: &[u8]) -> Result<(), Memory>
+        ensures ok { OnOk result (self.new ≡ self.old ++ text.now ∷ []) }
+        ensures err { OnErr result (self.new ≡ self.old) }
+    {
+        self.ends.reserve(1)?;
+        self.bytes.extend_from_slice(text)?;
+        self.ends.push(self.bytes.len())?;
+        Ok(())
+    }
+
+    /// Keeps so many texts alone.
+    pub(crate) fn truncate(&mut self, count: usize)
+        requires { count ≤ length self.old }
+        ensures { self.new ≡ take count self.old }
+    {
+        let end = start_of(&self.ends, count);
+        self.ends.truncate(count);
+        self.bytes.truncate(end);
+    }
+
+    /// Whether a text has more bytes than these.
+    pub(crate) fn has_longer(&self, most: usize) -> bool
+        ensures { result ≡ list_any (λ x. nat_lt most (length x)) self.now }
+    {
+        for place in 0..self.len() {
+            if self.get(place).len() > most {
+                return true;
+            }
+        }
+        false
+    }
+
+    /// The same texts once more.
+    pub(crate) fn copy(&self, alloc: Global) -> Result<TextPool, Memory>
+        ensures { IfOk result (λ copy. copy ≡ self.now) }
+    {
+        Ok(TextPool {
+            bytes: self.bytes.to_vec(alloc)?,
+            ends: self.ends.to_vec(alloc)?,
+        })
+    }
+}

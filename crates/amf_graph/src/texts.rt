@@ -1,0 +1,239 @@
+//! The texts of a graph, each content kept once.
+
+ghost use Rattle.std.specs.Prelude.{◌≡◌, ◌<◌, ◌≤◌, [], ◌∷◌, ◌++◌, length, map, take, get_or, slice_get, Some, nat_lt, MatchOption, IfOk, OnOk, OnErr};
+ghost use Rattle.std.specs.List.{AllByRecursion, list_any};
+ghost use Rattle.amf_graph.specs.Order.{Absent};
+ghost use Rattle.amf_graph.specs.TextNumbers.{with_content, contents_of};
+ghost use Rattle.amf_graph.specs.KeptTexts.{content_at, text_hash};
+
+use crate::chains::Chains;
+use crate::text_keys::TextKeys;
+use crate::text_pool::TextPool;
+use amf_wire::Memory;
+use std::alloc::Global;
+use std::hash::RandomState;
+use std::marker::Model;
+
+/// Texts by the numbers of their contents.
+#[derive(Drop)]
+pub(crate) struct Texts {
+    keys: TextKeys,
+    contents: TextPool,
+    chains: Chains,
+    numbers: Vec<u32>,
+}
+
+impl Model for Texts {
+    ghost use Rattle.std.specs.Prelude.{List, ℕ, map};
+    ghost use Rattle.amf_graph.specs.KeptTexts.{content_at, AreTexts};
+
+    ghost Value = { List (List ℕ) };
+
+    ghost view = { λ t. map (content_at t.contents) t.numbers.items };
+
+    ghost invariant = { λ t. AreTexts t.keys t.contents t.chains t.numbers.items };
+}
+
+/// The number of a content, if it is there.
+fn number_of(contents: &TextPool, chains: &Chains, bytes: &[u8], keys: TextKeys) -> Option<u32>
+    requires { chains.now ≡ map (text_hash keys) contents.now }
+    ensures { MatchOption result (Absent contents.now bytes.now) (λ n. slice_get contents.now n ≡ Some bytes.now) }
+{
+    let mut link = chains.first(keys.hash(bytes));
+    while link > 0 {
+        let number = link - 1;
+        if contents.get(number as usize) == bytes {
+            return Some(number);
+        }
+        link = chains.next(link);
+    }
+    None
+}
+
+/// Keeps a content that is not there, with its hash, behind the others. After an end nothing has changed.
+fn enter(
+    contents: &mut TextPool,
+    chains: &mut Chains,
+    bytes: &[u8],
+    keys: TextKeys,
+) -> Result<u32, Memory>
+    requires hashes { chains.old ≡ map (text_hash keys) contents.old }
+    requires new { Absent contents.old bytes.now }
+    ensures number { IfOk result (λ n. slice_get contents.new n ≡ Some bytes.now) }
+    ensures ok { OnOk result (contents.new ≡ with_content contents.old bytes.now) }
+    ensures err { OnErr result (contents.new ≡ contents.old) }
+    ensures hashes { chains.new ≡ map (text_hash keys) contents.new }
+{
+    let number = contents.len();
+    let hash = keys.hash(bytes);
+    contents.push(bytes)?;
+    match chains.push(hash) {
+        Ok(()) => Ok(number as u32),
+        Err(end) => {
+            contents.truncate(number);
+            Err(end)
+        }
+    }
+}
+
+/// The number of a content, which is kept behind the others where it is not there. After an end nothing has changed.
+fn number_for(
+    contents: &mut TextPool,
+    chains: &mut Chains,
+    bytes: &[u8],
+    keys: TextKeys,
+) -> Result<u32, Memory>
+    requires { chains.old ≡ map (text_hash keys) contents.old }
+    ensures number { IfOk result (λ n. slice_get contents.new n ≡ Some bytes.now) }
+    ensures ok { OnOk result (contents.new ≡ with_content contents.old bytes.now) }
+    ensures err { OnErr result (contents.new ≡ contents.old) }
+    ensures hashes { chains.new ≡ map (text_hash keys) contents.new }
+{
+    match number_of(contents, chains, bytes, keys) {
+        Some(number) => Ok(number),
+        None => enter(contents, chains, bytes, keys),
+    }
+}
+
+/// The bytes of a text, or none where there is no such text.
+fn text_at<'a>(contents: &'a TextPool, numbers: &[u32], place: usize) -> &'a [u8]
+    requires { AllByRecursion (λ n. n < length contents.now) numbers.now }
+    ensures { result.now ≡ get_or (map (content_at contents.now) numbers.now) place [] }
+{
+    if place < numbers.len() {
+        contents.get(numbers[place] as usize)
+    } else {
+        &[]
+    }
+}
+
+/// Forgets the hashes behind the first ones.
+fn truncate_chains(chains: &mut Chains, count: usize)
+    requires { count ≤ length chains.old }
+    ensures { chains.new ≡ take count chains.old }
+{
+    while chains.len() > count {
+        chains.pop();
+    }
+}
+
+impl Texts {
+    /// No texts yet, which are looked up by these keys.
+    pub(crate) fn new(alloc: Global, keys: Option<RandomState>) -> Texts
+        ensures { result ≡ [] }
+    {
+        Texts {
+            keys: TextKeys::of(keys),
+            contents: TextPool::new(alloc),
+            chains: Chains::new(alloc),
+            numbers: Vec::new(alloc),
+        }
+    }
+
+    /// No texts yet, which are looked up as these are.
+    pub(crate) fn none(&self, alloc: Global) -> Texts
+        ensures { result ≡ [] }
+    {
+        Texts {
+            keys: self.keys,
+            contents: TextPool::new(alloc),
+            chains: Chains::new(alloc),
+            numbers: Vec::new(alloc),
+        }
+    }
+
+    pub(crate) fn len(&self) -> usize
+        ensures { result ≡ length self.now }
+    {
+        self.numbers.len()
+    }
+
+    /// How many contents they have.
+    pub(crate) fn content_count(&self) -> usize
+        ensures { result ≡ length (contents_of self.now) }
+    {
+        self.contents.len()
+    }
+
+    /// The bytes of a text, or none where there is no such text.
+    pub(crate) fn get(&self, place: usize) -> &[u8]
+        ensures { result.now ≡ get_or self.now place [] }
+    {
+        text_at(&self.contents, &self.numbers, place)
+    }
+
+    /// The number of a text's content.
+    pub(crate) fn number(&self, place: usize) -> u32
+        requires { place < length self.now }
+        ensures { slice_get (contents_of self.now) result ≡ Some (get_or self.now place []) }
+    {
+        self.numbers[place]
+    }
+
+    /// Keeps a text behind the others. After an end nothing has changed.
+    pub(crate) fn push(&mut self, bytes: &[u8]) -> Result<(), Memory>
+        ensures ok { OnOk result (self.new ≡ self.old ++ bytes.now ∷ []) }
+        ensures err { OnErr result (self.new ≡ self.old) }
+    {
+        self.numbers.reserve(1)?;
+        let number = number_for(&mut self.contents, &mut self.chains, bytes, self.keys)?;
+        self.numbers.push(number)?;
+        Ok(())
+    }
+
+    /// Keeps so many texts alone, which have so many contents.
+    fn truncate(&mut self, count: usize, contents: usize)
+        requires { contents ≡ length (contents_of (take count self.old)) }
+        ensures { self.new ≡ take count self.old }
+    {
+        self.numbers.truncate(count);
+        self.contents.truncate(contents);
+        truncate_chains(&mut self.chains, contents);
+    }
+
+    /// Keeps other texts behind these. After an end some of them are there.
+    fn push_all(&mut self, more: &Texts) -> Result<(), Memory>
+        ensures ok { OnOk result (self.new ≡ self.old ++ more.now) }
+        ensures front { take (length self.old) self.new ≡ self.old }
+    {
+        for place in 0..more.len() {
+            self.push(more.get(place))?;
+        }
+        Ok(())
+    }
+
+    /// Keeps other texts behind these. After an end nothing has changed.
+    pub(crate) fn append(&mut self, more: &Texts) -> Result<(), Memory>
+        ensures ok { OnOk result (self.new ≡ self.old ++ more.now) }
+        ensures err { OnErr result (self.new ≡ self.old) }
+    {
+        let count = self.len();
+        let contents = self.content_count();
+        match self.push_all(more) {
+            Ok(()) => Ok(()),
+            Err(end) => {
+                self.truncate(count, contents);
+                Err(end)
+            }
+        }
+    }
+
+    /// Whether a text has more bytes than these.
+    pub(crate) fn has_longer(&self, most: usize) -> bool
+        ensures { result ≡ list_any (λ x. nat_lt most (length x)) (contents_of self.now) }
+    {
+        self.contents.has_longer(most)
+    }
+
+    /// The same texts once more.
+    pub(crate) fn copy(&self, alloc: Global) -> Result<Texts, Memory>
+        ensures { IfOk result (λ copy. copy ≡ self.now) }
+    {
+        Ok(Texts {
+            keys: self.keys,
+            contents: self.contents.copy(alloc)?,
+            chains: self.chains.copy(alloc)?,
+            numbers: self.numbers.to_vec(alloc)?,
+        })
+    }
+}
