@@ -1,4 +1,5 @@
 mod FieldLoop
+pub mod Ahead
 mod Contents3
 mod FieldNumbers
 mod NodeMarks

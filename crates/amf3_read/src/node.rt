@@ -13,7 +13,7 @@ ghost use Rattle.amf3_read.specs.Begins.{Begins};
 ghost use Rattle.amf3_read.specs.Frames.{StartsBy, StartHolds, StillReady};
 
 use crate::ends::{kept, refused};
-use crate::field::{FieldSize, read_field};
+use crate::field::read_number;
 use crate::header::{Header, judge_header};
 use crate::opening::{Opening, Parts, read_opening};
 use amf_graph::{Builder, NodeId, NodeKind, Value};
@@ -53,7 +53,7 @@ pub fn start_node<S: Source>(
     ensures stays { OnOk result (place cursor.old ≤ place cursor.new) }
 {
     let start = cursor.at();
-    let header = read_field(cursor, FieldSize::U29)?.number().get();
+    let header = read_number(cursor)?.get();
     match judge_header(builder, tables, kind, header) {
         Err(reason) => Err(refused(reason, start)),
         Ok(Header::Known(node)) => Ok(Start::Value(Value::Node(node))),

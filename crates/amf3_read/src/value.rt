@@ -16,7 +16,7 @@ ghost use Rattle.amf3_read.specs.Steps.{marker_layout};
 ghost use Rattle.amf3_read.specs.Frames.{Starts, StartHolds, StillReady};
 
 use crate::ends::{kept, refused};
-use crate::field::{FieldSize, read_field};
+use crate::field::{FieldSize, read_field, read_number};
 use crate::fill::{Step, go_on};
 use crate::frame::{Frame, Now, Slot, part_of};
 use crate::node::{Start, start_node};
@@ -165,8 +165,7 @@ fn read_integer<S: Source>(cursor: &mut Cursor<'_, S>) -> Result<i32, ReadEnd>
     ensures own { IfOk result IsInteger }
     ensures placed { OnOk result (IsPlaced cursor.new) }
 {
-    let field = read_field(cursor, FieldSize::U29)?;
-    Ok(sign29(field.number()))
+    Ok(sign29(read_number(cursor)?))
 }
 
 /// Reads a double, by its bits (AMF 3 specification, 3.7). Its ends are those of [`read3`].
