@@ -53,7 +53,7 @@ pub const LIMIT: u32 = 67_108_864;
 /// is the line `calls A published B delivered C queued D`. A call of the desk is told to the gate before and after. `serve` may
 /// wait for others, and no other command does but for its streams.
 ///
-/// The runtime gives the keys by which the writer looks texts up, so that no input can be made that takes long; where it gives
+/// The runtime gives the keys by which readers and writers look texts up, so that no input can be made that takes long; where it gives
 /// none, they are fixed.
 pub fn run<R: RandomSource + Threads + Wait + Sync, I: Source, O: Sink, E: Sink, F: Front, G: Gate>(
     rt: &R,

@@ -96,7 +96,7 @@ fn synced(
     requires short_endings { AllByRecursion IsShortReply endings.now }
     ensures { IfOk result (λ a. Tells (say_sync reply deliveries.now (map invalidate_graph endings.now)) a) }
 {
-    match sync_of(alloc, &reply, deliveries, endings)? {
+    match sync_of(alloc, keys, &reply, deliveries, endings)? {
         Some(graph) => answered(alloc, keys, reply, graph),
         None => {
             let fault = no_form(alloc)?;

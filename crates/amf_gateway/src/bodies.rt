@@ -20,7 +20,7 @@ use crate::outside::{Outside, Unanswered};
 use crate::packets::{answers_to, has_long_uri};
 use amf_graph::Rooted;
 use amf_io::{Cursor, FaultlessSource, ReadEnd, Window};
-use amf_packet::{Body, Message, Packet, PacketEnd, read_packet, write_packet_keyed};
+use amf_packet::{Body, Message, Packet, PacketEnd, read_packet_keyed, write_packet_keyed};
 use amf_service::Registry;
 use amf_wire::Memory;
 use std::alloc::Global;
@@ -91,6 +91,7 @@ fn is_at_end(cursor: &mut Cursor<'_, FaultlessSource>) -> bool
 /// The packet that is the whole of what a cursor is to give, if that is one. It gives up where there is no memory.
 fn whole_packet(
     alloc: Global,
+    keys: Option<RandomState>,
     cursor: &mut Cursor<'_, FaultlessSource>,
 ) -> Result<Option<Packet>, Memory>
     requires start { place cursor.old ≡ 0 }
@@ -98,7 +99,7 @@ fn whole_packet(
     requires short { length (unread faultless_left cursor.old) ≤ most_body }
     ensures { IfOk result (λ packet. Unpacks (unread faultless_left cursor.old) packet) }
 {
-    match read_packet(alloc, cursor) {
+    match read_packet_keyed(alloc, keys, cursor) {
         Ok(packet) => {
             are_whole(packet.messages.as_slice());
             Ok(is_at_end(cursor).then_some(packet))
@@ -110,14 +111,18 @@ fn whole_packet(
 }
 
 /// The packet that is the whole of these bytes, if they are one. It gives up where there is no memory.
-fn packet_in(alloc: Global, bytes: &[u8]) -> Result<Option<Packet>, Memory>
+fn packet_in(
+    alloc: Global,
+    keys: Option<RandomState>,
+    bytes: &[u8],
+) -> Result<Option<Packet>, Memory>
     requires { length bytes.now ≤ most_body }
     ensures { IfOk result (λ packet. Unpacks bytes.now packet) }
 {
     let mut source = FaultlessSource::new(alloc, bytes, bytes.len(), 0)?;
     let window = Window::new(alloc, MOST_BODY)?;
     let mut cursor = Cursor::over(&mut source, window);
-    whole_packet(alloc, &mut cursor)
+    whole_packet(alloc, keys, &mut cursor)
 }
 
 /// Answers a packet by the bytes of one.
@@ -171,7 +176,8 @@ pub(crate) fn answer_body<O: Outside>(
     ensures ran { let services : List Entry = services_by registry.now.services.entries (λ x. x.items) (λ s. knows (s.vtable, s.value)) (λ s. gives (s.vtable, s.value)) in IfOk result (λ answer. Ran O.handed (body_bytes services body.now) outside.old outside.new (option_map (λ bytes. bytes.items) answer)) }
     ensures stopped { let services : List Entry = services_by registry.now.services.entries (λ x. x.items) (λ s. knows (s.vtable, s.value)) (λ s. gives (s.vtable, s.value)) in OnErr result (Stopped O.handed (body_bytes services body.now) outside.old outside.new) }
 {
-    let packet = packet_in(alloc, body)?;
+    let keys = outside.keys();
+    let packet = packet_in(alloc, keys, body)?;
     match packet {
         Some(packet) => answer_read(alloc, outside, registry, &packet),
         None => Ok(None),

@@ -20,7 +20,7 @@ pub struct Caller<'a, R: Wait, A: Hall, G: Gate> {
     pub(crate) calls: &'a mut u64,
     pub(crate) rt: &'a R,
     pub(crate) alloc: Global,
-    /// The keys by which a writer looks texts up; with none they are fixed.
+    /// The keys by which readers and writers look texts up; with none they are fixed.
     pub(crate) keys: Option<RandomState>,
     pub(crate) desk: &'a Desk,
     pub(crate) gate: &'a G,

@@ -87,7 +87,7 @@ pub(crate) fn acknowledge_with(
     ensures same { reply.new ≡ reply.old }
 {
     value.is_finished();
-    let mut builder = Builder::new(alloc)?;
+    let mut builder = Builder::beside(alloc, value)?;
     let body = kept(builder.graft(value))?;
     reply.body = body;
     let added = acknowledge(alloc, &mut builder, reply);
@@ -111,7 +111,7 @@ fn published_of(
     ensures { IfOk result (λ built. Isomorphic (published_graph (content graph.now) (told graph.now.arena common.now) correlation.now moment) (content built)) }
 {
     graph.is_finished();
-    let mut builder = Builder::new(alloc)?;
+    let mut builder = Builder::beside(alloc, graph)?;
     let added = published(alloc, &mut builder, common, graph, correlation, moment);
     let message = kept(added)?;
     Ok(finished(builder, message))

@@ -44,7 +44,7 @@ pub trait Outside {
     /// Whether it may call the desk.
     ghost may_call: { Self → Type 0 };
 
-    /// The keys by which a writer looks texts up; with none they are fixed.
+    /// The keys by which readers and writers look texts up; with none they are fixed.
     fn keys(&self) -> Option<RandomState>;
 
     /// The moment now, in milliseconds.

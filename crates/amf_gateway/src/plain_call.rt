@@ -230,7 +230,7 @@ fn in_array(alloc: Global, graph: &Rooted) -> Result<Rooted, Memory>
     ensures light { IfOk result (λ args. weight args.arena ≤ weight graph.now.arena + 2) }
 {
     graph.is_finished();
-    let mut builder = Builder::new(alloc)?;
+    let mut builder = Builder::beside(alloc, graph)?;
     let item = kept(builder.graft(graph))?;
     let array = add_array(&mut builder, &[item])?;
     Ok(finished(builder, array))

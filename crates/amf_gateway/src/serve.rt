@@ -55,7 +55,7 @@ fn answer_at_desk<R: Wait, L: Link, A: Hall, G: Gate>(
 /// `Closed`, `Refused` and `Truncated` say that all was answered. `ReadFault` and `WriteFault` come only where the link failed on
 /// that side, `Spent` only where the pass may make no more calls, and `Memory` where there is no room.
 ///
-/// The writers look texts up by fixed keys, so whoever knows them can send a request that takes long: `serve_link_keyed` is
+/// Readers and writers look texts up by fixed keys, so whoever knows them can send a request that takes long: `serve_link_keyed` is
 /// passed others.
 pub fn serve_link<R: Wait, L: Link, A: Hall, G: Gate>(
     rt: &R,
@@ -77,7 +77,7 @@ pub fn serve_link<R: Wait, L: Link, A: Hall, G: Gate>(
     )
 }
 
-/// Does what `serve_link` does, with writers that look texts up by these keys, or by fixed ones where there are none. What is
+/// Does what `serve_link` does, with readers and writers that look texts up by these keys, or by fixed ones where there are none. What is
 /// answered is the same for all keys.
 pub fn serve_link_keyed<R: Wait, L: Link, A: Hall, G: Gate>(
     rt: &R,

@@ -22,15 +22,20 @@ use amf_wire::Memory;
 use amf3_read::read3;
 use flex_msgs::is_stored;
 use std::alloc::Global;
+use std::hash::RandomState;
 
 /// The graph that the next bytes of a cursor spell in AMF 3, from empty tables.
-fn read_value<S: Source>(alloc: Global, cursor: &mut Cursor<'_, S>) -> Result<Rooted, ReadEnd>
+fn read_value<S: Source>(
+    alloc: Global,
+    keys: Option<RandomState>,
+    cursor: &mut Cursor<'_, S>,
+) -> Result<Rooted, ReadEnd>
     requires limit { bound cursor.old ≡ MAX_MESSAGE }
     ensures goes { Goes S.tells S.left S.faults cursor.old cursor.new result }
     ensures answers { AnswersValue (S.tells (source_of cursor.old).now) (unread S.left cursor.old) (unread S.left cursor.new) (place cursor.old) (place cursor.new) result }
     ensures light { IfOk result (λ graph. place cursor.old + weight graph.arena ≤ place cursor.new) }
 {
-    let mut builder = Builder::new(alloc)?;
+    let mut builder = Builder::keyed(alloc, keys)?;
     let mut tables = Tables3::new(alloc)?;
     let root = read3(alloc, cursor, &mut builder, &mut tables)?;
     Ok(finished(builder, root))
@@ -47,14 +52,18 @@ fn is_at_end(cursor: &mut Cursor<'_, FaultlessSource>) -> bool
 }
 
 /// The graph that all of the bytes spell in AMF 3, if they spell one. It gives up where there is no memory.
-fn spelled_by(alloc: Global, bytes: &[u8]) -> Result<Option<Rooted>, Memory>
+fn spelled_by(
+    alloc: Global,
+    keys: Option<RandomState>,
+    bytes: &[u8],
+) -> Result<Option<Rooted>, Memory>
     requires { length bytes.now ≤ MAX_MESSAGE }
     ensures finds { IfOk result (λ g. Finds (λ h. Spelled3 free h bytes.now) (option_map content g)) }
     ensures light { IfOk result (λ g. IfSome g (λ g. weight g.arena ≤ MAX_MESSAGE)) }
 {
     let mut source = FaultlessSource::new(alloc, bytes, bytes.len(), 0)?;
     let mut cursor = Cursor::new(alloc, &mut source, MAX_MESSAGE)?;
-    let graph = match read_value(alloc, &mut cursor) {
+    let graph = match read_value(alloc, keys, &mut cursor) {
         Ok(graph) => graph,
         Err(ReadEnd::Refused(_)) => return Ok(None),
         Err(ReadEnd::Memory) => return Err(Memory),
@@ -76,13 +85,17 @@ fn if_stored(graph: Rooted) -> Option<Rooted>
 }
 
 /// The message that was stored with these bytes, if they are those of one. It gives up where there is no memory.
-pub(crate) fn read_stored(alloc: Global, message: &[u8]) -> Result<Option<Rooted>, Memory>
+pub(crate) fn read_stored(
+    alloc: Global,
+    keys: Option<RandomState>,
+    message: &[u8],
+) -> Result<Option<Rooted>, Memory>
     requires { length message.now ≤ MAX_MESSAGE }
     ensures finds { IfOk result (λ g. Finds (λ h. IsStored h message.now) (option_map content g)) }
     ensures stored { IfOk result (λ g. IfSome g (λ g. HoldsStored g)) }
     ensures light { IfOk result (λ g. IfSome g (λ g. weight g.arena ≤ MAX_MESSAGE)) }
 {
-    match spelled_by(alloc, message)? {
+    match spelled_by(alloc, keys, message)? {
         Some(graph) => Ok(if_stored(graph)),
         None => Ok(None),
     }

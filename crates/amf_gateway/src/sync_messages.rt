@@ -21,6 +21,7 @@ use amf_graph::{Builder, Rooted, Value};
 use amf_wire::Memory;
 use flex_msgs::{Reply, delivered, invalidate, sync};
 use std::alloc::Global;
+use std::hash::RandomState;
 
 /// Messages that are added one after another, with their roots.
 #[derive(Drop)]
@@ -30,14 +31,14 @@ struct Batch {
 }
 
 impl Batch {
-    /// No messages. It gives up where there is no memory.
-    fn new(alloc: Global) -> Result<Batch, Memory>
+    /// No messages; their texts are looked up by the keys. It gives up where there is no memory.
+    fn new(alloc: Global, keys: Option<RandomState>) -> Result<Batch, Memory>
         ensures holds { IfOk result (λ batch. HoldsAll batch []) }
         ensures builder { IfOk result (λ batch. batch.builder ≡ no_arena) }
         ensures values { IfOk result (λ batch. batch.values.items ≡ []) }
     {
         Ok(Batch {
-            builder: Builder::new(alloc)?,
+            builder: Builder::keyed(alloc, keys)?,
             values: Vec::new(alloc),
         })
     }
@@ -60,14 +61,19 @@ impl Batch {
     }
 
     /// Adds the message of a delivery, if it is a stored one, and says whether it is. It gives up where there is no memory.
-    fn add(&mut self, alloc: Global, delivery: &Delivery) -> Result<bool, Memory>
+    fn add(
+        &mut self,
+        alloc: Global,
+        keys: Option<RandomState>,
+        delivery: &Delivery,
+    ) -> Result<bool, Memory>
         requires short { length delivery.now.message ≤ MAX_MESSAGE }
         requires room { HasRoomFor self.old.builder 65600 32800 32800 }
         ensures adds { IfOk result (λ stored. AddsDelivery delivery.now stored self.old self.new) }
         ensures grew { OnOk result (GrewWithin self.old.builder self.new.builder 65600 32800 32800) }
         ensures count { OnOk result (length self.new.values.items ≤ length self.old.values.items + 1) }
     {
-        match read_stored(alloc, delivery.message.as_bytes())? {
+        match read_stored(alloc, keys, delivery.message.as_bytes())? {
             Some(message) => {
                 self.deliver(alloc, &message, delivery.sub)?;
                 Ok(true)
@@ -147,17 +153,21 @@ impl Batch {
 }
 
 /// The messages of the deliveries, or none where one of them is no stored message. It gives up where there is no memory.
-fn add_all(alloc: Global, deliveries: &[Delivery]) -> Result<Option<Batch>, Memory>
+fn add_all(
+    alloc: Global,
+    keys: Option<RandomState>,
+    deliveries: &[Delivery],
+) -> Result<Option<Batch>, Memory>
     requires few { length deliveries.now ≤ MAX_QUEUED }
     requires short { AllByRecursion (λ d. length d.message ≤ MAX_MESSAGE) deliveries.now }
     ensures reads { IfOk result (λ batch. ReadsAll deliveries.now batch) }
     ensures room { IfOk result (λ batch. IfSome batch (λ batch. HasRoomFor batch.builder 289 34 35)) }
     ensures count { IfOk result (λ batch. IfSome batch (λ batch. length batch.values.items ≤ MAX_QUEUED)) }
 {
-    let mut batch = Batch::new(alloc)?;
+    let mut batch = Batch::new(alloc, keys)?;
     let mut all_stored = true;
     for delivery in deliveries {
-        let is_stored = batch.add(alloc, delivery)?;
+        let is_stored = batch.add(alloc, keys, delivery)?;
         all_stored &= is_stored;
     }
     if all_stored {
@@ -171,6 +181,7 @@ fn add_all(alloc: Global, deliveries: &[Delivery]) -> Result<Option<Batch>, Memo
 /// gives up where there is no memory.
 pub(crate) fn sync_of(
     alloc: Global,
+    keys: Option<RandomState>,
     reply: &Reply,
     deliveries: &[Delivery],
     endings: &[Reply],
@@ -184,7 +195,7 @@ pub(crate) fn sync_of(
     requires short_endings { AllByRecursion IsShortReply endings.now }
     ensures { IfOk result (λ graph. IsSync reply.now deliveries.now (map invalidate_graph endings.now) graph) }
 {
-    match add_all(alloc, deliveries)? {
+    match add_all(alloc, keys, deliveries)? {
         Some(batch) => Ok(Some(batch.sync_with(alloc, reply, endings)?)),
         None => Ok(None),
     }

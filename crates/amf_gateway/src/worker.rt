@@ -22,7 +22,7 @@ pub struct Worker<H: Hall> {
     pub hall: H,
     /// How many calls of the desk it has made, up to 2^64 - 1.
     pub calls: u64,
-    /// The keys by which its writers look texts up; with none they are fixed.
+    /// The keys by which its readers and writers look texts up; with none they are fixed.
     pub keys: Option<RandomState>,
 }
 
@@ -43,7 +43,7 @@ fn either(before: bool, now: bool) -> bool
 }
 
 impl<H: Hall> Worker<H> {
-    /// A worker that has made no calls. Its writers look texts up by fixed keys, so whoever knows them can send a request that
+    /// A worker that has made no calls. Its readers and writers look texts up by fixed keys, so whoever knows them can send a request that
     /// takes long: `keyed` is passed others.
     pub fn new(number: u32, pass: Pass, hall: H) -> Worker<H>
         ensures number { result.number ≡ number }
@@ -53,7 +53,7 @@ impl<H: Hall> Worker<H> {
         Worker::keyed(number, pass, hall, None)
     }
 
-    /// A worker that has made no calls, whose writers look texts up by these keys, or by fixed ones where there are none.
+    /// A worker that has made no calls, whose readers and writers look texts up by these keys, or by fixed ones where there are none.
     pub fn keyed(number: u32, pass: Pass, hall: H, keys: Option<RandomState>) -> Worker<H>
         ensures number { result.number ≡ number }
         ensures pass { result.pass ≡ pass }

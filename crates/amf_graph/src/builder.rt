@@ -69,6 +69,16 @@ impl Builder {
         })
     }
 
+    /// A builder that holds nothing yet, whose texts are looked up by the keys of this graph. It gives up where there is no memory.
+    pub fn beside(alloc: Global, graph: &Rooted) -> Result<Builder, Memory>
+        ensures { IfOk result (λ builder. builder ≡ no_arena) }
+    {
+        Ok(Builder {
+            alloc,
+            store: graph.store_beside(alloc),
+        })
+    }
+
     /// What is true of every builder. It does nothing.
     pub fn is_built(&self)
         ensures built { IsBuilt self.now }

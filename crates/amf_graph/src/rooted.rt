@@ -5,7 +5,7 @@ ghost use Rattle.std.specs.Ordering.{nat_cmp};
 ghost use Rattle.amf_graph.specs.Arena.{IsFinished, Names, text_at, no_traits};
 ghost use Rattle.amf_graph.specs.Bodies.{body_node};
 ghost use Rattle.amf_graph.specs.Bounds.{IsWithinBounds, count_end};
-ghost use Rattle.amf_graph.specs.Building.{stored_at, kind_of};
+ghost use Rattle.amf_graph.specs.Building.{no_arena, stored_at, kind_of};
 ghost use Rattle.amf_graph.specs.Renumbered.{numbers_of, renumbered, IsSelfContained};
 ghost use Rattle.amf_graph.specs.StandIns.{GraphStandsFor};
 ghost use Rattle.amf_graph.specs.TextNumbers.{contents_of};
@@ -168,6 +168,13 @@ impl Rooted {
         ensures { result ≡ [] }
     {
         self.store.no_texts(alloc)
+    }
+
+    /// Nothing yet. Texts are looked up as those of the graph.
+    pub(crate) fn store_beside(&self, alloc: Global) -> Store
+        ensures { result ≡ no_arena }
+    {
+        self.store.beside(alloc)
     }
 
     /// The traits at a place, which have to be there.

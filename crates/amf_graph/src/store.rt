@@ -55,6 +55,17 @@ impl Store {
         }
     }
 
+    /// Nothing yet. Texts are looked up as those here.
+    pub(crate) fn beside(&self, alloc: Global) -> Store
+        ensures { result ≡ no_arena }
+    {
+        Store {
+            texts: self.texts.none(alloc),
+            traits: Vec::new(alloc),
+            nodes: Vec::new(alloc),
+        }
+    }
+
     pub(crate) fn of(texts: Texts, traits: Vec<Class>, nodes: Vec<Node>) -> Store
         ensures { result ≡ record { texts = texts; traits = traits.items; nodes = nodes.items } }
     {

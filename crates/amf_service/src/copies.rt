@@ -42,7 +42,7 @@ pub fn copied(alloc: Global, graph: &Rooted, value: Value) -> Result<Rooted, Mem
     ensures light { IfOk result (λ copy. weight copy.arena ≤ weight graph.now.arena) }
 {
     graph.is_finished();
-    let mut builder = Builder::new(alloc)?;
+    let mut builder = Builder::beside(alloc, graph)?;
     let copies = kept(builder.graft_values(graph, &[value]))?;
     Ok(whole(builder, copies[0]))
 }

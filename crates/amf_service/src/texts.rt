@@ -68,7 +68,7 @@ pub(crate) fn array_of_texts(
 {
     graph.is_finished();
     let values = values_of(alloc, texts)?;
-    let mut builder = Builder::new(alloc)?;
+    let mut builder = Builder::beside(alloc, graph)?;
     let copies = kept(builder.graft_values(graph, &values))?;
     let array = add_array(&mut builder, &copies)?;
     let made = whole(builder, Value::Node(array));

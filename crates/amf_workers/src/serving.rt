@@ -60,7 +60,7 @@ where
 /// and gives the halls back to the front. All links are served at one desk, with the destinations `chat` and `news`. It may
 /// wait for the links.
 ///
-/// The runtime gives the keys by which the workers' writers look texts up, so that no request can be made that takes long; where
+/// The runtime gives the keys by which the workers' readers and writers look texts up, so that no request can be made that takes long; where
 /// it gives none, they are fixed.
 pub fn serve<R: Threads + Wait + RandomSource + Sync, F: Front, G: Gate>(
     rt: &R,

@@ -21,8 +21,8 @@ pub returns-in-Ok : goal.returns-in-Ok
 returns-in-Ok c =
     let p = c.in-Ok.packet in
     let input = unread faultless_left c.args.cursor.now in
-    let rest = unread faultless_left c.read_packet.new.cursor in
-    let at = place c.read_packet.new.cursor in
+    let rest = unread faultless_left c.read_packet_keyed.new.cursor in
+    let at = place c.read_packet_keyed.new.cursor in
     let begun = subst (λ (n : ℕ). IsTaken (λ fs. SpellsPacket free (packet_of p) fs) IsPacketReading (stretch (Unit {0}) input rest n at (bound c.args.cursor.now))) c.requires.start c.in-Ok.ensures.answers in
     let taken = subst (λ (n : ℕ). IsTaken (λ fs. SpellsPacket free (packet_of p) fs) IsPacketReading (stretch (Unit {0}) input rest 0 at n)) c.requires.limit begun in
     let light : packet_weight p ≤ at = omega (arith, c.in-Ok.ensures.weighs) in

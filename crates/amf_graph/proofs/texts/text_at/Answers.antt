@@ -1,5 +1,5 @@
 -- A text has the content of its number.
-use Rattle.std.proofs.Common.{◌<◌, ◌∙◌, [], length, map, get_or, sym, arith}
+use Rattle.std.proofs.Common.{◌<◌, ◌∙◌, [], length, map, sym, arith}
 use Rattle.std.proofs.lemmas.List.{get_or-map, get_or_past, length-map}
 use Rattle.amf_graph.specs.KeptTexts.{content_at}
 use Rattle.amf_graph.proofs.Alls.{all_at}

@@ -1,5 +1,5 @@
 -- After an end the first texts alone are kept.
-use Rattle.std.proofs.Common.{◌≡◌, length, take, sym, ap, ◌∙◌}
+use Rattle.std.proofs.Common.{length, take, sym, ap, ◌∙◌}
 use Rattle.amf_graph.specs.TextNumbers.{contents_of}
 use Rattle.amf_graph.proofs.texts.Texts.append.Goals as goal
 
