@@ -1,5 +1,5 @@
 -- Bytes that are ahead of a cursor, and are passed over.
-use Rattle.std.proofs.Common.{◌≡◌, ℕ, zero, suc, ◌+◌, ◌≤◌, ◌<◌, List, [], ◌++◌, length, take, drop, Some, None, refl, sym, ap, ◌∙◌, subst, arith, length-drop, cond, Result, Ok, Err, IfErr, OnOk}
+use Rattle.std.proofs.Common.{◌≡◌, ℕ, zero, suc, ◌+◌, ◌≤◌, ◌<◌, List, ◌++◌, length, take, drop, Some, None, sym, ap, ◌∙◌, subst, arith, length-drop, cond, Result, Ok, Err, IfErr, OnOk}
 use Rattle.std.proofs.lemmas.Bool.{le-leb}
 use Rattle.std.proofs.lemmas.List.{take-take, take-append-drop, length-take, length-take-le}
 use Rattle.amf_wire.specs.U29.{SpellsU29, one, two, three, four}

@@ -1,13 +1,14 @@
--- Places by id: one more id, one more place, more entries.
+-- Places by number: one more number, one more place, more entries.
 use Rattle.std.specs.Prelude.{◌≡◌, ◌≢◌, ℕ, zero, suc, List, [], ◌∷◌, ◌++◌, slice_get, Some, Result, Ok, Err, OnOk, OnErr}
 use Rattle.std.proofs.Common.{set, sym, subst, ◌∙◌, inl, inr}
 use Rattle.std.proofs.lemmas.Bool.{cases_eq}
-use Rattle.std.proofs.lemmas.Option.{same_Some}
+use Rattle.std.proofs.lemmas.Option.{same_Some, get_or_from_slice_get}
 use Rattle.amf_graph.specs.Arena.{Arena, text_at}
+use Rattle.amf_graph.specs.TextNumbers.{contents_of}
 use Rattle.amf_graph.proofs.Lists.{at_push}
 use Rattle.amf_tables.specs.FirstPlace.{IsFirstPlace}
 use Rattle.amf_tables.specs.KnownPlaces.{AreKnown, Knows}
-use Rattle.amf_tables.specs.KnownWords.{Known, entry_at, AreKnownOf, nothing_known}
+use Rattle.amf_tables.specs.KnownWords.{Known, content_at, entry_at, AreKnownOf, nothing_known}
 use Rattle.amf3_spelling.specs.Tables.{Entry, Words, Tables, with_words, add_text, add_entry}
 use Rattle.amf_tables.specs.TextPlaces.{IsEntered}
 use Rattle.amf_tables.specs.declared.text_place.TextPlace.{TextPlace}
@@ -44,31 +45,35 @@ known_more named entries old new id place known first more i k e there =
 pub known_pushed : {X : Type 0} (named : ℕ → X) (entries : List X) (x : X) (places : List ℕ) → AreKnown named entries places → AreKnown named (entries ++ x ∷ []) places
 known_pushed named entries x places known i k e there = first_more entries (named i) x k (known i k e there)
 
+-- the content that has a text's number is the text
+pub numbered : (a : Arena) (n i : ℕ) → slice_get (contents_of a.texts) n ≡ Some (text_at a i) → content_at a n ≡ text_at a i
+numbered a n i e = get_or_from_slice_get (contents_of a.texts) n (text_at a i) [] e
+
 pub nothing_is_known : (a : Arena) (w : Words) → AreKnownOf a w nothing_known
 nothing_is_known a w = record { texts = λ i k e there. cc; traits = λ i k e there. cc }
 
 -- what is known stays so when a text or traits are entered
 pub known_with_text : (a : Arena) (w : Words) (x : List ℕ) (known : Known) → AreKnownOf a w known → AreKnownOf a (add_text w x) known
-known_with_text a w x known h = record { texts = known_pushed (text_at a) w.texts x known.texts h.texts; traits = h.traits }
+known_with_text a w x known h = record { texts = known_pushed (content_at a) w.texts x known.texts h.texts; traits = h.traits }
 
 pub known_with_entry : (a : Arena) (w : Words) (e : Entry) (known : Known) → AreKnownOf a w known → AreKnownOf a (add_entry w e) known
 known_with_entry a w e known h = record { texts = h.texts; traits = known_pushed (entry_at a) w.traits e known.traits h.traits }
 
 -- one text more is known: it stood there before, or was entered
-pub known_old : (a : Arena) (w w' : Words) (known : Known) (i place : ℕ) (found : TextPlace) (more : List ℕ) → found ≡ Old place → AreKnownOf a w known → IsEntered w.texts (text_at a i) w'.texts found → w'.traits ≡ w.traits → Knows known.texts i place more → AreKnownOf a w' (record { texts = more; traits = known.traits })
+pub known_old : (a : Arena) (w w' : Words) (known : Known) (i place : ℕ) (found : TextPlace) (more : List ℕ) → found ≡ Old place → AreKnownOf a w known → IsEntered w.texts (content_at a i) w'.texts found → w'.traits ≡ w.traits → Knows known.texts i place more → AreKnownOf a w' (record { texts = more; traits = known.traits })
 known_old a w w' known i place (Old k) more s h e t m =
     let same : k ≡ place = cc in record {
-      texts = subst (λ xs. AreKnown (text_at a) xs more) (sym e.1) (known_more (text_at a) w.texts known.texts more i place h.texts (subst (λ n. IsFirstPlace w.texts (text_at a i) n) same e.0) m);
+      texts = subst (λ xs. AreKnown (content_at a) xs more) (sym e.1) (known_more (content_at a) w.texts known.texts more i place h.texts (subst (λ n. IsFirstPlace w.texts (content_at a i) n) same e.0) m);
       traits = subst (λ es. AreKnown (entry_at a) es known.traits) (sym t) h.traits;
     }
 known_old a w w' known i place (New k) more s h e t m = cc
 
-pub known_new : (a : Arena) (w w' : Words) (known : Known) (i place : ℕ) (found : TextPlace) (more : List ℕ) → found ≡ New place → AreKnownOf a w known → IsEntered w.texts (text_at a i) w'.texts found → w'.traits ≡ w.traits → Knows known.texts i place more → AreKnownOf a w' (record { texts = more; traits = known.traits })
+pub known_new : (a : Arena) (w w' : Words) (known : Known) (i place : ℕ) (found : TextPlace) (more : List ℕ) → found ≡ New place → AreKnownOf a w known → IsEntered w.texts (content_at a i) w'.texts found → w'.traits ≡ w.traits → Knows known.texts i place more → AreKnownOf a w' (record { texts = more; traits = known.traits })
 known_new a w w' known i place (Old k) more s h e t m = cc
 known_new a w w' known i place (New k) more s h e t m =
     let same : k ≡ place = cc in
-    let before = subst (λ xs. AreKnown (text_at a) xs known.texts) (sym e.2) (known_pushed (text_at a) w.texts (text_at a i) known.texts h.texts) in record {
-      texts = known_more (text_at a) w'.texts known.texts more i place before (subst (λ n. IsFirstPlace w'.texts (text_at a i) n) same e.1) m;
+    let before = subst (λ xs. AreKnown (content_at a) xs known.texts) (sym e.2) (known_pushed (content_at a) w.texts (content_at a i) known.texts h.texts) in record {
+      texts = known_more (content_at a) w'.texts known.texts more i place before (subst (λ n. IsFirstPlace w'.texts (content_at a i) n) same e.1) m;
       traits = subst (λ es. AreKnown (entry_at a) es known.traits) (sym t) h.traits;
     }
 

@@ -1,9 +1,9 @@
--- Places by id, as far as they are known.
+-- Places by number, as far as they are known.
 use Rattle.std.specs.Prelude.{◌≡◌, ◌≢◌, ℕ, ◌⊎◌, List, slice_get, Some}
 use Rattle.amf_tables.specs.FirstPlace.{IsFirstPlace}
 use Rattle.amf_tables.specs.declared.known_places.TheConstants.{UNKNOWN}
 
--- each that is known is the first place of what the id names
+-- each that is known is the first place of what the number names
 abbrev pub AreKnown : {X : Type 0} → (ℕ → X) → List X → List ℕ → Type 0
 AreKnown named entries places = (i k : ℕ) → slice_get places i ≡ Some k → k ≢ UNKNOWN → IsFirstPlace entries (named i) k
 

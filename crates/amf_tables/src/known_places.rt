@@ -5,10 +5,10 @@ use amf_wire::Memory;
 use std::alloc::Global;
 use std::marker::Model;
 
-/// What stands for an id whose place is not known.
+/// What stands for a number whose place is not known.
 const UNKNOWN: u32 = 4_294_967_295;
 
-/// Places by id, as far as they are known.
+/// Places by number, as far as they are known.
 #[derive(Drop)]
 pub(crate) struct KnownPlaces {
     places: Vec<u32>,
@@ -22,7 +22,7 @@ impl Model for KnownPlaces {
     ghost view = { λ k. k.places.items };
 }
 
-/// Makes room for the place of an id. After an error there may be some room more.
+/// Makes room for the place of a number. After an error there may be some room more.
 fn make_room(places: &mut Vec<u32>, index: usize) -> Result<(), Memory>
     ensures { (i k : ℕ) → slice_get places.new.items i ≡ Some k → k ≢ UNKNOWN → slice_get places.old.items i ≡ Some k }
 {
@@ -42,19 +42,19 @@ impl KnownPlaces {
         }
     }
 
-    /// What is known of an id.
-    pub(crate) fn place_of(&self, id: u32) -> Option<u32>
-        ensures { IfSome result (λ place. (slice_get self.now id ≡ Some place) × (place ≢ UNKNOWN)) }
+    /// What is known of a number.
+    pub(crate) fn place_of(&self, number: u32) -> Option<u32>
+        ensures { IfSome result (λ place. (slice_get self.now number ≡ Some place) × (place ≢ UNKNOWN)) }
     {
-        let place = *self.places.get(id as usize)?;
+        let place = *self.places.get(number as usize)?;
         if place == UNKNOWN { None } else { Some(place) }
     }
 
-    /// Keeps the place of an id, where there is memory for it.
-    pub(crate) fn keep(&mut self, id: u32, place: u32)
-        ensures { Knows self.old id place self.new }
+    /// Keeps the place of a number, where there is memory for it.
+    pub(crate) fn keep(&mut self, number: u32, place: u32)
+        ensures { Knows self.old number place self.new }
     {
-        let index = id as usize;
+        let index = number as usize;
         let _ = make_room(&mut self.places, index);
         if index < self.places.len() {
             self.places[index] = place;

@@ -3,7 +3,7 @@ ghost use Rattle.amf_graph.specs.Arena.{IsTextId, text_at};
 ghost use Rattle.amf_graph.specs.Order.{Absent};
 ghost use Rattle.amf_tables.specs.FirstPlace.{IsFirstPlace};
 ghost use Rattle.amf_tables.specs.KnownPlaces.{AreKnown};
-ghost use Rattle.amf_tables.specs.KnownWords.{nothing_known, entry_at, AreKnownOf};
+ghost use Rattle.amf_tables.specs.KnownWords.{content_at, nothing_known, entry_at, AreKnownOf};
 ghost use Rattle.amf_tables.specs.ShownTraits.{AreTextIds, AreTraitsOf, shown_entry};
 ghost use Rattle.amf3_spelling.specs.Tables.{with_words, add_entry};
 ghost use Rattle.amf_tables.specs.TextPlaces.{IsEntered};
@@ -16,10 +16,10 @@ use amf_wire::Memory;
 use std::alloc::Global;
 use std::marker::Model;
 
-/// The places of the texts and traits of one graph in a writer's tables, by id, as far as they were asked for: the bytes
-/// of a text are looked up once for each id.
+/// The places of the texts and traits of one graph in a writer's tables, as far as they were asked for: of texts by the
+/// numbers of their contents, of traits by id. So each content is looked up once.
 ///
-/// Each id takes four bytes, up to the greatest that was asked for. Where there is no memory to note a place, it is
+/// Each number takes four bytes, up to the greatest that was asked for. Where there is no memory to note a place, it is
 /// looked up again.
 #[derive(Drop)]
 pub struct KnownWords {
@@ -39,16 +39,17 @@ impl Model for KnownWords {
 /// Notes the place of a text of the graph. It says whether one is known then, or the text is empty.
 fn note_text(known: &mut KnownPlaces, text: TextId, graph: &Rooted, tables: &WriterTables) -> bool
     requires id { IsTextId graph.now.arena text.0 }
-    requires known { AreKnown (text_at graph.now.arena) tables.now.words.texts known.old }
-    ensures { AreKnown (text_at graph.now.arena) tables.now.words.texts known.new }
+    requires known { AreKnown (content_at graph.now.arena) tables.now.words.texts known.old }
+    ensures { AreKnown (content_at graph.now.arena) tables.now.words.texts known.new }
 {
-    if known.place_of(text.0).is_some() {
+    let number = graph.text_number(text);
+    if known.place_of(number).is_some() {
         return true;
     }
     let bytes = graph.text(text);
     match tables.place_of_text(bytes) {
         Some(place) => {
-            known.keep(text.0, place);
+            known.keep(number, place);
             true
         }
         None => bytes.is_empty(),
@@ -58,8 +59,8 @@ fn note_text(known: &mut KnownPlaces, text: TextId, graph: &Rooted, tables: &Wri
 /// Notes the places of texts of the graph, one after another, up to the first that has none.
 fn note_texts(known: &mut KnownPlaces, ids: &[TextId], graph: &Rooted, tables: &WriterTables)
     requires ids { AreTextIds graph.now.arena ids.now }
-    requires known { AreKnown (text_at graph.now.arena) tables.now.words.texts known.old }
-    ensures { AreKnown (text_at graph.now.arena) tables.now.words.texts known.new }
+    requires known { AreKnown (content_at graph.now.arena) tables.now.words.texts known.old }
+    ensures { AreKnown (content_at graph.now.arena) tables.now.words.texts known.new }
 {
     for id in ids {
         if !note_text(known, *id, graph, tables) {
@@ -76,8 +77,8 @@ fn note_traits(
     tables: &WriterTables,
 )
     requires shown { AreTraitsOf graph.now.arena traits.now }
-    requires known { AreKnown (text_at graph.now.arena) tables.now.words.texts known.old }
-    ensures { AreKnown (text_at graph.now.arena) tables.now.words.texts known.new }
+    requires known { AreKnown (content_at graph.now.arena) tables.now.words.texts known.old }
+    ensures { AreKnown (content_at graph.now.arena) tables.now.words.texts known.new }
 {
     if note_text(known, traits.class, graph, tables) {
         note_texts(known, traits.sealed, graph, tables);
@@ -109,13 +110,14 @@ impl KnownWords {
         ensures known { AreKnownOf graph.now.arena tables.new.words self.new }
         ensures err { OnErr result (tables.new ≡ tables.old) }
     {
-        if let Some(place) = self.texts.place_of(text.0) {
+        let number = graph.text_number(text);
+        if let Some(place) = self.texts.place_of(number) {
             return Ok(TextPlace::Old(place));
         }
         let found = tables.place_or_add_text(graph.text(text))?;
         match found {
-            TextPlace::Old(place) => self.texts.keep(text.0, place),
-            TextPlace::New(place) => self.texts.keep(text.0, place),
+            TextPlace::Old(place) => self.texts.keep(number, place),
+            TextPlace::New(place) => self.texts.keep(number, place),
         }
         Ok(found)
     }

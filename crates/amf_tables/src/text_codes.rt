@@ -3,6 +3,7 @@ ghost use Rattle.amf_graph.specs.Arena.{IsTextId, text_at};
 ghost use Rattle.amf_graph.specs.Order.{Absent};
 ghost use Rattle.amf_tables.specs.FirstPlace.{IsFirstPlace};
 ghost use Rattle.amf_tables.specs.KnownPlaces.{AreKnown};
+ghost use Rattle.amf_tables.specs.KnownWords.{content_at};
 ghost use Rattle.amf_tables.specs.ShownTraits.{AreTextIds, texts_at};
 ghost use Rattle.amf_tables.specs.TextCodes.{IsCodeOf, IsUncoded, AreCodesOf, HasUncoded};
 
@@ -16,14 +17,14 @@ use std::alloc::Global;
 /// this place has no code.
 pub(crate) const EMPTY: u32 = 4_294_967_295;
 
-/// The first place of a text of a graph, by its id where that is known, and else by its bytes.
+/// The first place of a text of a graph, by the number of its content where that is known, and else by its bytes.
 fn place_of(text: TextId, graph: &Rooted, texts: &TextTable, known: &KnownPlaces) -> Option<u32>
     requires id { IsTextId graph.now.arena text.0 }
-    requires known { AreKnown (text_at graph.now.arena) texts.now known.now }
+    requires known { AreKnown (content_at graph.now.arena) texts.now known.now }
     ensures first { IfSome result (IsFirstPlace texts.now (text_at graph.now.arena text.0)) }
     ensures none { IfNone result (Absent texts.now (text_at graph.now.arena text.0)) }
 {
-    match known.place_of(text.0) {
+    match known.place_of(graph.text_number(text)) {
         Some(place) => Some(place),
         None => texts.place_of(graph.text(text)),
     }
@@ -37,7 +38,7 @@ pub(crate) fn code_of(
     known: &KnownPlaces,
 ) -> Option<u32>
     requires id { IsTextId graph.now.arena text.0 }
-    requires known { AreKnown (text_at graph.now.arena) texts.now known.now }
+    requires known { AreKnown (content_at graph.now.arena) texts.now known.now }
     ensures { MatchOption result (IsUncoded texts.now (text_at graph.now.arena text.0)) (IsCodeOf texts.now (text_at graph.now.arena text.0)) }
 {
     if graph.text(text).is_empty() {
@@ -56,7 +57,7 @@ pub(crate) fn codes_of(
     known: &KnownPlaces,
 ) -> Result<Option<Vec<u32>>, Memory>
     requires ids { AreTextIds graph.now.arena ids.now }
-    requires known { AreKnown (text_at graph.now.arena) texts.now known.now }
+    requires known { AreKnown (content_at graph.now.arena) texts.now known.now }
     ensures { IfOk result (λ found. MatchOption found (HasUncoded texts.now (texts_at graph.now.arena ids.now)) (λ codes. AreCodesOf texts.now (texts_at graph.now.arena ids.now) codes.items)) }
 {
     let mut codes = Vec::new(alloc);

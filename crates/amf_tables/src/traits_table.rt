@@ -1,9 +1,9 @@
 ghost use Rattle.std.specs.Prelude.{◌≡◌, ◌≤◌, ◌++◌, ◌∷◌, [], length, map, IfSome, IfNone, OnOk, OnErr};
 ghost use Rattle.std.specs.List.{AllByRecursion};
-ghost use Rattle.amf_graph.specs.Arena.{text_at};
 ghost use Rattle.amf_graph.specs.Order.{Absent};
 ghost use Rattle.amf_tables.specs.FirstPlace.{IsFirstPlace};
 ghost use Rattle.amf_tables.specs.KnownPlaces.{AreKnown};
+ghost use Rattle.amf_tables.specs.KnownWords.{content_at};
 ghost use Rattle.amf_tables.specs.ShownTraits.{AreTraitsOf, shown_entry};
 ghost use Rattle.amf_tables.specs.WrittenParts.{Written, wrapped, entry_of, IsWritten, IsNoCopy, IsPushed};
 ghost use Rattle.amf3_spelling.specs.Tables.{external};
@@ -117,7 +117,7 @@ impl TraitsTable {
     ) -> Option<u32>
         requires shown { AreTraitsOf graph.now.arena traits.now }
         requires codes { AllByRecursion (IsWritten texts.now) self.now }
-        requires known { AreKnown (text_at graph.now.arena) texts.now known.now }
+        requires known { AreKnown (content_at graph.now.arena) texts.now known.now }
         ensures first { IfSome result (IsFirstPlace (map (entry_of texts.now) self.now) (shown_entry graph.now.arena traits.now)) }
         ensures none { IfNone result (Absent (map (entry_of texts.now) self.now) (shown_entry graph.now.arena traits.now)) }
     {
@@ -149,7 +149,7 @@ impl TraitsTable {
         known: &KnownPlaces,
     ) -> Result<(), Memory>
         requires shown { AreTraitsOf graph.now.arena traits.now }
-        requires known { AreKnown (text_at graph.now.arena) texts.now known.now }
+        requires known { AreKnown (content_at graph.now.arena) texts.now known.now }
         ensures ok { OnOk result (IsPushed texts.now self.old (shown_entry graph.now.arena traits.now) self.new) }
         ensures err { OnErr result (self.new ≡ self.old) }
     {

@@ -1,8 +1,8 @@
 ghost use Rattle.std.specs.Prelude.{◌≡◌, ◌<◌, ◌≤◌, ◌↔◌, length, map, IsTrue, IfOk, IfNone, IfSome, OnOk, OnErr};
-ghost use Rattle.amf_graph.specs.Arena.{text_at};
 ghost use Rattle.amf_graph.specs.Order.{Absent};
 ghost use Rattle.amf_tables.specs.FirstPlace.{IsFirstPlace};
 ghost use Rattle.amf_tables.specs.KnownPlaces.{AreKnown};
+ghost use Rattle.amf_tables.specs.KnownWords.{content_at};
 ghost use Rattle.amf_tables.specs.SpelledAlone.{IsSpelledAlone};
 ghost use Rattle.amf_tables.specs.TextPlaces.{IsEntered};
 ghost use Rattle.amf_tables.specs.ShownTraits.{AreTraitsOf, shown_entry};
@@ -135,7 +135,7 @@ impl WriterTables {
         known: &KnownPlaces,
     ) -> Option<u32>
         requires shown { AreTraitsOf graph.now.arena traits.now }
-        requires known { AreKnown (text_at graph.now.arena) self.now.words.texts known.now }
+        requires known { AreKnown (content_at graph.now.arena) self.now.words.texts known.now }
         ensures first { IfSome result (IsFirstPlace self.now.words.traits (shown_entry graph.now.arena traits.now)) }
         ensures none { IfNone result (Absent self.now.words.traits (shown_entry graph.now.arena traits.now)) }
     {
@@ -212,7 +212,7 @@ impl WriterTables {
         known: &KnownPlaces,
     ) -> Result<(), Memory>
         requires shown { AreTraitsOf graph.now.arena traits.now }
-        requires known { AreKnown (text_at graph.now.arena) self.old.words.texts known.now }
+        requires known { AreKnown (content_at graph.now.arena) self.old.words.texts known.now }
         ensures ok { OnOk result (self.new ≡ with_words self.old (add_entry self.old.words (shown_entry graph.now.arena traits.now))) }
         ensures err { OnErr result (self.new ≡ self.old) }
     {

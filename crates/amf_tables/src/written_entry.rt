@@ -1,7 +1,7 @@
 ghost use Rattle.std.specs.Prelude.{◌≡◌, ◌↔◌, false, IfOk, IsTrue, MatchOption};
-ghost use Rattle.amf_graph.specs.Arena.{text_at};
 ghost use Rattle.amf_tables.specs.ContentHash.{written_hash};
 ghost use Rattle.amf_tables.specs.KnownPlaces.{AreKnown};
+ghost use Rattle.amf_tables.specs.KnownWords.{content_at};
 ghost use Rattle.amf_tables.specs.ShownTraits.{AreTraitsOf, shown_entry};
 ghost use Rattle.amf_tables.specs.WrittenParts.{copied, wrapped, entry_of, shown_traits, IsNoCopy, IsWrittenFor, IsUnwritten};
 
@@ -61,7 +61,7 @@ impl WrittenEntry {
         known: &KnownPlaces,
     ) -> Result<Option<WrittenEntry>, Memory>
         requires shown { AreTraitsOf graph.now.arena traits.now }
-        requires known { AreKnown (text_at graph.now.arena) texts.now known.now }
+        requires known { AreKnown (content_at graph.now.arena) texts.now known.now }
         ensures { IfOk result (λ found. MatchOption found (IsUnwritten texts.now (shown_entry graph.now.arena traits.now)) (IsWrittenFor texts.now (shown_entry graph.now.arena traits.now))) }
     {
         let Some(class) = code_of(traits.class, graph, texts, known) else {
