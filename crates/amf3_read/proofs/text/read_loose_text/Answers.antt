@@ -1,4 +1,4 @@
-use Rattle.std.proofs.Common.{◌+◌, ◌-◌, ◌<◌, ◌≤◌, ◌^◌, length, take, sym, ap, subst, arith}
+use Rattle.std.proofs.Common.{◌+◌, ◌<◌, ◌≤◌, ◌^◌, length, take, sym, ap, subst, arith}
 use Rattle.std.proofs.lemmas.List.{length-take}
 use Rattle.amf_wire.specs.Text.{IsText}
 use Rattle.amf_io.specs.Cursor.{place, bound}
@@ -40,15 +40,15 @@ text-text-requires g c = slice_text c.args.size c.ahead-ahead.result.now c.if-be
 
 pub kept-requires : goal.kept-requires
 kept-requires g c = λ e.
-    let bytes = take (c.args.size - 0) c.ahead-ahead.result.now in
+    let bytes = take c.args.size c.ahead-ahead.result.now in
     let t = c.if-begins_with_text.ensures in
-    let long : length bytes + length c.args.builder.now.texts < 2 ^ 27 = omega (arith, length-take (c.args.size - 0) c.ahead-ahead.result.now, t.there, c.ahead-ahead.ensures.within, c.requires) in
+    let long : length bytes + length c.args.builder.now.texts < 2 ^ 27 = omega (arith, length-take c.args.size c.ahead-ahead.result.now, t.there, c.ahead-ahead.ensures.within, c.requires) in
     room_for_text (length c.args.builder.now.texts) (length bytes) (omega arith) (omega arith) (c.text-text.ensures.full.0 e)
 
 pub returns-then-begins_with_text-clause-goes : goal.returns-then-begins_with_text-clause-goes
 returns-then-begins_with_text-clause-goes g c =
     let S = g.S.Source in
-    passed_still_ready S.tells S.left S.faults c.args.cursor.now c.pass.new.self c.ahead-ahead.result.now c.args.size (passed g c) c.kept.result c.kept.ensures.err
+    passed_still_ready S.tells S.left S.faults c.args.cursor.now c.pass.new.self c.ahead-ahead.result.now c.args.size (passed g c.before) c.kept.result c.kept.ensures.err
 
 pub returns-then-begins_with_text-clause-answers : goal.returns-then-begins_with_text-clause-answers
 returns-then-begins_with_text-clause-answers g c =
@@ -56,17 +56,17 @@ returns-then-begins_with_text-clause-answers g c =
     let ahead = c.ahead-ahead.result.now in
     let a = c.args.builder.now in
     let z = c.text-text.new.self in
-    text_ahead S.tells S.left c.args.size c.args.cursor.now c.pass.new.self ahead z (passed g c) c.if-begins_with_text.ensures c.kept.result
-    (kept_there c.text-text.result a z (take (c.args.size - 0) ahead) c.text-text.ensures.id c.text-text.ensures.ok c.kept.result c.kept.ensures.ok) c.kept.ensures.err
+    text_ahead S.tells S.left c.args.size c.args.cursor.now c.pass.new.self ahead z (passed g c.before) c.if-begins_with_text.ensures c.kept.result
+    (kept_there c.text-text.result a z (take c.args.size ahead) c.text-text.ensures.id c.text-text.ensures.ok c.kept.result c.kept.ensures.ok) c.kept.ensures.err
 
 pub returns-then-begins_with_text-clause-kept : goal.returns-then-begins_with_text-clause-kept
 returns-then-begins_with_text-clause-kept g c =
-    kept_as c.text-text.result c.args.builder.now c.text-text.new.self (take (c.args.size - 0) c.ahead-ahead.result.now) c.text-text.ensures.id c.text-text.ensures.ok c.kept.result c.kept.ensures.ok
+    kept_as c.text-text.result c.args.builder.now c.text-text.new.self (take c.args.size c.ahead-ahead.result.now) c.text-text.ensures.id c.text-text.ensures.ok c.kept.result c.kept.ensures.ok
 
 pub returns-then-begins_with_text-clause-placed : goal.returns-then-begins_with_text-clause-placed
 returns-then-begins_with_text-clause-placed g c =
     let S = g.S.Source in
-    on_ok (IsPlaced c.pass.new.self) c.kept.result (passed_placed S.tells S.left S.faults c.args.cursor.now c.pass.new.self c.ahead-ahead.result.now c.args.size (passed g c))
+    on_ok (IsPlaced c.pass.new.self) c.kept.result (passed_placed S.tells S.left S.faults c.args.cursor.now c.pass.new.self c.ahead-ahead.result.now c.args.size (passed g c.before))
 
 pub pass-requires : goal.pass-requires
 pass-requires g c =
