@@ -24,11 +24,11 @@ subs-cons : (k : ℕ) (ks : List ℕ) (us : List Subscription) → subs_left ks 
 subs-cons k ks [] = refl
 subs-cons k ks (u ∷ us) = let ih = subs-cons k ks us in grind (arith, nat_tests, ih)
 
-none-clients : (cs : List Connection) → clients_left [] cs ≡ cs
+pub none-clients : (cs : List Connection) → clients_left [] cs ≡ cs
 none-clients [] = refl
 none-clients (c ∷ cs) = ap (λ m. c ∷ m) (none-clients cs)
 
-none-subs : (us : List Subscription) → subs_left [] us ≡ us
+pub none-subs : (us : List Subscription) → subs_left [] us ≡ us
 none-subs [] = refl
 none-subs (u ∷ us) = ap (λ m. u ∷ m) (none-subs us)
 
@@ -42,6 +42,10 @@ empty-none (k ∷ ks) e = grind (arith, nat_tests, e)
 pub without_all-is : (ks : List ℕ) (b : Board) → without_all ks b ≡ record b { clients = clients_left ks b.clients; subs = subs_left ks b.subs }
 without_all-is [] b = rw (none-clients b.clients, none-subs b.subs) refl
 without_all-is (k ∷ ks) b = without_all-is ks (without k b) ∙ rw (clients-cons k ks b.clients, subs-cons k ks b.subs) refl
+
+-- one client leaves
+pub one-left : (k : ℕ) (b : Board) → record b { clients = clients_left (k ∷ []) b.clients; subs = subs_left (k ∷ []) b.subs } ≡ without k b
+one-left k b = sym (without_all-is (k ∷ []) b)
 
 pub advanced-is : (m : ℕ) (ks : List ℕ) (b : Board) → advanced m ks b ≡ record b { moment = m; clients = clients_left ks b.clients; subs = subs_left ks b.subs }
 advanced-is m ks b = without_all-is ks (record b { moment = m })

@@ -7,7 +7,26 @@ pub mod Law
 mod Places
 mod Orders
 mod Sounds
-mod Rounds
 mod Advances
 mod Answered
 pub mod Worked
+mod Merges
+mod Spans
+mod Posts
+mod Deals
+mod Passes
+mod Floors
+mod Publishes
+mod Polls
+mod Waiters
+mod Raises
+mod Tallies
+mod Stops
+mod Seats
+mod Firsts
+mod Lined
+mod Enlists
+mod Published
+mod Gone
+mod Trims
+mod Rounds

@@ -1,143 +1,130 @@
--- Parcels that are handed over one after another.
-use Rattle.std.proofs.Common.{◌≡◌, ℕ, ◌+◌, ◌<◌, ◌≤◌, true, false, List, [], ◌∷◌, ◌++◌, length, take, drop, refl, sym, ◌∙◌, ap, arith, length-append}
-use Rattle.std.specs.Prelude.{◌==◌, slice_index_or, position, Option, Some, None, if◌then◌else◌, nat_le}
-use Rattle.std.specs.List.{cons_option}
+-- A message that comes to members one after another.
+use Rattle.std.proofs.Common.{◌≡◌, ℕ, zero, suc, ◌+◌, ◌<◌, ◌≤◌, true, false, List, [], ◌∷◌, ◌++◌, length, take, drop, get_or, set, map, refl, sym, ◌∙◌, ap, arith, length-append}
+use Rattle.std.specs.Prelude.{◌==◌, Option, Some, None, if◌then◌else◌}
+use Rattle.std.specs.List.{cons_option, list_all}
 use Rattle.std.proofs.lemmas.Bool.Decides.{nat_tests}
+use Rattle.std.proofs.lemmas.List.{drop_more, take-append-drop, length-map}
 use Rattle.std.proofs.lemmas.Grind.{common_steps}
-use Rattle.amf_broker.specs.declared.topic.Topic.{Topic}
-use Rattle.amf_broker.specs.declared.limits.TheConstants.{MAX_QUEUED, MAX_SUBS}
-use Rattle.amf_broker.specs.declared.parcel.Parcel.{Parcel}
-use Rattle.amf_broker.specs.State.{Board, Connection, Subscription}
-use Rattle.amf_broker.specs.Machine.{client_at, at_client, queue_in, ended_in, ended_of, subs_of, with_delivery, with_ended, is_full, spread, ended_first, subscribers, is_same_topic}
-use Rattle.amf_broker.specs.Sound.{IsSound}
-use Rattle.amf_broker.specs.Parcels.{parcels_for, parcels_of, ended_by_parcel, clients_after_parcel, clients_after, ended_after}
-use Rattle.amf_broker.specs.Sound.{rises}
-use Rattle.amf_broker.proofs.Clients.{rises-at}
-use Rattle.amf_broker.proofs.Places.{found-at}
-use Rattle.amf_broker.proofs.Sounds.{ended-more, ended-delivery, part-places}
+use Rattle.amf_broker.specs.declared.member.Member.{Member}
+use Rattle.amf_broker.specs.declared.limits.TheConstants.{MAX_SUBS}
+use Rattle.amf_broker.specs.Lines.{Waiter, waiter_at, is_crowded, counted, noted, untold_of}
+use Rattle.amf_broker.specs.Members.{is_seated, waiters_by, ended_by_member, waiters_after, ended_after, members_of}
+use Rattle.amf_broker.proofs.Seats.{seated-after}
 
--- One parcel.
+pub waiters-more : (xs : List Member) (m : Member) (ws : List Waiter) → waiters_after (xs ++ (m ∷ [])) ws ≡ waiters_by m (waiters_after xs ws)
+waiters-more [] m ws = refl
+waiters-more (x ∷ xs) m ws = waiters-more xs m (waiters_by x ws)
 
-pub none-change : (k : ℕ) (f : Connection → Connection) (cs : List Connection) → client_at k cs ≡ None → at_client k f cs ≡ cs
-none-change k f [] none = refl
-none-change k f (c ∷ cs) none = let ih = none-change k f cs in grind (arith, nat_tests, ih)
+length-at : (k : ℕ) (g : Waiter → Waiter) (ws : List Waiter) → length (waiter_at k g ws) ≡ length ws
+length-at k g [] = refl
+length-at k g (w ∷ ws) = elim (w.id == k) as (λ b. length (if b then g w ∷ ws else w ∷ waiter_at k g ws) ≡ length (w ∷ ws)) [ true ↦ refl | false ↦ ap suc (length-at k g ws) ]
 
-pub none-ended : (p : Parcel) (cs : List Connection) → client_at p.client cs ≡ None → None ≡ ended_by_parcel p cs
-none-ended p cs none = let free : is_full p.client cs ≡ false = ap (λ o. nat_le MAX_QUEUED (length (queue_in o))) none in rw free refl
+length-by : (m : Member) (ws : List Waiter) → length (waiters_by m ws) ≡ length ws
+length-by m ws = elim (is_crowded m.client ws) as (λ b. length (if b then waiter_at m.client (noted m.sub) ws else waiter_at m.client counted ws) ≡ length ws) [
+  | true ↦ length-at m.client (noted m.sub) ws
+  | false ↦ length-at m.client counted ws
+]
 
-pub none-clients : (p : Parcel) (cs : List Connection) → client_at p.client cs ≡ None → cs ≡ clients_after_parcel p cs
-none-clients p cs none = let free : is_full p.client cs ≡ false = ap (λ o. nat_le MAX_QUEUED (length (queue_in o))) none in rw free (sym (none-change p.client (with_delivery p.delivery) cs none))
-
--- whether the mailbox at the client's place is full is whether the client is
-pub full-at : (k i : ℕ) (cs : List Connection) (d : Connection) → Some i ≡ position (λ c. c.id == k) cs → is_full k cs ≡ nat_le MAX_QUEUED (length (slice_index_or cs i d).queue)
-full-at k i cs d is = ap (λ o. nat_le MAX_QUEUED (length (queue_in o))) (found-at k i cs d is)
-
-pub untold-at : (k i : ℕ) (cs : List Connection) (d : Connection) → Some i ≡ position (λ c. c.id == k) cs → length (ended_of k cs) ≡ length (slice_index_or cs i d).ended
-untold-at k i cs d is = ap (λ o. length (ended_in o)) (found-at k i cs d is)
-
--- Many parcels.
-
-pub clients-more : (xs : List Parcel) (p : Parcel) (cs : List Connection) → clients_after (xs ++ (p ∷ [])) cs ≡ clients_after_parcel p (clients_after xs cs)
-clients-more [] p cs = refl
-clients-more (x ∷ xs) p cs = clients-more xs p (clients_after_parcel x cs)
+pub length-after : (ms : List Member) (ws : List Waiter) → length (waiters_after ms ws) ≡ length ws
+length-after [] ws = refl
+length-after (m ∷ ms) ws = length-after ms (waiters_by m ws) ∙ length-by m ws
 
 append-option : (o : Option ℕ) (xs ys : List ℕ) → cons_option o (xs ++ ys) ≡ cons_option o xs ++ ys
 append-option None xs ys = refl
 append-option (Some x) xs ys = refl
 
-pub ended-more-after : (xs : List Parcel) (p : Parcel) (cs : List Connection) → ended_after (xs ++ (p ∷ [])) cs ≡ ended_after xs cs ++ cons_option (ended_by_parcel p (clients_after xs cs)) []
-ended-more-after [] p cs = refl
-ended-more-after (x ∷ xs) p cs =
-    ap (cons_option (ended_by_parcel x cs)) (ended-more-after xs p (clients_after_parcel x cs))
-    ∙ append-option (ended_by_parcel x cs) (ended_after xs (clients_after_parcel x cs)) (cons_option (ended_by_parcel p (clients_after (x ∷ xs) cs)) [])
+pub ended-more : (xs : List Member) (m : Member) (ws : List Waiter) → ended_after (xs ++ (m ∷ [])) ws ≡ ended_after xs ws ++ cons_option (ended_by_member m (waiters_after xs ws)) []
+ended-more [] m ws = refl
+ended-more (x ∷ xs) m ws =
+    ap (cons_option (ended_by_member x ws)) (ended-more xs m (waiters_by x ws))
+    ∙ append-option (ended_by_member x ws) (ended_after xs (waiters_by x ws)) (cons_option (ended_by_member m (waiters_after (x ∷ xs) ws)) [])
 
 length-option : (o : Option ℕ) (xs : List ℕ) → length (cons_option o xs) ≤ length xs + 1
 length-option None xs = omega arith
 length-option (Some x) xs = omega arith
 
-pub length-ended : (xs : List Parcel) (cs : List Connection) → length (ended_after xs cs) ≤ length xs
-length-ended [] cs = omega arith
-length-ended (x ∷ xs) cs =
-    let ih = length-ended xs (clients_after_parcel x cs) in
-    let one = length-option (ended_by_parcel x cs) (ended_after xs (clients_after_parcel x cs)) in
+pub length-ended : (xs : List Member) (ws : List Waiter) → length (ended_after xs ws) ≤ length xs
+length-ended [] ws = omega arith
+length-ended (x ∷ xs) ws =
+    let ih = length-ended xs (waiters_by x ws) in
+    let one = length-option (ended_by_member x ws) (ended_after xs (waiters_by x ws)) in
     omega arith
 
-ended-parcel : (j : ℕ) (p : Parcel) (cs : List Connection) → length (ended_of j (clients_after_parcel p cs)) ≤ length (ended_of j cs) + (if p.client == j then 1 else 0)
-ended-parcel j p cs = elim (is_full p.client cs)
-    as (λ full. length (ended_of j (if full then at_client p.client (with_ended p.delivery.sub) cs else at_client p.client (with_delivery p.delivery) cs)) ≤ length (ended_of j cs) + (if p.client == j then 1 else 0)) [
-      | true ↦ ended-more j p.client p.delivery.sub cs
-      | false ↦ let same = ap length (ended-delivery j p.client p.delivery cs) in omega arith
+untold-noted : (j k sub : ℕ) (ws : List Waiter) → untold_of j (waiter_at k (noted sub) ws) ≤ untold_of j ws + (if k == j then 1 else 0)
+untold-noted j k sub [] = omega arith
+untold-noted j k sub (w ∷ ws) = let ih = untold-noted j k sub ws in let n = length-append w.ended (sub ∷ []) in grind (arith, nat_tests, ih, n)
+
+untold-counted : (j k : ℕ) (ws : List Waiter) → untold_of j (waiter_at k counted ws) ≡ untold_of j ws
+untold-counted j k [] = refl
+untold-counted j k (w ∷ ws) = let ih = untold-counted j k ws in grind (arith, nat_tests, ih)
+
+untold-by : (j : ℕ) (m : Member) (ws : List Waiter) → untold_of j (waiters_by m ws) ≤ untold_of j ws + (if m.client == j then 1 else 0)
+untold-by j m ws = elim (is_crowded m.client ws)
+    as (λ full. untold_of j (if full then waiter_at m.client (noted m.sub) ws else waiter_at m.client counted ws) ≤ untold_of j ws + (if m.client == j then 1 else 0)) [
+      | true ↦ untold-noted j m.client m.sub ws
+      | false ↦ let same = untold-counted j m.client ws in omega arith
     ]
 
-ended-parcels : (j : ℕ) (xs : List Parcel) (cs : List Connection) → length (ended_of j (clients_after xs cs)) ≤ length (ended_of j cs) + length (parcels_of j xs)
-ended-parcels j [] cs = omega arith
-ended-parcels j (x ∷ xs) cs =
-    let ih = ended-parcels j xs (clients_after_parcel x cs) in
-    let one = ended-parcel j x cs in
+untold-after : (j : ℕ) (xs : List Member) (ws : List Waiter) → untold_of j (waiters_after xs ws) ≤ untold_of j ws + length (members_of j xs)
+untold-after j [] ws = omega arith
+untold-after j (x ∷ xs) ws =
+    let ih = untold-after j xs (waiters_by x ws) in
+    let one = untold-by j x ws in
     grind (arith, nat_tests, ih, one)
 
-own-parcel : (p : Parcel) (xs ys : List Parcel) → length (parcels_of p.client xs) + 1 ≤ length (parcels_of p.client (xs ++ (p ∷ ys)))
-own-parcel p [] ys = grind (arith, nat_tests)
-own-parcel p (x ∷ xs) ys = let ih = own-parcel p xs ys in grind (arith, nat_tests, ih)
+own-member : (m : Member) (xs ys : List Member) → length (members_of m.client xs) + 1 ≤ length (members_of m.client (xs ++ (m ∷ ys)))
+own-member m [] ys = grind (arith, nat_tests)
+own-member m (x ∷ xs) ys = let ih = own-member m xs ys in grind (arith, nat_tests, ih)
 
--- there is room for the next parcel to end its subscription
-pub room-next : (p : Parcel) (xs ys : List Parcel) (cs : List Connection) → ((j : ℕ) → length (parcels_of j (xs ++ (p ∷ ys))) + length (ended_of j cs) ≤ MAX_SUBS) → length (ended_of p.client (clients_after xs cs)) < MAX_SUBS
-room-next p xs ys cs places =
-    let all = places p.client in
-    let own = own-parcel p xs ys in
-    let now = ended-parcels p.client xs cs in
+-- there is room for the next member to end
+pub room-next : (m : Member) (xs ys : List Member) (ws : List Waiter) → ((j : ℕ) → length (members_of j (xs ++ (m ∷ ys))) + untold_of j ws ≤ MAX_SUBS) → untold_of m.client (waiters_after xs ws) < MAX_SUBS
+room-next m xs ys ws places =
+    let all = places m.client in
+    let own = own-member m xs ys in
+    let now = untold-after m.client xs ws in
     omega arith
 
-pub length-next : (p : Parcel) (xs ys all : List Parcel) → xs ++ (p ∷ ys) ≡ all → length xs < length all
-length-next p xs ys all is = let e = ap length is in let n = length-append xs (p ∷ ys) in omega arith
+pub length-next : (m : Member) (xs ys all : List Member) → xs ++ (m ∷ ys) ≡ all → length xs < length all
+length-next m xs ys all is = let e = ap length is in let n = length-append xs (m ∷ ys) in omega arith
 
-pub ended-step : (xs : List Parcel) (p : Parcel) (cs now : List Connection) (ended : List ℕ) (o : Option ℕ) → ended ≡ ended_after xs cs → now ≡ clients_after xs cs → o ≡ ended_by_parcel p now
-    → ended ++ cons_option o [] ≡ ended_after (xs ++ (p ∷ [])) cs
-ended-step xs p cs now ended o before at is = ap (λ m. m ++ cons_option o []) before ∙ (ap (λ m. ended_after xs cs ++ cons_option m []) (is ∙ ap (ended_by_parcel p) at) ∙ sym (ended-more-after xs p cs))
+pub ended-step : (xs : List Member) (m : Member) (ws now : List Waiter) (ended : List ℕ) (o : Option ℕ) → ended ≡ ended_after xs ws → now ≡ waiters_after xs ws → o ≡ ended_by_member m now
+    → ended ++ cons_option o [] ≡ ended_after (xs ++ (m ∷ [])) ws
+ended-step xs m ws now ended o before at is = ap (λ e. e ++ cons_option o []) before ∙ (ap (λ e. ended_after xs ws ++ cons_option e []) (is ∙ ap (ended_by_member m) at) ∙ sym (ended-more xs m ws))
 
-rises-parcel : (p : Parcel) (cs : List Connection) → rises 0 (clients_after_parcel p cs) ≡ rises 0 cs
-rises-parcel p cs = elim (is_full p.client cs)
-    as (λ full. rises 0 (if full then at_client p.client (with_ended p.delivery.sub) cs else at_client p.client (with_delivery p.delivery) cs) ≡ rises 0 cs) [
-      | true ↦ rises-at 0 p.client (with_ended p.delivery.sub) cs (λ c. refl)
-      | false ↦ rises-at 0 p.client (with_delivery p.delivery) cs (λ c. refl)
-    ]
+seated-within : (m : Member) (xs ys : List Member) (ws : List Waiter) → list_all (is_seated ws) (xs ++ (m ∷ ys)) ≡ true → is_seated ws m ≡ true
+seated-within m [] ys ws all = grind (arith, all)
+seated-within m (x ∷ xs) ys ws all = let ih = seated-within m xs ys ws in grind (arith, all, ih)
 
-pub rises-after : (xs : List Parcel) (cs : List Connection) → rises 0 (clients_after xs cs) ≡ rises 0 cs
-rises-after [] cs = refl
-rises-after (x ∷ xs) cs = rises-after xs (clients_after_parcel x cs) ∙ rises-parcel x cs
+-- the next member still sits where it sat
+pub seated-next : (m : Member) (xs ys : List Member) (ws : List Waiter) → list_all (is_seated ws) (xs ++ (m ∷ ys)) ≡ true → is_seated (waiters_after xs ws) m ≡ true
+seated-next m xs ys ws all = seated-after m xs ws ∙ seated-within m xs ys ws all
 
--- The parcels of a publish do what the machine says.
+-- A list at an index.
 
-pub clients-spread : (number : ℕ) (message : List ℕ) (us : List Subscription) (cs : List Connection) → clients_after (parcels_for number message us) cs ≡ (spread number message us cs).clients
-clients-spread number message [] cs = refl
-clients-spread number message (u ∷ us) cs = elim (is_full u.client cs)
-    as (λ full. clients_after (parcels_for number message us) (if full then at_client u.client (with_ended u.id) cs else at_client u.client (with_delivery (record { sub = u.id; number = number; message = message })) cs)
-    ≡ (if full then ended_first u.id (spread number message us (at_client u.client (with_ended u.id) cs)) else spread number message us (at_client u.client (with_delivery (record { sub = u.id; number = number; message = message })) cs)).clients) [
-      | true ↦ clients-spread number message us (at_client u.client (with_ended u.id) cs)
-      | false ↦ clients-spread number message us (at_client u.client (with_delivery (record { sub = u.id; number = number; message = message })) cs)
-    ]
-
-pub ended-spread-parcels : (number : ℕ) (message : List ℕ) (us : List Subscription) (cs : List Connection) → ended_after (parcels_for number message us) cs ≡ (spread number message us cs).ended
-ended-spread-parcels number message [] cs = refl
-ended-spread-parcels number message (u ∷ us) cs = elim (is_full u.client cs)
-    as (λ full. cons_option (if full then Some u.id else None) (ended_after (parcels_for number message us) (if full then at_client u.client (with_ended u.id) cs else at_client u.client (with_delivery (record { sub = u.id; number = number; message = message })) cs))
-    ≡ (if full then ended_first u.id (spread number message us (at_client u.client (with_ended u.id) cs)) else spread number message us (at_client u.client (with_delivery (record { sub = u.id; number = number; message = message })) cs)).ended) [
-      | true ↦ ap (λ m. u.id ∷ m) (ended-spread-parcels number message us (at_client u.client (with_ended u.id) cs))
-      | false ↦ ended-spread-parcels number message us (at_client u.client (with_delivery (record { sub = u.id; number = number; message = message })) cs)
-    ]
-
-pub parcels-places : (j number : ℕ) (message : List ℕ) (us : List Subscription) → length (parcels_of j (parcels_for number message us)) ≡ length (subs_of j us)
-parcels-places j number message [] = refl
-parcels-places j number message (u ∷ us) = let ih = parcels-places j number message us in grind (arith, nat_tests, ih)
+pub split-at : {X : Type 0} (xs : List X) (i : ℕ) (d : X) → i < length xs → take i xs ++ (get_or xs i d ∷ drop (i + 1) xs) ≡ xs
+split-at xs i d less = ap (λ y. take i xs ++ y) (sym (drop_more xs i d less)) ∙ take-append-drop i xs
 
 -- a list that is written whole
-pub refilled : (n : ℕ) (ws xs : List Connection) → length xs ≡ n → length ws ≡ length xs → take n (ws ++ drop (length ws) xs) ≡ ws
+pub refilled : {X : Type 0} (n : ℕ) (ws xs : List X) → length xs ≡ n → length ws ≡ length xs → take n (ws ++ drop (length ws) xs) ≡ ws
 refilled n ws xs full same = grind (arith, common_steps)
 
--- the parcels for the subscribers and what already waits to be told fit
-pub round-fits : (b : Board) (topic : Topic) (message : List ℕ) → IsSound b → (j : ℕ) → length (parcels_of j (parcels_for b.next_message message (subscribers topic b.subs))) + length (ended_of j b.clients) ≤ MAX_SUBS
-round-fits b topic message s j =
-    let same = parcels-places j b.next_message message (subscribers topic b.subs) in
-    let fewer = part-places j (λ u. is_same_topic u.topic topic) b.subs in
-    let old = s.places j in
-    omega arith
+pub mapped : {X : Type 0} (f : X → X) (n : ℕ) (xs ws : List X) → length xs ≡ n → ws ≡ map f xs → take n (ws ++ drop (length ws) xs) ≡ map f xs
+mapped f n xs ws full is = refilled n ws xs full (ap length is ∙ length-map xs f) ∙ is
+
+-- one more of a list that is changed from its front on
+changed-suc : {X : Type 0} (f : X → X) (xs : List X) (i : ℕ) (d v : X) → i < length xs → v ≡ f (get_or xs i d) → set (map f (take i xs) ++ drop i xs) i v ≡ map f (take (suc i) xs) ++ drop (suc i) xs
+changed-suc f [] i d v less is = absurd (omega arith)
+changed-suc f (x ∷ xs) zero d v less is = ap (λ y. y ∷ xs) is
+changed-suc f (x ∷ xs) (suc i) d v less is = ap (λ ys. f x ∷ ys) (changed-suc f xs i d v (omega arith) is)
+
+read-next : {X : Type 0} (f : X → X) (xs : List X) (i : ℕ) (d : X) → i < length xs → get_or (map f (take i xs) ++ drop i xs) i d ≡ get_or xs i d
+read-next f [] i d less = absurd (omega arith)
+read-next f (x ∷ xs) zero d less = refl
+read-next f (x ∷ xs) (suc i) d less = read-next f xs i d (omega arith)
+
+-- the loop goes on by one element
+pub changed-next : {X : Type 0} (f : X → X) (xs now : List X) (i : ℕ) (d v : X) → now ≡ map f (take i xs) ++ drop i xs → i < length xs → v ≡ f (get_or now i d) → set now i v ≡ map f (take (i + 1) xs) ++ drop (i + 1) xs
+changed-next f xs now i d v is less new =
+    let next : i + 1 ≡ suc i = omega arith in
+    let read = ap (λ ys. get_or ys i d) is ∙ read-next f xs i d less in
+    rw next (ap (λ ys. set ys i v) is ∙ changed-suc f xs i d v less (new ∙ ap f read))

@@ -8,5 +8,7 @@ pub mod Memory
 -- Devices of the proofs: no clause of a public call needs them.
 pub mod Sound
 pub mod Admission
-pub mod Parcels
 pub mod Moments
+pub mod Lines
+pub mod Members
+pub mod Trims

@@ -1,51 +1,58 @@
-ghost use Rattle.std.specs.Prelude.{◌≡◌, ◌<◌, ◌≤◌, ◌==◌, [], length, position, nat_le, true, IfOk, IfSome};
-ghost use Rattle.amf_broker.specs.Sound.{rises};
-ghost use Rattle.amf_broker.specs.Machine.{new_client, with_delivery, with_ended, emptied, kept_as, seen_at, is_idle, ended_of, last_of, is_connected};
+ghost use Rattle.std.specs.Prelude.{◌≡◌, ◌<◌, ◌≤◌, ◌==◌, ℕ, List, [], length, map, filter, count_by, sum_by, position, nat_le, true, IfOk, IfSome};
+ghost use Rattle.std.specs.List.{list_any};
+ghost use Rattle.amf_broker.specs.declared.limits.TheConstants.{MAX_CLIENTS};
+ghost use Rattle.amf_broker.specs.Machine.{is_idle};
+ghost use Rattle.amf_broker.specs.Sound.{are_in_order};
+ghost use Rattle.amf_broker.specs.Moments.{stays};
+ghost use Rattle.amf_broker.specs.Lines.{bare, new_waiter, counted, noted, emptied_waiter, kept_waiter, seen_waiter, waiters_rise};
 
+use crate::moment::is_in;
 use crate::room::Room;
-use crate::{ClientId, Deliveries, Delivery, MAX_IDLE, MAX_QUEUED, MAX_SUBS, SubId, SubIds};
+use crate::{
+    ClientId, Deliveries, Delivery, MAX_CLIENTS, MAX_IDLE, MAX_QUEUED, MAX_SUBS, SubId, SubIds,
+};
 use amf_wire::Memory;
 use std::alloc::Global;
 use std::marker::Model;
 use std::mem;
 
-/// A connected client with what waits for it. Its room is taken at the start, so that nothing that comes in later can
-/// fail for memory.
+/// A connected client, with the number of deliveries that wait for it. Room for its subscriptions that end is taken at the
+/// start, so that an end can always be noted.
 #[derive(Drop)]
 pub(crate) struct Mailbox {
     id: ClientId,
-    queue: Vec<Delivery>,
+    waiting: u32,
     ended: Vec<SubId>,
     seen: u64,
     last: u64,
-    kept: Vec<Delivery>,
+    kept: Deliveries,
     kept_ended: Vec<SubId>,
 }
 
 impl Model for Mailbox {
     ghost use Rattle.std.specs.Prelude.{◌≤◌, vec_len, vec_capacity};
     ghost use Rattle.amf_broker.specs.declared.limits.TheConstants.{MAX_QUEUED, MAX_SUBS};
-    ghost use Rattle.amf_broker.specs.State.{Connection};
+    ghost use Rattle.amf_broker.specs.Lines.{Waiter};
 
-    ghost Value = { Connection };
+    ghost Value = { Waiter };
 
-    ghost view = { λ m. record { id = m.id; queue = m.queue.items; ended = m.ended.items; seen = m.seen; last = m.last; kept = m.kept.items; kept_ended = m.kept_ended.items } };
+    ghost view = { λ m. record { id = m.id; waiting = m.waiting; ended = m.ended.items; seen = m.seen; last = m.last; kept = m.kept; kept_ended = m.kept_ended.items } };
 
-    ghost invariant = { λ m. (vec_len m.queue ≤ MAX_QUEUED) × (MAX_QUEUED ≤ vec_capacity m.queue) × (vec_len m.ended ≤ MAX_SUBS) × (MAX_SUBS ≤ vec_capacity m.ended) };
+    ghost invariant = { λ m. (m.waiting ≤ MAX_QUEUED) × (vec_len m.ended ≤ MAX_SUBS) × (MAX_SUBS ≤ vec_capacity m.ended) };
 }
 
 impl Mailbox {
     pub(crate) fn new(alloc: Global, id: ClientId, present: u64) -> Result<Mailbox, Memory>
-        ensures { IfOk result (λ m. m ≡ new_client id present) }
+        ensures { IfOk result (λ m. m ≡ new_waiter id present) }
     {
-        let Room { queue, ended } = Room::new(alloc)?;
+        let Room { ended } = Room::new(alloc)?;
         Ok(Mailbox {
             id,
-            queue,
+            waiting: 0,
             ended,
             seen: present,
             last: 0,
-            kept: Vec::new(alloc),
+            kept: Deliveries::of_vec(Vec::new(alloc)),
             kept_ended: Vec::new(alloc),
         })
     }
@@ -57,11 +64,11 @@ impl Mailbox {
     }
 
     /// How many deliveries wait.
-    pub(crate) fn queued(&self) -> usize
-        ensures number { result ≡ length self.now.queue }
+    pub(crate) fn waiting(&self) -> u32
+        ensures number { result ≡ self.now.waiting }
         ensures bound { result ≤ MAX_QUEUED }
     {
-        self.queue.len()
+        self.waiting
     }
 
     /// How many subscriptions ended and are not yet told.
@@ -72,34 +79,35 @@ impl Mailbox {
     }
 
     pub(crate) fn is_full(&self) -> bool
-        ensures { result ≡ nat_le MAX_QUEUED (length self.now.queue) }
+        ensures { result ≡ nat_le MAX_QUEUED self.now.waiting }
     {
-        self.queue.len() >= MAX_QUEUED as usize
+        self.waiting >= MAX_QUEUED
     }
 
-    pub(crate) fn take_in(&mut self, delivery: Delivery)
-        requires { length self.old.queue < MAX_QUEUED }
-        ensures { self.new ≡ with_delivery delivery self.old }
+    /// One delivery more waits.
+    pub(crate) fn count(&mut self)
+        requires { self.old.waiting < MAX_QUEUED }
+        ensures { self.new ≡ counted self.old }
     {
-        self.queue.push(delivery).unwrap();
+        self.waiting += 1;
     }
 
     pub(crate) fn end(&mut self, sub: SubId)
         requires { length self.old.ended < MAX_SUBS }
-        ensures { self.new ≡ with_ended sub self.old }
+        ensures { self.new ≡ noted sub self.old }
     {
         self.ended.push(sub).unwrap();
     }
 
     /// Whether no call has named the client for so long that it expires.
     pub(crate) fn is_idle(&self, present: u64) -> bool
-        ensures { result ≡ is_idle present self.now }
+        ensures { result ≡ is_idle present (bare self.now) }
     {
         present.saturating_sub(self.seen) >= MAX_IDLE
     }
 
     pub(crate) fn see(&mut self, present: u64)
-        ensures { self.new ≡ seen_at present self.old }
+        ensures { self.new ≡ seen_waiter present self.old }
     {
         self.seen = present;
     }
@@ -109,12 +117,6 @@ impl Mailbox {
         ensures { result ≡ self.now.last }
     {
         self.last
-    }
-
-    pub(crate) fn queue(&self) -> &[Delivery]
-        ensures { result.now ≡ self.now.queue }
-    {
-        self.queue.as_slice()
     }
 
     pub(crate) fn ended(&self) -> &[SubId]
@@ -135,32 +137,32 @@ impl Mailbox {
         self.kept_ended.as_slice()
     }
 
-    /// Hands out all that waits. The room is for what waits next.
-    pub(crate) fn empty(&mut self, room: Room) -> (Deliveries, SubIds)
-        ensures deliveries { result.0 ≡ self.old.queue }
-        ensures ended { result.1 ≡ self.old.ended }
-        ensures state { self.new ≡ emptied self.old }
+    /// Nothing waits any more. The room is for what ends next.
+    pub(crate) fn empty(&mut self, room: Room) -> SubIds
+        ensures ended { result ≡ self.old.ended }
+        ensures state { self.new ≡ emptied_waiter self.old }
     {
-        let Room { queue, ended } = room;
-        let deliveries = mem::replace(&mut self.queue, queue);
+        let Room { ended } = room;
         let told = mem::replace(&mut self.ended, ended);
-        (Deliveries::of_vec(deliveries), SubIds::of_vec(told))
+        self.waiting = 0;
+        SubIds::of_vec(told)
     }
 
-    /// Keeps all that waits under this number. The room is for what waits next.
-    pub(crate) fn keep(&mut self, number: u64, room: Room)
-        ensures { self.new ≡ kept_as number self.old }
+    /// Nothing waits any more: what waited is kept under this number. The room is for what ends next.
+    pub(crate) fn keep(&mut self, number: u64, queue: Deliveries, room: Room)
+        ensures { self.new ≡ kept_waiter number queue self.old }
     {
-        let Room { queue, ended } = room;
-        self.kept = mem::replace(&mut self.queue, queue);
+        let Room { ended } = room;
         self.kept_ended = mem::replace(&mut self.ended, ended);
+        self.kept = queue;
+        self.waiting = 0;
         self.last = number;
     }
 }
 
 /// Where the client stands, if it is connected.
 pub(crate) fn place_of(clients: &[Mailbox], client: ClientId) -> Option<usize>
-    ensures place { result ≡ position (λ c. c.id == client) clients.now }
+    ensures place { result ≡ position (λ w. w.id == client) clients.now }
     ensures bound { IfSome result (λ i. i < length clients.now) }
 {
     clients.iter().position(|mailbox| mailbox.id() == client)
@@ -168,8 +170,8 @@ pub(crate) fn place_of(clients: &[Mailbox], client: ClientId) -> Option<usize>
 
 /// Where the client stands, if it is connected, among clients in order of their numbers.
 pub(crate) fn place_in_order(clients: &[Mailbox], client: ClientId) -> Option<usize>
-    requires { rises 0 clients.now ≡ true }
-    ensures place { result ≡ position (λ c. c.id == client) clients.now }
+    requires { waiters_rise 0 clients.now ≡ true }
+    ensures place { result ≡ position (λ w. w.id == client) clients.now }
     ensures bound { IfSome result (λ i. i < length clients.now) }
 {
     match clients.binary_search_by_key(&client.0, |mailbox| mailbox.id().0) {
@@ -178,29 +180,49 @@ pub(crate) fn place_in_order(clients: &[Mailbox], client: ClientId) -> Option<us
     }
 }
 
-/// Whether the client is connected.
-pub(crate) fn has_client(clients: &[Mailbox], client: ClientId) -> bool
-    ensures { result ≡ is_connected client clients.now }
+/// How many deliveries wait for these clients.
+pub(crate) fn queued(clients: &[Mailbox]) -> u64
+    requires { length clients.now ≤ MAX_CLIENTS }
+    ensures { result ≡ sum_by (λ w. w.waiting) clients.now }
 {
-    place_of(clients, client).is_some()
+    let mut queued = 0;
+    for mailbox in clients {
+        queued += u64::from(mailbox.waiting());
+    }
+    queued
 }
 
-/// How many subscriptions of the client ended and are not yet told.
-pub(crate) fn untold_of(clients: &[Mailbox], client: ClientId) -> usize
-    ensures { result ≡ length (ended_of client clients.now) }
+/// Whether a client expires at this moment.
+pub(crate) fn has_idle(clients: &[Mailbox], present: u64) -> bool
+    ensures { result ≡ list_any (λ w. is_idle present (bare w)) clients.now }
 {
-    match place_of(clients, client) {
-        Some(place) => clients[place].untold(),
-        None => 0,
-    }
+    clients.iter().any(|mailbox| mailbox.is_idle(present))
 }
 
-/// The number of the client's last numbered poll, or 0.
-pub(crate) fn last_of(clients: &[Mailbox], client: ClientId) -> u64
-    ensures { result ≡ last_of client clients.now }
+/// The clients that expire at this moment.
+pub(crate) fn idle_among(
+    alloc: Global,
+    clients: &[Mailbox],
+    present: u64,
+) -> Result<Vec<ClientId>, Memory>
+    ensures { IfOk result (λ ids. ids.items ≡ map (λ w. w.id) (filter (λ w. is_idle present (bare w)) clients.now)) }
 {
-    match place_of(clients, client) {
-        Some(place) => clients[place].last(),
-        None => 0,
+    let mut ids = Vec::new(alloc);
+    for mailbox in clients {
+        if mailbox.is_idle(present) {
+            ids.push(mailbox.id())?;
+        }
     }
+    Ok(ids)
+}
+
+/// How many clients are none of these, which stand in order of their numbers.
+pub(crate) fn staying(clients: &[Mailbox], left: &[ClientId]) -> usize
+    requires { are_in_order left.now ≡ true }
+    ensures { result ≡ count_by (λ w. stays left.now w.id) clients.now }
+{
+    clients
+        .iter()
+        .filter(|mailbox| !is_in(left, mailbox.id()))
+        .count()
 }

@@ -4,8 +4,6 @@ ghost use Rattle.amf_broker.specs.Machine.{refusal, client_refusal, topic_refusa
 ghost use Rattle.amf_broker.specs.Admission.{allowed};
 ghost use Rattle.amf_broker.specs.Moments.{board_at, stays};
 
-use crate::live_sub::{is_live, live_of};
-use crate::mailbox::{Mailbox, has_client, last_of, untold_of};
 use crate::moment::Moment;
 use crate::switchboard::Switchboard;
 use crate::{
@@ -27,16 +25,6 @@ fn is_listed(destinations: &[Name], destination: &Name) -> bool
     destinations
         .iter()
         .any(|name| destination.as_bytes() == name.as_bytes())
-}
-
-/// How many clients do not expire.
-fn staying(clients: &[Mailbox], moment: &Moment) -> usize
-    ensures { result ≡ count_by (λ c. stays moment.now.expired.items c.id) clients.now }
-{
-    clients
-        .iter()
-        .filter(|mailbox| !moment.expires(mailbox.id()))
-        .count()
 }
 
 impl Switchboard {
@@ -170,13 +158,13 @@ impl Switchboard {
     fn staying(&self, moment: &Moment) -> usize
         ensures { result ≡ length (board_at moment.now self.now).clients }
     {
-        staying(&self.clients, moment)
+        self.lines.staying(&moment.expired)
     }
 
     fn is_here(&self, moment: &Moment, client: ClientId) -> bool
         ensures { result ≡ is_connected client (board_at moment.now self.now).clients }
     {
-        !moment.expires(client) && has_client(&self.clients, client)
+        !moment.expires(client) && self.lines.has_client(client)
     }
 
     /// The number of the client's last numbered poll, or 0.
@@ -184,7 +172,7 @@ impl Switchboard {
         requires { is_connected client (board_at moment.now self.now).clients ≡ true }
         ensures { result ≡ last_of client (board_at moment.now self.now).clients }
     {
-        last_of(&self.clients, client)
+        self.lines.last_of(client)
     }
 
     fn has_destination(&self, moment: &Moment, destination: &Name) -> bool
@@ -197,7 +185,7 @@ impl Switchboard {
         requires { is_connected client (board_at moment.now self.now).clients ≡ true }
         ensures { result ≡ list_any (λ u. u.id == sub && u.client == client) (board_at moment.now self.now).subs }
     {
-        is_live(&self.subs, sub, client)
+        self.lines.is_live(sub, client)
     }
 
     /// How many subscriptions of the client are live, or ended and are not yet told.
@@ -205,6 +193,6 @@ impl Switchboard {
         requires { is_connected client (board_at moment.now self.now).clients ≡ true }
         ensures { result ≡ places_of client (board_at moment.now self.now) }
     {
-        live_of(&self.subs, client) + untold_of(&self.clients, client)
+        self.lines.live_of(client) + self.lines.untold_of(client)
     }
 }

@@ -10,7 +10,6 @@ use Rattle.amf_broker.proofs.switchboard.Switchboard.has_sub.Goals as goal
 
 pub returns : goal.returns
 returns c =
-    let any = rw c.deref.ensures.value at c.is_live.ensures in
     let here = rw (← c.self.view_is) at c.requires in
-    let stay = stays-connected c.args.client c.args.moment.now.expired.items c.self.inside.clients.items (rw (clients-at c.args.moment.now.present c.args.moment.now.expired.items (the_view c.self.inside)) at here) in
-    rw (← c.self.view_is) (any ∙ sym (ap (list_any (λ (u : Subscription). u.id == c.args.sub && u.client == c.args.client)) (subs-at c.args.moment.now.present c.args.moment.now.expired.items (the_view c.self.inside)) ∙ any-left c.args.client c.args.sub c.args.moment.now.expired.items c.self.inside.subs.items stay))
+    let stay = stays-connected c.args.client c.args.moment.now.expired.items c.self.inside.lines.clients (rw (clients-at c.args.moment.now.present c.args.moment.now.expired.items (the_view c.self.inside)) at here) in
+    rw (← c.self.view_is) (c.is_live.ensures ∙ sym (ap (list_any (λ (u : Subscription). u.id == c.args.sub && u.client == c.args.client)) (subs-at c.args.moment.now.present c.args.moment.now.expired.items (the_view c.self.inside)) ∙ any-left c.args.client c.args.sub c.args.moment.now.expired.items c.self.inside.lines.subs stay))

@@ -7,5 +7,4 @@ use Rattle.amf_broker.proofs.switchboard.Switchboard.last_of.Goals as goal
 pub returns : goal.returns
 returns c =
     let here = rw (← c.self.view_is) at c.requires in
-    let last = rw c.deref.ensures.value at c.last_of.ensures in
-    rw (← c.self.view_is) (last ∙ last-here c.args.moment.now.present c.args.moment.now.expired.items (the_view c.self.inside) c.args.client here)
+    rw (← c.self.view_is) (c.last_of.ensures ∙ last-here c.args.moment.now.present c.args.moment.now.expired.items (the_view c.self.inside) c.args.client here)

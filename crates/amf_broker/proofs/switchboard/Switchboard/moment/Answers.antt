@@ -10,24 +10,24 @@ use Rattle.amf_broker.proofs.switchboard.Switchboard.moment.Goals.{then-has_idle
 
 pub returns-in_err-expired-clause-nobody : goal.returns-in_err-expired-clause-nobody
 returns-in_err-expired-clause-nobody c none =
-    let any = sym (rw (c.later_of-present.ensures, c.deref.ensures.value) at c.has_idle.ensures) ∙ c.if-has_idle.true in
-    let some = some-idle (later c.self.inside.moment c.args.moment) c.self.inside.clients.items any in
+    let any = sym (rw c.later_of-present.ensures at c.has_idle.ensures) ∙ c.if-has_idle.true in
+    let some = some-idle (later c.self.inside.moment c.args.moment) c.self.inside.lines.clients any in
     let here = rw (← c.self.view_is) at none in
     let never : true ≡ false = sym here ∙ some in
     absurd (cc)
 
 pub returns-clause-expired : goal.returns-clause-expired
 returns-clause-expired c = elim c.if-has_idle.branch [
-  | then-has_idle+in_ok-expired w ↦ rw (← c.self.view_is, w.expired-is) (w.in_ok-expired.ensures ∙ rw (c.later_of-present.ensures, w.deref-then-has_idle.ensures.value) refl)
+  | then-has_idle+in_ok-expired w ↦ rw (← c.self.view_is, w.expired-is) (w.in_ok-expired.ensures ∙ rw c.later_of-present.ensures refl)
   | else-has_idle w ↦
-      let any = sym (rw (c.later_of-present.ensures, c.deref.ensures.value) at c.has_idle.ensures) ∙ w.if-has_idle.false in
-      rw (← c.self.view_is, w.expired-is) (w.new-expired.ensures.items ∙ sym (none-idle (later c.self.inside.moment c.args.moment) c.self.inside.clients.items any))
+      let any = sym (rw c.later_of-present.ensures at c.has_idle.ensures) ∙ w.if-has_idle.false in
+      rw (← c.self.view_is, w.expired-is) (w.new-expired.ensures.items ∙ sym (none-idle (later c.self.inside.moment c.args.moment) c.self.inside.lines.clients any))
 ]
 
 pub invariant_of-result : goal.invariant_of-result
 invariant_of-result c =
     let ordered : are_in_order c.if-has_idle.expired.items ≡ true = elim c.if-has_idle.branch [
-      | then-has_idle+in_ok-expired w ↦ rw (w.expired-is, w.in_ok-expired.ensures, w.deref-then-has_idle.ensures.value) (part-in-order (λ (c : Connection). c.id) (is_idle c.later_of-present.result) c.self.inside.clients.items c.self.invariant.ordered)
+      | then-has_idle+in_ok-expired w ↦ rw (w.expired-is, w.in_ok-expired.ensures) (part-in-order (λ (c : Connection). c.id) (is_idle c.later_of-present.result) c.self.inside.lines.clients c.self.invariant.ordered)
       | else-has_idle w ↦ rw (w.expired-is, w.new-expired.ensures.items) refl
     ] in
     record { ordered = ordered }

@@ -6,6 +6,4 @@ use Rattle.amf_broker.proofs.Advances.{clients-at}
 use Rattle.amf_broker.proofs.switchboard.Switchboard.staying.Goals as goal
 
 pub returns : goal.returns
-returns c =
-    let left = rw c.deref.ensures.value at c.staying.ensures in
-    rw (← c.self.view_is) (left ∙ (length-left c.args.moment.now.expired.items c.self.inside.clients.items ∙ sym (ap length (clients-at c.args.moment.now.present c.args.moment.now.expired.items (the_view c.self.inside)))))
+returns c = rw (← c.self.view_is) (rw c.deref.ensures.value at c.staying.ensures ∙ (length-left c.args.moment.now.expired.items c.self.inside.lines.clients ∙ sym (ap length (clients-at c.args.moment.now.present c.args.moment.now.expired.items (the_view c.self.inside)))))

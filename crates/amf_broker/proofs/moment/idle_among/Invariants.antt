@@ -1,8 +1,0 @@
--- The clients so far.
-use Rattle.std.proofs.Common.{◌≡◌, take}
-use Rattle.std.specs.Prelude.{map, filter}
-use Rattle.amf_broker.specs.Machine.{is_idle}
-use Rattle.amf_broker.proofs.moment.idle_among.Given as goal
-
-abbrev pub invariant-loop-mailbox : goal.invariant-loop-mailbox
-invariant-loop-mailbox l = l.ids.items ≡ map (λ c. c.id) (filter (is_idle l.present) (take l.mailbox-index l.clients))

@@ -1,0 +1,454 @@
+ghost use Rattle.std.specs.Prelude.{◌≡◌, ◌++◌, ◌∷◌, [], ◌+◌, ◌<◌, ◌≤◌, ◌^◌, ◌==◌, ◌&&◌, ℕ, not, true, length, map, filter, count_by, sum_by, vec_len, vec_capacity, IfOk, OnOk, OnErr};
+ghost use Rattle.std.specs.List.{list_any};
+ghost use Rattle.amf_broker.specs.declared.limits.TheConstants.{MAX_CLIENTS, MAX_SUBS};
+ghost use Rattle.amf_broker.specs.Machine.{new_client, at_client, emptied, kept_as, seen_at, is_idle, is_connected, queue_of, ended_of, last_of, kept_of, kept_ended_of, subs_of, still_live};
+ghost use Rattle.amf_broker.specs.Sound.{are_in_order, rises_by};
+ghost use Rattle.amf_broker.specs.Moments.{stays, clients_left, subs_left};
+ghost use Rattle.amf_broker.specs.Lines.{reached_of, waiters_rise, waiters_left, spans_left, begun_anew, cleared};
+ghost use Rattle.amf_broker.specs.Members.{stopped, remains, logs_of, lines_without, line_without, spans_ended};
+ghost use Rattle.amf_broker.specs.Trims.{is_kept};
+
+use crate::ended::Ended;
+use crate::log::{
+    Log, Post, call_up, drop_sub, drop_subs, enlist, is_kept, members_of, part_all, put_up, unheard,
+};
+use crate::mailbox::{Mailbox, has_idle, idle_among, place_in_order, queued, staying};
+use crate::member::{Member, hand_round, seat_of};
+use crate::merge::{remains, remains_sub, shared, waiting_for};
+use crate::moment::is_in;
+use crate::place::{Place, is_live, live_of};
+use crate::room::Room;
+use crate::{ClientId, Deliveries, MAX_CLIENTS, Payload, SubId, SubIds, Topic};
+use amf_wire::{Memory, Name};
+use std::alloc::Global;
+use std::marker::Model;
+
+/// The clients and subscriptions of a board. Each message is kept once, in the log of its topic, and each subscription has
+/// its place there. `turn` says which log was looked through last, and the two counts after how many calls more the next one
+/// is, and logs that nobody needs are looked for.
+#[derive(Drop)]
+pub(crate) struct Lines {
+    clients: Vec<Mailbox>,
+    places: Vec<Place>,
+    logs: Vec<Log>,
+    next_client: u64,
+    next_message: u64,
+    turn: usize,
+    turn_in: usize,
+    sweep_in: usize,
+}
+
+impl Model for Lines {
+    ghost use Rattle.amf_broker.specs.Lines.{Floor};
+    ghost use Rattle.amf_broker.specs.Members.{floor_of, IsLined};
+
+    ghost Value = { Floor };
+
+    ghost view = { λ l. floor_of l.logs.items l.places.items l.clients.items l.next_client l.next_message };
+
+    ghost invariant = { λ l. IsLined l.logs.items l.places.items l.clients.items l.next_client l.next_message };
+}
+
+impl Lines {
+    pub(crate) fn new(alloc: Global) -> Lines
+        ensures { result ≡ record { clients = []; subs = []; next_client = 1; next_message = 1 } }
+    {
+        Lines {
+            clients: Vec::new(alloc),
+            places: Vec::new(alloc),
+            logs: Vec::new(alloc),
+            next_client: 1,
+            next_message: 1,
+            turn: 0,
+            turn_in: 0,
+            sweep_in: 0,
+        }
+    }
+
+    pub(crate) fn next_message(&self) -> u64
+        ensures { result ≡ self.now.next_message }
+    {
+        self.next_message
+    }
+
+    /// How many deliveries are queued for all clients.
+    pub(crate) fn queued(&self) -> u64
+        requires { length self.now.clients ≤ MAX_CLIENTS }
+        ensures { result ≡ sum_by (λ c. length c.queue) self.now.clients }
+    {
+        queued(&self.clients)
+    }
+
+    /// Whether a client expires at this moment.
+    pub(crate) fn has_idle(&self, present: u64) -> bool
+        ensures { result ≡ list_any (is_idle present) self.now.clients }
+    {
+        has_idle(&self.clients, present)
+    }
+
+    /// The clients that expire at this moment.
+    pub(crate) fn idle_among(&self, alloc: Global, present: u64) -> Result<Vec<ClientId>, Memory>
+        ensures { IfOk result (λ ids. ids.items ≡ map (λ c. c.id) (filter (is_idle present) self.now.clients)) }
+    {
+        idle_among(alloc, &self.clients, present)
+    }
+
+    /// How many clients are none of these.
+    pub(crate) fn staying(&self, expired: &[ClientId]) -> usize
+        requires { are_in_order expired.now ≡ true }
+        ensures { result ≡ count_by (λ c. stays expired.now c.id) self.now.clients }
+    {
+        staying(&self.clients, expired)
+    }
+
+    /// Whether the client is connected.
+    pub(crate) fn has_client(&self, client: ClientId) -> bool
+        ensures { result ≡ is_connected client self.now.clients }
+    {
+        place_in_order(&self.clients, client).is_some()
+    }
+
+    /// How many subscriptions of the client ended and are not yet told.
+    pub(crate) fn untold_of(&self, client: ClientId) -> usize
+        ensures { result ≡ length (ended_of client self.now.clients) }
+    {
+        match place_in_order(&self.clients, client) {
+            Some(place) => self.clients[place].untold(),
+            None => 0,
+        }
+    }
+
+    /// The number of the client's last numbered poll, or 0.
+    pub(crate) fn last_of(&self, client: ClientId) -> u64
+        ensures { result ≡ last_of client self.now.clients }
+    {
+        match place_in_order(&self.clients, client) {
+            Some(place) => self.clients[place].last(),
+            None => 0,
+        }
+    }
+
+    /// How many live subscriptions are the client's.
+    pub(crate) fn live_of(&self, client: ClientId) -> usize
+        ensures { result ≡ count_by (λ u. u.client == client) self.now.subs }
+    {
+        live_of(&self.places, client)
+    }
+
+    /// Whether the subscription is live, and the client's.
+    pub(crate) fn is_live(&self, sub: SubId, client: ClientId) -> bool
+        ensures { result ≡ list_any (λ u. u.id == sub && u.client == client) self.now.subs }
+    {
+        is_live(&self.places, sub, client)
+    }
+
+    /// These clients leave, and their subscriptions end.
+    pub(crate) fn leave(&mut self, left: &[ClientId])
+        requires { are_in_order left.now ≡ true }
+        ensures { self.new ≡ record self.old { clients = clients_left left.now self.old.clients; subs = subs_left left.now self.old.subs } }
+    {
+        leave(&mut self.clients, &mut self.places, &mut self.logs, left);
+    }
+
+    /// These clients leave, and a new one comes.
+    pub(crate) fn connect(
+        &mut self,
+        alloc: Global,
+        left: &[ClientId],
+        present: u64,
+    ) -> Result<ClientId, Memory>
+        requires left { are_in_order left.now ≡ true }
+        requires room { self.old.next_client < 2 ^ 63 }
+        ensures id { IfOk result (λ id. id ≡ self.old.next_client) }
+        ensures ok { OnOk result (self.new ≡ record self.old { clients = clients_left left.now self.old.clients ++ (new_client self.old.next_client present ∷ []); subs = subs_left left.now self.old.subs; next_client = self.old.next_client + 1 }) }
+        ensures err { OnErr result (self.new ≡ self.old) }
+    {
+        let id = ClientId(self.next_client);
+        let mailbox = Mailbox::new(alloc, id, present)?;
+        self.clients.reserve(1)?;
+        leave(&mut self.clients, &mut self.places, &mut self.logs, left);
+        self.clients.push(mailbox).unwrap();
+        self.next_client += 1;
+        Ok(id)
+    }
+
+    /// These clients leave, and a subscription of another client begins.
+    pub(crate) fn subscribe(
+        &mut self,
+        alloc: Global,
+        left: &[ClientId],
+        id: SubId,
+        client: ClientId,
+        topic: Topic,
+    ) -> Result<(), Memory>
+        requires left { are_in_order left.now ≡ true }
+        requires connected { is_connected client (clients_left left.now self.old.clients) ≡ true }
+        ensures ok { OnOk result (self.new ≡ record self.old { clients = clients_left left.now self.old.clients; subs = subs_left left.now self.old.subs ++ (record { id = id; client = client; topic = topic } ∷ []) }) }
+        ensures err { OnErr result (self.new ≡ self.old) }
+    {
+        self.places.reserve(1)?;
+        let member = Member::new(id, client, seat_of(&self.clients, client));
+        enlist(alloc, &mut self.logs, &topic, member)?;
+        leave(&mut self.clients, &mut self.places, &mut self.logs, left);
+        let place = Place::new(id, client, topic, self.next_message);
+        self.places.push(place).unwrap();
+        Ok(())
+    }
+
+    /// The subscription ends. What waits for it stays.
+    pub(crate) fn unsubscribe(&mut self, sub: SubId)
+        ensures { self.new ≡ record self.old { subs = filter (λ u. not (u.id == sub)) self.old.subs } }
+    {
+        drop_sub(&mut self.logs, sub);
+        stop_sub(&mut self.places, sub, self.next_message);
+        clear_sub(&mut self.places, &self.logs, sub, self.next_message);
+    }
+
+    /// These clients leave, and the message comes to each subscription of the topic. Answers those that end by that. The
+    /// message is put up before anything changes: nobody's place covers it yet.
+    pub(crate) fn publish(
+        &mut self,
+        alloc: Global,
+        left: &[ClientId],
+        topic: &Topic,
+        message: Name,
+    ) -> Result<Vec<SubId>, Memory>
+        requires left { are_in_order left.now ≡ true }
+        requires number { self.old.next_message < 2 ^ 63 }
+        requires places { (k : ℕ) → length (subs_of k (subs_left left.now self.old.subs)) + length (ended_of k (clients_left left.now self.old.clients)) ≤ MAX_SUBS }
+        requires ordered { rises_by (λ u. u.id) 0 (subs_left left.now self.old.subs) ≡ true }
+        ensures ended { IfOk result (λ ended. ended.items ≡ (reached_of self.old left.now topic.now message).ended) }
+        ensures ok { OnOk result (self.new ≡ record self.old { clients = (reached_of self.old left.now topic.now message).clients; subs = still_live (reached_of self.old left.now topic.now message).ended (subs_left left.now self.old.subs); next_message = self.old.next_message + 1 }) }
+        ensures err { OnErr result (self.new ≡ self.old) }
+    {
+        let number = self.next_message;
+        let ended = Vec::with_capacity(alloc, members_of(&self.logs, topic).len())?;
+        let post = Post::new(number, Payload::new(alloc, message)?);
+        put_up(&mut self.logs, topic, post)?;
+        leave(&mut self.clients, &mut self.places, &mut self.logs, left);
+        let members = members_of(&self.logs, topic);
+        let ended = hand_round(members, &mut self.clients, ended);
+        self.next_message += 1;
+        let ended = Ended { subs: ended };
+        end_all(&mut self.places, &mut self.logs, &ended, number);
+        Ok(ended.subs)
+    }
+
+    /// What waits for the client.
+    pub(crate) fn queue_of(&self, alloc: Global, client: ClientId) -> Result<Deliveries, Memory>
+        requires { is_connected client self.now.clients ≡ true }
+        ensures { IfOk result (λ queue. queue ≡ queue_of client self.now.clients) }
+    {
+        waiting_for(alloc, &self.logs, &self.places, client, self.next_message)
+    }
+
+    /// The subscriptions of the client that ended and are not yet told.
+    pub(crate) fn ended_of(&self, alloc: Global, client: ClientId) -> Result<SubIds, Memory>
+        requires { is_connected client self.now.clients ≡ true }
+        ensures { IfOk result (λ ended. ended ≡ ended_of client self.now.clients) }
+    {
+        let place = place_in_order(&self.clients, client).unwrap();
+        Ok(SubIds::of_vec(self.clients[place].ended().to_vec(alloc)?))
+    }
+
+    /// The batch that is kept of the client's last numbered poll.
+    pub(crate) fn kept_of(&self, alloc: Global, client: ClientId) -> Result<Deliveries, Memory>
+        requires { is_connected client self.now.clients ≡ true }
+        ensures { IfOk result (λ kept. kept ≡ kept_of client self.now.clients) }
+    {
+        let place = place_in_order(&self.clients, client).unwrap();
+        shared(alloc, self.clients[place].kept())
+    }
+
+    /// The subscriptions whose end is told in the kept batch.
+    pub(crate) fn kept_ended_of(&self, alloc: Global, client: ClientId) -> Result<SubIds, Memory>
+        requires { is_connected client self.now.clients ≡ true }
+        ensures { IfOk result (λ ended. ended ≡ kept_ended_of client self.now.clients) }
+    {
+        let place = place_in_order(&self.clients, client).unwrap();
+        Ok(SubIds::of_vec(self.clients[place].kept_ended().to_vec(alloc)?))
+    }
+
+    /// Nothing waits for the client any more. Answers what ended.
+    pub(crate) fn empty(&mut self, client: ClientId, room: Room) -> SubIds
+        requires { is_connected client self.old.clients ≡ true }
+        ensures ended { result ≡ ended_of client self.old.clients }
+        ensures state { self.new ≡ record self.old { clients = at_client client emptied self.old.clients } }
+    {
+        let place = place_in_order(&self.clients, client).unwrap();
+        let ended = self.clients[place].empty(room);
+        begin_anew(&mut self.places, client, self.next_message);
+        ended
+    }
+
+    /// Nothing waits for the client any more: what waited is kept under this number.
+    pub(crate) fn keep(&mut self, client: ClientId, number: u64, queue: Deliveries, room: Room)
+        requires connected { is_connected client self.old.clients ≡ true }
+        requires queue { queue ≡ queue_of client self.old.clients }
+        ensures { self.new ≡ record self.old { clients = at_client client (kept_as number) self.old.clients } }
+    {
+        let place = place_in_order(&self.clients, client).unwrap();
+        self.clients[place].keep(number, queue, room);
+        begin_anew(&mut self.places, client, self.next_message);
+    }
+
+    /// The client was seen at this moment.
+    pub(crate) fn see(&mut self, client: ClientId, present: u64)
+        ensures { self.new ≡ record self.old { clients = at_client client (seen_at present) self.old.clients } }
+    {
+        if let Some(place) = place_in_order(&self.clients, client) {
+            self.clients[place].see(present);
+        }
+    }
+
+    /// Messages that nobody waits for go, and logs that nobody needs. Nothing of that is seen.
+    pub(crate) fn settle(&mut self)
+        ensures { self.new ≡ self.old }
+    {
+        self.take_turn();
+        for at in 0..self.logs.len() {
+            self.trim(at);
+        }
+        self.sweep();
+    }
+
+    /// The next log is to be looked through, however short it is. That takes a look at all places, so some calls pass before
+    /// the one after it.
+    fn take_turn(&mut self)
+        ensures { self.new ≡ self.old }
+    {
+        if self.turn_in > 0 {
+            self.turn_in -= 1;
+            return;
+        }
+        self.turn_in = self.places.len() / 16;
+        self.turn = turn_after(self.turn, self.logs.len());
+        call_up(&mut self.logs, self.turn);
+    }
+
+    /// Messages of the log at this place that nobody waits for go, if it is long or was called up.
+    fn trim(&mut self, at: usize)
+        ensures { self.new ≡ self.old }
+    {
+        if at >= self.logs.len() {
+            return;
+        }
+        self.logs[at].trim(&self.places, self.next_message);
+    }
+
+    /// Logs that nobody needs go. Each one to which nobody listens takes a look at all places, so as many calls as there are
+    /// such logs pass before the next time.
+    fn sweep(&mut self)
+        ensures { self.new ≡ self.old }
+    {
+        if self.sweep_in > 0 {
+            self.sweep_in -= 1;
+            return;
+        }
+        sweep(&mut self.logs, &self.places);
+        self.sweep_in = unheard(&self.logs);
+    }
+}
+
+/// The place after this one, or the first of so many.
+fn turn_after(turn: usize, count: usize) -> usize {
+    if turn < count && count - turn > 1 {
+        turn + 1
+    } else {
+        0
+    }
+}
+
+/// Logs to which nobody listens, and in which nobody has a place, go.
+fn sweep(logs: &mut Vec<Log>, places: &[Place])
+    ensures { logs.new.items ≡ filter (is_kept places.now) logs.old.items }
+{
+    logs.retain(|log| is_kept(log, places));
+}
+
+/// These clients leave, and their subscriptions end.
+fn leave(
+    clients: &mut Vec<Mailbox>,
+    places: &mut Vec<Place>,
+    logs: &mut Vec<Log>,
+    left: &[ClientId],
+)
+    requires left { are_in_order left.now ≡ true }
+    requires rise { waiters_rise 0 clients.old.items ≡ true }
+    ensures clients { clients.new.items ≡ waiters_left left.now clients.old.items }
+    ensures places { places.new.items ≡ spans_left left.now places.old.items }
+    ensures logs { logs.new.items ≡ lines_without left.now (waiters_left left.now clients.old.items) logs.old.items }
+    ensures clients_len { vec_len clients.new ≤ vec_len clients.old }
+    ensures places_len { vec_len places.new ≤ vec_len places.old }
+    ensures clients_room { vec_capacity clients.new ≡ vec_capacity clients.old }
+    ensures places_room { vec_capacity places.new ≡ vec_capacity places.old }
+{
+    if left.is_empty() {
+        return;
+    }
+    clients.retain(|mailbox| !is_in(left, mailbox.id()));
+    places.retain(|place| !is_in(left, place.client()));
+    part_all(logs, left, clients);
+}
+
+/// The subscription ends, if it is live, before the message of this number.
+fn stop_sub(places: &mut [Place], sub: SubId, next: u64)
+    ensures { places.new ≡ map (stopped next (λ id. id == sub)) places.old }
+{
+    for place in places.iter_mut() {
+        place.stop_sub(sub, next);
+    }
+}
+
+/// These subscriptions end before the message of this number.
+fn stop_subs(places: &mut [Place], ended: &Ended, next: u64)
+    ensures { places.new ≡ map (stopped next (λ sub. list_any (λ id. id == sub) ended.now.subs.items)) places.old }
+{
+    for place in places.iter_mut() {
+        place.stop_among(ended, next);
+    }
+}
+
+/// These subscriptions, if there are any, end before the message of this number, which is the last one.
+fn end_all(places: &mut Vec<Place>, logs: &mut Vec<Log>, ended: &Ended, number: u64)
+    requires { number < 2 ^ 63 }
+    ensures logs { logs.new.items ≡ map (line_without (λ sub. list_any (λ id. id == sub) ended.now.subs.items)) logs.old.items }
+    ensures places { places.new.items ≡ spans_ended ended.now.subs.items number (logs_of logs.old.items) places.old.items }
+{
+    if ended.subs.is_empty() {
+        return;
+    }
+    drop_subs(logs, ended);
+    stop_subs(places, ended, number);
+    clear(places, logs, ended, number + 1);
+}
+
+/// The subscription goes, if it has ended and nothing waits for it.
+fn clear_sub(places: &mut Vec<Place>, logs: &[Log], sub: SubId, next: u64)
+    ensures { places.new.items ≡ filter (remains (λ id. id == sub) (logs_of logs.now) next) places.old.items }
+{
+    places.retain(|place| remains_sub(place, logs, sub, next));
+}
+
+/// Of these subscriptions go those that have ended, and for which nothing waits.
+fn clear(places: &mut Vec<Place>, logs: &[Log], ended: &Ended, next: u64)
+    ensures { places.new.items ≡ filter (remains (λ sub. list_any (λ id. id == sub) ended.now.subs.items) (logs_of logs.now) next) places.old.items }
+{
+    places.retain(|place| remains(place, logs, ended, next));
+}
+
+/// After a poll of the client what has ended is gone, and what is live begins anew at the message of this number.
+fn begin_anew(places: &mut Vec<Place>, client: ClientId, next: u64)
+    ensures { places.new.items ≡ cleared client next places.old.items }
+{
+    places.retain(|place| place.outlasts(client));
+    begin_all_anew(places, client, next);
+}
+
+fn begin_all_anew(places: &mut [Place], client: ClientId, next: u64)
+    ensures { places.new ≡ map (begun_anew client next) places.old }
+{
+    for place in places.iter_mut() {
+        place.begin_anew(client, next);
+    }
+}

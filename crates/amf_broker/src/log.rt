@@ -1,0 +1,343 @@
+ghost use Rattle.std.specs.Prelude.{◌≡◌, ◌++◌, ◌∷◌, ◌<◌, ◌≤◌, [], ℕ, IfOk, IfSome, OnOk, OnErr, position, ◌==◌, length, map, true};
+ghost use Rattle.std.specs.List.{list_any};
+ghost use Rattle.amf_broker.specs.Machine.{is_same_topic};
+ghost use Rattle.amf_broker.specs.Sound.{are_in_order};
+ghost use Rattle.amf_broker.specs.Lines.{posts_of, waiters_rise};
+ghost use Rattle.amf_broker.specs.Members.{logs_of, seated_in, members_at, with_post, posted_line, with_member, enlisted, line_left, lines_left, line_without};
+ghost use Rattle.amf_broker.specs.Trims.{IsTrimmed, is_wanted, is_kept};
+
+use crate::ended::Ended;
+use crate::mailbox::Mailbox;
+use crate::member::Member;
+use crate::moment::is_in;
+use crate::place::Place;
+use crate::trim::{debtors, first_of, keep_needed};
+use crate::{ClientId, Payload, SubId, Topic};
+use amf_wire::{Memory, Name};
+use std::alloc::Global;
+use std::marker::Model;
+
+/// A published message.
+#[derive(Drop)]
+pub(crate) struct Post {
+    number: u64,
+    message: Payload,
+}
+
+impl Model for Post {
+    ghost use Rattle.amf_broker.specs.Delivery.{Message};
+
+    ghost Value = { Message };
+
+    ghost view = { λ p. record { number = p.number; bytes = p.message } };
+}
+
+impl Post {
+    pub(crate) fn new(number: u64, message: Payload) -> Post
+        ensures { result ≡ record { number = number; bytes = message } }
+    {
+        Post { number, message }
+    }
+
+    pub(crate) fn number(&self) -> u64
+        ensures { result ≡ self.now.number }
+    {
+        self.number
+    }
+
+    pub(crate) fn message(&self) -> &Payload
+        ensures { result.now ≡ self.now.bytes }
+    {
+        &self.message
+    }
+}
+
+/// The length below which no log is looked through for messages that nobody waits for.
+const SHORT: usize = 8;
+
+/// The messages of a topic, each once, in order of their numbers, and the live subscriptions that listen to it, in order of
+/// theirs. Messages that nobody waits for go once the log has come to its limit.
+#[derive(Drop)]
+pub(crate) struct Log {
+    topic: Topic,
+    posts: Vec<Post>,
+    members: Vec<Member>,
+    limit: usize,
+}
+
+impl Model for Log {
+    ghost use Rattle.amf_broker.specs.Members.{Line};
+
+    ghost Value = { Line };
+
+    ghost view = { λ l. record { topic = l.topic; posts = l.posts.items; members = l.members.items } };
+}
+
+impl Log {
+    /// A log in which nothing is, to which one subscription listens.
+    fn new(alloc: Global, topic: &Topic, member: Member) -> Result<Log, Memory>
+        ensures { IfOk result (λ log. log ≡ record { topic = topic.now; posts = []; members = member ∷ [] }) }
+    {
+        let topic = copy_of(alloc, topic)?;
+        let mut members = Vec::new(alloc);
+        members.push(member)?;
+        Ok(Log {
+            topic,
+            posts: Vec::new(alloc),
+            members,
+            limit: SHORT,
+        })
+    }
+
+    fn is_of(&self, topic: &Topic) -> bool
+        ensures { result ≡ is_same_topic topic.now self.now.topic }
+    {
+        is_same_topic(topic, &self.topic)
+    }
+
+    fn posts(&self) -> &[Post]
+        ensures { result.now ≡ self.now.posts }
+    {
+        self.posts.as_slice()
+    }
+
+    fn members(&self) -> &[Member]
+        ensures { result.now ≡ self.now.members }
+    {
+        self.members.as_slice()
+    }
+
+    /// Whether nobody listens to it.
+    fn is_unheard(&self) -> bool
+        ensures { result ≡ (length self.now.members == 0) }
+    {
+        self.members.is_empty()
+    }
+
+    /// The message comes to the back, if someone listens.
+    fn push(&mut self, post: Post) -> Result<(), Memory>
+        ensures ok { OnOk result (self.new ≡ with_post post self.old) }
+        ensures err { OnErr result (self.new ≡ self.old) }
+    {
+        if self.members.is_empty() {
+            return Ok(());
+        }
+        self.posts.push(post)?;
+        Ok(())
+    }
+
+    /// The subscription listens from now on.
+    fn join(&mut self, member: Member) -> Result<(), Memory>
+        ensures ok { OnOk result (self.new ≡ with_member member self.old) }
+        ensures err { OnErr result (self.new ≡ self.old) }
+    {
+        self.members.push(member)?;
+        Ok(())
+    }
+
+    /// These clients have left, and the others stand so.
+    fn part(&mut self, left: &[ClientId], clients: &[Mailbox])
+        requires left { are_in_order left.now ≡ true }
+        requires clients { waiters_rise 0 clients.now ≡ true }
+        ensures { self.new ≡ line_left left.now clients.now self.old }
+    {
+        self.members.retain(|member| !is_in(left, member.client()));
+        sit_all(&mut self.members, clients);
+    }
+
+    /// The subscription has ended.
+    fn drop_sub(&mut self, sub: SubId)
+        ensures { self.new ≡ line_without (λ id. id == sub) self.old }
+    {
+        self.members.retain(|member| member.sub() != sub);
+    }
+
+    /// These subscriptions have ended.
+    fn drop_subs(&mut self, ended: &Ended)
+        ensures { self.new ≡ line_without (λ sub. list_any (λ id. id == sub) ended.now.subs.items) self.old }
+    {
+        self.members.retain(|member| !ended.has(member.sub()));
+    }
+
+    /// Whether it has no message, or has not come to its limit.
+    fn is_short(&self) -> bool {
+        self.posts.is_empty() || self.posts.len() < self.limit
+    }
+
+    /// It is at its limit, however short it is.
+    fn call_up(&mut self)
+        ensures { self.new ≡ self.old }
+    {
+        self.limit = 0;
+    }
+
+    /// Messages that nobody waits for go, if it has come to its limit. These are the places of all subscriptions, and `next`
+    /// is the number of the next message. The new limit is so far off that a message takes little of that time.
+    pub(crate) fn trim(&mut self, places: &[Place], next: u64)
+        ensures { IsTrimmed places.now self.old self.new }
+    {
+        if self.is_short() {
+            return;
+        }
+        let first = first_of(places, &self.topic, next);
+        let debtors = debtors(places, &self.topic);
+        keep_needed(&mut self.posts, debtors, &self.topic, first);
+        self.limit = limit_of(self.posts.len(), self.members.len());
+    }
+}
+
+/// How long a log of so many messages and members may become.
+fn limit_of(posts: usize, members: usize) -> usize {
+    posts
+        .saturating_mul(2)
+        .saturating_add(members / 16)
+        .saturating_add(SHORT)
+}
+
+/// Whether the topics are the same.
+pub(crate) fn is_same_topic(one: &Topic, other: &Topic) -> bool
+    ensures { result ≡ is_same_topic one.now other.now }
+{
+    one.destination.as_bytes() == other.destination.as_bytes()
+        && one.subtopic.as_bytes() == other.subtopic.as_bytes()
+}
+
+/// Their clients have other seats since others have left.
+fn sit_all(members: &mut [Member], clients: &[Mailbox])
+    requires { waiters_rise 0 clients.now ≡ true }
+    ensures { members.new ≡ map (seated_in clients.now) members.old }
+{
+    for member in members.iter_mut() {
+        member.sit(clients);
+    }
+}
+
+/// Where the log of the topic stands, if there is one.
+fn place_of_log(logs: &[Log], topic: &Topic) -> Option<usize>
+    ensures place { result ≡ position (λ l. is_same_topic topic.now l.topic) logs.now }
+    ensures bound { IfSome result (λ i. i < length logs.now) }
+{
+    logs.iter().position(|log| log.is_of(topic))
+}
+
+/// The messages of the topic that are kept.
+pub(crate) fn posts_of<'a>(logs: &'a [Log], topic: &Topic) -> &'a [Post]
+    ensures { result.now ≡ posts_of topic.now (logs_of logs.now) }
+{
+    for log in logs {
+        if log.is_of(topic) {
+            return log.posts();
+        }
+    }
+    &[]
+}
+
+/// The live subscriptions that listen to the topic.
+pub(crate) fn members_of<'a>(logs: &'a [Log], topic: &Topic) -> &'a [Member]
+    ensures { result.now ≡ members_at topic.now logs.now }
+{
+    for log in logs {
+        if log.is_of(topic) {
+            return log.members();
+        }
+    }
+    &[]
+}
+
+/// The log at this place, if there is one, is at its limit, however short it is.
+pub(crate) fn call_up(logs: &mut Vec<Log>, place: usize)
+    ensures { logs.new.items ≡ logs.old.items }
+{
+    if place >= logs.len() {
+        return;
+    }
+    logs[place].call_up();
+}
+
+/// Whether a subscription has its place in the log.
+fn is_wanted(log: &Log, places: &[Place]) -> bool
+    ensures { result ≡ is_wanted places.now log.now }
+{
+    places.iter().any(|place| log.is_of(place.topic()))
+}
+
+/// Whether someone listens to the log, or has a place in it.
+pub(crate) fn is_kept(log: &Log, places: &[Place]) -> bool
+    ensures { result ≡ is_kept places.now log.now }
+{
+    !log.is_unheard() || is_wanted(log, places)
+}
+
+/// How many logs nobody listens to.
+pub(crate) fn unheard(logs: &[Log]) -> usize {
+    logs.iter().filter(|log| log.is_unheard()).count()
+}
+
+/// The message comes to the back of the log of its topic, if someone listens to that.
+pub(crate) fn put_up(logs: &mut Vec<Log>, topic: &Topic, post: Post) -> Result<(), Memory>
+    ensures ok { OnOk result (logs.new.items ≡ posted_line topic.now post logs.old.items) }
+    ensures err { OnErr result (logs.new.items ≡ logs.old.items) }
+{
+    if let Some(place) = place_of_log(logs, topic) {
+        let log = &mut logs[place];
+        return log.push(post);
+    }
+    Ok(())
+}
+
+/// These clients have left, and the others stand so.
+pub(crate) fn part_all(logs: &mut [Log], left: &[ClientId], clients: &[Mailbox])
+    requires left { are_in_order left.now ≡ true }
+    requires clients { waiters_rise 0 clients.now ≡ true }
+    ensures { logs.new ≡ lines_left left.now clients.now logs.old }
+{
+    for log in logs.iter_mut() {
+        log.part(left, clients);
+    }
+}
+
+/// The subscription has ended.
+pub(crate) fn drop_sub(logs: &mut [Log], sub: SubId)
+    ensures { logs.new ≡ map (line_without (λ id. id == sub)) logs.old }
+{
+    for log in logs.iter_mut() {
+        log.drop_sub(sub);
+    }
+}
+
+/// These subscriptions have ended.
+pub(crate) fn drop_subs(logs: &mut [Log], ended: &Ended)
+    ensures { logs.new ≡ map (line_without (λ sub. list_any (λ id. id == sub) ended.now.subs.items)) logs.old }
+{
+    for log in logs.iter_mut() {
+        log.drop_subs(ended);
+    }
+}
+
+/// The subscription listens to the log of the topic from now on.
+pub(crate) fn enlist(
+    alloc: Global,
+    logs: &mut Vec<Log>,
+    topic: &Topic,
+    member: Member,
+) -> Result<(), Memory>
+    ensures ok { OnOk result (logs.new.items ≡ enlisted topic.now member logs.old.items) }
+    ensures err { OnErr result (logs.new.items ≡ logs.old.items) }
+{
+    if let Some(place) = place_of_log(logs, topic) {
+        let log = &mut logs[place];
+        return log.join(member);
+    }
+    let log = Log::new(alloc, topic, member)?;
+    logs.push(log)?;
+    Ok(())
+}
+
+fn copy_of(alloc: Global, topic: &Topic) -> Result<Topic, Memory>
+    ensures { IfOk result (λ copy. copy ≡ topic.now) }
+{
+    Ok(Topic {
+        destination: Name::of_bytes(alloc, topic.destination.as_bytes())?,
+        subtopic: Name::of_bytes(alloc, topic.subtopic.as_bytes())?,
+    })
+}

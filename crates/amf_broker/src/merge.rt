@@ -1,0 +1,123 @@
+ghost use Rattle.std.specs.Prelude.{◌≡◌, ◌++◌, [], ◌==◌, ◌<◌, IfOk, ◌≤◌, OnOk, nat_lt, map, filter, length, position};
+ghost use Rattle.std.specs.List.{list_any, position_or_len};
+ghost use Rattle.amf_broker.specs.Lines.{put, put_all, covered, gathered, spans_of, waits, is_covered, delivered};
+ghost use Rattle.amf_broker.specs.Members.{raised, logs_of, is_waited, remains};
+
+use crate::ended::Ended;
+use crate::log::{Log, Post, posts_of};
+use crate::place::Place;
+use crate::{ClientId, Deliveries, Delivery, SubId};
+use amf_wire::Memory;
+use std::alloc::Global;
+
+/// Where the first delivery of a later message stands, if there is one.
+fn first_later(queue: &[Delivery], number: u64) -> Option<usize>
+    ensures { result ≡ position (λ d. nat_lt number d.number) queue.now }
+{
+    queue.iter().position(|other| number < other.number)
+}
+
+/// Where a delivery of this number goes: before the first of a later message.
+fn place_for(queue: &[Delivery], number: u64) -> usize
+    ensures place { result ≡ position_or_len (λ d. nat_lt number d.number) queue.now }
+    ensures bound { result ≤ length queue.now }
+{
+    match first_later(queue, number) {
+        Some(place) => place,
+        None => queue.len(),
+    }
+}
+
+/// Puts the delivery among the others, in order of message numbers and after those of its number.
+fn put_in(queue: &mut Vec<Delivery>, delivery: Delivery) -> Result<(), Memory>
+    ensures { OnOk result (queue.new.items ≡ put delivery queue.old.items) }
+{
+    let place = place_for(queue, delivery.number);
+    queue.insert(place, delivery)?;
+    Ok(())
+}
+
+/// Puts what waits for the subscription among the others.
+#[tactic(auto, using(crate::proofs::Merges::put_all_more))]
+fn put_covered(
+    queue: &mut Vec<Delivery>,
+    place: &Place,
+    posts: &[Post],
+    next: u64,
+) -> Result<(), Memory>
+    ensures { OnOk result (queue.new.items ≡ put_all (map (delivered place.now.id) (filter (is_covered (raised next place.now).start (raised next place.now).stop) posts.now)) queue.old.items) }
+{
+    for post in posts {
+        if place.covers(post, next) {
+            let delivery = Delivery {
+                sub: place.id(),
+                number: post.number(),
+                message: post.message().share()?,
+            };
+            put_in(queue, delivery)?;
+        }
+    }
+    Ok(())
+}
+
+/// What waits for the client: its subscriptions' parts of their logs, merged by message number and then by subscription.
+pub(crate) fn waiting_for(
+    alloc: Global,
+    logs: &[Log],
+    places: &[Place],
+    client: ClientId,
+    next: u64,
+) -> Result<Deliveries, Memory>
+    ensures { IfOk result (λ queue. queue ≡ waits (logs_of logs.now) (map (raised next) places.now) client) }
+{
+    let mut queue = Vec::new(alloc);
+    for place in places {
+        if place.client() == client {
+            put_covered(&mut queue, place, posts_of(logs, place.topic()), next)?;
+        }
+    }
+    Ok(Deliveries::of_vec(queue))
+}
+
+/// Whether the subscription is live, or something waits for it.
+fn is_waited(place: &Place, logs: &[Log], next: u64) -> bool
+    ensures { result ≡ is_waited (logs_of logs.now) (raised next place.now) }
+{
+    place.is_live() || covers_any(place, posts_of(logs, place.topic()), next)
+}
+
+/// Whether one of the messages waits for the subscription.
+fn covers_any(place: &Place, posts: &[Post], next: u64) -> bool
+    ensures { result ≡ list_any (is_covered (raised next place.now).start (raised next place.now).stop) posts.now }
+{
+    posts.iter().any(|post| place.covers(post, next))
+}
+
+/// Whether the place is not the subscription's, or the subscription is live, or something waits for it.
+pub(crate) fn remains_sub(place: &Place, logs: &[Log], sub: SubId, next: u64) -> bool
+    ensures { result ≡ remains (λ id. id == sub) (logs_of logs.now) next place.now }
+{
+    place.id() != sub || is_waited(place, logs, next)
+}
+
+/// Whether the place is none of these subscriptions', or its subscription is live, or something waits for it.
+pub(crate) fn remains(place: &Place, logs: &[Log], ended: &Ended, next: u64) -> bool
+    ensures { result ≡ remains (λ sub. list_any (λ id. id == sub) ended.now.subs.items) (logs_of logs.now) next place.now }
+{
+    !ended.has(place.id()) || is_waited(place, logs, next)
+}
+
+/// These deliveries once more, which share their messages.
+pub(crate) fn shared(alloc: Global, deliveries: &[Delivery]) -> Result<Deliveries, Memory>
+    ensures { IfOk result (λ all. all ≡ deliveries.now) }
+{
+    let mut all = Vec::new(alloc);
+    for delivery in deliveries {
+        all.push(Delivery {
+            sub: delivery.sub,
+            number: delivery.number,
+            message: delivery.message.share()?,
+        })?;
+    }
+    Ok(Deliveries::of_vec(all))
+}
