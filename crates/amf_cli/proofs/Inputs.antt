@@ -48,7 +48,7 @@ use Rattle.amf_cli.specs.declared.content.Content.{Content as KeptContent}
 use Rattle.amf_cli.specs.Content.{Content, value, packet, file, content_of}
 use Rattle.amf_cli.specs.Formats.{GivesLength, IsContent}
 use Rattle.amf_cli.specs.Input.{most, Input, one, two, IsRefusedAs}
-use Rattle.amf_cli.specs.Run.{IsInputOf, ArePairIn, IsHidden, NeverLacks, ReadsInput}
+use Rattle.amf_cli.specs.Run.{IsInputOf, ArePairIn, IsHidden, IsReadEnd, NeverLacks, ReadsInput}
 use Rattle.amf_cli.specs.ReadContent.{IsReadOne, AnswersOne, AnswersEnd, mapped}
 use Rattle.amf_cli.specs.Lines.{end_of}
 use Rattle.amf3_read.proofs.Pairs.{first_refused, first_cut, second_refused, second_cut}
@@ -318,6 +318,12 @@ pub end_of_input : {X Y : Type 0} (i : Input) (P : X → Type 0) (Q : Y → Type
 end_of_input i P Q input rest left (Refused f) h k = h
 end_of_input i P Q input rest left ReadFault h k = subst (λ s. IsHidden i input s) (k refl) h
 end_of_input i P Q input rest left Memory h k = tt
+
+-- it is one that a reader has
+pub end_is_read : (X : Type 0) (e : ReadEnd) → IsReadEnd {T = X} (Err (end_of e))
+end_is_read X (Refused f) = tt
+end_is_read X ReadFault = tt
+end_is_read X Memory = tt
 
 -- and that of what is made of the input
 pub end_goes_on : {X Y : Type 0} (i : Input) (L : ℕ → Lack → Type 0) (P : X → Type 0) (Q : Y → Type 0) (input left : List ℕ) (e : RunEnd) → ReadsInput i NeverLacks P input left (Err e) → ReadsInput i L Q input left (Err e)

@@ -7,7 +7,7 @@ use Rattle.amf_cli.specs.Input.{two}
 use Rattle.amf_cli.specs.declared.format.Format.TheVariants.{Amf3}
 use Rattle.amf_cli.specs.ReadContent.{IsReadOne, AnswersOne}
 use Rattle.amf_cli.specs.Run.{ArePairIn}
-use Rattle.amf_cli.proofs.Inputs.{of_value, pair_first_ends, pair_second_ends, pair_read, pair_end_ends, end_of_input, left_behind, nothing_left, taken_by, taken_behind, taken_last, read_told, ends_told}
+use Rattle.amf_cli.proofs.Inputs.{of_value, end_is_read, pair_first_ends, pair_second_ends, pair_read, pair_end_ends, end_of_input, left_behind, nothing_left, taken_by, taken_behind, taken_last, read_told, ends_told}
 use Rattle.amf_cli.proofs.reading.read_pair.Goals as goal
 
 pub returns-in_err-left-clause-reads : goal.returns-in_err-left-clause-reads
@@ -65,6 +65,11 @@ returns-in_err-expect_end-clause-reads g c = λ told.
     rw (p.1, p.2) (end_of_input two Q Q (unread left old) (unread left new) (left (source_of new).now) e
     (pair_end_ends Q y h k (unread left old) (unread left mid) (unread left last) (unread left new) (place mid) (place last) e told first second (c.in_err-expect_end.ensures.answers (c.in_ok-right.ensures.goes.told more)))
     (left_behind g.S.Source.tells left g.S.Source.faults last new e c.in_err-expect_end.ensures.goes))
+
+pub returns-in_err-expect_end-clause-ends : goal.returns-in_err-expect_end-clause-ends
+returns-in_err-expect_end-clause-ends g c =
+    let p = err_from_is_err_and c.from_residual-in_err-expect_end.result c.from_residual-in_err-expect_end.ensures.1 in
+    rw (p.1, p.2) (end_is_read (RootedArena × RootedArena) c.in_err-expect_end.field-0.0)
 
 pub returns-in_err-expect_end-clause-taken : goal.returns-in_err-expect_end-clause-taken
 returns-in_err-expect_end-clause-taken g c = λ told. taken_last g.S.Source.tells g.S.Source.left g.S.Source.faults c.args.cursor.now c.read_one3.new.cursor c.read_one3-2.new.cursor c.expect_end.new.cursor _ _ _ c.requires.at_start c.requires.limit c.in_ok-left.ensures.goes c.in_ok-right.ensures.goes c.in_err-expect_end.ensures.goes told
