@@ -1,8 +1,9 @@
 use amf_graph::{
-    BuildEnd, Builder, Lack, LackKind, Leaf, NodeId, NodeKind, NodeView, Part, Shape, TextId,
-    TraitsId, Value, WriteEnd, finished_facts, fit_rows, graph_rows,
+    BuildEnd, Builder, Lack, LackKind, Leaf, NodeId, NodeKind, NodeView, Part, Rooted, Shape,
+    TextId, TraitsId, TraitsView, Value, WriteEnd, finished_facts, fit_rows, graph_rows,
 };
 use amf_wire::{Pattern, is_amf_text};
+use std::alloc::Global;
 use std::test::Fail;
 
 #[test]
@@ -56,29 +57,91 @@ fn compares_texts(rt: HostRuntime) -> Result<(), Fail> {
     Ok(())
 }
 
+/// An array that holds itself, and null under the name `a`.
+fn an_array(alloc: Global) -> Result<Rooted, Fail> {
+    let mut builder = Builder::new(alloc)?;
+    if !is_amf_text(b"a") {
+        Err("no text")?;
+    }
+    let name = builder.text(b"a")?;
+    let array = builder.open_node(Shape::Array)?;
+    builder.put(array, Part::Named(name, Value::Null))?;
+    builder.put(array, Part::Item(Value::Node(array)))?;
+    builder.close_node(array);
+    Ok(
+        builder
+            .finish(Value::Node(array))
+            .ok()
+            .ok_or("an open node")?,
+    )
+}
+
+/// An object of a class `a` with a sealed member of that name, which is true, and a dynamic one, which is null.
+fn an_object(alloc: Global) -> Result<Rooted, Fail> {
+    let mut builder = Builder::new(alloc)?;
+    if !is_amf_text(b"a") {
+        Err("no text")?;
+    }
+    let name = builder.text(b"a")?;
+    let traits = builder.traits(name, true, &[name])?;
+    let object = builder.open_node(Shape::Object(traits))?;
+    builder.put(object, Part::Named(name, Value::Null))?;
+    builder.put(object, Part::Item(Value::Bool(true)))?;
+    builder.close_node(object);
+    Ok(
+        builder
+            .finish(Value::Node(object))
+            .ok()
+            .ok_or("an open node")?,
+    )
+}
+
+/// What a node holds, if it is there.
+fn shown(graph: &Rooted, node: NodeId) -> Option<NodeView<'_>> {
+    if node.0 < graph.node_count() {
+        Some(graph.node(node))
+    } else {
+        None
+    }
+}
+
+/// The traits of an object, if it is one.
+fn class_of(graph: &Rooted, node: NodeId) -> Option<TraitsView<'_>> {
+    graph.is_finished();
+    if node.0 >= graph.node_count() {
+        return None;
+    }
+    match graph.node(node) {
+        NodeView::Object {
+            traits,
+            sealed: _,
+            members: _,
+        } => Some(graph.traits(traits)),
+        _ => None,
+    }
+}
+
 #[test]
-fn builds_an_array(rt: HostRuntime) -> Result<(), Fail> {
+fn kinds_and_texts(rt: HostRuntime) -> Result<(), Fail> {
     let mut builder = Builder::new(rt.alloc())?;
     assert!(rt; is_amf_text(b"a"));
     let name = builder.text(b"a")?;
     assert_eq!(rt; name, TextId(0));
+    assert_eq!(rt; builder.text_of(name), b"a".as_slice());
     let array = builder.open_node(Shape::Array)?;
     assert_eq!(rt; array, NodeId(0));
-    builder.put(array, Part::Named(name, Value::Null))?;
-    builder.put(array, Part::Item(Value::Node(array)))?;
     assert_eq!(rt; builder.kind_of(array), NodeKind::Array);
-    assert_eq!(rt; builder.text_of(name), b"a".as_slice());
-    builder.close_node(array);
-    let graph = builder
-        .finish(Value::Node(array))
-        .ok()
-        .ok_or("an open node")?;
+    Ok(())
+}
+
+#[test]
+fn builds_an_array(rt: HostRuntime) -> Result<(), Fail> {
+    let graph = an_array(rt.alloc())?;
     assert_eq!(rt; graph.node_count(), 1);
-    assert_eq!(rt; graph.text(name), b"a".as_slice());
-    match graph.node(array) {
-        NodeView::Array { items, names } => {
-            assert_eq!(rt; items, [Value::Node(array)].as_slice());
-            assert_eq!(rt; names, [(name, Value::Null)].as_slice());
+    match shown(&graph, NodeId(0)) {
+        Some(NodeView::Array { items, names }) => {
+            assert_eq!(rt; items, [Value::Node(NodeId(0))].as_slice());
+            assert_eq!(rt; names, [(TextId(0), Value::Null)].as_slice());
         }
         _ => Err("no array")?,
     }
@@ -87,35 +150,31 @@ fn builds_an_array(rt: HostRuntime) -> Result<(), Fail> {
 
 #[test]
 fn builds_an_object(rt: HostRuntime) -> Result<(), Fail> {
-    let mut builder = Builder::new(rt.alloc())?;
-    assert!(rt; is_amf_text(b"a"));
-    let name = builder.text(b"a")?;
-    let traits = builder.traits(name, true, &[name])?;
-    assert_eq!(rt; traits, TraitsId(0));
-    let object = builder.open_node(Shape::Object(traits))?;
-    builder.put(object, Part::Named(name, Value::Null))?;
-    builder.put(object, Part::Item(Value::Bool(true)))?;
-    builder.close_node(object);
-    let graph = builder
-        .finish(Value::Node(object))
-        .ok()
-        .ok_or("an open node")?;
-    let view = graph.traits(traits);
-    assert_eq!(rt; view.class, name);
-    assert!(rt; view.dynamic);
-    assert_eq!(rt; view.sealed, [name].as_slice());
-    match graph.node(object) {
-        NodeView::Object {
-            traits: class,
-            sealed,
-            members,
-        } => {
-            assert_eq!(rt; class, traits);
+    let graph = an_object(rt.alloc())?;
+    match shown(&graph, NodeId(0)) {
+        Some(
+            NodeView::Object {
+                traits,
+                sealed,
+                members,
+            },
+        ) => {
+            assert_eq!(rt; traits, TraitsId(0));
             assert_eq!(rt; sealed, [Value::Bool(true)].as_slice());
-            assert_eq!(rt; members, [(name, Value::Null)].as_slice());
+            assert_eq!(rt; members, [(TextId(0), Value::Null)].as_slice());
         }
         _ => Err("no object")?,
     }
+    Ok(())
+}
+
+#[test]
+fn shows_traits(rt: HostRuntime) -> Result<(), Fail> {
+    let graph = an_object(rt.alloc())?;
+    let view = class_of(&graph, NodeId(0)).ok_or("no object")?;
+    assert_eq!(rt; view.class, TextId(0));
+    assert!(rt; view.dynamic);
+    assert_eq!(rt; view.sealed, [TextId(0)].as_slice());
     Ok(())
 }
 
