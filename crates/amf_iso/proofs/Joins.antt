@@ -1,51 +1,42 @@
--- Forests of texts that are equal, and places in them.
-use Rattle.std.proofs.Common.{◌≡◌, ℕ, ◌+◌, ◌*◌, ◌/◌, ◌%◌, ◌<◌, ◌≤◌, List, [], ◌∷◌, ◌++◌, length, get_or, set, take, drop, sym, refl, ap, ◌∙◌, subst, inl, inr, arith}
-use Rattle.std.proofs.lemmas.Bool.{cases_eq, cases_lt}
-use Rattle.std.proofs.lemmas.List.{get_or-set_same, get_or-set_other, length-set}
-use Rattle.std.proofs.Math.ListN.{get_or-append}
-use Rattle.std.proofs.Math.Seq.{get_or-append_seam, take-append_seam}
-use Rattle.amf_graph.specs.Arena.{Arena, text_at}
-use Rattle.amf_graph.proofs.Lists.{length_pushed}
-use Rattle.amf_iso.specs.Joined.{placed_text, IsForest, JoinsEqual}
+-- Contents of two graphs that were found equal, one more.
+use Rattle.std.proofs.Common.{◌≡◌, ℕ, ◌<◌, List, length, set, slice_get, get_or, Option, Some, None, replicate, refl, sym, ap, ◌∙◌, subst, inl, inr}
+use Rattle.std.specs.Prelude.{◌↔◌, Bool, true, false, cond, IsTrue}
+use Rattle.std.proofs.lemmas.Bool.{cases_eq}
+use Rattle.std.proofs.lemmas.List.{length-replicate, length-set}
+use Rattle.std.proofs.lemmas.Option.{same_Some, slice_get_within, slice_get-get_or}
+use Rattle.amf_graph.specs.Arena.{Arena}
+use Rattle.amf_graph.specs.NumberFacts.{NumberFacts}
+use Rattle.amf_graph.specs.TextNumbers.{contents_of}
+use Rattle.amf_iso.specs.Joined.{AreJoined}
+use Rattle.amf_iso.proofs.Numbers.{set_at, set_elsewhere, no_number}
 
-pub left_placed : (a b : Arena) (x : ℕ) → placed_text a b (2 * x) ≡ text_at a x
-unfolding placed_text
-left_placed a b x = let e : 2 * x % 2 ≡ 0 = omega arith in let d : 2 * x / 2 ≡ x = omega arith in rw (e, d) refl
+pub none_joined : (a b : Arena) (n : ℕ) → n ≡ length (contents_of a.texts) → AreJoined a b (replicate n None)
+none_joined a b n e = record { all = length-replicate n None ∙ e; equal = λ m k x f g. absurd (no_number n k m f) }
 
-pub right_placed : (a b : Arena) (y : ℕ) → placed_text a b (2 * y + 1) ≡ text_at b y
-unfolding placed_text
-right_placed a b y = let e : (2 * y + 1) % 2 ≡ 1 = omega arith in let d : (2 * y + 1) / 2 ≡ y = omega arith in rw (e, d) refl
+-- a partner that is known decides
+pub partner_decides : (a b : Arena) (partners : List (Option ℕ)) (m n p : ℕ) (x y : List ℕ) → NumberFacts → AreJoined a b partners → slice_get partners m ≡ Some (Some p) → slice_get (contents_of a.texts) m ≡ Some x → slice_get (contents_of b.texts) n ≡ Some y → (p ≡ n) ↔ (x ≡ y)
+partner_decides a b partners m n p x y facts j e f g = facts.same b.texts p n x y (j.equal m p x e f) g
 
--- a place more, which is its own parent
-pub push_forest : (ps : List ℕ) (n : ℕ) → n ≡ length ps → IsForest ps → IsForest (ps ++ n ∷ [])
-push_forest ps n e f i w =
-    elim (cases_lt i (length ps)) [
-      | inl less ↦ subst (λ k. k ≤ i) (sym (get_or-append ps (n ∷ []) 0 i less)) (f i less)
-      | inr more ↦ let same : i ≡ length ps = omega (arith, length_pushed ps n) in let at : get_or (ps ++ n ∷ []) i 0 ≡ n = ap (λ k. get_or (ps ++ n ∷ []) k 0) same ∙ get_or-append_seam ps n [] 0 in omega (arith, at)
-    ]
+pub joined_more : (a b : Arena) (partners : List (Option ℕ)) (m n : ℕ) (x : List ℕ) → AreJoined a b partners → slice_get (contents_of a.texts) m ≡ Some x → slice_get (contents_of b.texts) n ≡ Some x → AreJoined a b (set partners m (Some n))
+joined_more a b partners m n x j e f =
+    let there : m < length partners = subst (λ k. m < k) (sym j.all) (slice_get_within (contents_of a.texts) m x e) in
+    let here : slice_get (set partners m (Some n)) m ≡ Some (Some n) = set_at partners m (get_or partners m None) (Some n) (slice_get-get_or partners m None there) in
+    record {
+      all = length-set partners m (Some n) ∙ j.all;
+      equal = λ k l y g h.
+          elim (cases_eq k m) [
+            | inl s ↦
+                let at : slice_get (set partners m (Some n)) m ≡ Some (Some l) = ap (λ w. slice_get (set partners m (Some n)) w) (sym s) ∙ g in
+                let to : n ≡ l = same_Some n l (same_Some (Some n) (Some l) (sym here ∙ at)) in
+                let same : x ≡ y = same_Some x y (sym e ∙ ap (λ w. slice_get (contents_of a.texts) w) (sym s) ∙ h) in
+                ap (λ w. slice_get (contents_of b.texts) w) (sym to) ∙ f ∙ ap (λ w. Some w) same
+            | inr o ↦ j.equal k l y (sym (set_elsewhere partners m k (Some n) o) ∙ g) h
+          ];
+    }
 
-pub push_joins : (text : ℕ → List ℕ) (ps : List ℕ) (n : ℕ) → n ≡ length ps → JoinsEqual text ps → JoinsEqual text (ps ++ n ∷ [])
-push_joins text ps n e f i w =
-    elim (cases_lt i (length ps)) [
-      | inl less ↦ ap text (get_or-append ps (n ∷ []) 0 i less) ∙ f i less
-      | inr more ↦ let same : i ≡ length ps = omega (arith, length_pushed ps n) in ap text (ap (λ k. get_or (ps ++ n ∷ []) k 0) same ∙ get_or-append_seam ps n [] 0 ∙ e ∙ sym same)
-    ]
-
--- another parent
-pub set_forest : (ps : List ℕ) (at up : ℕ) → at < length ps → up ≤ at → IsForest ps → IsForest (set ps at up)
-set_forest ps at up l le f i w =
-    elim (cases_eq i at) [
-      | inl same ↦ let e : get_or (set ps at up) i 0 ≡ up = ap (λ j. get_or (set ps at up) j 0) same ∙ get_or-set_same ps at up 0 l in omega (arith, e)
-      | inr other ↦ subst (λ k. k ≤ i) (sym (get_or-set_other ps at i up 0 other)) (f i (omega (arith, length-set ps at up)))
-    ]
-
-pub set_joins : (text : ℕ → List ℕ) (ps : List ℕ) (at up : ℕ) → at < length ps → text up ≡ text at → JoinsEqual text ps → JoinsEqual text (set ps at up)
-set_joins text ps at up l same f i w =
-    elim (cases_eq i at) [
-      | inl here ↦ ap text (ap (λ j. get_or (set ps at up) j 0) here ∙ get_or-set_same ps at up 0 l) ∙ same ∙ ap text (sym here)
-      | inr other ↦ ap text (get_or-set_other ps at i up 0 other) ∙ f i (omega (arith, length-set ps at up))
-    ]
-
--- what was written to a slice of all items
-pub written_back : (n : ℕ) (new old : List ℕ) → n ≡ length old → length new ≡ length old → take n (new ++ drop (length new) old) ≡ new
-written_back n new old e l = ap (λ k. take k (new ++ drop (length new) old)) (e ∙ sym l) ∙ take-append_seam new (drop (length new) old)
+-- what a comparison keeps
+pub kept_joined : (a b : Arena) (partners new : List (Option ℕ)) (m n : ℕ) (x y z w : List ℕ) (r : Bool) → AreJoined a b partners → slice_get (contents_of a.texts) m ≡ Some x → slice_get (contents_of b.texts) n ≡ Some y → z ≡ x → w ≡ y → new ≡ cond r (set partners m (Some n)) partners → (IsTrue r ↔ z ≡ w) → AreJoined a b new
+kept_joined a b partners new m n x y z w true j e f p q k d =
+    let same : y ≡ x = sym (sym p ∙ d.0 refl ∙ q) in
+    subst (AreJoined a b) (sym k) (joined_more a b partners m n x j e (f ∙ ap (λ v. Some v) same))
+kept_joined a b partners new m n x y z w false j e f p q k d = subst (AreJoined a b) (sym k) j

@@ -3,6 +3,7 @@ pub mod NamedPairs
 mod Entries
 mod MetValues
 mod Numbers
+mod NodesWaiting
 mod Steps
 pub mod Remaining
 pub mod HeadFacts
@@ -10,4 +11,7 @@ mod Orders
 mod ClosedOrders
 mod Relabelled
 pub mod PairsRemain
-pub mod Joins
+pub mod EntriesRemain
+mod Joins
+mod InOrder
+mod Held

@@ -36,7 +36,7 @@ all_reverse P (x ∷ xs) h = rw (reverse-append (x ∷ []) xs) (all_append P (re
 pub shown : (a : Arena) (root : Stored) (i : ℕ) (n : StoredNode) → stored_at a i ≡ n → node_at (graph_of a root) i ≡ node_content a n
 shown a root i n e = get_or-map (node_content a) a.nodes i no_stored ∙ ap (node_content a) e
 
-node_in : (a : Arena) (i : ℕ) → IsFinished a → i < length a.nodes → IsNodeIn a (stored_at a i)
+pub node_in : (a : Arena) (i : ℕ) → IsFinished a → i < length a.nodes → IsNodeIn a (stored_at a i)
 node_in a i f l = each_there (IsNodeIn a) a.nodes i no_stored f.built.nodes l
 
 -- the values of a node are the arena's, and so are those of its pairs
@@ -47,7 +47,7 @@ seconds_in : (a : Arena) (ps : List (TextId × Stored)) → ArePairs a ps → Ar
 seconds_in a [] h = tt
 seconds_in a (p ∷ ps) h = (h.0.1, seconds_in a ps h.1)
 
-seconds_content : (a : Arena) (ps : List (TextId × Stored)) → values_of a (map (λ p. p.1) ps) ≡ seconds (pairs_of a ps)
+pub seconds_content : (a : Arena) (ps : List (TextId × Stored)) → values_of a (map (λ p. p.1) ps) ≡ seconds (pairs_of a ps)
 seconds_content a [] = refl
 seconds_content a (p ∷ ps) = ap (λ w. value_content a p.1 ∷ w) (seconds_content a ps)
 

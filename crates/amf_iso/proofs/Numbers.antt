@@ -10,12 +10,12 @@ use Rattle.amf_graph.specs.Order.{Absent}
 use Rattle.amf_graph.proofs.Lists.{at_left, at_end, at_push, length_pushed}
 use Rattle.amf_iso.specs.Numbers.{AreNumbers}
 
-set_at : {X : Type 0} (xs : List X) (i : ℕ) (x y : X) → slice_get xs i ≡ Some x → slice_get (set xs i y) i ≡ Some y
+pub set_at : {X : Type 0} (xs : List X) (i : ℕ) (x y : X) → slice_get xs i ≡ Some x → slice_get (set xs i y) i ≡ Some y
 set_at [] i x y e = cc
 set_at (z ∷ xs) zero x y e = refl
 set_at (z ∷ xs) (suc i) x y e = set_at xs i x y e
 
-set_elsewhere : {X : Type 0} (xs : List X) (i j : ℕ) (y : X) → (j ≡ i → ⊥) → slice_get (set xs i y) j ≡ slice_get xs j
+pub set_elsewhere : {X : Type 0} (xs : List X) (i j : ℕ) (y : X) → (j ≡ i → ⊥) → slice_get (set xs i y) j ≡ slice_get xs j
 set_elsewhere [] i j y n = refl
 set_elsewhere (z ∷ xs) zero zero y n = absurd (n refl)
 set_elsewhere (z ∷ xs) zero (suc j) y n = refl
@@ -72,7 +72,7 @@ pub looked_up : (xs : List (Option ℕ)) (i : ℕ) (r : Option (Bor (Option ℕ)
 looked_up xs i None e h = ap entry_of (sym (slice_get_past xs i (omega (arith, ltb-false i (length xs) (sym e)))))
 looked_up xs i (Some x) e h = ap entry_of (sym (slice_get_read xs (length xs) i x.now refl (ltb-true i (length xs) (sym e)) h))
 
-no_number : (n k i : ℕ) → slice_get (replicate n None) i ≡ Some (Some k) → ⊥
+pub no_number : (n k i : ℕ) → slice_get (replicate n None) i ≡ Some (Some k) → ⊥
 no_number n k i e =
     let within : i < n = subst (λ w. i < w) (length-replicate n None) (slice_get_within (replicate n None) i (Some k) e) in
     let same : None ≡ Some k = sym (get_or-replicate n i None None within) ∙ get_or_from_slice_get (replicate n None) i (Some k) None e in

@@ -2,5 +2,7 @@
 pub mod Contents
 pub mod Numbers
 -- Devices of the proofs: no clause of a public call needs them.
+pub mod Behind
 pub mod Joined
 pub mod Matches
+pub mod Waiting

@@ -5,6 +5,7 @@ use Rattle.amf_graph.specs.declared.value.Value.{Value as Stored}
 use Rattle.amf_graph.specs.Isomorphic.{ValuesMatch, PairsMatch}
 use Rattle.amf_graph.specs.declared.value.TextId.{TextId}
 use Rattle.amf_graph.specs.Graph.{Value}
+use Rattle.amf_graph.specs.ByName.{by_name}
 use Rattle.amf_graph.specs.Arena.{Arena, Names, IsTextId, text_at, value_content}
 use Rattle.amf3_spelling.specs.LawsOrder.{SamePlace}
 use Rattle.amf_iso.specs.declared.numbered.Numbered.{Numbered}
@@ -32,3 +33,14 @@ PairMatches l r p q = PairsMatch (SameNumber l r) (pair_of l.graph.now.arena p) 
 
 abbrev pub AllPairsMatch : Numbered → Numbered → List (TextId × Stored) → List (TextId × Stored) → Type 0
 AllPairsMatch l r ps qs = AllZip (PairsMatch (SameNumber l r)) (pairs_of l.graph.now.arena ps) (pairs_of r.graph.now.arena qs)
+
+-- the key and the value are the arena's
+abbrev pub IsEntry : Arena → Stored × Stored → Type 0
+IsEntry a e = Names a e.0 × Names a e.1
+
+abbrev pub EntryMatches : Numbered → Numbered → Stored × Stored → Stored × Stored → Type 0
+EntryMatches l r e f = StoredMatch l r e.0 f.0 × StoredMatch l r e.1 f.1
+
+-- pairs in by-name order, and values
+abbrev pub PartsMatch : Numbered → Numbered → List (TextId × Stored) → List (TextId × Stored) → List Stored → List Stored → Type 0
+PartsMatch l r ps qs vs ws = AllZip (PairsMatch (SameNumber l r)) (by_name (pairs_of l.graph.now.arena ps)) (by_name (pairs_of r.graph.now.arena qs)) × AllMatch l r vs ws

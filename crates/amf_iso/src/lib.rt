@@ -11,8 +11,8 @@ mod met;
 mod numbered;
 mod numbering;
 mod pairs;
-mod parts;
 mod relabelling;
+mod waiting;
 
 pub use compare::isomorphic;
 pub use met::values_met;

@@ -2,7 +2,8 @@ ghost use Rattle.std.specs.Prelude.{◌↔◌, IsTrue};
 ghost use Rattle.amf_graph.specs.Arena.{Names};
 ghost use Rattle.amf_iso.specs.Contents.{AreValues, ArePairs};
 ghost use Rattle.amf_iso.specs.Joined.{AreJoined};
-ghost use Rattle.amf_iso.specs.Matches.{StoredMatch, AllMatch, IsPair, PairMatches, AllPairsMatch};
+ghost use Rattle.amf_graph.specs.Views.{flat};
+ghost use Rattle.amf_iso.specs.Matches.{StoredMatch, AllMatch, IsPair, PairMatches, AllPairsMatch, IsEntry, EntryMatches};
 
 use crate::equal_texts::EqualTexts;
 use crate::numbered::Numbered;
@@ -101,6 +102,52 @@ pub(crate) fn all_pairs_match(
     }
     for (p, q) in ps.iter().zip(qs) {
         if !pair_matches(*p, *q, left, right, texts) {
+            return false;
+        }
+    }
+    true
+}
+
+/// Whether two keys are alike, and their values too.
+fn entry_matches(
+    e: (Value, Value),
+    f: (Value, Value),
+    left: &Numbered<'_>,
+    right: &Numbered<'_>,
+    texts: &mut EqualTexts,
+) -> bool
+    requires left { IsEntry left.now.graph.now.arena e }
+    requires right { IsEntry right.now.graph.now.arena f }
+    requires known { AreJoined left.now.graph.now.arena right.now.graph.now.arena texts.old }
+    ensures known { AreJoined left.now.graph.now.arena right.now.graph.now.arena texts.new }
+    ensures same { IsTrue result ↔ EntryMatches left.now right.now e f }
+{
+    if !values_match(e.0, f.0, left, right, texts) {
+        return false;
+    }
+    values_match(e.1, f.1, left, right, texts)
+}
+
+/// Whether keys and values are alike, place by place.
+#[tactic(auto, using(crate::proofs::Remaining::compared, crate::proofs::EntriesRemain::entries_long))]
+pub(crate) fn all_entries_match(
+    es: &[(Value, Value)],
+    fs: &[(Value, Value)],
+    left: &Numbered<'_>,
+    right: &Numbered<'_>,
+    texts: &mut EqualTexts,
+) -> bool
+    requires left { AreValues left.now.graph.now.arena (flat es.now) }
+    requires right { AreValues right.now.graph.now.arena (flat fs.now) }
+    requires known { AreJoined left.now.graph.now.arena right.now.graph.now.arena texts.old }
+    ensures known { AreJoined left.now.graph.now.arena right.now.graph.now.arena texts.new }
+    ensures same { IsTrue result ↔ AllMatch left.now right.now (flat es.now) (flat fs.now) }
+{
+    if es.len() != fs.len() {
+        return false;
+    }
+    for (e, f) in es.iter().zip(fs) {
+        if !entry_matches(*e, *f, left, right, texts) {
             return false;
         }
     }

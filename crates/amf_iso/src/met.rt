@@ -3,9 +3,10 @@ ghost use Rattle.amf_graph.specs.Graph.{node_at};
 ghost use Rattle.amf_graph.specs.Order.{values_met};
 ghost use Rattle.amf_graph.specs.Rooted.{content};
 ghost use Rattle.amf_graph.specs.Views.{flat};
-ghost use Rattle.amf_iso.specs.Contents.{values_of, AreValues};
+ghost use Rattle.amf_iso.specs.Contents.{values_of, AreValues, ArePairs};
+ghost use Rattle.amf_iso.specs.Behind.{AreBehind};
 
-use crate::pairs::ids_by_name;
+use crate::pairs::{are_by_name, ids_by_name};
 use amf_graph::{NodeId, NodeView, Rooted, TextId, Value};
 use amf_wire::Memory;
 use std::alloc::Global;
@@ -20,11 +21,25 @@ fn push_seconds(pairs: &[(TextId, Value)], values: &mut Vec<Value>) -> Result<()
     Ok(())
 }
 
-/// Appends each key and then its value.
-pub(crate) fn push_entries(
-    entries: &[(Value, Value)],
+/// Appends the values of pairs in by-name order. Where the pairs stand in it already, no other list is made.
+fn push_by_name(
+    alloc: Global,
+    pairs: &[(TextId, Value)],
+    graph: &Rooted,
     values: &mut Vec<Value>,
 ) -> Result<(), Memory>
+    requires { ArePairs graph.now.arena pairs.now }
+    ensures { OnOk result (AreBehind graph.now.arena pairs.now values.old.items values.new.items) }
+{
+    if are_by_name(pairs, graph) {
+        return push_seconds(pairs, values);
+    }
+    let sorted = ids_by_name(alloc, pairs, graph)?;
+    push_seconds(&sorted, values)
+}
+
+/// Appends each key and then its value.
+fn push_entries(entries: &[(Value, Value)], values: &mut Vec<Value>) -> Result<(), Memory>
     ensures { OnOk result (values.new.items ≡ values.old.items ++ flat entries.now) }
 {
     for (key, value) in entries {
@@ -45,7 +60,7 @@ pub fn values_met(alloc: Global, node: NodeId, graph: &Rooted) -> Result<Vec<Val
     let mut met = Vec::new(alloc);
     match graph.node(node) {
         NodeView::Array { items, names } => {
-            push_seconds(&ids_by_name(alloc, names, graph)?, &mut met)?;
+            push_by_name(alloc, names, graph, &mut met)?;
             met.extend_from_slice(items)?;
         }
         NodeView::Object {
@@ -54,7 +69,7 @@ pub fn values_met(alloc: Global, node: NodeId, graph: &Rooted) -> Result<Vec<Val
             ..
         } => {
             met.extend_from_slice(sealed)?;
-            push_seconds(&ids_by_name(alloc, members, graph)?, &mut met)?;
+            push_by_name(alloc, members, graph, &mut met)?;
         }
         NodeView::Wrapper { value, .. } => met.push(value)?,
         NodeView::Values { items, .. } => met.extend_from_slice(items)?,

@@ -4,8 +4,8 @@ ghost use Rattle.amf_graph.specs.Renumbered.{numbers_of};
 ghost use Rattle.amf_graph.specs.Rooted.{content};
 ghost use Rattle.amf_iso.specs.Numbers.{HasReached};
 
-use crate::met::values_met;
-use amf_graph::{NodeId, Rooted, Value};
+use crate::waiting::{push_met, push_node};
+use amf_graph::{NodeId, Rooted};
 use amf_wire::Memory;
 use std::alloc::Global;
 use std::marker::Model;
@@ -40,16 +40,13 @@ impl Numbering {
         graph.is_finished();
         let mut nodes = Vec::new(alloc);
         let mut numbers = vec![in alloc; None; graph.node_count() as usize]?;
-        let mut waiting = vec![in alloc; graph.root()]?;
-        while let Some(value) = waiting.pop() {
-            if let Value::Node(node) = value {
-                if numbers[node.0 as usize].is_none() {
-                    numbers[node.0 as usize] = Some(nodes.len() as u32);
-                    nodes.push(node)?;
-                    let mut met = values_met(alloc, node, graph)?;
-                    met.reverse();
-                    waiting.append(&mut met)?;
-                }
+        let mut waiting = Vec::new(alloc);
+        push_node(graph.root(), &mut waiting)?;
+        while let Some(node) = waiting.pop() {
+            if numbers[node.0 as usize].is_none() {
+                numbers[node.0 as usize] = Some(nodes.len() as u32);
+                nodes.push(node)?;
+                push_met(alloc, node, graph, &mut waiting)?;
             }
         }
         Ok(Numbering { nodes, numbers })

@@ -1,8 +1,12 @@
-ghost use Rattle.std.specs.Prelude.{◌≡◌, IfOk};
-ghost use Rattle.amf_graph.specs.ByName.{by_name};
+ghost use Rattle.std.specs.Prelude.{◌≡◌, ◌<◌, ◌↔◌, length, IfOk, IsTrue};
+ghost use Rattle.std.specs.Cmp.Lexicographic.{slice_cmp};
+ghost use Rattle.std.specs.List.Sorted.{IsSortedBy};
+ghost use Rattle.std.specs.Ordering.{is_lt, nat_cmp};
+ghost use Rattle.amf_graph.specs.Arena.{text_at};
+ghost use Rattle.amf_graph.specs.ByName.{before, by_name};
 ghost use Rattle.amf_iso.specs.Contents.{pairs_of, ArePairs, named_pairs, AreNamedPairs};
 
-use amf_graph::{Rooted, TextId, Value};
+use amf_graph::{Rooted, TextId, Value, number_facts};
 use amf_wire::Memory;
 use std::alloc::Global;
 
@@ -52,4 +56,30 @@ pub fn ids_by_name(
     let mut sorted = pairs.to_vec(alloc)?;
     sorted.sort_by(|p, q| graph.compare_texts(p.0, q.0))?;
     Ok(sorted)
+}
+
+/// Whether one name stands before another, by their bytes. One content is not compared with itself.
+fn is_before(name: TextId, other: TextId, graph: &Rooted) -> bool
+    requires name { name.0 < length graph.now.arena.texts }
+    requires other { other.0 < length graph.now.arena.texts }
+    ensures { result ≡ is_lt (slice_cmp nat_cmp (text_at graph.now.arena name.0) (text_at graph.now.arena other.0)) }
+{
+    number_facts();
+    if graph.text_number(name) == graph.text_number(other) {
+        return false;
+    }
+    graph.compare_texts(name, other).is_lt()
+}
+
+/// Whether pairs stand in the order of their names' bytes.
+pub(crate) fn are_by_name(pairs: &[(TextId, Value)], graph: &Rooted) -> bool
+    requires { ArePairs graph.now.arena pairs.now }
+    ensures { IsTrue result ↔ IsSortedBy before (pairs_of graph.now.arena pairs.now) }
+{
+    for index in 1..pairs.len() {
+        if is_before(pairs[index].0, pairs[index - 1].0, graph) {
+            return false;
+        }
+    }
+    true
 }

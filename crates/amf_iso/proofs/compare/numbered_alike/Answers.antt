@@ -24,4 +24,4 @@ returns c =
     )
 
 pub values_match-requires-clause-known : goal.values_match-requires-clause-known
-values_match-requires-clause-known c = c.new-texts.ensures c.args.left.now.graph.now.arena c.args.right.now.graph.now.arena
+values_match-requires-clause-known c = c.in_ok-texts.ensures c.args.right.now.graph.now.arena

@@ -1,11 +1,9 @@
-use Rattle.std.proofs.Common.{◌≡◌, ◌∷◌, [], refl, sym, ap, ◌∙◌, subst}
-use Rattle.amf_graph.specs.ByName.{by_name}
+use Rattle.std.proofs.Common.{◌∷◌, [], refl}
 use Rattle.amf_graph.specs.Arena.{wrapper, values, dictionary}
 use Rattle.amf_graph.specs.Views.{flat}
-use Rattle.amf_iso.specs.Contents.{pairs_of, ArePairs}
 use Rattle.amf_iso.proofs.MetValues.{values_in, met_array, met_object, met_values, met_none, no_parts, array_in, object_in}
 use Rattle.amf_iso.proofs.met.values_met.Goals as goal
-use Rattle.amf_iso.proofs.met.values_met.Goals.{in-Array+in_ok-ids_by_name-in-Array+in_ok-push_seconds-in-Array+in_ok-extend_from_slice-in-Array, in-Object+in_ok-extend_from_slice-in-Object+in_ok-ids_by_name-in-Object+in_ok-push_seconds-in-Object, in-Wrapper+in_ok-push-in-Wrapper, in-Values+in_ok-extend_from_slice-in-Values, in-Dictionary+in_ok-push_entries-in-Dictionary, in_default}
+use Rattle.amf_iso.proofs.met.values_met.Goals.{in-Array+in_ok-push_by_name-in-Array+in_ok-extend_from_slice-in-Array, in-Object+in_ok-extend_from_slice-in-Object+in_ok-push_by_name-in-Object, in-Wrapper+in_ok-push-in-Wrapper, in-Values+in_ok-extend_from_slice-in-Values, in-Dictionary+in_ok-push_entries-in-Dictionary, in_default}
 
 pub returns-clause-values : goal.returns-clause-values
 returns-clause-values c =
@@ -13,14 +11,14 @@ returns-clause-values c =
     let root = c.args.graph.now.root in
     let i = c.args.node.0 in
     elim c.match-node.branch [
-      | in-Array+in_ok-ids_by_name-in-Array+in_ok-push_seconds-in-Array+in_ok-extend_from_slice-in-Array w ↦
-          let sorted : pairs_of a w.deref.result.now ≡ by_name (pairs_of a w.in-Array.names.now) = ap (pairs_of a) w.deref.ensures.value ∙ w.in_ok-ids_by_name-in-Array.ensures.content in
-          rw (w.met-is, w.in_ok-extend_from_slice-in-Array.ensures.items, w.in_ok-push_seconds-in-Array.ensures, c.new-met.ensures.items)
-          (met_array a root i w.in-Array.items.now w.in-Array.names.now w.deref.result.now w.in-Array.ensures sorted)
-      | in-Object+in_ok-extend_from_slice-in-Object+in_ok-ids_by_name-in-Object+in_ok-push_seconds-in-Object w ↦
-          let sorted : pairs_of a w.deref-in-Object.result.now ≡ by_name (pairs_of a w.in-Object.members.now) = ap (pairs_of a) w.deref-in-Object.ensures.value ∙ w.in_ok-ids_by_name-in-Object.ensures.content in
-          rw (w.met-is, w.in_ok-push_seconds-in-Object.ensures, w.in_ok-extend_from_slice-in-Object.ensures.items, c.new-met.ensures.items)
-          (met_object a root i w.in-Object.traits.0 w.in-Object.sealed.now w.in-Object.members.now w.deref-in-Object.result.now w.in-Object.ensures sorted)
+      | in-Array+in_ok-push_by_name-in-Array+in_ok-extend_from_slice-in-Array w ↦
+          let pairs = w.in_ok-push_by_name-in-Array.ensures in
+          rw (w.met-is, w.in_ok-extend_from_slice-in-Array.ensures.items, w.in_ok-push_by_name-in-Array.ensures.items, c.new-met.ensures.items)
+          (met_array a root i w.in-Array.items.now w.in-Array.names.now pairs.sorted w.in-Array.ensures pairs.content)
+      | in-Object+in_ok-extend_from_slice-in-Object+in_ok-push_by_name-in-Object w ↦
+          let pairs = w.in_ok-push_by_name-in-Object.ensures in
+          rw (w.met-is, w.in_ok-push_by_name-in-Object.ensures.items, w.in_ok-extend_from_slice-in-Object.ensures.items, c.new-met.ensures.items)
+          (met_object a root i w.in-Object.traits.0 w.in-Object.sealed.now w.in-Object.members.now pairs.sorted w.in-Object.ensures pairs.content)
       | in-Wrapper+in_ok-push-in-Wrapper w ↦
           rw (w.met-is, w.in_ok-push-in-Wrapper.ensures.items, c.new-met.ensures.items) (met_values a root i (wrapper w.in-Wrapper.class) (w.in-Wrapper.value ∷ []) refl w.in-Wrapper.ensures)
       | in-Values+in_ok-extend_from_slice-in-Values w ↦
@@ -37,12 +35,12 @@ returns-clause-names c =
     let i = c.args.node.0 in
     let f = c.is_finished.ensures.finished in
     elim c.match-node.branch [
-      | in-Array+in_ok-ids_by_name-in-Array+in_ok-push_seconds-in-Array+in_ok-extend_from_slice-in-Array w ↦
-          rw (w.met-is, w.in_ok-extend_from_slice-in-Array.ensures.items, w.in_ok-push_seconds-in-Array.ensures, c.new-met.ensures.items)
-          (array_in a w.deref.result.now w.in-Array.items.now (subst (λ z. ArePairs a z) (sym w.deref.ensures.value) w.in_ok-ids_by_name-in-Array.ensures.names) (values_in a i _ f c.requires w.in-Array.ensures))
-      | in-Object+in_ok-extend_from_slice-in-Object+in_ok-ids_by_name-in-Object+in_ok-push_seconds-in-Object w ↦
-          rw (w.met-is, w.in_ok-push_seconds-in-Object.ensures, w.in_ok-extend_from_slice-in-Object.ensures.items, c.new-met.ensures.items)
-          (object_in a w.deref-in-Object.result.now w.in-Object.sealed.now (subst (λ z. ArePairs a z) (sym w.deref-in-Object.ensures.value) w.in_ok-ids_by_name-in-Object.ensures.names) (values_in a i _ f c.requires w.in-Object.ensures))
+      | in-Array+in_ok-push_by_name-in-Array+in_ok-extend_from_slice-in-Array w ↦
+          rw (w.met-is, w.in_ok-extend_from_slice-in-Array.ensures.items, w.in_ok-push_by_name-in-Array.ensures.items, c.new-met.ensures.items)
+          (array_in a w.in_ok-push_by_name-in-Array.ensures.sorted w.in-Array.items.now w.in_ok-push_by_name-in-Array.ensures.names (values_in a i _ f c.requires w.in-Array.ensures))
+      | in-Object+in_ok-extend_from_slice-in-Object+in_ok-push_by_name-in-Object w ↦
+          rw (w.met-is, w.in_ok-push_by_name-in-Object.ensures.items, w.in_ok-extend_from_slice-in-Object.ensures.items, c.new-met.ensures.items)
+          (object_in a w.in_ok-push_by_name-in-Object.ensures.sorted w.in-Object.sealed.now w.in_ok-push_by_name-in-Object.ensures.names (values_in a i _ f c.requires w.in-Object.ensures))
       | in-Wrapper+in_ok-push-in-Wrapper w ↦
           rw (w.met-is, w.in_ok-push-in-Wrapper.ensures.items, c.new-met.ensures.items) (values_in a i _ f c.requires w.in-Wrapper.ensures)
       | in-Values+in_ok-extend_from_slice-in-Values w ↦

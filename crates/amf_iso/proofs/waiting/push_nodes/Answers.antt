@@ -1,0 +1,11 @@
+use Rattle.std.proofs.Common.{◌≡◌, ◌+◌, ◌-◌, ◌<◌, length, arith}
+use Rattle.amf_graph.specs.declared.value.Value.TheVariants.{Undefined}
+use Rattle.amf_graph.specs.Renumbered.{numbers_of}
+use Rattle.amf_iso.proofs.NodesWaiting.{value_step}
+use Rattle.amf_iso.proofs.waiting.push_nodes.Goals as goal
+
+pub loop-index-preserved : goal.loop-index-preserved
+loop-index-preserved c =
+    let next : c.loop-index.index - 1 + 1 ≡ c.loop-index.index = omega arith in
+    let within : c.loop-index.index - 1 < length c.args.values.now = omega arith in
+    value_step c.args.values.now c.loop-index.index (c.loop-index.index - 1) Undefined (numbers_of c.loop-index.waiting.items) (numbers_of c.push_node.new.waiting.items) _ next within c.in_ok-push_node.ensures c.loop-index.invariant
