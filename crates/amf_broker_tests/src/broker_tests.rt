@@ -1,5 +1,5 @@
 use amf_broker::{
-    Answer, Broker, Call, ClientId, ClientIds, Deliveries, Delivery, Reply, SubId, SubIds, Topic,
+    Answer, Broker, Call, ClientId, ClientIds, Deliveries, Reply, SubId, SubIds, Topic,
 };
 use amf_wire::Name;
 use std::alloc::Global;
@@ -137,10 +137,17 @@ fn sendable<T: Send>(value: T) -> T {
     value
 }
 
-/// A broker of `chat`.
-fn chat(alloc: Global) -> Result<Broker, Fail> {
-    let mut destinations = Vec::new(alloc);
-    destinations.push(name_of(alloc, "chat")?)?;
+fn names_of(alloc: Global, texts: &[&str]) -> Result<Vec<Name>, Fail> {
+    let mut names = Vec::new(alloc);
+    for text in texts {
+        names.push(name_of(alloc, text)?)?;
+    }
+    Ok(names)
+}
+
+/// A broker of these destinations.
+fn broker_of(alloc: Global, destinations: &[&str]) -> Result<Broker, Fail> {
+    let destinations = names_of(alloc, destinations)?;
     Ok(sendable(Broker::new(alloc, destinations)?))
 }
 
@@ -164,8 +171,263 @@ fn are_expired(expired: &ClientIds, want: &[u64]) -> bool {
             .all(|(client, number)| client.0 == *number)
 }
 
-/// Asks a call at a moment and compares its answer.
-fn ask_at(
+/// A moment, the call that is made then, its reply, and the clients that expire.
+type Row = (u64, Request<'static>, Want<'static>, &'static [u64]);
+
+static IN_ORDER: [Row; 18] = [
+    (0, Request::Connect, Want::Client(1), &[]),
+    (0, Request::Connect, Want::Client(2), &[]),
+    (
+        0,
+        Request::Subscribe(1, "chat", ""),
+        Want::Subscribed(1),
+        &[],
+    ),
+    (
+        0,
+        Request::Subscribe(1, "chat", ""),
+        Want::Subscribed(2),
+        &[],
+    ),
+    (
+        0,
+        Request::Subscribe(2, "chat", ""),
+        Want::Subscribed(3),
+        &[],
+    ),
+    (
+        0,
+        Request::Publish(2, "chat", "", "a"),
+        Want::Published(1, &[]),
+        &[],
+    ),
+    (
+        0,
+        Request::Poll(1),
+        Want::Batch(&[(1, 1, "a"), (2, 1, "a")], &[]),
+        &[],
+    ),
+    (
+        0,
+        Request::Publish(2, "chat", "", "b"),
+        Want::Published(2, &[]),
+        &[],
+    ),
+    (0, Request::Unsubscribe(1, 1), Want::Unsubscribed(1), &[]),
+    (
+        0,
+        Request::Publish(2, "chat", "", "c"),
+        Want::Published(3, &[]),
+        &[],
+    ),
+    (
+        0,
+        Request::Poll(1),
+        Want::Batch(&[(1, 2, "b"), (2, 2, "b"), (2, 3, "c")], &[]),
+        &[],
+    ),
+    (0, Request::Poll(1), Want::Batch(&[], &[]), &[]),
+    (
+        0,
+        Request::Poll(2),
+        Want::Batch(&[(3, 1, "a"), (3, 2, "b"), (3, 3, "c")], &[]),
+        &[],
+    ),
+    (0, Request::Unsubscribe(1, 1), Want::NoSub(1), &[]),
+    (0, Request::Poll(9), Want::NoClient(9), &[]),
+    (
+        0,
+        Request::Subscribe(1, "nowhere", ""),
+        Want::NoTopic("nowhere"),
+        &[],
+    ),
+    (0, Request::Disconnect(2), Want::Bye, &[]),
+    (0, Request::Poll(2), Want::NoClient(2), &[]),
+];
+
+static SUBTOPICS: [Row; 3] = [
+    (0, Request::Connect, Want::Client(1), &[]),
+    (
+        0,
+        Request::Subscribe(1, "chat", "x"),
+        Want::Subscribed(1),
+        &[],
+    ),
+    (
+        0,
+        Request::Publish(1, "chat", "", "m"),
+        Want::Published(1, &[]),
+        &[],
+    ),
+];
+
+static IDLE_CLIENTS: [Row; 7] = [
+    (0, Request::Connect, Want::Client(1), &[]),
+    (
+        0,
+        Request::Subscribe(1, "chat", ""),
+        Want::Subscribed(1),
+        &[],
+    ),
+    (1_000, Request::Connect, Want::Client(2), &[]),
+    (
+        600_000,
+        Request::Publish(2, "chat", "", "a"),
+        Want::Published(1, &[]),
+        &[1],
+    ),
+    (600_000, Request::Poll(1), Want::NoClient(1), &[]),
+    (599_000, Request::Poll(2), Want::Batch(&[], &[]), &[]),
+    (1_200_000, Request::Poll(2), Want::NoClient(2), &[2]),
+];
+
+static NUMBERED_POLLS: [Row; 10] = [
+    (0, Request::Connect, Want::Client(1), &[]),
+    (
+        0,
+        Request::Subscribe(1, "chat", ""),
+        Want::Subscribed(1),
+        &[],
+    ),
+    (
+        0,
+        Request::Publish(1, "chat", "", "a"),
+        Want::Published(1, &[]),
+        &[],
+    ),
+    (
+        0,
+        Request::PollNumbered(1, 1),
+        Want::Numbered(1, &[(1, 1, "a")], &[]),
+        &[],
+    ),
+    (
+        0,
+        Request::Publish(1, "chat", "", "b"),
+        Want::Published(2, &[]),
+        &[],
+    ),
+    (
+        0,
+        Request::PollNumbered(1, 1),
+        Want::Again(1, &[(1, 1, "a")], &[]),
+        &[],
+    ),
+    (
+        0,
+        Request::PollNumbered(1, 2),
+        Want::Numbered(2, &[(1, 2, "b")], &[]),
+        &[],
+    ),
+    (0, Request::PollNumbered(1, 1), Want::BadNumber(2), &[]),
+    (0, Request::PollNumbered(1, 0), Want::BadNumber(2), &[]),
+    (0, Request::Poll(1), Want::Batch(&[], &[]), &[]),
+];
+
+static TOPICS: [Row; 8] = [
+    (0, Request::Connect, Want::Client(1), &[]),
+    (
+        0,
+        Request::Subscribe(1, "chat", ""),
+        Want::Subscribed(1),
+        &[],
+    ),
+    (
+        0,
+        Request::Subscribe(1, "news", ""),
+        Want::Subscribed(2),
+        &[],
+    ),
+    (
+        0,
+        Request::Publish(1, "news", "", "a"),
+        Want::Published(1, &[]),
+        &[],
+    ),
+    (
+        0,
+        Request::Publish(1, "chat", "", "b"),
+        Want::Published(2, &[]),
+        &[],
+    ),
+    (
+        0,
+        Request::Publish(1, "news", "", "c"),
+        Want::Published(3, &[]),
+        &[],
+    ),
+    (0, Request::Unsubscribe(1, 2), Want::Unsubscribed(2), &[]),
+    (
+        0,
+        Request::Poll(1),
+        Want::Batch(&[(2, 1, "a"), (1, 2, "b"), (2, 3, "c")], &[]),
+        &[],
+    ),
+];
+
+/// A client whose one subscription is live.
+static LISTENER: [Row; 2] = [
+    (0, Request::Connect, Want::Client(1), &[]),
+    (
+        0,
+        Request::Subscribe(1, "chat", ""),
+        Want::Subscribed(1),
+        &[],
+    ),
+];
+
+/// What follows when a full queue was polled.
+static FULL_QUEUE: [Row; 2] = [
+    (
+        0,
+        Request::Publish(1, "chat", "", "m"),
+        Want::Published(130, &[]),
+        &[],
+    ),
+    (0, Request::Poll(1), Want::Batch(&[], &[]), &[]),
+];
+
+static TWO_ENDS: [Row; 2] = [
+    (
+        0,
+        Request::Publish(1, "chat", "", "m"),
+        Want::Published(65, &[2]),
+        &[],
+    ),
+    (
+        0,
+        Request::Publish(1, "chat", "", "m"),
+        Want::Published(66, &[1]),
+        &[],
+    ),
+];
+
+static PAST_THE_LIMITS: [Row; 2] = [
+    (0, Request::Connect, Want::Full(1024), &[]),
+    (
+        0,
+        Request::Subscribe(1, "chat", ""),
+        Want::TooManySubs(16),
+        &[],
+    ),
+];
+
+static ONE_END: [Row; 1] = [(
+    0,
+    Request::Publish(1, "chat", "", "m"),
+    Want::Published(129, &[1]),
+    &[],
+)];
+
+static SECOND: [Row; 1] = [(
+    0,
+    Request::Subscribe(1, "chat", ""),
+    Want::Subscribed(2),
+    &[],
+)];
+
+/// Asks a call and compares its answer.
+fn ask(
     rt: &impl Abort,
     alloc: Global,
     broker: &mut Broker,
@@ -184,413 +446,194 @@ fn ask_at(
 }
 
 /// Asks a call at moment 0, at which nobody expires, and compares its reply.
-fn ask(
+fn ask_now(
     rt: &impl Abort,
     alloc: Global,
     broker: &mut Broker,
     asked: &Request,
     want: &Want,
 ) -> Result<(), Fail> {
-    ask_at(rt, alloc, broker, 0, asked, want, &[])
+    ask(rt, alloc, broker, 0, asked, want, &[])
 }
 
-/// A client whose one subscription is live.
-fn one_listener(rt: &impl Abort, alloc: Global) -> Result<Broker, Fail> {
-    let mut broker = chat(alloc)?;
-    ask(rt, alloc, &mut broker, &Request::Connect, &Want::Client(1))?;
-    ask(
-        rt,
-        alloc,
-        &mut broker,
-        &Request::Subscribe(1, "chat", ""),
-        &Want::Subscribed(1),
-    )?;
+fn ask_rows(rt: &impl Abort, alloc: Global, broker: &mut Broker, rows: &[Row]) -> Result<(), Fail> {
+    for (moment, asked, want, expired) in rows {
+        ask(rt, alloc, broker, *moment, asked, want, expired)?;
+    }
+    Ok(())
+}
+
+/// Asks a broker of these destinations, in whose queues nothing is left.
+fn ask_broker_of(
+    rt: &impl Abort,
+    alloc: Global,
+    destinations: &[&str],
+    rows: &[Row],
+) -> Result<(), Fail> {
+    let mut broker = broker_of(alloc, destinations)?;
+    ask_rows(rt, alloc, &mut broker, rows)?;
+    assert_eq!(rt; broker.queued(), 0);
+    Ok(())
+}
+
+/// A broker of `chat`, which was asked this.
+fn chat(rt: &impl Abort, alloc: Global, rows: &[Row]) -> Result<Broker, Fail> {
+    let mut broker = broker_of(alloc, &["chat"])?;
+    ask_rows(rt, alloc, &mut broker, rows)?;
     Ok(broker)
 }
 
-/// Publishes `m` so many times, from this number on, to subscriptions none of which ends.
+/// Publishes a message so many times, from this number on, to subscriptions none of which ends.
 fn publish(
     rt: &impl Abort,
     alloc: Global,
     broker: &mut Broker,
+    message: &str,
     first: u64,
     count: u64,
 ) -> Result<(), Fail> {
     for n in 0..count {
-        let number = first.wrapping_add(n);
-        ask(
-            rt,
-            alloc,
-            broker,
-            &Request::Publish(1, "chat", "", "m"),
-            &Want::Published(number, &[]),
-        )?;
+        let asked = Request::Publish(1, "chat", "", message);
+        let want = Want::Published(first.wrapping_add(n), &[]);
+        ask_now(rt, alloc, broker, &asked, &want)?;
     }
     Ok(())
 }
 
-/// Polls client 1 and gives how many deliveries it got.
-fn polled(
+/// What a client gets when it polls.
+fn batch_of(
     rt: &impl Abort,
     alloc: Global,
     broker: &mut Broker,
-    ended: &[u64],
-) -> Result<usize, Fail> {
-    let client = ClientId(1);
-    let Answer { reply, expired: _ } = answer(rt, alloc, broker, 0, Call::Poll { client })?;
+    client: u64,
+) -> Result<(Deliveries, SubIds), Fail> {
+    let call = Call::Poll {
+        client: ClientId(client),
+    };
+    let Answer { reply, expired: _ } = answer(rt, alloc, broker, 0, call)?;
     match reply {
-        Reply::Batch {
-            deliveries,
-            ended: told,
-        } => {
-            assert!(rt; are_ended(&told, ended));
-            Ok(deliveries.as_slice().len())
-        }
+        Reply::Batch { deliveries, ended } => Ok((deliveries, ended)),
         reply => panic!(rt; "no batch: {reply:?}"),
     }
 }
 
-#[test]
-fn delivers_in_order(rt: HostRuntime) -> Result<(), Fail> {
-    let alloc = rt.alloc();
-    let rows = [
-        (Request::Connect, Want::Client(1)),
-        (Request::Connect, Want::Client(2)),
-        (Request::Subscribe(1, "chat", ""), Want::Subscribed(1)),
-        (Request::Subscribe(1, "chat", ""), Want::Subscribed(2)),
-        (Request::Subscribe(2, "chat", ""), Want::Subscribed(3)),
-        (
-            Request::Publish(2, "chat", "", "a"),
-            Want::Published(1, &[]),
-        ),
-        (
-            Request::Poll(1),
-            Want::Batch(&[(1, 1, "a"), (2, 1, "a")], &[]),
-        ),
-        (
-            Request::Publish(2, "chat", "", "b"),
-            Want::Published(2, &[]),
-        ),
-        (Request::Unsubscribe(1, 1), Want::Unsubscribed(1)),
-        (
-            Request::Publish(2, "chat", "", "c"),
-            Want::Published(3, &[]),
-        ),
-        (
-            Request::Poll(1),
-            Want::Batch(&[(1, 2, "b"), (2, 2, "b"), (2, 3, "c")], &[]),
-        ),
-        (Request::Poll(1), Want::Batch(&[], &[])),
-        (
-            Request::Poll(2),
-            Want::Batch(&[(3, 1, "a"), (3, 2, "b"), (3, 3, "c")], &[]),
-        ),
-        (Request::Unsubscribe(1, 1), Want::NoSub(1)),
-        (Request::Poll(9), Want::NoClient(9)),
-        (
-            Request::Subscribe(1, "nowhere", ""),
-            Want::NoTopic("nowhere"),
-        ),
-        (Request::Disconnect(2), Want::Bye),
-        (Request::Poll(2), Want::NoClient(2)),
-    ];
-    let mut broker = chat(alloc)?;
-    for (asked, want) in rows.iter() {
-        ask(&rt, alloc, &mut broker, asked, want)?;
-    }
+/// Polls client 1, which gets 128 deliveries and is told of these ends.
+fn poll_full(
+    rt: &impl Abort,
+    alloc: Global,
+    broker: &mut Broker,
+    want: &[u64],
+) -> Result<(), Fail> {
+    let (deliveries, ended) = batch_of(rt, alloc, broker, 1)?;
+    assert_eq!(rt; deliveries.as_slice().len(), 128);
+    assert!(rt; are_ended(&ended, want));
     Ok(())
+}
+
+#[test]
+fn answers_in_order(rt: HostRuntime) -> Result<(), Fail> {
+    let alloc = rt.alloc();
+    ask_broker_of(&rt, alloc, &["chat"], &IN_ORDER)?;
+    ask_broker_of(&rt, alloc, &["chat"], &SUBTOPICS)?;
+    ask_broker_of(&rt, alloc, &["chat"], &IDLE_CLIENTS)?;
+    ask_broker_of(&rt, alloc, &["chat"], &NUMBERED_POLLS)?;
+    ask_broker_of(&rt, alloc, &["chat", "news"], &TOPICS)
 }
 
 #[test]
 fn ends_at_a_full_queue(rt: HostRuntime) -> Result<(), Fail> {
     let alloc = rt.alloc();
-    let mut broker = one_listener(&rt, alloc)?;
-    publish(&rt, alloc, &mut broker, 1, 128)?;
+    let mut broker = chat(&rt, alloc, &LISTENER)?;
+    publish(&rt, alloc, &mut broker, "m", 1, 128)?;
     assert_eq!(rt; broker.queued(), 128);
-    ask(
-        &rt,
-        alloc,
-        &mut broker,
-        &Request::Publish(1, "chat", "", "m"),
-        &Want::Published(129, &[1]),
-    )?;
-    assert_eq!(rt; polled(&rt, alloc, &mut broker, &[1])?, 128);
-    ask(
-        &rt,
-        alloc,
-        &mut broker,
-        &Request::Publish(1, "chat", "", "m"),
-        &Want::Published(130, &[]),
-    )?;
-    ask(
-        &rt,
-        alloc,
-        &mut broker,
-        &Request::Poll(1),
-        &Want::Batch(&[], &[]),
-    )?;
-    Ok(())
+    ask_rows(&rt, alloc, &mut broker, &ONE_END)?;
+    poll_full(&rt, alloc, &mut broker, &[1])?;
+    ask_rows(&rt, alloc, &mut broker, &FULL_QUEUE)
 }
 
 #[test]
 fn tells_ends_in_order(rt: HostRuntime) -> Result<(), Fail> {
     let alloc = rt.alloc();
-    let mut broker = one_listener(&rt, alloc)?;
-    publish(&rt, alloc, &mut broker, 1, 1)?;
-    ask(
-        &rt,
-        alloc,
-        &mut broker,
-        &Request::Subscribe(1, "chat", ""),
-        &Want::Subscribed(2),
-    )?;
-    publish(&rt, alloc, &mut broker, 2, 63)?;
-    ask(
-        &rt,
-        alloc,
-        &mut broker,
-        &Request::Publish(1, "chat", "", "m"),
-        &Want::Published(65, &[2]),
-    )?;
-    ask(
-        &rt,
-        alloc,
-        &mut broker,
-        &Request::Publish(1, "chat", "", "m"),
-        &Want::Published(66, &[1]),
-    )?;
-    assert_eq!(rt; polled(&rt, alloc, &mut broker, &[2, 1])?, 128);
+    let mut broker = chat(&rt, alloc, &LISTENER)?;
+    publish(&rt, alloc, &mut broker, "m", 1, 1)?;
+    ask_rows(&rt, alloc, &mut broker, &SECOND)?;
+    publish(&rt, alloc, &mut broker, "m", 2, 63)?;
+    ask_rows(&rt, alloc, &mut broker, &TWO_ENDS)?;
+    poll_full(&rt, alloc, &mut broker, &[2, 1])
+}
+
+/// Connects clients 1 to `count`.
+fn connect(rt: &impl Abort, alloc: Global, broker: &mut Broker, count: u64) -> Result<(), Fail> {
+    for n in 1..=count {
+        ask_now(rt, alloc, broker, &Request::Connect, &Want::Client(n))?;
+    }
     Ok(())
 }
 
-#[test]
-fn tells_subtopics_apart(rt: HostRuntime) -> Result<(), Fail> {
-    let alloc = rt.alloc();
-    let rows = [
-        (Request::Connect, Want::Client(1)),
-        (Request::Subscribe(1, "chat", "x"), Want::Subscribed(1)),
-        (
-            Request::Publish(1, "chat", "", "m"),
-            Want::Published(1, &[]),
-        ),
-    ];
-    let mut broker = chat(alloc)?;
-    for (asked, want) in rows.iter() {
-        ask(&rt, alloc, &mut broker, asked, want)?;
-    }
-    assert_eq!(rt; broker.queued(), 0);
-    Ok(())
+/// Subscribes a client to `chat`.
+fn subscribe(
+    rt: &impl Abort,
+    alloc: Global,
+    broker: &mut Broker,
+    client: u64,
+    sub: u64,
+) -> Result<(), Fail> {
+    let asked = Request::Subscribe(client, "chat", "");
+    ask_now(rt, alloc, broker, &asked, &Want::Subscribed(sub))
+}
+
+/// Asks with a subtopic and with messages at their limits and past them.
+fn ask_at_the_limits(rt: &impl Abort, alloc: Global, broker: &mut Broker) -> Result<(), Fail> {
+    let subtopic = "x".repeat(alloc, 256)?;
+    let asked = Request::Subscribe(2, "chat", subtopic.as_str());
+    ask_now(rt, alloc, broker, &asked, &Want::TooLong(255))?;
+    let message = "x".repeat(alloc, 32_769)?;
+    let asked = Request::Publish(2, "chat", "", message.as_str());
+    ask_now(rt, alloc, broker, &asked, &Want::TooLong(32_768))?;
+    let message = "x".repeat(alloc, 32_768)?;
+    let asked = Request::Publish(2, "chat", "", message.as_str());
+    ask_now(rt, alloc, broker, &asked, &Want::Published(1, &[]))
 }
 
 #[test]
 fn keeps_to_its_limits(rt: HostRuntime) -> Result<(), Fail> {
     let alloc = rt.alloc();
-    let mut broker = chat(alloc)?;
-    for n in 0..1024 {
-        ask(
-            &rt,
-            alloc,
-            &mut broker,
-            &Request::Connect,
-            &Want::Client(n + 1),
-        )?;
+    let mut broker = chat(&rt, alloc, &[])?;
+    connect(&rt, alloc, &mut broker, 1024)?;
+    for n in 1..=16 {
+        subscribe(&rt, alloc, &mut broker, 1, n)?;
     }
-    ask(
-        &rt,
-        alloc,
-        &mut broker,
-        &Request::Connect,
-        &Want::Full(1024),
-    )?;
-    for n in 0..16 {
-        ask(
-            &rt,
-            alloc,
-            &mut broker,
-            &Request::Subscribe(1, "chat", ""),
-            &Want::Subscribed(n + 1),
-        )?;
-    }
-    ask(
-        &rt,
-        alloc,
-        &mut broker,
-        &Request::Subscribe(1, "chat", ""),
-        &Want::TooManySubs(16),
-    )?;
-    let long = "x".repeat(alloc, 32_769)?;
-    let subtopic = &long.as_str()[..256];
-    ask(
-        &rt,
-        alloc,
-        &mut broker,
-        &Request::Subscribe(2, "chat", subtopic),
-        &Want::TooLong(255),
-    )?;
-    ask(
-        &rt,
-        alloc,
-        &mut broker,
-        &Request::Publish(2, "chat", "", long.as_str()),
-        &Want::TooLong(32_768),
-    )?;
-    let message = &long.as_str()[..32_768];
-    ask(
-        &rt,
-        alloc,
-        &mut broker,
-        &Request::Publish(2, "chat", "", message),
-        &Want::Published(1, &[]),
-    )?;
-    Ok(())
+    ask_rows(&rt, alloc, &mut broker, &PAST_THE_LIMITS)?;
+    ask_at_the_limits(&rt, alloc, &mut broker)
 }
 
-#[test]
-fn expires_idle_clients(rt: HostRuntime) -> Result<(), Fail> {
-    let alloc = rt.alloc();
-    let rows = [
-        (0, Request::Connect, Want::Client(1), &[][..]),
-        (
-            0,
-            Request::Subscribe(1, "chat", ""),
-            Want::Subscribed(1),
-            &[],
-        ),
-        (1_000, Request::Connect, Want::Client(2), &[]),
-        (
-            600_000,
-            Request::Publish(2, "chat", "", "a"),
-            Want::Published(1, &[]),
-            &[1],
-        ),
-        (600_000, Request::Poll(1), Want::NoClient(1), &[]),
-        (599_000, Request::Poll(2), Want::Batch(&[], &[]), &[]),
-        (1_200_000, Request::Poll(2), Want::NoClient(2), &[2]),
-    ];
-    let mut broker = chat(alloc)?;
-    for (moment, asked, want, expired) in rows.iter() {
-        ask_at(&rt, alloc, &mut broker, *moment, asked, want, expired)?;
+/// Whether these are 128 deliveries to this subscription, numbered from 1.
+fn are_all(deliveries: &Deliveries, sub: u64) -> bool {
+    let mut number = 0u64;
+    for delivery in deliveries.as_slice() {
+        number = number.wrapping_add(1);
+        if delivery.number != number || delivery.sub.0 != sub {
+            return false;
+        }
     }
-    Ok(())
-}
-
-#[test]
-fn numbers_polls(rt: HostRuntime) -> Result<(), Fail> {
-    let alloc = rt.alloc();
-    let rows = [
-        (
-            Request::Publish(1, "chat", "", "a"),
-            Want::Published(1, &[]),
-        ),
-        (
-            Request::PollNumbered(1, 1),
-            Want::Numbered(1, &[(1, 1, "a")], &[]),
-        ),
-        (
-            Request::Publish(1, "chat", "", "b"),
-            Want::Published(2, &[]),
-        ),
-        (
-            Request::PollNumbered(1, 1),
-            Want::Again(1, &[(1, 1, "a")], &[]),
-        ),
-        (
-            Request::PollNumbered(1, 2),
-            Want::Numbered(2, &[(1, 2, "b")], &[]),
-        ),
-        (Request::PollNumbered(1, 1), Want::BadNumber(2)),
-        (Request::PollNumbered(1, 0), Want::BadNumber(2)),
-        (Request::Poll(1), Want::Batch(&[], &[])),
-    ];
-    let mut broker = one_listener(&rt, alloc)?;
-    for (asked, want) in rows.iter() {
-        ask(&rt, alloc, &mut broker, asked, want)?;
-    }
-    Ok(())
-}
-
-#[test]
-fn merges_topics(rt: HostRuntime) -> Result<(), Fail> {
-    let alloc = rt.alloc();
-    let rows = [
-        (Request::Connect, Want::Client(1)),
-        (Request::Subscribe(1, "chat", ""), Want::Subscribed(1)),
-        (Request::Subscribe(1, "news", ""), Want::Subscribed(2)),
-        (
-            Request::Publish(1, "news", "", "a"),
-            Want::Published(1, &[]),
-        ),
-        (
-            Request::Publish(1, "chat", "", "b"),
-            Want::Published(2, &[]),
-        ),
-        (
-            Request::Publish(1, "news", "", "c"),
-            Want::Published(3, &[]),
-        ),
-        (Request::Unsubscribe(1, 2), Want::Unsubscribed(2)),
-        (
-            Request::Poll(1),
-            Want::Batch(&[(2, 1, "a"), (1, 2, "b"), (2, 3, "c")], &[]),
-        ),
-    ];
-    let mut destinations = Vec::new(alloc);
-    destinations.push(name_of(alloc, "chat")?)?;
-    destinations.push(name_of(alloc, "news")?)?;
-    let mut broker = Broker::new(alloc, destinations)?;
-    for (asked, want) in rows.iter() {
-        ask(&rt, alloc, &mut broker, asked, want)?;
-    }
-    Ok(())
+    number == 128
 }
 
 /// As many clients as may be, each with a full queue of the longest messages.
 #[test]
 fn fills_every_queue(rt: HostRuntime) -> Result<(), Fail> {
     let alloc = rt.alloc();
-    let mut broker = chat(alloc)?;
+    let mut broker = chat(&rt, alloc, &[])?;
+    connect(&rt, alloc, &mut broker, 1024)?;
     for n in 1..=1024 {
-        ask(&rt, alloc, &mut broker, &Request::Connect, &Want::Client(n))?;
-        ask(
-            &rt,
-            alloc,
-            &mut broker,
-            &Request::Subscribe(n, "chat", ""),
-            &Want::Subscribed(n),
-        )?;
+        subscribe(&rt, alloc, &mut broker, n, n)?;
     }
     let long = "x".repeat(alloc, 32_768)?;
-    for n in 1..=128 {
-        ask(
-            &rt,
-            alloc,
-            &mut broker,
-            &Request::Publish(1, "chat", "", long.as_str()),
-            &Want::Published(n, &[]),
-        )?;
-    }
+    publish(&rt, alloc, &mut broker, long.as_str(), 1, 128)?;
     assert_eq!(rt; broker.queued(), 131_072);
     for n in 1..=1024 {
-        let client = ClientId(n);
-        let Answer { reply, expired: _ } = answer(
-            &rt,
-            alloc,
-            &mut broker,
-            0,
-            Call::Poll { client },
-        )?;
-        match reply {
-            Reply::Batch { deliveries, ended } => {
-                let deliveries = deliveries.as_slice();
-                assert!(rt; deliveries.len() == 128 && ended.as_slice().is_empty());
-                assert!(rt;
-                    deliveries.iter().zip(1..).all(|(d, number): (&Delivery, u64)| d.number
-                        == number
-                        && d.sub.0 == n)
-                );
-            }
-            reply => panic!(rt; "no batch: {reply:?}"),
-        }
+        let (deliveries, ended) = batch_of(&rt, alloc, &mut broker, n)?;
+        assert!(rt; are_all(&deliveries, n) && are_ended(&ended, &[]));
     }
     Ok(())
 }

@@ -1,28 +1,37 @@
-use amf_graph::{NodeId, NodeView, Value};
+use amf_graph::{NodeId, NodeView, Rooted, Value};
 use amf_vectors::{make, vectors};
 use std::test::Fail;
+
+/// The first value among the members of an object.
+fn first_member(graph: &Rooted, place: u32) -> Option<Value> {
+    if place >= graph.node_count() {
+        return None;
+    }
+    let NodeView::Object { members, .. } = graph.node(NodeId(place)) else {
+        return None;
+    };
+    let (_, value) = members.first()?;
+    Some(*value)
+}
 
 #[test]
 fn an_array_and_two_objects(rt: HostRuntime) -> Result<(), Fail> {
     let graph = make(rt.alloc(), 1, 3)?;
     assert_eq!(rt; graph.root(), Value::Node(NodeId(0)));
     assert_eq!(rt; graph.node_count(), 3);
-    for (place, key) in [(1, 16_838), (2, 5_758)] {
-        assert!(rt; place < graph.node_count());
-        let first = match graph.node(NodeId(place)) {
-            NodeView::Object { members, .. } => members.first().map(|member| member.1),
-            _ => None,
-        };
-        assert_eq!(rt; first, Some(Value::Integer(key)));
-    }
+    assert_eq!(rt; first_member(&graph, 1), Some(Value::Integer(16_838)));
+    assert_eq!(rt; first_member(&graph, 2), Some(Value::Integer(5_758)));
     Ok(())
 }
 
 #[test]
 fn vectors_of_both_kinds(rt: HostRuntime) -> Result<(), Fail> {
-    let canonical = vectors()
-        .iter()
-        .filter(|vector| vector.input == vector.output);
-    assert_eq!(rt; canonical.count(), 18);
+    let mut canonical = 0u32;
+    for vector in vectors() {
+        if vector.input == vector.output {
+            canonical = canonical.wrapping_add(1);
+        }
+    }
+    assert_eq!(rt; canonical, 18);
     Ok(())
 }
