@@ -2,6 +2,8 @@
 #![tactic(auto)]
 
 #[cfg(test)]
+mod graphs;
+#[cfg(test)]
 mod packet_show_tests;
 #[cfg(test)]
 mod show_tests;

@@ -1,8 +1,6 @@
 use amf_io::{Cursor, MemorySource};
 use amf_packet::{Packet, read_packet};
-use amf_packet_show::{
-    count_packet_nodes, packet_has_lowering, packet_laws, packet_listing_rows, show_packet,
-};
+use amf_packet_show::{count_packet_nodes, packet_has_lowering, show_packet};
 use std::alloc::Global;
 use std::test::Fail;
 
@@ -35,8 +33,6 @@ fn packet(alloc: Global) -> Result<Packet, Fail> {
 
 #[test]
 fn lists_and_counts(rt: HostRuntime) -> Result<(), Fail> {
-    packet_listing_rows();
-    packet_laws();
     let packet = packet(rt.alloc())?;
     packet_has_lowering(&packet);
     let mut out = vec![in rt.alloc(); b'>']?;

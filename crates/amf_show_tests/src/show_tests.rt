@@ -1,33 +1,22 @@
-ghost use Rattle.std.specs.Prelude.{◌≡◌, length, IfOk, OnOk};
-ghost use Rattle.amf_graph.specs.Arena.{Names};
-ghost use Rattle.amf_graph.specs.Building.{kept_text};
-
-use amf_graph::{Builder, Leaf, Part, Rooted, Shape, TextId, Value, Wrapped};
+use crate::graphs::graph_of;
+use amf_graph::{NodeId, Rooted, Value};
+use amf_packet_show::{packet_laws, packet_listing_rows};
 use amf_show::{count_nodes, listing_laws, listing_rows, show, show_text};
-use amf_wire::{Pattern, is_amf_text};
+use amf_sol_show::{file_laws, file_listing_rows};
 use std::alloc::Global;
 use std::process::Abort;
 use std::test::Fail;
 
-/// The graph with this root, of nodes that are all complete.
-fn finished(builder: Builder, root: Value) -> Result<Rooted, Fail>
-    requires { Names builder root }
-    ensures { IfOk result (λ graph. graph ≡ record { arena = builder; root = root }) }
-{
-    let graph = builder.finish(root).ok().ok_or("an open node")?;
-    Ok(graph)
-}
+/// An object with a sealed member and two dynamic ones, in AMF 3.
+const OBJECT: &[u8] = b"\x11\x0A\x1B\x01\x03b\x03\0\x04\xFF\xFF\xFF\xFF\x03a\x06\x02\x01";
 
-/// Keeps a text.
-fn text(builder: &mut Builder, bytes: &[u8]) -> Result<TextId, Fail>
-    ensures id { IfOk result (λ text. text.0 ≡ length builder.old.texts) }
-    ensures kept { OnOk result (builder.new ≡ kept_text builder.old bytes.now) }
-{
-    if !is_amf_text(bytes) {
-        return Err("no text")?;
-    }
-    Ok(builder.text(bytes)?)
-}
+/// An array of a date, which is node 1, and of node 2: an array of a wrapper over that array, with a name.
+const RING: &[u8] = b"\x11\x09\x05\x01\x08\x01\0\0\0\0\0\0\0\0\
+    \x09\x05\x07\"n\\\0\x01\x0A\x07\x37flex.messaging.io.ArrayList\x09\x04\x01";
+
+/// A dictionary of two nodes without parts.
+const DICTIONARY: &[u8] = b"\x11\x11\x05\0\x0C\x05\x0A\xFF\x05\x40\x14\0\0\0\0\0\0\
+    \x02\x0D\x05\x01\xFF\xFF\xFF\xFF\0\0\0\x02";
 
 /// Compares the listing of a graph behind a first byte.
 fn shows(rt: &impl Abort, alloc: Global, graph: &Rooted, lines: &str) -> Result<(), Fail> {
@@ -38,67 +27,32 @@ fn shows(rt: &impl Abort, alloc: Global, graph: &Rooted, lines: &str) -> Result<
     Ok(())
 }
 
-/// An object with a sealed member and two dynamic ones.
-fn object(alloc: Global) -> Result<Rooted, Fail> {
-    let mut builder = Builder::new(alloc)?;
-    let b = text(&mut builder, b"b")?;
-    let a = text(&mut builder, b"a")?;
-    let class = text(&mut builder, b"")?;
-    let traits = builder.traits(class, true, &[b])?;
-    let object = builder.open_node(Shape::Object(traits))?;
-    builder.put(object, Part::Item(Value::Bool(true)))?;
-    builder.put(object, Part::Named(b, Value::Integer(-1)))?;
-    builder.put(object, Part::Named(a, Value::Text(a)))?;
-    builder.close_node(object);
-    finished(builder, Value::Node(object))
-}
-
-/// An array of a wrapper over the array, with a name; and a node to which it does not lead.
+/// The ring, whose graph has nodes to which it does not lead.
 fn ring(alloc: Global) -> Result<Rooted, Fail> {
-    let mut builder = Builder::new(alloc)?;
-    let name = text(&mut builder, b"\"n\\")?;
-    let _date = builder.leaf(Leaf::Date(Pattern(0)))?;
-    let wrapper = builder.open_node(Shape::Wrapper(Wrapped::ArrayList))?;
-    let array = builder.open_node(Shape::Array)?;
-    builder.put(wrapper, Part::Item(Value::Node(array)))?;
-    builder.put(array, Part::Item(Value::Node(wrapper)))?;
-    builder.put(array, Part::Item(Value::Null))?;
-    builder.put(array, Part::Named(name, Value::Undefined))?;
-    builder.close_node(wrapper);
-    builder.close_node(array);
-    finished(builder, Value::Node(array))
+    let graph = graph_of(alloc, RING)?;
+    if graph.node_count() < 3 {
+        return Err("two nodes")?;
+    }
+    Ok(graph.rooted_at(Value::Node(NodeId(2))))
 }
 
-/// A dictionary of two nodes without parts.
-fn dictionary(alloc: Global) -> Result<Rooted, Fail> {
-    let mut builder = Builder::new(alloc)?;
-    let bytes = builder.leaf(Leaf::Bytes(vec![in alloc; 0x0A, 0xFF]?))?;
-    let ints = builder.leaf(Leaf::Ints(true, vec![in alloc; -1, 2]?))?;
-    let dictionary = builder.open_node(Shape::Dictionary(false))?;
-    builder.put(
-        dictionary,
-        Part::Entry(
-            Value::Node(bytes),
-            Value::Double(Pattern(0x4014_0000_0000_0000)),
-        ),
-    )?;
-    builder.put(
-        dictionary,
-        Part::Entry(Value::Bool(false), Value::Node(ints)),
-    )?;
-    builder.close_node(dictionary);
-    finished(builder, Value::Node(dictionary))
+#[test]
+fn facts_and_laws_stand(_rt: HostRuntime) {
+    listing_rows();
+    listing_laws();
+    packet_listing_rows();
+    packet_laws();
+    file_listing_rows();
+    file_laws();
 }
 
 #[test]
 fn shows_graphs(rt: HostRuntime) -> Result<(), Fail> {
     let alloc = rt.alloc();
-    listing_rows();
-    listing_laws();
     shows(
         &rt,
         alloc,
-        &object(alloc)?,
+        &graph_of(alloc, OBJECT)?,
         "root #0\n#0 object \"\" sealed {\"b\"=true} dynamic {\"a\"=\"a\", \"b\"=-1}\n",
     )?;
     shows(
@@ -107,7 +61,7 @@ fn shows_graphs(rt: HostRuntime) -> Result<(), Fail> {
         &ring(alloc)?,
         "root #0\n#0 array [#1, null] {\"\\22n\\5c\"=undefined}\n#1 wrapper \"flex.messaging.io.ArrayList\" #0\n",
     )?;
-    let dictionary = dictionary(alloc)?;
+    let dictionary = graph_of(alloc, DICTIONARY)?;
     assert_eq!(rt; count_nodes(alloc, &dictionary)?, 3);
     shows(
         &rt,

@@ -1,7 +1,7 @@
-use amf_graph::{Builder, Part, Rooted, Shape, Value};
+use crate::graphs::graph_of;
 use amf_sol::{SharedObject, SolVersion};
-use amf_sol_show::{file_has_lowering, file_laws, file_listing_rows, show_file};
-use amf_wire::{Name, is_amf_text};
+use amf_sol_show::{file_has_lowering, show_file};
+use amf_wire::Name;
 use std::alloc::Global;
 use std::test::Fail;
 
@@ -16,36 +16,21 @@ const LISTING3: &[u8] = b">sol \"\\22t\" 3\n\
     #1 array [] {}\n";
 
 /// A holder with an array as "b", and null with the empty name.
-fn holder(alloc: Global) -> Result<Rooted, Fail> {
-    let mut builder = Builder::new(alloc)?;
-    if !is_amf_text(b"") || !is_amf_text(b"b") {
-        Err("no text")?;
-    }
-    let empty = builder.text(b"")?;
-    let name = builder.text(b"b")?;
-    let traits = builder.traits(empty, true, &[])?;
-    let object = builder.open_node(Shape::Object(traits))?;
-    let array = builder.open_node(Shape::Array)?;
-    builder.put(object, Part::Named(name, Value::Node(array)))?;
-    builder.put(object, Part::Named(empty, Value::Null))?;
-    builder.close_node(array);
-    builder.close_node(object);
-    let graph = builder
-        .finish(Value::Node(object))
+const HOLDER: &[u8] = b"\x03\0\x01b\x0A\0\0\0\0\0\0\x05\0\0\x09";
+
+/// The shared object of this version.
+fn file(alloc: Global, version: SolVersion) -> Result<SharedObject, Fail> {
+    let name = Name::from_bytes(alloc, b"\"t")?;
+    let file = SharedObject::new(alloc, name, version, graph_of(alloc, HOLDER)?)
         .ok()
-        .ok_or("an open node")?;
-    Ok(graph)
+        .ok_or("no file")?;
+    Ok(file)
 }
 
 #[test]
 fn lists_both_versions(rt: HostRuntime) -> Result<(), Fail> {
-    file_listing_rows();
-    file_laws();
     for (version, listing) in [(SolVersion::Amf0, LISTING), (SolVersion::Amf3, LISTING3)] {
-        let name = Name::from_bytes(rt.alloc(), b"\"t")?;
-        let file = SharedObject::new(rt.alloc(), name, version, holder(rt.alloc())?)
-            .ok()
-            .ok_or("no file")?;
+        let file = file(rt.alloc(), version)?;
         file_has_lowering(&file);
         let mut out = vec![in rt.alloc(); b'>']?;
         show_file(rt.alloc(), &file, &mut out)?;
