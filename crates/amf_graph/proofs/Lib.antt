@@ -39,4 +39,5 @@ pub mod GraftMade
 pub mod CutSizes
 pub mod Links
 pub mod Pieces
+pub mod ClassRows
 pub mod Contents

@@ -30,5 +30,6 @@ pub mod Copying
 pub mod HaveStandIns
 pub mod KeptTexts
 pub mod TextPool
+pub mod ClassHeads
 pub mod TextRanks
 pub mod Chains

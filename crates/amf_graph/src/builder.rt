@@ -7,7 +7,6 @@ ghost use Rattle.amf_graph.specs.Building.{no_arena, kept_text, kept_traits, kep
 ghost use Rattle.amf_graph.specs.Grafting.{Grafted, IsTooMuch};
 ghost use Rattle.amf_graph.specs.Views.{ShowsTraits};
 
-use crate::class::Class;
 use crate::copying::Copying;
 use crate::limits::{MAX_COUNT, MAX_SEALED, MAX_TRAITS};
 use crate::node::Node;
@@ -126,8 +125,7 @@ impl Builder {
         if place >= MAX_TRAITS as usize || sealed.len() > MAX_SEALED as usize {
             return Err(BuildEnd::Full);
         }
-        let sealed = sealed.to_vec(self.alloc)?;
-        self.store.keep_traits(Class::new(class, dynamic, sealed))?;
+        self.store.keep_traits(class, dynamic, sealed)?;
         Ok(TraitsId(place as u32))
     }
 

@@ -1,6 +1,6 @@
 //! Copies of texts, traits and nodes, under the numbers of the copies.
 
-ghost use Rattle.std.specs.Prelude.{◌≡◌, ◌+◌, ◌<◌, ◌↔◌, ◌⊎◌, length, get_or, IsTrue, IfOk};
+ghost use Rattle.std.specs.Prelude.{◌≡◌, ◌+◌, ◌<◌, ◌↔◌, ◌⊎◌, [], ◌∷◌, ◌++◌, length, get_or, IsTrue, IfOk, OnOk};
 ghost use Rattle.std.specs.List.{AllByRecursion};
 ghost use Rattle.amf_graph.specs.Arena.{Names, no_traits};
 ghost use Rattle.amf_graph.specs.Bodies.{body_head, body_names, body_values, one_or_none};
@@ -11,7 +11,7 @@ ghost use Rattle.amf_graph.specs.Grafting.{IsCut, renamed_value, renamed_values,
 ghost use Rattle.amf_graph.specs.Views.{named, flat};
 
 use crate::body::Body;
-use crate::class::Class;
+use crate::classes::Classes;
 use crate::limits::{MAX_COUNT, MAX_TRAITS};
 use crate::node::Node;
 use crate::number_set::NumberSet;
@@ -184,10 +184,17 @@ impl Copying {
         })
     }
 
-    fn traits(&self, alloc: Global, graph: &Rooted, traits: TraitsId) -> Result<Class, Memory>
+    /// Copies traits behind the copies.
+    fn copy_traits(
+        &self,
+        alloc: Global,
+        graph: &Rooted,
+        traits: TraitsId,
+        copies: &mut Classes,
+    ) -> Result<(), Memory>
         requires there { traits.0 < length graph.now.arena.traits }
         requires counted { TraitsCounted self.now (get_or graph.now.arena.traits traits.0 no_traits) }
-        ensures { IfOk result (λ copy. copy ≡ renamed_traits (renaming_of self.now) (get_or graph.now.arena.traits traits.0 no_traits)) }
+        ensures { OnOk result (copies.new ≡ copies.old ++ renamed_traits (renaming_of self.now) (get_or graph.now.arena.traits traits.0 no_traits) ∷ []) }
     {
         let class = graph.traits(traits);
         let names = class.sealed;
@@ -195,7 +202,8 @@ impl Copying {
         for name in names {
             sealed.push(self.text(*name))?;
         }
-        Ok(Class::new(self.text(class.class), class.dynamic, sealed))
+        copies.push(self.text(class.class), class.dynamic, &sealed)?;
+        Ok(())
     }
 
     fn text_copies(&self, alloc: Global, graph: &Rooted) -> Result<Texts, Memory>
@@ -210,15 +218,15 @@ impl Copying {
         Ok(copies)
     }
 
-    fn traits_copies(&self, alloc: Global, graph: &Rooted) -> Result<Vec<Class>, Memory>
+    fn traits_copies(&self, alloc: Global, graph: &Rooted) -> Result<Classes, Memory>
         requires { AreCounts self.now graph.now.arena }
-        ensures { IfOk result (λ copies. copies.items ≡ copied_traits graph.now.arena (renaming_of self.now) self.now.traits.items) }
+        ensures { IfOk result (λ copies. copies ≡ copied_traits graph.now.arena (renaming_of self.now) self.now.traits.items) }
     {
         graph.is_finished();
-        let mut copies = Vec::new(alloc);
+        let mut copies = Classes::new(alloc);
         for place in 0..self.traits.len() {
             let traits = TraitsId(self.traits.at(place));
-            copies.push(self.traits(alloc, graph, traits)?)?;
+            self.copy_traits(alloc, graph, traits, &mut copies)?;
         }
         Ok(copies)
     }

@@ -5,7 +5,7 @@ mod body;
 mod build_end;
 mod builder;
 mod chains;
-mod class;
+mod classes;
 mod copying;
 mod facts;
 mod grafts;

@@ -3,7 +3,7 @@
 ghost use Rattle.std.specs.Prelude.{◌≡◌, length};
 
 use crate::TextId;
-use crate::class::Class;
+use crate::classes::Classes;
 use crate::node::Node;
 
 /// Marks a text.
@@ -27,11 +27,11 @@ pub(crate) fn mark_pairs(nodes: &[Node], marks: &mut [bool])
 }
 
 /// Marks the names of sealed members.
-pub(crate) fn mark_sealed(classes: &[Class], marks: &mut [bool])
+pub(crate) fn mark_sealed(classes: &Classes, marks: &mut [bool])
     ensures { length marks.new ≡ length marks.old }
 {
-    for class in classes {
-        for name in class.view().sealed {
+    for place in 0..classes.len() {
+        for name in classes.get(place).sealed {
             mark(*name, marks);
         }
     }

@@ -7,11 +7,11 @@ ghost use Rattle.amf_wire.specs.Whole.{IsPatternOf};
 ghost use Rattle.amf_graph.specs.Graph.{IsPattern};
 ghost use Rattle.amf_graph.specs.Bodies.{body_head, body_names, body_values, one_or_none};
 ghost use Rattle.amf_graph.specs.HaveStandIns.{HasStandIn, HasSealed, NodeHasStandIns};
-ghost use Rattle.amf_graph.specs.StandIns.{StandsFor, PairStandsFor, NodeStandsFor, opened_traits, sealed_of, unsealed_of};
+ghost use Rattle.amf_graph.specs.StandIns.{StandsFor, PairStandsFor, NodeStandsFor, sealed_of, unsealed_of};
 ghost use Rattle.amf_graph.specs.Views.{named, flat};
 
 use crate::body::Body;
-use crate::class::Class;
+use crate::classes::Classes;
 use crate::node::Node;
 use crate::{TextId, Value};
 use amf_wire::{Memory, Pattern, pattern_of};
@@ -133,7 +133,7 @@ fn all_pairs(
 fn stand_in_body(
     alloc: Global,
     body: &Body,
-    classes: &[Class],
+    classes: &Classes,
     stand_ins: &[Value],
 ) -> Result<Body, Memory>
     requires sealed { HasSealed classes.now (body_head body.now) (body_values body.now) }
@@ -154,7 +154,7 @@ fn stand_in_body(
             sealed,
             members,
         } => {
-            let class = classes[traits.0 as usize].view();
+            let class = classes.get(traits.0 as usize);
             let pairs = all_pairs(alloc, class.sealed, sealed, members)?;
             Body::Object {
                 traits: *traits,
@@ -182,7 +182,7 @@ fn stand_in_body(
 fn stand_in_node(
     alloc: Global,
     node: &Node,
-    classes: &[Class],
+    classes: &Classes,
     stand_ins: &[Value],
 ) -> Result<Node, Memory>
     requires { NodeHasStandIns classes.now stand_ins.now node.now }
@@ -196,7 +196,7 @@ fn stand_in_node(
 pub(crate) fn stand_in_nodes(
     alloc: Global,
     nodes: &[Node],
-    classes: &[Class],
+    classes: &Classes,
     stand_ins: &[Value],
 ) -> Result<Vec<Node>, Memory>
     requires { AllByRecursion (NodeHasStandIns classes.now stand_ins.now) nodes.now }
@@ -205,17 +205,6 @@ pub(crate) fn stand_in_nodes(
     let mut copies = Vec::new(alloc);
     for node in nodes {
         copies.push(stand_in_node(alloc, node, classes, stand_ins)?)?;
-    }
-    Ok(copies)
-}
-
-/// The classes, each of which takes further members and has no sealed ones.
-pub(crate) fn opened_classes(alloc: Global, classes: &[Class]) -> Result<Vec<Class>, Memory>
-    ensures { IfOk result (λ copies. copies.items ≡ map opened_traits classes.now) }
-{
-    let mut copies = Vec::new(alloc);
-    for class in classes {
-        copies.push(Class::new(class.view().class, true, Vec::new(alloc)))?;
     }
     Ok(copies)
 }

@@ -14,11 +14,11 @@ ghost use Rattle.amf_graph.specs.TextNumbers.{contents_of};
 ghost use Rattle.amf_graph.specs.Bounds.{count_end};
 
 use crate::body::Body;
-use crate::class::Class;
+use crate::classes::Classes;
 use crate::limits::MAX_COMPARED;
 use crate::name_marks::{mark_pairs, mark_sealed};
 use crate::node::{Node, first_open};
-use crate::stand_ins::{opened_classes, stand_in_nodes};
+use crate::stand_ins::stand_in_nodes;
 use crate::texts::Texts;
 use crate::{Leaf, NodeId, NodeKind, NodeView, Part, TextId, TraitsId, TraitsView, Value};
 use amf_wire::Memory;
@@ -31,7 +31,7 @@ use std::marker::Model;
 #[derive(Drop)]
 pub(crate) struct Store {
     texts: Texts,
-    traits: Vec<Class>,
+    traits: Classes,
     nodes: Vec<Node>,
 }
 
@@ -40,7 +40,7 @@ impl Model for Store {
 
     ghost Value = { Arena };
 
-    ghost view = { λ s. record { texts = s.texts; traits = s.traits.items; nodes = s.nodes.items } };
+    ghost view = { λ s. record { texts = s.texts; traits = s.traits; nodes = s.nodes.items } };
 }
 
 impl Store {
@@ -50,7 +50,7 @@ impl Store {
     {
         Store {
             texts: Texts::new(alloc, keys),
-            traits: Vec::new(alloc),
+            traits: Classes::new(alloc),
             nodes: Vec::new(alloc),
         }
     }
@@ -61,13 +61,13 @@ impl Store {
     {
         Store {
             texts: self.texts.none(alloc),
-            traits: Vec::new(alloc),
+            traits: Classes::new(alloc),
             nodes: Vec::new(alloc),
         }
     }
 
-    pub(crate) fn of(texts: Texts, traits: Vec<Class>, nodes: Vec<Node>) -> Store
-        ensures { result ≡ record { texts = texts; traits = traits.items; nodes = nodes.items } }
+    pub(crate) fn of(texts: Texts, traits: Classes, nodes: Vec<Node>) -> Store
+        ensures { result ≡ record { texts = texts; traits = traits; nodes = nodes.items } }
     {
         Store {
             texts,
@@ -81,12 +81,19 @@ impl Store {
         ensures ok { OnOk result (self.new ≡ joined self.old more) }
         ensures err { OnErr result (self.new ≡ self.old) }
     {
-        self.traits.reserve(more.traits.len())?;
+        let traits = self.traits.len();
         self.nodes.reserve(more.nodes.len())?;
-        self.texts.append(&more.texts)?;
-        self.traits.append(&mut more.traits)?;
-        self.nodes.append(&mut more.nodes)?;
-        Ok(())
+        self.traits.append(&more.traits)?;
+        match self.texts.append(&more.texts) {
+            Ok(()) => {
+                self.nodes.append(&mut more.nodes)?;
+                Ok(())
+            }
+            Err(end) => {
+                self.traits.truncate(traits);
+                Err(end)
+            }
+        }
     }
 
     pub(crate) fn text_count(&self) -> usize
@@ -115,11 +122,16 @@ impl Store {
         Ok(())
     }
 
-    pub(crate) fn keep_traits(&mut self, class: Class) -> Result<(), Memory>
-        ensures ok { OnOk result (self.new ≡ kept_traits self.old class) }
+    pub(crate) fn keep_traits(
+        &mut self,
+        class: TextId,
+        dynamic: bool,
+        sealed: &[TextId],
+    ) -> Result<(), Memory>
+        ensures ok { OnOk result (self.new ≡ kept_traits self.old (stored_traits class dynamic sealed.now)) }
         ensures err { OnErr result (self.new ≡ self.old) }
     {
-        self.traits.push(class)?;
+        self.traits.push(class, dynamic, sealed)?;
         Ok(())
     }
 
@@ -221,7 +233,7 @@ impl Store {
         requires { traits.0 < length self.now.traits }
         ensures { ShowsTraits (get_or self.now.traits traits.0 no_traits) result }
     {
-        self.traits[traits.0 as usize].view()
+        self.traits.get(traits.0 as usize)
     }
 
     /// The least place of a node that is open.
@@ -315,7 +327,7 @@ impl Store {
         let nodes = renumbered_nodes(alloc, &self.nodes, order, numbers)?;
         Ok(Store {
             texts: self.texts.copy(alloc)?,
-            traits: copied_traits(alloc, &self.traits)?,
+            traits: self.traits.copy(alloc)?,
             nodes,
         })
     }
@@ -329,20 +341,10 @@ impl Store {
     {
         Ok(Store {
             texts: self.texts.copy(alloc)?,
-            traits: opened_classes(alloc, &self.traits)?,
+            traits: self.traits.opened(alloc)?,
             nodes: stand_in_nodes(alloc, &self.nodes, &self.traits, stand_ins)?,
         })
     }
-}
-
-fn copied_traits(alloc: Global, traits: &[Class]) -> Result<Vec<Class>, Memory>
-    ensures { IfOk result (λ copies. copies.items ≡ traits.now) }
-{
-    let mut copies = Vec::new(alloc);
-    for class in traits {
-        copies.push(class.copy(alloc)?)?;
-    }
-    Ok(copies)
 }
 
 fn renumbered_nodes(

@@ -27,7 +27,7 @@ impl Model for TextPool {
 }
 
 /// Where the text at a place begins: where the one before ends.
-fn start_of(ends: &[usize], place: usize) -> usize
+pub(crate) fn start_of(ends: &[usize], place: usize) -> usize
     requires { place ≤ length ends.now }
     ensures { result ≡ get_or (0 ∷ ends.now) place 0 }
 {

@@ -1,6 +1,6 @@
 -- One traits more.
-use Rattle.std.proofs.Common.{◌≡◌, [], ◌∷◌, ◌++◌, get_or, slice_get, Some, ap, ◌∙◌, subst}
-use Rattle.amf_graph.specs.Arena.{StoredTraits, no_traits}
+use Rattle.std.proofs.Common.{◌≡◌, get_or, slice_get, Some, ◌∙◌, subst}
+use Rattle.amf_graph.specs.Arena.{no_traits}
 use Rattle.amf_graph.specs.Copying.{Plan, renaming_of}
 use Rattle.amf_graph.specs.Grafting.{renamed_traits}
 use Rattle.amf_graph.proofs.Copied.{map_more}
@@ -11,6 +11,5 @@ loop-place-preserved c =
     let a = c.args.graph.now.arena in
     let k = c.loop-place.place in
     let here = subst (λ (w : Plan). slice_get w.traits.items k ≡ Some c.at.result) c.self.view_is c.at.ensures.here in
-    c.in_ok-push.ensures.items
-    ∙ ap (λ (x : StoredTraits). c.loop-place.copies.items ++ x ∷ []) c.in_ok-traits.ensures
-    ∙ map_more (λ t. renamed_traits (renaming_of c.args.self.now) (get_or a.traits t no_traits)) c.args.self.now.traits.items k c.at.result c.loop-place.copies.items here c.loop-place.invariant
+    c.in_ok-copy_traits.ensures
+    ∙ map_more (λ t. renamed_traits (renaming_of c.args.self.now) (get_or a.traits t no_traits)) c.args.self.now.traits.items k c.at.result c.loop-place.copies here c.loop-place.invariant

@@ -5,7 +5,7 @@ use Rattle.amf_graph.specs.declared.value.TextId.{TextId}
 use Rattle.amf_graph.specs.Arena.{StoredTraits}
 use Rattle.amf_graph.specs.Copying.{renaming_of}
 use Rattle.amf_graph.proofs.Copied.{id_at, ids_more}
-use Rattle.amf_graph.proofs.copying.Copying.traits.Goals as goal
+use Rattle.amf_graph.proofs.copying.Copying.copy_traits.Goals as goal
 
 pub text-requires : goal.text-requires
 text-requires c =
