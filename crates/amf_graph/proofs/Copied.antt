@@ -7,7 +7,9 @@ use Rattle.std.proofs.lemmas.Option.{slice_get_within, get_or_from_slice_get}
 use Rattle.amf_graph.specs.declared.value.Value.{Value as Stored}
 use Rattle.amf_graph.specs.declared.value.TextId.{TextId}
 use Rattle.amf_graph.specs.declared.body.Body.{Body}
+use Rattle.amf_graph.specs.declared.held.Held.{Held}
 use Rattle.amf_graph.specs.Bodies.{body_head, body_names, body_values, body_node}
+use Rattle.amf_graph.specs.Held.{held_head, held_names, held_values, held_node}
 use Rattle.amf_graph.specs.Views.{named, flat}
 use Rattle.amf_graph.specs.Grafting.{Renaming, renamed_value, renamed_values, renamed_names, renamed_head, renamed_node}
 use Rattle.amf_graph.proofs.Entries.{flat_push}
@@ -44,8 +46,8 @@ ids_more f xs copies k d y l e h =
     ∙ rw (add-one, take-suc xs k d l, map-append, map-append) refl
 
 -- a node is copied with its head, names and values
-pub body_copied : (r : Renaming) (b copy : Body) → body_head copy ≡ renamed_head r (body_head b) → body_names copy ≡ renamed_names r (body_names b) → body_values copy ≡ renamed_values r (body_values b) → body_node false copy ≡ renamed_node r (body_node false b)
+pub body_copied : (r : Renaming) (h : Held) (copy : Body) → body_head copy ≡ renamed_head r (held_head h) → body_names copy ≡ renamed_names r (held_names h) → body_values copy ≡ renamed_values r (held_values h) → body_node false copy ≡ renamed_node r (held_node false h)
 body_copied r b copy h n v =
     ap (λ z. record { is_open = false; head = z; names = body_names copy; values = body_values copy }) h
-    ∙ ap (λ z. record { is_open = false; head = renamed_head r (body_head b); names = z; values = body_values copy }) n
-    ∙ ap (λ z. record { is_open = false; head = renamed_head r (body_head b); names = renamed_names r (body_names b); values = z }) v
+    ∙ ap (λ z. record { is_open = false; head = renamed_head r (held_head b); names = z; values = body_values copy }) n
+    ∙ ap (λ z. record { is_open = false; head = renamed_head r (held_head b); names = renamed_names r (held_names b); values = z }) v

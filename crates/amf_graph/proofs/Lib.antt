@@ -41,3 +41,7 @@ pub mod Links
 pub mod Pieces
 pub mod ClassRows
 pub mod Contents
+pub mod SlotNodes
+pub mod PoolNodes
+pub mod NodeKept
+pub mod HeldCopies

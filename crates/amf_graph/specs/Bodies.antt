@@ -1,5 +1,5 @@
 -- What is kept of a node, as its model. A device of proofs.
-use Rattle.std.specs.Prelude.{◌≡◌, ℕ, Bool, List, [], ◌∷◌, Option, Some, None, ◌<◌, ◌^◌, FitsSigned}
+use Rattle.std.specs.Prelude.{◌≡◌, ℕ, Bool, List, [], length, ◌<◌, ◌^◌, FitsSigned}
 use Rattle.std.specs.List.{AllByRecursion}
 use Rattle.std.specs.Int.{w32}
 use Rattle.amf_graph.specs.declared.value.Value.{Value as Stored}
@@ -10,32 +10,23 @@ use Rattle.amf_graph.specs.declared.part.Part.TheVariants.{Item, Named, Entry}
 use Rattle.amf_graph.specs.Graph.{IsPattern}
 use Rattle.amf_graph.specs.Arena.{StoredHead, date, array, object, wrapper, bytes, ints, uints, doubles, values, dictionary, StoredNode}
 use Rattle.amf_graph.specs.Building.{leaf_head}
+use Rattle.amf_graph.specs.Held.{form_head}
 use Rattle.amf_graph.specs.Views.{named, flat}
 
 abbrev pub body_head : Body → StoredHead
 body_head (body.Leaf l) = leaf_head l
-body_head (body.Array vs ps) = array
-body_head (body.Object t vs ps) = object t.0
-body_head (body.Wrapper c v) = wrapper c
-body_head (body.Values f x vs) = values f x.0
+body_head (body.Parts f vs ps) = form_head f
 body_head (body.Dictionary f es) = dictionary f
 
 abbrev pub body_names : Body → List (ℕ × Stored)
-body_names (body.Array vs ps) = named ps.items
-body_names (body.Object t vs ps) = named ps.items
-body_names _ = []
-
-abbrev pub one_or_none : Option Stored → List Stored
-one_or_none None = []
-one_or_none (Some v) = v ∷ []
+body_names (body.Leaf l) = []
+body_names (body.Parts s vs ps) = named ps.items
+body_names (body.Dictionary f es) = []
 
 abbrev pub body_values : Body → List Stored
-body_values (body.Array vs ps) = vs.items
-body_values (body.Object t vs ps) = vs.items
-body_values (body.Wrapper c v) = one_or_none v
-body_values (body.Values f x vs) = vs.items
+body_values (body.Leaf l) = []
+body_values (body.Parts s vs ps) = vs.items
 body_values (body.Dictionary f es) = flat es.items
-body_values _ = []
 
 abbrev pub body_node : Bool → Body → StoredNode
 body_node is_open b = record { is_open = is_open; head = body_head b; names = body_names b; values = body_values b }
@@ -71,3 +62,11 @@ HasRange (ints f ns) = AllByRecursion (FitsSigned w32) ns
 HasRange (uints f ns) = AllByRecursion (λ n. n < 2 ^ 32) ns
 HasRange (doubles f ns) = AllByRecursion IsPattern ns
 HasRange _ = Unit {0}
+
+-- a closed node of this kind has so many parts
+abbrev pub HasParts : StoredHead → List (ℕ × Stored) → List Stored → Type 0
+HasParts array ps vs = Unit {0}
+HasParts (object t) ps vs = Unit {0}
+HasParts (wrapper c) ps vs = (ps ≡ []) × (length vs ≡ 1)
+HasParts (values f x) ps vs = ps ≡ []
+HasParts h ps vs = Unit {0}

@@ -33,3 +33,7 @@ pub mod TextPool
 pub mod ClassHeads
 pub mod TextRanks
 pub mod Chains
+pub mod Held
+pub mod Slots
+pub mod Pools
+pub mod NodeRows

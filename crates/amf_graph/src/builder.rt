@@ -7,9 +7,9 @@ ghost use Rattle.amf_graph.specs.Building.{no_arena, kept_text, kept_traits, kep
 ghost use Rattle.amf_graph.specs.Grafting.{Grafted, IsTooMuch};
 ghost use Rattle.amf_graph.specs.Views.{ShowsTraits};
 
+use crate::body::Body;
 use crate::copying::Copying;
 use crate::limits::{MAX_COUNT, MAX_SEALED, MAX_TRAITS};
-use crate::node::Node;
 use crate::store::Store;
 use crate::text_ranks::TextRanks;
 use crate::{
@@ -145,7 +145,7 @@ impl Builder {
             return Err(BuildEnd::Full);
         }
         leaf.numbers_fit();
-        self.store.keep_node(Node::of_leaf(leaf))?;
+        self.store.keep_node(Body::Leaf(leaf))?;
         Ok(NodeId(place as u32))
     }
 
@@ -164,7 +164,7 @@ impl Builder {
         if place >= MAX_COUNT as usize {
             return Err(BuildEnd::Full);
         }
-        self.store.keep_node(Node::of_shape(self.alloc, shape))?;
+        self.store.open_node(self.alloc, shape)?;
         Ok(NodeId(place as u32))
     }
 
@@ -188,7 +188,7 @@ impl Builder {
         Ok(())
     }
 
-    /// Closes a node that has all of its parts. It takes no memory.
+    /// Closes a node that has all of its parts. It cannot fail: where there is no memory, its parts stay where they are.
     pub fn close_node(&mut self, node: NodeId)
         requires there { node.0 < length self.old.nodes }
         requires opened { (stored_at self.old node.0).is_open ≡ true }
@@ -218,7 +218,8 @@ impl Builder {
             return Err(BuildEnd::Full);
         }
         let copies = copying.values(self.alloc, values)?;
-        self.store.append(copying.copies(self.alloc, graph)?)?;
+        let more = copying.copies(self.alloc, graph)?;
+        self.store.append(self.alloc, &more)?;
         Ok(copies)
     }
 
@@ -274,8 +275,10 @@ impl Builder {
                 builder: self,
             }),
             None => {
-                let ranks = TextRanks::of(self.alloc, &self.store);
-                Ok(Rooted::new(self.store, root, ranks))
+                let mut store = self.store;
+                store.drop_spare();
+                let ranks = TextRanks::of(self.alloc, &store);
+                Ok(Rooted::new(store, root, ranks))
             }
         }
     }

@@ -3,17 +3,19 @@
 ghost use Rattle.std.specs.Prelude.{◌≡◌, ◌+◌, ◌<◌, ◌↔◌, ◌⊎◌, [], ◌∷◌, ◌++◌, length, get_or, IsTrue, IfOk, OnOk};
 ghost use Rattle.std.specs.List.{AllByRecursion};
 ghost use Rattle.amf_graph.specs.Arena.{Names, no_traits};
-ghost use Rattle.amf_graph.specs.Bodies.{body_head, body_names, body_values, one_or_none};
+ghost use Rattle.amf_graph.specs.Bodies.{body_head, body_names, body_values};
 ghost use Rattle.amf_graph.specs.Bounds.{IsWithinBounds};
 ghost use Rattle.amf_graph.specs.Building.{leaf_head};
+ghost use Rattle.amf_graph.specs.Held.{form_head, held_head, held_names, held_values};
 ghost use Rattle.amf_graph.specs.Copying.{cut_of, renaming_of, copies_of, ValueCounted, PairCounted, HeadCounted, TraitsCounted, AreCounts, IsBehind};
 ghost use Rattle.amf_graph.specs.Grafting.{IsCut, renamed_value, renamed_values, renamed_names, renamed_head, renamed_traits, copied_texts, copied_traits, copied_nodes};
 ghost use Rattle.amf_graph.specs.Views.{named, flat};
 
 use crate::body::Body;
 use crate::classes::Classes;
+use crate::held::{Form, Held};
 use crate::limits::{MAX_COUNT, MAX_TRAITS};
-use crate::node::Node;
+use crate::nodes::Nodes;
 use crate::number_set::NumberSet;
 use crate::reach::reached;
 use crate::store::Store;
@@ -80,16 +82,6 @@ impl Copying {
         }
     }
 
-    fn option(&self, value: Option<Value>) -> Option<Value>
-        requires { AllByRecursion (ValueCounted self.now) (one_or_none value) }
-        ensures { one_or_none result ≡ renamed_values (renaming_of self.now) (one_or_none value) }
-    {
-        match value {
-            Some(value) => Some(self.value(value)),
-            None => None,
-        }
-    }
-
     /// Copies of the values.
     pub(crate) fn values(&self, alloc: Global, values: &[Value]) -> Result<Vec<Value>, Memory>
         requires { AllByRecursion (ValueCounted self.now) values.now }
@@ -145,42 +137,34 @@ impl Copying {
         }
     }
 
-    fn body(&self, alloc: Global, body: &Body) -> Result<Body, Memory>
-        requires head { HeadCounted self.now (body_head body.now) }
-        requires names { AllByRecursion (PairCounted self.now) (body_names body.now) }
-        requires values { AllByRecursion (ValueCounted self.now) (body_values body.now) }
-        ensures head { IfOk result (λ copy. body_head copy ≡ renamed_head (renaming_of self.now) (body_head body.now)) }
-        ensures names { IfOk result (λ copy. body_names copy ≡ renamed_names (renaming_of self.now) (body_names body.now)) }
-        ensures values { IfOk result (λ copy. body_values copy ≡ renamed_values (renaming_of self.now) (body_values body.now)) }
+    fn form(&self, form: Form) -> Form
+        requires { HeadCounted self.now (form_head form) }
+        ensures { form_head result ≡ renamed_head (renaming_of self.now) (form_head form) }
     {
-        Ok(match body {
-            Body::Leaf(leaf) => Body::Leaf(self.leaf(alloc, leaf)?),
-            Body::Array { items, names } => Body::Array {
-                items: self.values(alloc, items)?,
-                names: self.pairs(alloc, names)?,
-            },
-            Body::Object {
-                traits,
-                sealed,
-                members,
-            } => Body::Object {
-                traits: self.class(*traits),
-                sealed: self.values(alloc, sealed)?,
-                members: self.pairs(alloc, members)?,
-            },
-            Body::Wrapper { class, value } => Body::Wrapper {
-                class: *class,
-                value: self.option(*value),
-            },
-            Body::Values { fixed, of, items } => Body::Values {
-                fixed: *fixed,
-                of: self.text(*of),
-                items: self.values(alloc, items)?,
-            },
-            Body::Dictionary { weak, entries } => Body::Dictionary {
-                weak: *weak,
-                entries: self.entries(alloc, entries)?,
-            },
+        match form {
+            Form::Object(traits) => Form::Object(self.class(traits)),
+            Form::Values(fixed, of) => Form::Values(fixed, self.text(of)),
+            _ => form,
+        }
+    }
+
+    fn body(&self, alloc: Global, held: Held<'_>) -> Result<Body, Memory>
+        requires head { HeadCounted self.now (held_head held) }
+        requires names { AllByRecursion (PairCounted self.now) (held_names held) }
+        requires values { AllByRecursion (ValueCounted self.now) (held_values held) }
+        ensures head { IfOk result (λ copy. body_head copy ≡ renamed_head (renaming_of self.now) (held_head held.entry)) }
+        ensures names { IfOk result (λ copy. body_names copy ≡ renamed_names (renaming_of self.now) (held_names held.entry)) }
+        ensures values { IfOk result (λ copy. body_values copy ≡ renamed_values (renaming_of self.now) (held_values held.entry)) }
+    {
+        Ok(match held {
+            Held::Leaf(leaf) => Body::Leaf(self.leaf(alloc, leaf)?),
+            Held::Parts(form, values, names) => {
+                let values = self.values(alloc, values)?;
+                Body::Parts(self.form(form), values, self.pairs(alloc, names)?)
+            }
+            Held::Dictionary(weak, entries) => {
+                Body::Dictionary(weak, self.entries(alloc, entries)?)
+            }
         })
     }
 
@@ -231,15 +215,15 @@ impl Copying {
         Ok(copies)
     }
 
-    fn node_copies(&self, alloc: Global, graph: &Rooted) -> Result<Vec<Node>, Memory>
+    fn node_copies(&self, alloc: Global, graph: &Rooted) -> Result<Nodes, Memory>
         requires { AreCounts self.now graph.now.arena }
-        ensures { IfOk result (λ copies. copies.items ≡ copied_nodes graph.now.arena (renaming_of self.now) self.now.nodes.items) }
+        ensures { IfOk result (λ copies. copies ≡ copied_nodes graph.now.arena (renaming_of self.now) self.now.nodes.items) }
     {
         graph.is_finished();
-        let mut copies = Vec::new(alloc);
+        let mut copies = Nodes::new(alloc);
         for place in 0..self.nodes.len() {
-            let body = graph.body(NodeId(self.nodes.at(place)));
-            copies.push(Node::of_body(false, self.body(alloc, body)?))?;
+            let held = graph.held(NodeId(self.nodes.at(place)));
+            copies.keep(self.body(alloc, held)?)?;
         }
         Ok(copies)
     }

@@ -2,9 +2,10 @@
 
 ghost use Rattle.std.specs.Prelude.{◌≡◌, length};
 
-use crate::TextId;
 use crate::classes::Classes;
-use crate::node::Node;
+use crate::held::Held;
+use crate::nodes::Nodes;
+use crate::{TextId, Value};
 
 /// Marks a text.
 fn mark(text: TextId, marks: &mut [bool])
@@ -15,13 +16,22 @@ fn mark(text: TextId, marks: &mut [bool])
     }
 }
 
-/// Marks the names of the pairs of nodes.
-pub(crate) fn mark_pairs(nodes: &[Node], marks: &mut [bool])
+/// Marks the names of pairs.
+fn mark_names(pairs: &[(TextId, Value)], marks: &mut [bool])
     ensures { length marks.new ≡ length marks.old }
 {
-    for node in nodes {
-        for (name, _) in node.names() {
-            mark(*name, marks);
+    for (name, _) in pairs {
+        mark(*name, marks);
+    }
+}
+
+/// Marks the names of the pairs of nodes.
+pub(crate) fn mark_pairs(nodes: &Nodes, marks: &mut [bool])
+    ensures { length marks.new ≡ length marks.old }
+{
+    for place in 0..nodes.len() {
+        if let Held::Parts(_, _, names) = nodes.held(place) {
+            mark_names(names, marks);
         }
     }
 }

@@ -1,6 +1,5 @@
 ghost use Rattle.std.specs.Prelude.{◌≡◌, ℕ, ◌<◌, length, IfOk};
 ghost use Rattle.std.specs.List.{AllByRecursion};
-ghost use Rattle.amf_graph.specs.Bodies.{one_or_none};
 ghost use Rattle.amf_graph.specs.Order.{IsDistinct};
 ghost use Rattle.amf_graph.specs.Views.{named, flat};
 ghost use Rattle.amf_graph.specs.Renumbered.{numbers_of, place_of, renumbered_value, renumbered_values, renumbered_names, number_in, HasNumber};
@@ -37,17 +36,6 @@ pub(crate) fn renumbered(value: Value, numbers: &[u32]) -> Value
     match value {
         Value::Node(node) => Value::Node(NodeId(numbers[node.0 as usize])),
         _ => value,
-    }
-}
-
-/// The value, if there is one, a node under its number.
-pub(crate) fn renumbered_option(value: Option<Value>, numbers: &[u32]) -> Option<Value>
-    requires { AllByRecursion (HasNumber numbers.now) (one_or_none value) }
-    ensures { one_or_none result ≡ renumbered_values (number_in numbers.now) (one_or_none value) }
-{
-    match value {
-        Some(value) => Some(renumbered(value, numbers)),
-        None => None,
     }
 }
 

@@ -3,16 +3,16 @@ ghost use Rattle.std.specs.Cmp.Lexicographic.{slice_cmp};
 ghost use Rattle.std.specs.List.{AllByRecursion};
 ghost use Rattle.std.specs.Ordering.{nat_cmp};
 ghost use Rattle.amf_graph.specs.Arena.{IsFinished, Names, text_at, no_traits};
-ghost use Rattle.amf_graph.specs.Bodies.{body_node};
 ghost use Rattle.amf_graph.specs.Bounds.{IsWithinBounds, count_end};
 ghost use Rattle.amf_graph.specs.Building.{no_arena, stored_at, kind_of};
+ghost use Rattle.amf_graph.specs.Held.{held_node};
 ghost use Rattle.amf_graph.specs.Renumbered.{numbers_of, renumbered, IsSelfContained};
 ghost use Rattle.amf_graph.specs.StandIns.{GraphStandsFor};
 ghost use Rattle.amf_graph.specs.TextNumbers.{contents_of};
 ghost use Rattle.amf_graph.specs.TextRanks.{AreRanks};
 ghost use Rattle.amf_graph.specs.Views.{Shows, ShowsTraits};
 
-use crate::body::Body;
+use crate::held::Held;
 use crate::renumber::{places_by_node, renumbered};
 use crate::stand_ins::stand_in;
 use crate::store::Store;
@@ -103,12 +103,12 @@ impl Rooted {
         self.store.traits_count() as u32
     }
 
-    /// A node, as it is kept.
-    pub(crate) fn body(&self, node: NodeId) -> &Body
+    /// What a node is and holds, as it is kept.
+    pub(crate) fn held(&self, node: NodeId) -> Held<'_>
         requires { node.0 < length self.now.arena.nodes }
-        ensures { stored_at self.now.arena node.0 ≡ body_node false result.now }
+        ensures { stored_at self.now.arena node.0 ≡ held_node false result }
     {
-        self.store.body(node)
+        self.store.held(node)
     }
 
     /// The kind of a node, which has to be there.

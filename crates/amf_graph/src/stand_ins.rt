@@ -1,18 +1,20 @@
 //! Copies of nodes with doubles for integers, members for sealed values, and for each node the value that stands in for it.
 
-ghost use Rattle.std.specs.Prelude.{◌≡◌, ◌<◌, ◌++◌, [], length, map, IfOk};
+ghost use Rattle.std.specs.Prelude.{◌≡◌, ◌<◌, ◌++◌, [], false, length, map, IfOk};
 ghost use Rattle.std.specs.List.{AllByRecursion, AllZip, zip};
 ghost use Rattle.amf_wire.specs.Integer.{IsInteger};
 ghost use Rattle.amf_wire.specs.Whole.{IsPatternOf};
 ghost use Rattle.amf_graph.specs.Graph.{IsPattern};
-ghost use Rattle.amf_graph.specs.Bodies.{body_head, body_names, body_values, one_or_none};
+ghost use Rattle.amf_graph.specs.Bodies.{body_head, body_names, body_values};
+ghost use Rattle.amf_graph.specs.Held.{form_head, held_head, held_names, held_values};
 ghost use Rattle.amf_graph.specs.HaveStandIns.{HasStandIn, HasSealed, NodeHasStandIns};
 ghost use Rattle.amf_graph.specs.StandIns.{StandsFor, PairStandsFor, NodeStandsFor, sealed_of, unsealed_of};
 ghost use Rattle.amf_graph.specs.Views.{named, flat};
 
 use crate::body::Body;
 use crate::classes::Classes;
-use crate::node::Node;
+use crate::held::{Form, Held};
+use crate::nodes::Nodes;
 use crate::{TextId, Value};
 use amf_wire::{Memory, Pattern, pattern_of};
 use std::alloc::Global;
@@ -38,17 +40,6 @@ pub(crate) fn stand_in(value: Value, stand_ins: &[Value]) -> Value
         Value::Integer(integer) => Value::Double(double_of(integer)),
         Value::Node(node) => stand_ins[node.0 as usize],
         _ => value,
-    }
-}
-
-/// What stands for the value, if there is one.
-fn stand_in_option(value: Option<Value>, stand_ins: &[Value]) -> Option<Value>
-    requires { AllByRecursion (HasStandIn stand_ins.now) (one_or_none value) }
-    ensures { AllZip (StandsFor stand_ins.now) (one_or_none value) (one_or_none result) }
-{
-    match value {
-        Some(value) => Some(stand_in(value, stand_ins)),
-        None => None,
     }
 }
 
@@ -129,82 +120,73 @@ fn all_pairs(
     Ok(pairs)
 }
 
-/// What a node is and holds, of classes that are no longer sealed.
-fn stand_in_body(
+/// The values and the pairs of a node of this form, of classes that are no longer sealed.
+fn stand_in_parts(
     alloc: Global,
-    body: &Body,
+    form: Form,
+    values: &[Value],
+    names: &[(TextId, Value)],
     classes: &Classes,
     stand_ins: &[Value],
 ) -> Result<Body, Memory>
-    requires sealed { HasSealed classes.now (body_head body.now) (body_values body.now) }
-    requires names { AllByRecursion (λ p. HasStandIn stand_ins.now p.1) (body_names body.now) }
-    requires values { AllByRecursion (HasStandIn stand_ins.now) (body_values body.now) }
-    ensures head { IfOk result (λ copy. body_head copy ≡ body_head body.now) }
-    ensures names { IfOk result (λ copy. AllZip (PairStandsFor stand_ins.now) (zip (sealed_of classes.now (body_head body.now)) (body_values body.now) ++ body_names body.now) (body_names copy)) }
-    ensures values { IfOk result (λ copy. AllZip (StandsFor stand_ins.now) (unsealed_of (body_head body.now) (body_values body.now)) (body_values copy)) }
+    requires sealed { HasSealed classes.now (form_head form) values.now }
+    requires names { AllByRecursion (λ p. HasStandIn stand_ins.now p.1) (named names.now) }
+    requires values { AllByRecursion (HasStandIn stand_ins.now) values.now }
+    ensures head { IfOk result (λ copy. body_head copy ≡ form_head form) }
+    ensures names { IfOk result (λ copy. AllZip (PairStandsFor stand_ins.now) (zip (sealed_of classes.now (form_head form)) values.now ++ named names.now) (body_names copy)) }
+    ensures values { IfOk result (λ copy. AllZip (StandsFor stand_ins.now) (unsealed_of (form_head form) values.now) (body_values copy)) }
 {
-    Ok(match body {
-        Body::Leaf(leaf) => Body::Leaf(leaf.copy(alloc)?),
-        Body::Array { items, names } => Body::Array {
-            items: stand_in_values(alloc, items, stand_ins)?,
-            names: stand_in_pairs(alloc, names, stand_ins)?,
-        },
-        Body::Object {
-            traits,
-            sealed,
-            members,
-        } => {
-            let class = classes.get(traits.0 as usize);
-            let pairs = all_pairs(alloc, class.sealed, sealed, members)?;
-            Body::Object {
-                traits: *traits,
-                sealed: Vec::new(alloc),
-                members: stand_in_pairs(alloc, &pairs, stand_ins)?,
-            }
-        }
-        Body::Wrapper { class, value } => Body::Wrapper {
-            class: *class,
-            value: stand_in_option(*value, stand_ins),
-        },
-        Body::Values { fixed, of, items } => Body::Values {
-            fixed: *fixed,
-            of: *of,
-            items: stand_in_values(alloc, items, stand_ins)?,
-        },
-        Body::Dictionary { weak, entries } => Body::Dictionary {
-            weak: *weak,
-            entries: stand_in_entries(alloc, entries, stand_ins)?,
-        },
-    })
+    if let Form::Object(traits) = form {
+        let class = classes.get(traits.0 as usize);
+        let pairs = all_pairs(alloc, class.sealed, values, names)?;
+        let members = stand_in_pairs(alloc, &pairs, stand_ins)?;
+        return Ok(Body::Parts(form, Vec::new(alloc), members));
+    }
+    let values = stand_in_values(alloc, values, stand_ins)?;
+    Ok(Body::Parts(form, values, stand_in_pairs(alloc, names, stand_ins)?))
 }
 
-/// A node of a class that is no longer sealed.
-fn stand_in_node(
+/// What a node is and holds, of classes that are no longer sealed.
+fn stand_in_body(
     alloc: Global,
-    node: &Node,
+    held: Held<'_>,
     classes: &Classes,
     stand_ins: &[Value],
-) -> Result<Node, Memory>
-    requires { NodeHasStandIns classes.now stand_ins.now node.now }
-    ensures { IfOk result (λ copy. NodeStandsFor classes.now stand_ins.now node.now copy) }
+) -> Result<Body, Memory>
+    requires sealed { HasSealed classes.now (held_head held) (held_values held) }
+    requires names { AllByRecursion (λ p. HasStandIn stand_ins.now p.1) (held_names held) }
+    requires values { AllByRecursion (HasStandIn stand_ins.now) (held_values held) }
+    ensures head { IfOk result (λ copy. body_head copy ≡ held_head held.entry) }
+    ensures names { IfOk result (λ copy. AllZip (PairStandsFor stand_ins.now) (zip (sealed_of classes.now (held_head held.entry)) (held_values held.entry) ++ (held_names held.entry)) (body_names copy)) }
+    ensures values { IfOk result (λ copy. AllZip (StandsFor stand_ins.now) (unsealed_of (held_head held.entry) (held_values held.entry)) (body_values copy)) }
 {
-    let body = stand_in_body(alloc, node.body(), classes, stand_ins)?;
-    Ok(Node::of_body(node.is_open(), body))
+    match held {
+        Held::Leaf(leaf) => Ok(Body::Leaf(leaf.copy(alloc)?)),
+        Held::Parts(form, values, names) => {
+            stand_in_parts(alloc, form, values, names, classes, stand_ins)
+        }
+        Held::Dictionary(weak, entries) => {
+            let entries = stand_in_entries(alloc, entries, stand_ins)?;
+            Ok(Body::Dictionary(weak, entries))
+        }
+    }
 }
 
-/// The nodes, each under its number.
+/// The nodes, of classes that are no longer sealed. All are closed.
 pub(crate) fn stand_in_nodes(
     alloc: Global,
-    nodes: &[Node],
+    nodes: &Nodes,
     classes: &Classes,
     stand_ins: &[Value],
-) -> Result<Vec<Node>, Memory>
-    requires { AllByRecursion (NodeHasStandIns classes.now stand_ins.now) nodes.now }
-    ensures { IfOk result (λ copies. AllZip (NodeStandsFor classes.now stand_ins.now) nodes.now copies.items) }
+) -> Result<Nodes, Memory>
+    requires stand_ins { AllByRecursion (NodeHasStandIns classes.now stand_ins.now) nodes.now }
+    requires closed { AllByRecursion (λ n. n.is_open ≡ false) nodes.now }
+    ensures { IfOk result (λ copies. AllZip (NodeStandsFor classes.now stand_ins.now) nodes.now copies) }
 {
-    let mut copies = Vec::new(alloc);
-    for node in nodes {
-        copies.push(stand_in_node(alloc, node, classes, stand_ins)?)?;
+    let mut copies = Nodes::new(alloc);
+    for place in 0..nodes.len() {
+        let held = nodes.held(place);
+        copies.keep(stand_in_body(alloc, held, classes, stand_ins)?)?;
     }
     Ok(copies)
 }

@@ -1,26 +1,28 @@
-ghost use Rattle.std.specs.Prelude.{[], ◌≡◌, ◌<◌, ◌≤◌, length, map, slice_get, get_or, nat_lt, false, IfOk, OnOk, OnErr, IsErrOf, MatchOption, Some};
+ghost use Rattle.std.specs.Prelude.{[], ◌≡◌, ◌<◌, ◌≤◌, length, map, slice_get, get_or, nat_lt, true, false, IfOk, OnOk, OnErr, IsErrOf, MatchOption, Some};
 ghost use Rattle.std.specs.List.{AllByRecursion, AllZip, list_any};
 ghost use Rattle.std.specs.Cmp.Lexicographic.{slice_cmp};
 ghost use Rattle.std.specs.Ordering.{nat_cmp};
-ghost use Rattle.amf_graph.specs.Arena.{text_at, no_traits, HeadNames, IsNodeIn, IsBuilt};
-ghost use Rattle.amf_graph.specs.Building.{no_arena, no_stored, kept_text, kept_traits, kept_node, stored_traits, stored_at, changed, more_part, shut, closed, leaf_head, kind_of, size_of, IsFirstOpen};
-ghost use Rattle.amf_graph.specs.Bodies.{TakesPart, body_node};
+ghost use Rattle.amf_graph.specs.Arena.{Arena, text_at, no_traits, HeadNames, IsNodeIn, IsFinished};
+ghost use Rattle.amf_graph.specs.Building.{no_arena, no_stored, kept_text, kept_traits, kept_node, stored_traits, stored_at, changed, more_part, shut, closed, leaf_head, shape_head, begun, kind_of, size_of, IsFirstOpen};
+ghost use Rattle.amf_graph.specs.Bodies.{TakesPart, body_node, HasParts};
 ghost use Rattle.amf_graph.specs.Copying.{joined};
 ghost use Rattle.amf_graph.specs.Renumbered.{numbers_of, renumbered_node, renumbered_arena, number_in, HaveNumbers};
+ghost use Rattle.amf_graph.specs.Held.{form_head, held_node};
 ghost use Rattle.amf_graph.specs.HaveStandIns.{NodeHasStandIns};
 ghost use Rattle.amf_graph.specs.StandIns.{NodeStandsFor, opened_traits};
-ghost use Rattle.amf_graph.specs.Views.{Shows, ShowsTraits};
+ghost use Rattle.amf_graph.specs.Views.{Shows, ShowsTraits, named};
 ghost use Rattle.amf_graph.specs.TextNumbers.{contents_of};
 ghost use Rattle.amf_graph.specs.Bounds.{count_end};
 
-use crate::body::Body;
+use crate::body::{Body, renumbered_body};
 use crate::classes::Classes;
+use crate::held::{Form, Held};
 use crate::limits::MAX_COMPARED;
 use crate::name_marks::{mark_pairs, mark_sealed};
-use crate::node::{Node, first_open};
+use crate::nodes::Nodes;
 use crate::stand_ins::stand_in_nodes;
 use crate::texts::Texts;
-use crate::{Leaf, NodeId, NodeKind, NodeView, Part, TextId, TraitsId, TraitsView, Value};
+use crate::{Leaf, NodeId, NodeKind, NodeView, Part, Shape, TextId, TraitsId, TraitsView, Value};
 use amf_wire::Memory;
 use std::alloc::Global;
 use std::cmp::Ordering;
@@ -32,7 +34,7 @@ use std::marker::Model;
 pub(crate) struct Store {
     texts: Texts,
     traits: Classes,
-    nodes: Vec<Node>,
+    nodes: Nodes,
 }
 
 impl Model for Store {
@@ -40,7 +42,7 @@ impl Model for Store {
 
     ghost Value = { Arena };
 
-    ghost view = { λ s. record { texts = s.texts; traits = s.traits; nodes = s.nodes.items } };
+    ghost view = { λ s. record { texts = s.texts; traits = s.traits; nodes = s.nodes } };
 }
 
 impl Store {
@@ -51,7 +53,7 @@ impl Store {
         Store {
             texts: Texts::new(alloc, keys),
             traits: Classes::new(alloc),
-            nodes: Vec::new(alloc),
+            nodes: Nodes::new(alloc),
         }
     }
 
@@ -62,12 +64,12 @@ impl Store {
         Store {
             texts: self.texts.none(alloc),
             traits: Classes::new(alloc),
-            nodes: Vec::new(alloc),
+            nodes: Nodes::new(alloc),
         }
     }
 
-    pub(crate) fn of(texts: Texts, traits: Classes, nodes: Vec<Node>) -> Store
-        ensures { result ≡ record { texts = texts; traits = traits; nodes = nodes.items } }
+    pub(crate) fn of(texts: Texts, traits: Classes, nodes: Nodes) -> Store
+        ensures { result ≡ record { texts = texts; traits = traits; nodes = nodes } }
     {
         Store {
             texts,
@@ -76,24 +78,25 @@ impl Store {
         }
     }
 
-    /// Keeps what another store has, behind what is there.
-    pub(crate) fn append(&mut self, mut more: Store) -> Result<(), Memory>
-        ensures ok { OnOk result (self.new ≡ joined self.old more) }
+    /// Keeps what another store has, behind what is there. Its nodes are closed.
+    pub(crate) fn append(&mut self, alloc: Global, more: &Store) -> Result<(), Memory>
+        requires { AllByRecursion (λ n. n.is_open ≡ false) more.now.nodes }
+        ensures ok { OnOk result (self.new ≡ joined self.old more.now) }
         ensures err { OnErr result (self.new ≡ self.old) }
     {
         let traits = self.traits.len();
-        self.nodes.reserve(more.nodes.len())?;
-        self.traits.append(&more.traits)?;
-        match self.texts.append(&more.texts) {
-            Ok(()) => {
-                self.nodes.append(&mut more.nodes)?;
-                Ok(())
-            }
-            Err(end) => {
-                self.traits.truncate(traits);
-                Err(end)
-            }
+        let nodes = self.nodes.len();
+        self.nodes.append(alloc, &more.nodes)?;
+        if let Err(end) = self.traits.append(&more.traits) {
+            self.nodes.truncate(nodes);
+            return Err(end);
         }
+        if let Err(end) = self.texts.append(&more.texts) {
+            self.nodes.truncate(nodes);
+            self.traits.truncate(traits);
+            return Err(end);
+        }
+        Ok(())
     }
 
     pub(crate) fn text_count(&self) -> usize
@@ -135,44 +138,62 @@ impl Store {
         Ok(())
     }
 
-    pub(crate) fn keep_node(&mut self, node: Node) -> Result<(), Memory>
-        ensures ok { OnOk result (self.new ≡ kept_node self.old node) }
+    /// Keeps a node that is closed.
+    pub(crate) fn keep_node(&mut self, body: Body) -> Result<(), Memory>
+        ensures ok { OnOk result (self.new ≡ kept_node self.old (body_node false body)) }
         ensures err { OnErr result (self.new ≡ self.old) }
     {
-        self.nodes.push(node)?;
-        Ok(())
+        self.nodes.keep(body)
     }
 
-    /// How many items, names and parts the node has together.
+    /// Keeps a node that is open and has no parts yet.
+    pub(crate) fn open_node(&mut self, alloc: Global, shape: Shape) -> Result<(), Memory>
+        ensures ok { OnOk result (self.new ≡ kept_node self.old (begun (shape_head shape))) }
+        ensures err { OnErr result (self.new ≡ self.old) }
+    {
+        self.nodes.open(alloc, shape)
+    }
+
+    /// How many items, names and parts a node that is open has together.
     pub(crate) fn size(&self, node: NodeId) -> usize
         requires there { node.0 < length self.now.nodes }
+        requires opened { (stored_at self.now node.0).is_open ≡ true }
         requires within { size_of (stored_at self.now node.0) < count_end }
         ensures { result ≡ size_of (stored_at self.now node.0) }
     {
-        self.nodes[node.0 as usize].size()
+        self.nodes.size(node.0 as usize)
     }
 
     pub(crate) fn put(&mut self, node: NodeId, part: Part) -> Result<(), Memory>
         requires there { node.0 < length self.old.nodes }
+        requires opened { (stored_at self.old node.0).is_open ≡ true }
         requires takes { TakesPart (stored_at self.old node.0) part }
         ensures ok { OnOk result (self.new ≡ changed (more_part part) node.0 self.old) }
         ensures err { OnErr result (self.new ≡ self.old) }
     {
-        self.nodes[node.0 as usize].put(part)
+        self.nodes.put(node.0 as usize, part)
     }
 
     pub(crate) fn close(&mut self, node: NodeId)
-        requires { node.0 < length self.old.nodes }
+        requires there { node.0 < length self.old.nodes }
+        requires opened { (stored_at self.old node.0).is_open ≡ true }
         ensures { self.new ≡ changed shut node.0 self.old }
     {
-        self.nodes[node.0 as usize].close();
+        self.nodes.close(node.0 as usize);
+    }
+
+    /// Lets the room go that open nodes would use.
+    pub(crate) fn drop_spare(&mut self)
+        ensures { self.new ≡ self.old }
+    {
+        self.nodes.drop_spare();
     }
 
     pub(crate) fn kind(&self, node: NodeId) -> NodeKind
         requires { node.0 < length self.now.nodes }
         ensures { result ≡ kind_of (stored_at self.now node.0).head }
     {
-        self.nodes[node.0 as usize].kind()
+        self.nodes.kind(node.0 as usize)
     }
 
     pub(crate) fn text(&self, text: TextId) -> &[u8]
@@ -240,16 +261,16 @@ impl Store {
     pub(crate) fn first_open(&self) -> Option<usize>
         ensures { MatchOption result (AllByRecursion (λ n. n.is_open ≡ false) self.now.nodes) (λ i. IsFirstOpen self.now i) }
     {
-        first_open(&self.nodes)
+        self.nodes.first_open()
     }
 
-    /// A closed node, as it is kept.
-    pub(crate) fn body(&self, node: NodeId) -> &Body
+    /// What a closed node is and holds, as it is kept.
+    pub(crate) fn held(&self, node: NodeId) -> Held<'_>
         requires there { node.0 < length self.now.nodes }
         requires closed { (stored_at self.now node.0).is_open ≡ false }
-        ensures { stored_at self.now node.0 ≡ body_node false result.now }
+        ensures { stored_at self.now node.0 ≡ held_node false result }
     {
-        self.nodes[node.0 as usize].body()
+        self.nodes.held(node.0 as usize)
     }
 
     /// What a node without parts holds.
@@ -284,31 +305,10 @@ impl Store {
         requires whole { IsNodeIn self.now (stored_at self.now node.0) }
         ensures { Shows self.now (stored_at self.now node.0) result }
     {
-        match self.nodes[node.0 as usize].body() {
-            Body::Leaf(leaf) => self.leaf(leaf),
-            Body::Array { items, names } => NodeView::Array { items, names },
-            Body::Object {
-                traits,
-                sealed,
-                members,
-            } => NodeView::Object {
-                traits: *traits,
-                sealed,
-                members,
-            },
-            Body::Wrapper { class, value } => NodeView::Wrapper {
-                class: *class,
-                value: value.unwrap(),
-            },
-            Body::Values { fixed, of, items } => NodeView::Values {
-                fixed: *fixed,
-                of: *of,
-                items,
-            },
-            Body::Dictionary { weak, entries } => NodeView::Dictionary {
-                weak: *weak,
-                entries,
-            },
+        match self.held(node) {
+            Held::Leaf(leaf) => self.leaf(leaf),
+            Held::Parts(form, values, names) => parts_view(form, values, names),
+            Held::Dictionary(weak, entries) => NodeView::Dictionary { weak, entries },
         }
     }
 
@@ -319,7 +319,7 @@ impl Store {
         order: &[NodeId],
         numbers: &[u32],
     ) -> Result<Store, Memory>
-        requires built { IsBuilt self.now }
+        requires finished { IsFinished self.now }
         requires there { AllByRecursion (λ i. i < length self.now.nodes) (numbers_of order.now) }
         requires numbers { length numbers.now ≡ length self.now.nodes }
         ensures { IfOk result (λ store. store ≡ renumbered_arena (number_in numbers.now) (numbers_of order.now) self.now) }
@@ -334,7 +334,8 @@ impl Store {
 
     /// The same texts and nodes, where each class is opened and each value is the one that stands for it.
     pub(crate) fn standing_in(&self, alloc: Global, stand_ins: &[Value]) -> Result<Store, Memory>
-        requires { AllByRecursion (NodeHasStandIns self.now.traits stand_ins.now) self.now.nodes }
+        requires stand_ins { AllByRecursion (NodeHasStandIns self.now.traits stand_ins.now) self.now.nodes }
+        requires closed { AllByRecursion (λ n. n.is_open ≡ false) self.now.nodes }
         ensures texts { IfOk result (λ store. store.texts ≡ self.now.texts) }
         ensures traits { IfOk result (λ store. store.traits ≡ map opened_traits self.now.traits) }
         ensures nodes { IfOk result (λ store. AllZip (NodeStandsFor self.now.traits stand_ins.now) self.now.nodes store.nodes) }
@@ -347,20 +348,49 @@ impl Store {
     }
 }
 
+/// What a closed node of this form holds.
+fn parts_view<'a>(form: Form, values: &'a [Value], names: &'a [(TextId, Value)]) -> NodeView<'a>
+    requires { HasParts (form_head form) (named names.now) values.now }
+    ensures { (a : Arena) → Shows a (closed (form_head form) (named names.now) values.now) result }
+{
+    match form {
+        Form::Array => NodeView::Array {
+            items: values,
+            names,
+        },
+        Form::Object(traits) => NodeView::Object {
+            traits,
+            sealed: values,
+            members: names,
+        },
+        Form::Wrapper(class) => NodeView::Wrapper {
+            class,
+            value: values[0],
+        },
+        Form::Values(fixed, of) => NodeView::Values {
+            fixed,
+            of,
+            items: values,
+        },
+    }
+}
+
+/// Closed nodes alone, in this order, each node in them under its number.
 fn renumbered_nodes(
     alloc: Global,
-    nodes: &[Node],
+    nodes: &Nodes,
     order: &[NodeId],
     numbers: &[u32],
-) -> Result<Vec<Node>, Memory>
+) -> Result<Nodes, Memory>
+    requires closed { AllByRecursion (λ n. n.is_open ≡ false) nodes.now }
     requires there { AllByRecursion (λ i. i < length nodes.now) (numbers_of order.now) }
     requires numbers { AllByRecursion (HaveNumbers numbers.now) nodes.now }
-    ensures { IfOk result (λ copies. copies.items ≡ map (λ i. renumbered_node (number_in numbers.now) (get_or nodes.now i no_stored)) (numbers_of order.now)) }
+    ensures { IfOk result (λ copies. copies ≡ map (λ i. renumbered_node (number_in numbers.now) (get_or nodes.now i no_stored)) (numbers_of order.now)) }
 {
-    let mut copies = Vec::new(alloc);
+    let mut copies = Nodes::new(alloc);
     for node in order {
-        let node = &nodes[node.0 as usize];
-        copies.push(node.renumbered(alloc, numbers)?)?;
+        let held = nodes.held(node.0 as usize);
+        copies.keep(renumbered_body(alloc, held, numbers)?)?;
     }
     Ok(copies)
 }

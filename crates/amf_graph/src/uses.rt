@@ -3,12 +3,12 @@
 ghost use Rattle.std.specs.Prelude.{◌≡◌, ◌<◌, ◌++◌, [], false, length, get_or, IfOk, OnOk};
 ghost use Rattle.std.specs.List.{AllByRecursion};
 ghost use Rattle.amf_graph.specs.Arena.{Names, no_traits};
-ghost use Rattle.amf_graph.specs.Building.{stored_at};
-ghost use Rattle.amf_graph.specs.Gather.{placed, with_all, text_in, texts_in, pair_texts, node_texts, traits_texts, head_traits, texts_of_nodes, traits_of_nodes, texts_of_traits};
-ghost use Rattle.amf_graph.specs.Bodies.{body_head, body_node};
+ghost use Rattle.amf_graph.specs.Building.{stored_at, leaf_head};
+ghost use Rattle.amf_graph.specs.Gather.{placed, with_all, text_in, texts_in, pair_texts, head_texts, node_texts, traits_texts, head_traits, texts_of_nodes, traits_of_nodes, texts_of_traits};
+ghost use Rattle.amf_graph.specs.Held.{form_head, held_head, held_node};
 ghost use Rattle.amf_graph.specs.Views.{named, flat};
 
-use crate::body::Body;
+use crate::held::{Form, Held};
 use crate::number_set::NumberSet;
 use crate::{Leaf, NodeId, Rooted, TextId, TraitsId, Value};
 use amf_wire::Memory;
@@ -56,35 +56,39 @@ fn push_entry_texts(entries: &[(Value, Value)], texts: &mut Vec<u32>) -> Result<
     Ok(())
 }
 
-/// Appends the texts that a node uses itself.
-fn push_node_texts(body: &Body, texts: &mut Vec<u32>) -> Result<(), Memory>
-    ensures { OnOk result (texts.new.items ≡ texts.old.items ++ node_texts (body_node false body.now)) }
+/// Appends the text that a node without parts has.
+fn push_leaf_text(leaf: &Leaf, texts: &mut Vec<u32>) -> Result<(), Memory>
+    ensures { OnOk result (texts.new.items ≡ texts.old.items ++ head_texts (leaf_head leaf.now)) }
 {
-    match body {
-        Body::Leaf(Leaf::XmlDocument(text) | Leaf::Xml(text)) => texts.push(text.0)?,
-        Body::Leaf(_) => {}
-        Body::Array { items, names } => {
-            push_texts(items, texts)?;
+    match leaf {
+        Leaf::XmlDocument(text) | Leaf::Xml(text) => texts.push(text.0)?,
+        _ => {}
+    }
+    Ok(())
+}
+
+/// Appends the text that a form has.
+fn push_form_text(form: Form, texts: &mut Vec<u32>) -> Result<(), Memory>
+    ensures { OnOk result (texts.new.items ≡ texts.old.items ++ head_texts (form_head form)) }
+{
+    if let Form::Values(_, of) = form {
+        texts.push(of.0)?;
+    }
+    Ok(())
+}
+
+/// Appends the texts that a node uses itself.
+fn push_node_texts(held: Held<'_>, texts: &mut Vec<u32>) -> Result<(), Memory>
+    ensures { OnOk result (texts.new.items ≡ texts.old.items ++ node_texts (held_node false held.entry)) }
+{
+    match held {
+        Held::Leaf(leaf) => push_leaf_text(leaf, texts)?,
+        Held::Parts(form, values, names) => {
+            push_form_text(form, texts)?;
+            push_texts(values, texts)?;
             push_pair_texts(names, texts)?;
         }
-        Body::Object {
-            sealed,
-            members,
-            ..
-        } => {
-            push_texts(sealed, texts)?;
-            push_pair_texts(members, texts)?;
-        }
-        Body::Wrapper { value, .. } => {
-            if let Some(value) = *value {
-                push_text(value, texts)?;
-            }
-        }
-        Body::Values { of, items, .. } => {
-            texts.push(of.0)?;
-            push_texts(items, texts)?;
-        }
-        Body::Dictionary { entries, .. } => push_entry_texts(entries, texts)?,
+        Held::Dictionary(_, entries) => push_entry_texts(entries, texts)?,
     }
     Ok(())
 }
@@ -105,10 +109,10 @@ fn traits_texts(alloc: Global, graph: &Rooted, traits: TraitsId) -> Result<Vec<u
 }
 
 /// Appends the traits of an object.
-fn push_traits(body: &Body, traits: &mut Vec<u32>) -> Result<(), Memory>
-    ensures { OnOk result (traits.new.items ≡ traits.old.items ++ head_traits (body_head body.now)) }
+fn push_traits(held: Held<'_>, traits: &mut Vec<u32>) -> Result<(), Memory>
+    ensures { OnOk result (traits.new.items ≡ traits.old.items ++ head_traits (held_head held.entry)) }
 {
-    if let Body::Object { traits: of, .. } = body {
+    if let Held::Parts(Form::Object(of), ..) = held {
         traits.push(of.0)?;
     }
     Ok(())
@@ -126,7 +130,7 @@ pub(crate) fn used_traits(
     graph.is_finished();
     let mut used = Vec::new(alloc);
     for place in 0..nodes.len() {
-        push_traits(graph.body(NodeId(nodes.at(place))), &mut used)?;
+        push_traits(graph.held(NodeId(nodes.at(place))), &mut used)?;
     }
     let mut traits = NumberSet::new(alloc, graph.traits_count())?;
     traits.add_all(&used)?;
@@ -150,7 +154,7 @@ pub(crate) fn used_texts(
     let mut used = Vec::new(alloc);
     push_texts(values, &mut used)?;
     for place in 0..nodes.len() {
-        push_node_texts(graph.body(NodeId(nodes.at(place))), &mut used)?;
+        push_node_texts(graph.held(NodeId(nodes.at(place))), &mut used)?;
     }
     for class in 0..traits.len() {
         let more = traits_texts(alloc, graph, TraitsId(traits.at(class)))?;

@@ -14,7 +14,7 @@ loop-place-preserved c =
     let is = c.args.nodes.now.items in
     let k = c.loop-place.place in
     more_behind (λ i. node_texts (stored_at a i)) is k 0 (texts_in c.args.values.now) c.loop-place.used.items c.push_node_texts.new.texts.items (slice_get_within is k c.at.result c.at.ensures.here) c.loop-place.invariant
-    (c.in_ok-push_node_texts.ensures ∙ ap (λ w. c.loop-place.used.items ++ w) (ap node_texts (sym c.body.ensures) ∙ ap (λ i. node_texts (stored_at a i)) (sym (get_or_from_slice_get is k c.at.result 0 c.at.ensures.here))))
+    (c.in_ok-push_node_texts.ensures ∙ ap (λ w. c.loop-place.used.items ++ w) (ap node_texts (sym c.held.ensures) ∙ ap (λ i. node_texts (stored_at a i)) (sym (get_or_from_slice_get is k c.at.result 0 c.at.ensures.here))))
 
 pub loop-class-preserved : goal.loop-class-preserved
 loop-class-preserved c =

@@ -14,7 +14,7 @@ loop-place-preserved c =
     let is = c.args.nodes.now.items in
     let k = c.loop-place.place in
     more_behind (λ i. head_traits (stored_at a i).head) is k 0 [] c.loop-place.used.items c.push_traits.new.traits.items (slice_get_within is k c.at.result c.at.ensures.here) c.loop-place.invariant
-    (c.in_ok-push_traits.ensures ∙ ap (λ w. c.loop-place.used.items ++ w) (ap (λ (n : StoredNode). head_traits n.head) (sym c.body.ensures) ∙ ap (λ i. head_traits (stored_at a i).head) (sym (get_or_from_slice_get is k c.at.result 0 c.at.ensures.here))))
+    (c.in_ok-push_traits.ensures ∙ ap (λ w. c.loop-place.used.items ++ w) (ap (λ (n : StoredNode). head_traits n.head) (sym c.held.ensures) ∙ ap (λ i. head_traits (stored_at a i).head) (sym (get_or_from_slice_get is k c.at.result 0 c.at.ensures.here))))
 
 pub add_all-requires : goal.add_all-requires
 add_all-requires c =

@@ -10,4 +10,4 @@ pub invariant_of-self-2 : goal.invariant_of-self-2
 invariant_of-self-2 c =
     let a = c.self.inside.store in
     let own : HeadNames a (leaf_head c.args.leaf) = rw (← c.self.view_is) at c.requires in
-    rw (c.in_ok-keep_node.ensures.ok, c.of_leaf.ensures) (built_node a _ c.self.invariant.0 (leaf_in a c.args.leaf c.self.invariant.0.texts own c.numbers_fit.ensures), within_node a _ c.self.invariant.1 (omega arith) (leaf_within c.args.leaf (omega arith)))
+    rw (c.in_ok-keep_node.ensures.ok) (built_node a _ c.self.invariant.0 (leaf_in a c.args.leaf c.self.invariant.0.texts own c.numbers_fit.ensures), within_node a _ c.self.invariant.1 (omega arith) (leaf_within c.args.leaf (omega arith)))

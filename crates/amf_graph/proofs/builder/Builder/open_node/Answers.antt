@@ -9,4 +9,4 @@ use Rattle.amf_graph.proofs.builder.Builder.open_node.Goals as goal
 pub invariant_of-self-2 : goal.invariant_of-self-2
 invariant_of-self-2 c =
     let own : HeadNames c.self.inside.store (shape_head c.args.shape) = rw (← c.self.view_is) at c.requires in
-    rw (c.in_ok-keep_node.ensures.ok, c.of_shape.ensures) (built_node _ _ c.self.invariant.0 (begun_in _ c.args.shape own), within_node _ _ c.self.invariant.1 (omega arith) (begun_within c.args.shape))
+    rw (c.in_ok-open_node.ensures.ok) (built_node _ _ c.self.invariant.0 (begun_in _ c.args.shape own), within_node _ _ c.self.invariant.1 (omega arith) (begun_within c.args.shape))

@@ -13,7 +13,7 @@ loop-place-preserved c =
     let r = renaming_of c.args.self.now in
     let k = c.loop-place.place in
     let here = subst (λ (w : Plan). slice_get w.nodes.items k ≡ Some c.at.result) c.self.view_is c.at.ensures.here in
-    let copy = c.of_body.ensures ∙ body_copied r c.body-body.result.now c.in_ok-body.field-0 c.in_ok-body.ensures.head c.in_ok-body.ensures.names c.in_ok-body.ensures.values ∙ ap (renamed_node r) (sym c.body-body.ensures) in
-    c.in_ok-push.ensures.items
-    ∙ ap (λ (x : StoredNode). c.loop-place.copies.items ++ x ∷ []) copy
-    ∙ map_more (λ i. renamed_node r (stored_at a i)) c.args.self.now.nodes.items k c.at.result c.loop-place.copies.items here c.loop-place.invariant
+    let copy = body_copied r c.held-held.result c.in_ok-body.field-0 c.in_ok-body.ensures.head c.in_ok-body.ensures.names c.in_ok-body.ensures.values ∙ ap (renamed_node r) (sym c.held-held.ensures) in
+    c.in_ok-keep.ensures.ok
+    ∙ ap (λ (x : StoredNode). c.loop-place.copies ++ x ∷ []) copy
+    ∙ map_more (λ i. renamed_node r (stored_at a i)) c.args.self.now.nodes.items k c.at.result c.loop-place.copies here c.loop-place.invariant

@@ -7,8 +7,8 @@ use Rattle.amf_graph.specs.TextRanks.{AreRanks}
 use Rattle.amf_graph.proofs.StandInGraphs.{has_stand_in, all_have, names_stand, finished_stands, bounds_stand, graph_stands}
 use Rattle.amf_graph.proofs.rooted.Rooted.standing_in.Goals as goal
 
-pub standing_in-requires : goal.standing_in-requires
-standing_in-requires c =
+pub standing_in-requires-clause-stand_ins : goal.standing_in-requires-clause-stand_ins
+standing_in-requires-clause-stand_ins c =
     let g : RootedArena = record { arena = c.self.inside.store; root = c.self.inside.root } in
     let all : length c.args.stand_ins.now ≡ length g.arena.nodes = subst (λ (w : RootedArena). length c.args.stand_ins.now ≡ length w.arena.nodes) (sym c.self.view_is) c.requires.all in
     all_have g.arena c.args.stand_ins.now all c.self.invariant.0

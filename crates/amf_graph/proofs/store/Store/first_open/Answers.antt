@@ -3,4 +3,4 @@ use Rattle.amf_graph.proofs.Opens.{first_open_is}
 use Rattle.amf_graph.proofs.store.Store.first_open.Goals as goal
 
 pub returns : goal.returns
-returns c = rw (← c.self.view_is) (first_open_is _ _ (rw c.deref.ensures.value at c.first_open.ensures))
+returns c = rw (← c.self.view_is) (first_open_is _ _ c.first_open.ensures)

@@ -1,0 +1,56 @@
+-- Parts of closed nodes, one behind the other. A device of proofs.
+use Rattle.std.specs.Prelude.{◌≡◌, ◌≤◌, ◌<◌, List, [], length, get_or, take, slice_range}
+use Rattle.amf_graph.specs.declared.value.Value.{Value as Stored}
+use Rattle.amf_graph.specs.declared.value.TextId.{TextId}
+use Rattle.amf_graph.specs.declared.row.Span.{Span}
+use Rattle.amf_graph.specs.declared.row.Row.{Row}
+use Rattle.amf_graph.specs.declared.row.Row.TheVariants as row
+use Rattle.amf_graph.specs.Arena.{StoredHead, array, dictionary, StoredNode}
+use Rattle.amf_graph.specs.Building.{no_stored, closed}
+use Rattle.amf_graph.specs.Held.{form_head}
+use Rattle.amf_graph.specs.Views.{named, flat}
+
+pub record Pool : Type 0 where
+  pub values : List Stored
+  pub names : List (TextId × Stored)
+  pub entries : List (Stored × Stored)
+  pub leaves : List StoredHead
+
+abbrev pub no_pool : Pool
+no_pool = record { values = []; names = []; entries = []; leaves = [] }
+
+-- what stands in the span
+abbrev pub span_of : {X : Type 0} → List X → Span → List X
+span_of xs s = slice_range xs s.start s.end
+
+abbrev pub SpanIn : {X : Type 0} → List X → Span → Type 0
+SpanIn xs s = (s.start ≤ s.end) × (s.end ≤ length xs)
+
+-- the node is kept here
+abbrev pub RowIn : Pool → Row → Type 0
+RowIn p (row.Slot s) = ⊥
+RowIn p (row.Leaf k) = k < length p.leaves
+RowIn p (row.Parts s vs ps) = SpanIn p.values vs × SpanIn p.names ps
+RowIn p (row.Dictionary w es) = SpanIn p.entries es
+
+abbrev pub pool_node : Pool → Row → StoredNode
+pool_node p (row.Slot s) = no_stored
+pool_node p (row.Leaf k) = closed (get_or p.leaves k array) [] []
+pool_node p (row.Parts s vs ps) = closed (form_head s) (named (span_of p.names ps)) (span_of p.values vs)
+pool_node p (row.Dictionary w es) = closed (dictionary w) [] (flat (span_of p.entries es))
+
+-- the second list begins with the first
+abbrev pub IsFront : {X : Type 0} → List X → List X → Type 0
+IsFront xs ys = take (length xs) ys ≡ xs
+
+-- what was there is there
+pub record Grows (old new : Pool) : Type 0 where
+  pub values : IsFront old.values new.values
+  pub names : IsFront old.names new.names
+  pub entries : IsFront old.entries new.entries
+  pub leaves : IsFront old.leaves new.leaves
+
+-- a node is kept here now, and all others are where they were
+pub record Keeps (old new : Pool) (n : StoredNode) (r : Row) : Type 0 where
+  pub inside : RowIn new r
+  pub shows : pool_node new r ≡ n

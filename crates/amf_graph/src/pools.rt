@@ -1,0 +1,127 @@
+//! The parts of closed nodes, one behind the other.
+
+ghost use Rattle.std.specs.Prelude.{◌≡◌, ◌≤◌, [], length, map, slice_range, false, IfOk};
+ghost use Rattle.amf_graph.specs.Arena.{dictionary};
+ghost use Rattle.amf_graph.specs.Building.{leaf_head, closed};
+ghost use Rattle.amf_graph.specs.Held.{form_head, held_node};
+ghost use Rattle.amf_graph.specs.Pools.{no_pool, span_of, SpanIn, RowIn, pool_node, Grows, Keeps};
+ghost use Rattle.amf_graph.specs.Views.{named, flat};
+
+use crate::held::{Form, Held};
+use crate::row::{Row, Span, number_of, span_from};
+use crate::{Leaf, TextId, Value};
+use amf_wire::Memory;
+use std::alloc::Global;
+use std::marker::Model;
+
+/// Parts of nodes, each node's in one piece.
+#[derive(Drop)]
+pub(crate) struct Pools {
+    values: Vec<Value>,
+    names: Vec<(TextId, Value)>,
+    entries: Vec<(Value, Value)>,
+    leaves: Vec<Leaf>,
+}
+
+impl Model for Pools {
+    ghost use Rattle.std.specs.Prelude.{map};
+    ghost use Rattle.amf_graph.specs.Building.{leaf_head};
+    ghost use Rattle.amf_graph.specs.Pools.{Pool};
+
+    ghost Value = { Pool };
+
+    ghost view = { λ p. record { values = p.values.items; names = p.names.items; entries = p.entries.items; leaves = map leaf_head p.leaves.items } };
+}
+
+fn values_in(values: &[Value], span: Span) -> &[Value]
+    requires { SpanIn values.now span }
+    ensures { result.now ≡ span_of values.now span }
+{
+    &values[span.start as usize..span.end as usize]
+}
+
+fn names_in(names: &[(TextId, Value)], span: Span) -> &[(TextId, Value)]
+    requires { SpanIn names.now span }
+    ensures { result.now ≡ span_of names.now span }
+{
+    &names[span.start as usize..span.end as usize]
+}
+
+fn entries_in(entries: &[(Value, Value)], span: Span) -> &[(Value, Value)]
+    requires { SpanIn entries.now span }
+    ensures { result.now ≡ span_of entries.now span }
+{
+    &entries[span.start as usize..span.end as usize]
+}
+
+impl Pools {
+    pub(crate) fn new(alloc: Global) -> Pools
+        ensures { result ≡ no_pool }
+    {
+        Pools {
+            values: Vec::new(alloc),
+            names: Vec::new(alloc),
+            entries: Vec::new(alloc),
+            leaves: Vec::new(alloc),
+        }
+    }
+
+    /// What a node that is kept here is and holds.
+    pub(crate) fn held(&self, row: Row) -> Held<'_>
+        requires { RowIn self.now row }
+        ensures { pool_node self.now row ≡ held_node false result }
+    {
+        match row {
+            Row::Slot(_) => unreachable!(),
+            Row::Leaf(place) => Held::Leaf(&self.leaves[place as usize]),
+            Row::Parts(form, values, names) => {
+                let values = values_in(&self.values, values);
+                Held::Parts(form, values, names_in(&self.names, names))
+            }
+            Row::Dictionary(weak, entries) => {
+                Held::Dictionary(weak, entries_in(&self.entries, entries))
+            }
+        }
+    }
+
+    /// Keeps a node without parts. After an end what was there is there.
+    pub(crate) fn keep_leaf(&mut self, leaf: Leaf) -> Result<Row, Memory>
+        ensures ok { IfOk result (λ row. Keeps self.old self.new (closed (leaf_head leaf) [] []) row) }
+        ensures grows { Grows self.old self.new }
+    {
+        let number = number_of(self.leaves.len())?;
+        self.leaves.push(leaf)?;
+        Ok(Row::Leaf(number))
+    }
+
+    /// Keeps the values and the pairs of a node. After an end what was there is there.
+    pub(crate) fn keep_parts(
+        &mut self,
+        form: Form,
+        values: &[Value],
+        names: &[(TextId, Value)],
+    ) -> Result<Row, Memory>
+        ensures ok { IfOk result (λ row. Keeps self.old self.new (closed (form_head form) (named names.now) values.now) row) }
+        ensures grows { Grows self.old self.new }
+    {
+        let value_span = span_from(self.values.len(), values.len())?;
+        let name_span = span_from(self.names.len(), names.len())?;
+        self.values.extend_from_slice(values)?;
+        self.names.extend_from_slice(names)?;
+        Ok(Row::Parts(form, value_span, name_span))
+    }
+
+    /// Keeps the entries of a dictionary. After an end what was there is there.
+    pub(crate) fn keep_dictionary(
+        &mut self,
+        weak: bool,
+        entries: &[(Value, Value)],
+    ) -> Result<Row, Memory>
+        ensures ok { IfOk result (λ row. Keeps self.old self.new (closed (dictionary weak) [] (flat entries.now)) row) }
+        ensures grows { Grows self.old self.new }
+    {
+        let span = span_from(self.entries.len(), entries.len())?;
+        self.entries.extend_from_slice(entries)?;
+        Ok(Row::Dictionary(weak, span))
+    }
+}
