@@ -19,6 +19,7 @@ use crate::ends::{kept, refused};
 use crate::field::{FieldSize, read_field, read_number};
 use crate::fill::{Step, go_on};
 use crate::frame::{Frame, Now, Slot, part_of};
+use crate::frames::Frames;
 use crate::node::{Start, start_node};
 use crate::text::read_text;
 use amf_graph::{Builder, Value};
@@ -69,16 +70,14 @@ pub fn read_value<S: Source>(
     ensures continues { OnOk result (Continues 0 builder.old builder.new tables.new cursor.old cursor.new) }
     ensures moves { OnOk result (place cursor.old < place cursor.new) }
 {
-    let mut frames: Vec<Frame> = Vec::new(alloc);
+    let mut frames = Frames::new(alloc);
     let mut now = Now::Wanted;
     loop {
         match now {
-            Now::Wanted => {
-                now = match start_value(alloc, cursor, builder, tables)? {
-                    Start::Value(value) => Now::Given(value),
-                    Start::Open(node, todo) => Now::Open(node, todo),
-                };
-            }
+            Now::Wanted => match start_value(alloc, cursor, builder, tables)? {
+                Start::Value(value) => now = Now::Given(value),
+                Start::Open(node, todo) => now = Now::Open(node, todo),
+            },
             Now::Given(value) => {
                 let Some(frame) = frames.pop() else {
                     return Ok(value);
