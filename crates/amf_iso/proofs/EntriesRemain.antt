@@ -6,7 +6,7 @@ use Rattle.amf_graph.specs.Arena.{Arena, value_content}
 use Rattle.amf_graph.specs.Isomorphic.{ValuesMatch}
 use Rattle.amf_graph.specs.Views.{flat}
 use Rattle.amf_iso.specs.Contents.{values_of, AreValues}
-use Rattle.amf_iso.specs.Matches.{IsEntry}
+use Rattle.amf_iso.specs.Walking.{IsEntry}
 use Rattle.amf_iso.proofs.Remaining.{Remains}
 
 entries_in : (a : Arena) (es : List (Stored × Stored)) → AreValues a (flat es) → AllByRecursion (IsEntry a) es

@@ -1,6 +1,6 @@
 -- What two nodes with one head hold.
 use Rattle.std.proofs.Common.{◌≡◌, ℕ, List, [], sym, ap, ◌∙◌, subst}
-use Rattle.std.specs.Prelude.{◌↔◌, Bool, IsTrue, Result, IfOk}
+use Rattle.std.specs.Prelude.{◌↔◌}
 use Rattle.std.specs.List.{AllZip}
 use Rattle.amf_graph.specs.declared.value.Value.{Value as Stored}
 use Rattle.amf_graph.specs.Graph.{Node, node_at}
@@ -10,7 +10,6 @@ use Rattle.amf_graph.specs.Arena.{Arena, StoredHead, StoredNode, graph_of, head_
 use Rattle.amf_graph.specs.Building.{stored_at, closed}
 use Rattle.amf_graph.proofs.Growth.{names_content, values_content}
 use Rattle.amf_iso.proofs.MetValues.{shown}
-use Rattle.amf_iso.proofs.Orders.{decided}
 
 module _ (P : ℕ → ℕ → Type 0) (a b : Arena) (root stem : Stored) (i j : ℕ) where
   abbrev pub Held : StoredNode → StoredNode → Type 0
@@ -26,11 +25,8 @@ module _ (P : ℕ → ℕ → Type 0) (a b : Arena) (root stem : Stored) (i j : 
         λ z. subst (λ (x : Node). NodesMatch P x (node_at (graph_of b stem) j)) (sym p) (subst (λ (y : Node). NodesMatch P (node_content a n) y) (sym q) (record { head = same; names = z.0; values = z.1 })),
       )
 
-  pub decided_held : {E : Type 0} (r : Result Bool E) (n m : StoredNode) → stored_at a i ≡ n → stored_at b j ≡ m → (node_at (graph_of a root) i).head ≡ (node_at (graph_of b stem) j).head → IfOk r (λ same. IsTrue same ↔ Held n m) → IfOk r (λ same. IsTrue same ↔ NodesMatch P (node_at (graph_of a root) i) (node_at (graph_of b stem) j))
-  decided_held r n m e f h k = decided r (NodesMatch P (node_at (graph_of a root) i) (node_at (graph_of b stem) j)) (Held n m) (held n m e f h) k
-
   -- a node without pairs
-  pub values_held : (t : Bool) (h k : StoredHead) (vs ws : List Stored) → stored_at a i ≡ closed h [] vs → stored_at b j ≡ closed k [] ws → (node_at (graph_of a root) i).head ≡ (node_at (graph_of b stem) j).head → (IsTrue t ↔ AllZip (ValuesMatch P) (values_content a vs) (values_content b ws)) → IsTrue t ↔ NodesMatch P (node_at (graph_of a root) i) (node_at (graph_of b stem) j)
-  values_held t h k vs ws e f d s =
+  pub values_held : (h k : StoredHead) (vs ws : List Stored) → stored_at a i ≡ closed h [] vs → stored_at b j ≡ closed k [] ws → (node_at (graph_of a root) i).head ≡ (node_at (graph_of b stem) j).head → NodesMatch P (node_at (graph_of a root) i) (node_at (graph_of b stem) j) ↔ AllZip (ValuesMatch P) (values_content a vs) (values_content b ws)
+  values_held h k vs ws e f d =
       let w = held (closed h [] vs) (closed k [] ws) e f d in
-      (λ y. w.1 (tt, s.0 y), λ z. s.1 (w.0 z).1)
+      (λ z. (w.0 z).1, λ y. w.1 (tt, y))

@@ -10,8 +10,11 @@ pub mod HeadFacts
 mod Orders
 mod ClosedOrders
 mod Relabelled
-pub mod PairsRemain
 pub mod EntriesRemain
 mod Joins
 mod InOrder
 mod Held
+pub mod Meeting
+mod NamesAlike
+mod Pairing
+pub mod Looking

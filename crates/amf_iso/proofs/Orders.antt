@@ -1,6 +1,6 @@
 -- Canonical orders and the nodes in them.
 use Rattle.std.proofs.Common.{◌≡◌, ℕ, ◌<◌, List, length, slice_get, Some, refl, subst}
-use Rattle.std.specs.Prelude.{◌↔◌, IsTrue, Result, Ok, Err, IfOk, OnOk, Bool, true, false}
+use Rattle.std.specs.Prelude.{IsTrue, Result, Ok, Err, IfOk, OnOk, Bool, true, false}
 use Rattle.std.proofs.lemmas.List.{length-map}
 use Rattle.amf_graph.specs.declared.value.Value.{Value as Stored}
 use Rattle.amf_graph.specs.Order.{IsOrder}
@@ -10,10 +10,6 @@ use Rattle.amf_graph.proofs.Walks.{walk_within}
 pub order_within : (a : Arena) (root : Stored) (xs : List ℕ) (k i : ℕ) → IsOrder (graph_of a root) xs → slice_get xs k ≡ Some i → i < length a.nodes
 order_within a root xs k i w e = subst (λ n. i < n) (length-map a.nodes (node_content a)) (walk_within w (λ k i e. cc) k i e)
 
-pub decided : {E : Type 0} (r : Result Bool E) (P Q : Type 0) → P ↔ Q → IfOk r (λ same. IsTrue same ↔ Q) → IfOk r (λ same. IsTrue same ↔ P)
-decided (Ok b) P Q h k = (λ t. h.1 (k.0 t), λ p. k.1 (h.0 p))
-decided (Err e) P Q h k = k
-
 pub ok_implies : {A E : Type 0} (r : Result A E) (P Q : A → Type 0) → ((x : A) → P x → Q x) → IfOk r P → IfOk r Q
 ok_implies (Ok x) P Q h k = h x k
 ok_implies (Err e) P Q h k = k
@@ -21,10 +17,6 @@ ok_implies (Err e) P Q h k = k
 pub on_ok_implies : {A E : Type 0} (r : Result A E) (P Q : Type 0) → (P → Q) → OnOk r P → OnOk r Q
 on_ok_implies (Ok x) P Q h k = h k
 on_ok_implies (Err e) P Q h k = k
-
-pub both_decided : {E : Type 0} (r : Result Bool E) (P Q : Type 0) → Q → IfOk r (λ same. IsTrue same ↔ P) → IfOk r (λ same. IsTrue same ↔ P × Q)
-both_decided (Ok b) P Q q k = (λ t. (k.0 t, q), λ z. k.1 z.0)
-both_decided (Err e) P Q q k = k
 
 pub true_is : (r : Bool) → r ≡ true → IsTrue r
 true_is true e = refl

@@ -4,5 +4,5 @@ pub mod Numbers
 -- Devices of the proofs: no clause of a public call needs them.
 pub mod Behind
 pub mod Joined
-pub mod Matches
+pub mod Walking
 pub mod Waiting

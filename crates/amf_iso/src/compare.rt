@@ -1,92 +1,82 @@
 ghost use Rattle.std.specs.Prelude.{◌≡◌, ◌<◌, ◌↔◌, length, IsTrue, IfOk};
-ghost use Rattle.std.specs.List.{AllZip};
-ghost use Rattle.amf_graph.specs.ByName.{by_name};
 ghost use Rattle.amf_graph.specs.Graph.{node_at};
-ghost use Rattle.amf_graph.specs.Isomorphic.{PairsMatch, NodesMatch, Isomorphic};
-ghost use Rattle.amf_graph.specs.Order.{IsOrder};
+ghost use Rattle.amf_graph.specs.Isomorphic.{Isomorphic};
 ghost use Rattle.amf_graph.specs.Rooted.{content};
-ghost use Rattle.amf3_spelling.specs.LawsOrder.{NumberedAlike};
-ghost use Rattle.amf_iso.specs.Contents.{AreValues, pairs_of, ArePairs};
-ghost use Rattle.amf_iso.specs.Joined.{AreJoined};
-ghost use Rattle.amf_iso.specs.Matches.{SameNumber, PartsMatch};
+ghost use Rattle.amf_iso.specs.Contents.{AreValues, ArePairs};
+ghost use Rattle.amf_iso.specs.Walking.{IsSound, Met, NamedMatch, PartsMatch, NodePair, AllNodesMatch};
 
-use crate::Numbering;
-use crate::equal_texts::EqualTexts;
 use crate::heads::heads_match;
-use crate::matches::{all_entries_match, all_match, all_pairs_match, values_match};
-use crate::numbered::Numbered;
+use crate::matches::{all_entries_meet, all_meet, names_match, seconds_meet, values_meet};
 use crate::pairs::ids_by_name;
+use crate::walk::{Graphs, Walk};
 use amf_graph::{NodeId, NodeView, Rooted, TextId, Value};
 use amf_wire::Memory;
-use amf3_spelling::order_decides;
 use std::alloc::Global;
 
-/// Whether pairs have the same names and values that are alike, place by place in by-name order. Lists are made only where
-/// the pairs are not alike as they stand.
-fn named_match(
+/// Whether pairs have the same names and values that are alike, place by place in by-name order. Values are looked at only
+/// where all names agree, and lists are made only where the names do not agree as they stand.
+fn named_meet(
     alloc: Global,
     ps: &[(TextId, Value)],
     qs: &[(TextId, Value)],
-    left: &Numbered<'_>,
-    right: &Numbered<'_>,
-    texts: &mut EqualTexts,
+    graphs: &Graphs<'_>,
+    walk: &mut Walk,
 ) -> Result<bool, Memory>
-    requires left { ArePairs left.now.graph.now.arena ps.now }
-    requires right { ArePairs right.now.graph.now.arena qs.now }
-    requires known { AreJoined left.now.graph.now.arena right.now.graph.now.arena texts.old }
-    ensures known { AreJoined left.now.graph.now.arena right.now.graph.now.arena texts.new }
-    ensures same { IfOk result (λ same. IsTrue same ↔ AllZip (PairsMatch (SameNumber left.now right.now)) (by_name (pairs_of left.now.graph.now.arena ps.now)) (by_name (pairs_of right.now.graph.now.arena qs.now))) }
+    requires left { ArePairs graphs.now.left.now.arena ps.now }
+    requires right { ArePairs graphs.now.right.now.arena qs.now }
+    requires sound { IsSound graphs.now.left.now.arena graphs.now.right.now.arena walk.old }
+    ensures { IfOk result (λ same. Met graphs.now.left.now.arena graphs.now.right.now.arena walk.old walk.new (NamedMatch graphs.now.left.now.arena graphs.now.right.now.arena ps.now qs.now) same) }
 {
-    if all_pairs_match(ps, qs, left, right, texts) {
-        return Ok(true);
+    if names_match(ps, qs, graphs, &mut walk.texts) {
+        return seconds_meet(ps, qs, graphs, walk);
     }
-    let ps = ids_by_name(alloc, ps, left.graph)?;
-    let qs = ids_by_name(alloc, qs, right.graph)?;
-    Ok(all_pairs_match(&ps, &qs, left, right, texts))
+    let left = ids_by_name(alloc, ps, graphs.left)?;
+    let right = ids_by_name(alloc, qs, graphs.right)?;
+    if !names_match(&left, &right, graphs, &mut walk.texts) {
+        return Ok(false);
+    }
+    seconds_meet(&left, &right, graphs, walk)
 }
 
 /// Whether values are alike, place by place, and pairs, in by-name order.
-fn both_match(
+fn both_meet(
     alloc: Global,
     values: (&[Value], &[Value]),
     pairs: (&[(TextId, Value)], &[(TextId, Value)]),
-    left: &Numbered<'_>,
-    right: &Numbered<'_>,
-    texts: &mut EqualTexts,
+    graphs: &Graphs<'_>,
+    walk: &mut Walk,
 ) -> Result<bool, Memory>
-    requires left_values { AreValues left.now.graph.now.arena values.0.now }
-    requires right_values { AreValues right.now.graph.now.arena values.1.now }
-    requires left_pairs { ArePairs left.now.graph.now.arena pairs.0.now }
-    requires right_pairs { ArePairs right.now.graph.now.arena pairs.1.now }
-    requires known { AreJoined left.now.graph.now.arena right.now.graph.now.arena texts.old }
-    ensures known { AreJoined left.now.graph.now.arena right.now.graph.now.arena texts.new }
-    ensures same { IfOk result (λ same. IsTrue same ↔ PartsMatch left.now right.now pairs.entry.0.now pairs.entry.1.now values.entry.0.now values.entry.1.now) }
+    requires left_values { AreValues graphs.now.left.now.arena values.0.now }
+    requires right_values { AreValues graphs.now.right.now.arena values.1.now }
+    requires left_pairs { ArePairs graphs.now.left.now.arena pairs.0.now }
+    requires right_pairs { ArePairs graphs.now.right.now.arena pairs.1.now }
+    requires sound { IsSound graphs.now.left.now.arena graphs.now.right.now.arena walk.old }
+    ensures { IfOk result (λ same. Met graphs.now.left.now.arena graphs.now.right.now.arena walk.old walk.new (PartsMatch graphs.now.left.now.arena graphs.now.right.now.arena pairs.entry.0.now pairs.entry.1.now values.entry.0.now values.entry.1.now) same) }
 {
-    if !all_match(values.0, values.1, left, right, texts) {
+    if !all_meet(values.0, values.1, graphs, walk)? {
         return Ok(false);
     }
-    named_match(alloc, pairs.0, pairs.1, left, right, texts)
+    named_meet(alloc, pairs.0, pairs.1, graphs, walk)
 }
 
 /// Whether what two nodes with the same head hold is alike, where it stands.
-fn parts_match(
+#[tactic(auto, using(crate::proofs::Meeting::always))]
+fn parts_meet(
     alloc: Global,
     i: NodeId,
     j: NodeId,
-    left: &Numbered<'_>,
-    right: &Numbered<'_>,
-    texts: &mut EqualTexts,
+    graphs: &Graphs<'_>,
+    walk: &mut Walk,
 ) -> Result<bool, Memory>
-    requires left { i.0 < length left.now.graph.now.arena.nodes }
-    requires right { j.0 < length right.now.graph.now.arena.nodes }
-    requires head { (node_at (content left.now.graph.now) i.0).head ≡ (node_at (content right.now.graph.now) j.0).head }
-    requires known { AreJoined left.now.graph.now.arena right.now.graph.now.arena texts.old }
-    ensures known { AreJoined left.now.graph.now.arena right.now.graph.now.arena texts.new }
-    ensures same { IfOk result (λ same. IsTrue same ↔ NodesMatch (SameNumber left.now right.now) (node_at (content left.now.graph.now) i.0) (node_at (content right.now.graph.now) j.0)) }
+    requires left { i.0 < length graphs.now.left.now.arena.nodes }
+    requires right { j.0 < length graphs.now.right.now.arena.nodes }
+    requires head { (node_at (content graphs.now.left.now) i.0).head ≡ (node_at (content graphs.now.right.now) j.0).head }
+    requires sound { IsSound graphs.now.left.now.arena graphs.now.right.now.arena walk.old }
+    ensures { IfOk result (λ same. Met graphs.now.left.now.arena graphs.now.right.now.arena walk.old walk.new (NodePair (content graphs.now.left.now) (content graphs.now.right.now) i.0 j.0) same) }
 {
-    left.graph.is_finished();
-    right.graph.is_finished();
-    match (left.graph.node(i), right.graph.node(j)) {
+    graphs.left.is_finished();
+    graphs.right.is_finished();
+    match (graphs.left.node(i), graphs.right.node(j)) {
         (
             NodeView::Array {
                 items: vs,
@@ -96,7 +86,7 @@ fn parts_match(
                 items: ws,
                 names: qs,
             },
-        ) => both_match(alloc, (vs, ws), (ps, qs), left, right, texts),
+        ) => both_meet(alloc, (vs, ws), (ps, qs), graphs, walk),
         (
             NodeView::Object {
                 sealed: vs,
@@ -108,68 +98,51 @@ fn parts_match(
                 members: qs,
                 ..
             },
-        ) => both_match(alloc, (vs, ws), (ps, qs), left, right, texts),
+        ) => both_meet(alloc, (vs, ws), (ps, qs), graphs, walk),
         (NodeView::Wrapper { value: v, .. }, NodeView::Wrapper { value: w, .. }) => {
-            Ok(values_match(v, w, left, right, texts))
+            values_meet(v, w, graphs, walk)
         }
         (NodeView::Values { items: vs, .. }, NodeView::Values { items: ws, .. }) => {
-            Ok(all_match(vs, ws, left, right, texts))
+            all_meet(vs, ws, graphs, walk)
         }
         (NodeView::Dictionary { entries: es, .. }, NodeView::Dictionary { entries: fs, .. }) => {
-            Ok(all_entries_match(es, fs, left, right, texts))
+            all_entries_meet(es, fs, graphs, walk)
         }
         _ => Ok(true),
     }
 }
 
 /// Whether two nodes are alike: heads by content, and names and values place by place.
-fn nodes_match(
+fn node_pair_meets(
     alloc: Global,
     i: NodeId,
     j: NodeId,
-    left: &Numbered<'_>,
-    right: &Numbered<'_>,
-    texts: &mut EqualTexts,
+    graphs: &Graphs<'_>,
+    walk: &mut Walk,
 ) -> Result<bool, Memory>
-    requires left { i.0 < length left.now.graph.now.arena.nodes }
-    requires right { j.0 < length right.now.graph.now.arena.nodes }
-    requires known { AreJoined left.now.graph.now.arena right.now.graph.now.arena texts.old }
-    ensures known { AreJoined left.now.graph.now.arena right.now.graph.now.arena texts.new }
-    ensures same { IfOk result (λ same. IsTrue same ↔ NodesMatch (SameNumber left.now right.now) (node_at (content left.now.graph.now) i.0) (node_at (content right.now.graph.now) j.0)) }
+    requires left { i.0 < length graphs.now.left.now.arena.nodes }
+    requires right { j.0 < length graphs.now.right.now.arena.nodes }
+    requires sound { IsSound graphs.now.left.now.arena graphs.now.right.now.arena walk.old }
+    ensures { IfOk result (λ same. Met graphs.now.left.now.arena graphs.now.right.now.arena walk.old walk.new (NodePair (content graphs.now.left.now) (content graphs.now.right.now) i.0 j.0) same) }
 {
-    if !heads_match(i, j, left.graph, right.graph, texts) {
+    if !heads_match(i, j, graphs.left, graphs.right, &mut walk.texts) {
         return Ok(false);
     }
-    parts_match(alloc, i, j, left, right, texts)
+    parts_meet(alloc, i, j, graphs, walk)
 }
 
-/// Whether two numbered graphs read alike, number by number.
-fn numbered_alike(alloc: Global, left: &Numbered<'_>, right: &Numbered<'_>) -> Result<bool, Memory>
-    requires left { IsOrder (content left.now.graph.now) left.now.numbering.now }
-    requires right { IsOrder (content right.now.graph.now) right.now.numbering.now }
-    ensures { IfOk result (λ same. IsTrue same ↔ NumberedAlike (content left.now.graph.now) (content right.now.graph.now) left.now.numbering.now right.now.numbering.now) }
+/// Whether the nodes of each pair are alike, of those that were met and of those that are met on the way.
+fn all_pairs_meet(alloc: Global, graphs: &Graphs<'_>, walk: &mut Walk) -> Result<bool, Memory>
+    requires sound { IsSound graphs.now.left.now.arena graphs.now.right.now.arena walk.old }
+    ensures { IfOk result (λ same. Met graphs.now.left.now.arena graphs.now.right.now.arena walk.old walk.new (AllNodesMatch (content graphs.now.left.now) (content graphs.now.right.now)) same) }
 {
-    left.graph.is_finished();
-    right.graph.is_finished();
-    let mut texts = EqualTexts::new(alloc, left.graph)?;
-    if left.numbering.count() != right.numbering.count() {
-        return Ok(false);
-    }
-    if !values_match(
-        left.graph.root(),
-        right.graph.root(),
-        left,
-        right,
-        &mut texts,
-    ) {
-        return Ok(false);
-    }
-    for number in 0..left.numbering.count() {
-        let i = left.numbering.node_at(number);
-        let j = right.numbering.node_at(number);
-        if !nodes_match(alloc, i, j, left, right, &mut texts)? {
+    let mut next = 0;
+    while next < walk.pairs.len() {
+        let (i, j) = walk.pairs[next];
+        if !node_pair_meets(alloc, i, j, graphs, walk)? {
             return Ok(false);
         }
+        next += 1;
     }
     Ok(true)
 }
@@ -179,16 +152,12 @@ fn numbered_alike(alloc: Global, left: &Numbered<'_>, right: &Numbered<'_>) -> R
 pub fn isomorphic(alloc: Global, a: &Rooted, b: &Rooted) -> Result<bool, Memory>
     ensures { IfOk result (λ same. IsTrue same ↔ Isomorphic (content a.now) (content b.now)) }
 {
-    order_decides();
-    let numbers_a = Numbering::of(alloc, a)?;
-    let numbers_b = Numbering::of(alloc, b)?;
-    let left = Numbered {
-        graph: a,
-        numbering: &numbers_a,
-    };
-    let right = Numbered {
-        graph: b,
-        numbering: &numbers_b,
-    };
-    numbered_alike(alloc, &left, &right)
+    let graphs = Graphs { left: a, right: b };
+    a.is_finished();
+    b.is_finished();
+    let mut walk = Walk::new(alloc, &graphs)?;
+    if !values_meet(a.root(), b.root(), &graphs, &mut walk)? {
+        return Ok(false);
+    }
+    all_pairs_meet(alloc, &graphs, &mut walk)
 }

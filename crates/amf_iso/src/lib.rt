@@ -8,11 +8,11 @@ mod equal_texts;
 mod heads;
 mod matches;
 mod met;
-mod numbered;
 mod numbering;
 mod pairs;
 mod relabelling;
 mod waiting;
+mod walk;
 
 pub use compare::isomorphic;
 pub use met::values_met;

@@ -1,155 +1,158 @@
-ghost use Rattle.std.specs.Prelude.{◌↔◌, IsTrue};
-ghost use Rattle.amf_graph.specs.Arena.{Names};
+ghost use Rattle.std.specs.Prelude.{◌≡◌, ◌↔◌, length, IsTrue, IfOk};
+ghost use Rattle.amf_graph.specs.Arena.{Names, value_content};
+ghost use Rattle.amf_graph.specs.Isomorphic.{ValuesMatch};
+ghost use Rattle.amf_graph.specs.Views.{flat};
 ghost use Rattle.amf_iso.specs.Contents.{AreValues, ArePairs};
 ghost use Rattle.amf_iso.specs.Joined.{AreJoined};
-ghost use Rattle.amf_graph.specs.Views.{flat};
-ghost use Rattle.amf_iso.specs.Matches.{StoredMatch, AllMatch, IsPair, PairMatches, AllPairsMatch, IsEntry, EntryMatches};
+ghost use Rattle.amf_iso.specs.Walking.{IsSound, Met, NoNodes, StoredMatch, AllMatch, SecondsMatch, NamesMatch, IsEntry, EntriesMatch};
 
 use crate::equal_texts::EqualTexts;
-use crate::numbered::Numbered;
+use crate::walk::{Graphs, Walk};
 use amf_graph::{TextId, Value};
+use amf_wire::Memory;
 
-/// Whether two values are alike: nodes by their numbers, and others by content.
-pub(crate) fn values_match(
-    v: Value,
-    w: Value,
-    left: &Numbered<'_>,
-    right: &Numbered<'_>,
-    texts: &mut EqualTexts,
-) -> bool
-    requires left { Names left.now.graph.now.arena v }
-    requires right { Names right.now.graph.now.arena w }
-    requires known { AreJoined left.now.graph.now.arena right.now.graph.now.arena texts.old }
-    ensures known { AreJoined left.now.graph.now.arena right.now.graph.now.arena texts.new }
-    ensures same { IsTrue result ↔ StoredMatch left.now right.now v w }
+/// Whether two values that are no nodes are the same by content.
+fn leaves_match(v: Value, w: Value, graphs: &Graphs<'_>, texts: &mut EqualTexts) -> bool
+    requires left { Names graphs.now.left.now.arena v }
+    requires right { Names graphs.now.right.now.arena w }
+    requires known { AreJoined graphs.now.left.now.arena graphs.now.right.now.arena texts.old }
+    ensures known { AreJoined graphs.now.left.now.arena graphs.now.right.now.arena texts.new }
+    ensures same { IsTrue result ↔ ValuesMatch NoNodes (value_content graphs.now.left.now.arena v) (value_content graphs.now.right.now.arena w) }
 {
     match (v, w) {
-        (Value::Text(x), Value::Text(y)) => texts.are_equal(x, y, left.graph, right.graph),
-        (Value::Node(i), Value::Node(j)) => {
-            match (left.numbering.number_of(i), right.numbering.number_of(j)) {
-                (Some(m), Some(n)) => m == n,
-                _ => false,
-            }
-        }
+        (Value::Text(x), Value::Text(y)) => texts.are_equal(x, y, graphs.left, graphs.right),
         (Value::Text(_) | Value::Node(_), _) | (_, Value::Text(_) | Value::Node(_)) => false,
         _ => v == w,
     }
 }
 
+/// Whether two values are alike: nodes where they are partners, and others by content.
+pub(crate) fn values_meet(
+    v: Value,
+    w: Value,
+    graphs: &Graphs<'_>,
+    walk: &mut Walk,
+) -> Result<bool, Memory>
+    requires left { Names graphs.now.left.now.arena v }
+    requires right { Names graphs.now.right.now.arena w }
+    requires sound { IsSound graphs.now.left.now.arena graphs.now.right.now.arena walk.old }
+    ensures { IfOk result (λ same. Met graphs.now.left.now.arena graphs.now.right.now.arena walk.old walk.new (StoredMatch graphs.now.left.now.arena graphs.now.right.now.arena v w) same) }
+{
+    match (v, w) {
+        (Value::Node(i), Value::Node(j)) => walk.nodes_meet(i, j),
+        _ => Ok(leaves_match(v, w, graphs, &mut walk.texts)),
+    }
+}
+
 /// Whether values are alike, place by place.
-#[tactic(auto, using(crate::proofs::Remaining::compared))]
-pub(crate) fn all_match(
+#[tactic(auto, using(crate::proofs::Meeting::meets))]
+pub(crate) fn all_meet(
     vs: &[Value],
     ws: &[Value],
-    left: &Numbered<'_>,
-    right: &Numbered<'_>,
-    texts: &mut EqualTexts,
-) -> bool
-    requires left { AreValues left.now.graph.now.arena vs.now }
-    requires right { AreValues right.now.graph.now.arena ws.now }
-    requires known { AreJoined left.now.graph.now.arena right.now.graph.now.arena texts.old }
-    ensures known { AreJoined left.now.graph.now.arena right.now.graph.now.arena texts.new }
-    ensures same { IsTrue result ↔ AllMatch left.now right.now vs.now ws.now }
+    graphs: &Graphs<'_>,
+    walk: &mut Walk,
+) -> Result<bool, Memory>
+    requires left { AreValues graphs.now.left.now.arena vs.now }
+    requires right { AreValues graphs.now.right.now.arena ws.now }
+    requires sound { IsSound graphs.now.left.now.arena graphs.now.right.now.arena walk.old }
+    ensures { IfOk result (λ same. Met graphs.now.left.now.arena graphs.now.right.now.arena walk.old walk.new (AllMatch graphs.now.left.now.arena graphs.now.right.now.arena vs.now ws.now) same) }
 {
     if vs.len() != ws.len() {
-        return false;
+        return Ok(false);
     }
     for (v, w) in vs.iter().zip(ws) {
-        if !values_match(*v, *w, left, right, texts) {
-            return false;
+        if !values_meet(*v, *w, graphs, walk)? {
+            return Ok(false);
         }
     }
-    true
+    Ok(true)
 }
 
-/// Whether two pairs have the same name and values that are alike.
-fn pair_matches(
-    p: (TextId, Value),
-    q: (TextId, Value),
-    left: &Numbered<'_>,
-    right: &Numbered<'_>,
-    texts: &mut EqualTexts,
-) -> bool
-    requires left { IsPair left.now.graph.now.arena p }
-    requires right { IsPair right.now.graph.now.arena q }
-    requires known { AreJoined left.now.graph.now.arena right.now.graph.now.arena texts.old }
-    ensures known { AreJoined left.now.graph.now.arena right.now.graph.now.arena texts.new }
-    ensures same { IsTrue result ↔ PairMatches left.now right.now p q }
-{
-    if !texts.are_equal(p.0, q.0, left.graph, right.graph) {
-        return false;
-    }
-    values_match(p.1, q.1, left, right, texts)
-}
-
-/// Whether pairs have the same names and values that are alike, place by place.
-#[tactic(auto, using(crate::proofs::Remaining::compared, crate::proofs::PairsRemain::pairs_long))]
-pub(crate) fn all_pairs_match(
+/// Whether the names of pairs are the same, place by place.
+#[tactic(auto, using(crate::proofs::Remaining::compared))]
+pub(crate) fn names_match(
     ps: &[(TextId, Value)],
     qs: &[(TextId, Value)],
-    left: &Numbered<'_>,
-    right: &Numbered<'_>,
+    graphs: &Graphs<'_>,
     texts: &mut EqualTexts,
 ) -> bool
-    requires left { ArePairs left.now.graph.now.arena ps.now }
-    requires right { ArePairs right.now.graph.now.arena qs.now }
-    requires known { AreJoined left.now.graph.now.arena right.now.graph.now.arena texts.old }
-    ensures known { AreJoined left.now.graph.now.arena right.now.graph.now.arena texts.new }
-    ensures same { IsTrue result ↔ AllPairsMatch left.now right.now ps.now qs.now }
+    requires left { ArePairs graphs.now.left.now.arena ps.now }
+    requires right { ArePairs graphs.now.right.now.arena qs.now }
+    requires known { AreJoined graphs.now.left.now.arena graphs.now.right.now.arena texts.old }
+    ensures known { AreJoined graphs.now.left.now.arena graphs.now.right.now.arena texts.new }
+    ensures same { IsTrue result ↔ NamesMatch graphs.now.left.now.arena graphs.now.right.now.arena ps.now qs.now }
 {
     if ps.len() != qs.len() {
         return false;
     }
     for (p, q) in ps.iter().zip(qs) {
-        if !pair_matches(*p, *q, left, right, texts) {
+        if !texts.are_equal(p.0, q.0, graphs.left, graphs.right) {
             return false;
         }
     }
     true
+}
+
+/// Whether the values of pairs are alike, place by place.
+#[tactic(auto, using(crate::proofs::Meeting::meets))]
+pub(crate) fn seconds_meet(
+    ps: &[(TextId, Value)],
+    qs: &[(TextId, Value)],
+    graphs: &Graphs<'_>,
+    walk: &mut Walk,
+) -> Result<bool, Memory>
+    requires left { ArePairs graphs.now.left.now.arena ps.now }
+    requires right { ArePairs graphs.now.right.now.arena qs.now }
+    requires long { length ps.now ≡ length qs.now }
+    requires sound { IsSound graphs.now.left.now.arena graphs.now.right.now.arena walk.old }
+    ensures { IfOk result (λ same. Met graphs.now.left.now.arena graphs.now.right.now.arena walk.old walk.new (SecondsMatch graphs.now.left.now.arena graphs.now.right.now.arena ps.now qs.now) same) }
+{
+    for (p, q) in ps.iter().zip(qs) {
+        if !values_meet(p.1, q.1, graphs, walk)? {
+            return Ok(false);
+        }
+    }
+    Ok(true)
 }
 
 /// Whether two keys are alike, and their values too.
-fn entry_matches(
+fn entry_meets(
     e: (Value, Value),
     f: (Value, Value),
-    left: &Numbered<'_>,
-    right: &Numbered<'_>,
-    texts: &mut EqualTexts,
-) -> bool
-    requires left { IsEntry left.now.graph.now.arena e }
-    requires right { IsEntry right.now.graph.now.arena f }
-    requires known { AreJoined left.now.graph.now.arena right.now.graph.now.arena texts.old }
-    ensures known { AreJoined left.now.graph.now.arena right.now.graph.now.arena texts.new }
-    ensures same { IsTrue result ↔ EntryMatches left.now right.now e f }
+    graphs: &Graphs<'_>,
+    walk: &mut Walk,
+) -> Result<bool, Memory>
+    requires left { IsEntry graphs.now.left.now.arena e }
+    requires right { IsEntry graphs.now.right.now.arena f }
+    requires sound { IsSound graphs.now.left.now.arena graphs.now.right.now.arena walk.old }
+    ensures { IfOk result (λ same. Met graphs.now.left.now.arena graphs.now.right.now.arena walk.old walk.new (EntriesMatch graphs.now.left.now.arena graphs.now.right.now.arena e f) same) }
 {
-    if !values_match(e.0, f.0, left, right, texts) {
-        return false;
+    if !values_meet(e.0, f.0, graphs, walk)? {
+        return Ok(false);
     }
-    values_match(e.1, f.1, left, right, texts)
+    values_meet(e.1, f.1, graphs, walk)
 }
 
 /// Whether keys and values are alike, place by place.
-#[tactic(auto, using(crate::proofs::Remaining::compared, crate::proofs::EntriesRemain::entries_long))]
-pub(crate) fn all_entries_match(
+#[tactic(auto, using(crate::proofs::Meeting::meets))]
+pub(crate) fn all_entries_meet(
     es: &[(Value, Value)],
     fs: &[(Value, Value)],
-    left: &Numbered<'_>,
-    right: &Numbered<'_>,
-    texts: &mut EqualTexts,
-) -> bool
-    requires left { AreValues left.now.graph.now.arena (flat es.now) }
-    requires right { AreValues right.now.graph.now.arena (flat fs.now) }
-    requires known { AreJoined left.now.graph.now.arena right.now.graph.now.arena texts.old }
-    ensures known { AreJoined left.now.graph.now.arena right.now.graph.now.arena texts.new }
-    ensures same { IsTrue result ↔ AllMatch left.now right.now (flat es.now) (flat fs.now) }
+    graphs: &Graphs<'_>,
+    walk: &mut Walk,
+) -> Result<bool, Memory>
+    requires left { AreValues graphs.now.left.now.arena (flat es.now) }
+    requires right { AreValues graphs.now.right.now.arena (flat fs.now) }
+    requires sound { IsSound graphs.now.left.now.arena graphs.now.right.now.arena walk.old }
+    ensures { IfOk result (λ same. Met graphs.now.left.now.arena graphs.now.right.now.arena walk.old walk.new (AllMatch graphs.now.left.now.arena graphs.now.right.now.arena (flat es.now) (flat fs.now)) same) }
 {
     if es.len() != fs.len() {
-        return false;
+        return Ok(false);
     }
     for (e, f) in es.iter().zip(fs) {
-        if !entry_matches(*e, *f, left, right, texts) {
-            return false;
+        if !entry_meets(*e, *f, graphs, walk)? {
+            return Ok(false);
         }
     }
-    true
+    Ok(true)
 }
