@@ -11,13 +11,13 @@ use Rattle.amf_graph.proofs.Lists.{at_left, at_end, length_pushed}
 use Rattle.amf_graph.proofs.NameOrder.{by_name_again, by_name_all, by_name_length}
 use Rattle.amf3_spelling.specs.Tables.{Tables, with_words, add_node}
 use Rattle.amf3_spelling.specs.Refusals3.{marker, leaf_marker}
-use Rattle.amf3_spelling.specs.ByteSpelling.{Then, Step, byte, number, Segment, step, value, leaf_segments, segments_of, Segments, Placed, Begun, ValueBy, NodeIn, Spells}
+use Rattle.amf3_spelling.specs.ByteSpelling.{Step, byte, number, Segment, step, value, leaf_segments, segments_of, Segments, Placed, Begun, NodeIn, Spells}
 use Rattle.amf3_spelling.proofs.BytesOf.{fits_too}
 use Rattle.amf3_spelling.proofs.Ordered3.{segments_met}
 use Rattle.amf3_spelling.proofs.Ordered3 as ordered
 use Rattle.amf3_write.specs.declared.output.Output.{Output}
 use Rattle.amf3_write.specs.Contents.{node_segments, segment_values}
-use Rattle.amf3_write.specs.Writes.{Writes, WritesStep, WritesSteps, WritesValue, IsCanonical, Leads, Stops}
+use Rattle.amf3_write.specs.Writes.{WritesStep, WritesSteps, WritesValue, IsCanonical, Leads, Stops}
 
 -- Heights.
 

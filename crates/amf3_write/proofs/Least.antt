@@ -1,11 +1,11 @@
 -- The first lack of nodes, one more at a time.
-use Rattle.std.proofs.Common.{◌≡◌, ℕ, zero, suc, ◌<◌, ◌≤◌, ◌⊎◌, List, [], ◌∷◌, ◌++◌, length, slice_get, Option, Some, None, sym, refl, ap, ◌∙◌, subst, inl, inr, arith}
+use Rattle.std.proofs.Common.{◌≡◌, ℕ, zero, suc, ◌<◌, ◌≤◌, ◌⊎◌, List, [], ◌∷◌, ◌++◌, length, slice_get, Option, Some, None, sym, refl, ap, ◌∙◌, inl, inr, arith}
 use Rattle.std.proofs.lemmas.Option.{same_Some}
 use Rattle.amf_graph.specs.declared.lack.Lack.{Lack}
 use Rattle.amf_graph.specs.declared.lack.LackKind.{LackKind}
 use Rattle.amf_graph.specs.declared.lack.LackKind.TheVariants.{EmptyName}
 use Rattle.amf_graph.specs.Graph.{AllNamed, Graph, node_at}
-use Rattle.amf_graph.specs.Lacks.{rank, IsFirstLack}
+use Rattle.amf_graph.specs.Lacks.{rank}
 use Rattle.amf_graph.proofs.Lists.{at_left, at_end, at_push}
 use Rattle.amf3_spelling.specs.Lacks3.{NodeLacks3}
 use Rattle.amf3_write.specs.Found.{IsLeast, IsBefore}

@@ -1,6 +1,5 @@
 -- What stays ready while the tables grow.
-use Rattle.std.proofs.Common.{◌≡◌, ◌≢◌, ℕ, ◌+◌, ◌*◌, ◌<◌, ◌≤◌, List, [], ◌∷◌, ◌++◌, length, sym, refl, ap, ◌∙◌, subst, arith, append-nil}
-use Rattle.amf_wire.specs.Style.{canonical}
+use Rattle.std.proofs.Common.{◌≡◌, ◌≢◌, ℕ, ◌+◌, ◌*◌, ◌≤◌, List, [], ◌∷◌, ◌++◌, length, sym, refl, ap, ◌∙◌, subst, arith, append-nil}
 use Rattle.amf_wire.specs.Text.{IsText}
 use Rattle.amf_graph.specs.Arena.{Arena}
 use Rattle.amf_graph.specs.Order.{Absent}
@@ -11,7 +10,7 @@ use Rattle.amf_tables.specs.TextPlaces.{IsEntered}
 use Rattle.amf3_spelling.specs.Words3.{NoPlaceBelow}
 use Rattle.amf_tables.specs.declared.text_place.TextPlace.{TextPlace}
 use Rattle.amf_tables.specs.declared.text_place.TextPlace.TheVariants.{Old, New}
-use Rattle.amf3_spelling.specs.ByteSpelling.{Spelling, whole, number, raw, word, step}
+use Rattle.amf3_spelling.specs.ByteSpelling.{whole, number, raw, word, step}
 use Rattle.amf_tables.proofs.KnownPlaces.{known_with_text, known_with_entry}
 use Rattle.amf3_write.specs.declared.output.Output.{Output}
 use Rattle.amf3_write.specs.Writes.{Writes, WritesStep, WritesSteps, IsReady}

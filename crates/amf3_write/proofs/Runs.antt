@@ -1,19 +1,20 @@
 -- Runs that are put onto a stack and taken off it.
-use Rattle.std.proofs.Common.{◌≡◌, ℕ, ◌+◌, ◌*◌, ◌≤◌, List, [], ◌∷◌, ◌++◌, length, reverse, Option, sym, refl, ap, ◌∙◌, subst, arith, append_assoc, append-nil}
-use Rattle.std.proofs.lemmas.List.{reverse-append, length-append}
+use Rattle.std.proofs.Common.{◌≡◌, ℕ, ◌+◌, ◌*◌, List, [], ◌∷◌, ◌++◌, length, reverse, Option, sym, refl, ap, ◌∙◌, subst, arith, append_assoc, append-nil}
+use Rattle.std.proofs.lemmas.List.{reverse-append}
 use Rattle.amf_graph.specs.declared.value.Value.{Value as Stored}
-use Rattle.amf_graph.specs.Graph.{Value, Graph}
+use Rattle.amf_graph.specs.declared.value.NodeId.{NodeId}
+use Rattle.amf_graph.specs.Graph.{Value, Graph, node}
 use Rattle.amf_graph.specs.declared.value.TextId.{TextId}
 use Rattle.amf_graph.specs.Arena.{Arena, text_at, value_content}
 use Rattle.amf_graph.specs.Views.{flat}
 use Rattle.amf3_spelling.specs.ByteSpelling.{Segment, step, value, word, values_then, pairs_then}
-use Rattle.amf_iso.specs.Contents.{values_of, pairs_of, ArePairs}
+use Rattle.amf_iso.specs.Contents.{pairs_of, ArePairs}
 use Rattle.amf3_write.specs.declared.unwritten.Unwritten.{Unwritten}
 use Rattle.amf3_write.specs.Unwritten.{run_segments, next_segments, segments_left, IsRunOf, AreRunsOf, AreStoredPairs, run_turns, turns_left}
 use Rattle.amf3_write.proofs.NamedPairs.{all_push}
 use Rattle.amf3_write.specs.declared.output.Output.{Output}
-use Rattle.amf3_write.specs.Writes.{Leads}
-use Rattle.amf3_write.proofs.Leading.{leads_then, leads_from}
+use Rattle.amf3_write.specs.Writes.{Leads, WritesStep}
+use Rattle.amf3_write.proofs.Leading.{leads_then, leads_from, leads_to, leads_step}
 
 pub segments_push : (a : Arena) (runs : List Unwritten) (run : Unwritten) → segments_left a (runs ++ run ∷ []) ≡ run_segments a run ++ segments_left a runs
 segments_push a [] run = sym (append-nil (run_segments a run))
@@ -59,9 +60,26 @@ flat_length (e ∷ es) = omega (arith, flat_length es)
 pub runs_pushed : (a : Arena) (runs now : List Unwritten) (run : Unwritten) → now ≡ runs ++ run ∷ [] → AreRunsOf a runs → IsRunOf a run → AreRunsOf a now
 runs_pushed a runs now run e h k = subst (λ w. AreRunsOf a w) (sym e) (all_push (IsRunOf a) runs run h k)
 
--- one run taken off the stack, and written up to its next value
-pub turned : (g : Graph) (a : Arena) (whole : List Segment) (runs all left : List Unwritten) (top : Unwritten) (next : Option Stored) (o m n : Output) → all ≡ runs ++ top ∷ [] → Leads g whole (segments_left a all) o m
-    → Leads g (run_segments a top ++ segments_left a runs) (next_segments a next ++ segments_left a left) m n → Leads g whole (next_segments a next ++ segments_left a left) o n
+-- What is written of a run, up to a node that is new.
+
+module _ (g : Graph) (whole ps old new : List Segment) (next : Option NodeId) where
+  -- the value at its front
+  pub value_on : (v : Value) (o m n : Output) → old ≡ value v ∷ new → Leads g whole (old ++ ps) o m → ((qs : List Segment) → Leads g (value v ∷ qs) (next_segments next ++ qs) m n) → Leads g whole (next_segments next ++ (new ++ ps)) o n
+  value_on v o m n e h k = leads_then g whole (value v ∷ (new ++ ps)) (next_segments next ++ (new ++ ps)) o m n (leads_to g whole (old ++ ps) (value v ∷ (new ++ ps)) o m (ap (λ w. w ++ ps) e) h) (k (new ++ ps))
+
+  -- the pair at its front
+  pub pair_on : (x : List ℕ) (v : Value) (o m n r : Output) → old ≡ step (word x) ∷ value v ∷ new → Leads g whole (old ++ ps) o m → WritesStep (word x) m n → ((qs : List Segment) → Leads g (value v ∷ qs) (next_segments next ++ qs) n r) → Leads g whole (next_segments next ++ (new ++ ps)) o r
+  pair_on x v o m n r e h s k =
+      let named = leads_then g whole (step (word x) ∷ value v ∷ (new ++ ps)) (value v ∷ (new ++ ps)) o m n (leads_to g whole (old ++ ps) (step (word x) ∷ value v ∷ (new ++ ps)) o m (ap (λ w. w ++ ps) e) h) (leads_step g (word x) (value v ∷ (new ++ ps)) m n s) in
+      leads_then g whole (value v ∷ (new ++ ps)) (next_segments next ++ (new ++ ps)) o n r named (k (new ++ ps))
+
+-- a node that is new, with what is behind it put back onto the stack
+pub put_back : (g : Graph) (a : Arena) (whole : List Segment) (runs now : List Unwritten) (run : Unwritten) (n : NodeId) (o m : Output) → now ≡ runs ++ run ∷ [] → Leads g whole (value (node n.0) ∷ (run_segments a run ++ segments_left a runs)) o m → Leads g whole (value (node n.0) ∷ segments_left a now) o m
+put_back g a whole runs now run n o m e h = leads_to g whole (value (node n.0) ∷ (run_segments a run ++ segments_left a runs)) (value (node n.0) ∷ segments_left a now) o m (ap (λ w. value (node n.0) ∷ w) (sym (segments_pushed a runs now run e))) h
+
+-- one run taken off the stack, and written up to its next node that is new
+pub turned : (g : Graph) (a : Arena) (whole : List Segment) (runs all left : List Unwritten) (top : Unwritten) (next : Option NodeId) (o m n : Output) → all ≡ runs ++ top ∷ [] → Leads g whole (segments_left a all) o m
+    → Leads g (run_segments a top ++ segments_left a runs) (next_segments next ++ segments_left a left) m n → Leads g whole (next_segments next ++ segments_left a left) o n
 turned g a whole runs all left top next o m n e h k =
-    let behind = next_segments a next ++ segments_left a left in
+    let behind = next_segments next ++ segments_left a left in
     leads_then g whole (segments_left a all) behind o m n h (leads_from g (segments_left a all) (run_segments a top ++ segments_left a runs) behind m n (segments_pushed a runs all top e) k)

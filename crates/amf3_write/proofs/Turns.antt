@@ -1,12 +1,11 @@
 -- What the table of nodes keeps, and that the turns of the writer come to an end.
-use Rattle.std.proofs.Common.{◌≡◌, ℕ, ◌+◌, ◌*◌, ◌<◌, ◌≤◌, List, [], ◌∷◌, ◌++◌, slice_get, Some, sym, refl, ap, ◌∙◌, subst, inl, inr, arith, append_assoc}
-use Rattle.amf_graph.specs.Order.{Absent}
+use Rattle.std.proofs.Common.{◌≡◌, ℕ, ◌+◌, ◌*◌, ◌≤◌, List, [], ◌∷◌, ◌++◌, slice_get, Some, sym, refl, ap, ◌∙◌, subst, inl, inr, arith, append_assoc}
 use Rattle.amf_graph.proofs.Counting.{missing, missing_less, missing_push}
 use Rattle.amf_graph.proofs.Lists.{at_left}
 use Rattle.amf3_spelling.specs.Tables.{Tables, add_node}
 use Rattle.amf3_write.specs.declared.output.Output.{Output}
 use Rattle.amf3_write.specs.Unwritten.{Falls}
-use Rattle.amf3_write.specs.Writes.{BeginsWith, Front, HasFront, Keeps}
+use Rattle.amf3_write.specs.Writes.{BeginsWith, Keeps}
 use Rattle.amf3_write.proofs.Whole.{own_front}
 
 pub keeps_new : (i : ℕ) (o m : Output) → m.tables ≡ add_node o.tables i → m.bytes.items ≡ o.bytes.items → Keeps o m

@@ -7,8 +7,7 @@ use Rattle.amf_wire.specs.Style.{canonical}
 use Rattle.amf_wire.specs.U29.{IsU29}
 use Rattle.amf_wire.specs.Text.{IsText}
 use Rattle.amf_graph.specs.declared.value.TextId.{TextId}
-use Rattle.amf_graph.specs.Arena.{Arena, IsFinished, text_at}
-use Rattle.amf_graph.specs.Bounds.{IsWithinBounds}
+use Rattle.amf_graph.specs.Arena.{Arena}
 use Rattle.amf3_spelling.specs.Tables.{Entry, Words, Tables, with_words, add_text, add_entry}
 use Rattle.amf3_spelling.specs.Words3.{NoPlaceBelow, EntryNumber}
 use Rattle.amf_tables.specs.FirstPlace.{IsFirstPlace}

@@ -1,35 +1,20 @@
 -- Nodes by content, and ends that are handed on.
-use Rattle.std.proofs.Common.{◌≡◌, ℕ, zero, suc, ◌+◌, ◌*◌, ◌<◌, Bool, true, false, cond, List, [], ◌∷◌, ◌++◌, length, get_or, sym, refl, ap, ◌∙◌, subst, inl, inr, arith, append_assoc, IsTrue, rules}
+use Rattle.std.proofs.Common.{◌≡◌, ℕ, ◌<◌, Bool, true, false, List, length, sym, ap, ◌∙◌, subst, inl, inr, IsTrue, rules}
 use Rattle.std.specs.Prelude.{Result, Ok, Err}
 use Rattle.std.specs.Result.{IsErrAnd, IsErrOf}
-use Rattle.std.specs.List.{AllByRecursion}
 use Rattle.std.proofs.Math.ListN.{get_or-map}
-use Rattle.std.proofs.lemmas.List.{length-map}
-use Rattle.amf_wire.specs.Style.{canonical}
-use Rattle.amf_wire.specs.U29.{IsU29}
-use Rattle.amf_wire.specs.Text.{IsText}
 use Rattle.amf_graph.specs.declared.lack.Lack.{Lack}
 use Rattle.amf_graph.specs.declared.write_end.WriteEnd.{WriteEnd}
 use Rattle.amf_graph.specs.declared.write_end.WriteEnd.TheVariants.{NoSpelling}
 use Rattle.amf_graph.specs.declared.value.Value.{Value as Stored}
-use Rattle.amf_graph.specs.Graph.{Value, leaf, text, node, Traits, array, object, Node, Graph, node_at, AllNamed, Fits}
-use Rattle.amf_graph.specs.ByName.{by_name}
-use Rattle.amf_graph.specs.Order.{Absent, seconds}
-use Rattle.amf_graph.specs.Arena.{Arena, StoredNode, node_content, graph_of, IsFinished, IsNodeIn, Names}
+use Rattle.amf_graph.specs.Graph.{Value, Node, node_at, AllNamed, Fits}
+use Rattle.amf_graph.specs.Arena.{Arena, StoredNode, node_content, graph_of, IsFinished, IsNodeIn}
 use Rattle.amf_graph.specs.Bounds.{NodeWithin, IsWithinBounds}
 use Rattle.amf_graph.specs.Building.{stored_at, no_stored, kind_of}
-use Rattle.amf_graph.specs.Views.{flat}
-use Rattle.amf_graph.proofs.NameOrder.{by_name_again, by_name_all, by_name_length}
-use Rattle.amf3_spelling.specs.Tables.{plain, with_words, add_node}
 use Rattle.amf3_spelling.specs.Markers3.{node_marker}
 use Rattle.amf3_spelling.specs.Refusals3.{marker}
-use Rattle.amf_tables.specs.FirstPlace.{IsFirstPlace}
-use Rattle.amf3_spelling.specs.ByteSpelling.{byte, number, word, traits, step, values_then, pairs_then, segments_of, Placed, Begun, NodeIn, Segments, Spells}
-use Rattle.amf3_spelling.proofs.BytesOf.{fits_too}
 use Rattle.amf3_spelling.proofs.FirstLack3.{named_or_not}
 use Rattle.amf3_spelling.proofs.Markers.{kind_content}
-use Rattle.amf3_spelling.proofs.Ordered3.{segment_values}
-use Rattle.amf3_write.specs.declared.output.Output.{Output}
 use Rattle.amf3_write.proofs.Wrote.{each_there}
 
 -- the end that is handed on is the one that came

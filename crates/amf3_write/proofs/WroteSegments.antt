@@ -8,7 +8,7 @@ use Rattle.amf_wire.specs.declared.pattern.Pattern.{Pattern}
 use Rattle.amf_wire.specs.Integer.{IsInteger}
 use Rattle.amf_graph.specs.Graph.{Value}
 use Rattle.amf3_spelling.specs.Tables.{Tables, with_words}
-use Rattle.amf3_spelling.specs.ByteSpelling.{Then, Step, number, unused, raw, Segment, step, value, Segments, signed_bytes, four_bytes, eight_bytes}
+use Rattle.amf3_spelling.specs.ByteSpelling.{Step, number, unused, raw, Segment, step, value, Segments, signed_bytes, four_bytes, eight_bytes}
 use Rattle.amf3_write.specs.declared.output.Output.{Output}
 use Rattle.amf3_write.specs.Writes.{Writes, WritesStep, WritesSteps}
 

@@ -1,5 +1,5 @@
 -- The tables of a writer of the parts of one graph.
-use Rattle.std.specs.Prelude.{◌≡◌, ℕ, ◌<◌, length}
+use Rattle.std.specs.Prelude.{◌≡◌, ◌<◌, length}
 use Rattle.std.specs.List.{AllByRecursion}
 use Rattle.amf_graph.specs.Arena.{Arena}
 use Rattle.amf_tables.specs.KnownWords.{AreKnownOf}

@@ -2,7 +2,9 @@
 use Rattle.std.specs.Prelude.{ℕ, ◌+◌, ◌*◌, ◌^◌, ◌<◌, ◌≤◌, ◌⊎◌, List, [], ◌∷◌, ◌++◌, length, reverse, Option, Some, None}
 use Rattle.std.specs.List.{AllByRecursion}
 use Rattle.amf_graph.specs.declared.value.Value.{Value as Stored}
+use Rattle.amf_graph.specs.declared.value.NodeId.{NodeId}
 use Rattle.amf_graph.specs.declared.value.TextId.{TextId}
+use Rattle.amf_graph.specs.Graph.{node}
 use Rattle.amf_graph.specs.Arena.{Arena, Names, IsTextId, value_content}
 use Rattle.amf_graph.specs.Order.{Absent}
 use Rattle.amf_graph.specs.Views.{flat}
@@ -25,14 +27,15 @@ abbrev pub segments_left : Arena → List Unwritten → List Segment
 segments_left a [] = []
 segments_left a (run ∷ runs) = segments_left a runs ++ run_segments a run
 
--- the segment that a value is, if there is one
-abbrev pub next_segments : Arena → Option Stored → List Segment
-next_segments a None = []
-next_segments a (Some v) = value (value_content a v) ∷ []
+-- the segment that a node is, if there is one
+abbrev pub next_segments : Option NodeId → List Segment
+next_segments None = []
+next_segments (Some n) = value (node n.0) ∷ []
 
-abbrev pub IsNextOf : Arena → Option Stored → Type 0
-IsNextOf a None = Unit {0}
-IsNextOf a (Some v) = Names a v
+-- a node of the arena that is not in the table
+abbrev pub IsNextOf : Arena → List ℕ → Option NodeId → Type 0
+IsNextOf a nodes None = Unit {0}
+IsNextOf a nodes (Some n) = (n.0 < length a.nodes) × Absent nodes n.0
 
 abbrev pub IsStoredPair : Arena → TextId × Stored → Type 0
 IsStoredPair a p = IsTextId a p.0.0 × Names a p.1

@@ -13,7 +13,7 @@ ghost use Rattle.amf3_write.specs.Writes.{Leads, Keeps, IsReady};
 
 use crate::output::Output;
 use crate::pairs::are_by_name;
-use crate::unwritten::Unwritten;
+use crate::unwritten::{Unwritten, push_values};
 use amf_graph::{NodeId, NodeView, Rooted, TextId, TraitsId, Value};
 use amf_iso::ids_by_name;
 use amf_wire::Memory;
@@ -90,7 +90,7 @@ impl Output {
         ensures ready { OnOk result (IsReady graph.now.arena self.new.tables self.new.known) }
     {
         self.number(2 * items.len() as u32 + 1)?;
-        waiting.push(Unwritten::Values(items))?;
+        push_values(items, waiting)?;
         push_pairs(self.alloc, names, graph, waiting)
     }
 
@@ -120,7 +120,7 @@ impl Output {
         if class.dynamic {
             push_pairs(self.alloc, members, graph, waiting)?;
         }
-        waiting.push(Unwritten::Values(sealed))?;
+        push_values(sealed, waiting)?;
         Ok(())
     }
 }

@@ -116,6 +116,10 @@ impl Output {
         let spelled = write_u29(number);
         match spelled.as_slice() {
             [byte] => self.bytes.push(*byte)?,
+            [first, last] => {
+                self.bytes.push(*first)?;
+                self.bytes.push(*last)?;
+            }
             bytes => self.bytes.extend_from_slice(bytes)?,
         }
         Ok(())

@@ -1,4 +1,4 @@
-ghost use Rattle.std.specs.Prelude.{◌≡◌, ◌<◌, [], ◌∷◌, length, OnOk};
+ghost use Rattle.std.specs.Prelude.{◌≡◌, ◌<◌, List, [], ◌∷◌, ◌++◌, length, IfOk, OnOk};
 ghost use Rattle.std.specs.Result.{IsErrOf};
 ghost use Rattle.amf_graph.specs.declared.lack.Lack.{Lack};
 ghost use Rattle.amf_graph.specs.Arena.{Names, value_content};
@@ -7,7 +7,7 @@ ghost use Rattle.amf_graph.specs.Order.{Absent};
 ghost use Rattle.amf_graph.specs.Rooted.{content};
 ghost use Rattle.amf_wire.specs.Integer.{IsInteger};
 ghost use Rattle.amf3_spelling.specs.ByteSpelling as spell;
-ghost use Rattle.amf3_write.specs.Unwritten.{AreRunsOf, segments_left, turns_left, Falls};
+ghost use Rattle.amf3_write.specs.Unwritten.{AreRunsOf, IsNextOf, next_segments, segments_left, turns_left, Falls};
 ghost use Rattle.amf3_write.specs.Writes.{WritesSteps, WritesValue, Leads, Keeps, Stops, IsReady};
 
 use crate::nodes::is_unnamed;
@@ -59,28 +59,22 @@ impl Output {
     {
         let mut waiting = vec![in self.alloc; Unwritten::One(value)]?;
         while let Some(top) = waiting.pop() {
-            let next = self.next_value(top, graph, &mut waiting)?;
-            if let Some(value) = next {
-                self.begin(value, graph, &mut waiting)?;
+            let next = self.run(top, graph, &mut waiting)?;
+            if let Some(node) = next {
+                self.new_node(node, graph, &mut waiting)?;
             }
         }
         Ok(())
     }
 
-    /// A value that is no node, or the start of a node, whose values go onto the stack.
-    fn begin<'g>(
-        &mut self,
-        value: Value,
-        graph: &'g Rooted,
-        waiting: &mut Vec<Unwritten<'g>>,
-    ) -> Result<(), WriteEnd>
+    /// Writes a value that is whole where it starts: one that is no node, or a node by its place. A node that has not been
+    /// written is given back.
+    #[inline(always)]
+    pub(crate) fn whole(&mut self, value: Value, graph: &Rooted) -> Result<Option<NodeId>, Memory>
         requires value { Names graph.now.arena value }
-        requires runs { AreRunsOf graph.now.arena waiting.old.items }
         requires ready { IsReady graph.now.arena self.old.tables self.old.known }
-        ensures leads { OnOk result (Leads (content graph.now) (spell.value (value_content graph.now.arena value) ∷ segments_left graph.now.arena waiting.old.items) (segments_left graph.now.arena waiting.new.items) self.old self.new) }
-        ensures lack { (l : Lack) → IsErrOf result (WriteEnd.NoSpelling l) → Stops (content graph.now) (spell.value (value_content graph.now.arena value) ∷ segments_left graph.now.arena waiting.old.items) self.old l }
-        ensures runs { OnOk result (AreRunsOf graph.now.arena waiting.new.items) }
-        ensures falls { OnOk result (Falls (length graph.now.arena.nodes) self.old.tables.nodes self.new.tables.nodes (turns_left waiting.old.items) (turns_left waiting.new.items)) }
+        ensures leads { IfOk result (λ next. (ps : List spell.Segment) → Leads (content graph.now) (spell.value (value_content graph.now.arena value) ∷ ps) (next_segments next ++ ps) self.old self.new) }
+        ensures next { IfOk result (IsNextOf graph.now.arena self.new.tables.nodes) }
         ensures keeps { Keeps self.old self.new }
         ensures ready { OnOk result (IsReady graph.now.arena self.new.tables self.new.known) }
     {
@@ -95,25 +89,18 @@ impl Output {
                 self.marker(Marker::Text)?;
                 self.text_of(text, graph)?;
             }
-            Value::Node(node) => self.node(node, graph, waiting)?,
+            Value::Node(node) => return self.known_node(node, graph),
         }
-        Ok(())
+        Ok(None)
     }
 
-    /// A node: by its place, or up to its first value where it has not been written.
-    fn node<'g>(
-        &mut self,
-        node: NodeId,
-        graph: &'g Rooted,
-        waiting: &mut Vec<Unwritten<'g>>,
-    ) -> Result<(), WriteEnd>
+    /// Writes a node by its place. One that has not been written is given back.
+    #[inline(always)]
+    fn known_node(&mut self, node: NodeId, graph: &Rooted) -> Result<Option<NodeId>, Memory>
         requires there { node.0 < length graph.now.arena.nodes }
-        requires runs { AreRunsOf graph.now.arena waiting.old.items }
         requires ready { IsReady graph.now.arena self.old.tables self.old.known }
-        ensures leads { OnOk result (Leads (content graph.now) (spell.value (graph_of_values.node node.0) ∷ segments_left graph.now.arena waiting.old.items) (segments_left graph.now.arena waiting.new.items) self.old self.new) }
-        ensures lack { (l : Lack) → IsErrOf result (WriteEnd.NoSpelling l) → Stops (content graph.now) (spell.value (graph_of_values.node node.0) ∷ segments_left graph.now.arena waiting.old.items) self.old l }
-        ensures runs { OnOk result (AreRunsOf graph.now.arena waiting.new.items) }
-        ensures falls { OnOk result (Falls (length graph.now.arena.nodes) self.old.tables.nodes self.new.tables.nodes (turns_left waiting.old.items) (turns_left waiting.new.items)) }
+        ensures leads { IfOk result (λ next. (ps : List spell.Segment) → Leads (content graph.now) (spell.value (graph_of_values.node node.0) ∷ ps) (next_segments next ++ ps) self.old self.new) }
+        ensures next { IfOk result (IsNextOf graph.now.arena self.new.tables.nodes) }
         ensures keeps { Keeps self.old self.new }
         ensures ready { OnOk result (IsReady graph.now.arena self.new.tables self.new.known) }
     {
@@ -122,9 +109,9 @@ impl Output {
             Some(place) => {
                 self.marker(Marker::Node(graph.kind_of(node)))?;
                 self.number(2 * place)?;
-                Ok(())
+                Ok(None)
             }
-            None => self.new_node(node, graph, waiting),
+            None => Ok(Some(node)),
         }
     }
 

@@ -1,6 +1,6 @@
-use Rattle.std.proofs.Common.{◌≡◌, true, false, ◌-◌, ◌<◌, length, arith, sym, ◌∙◌}
+use Rattle.std.proofs.Common.{◌≡◌, true, false, ◌<◌, length, arith, sym, ◌∙◌}
 use Rattle.amf_graph.specs.declared.value.Value.TheVariants.{Undefined}
-use Rattle.amf3_write.proofs.InOrder.{one_more, out_of_order, all_in_order}
+use Rattle.amf3_write.proofs.InOrder.{one_more, out_of_order}
 use Rattle.amf3_write.proofs.pairs.are_by_name.Goals as goal
 
 pub returns-then-is_before : goal.returns-then-is_before

@@ -1,7 +1,7 @@
-use Rattle.std.proofs.Common.{◌≡◌, [], refl, ap, sym, ◌∙◌, subst}
+use Rattle.std.proofs.Common.{[], ap, ◌∙◌, subst}
 use Rattle.amf_graph.specs.Arena.{value_content}
 use Rattle.amf_graph.specs.Rooted.{content}
-use Rattle.amf3_spelling.specs.Tables.{Tables, no_tables}
+use Rattle.amf3_spelling.specs.Tables.{Tables}
 use Rattle.amf3_write.specs.PartLacks.{IsPartLack3}
 use Rattle.amf3_write.proofs.PartTables.{new_tables}
 use Rattle.amf3_write.proofs.Wrote.{on_ok}

@@ -1,6 +1,5 @@
 use Rattle.std.proofs.Common.{◌≡◌, ◌<◌, ◌++◌, ◌∷◌, [], refl, ap, sym, ◌∙◌, subst, inr}
-use Rattle.amf_graph.specs.Building.{stored_at}
-use Rattle.amf_graph.specs.Arena.{Arena, node_content}
+use Rattle.amf_graph.specs.Arena.{node_content}
 use Rattle.amf_graph.specs.Graph.{node, node_at}
 use Rattle.amf_graph.specs.Rooted.{content}
 use Rattle.amf_graph.specs.declared.lack.LackKind.TheVariants.{EmptyName}

@@ -5,13 +5,12 @@ use Rattle.amf_graph.specs.ByName.{by_name}
 use Rattle.amf_graph.specs.Graph.{object}
 use Rattle.amf_graph.specs.Rooted.{content}
 use Rattle.amf3_spelling.specs.Tables.{plain}
-use Rattle.amf3_spelling.specs.ByteSpelling.{Segment, step, traits, values_then, pairs_then, segments_of}
+use Rattle.amf3_spelling.specs.ByteSpelling.{step, traits, values_then, pairs_then, segments_of}
 use Rattle.amf_iso.specs.Contents.{pairs_of, values_of}
-use Rattle.amf3_write.specs.declared.unwritten.Unwritten.TheVariants.{Values}
-use Rattle.amf3_write.specs.Unwritten.{segments_left, turns_left}
+use Rattle.amf3_write.specs.Unwritten.{AreRunsOf, segments_left, turns_left}
 use Rattle.amf3_write.specs.Writes.{Leads, WritesStep}
 use Rattle.amf3_write.proofs.Leading.{leads_to, leads_step}
-use Rattle.amf3_write.proofs.Runs.{segments_pushed, turns_pushed, values_before}
+use Rattle.amf3_write.proofs.Runs.{values_before}
 use Rattle.amf3_write.proofs.output.Output.object.Goals as goal
 use Rattle.amf3_write.proofs.output.Output.object.Goals.{then-class+in_ok-push_pairs, else-class}
 
@@ -30,8 +29,8 @@ returns-clause-leads c =
       | then-class+in_ok-push_pairs w ↦ ap (λ z. segments_left a z.items) w.waiting-is ∙ w.in_ok-push_pairs.ensures.left ∙ ap (λ d. cond d (pairs_then ws []) [] ++ old) (sym w.if-class.true)
       | else-class w ↦ ap (λ z. segments_left a z.items) w.waiting-is ∙ ap (λ d. cond d (pairs_then ws []) [] ++ old) (sym w.if-class.false)
     ] in
-    let now = segments_left a c.push.new.self.items in
-    let left = segments_pushed a c.if-class.waiting.items c.push.new.self.items (Values c.args.sealed) c.in_ok-push.ensures.items in
+    let now = segments_left a c.push_values.new.waiting.items in
+    let left = c.in_ok-push_values.ensures.left a in
     subst (λ (x : StoredTraits). Leads g (segments_of (object (traits_content a x)) ws vs ++ old) now c.args.self.now c.traits.new.self) (sym c.traits-class.ensures)
     (leads_to g (step (traits (plain t)) ∷ (values_then vs members ++ old)) (values_then vs members ++ old) now c.args.self.now c.traits.new.self (values_before vs members old (segments_left a c.if-class.waiting.items) now mid left)
     (leads_step g (traits (plain t)) (values_then vs members ++ old) c.args.self.now c.traits.new.self
@@ -39,10 +38,19 @@ returns-clause-leads c =
 
 pub returns-clause-turns : goal.returns-clause-turns
 returns-clause-turns c =
-    let left = turns_pushed c.if-class.waiting.items c.push.new.self.items (Values c.args.sealed) c.in_ok-push.ensures.items in
     let mid : turns_left c.if-class.waiting.items ≤ turns_left c.args.waiting.now.items + (length c.args.members.now + 1) =
     elim c.if-class.branch [
       | then-class+in_ok-push_pairs w ↦ omega (arith, ap (λ z. turns_left z.items) w.waiting-is, w.in_ok-push_pairs.ensures.turns)
       | else-class w ↦ omega (arith, ap (λ z. turns_left z.items) w.waiting-is)
     ] in
-    omega (arith, left, mid)
+    omega (arith, c.in_ok-push_values.ensures.turns, mid)
+
+pub returns-clause-runs : goal.returns-clause-runs
+returns-clause-runs c =
+    let a = c.args.graph.now.arena in
+    let mid : AreRunsOf a c.if-class.waiting.items =
+    elim c.if-class.branch [
+      | then-class+in_ok-push_pairs w ↦ subst (λ z. AreRunsOf a z.items) (sym w.waiting-is) (w.in_ok-push_pairs.ensures.runs c.requires.runs)
+      | else-class w ↦ subst (λ z. AreRunsOf a z.items) (sym w.waiting-is) c.requires.runs
+    ] in
+    c.in_ok-push_values.ensures.runs a c.requires.values mid

@@ -7,7 +7,7 @@ use Rattle.amf_graph.specs.Graph.{Node}
 use Rattle.amf_graph.specs.Rooted.{content}
 use Rattle.amf_graph.specs.Views.{flat}
 use Rattle.amf3_spelling.specs.Tables.{external}
-use Rattle.amf3_spelling.specs.ByteSpelling.{Segment, step, value, number, flag, raw, word, unused, traits, values_then, signed_bytes, four_bytes, eight_bytes}
+use Rattle.amf3_spelling.specs.ByteSpelling.{step, value, number, flag, raw, word, unused, traits, values_then, signed_bytes, four_bytes, eight_bytes}
 use Rattle.amf_iso.specs.Contents.{values_of}
 use Rattle.amf3_write.specs.declared.unwritten.Unwritten.TheVariants.{One, Values, Entries}
 use Rattle.amf3_write.specs.Contents.{node_segments}

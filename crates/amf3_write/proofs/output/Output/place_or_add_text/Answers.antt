@@ -1,4 +1,4 @@
-use Rattle.std.proofs.Common.{◌≡◌, sym, ap, subst}
+use Rattle.std.proofs.Common.{◌≡◌, sym, subst}
 use Rattle.amf3_spelling.specs.Tables.{Tables}
 use Rattle.amf3_write.proofs.output.Output.place_or_add_text.Goals as goal
 

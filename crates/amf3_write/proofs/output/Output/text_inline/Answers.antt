@@ -1,4 +1,4 @@
-use Rattle.std.proofs.Common.{◌≡◌, refl, ap, sym, subst, ◌∙◌}
+use Rattle.std.proofs.Common.{refl, ap, ◌∙◌}
 use Rattle.amf3_spelling.specs.Tables.{Tables, with_words, add_text}
 use Rattle.amf3_write.proofs.Ready.{ready_with_text}
 use Rattle.amf3_write.proofs.Wrote.{wrote_text}

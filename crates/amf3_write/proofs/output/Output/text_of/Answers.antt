@@ -1,4 +1,4 @@
-use Rattle.std.proofs.Common.{◌≡◌, ◌≢◌, [], rules, refl, sym, ap, ◌∙◌, subst}
+use Rattle.std.proofs.Common.{◌≢◌, [], rules, sym, ap, subst}
 use Rattle.amf_wire.specs.Text.{IsText}
 use Rattle.amf_graph.specs.Arena.{text_at}
 use Rattle.amf3_spelling.specs.ByteSpelling.{word}

@@ -1,4 +1,4 @@
-use Rattle.std.proofs.Common.{◌≡◌, refl, sym, ap, subst}
+use Rattle.std.proofs.Common.{refl, sym, ap, subst}
 use Rattle.amf_graph.specs.Arena.{StoredTraits, traits_content}
 use Rattle.amf3_spelling.specs.ByteSpelling.{traits}
 use Rattle.amf3_spelling.specs.Tables.{Tables, plain}

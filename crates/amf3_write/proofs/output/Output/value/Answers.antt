@@ -1,6 +1,7 @@
 use Rattle.std.proofs.Common.{◌≡◌, [], ◌∷◌, ◌++◌, length, sym, ap, ◌∙◌, subst, arith}
 use Rattle.std.proofs.lemmas.List.{append-nil, nil_from_length}
 use Rattle.amf_graph.specs.Arena.{value_content}
+use Rattle.amf_graph.specs.Graph.{node}
 use Rattle.amf_graph.specs.Rooted.{content}
 use Rattle.amf3_spelling.specs.ByteSpelling.{value}
 use Rattle.amf3_write.specs.Unwritten.{IsRunOf, IsNextOf, next_segments, segments_left}
@@ -12,56 +13,56 @@ use Rattle.amf3_write.proofs.Turns.{keeps_less, falls_less}
 use Rattle.amf3_write.proofs.WroteNodes.{same_end}
 use Rattle.amf3_write.proofs.output.Output.value.Goals as goal
 
-pub next_value-requires-clause-run : goal.next_value-requires-clause-run
-next_value-requires-clause-run c =
+pub run-requires-clause-run : goal.run-requires-clause-run
+run-requires-clause-run c =
     let a = c.args.graph.now.arena in
     top_of (IsRunOf a) c.loop-top.waiting.items c.pop.new.self.items c.in-Some.top c.in-Some.ensures.items c.loop-top.invariant.runs
 
-pub begin-requires-clause-value : goal.begin-requires-clause-value
-begin-requires-clause-value c =
+pub new_node-requires-clause-there : goal.new_node-requires-clause-there
+new_node-requires-clause-there c = (subst (λ next. IsNextOf c.args.graph.now.arena c.run.new.self.tables.nodes next) c.in-Some-next.is c.in_ok-next.ensures.next).0
+
+pub new_node-requires-clause-new : goal.new_node-requires-clause-new
+new_node-requires-clause-new c = (subst (λ next. IsNextOf c.args.graph.now.arena c.run.new.self.tables.nodes next) c.in-Some-next.is c.in_ok-next.ensures.next).1
+
+pub new_node-requires-clause-runs : goal.new_node-requires-clause-runs
+new_node-requires-clause-runs c =
     let a = c.args.graph.now.arena in
     let rest = rest_of (IsRunOf a) c.loop-top.waiting.items c.pop.new.self.items c.in-Some.top c.in-Some.ensures.items c.loop-top.invariant.runs in
-    subst (λ next. IsNextOf a next) c.in-Some-next.is (c.in_ok-next.ensures.runs rest).0
+    c.in_ok-next.ensures.runs rest
 
-pub begin-requires-clause-runs : goal.begin-requires-clause-runs
-begin-requires-clause-runs c =
-    let a = c.args.graph.now.arena in
-    let rest = rest_of (IsRunOf a) c.loop-top.waiting.items c.pop.new.self.items c.in-Some.top c.in-Some.ensures.items c.loop-top.invariant.runs in
-    (c.in_ok-next.ensures.runs rest).1
-
-pub returns-in_err-begin-clause-lack : goal.returns-in_err-begin-clause-lack
-returns-in_err-begin-clause-lack c = λ l e.
+pub returns-in_err-new_node-clause-lack : goal.returns-in_err-new_node-clause-lack
+returns-in_err-new_node-clause-lack c = λ l e.
     let g = content c.args.graph.now in
     let a = c.args.graph.now.arena in
     let whole = value (value_content a c.args.value) ∷ [] in
-    let left = c.next_value.new.waiting.items in
-    let now = value (value_content a c.in-Some-next.value) ∷ segments_left a left in
-    let before = turned g a whole c.pop.new.self.items c.loop-top.waiting.items left c.in-Some.top c.in_ok-next.next c.args.self.now c.loop-top.self c.next_value.new.self c.in-Some.ensures.items c.loop-top.invariant.leads c.in_ok-next.ensures.leads in
-    let begun = subst (λ next. Leads g whole (next_segments a next ++ segments_left a left) c.args.self.now c.next_value.new.self) c.in-Some-next.is before in
-    stops_behind g whole now c.args.self.now c.next_value.new.self l begun (c.in_err-begin.ensures.lack l (same_end c.from_residual-in_err-begin.result c.in_err-begin.field-0.0 l c.from_residual-in_err-begin.ensures.1 e))
+    let left = c.run.new.waiting.items in
+    let now = value (node c.in-Some-next.node.0) ∷ segments_left a left in
+    let before = turned g a whole c.pop.new.self.items c.loop-top.waiting.items left c.in-Some.top c.in_ok-next.next c.args.self.now c.loop-top.self c.run.new.self c.in-Some.ensures.items c.loop-top.invariant.leads c.in_ok-next.ensures.leads in
+    let begun = subst (λ next. Leads g whole (next_segments next ++ segments_left a left) c.args.self.now c.run.new.self) c.in-Some-next.is before in
+    stops_behind g whole now c.args.self.now c.run.new.self l begun (c.in_err-new_node.ensures.lack l (same_end c.from_residual-in_err-new_node.result c.in_err-new_node.field-0.0 l c.from_residual-in_err-new_node.ensures.1 e))
 
 pub loop-top-preserved-in-Continue-branch-3 : goal.loop-top-preserved-in-Continue-branch-3
 loop-top-preserved-in-Continue-branch-3 c =
     let g = content c.args.graph.now in
     let a = c.args.graph.now.arena in
     let whole = value (value_content a c.args.value) ∷ [] in
-    let left = c.next_value.new.waiting.items in
-    let now = value (value_content a c.in-Some-next.value) ∷ segments_left a left in
-    let before = turned g a whole c.pop.new.self.items c.loop-top.waiting.items left c.in-Some.top c.in_ok-next.next c.args.self.now c.loop-top.self c.next_value.new.self c.in-Some.ensures.items c.loop-top.invariant.leads c.in_ok-next.ensures.leads in
-    let begun = subst (λ next. Leads g whole (next_segments a next ++ segments_left a left) c.args.self.now c.next_value.new.self) c.in-Some-next.is before in
+    let left = c.run.new.waiting.items in
+    let now = value (node c.in-Some-next.node.0) ∷ segments_left a left in
+    let before = turned g a whole c.pop.new.self.items c.loop-top.waiting.items left c.in-Some.top c.in_ok-next.next c.args.self.now c.loop-top.self c.run.new.self c.in-Some.ensures.items c.loop-top.invariant.leads c.in_ok-next.ensures.leads in
+    let begun = subst (λ next. Leads g whole (next_segments next ++ segments_left a left) c.args.self.now c.run.new.self) c.in-Some-next.is before in
     record {
-      leads = leads_then g whole now (segments_left a c.begin.new.waiting.items) c.args.self.now c.next_value.new.self c.begin.new.self begun c.in_ok-begin.ensures.leads;
-      runs = c.in_ok-begin.ensures.runs;
-      ready = c.in_ok-begin.ensures.ready;
-      keeps = λ front h. c.in_ok-begin.ensures.keeps front (c.in_ok-next.ensures.keeps front (c.loop-top.invariant.keeps front h));
+      leads = leads_then g whole now (segments_left a c.new_node.new.waiting.items) c.args.self.now c.run.new.self c.new_node.new.self begun c.in_ok-new_node.ensures.leads;
+      runs = c.in_ok-new_node.ensures.runs;
+      ready = c.in_ok-new_node.ensures.ready;
+      keeps = λ front h. c.in_ok-new_node.ensures.keeps front (c.in_ok-next.ensures.keeps front (c.loop-top.invariant.keeps front h));
     }
 
 pub loop-top-smaller-in-Continue-branch-3 : goal.loop-top-smaller-in-Continue-branch-3
 loop-top-smaller-in-Continue-branch-3 c =
     let n = length c.args.graph.now.arena.nodes in
     let top = turns_pushed c.pop.new.self.items c.loop-top.waiting.items c.in-Some.top c.in-Some.ensures.items in
-    let kept = keeps_less n c.loop-top.self c.next_value.new.self c.in_ok-next.ensures.keeps in
-    let falls = falls_less n c.next_value.new.self c.begin.new.self _ _ c.in_ok-begin.ensures.keeps c.in_ok-begin.ensures.falls in
+    let kept = keeps_less n c.loop-top.self c.run.new.self c.in_ok-next.ensures.keeps in
+    let falls = falls_less n c.run.new.self c.new_node.new.self _ _ c.in_ok-new_node.ensures.keeps c.in_ok-new_node.ensures.falls in
     omega (arith, top, kept, falls, c.in_ok-next.ensures.turns)
 
 pub loop-top-preserved : goal.loop-top-preserved
@@ -70,11 +71,11 @@ loop-top-preserved c =
     let a = c.args.graph.now.arena in
     let rest = rest_of (IsRunOf a) c.loop-top.waiting.items c.pop.new.self.items c.in-Some.top c.in-Some.ensures.items c.loop-top.invariant.runs in
     let whole = value (value_content a c.args.value) ∷ [] in
-    let left = c.next_value.new.waiting.items in
-    let before = turned g a whole c.pop.new.self.items c.loop-top.waiting.items left c.in-Some.top c.in_ok-next.next c.args.self.now c.loop-top.self c.next_value.new.self c.in-Some.ensures.items c.loop-top.invariant.leads c.in_ok-next.ensures.leads in
+    let left = c.run.new.waiting.items in
+    let before = turned g a whole c.pop.new.self.items c.loop-top.waiting.items left c.in-Some.top c.in_ok-next.next c.args.self.now c.loop-top.self c.run.new.self c.in-Some.ensures.items c.loop-top.invariant.leads c.in_ok-next.ensures.leads in
     record {
-      leads = subst (λ next. Leads g whole (next_segments a next ++ segments_left a left) c.args.self.now c.next_value.new.self) c.in_default-next.is before;
-      runs = (c.in_ok-next.ensures.runs rest).1;
+      leads = subst (λ next. Leads g whole (next_segments next ++ segments_left a left) c.args.self.now c.run.new.self) c.in_default-next.is before;
+      runs = c.in_ok-next.ensures.runs rest;
       ready = c.in_ok-next.ensures.ready;
       keeps = λ front h. c.in_ok-next.ensures.keeps front (c.loop-top.invariant.keeps front h);
     }
@@ -83,7 +84,7 @@ pub loop-top-smaller : goal.loop-top-smaller
 loop-top-smaller c =
     let n = length c.args.graph.now.arena.nodes in
     let top = turns_pushed c.pop.new.self.items c.loop-top.waiting.items c.in-Some.top c.in-Some.ensures.items in
-    let kept = keeps_less n c.loop-top.self c.next_value.new.self c.in_ok-next.ensures.keeps in
+    let kept = keeps_less n c.loop-top.self c.run.new.self c.in_ok-next.ensures.keeps in
     omega (arith, top, kept, c.in_ok-next.ensures.turns)
 
 pub returns-clause-ok : goal.returns-clause-ok

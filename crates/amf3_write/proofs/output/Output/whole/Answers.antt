@@ -5,36 +5,32 @@ use Rattle.amf_graph.specs.Arena.{Names, text_at, value_content}
 use Rattle.amf_graph.specs.Graph.{integer, double, text}
 use Rattle.amf_graph.specs.Rooted.{content}
 use Rattle.amf3_spelling.specs.ByteSpelling.{step, value, byte, number, word}
-use Rattle.amf3_write.specs.Unwritten.{segments_left}
 use Rattle.amf3_write.specs.Writes.{Leads, WritesSteps}
 use Rattle.amf3_write.proofs.Leading.{leads_leaf}
 use Rattle.amf3_write.proofs.WroteSegments.{wrote_two, fits_wide}
-use Rattle.amf3_write.proofs.output.Output.begin.Goals as goal
+use Rattle.amf3_write.proofs.output.Output.whole.Goals as goal
 
 pub returns-in_ok-integer-in-Integer-clause-leads : goal.returns-in_ok-integer-in-Integer-clause-leads
-returns-in_ok-integer-in-Integer-clause-leads c =
+returns-in_ok-integer-in-Integer-clause-leads c = λ ps.
     let g = content c.args.graph.now in
     let a = c.args.graph.now.arena in
-    let old = segments_left a c.args.waiting.now.items in
     let n = c.in-Integer.integer in
     let own : IsInteger n = subst (λ v. Names a v) c.in-Integer.is c.requires.value in
-    subst (λ v. Leads g (value (value_content a v) ∷ old) old c.args.self.now c.integer.new.self) (sym c.in-Integer.is)
-    (leads_leaf g (integer n) old c.args.self.now c.integer.new.self own
+    subst (λ v. Leads g (value (value_content a v) ∷ ps) ps c.args.self.now c.integer.new.self) (sym c.in-Integer.is)
+    (leads_leaf g (integer n) ps c.args.self.now c.integer.new.self own
     (subst (λ k. WritesSteps (step (byte 4) ∷ step (number (integer_bits k)) ∷ []) c.args.self.now c.integer.new.self) (to_z-of_z w32 n (fits_wide n own)) c.in_ok-integer-in-Integer.ensures.ok))
 
 pub returns-in_ok-double-in-Double-clause-leads : goal.returns-in_ok-double-in-Double-clause-leads
-returns-in_ok-double-in-Double-clause-leads c =
+returns-in_ok-double-in-Double-clause-leads c = λ ps.
     let g = content c.args.graph.now in
     let a = c.args.graph.now.arena in
-    let old = segments_left a c.args.waiting.now.items in
-    subst (λ v. Leads g (value (value_content a v) ∷ old) old c.args.self.now c.double.new.self) (sym c.in-Double.is)
-    (leads_leaf g (double c.in-Double.double.0) old c.args.self.now c.double.new.self (subst (λ v. Names a v) c.in-Double.is c.requires.value) c.in_ok-double-in-Double.ensures.ok)
+    subst (λ v. Leads g (value (value_content a v) ∷ ps) ps c.args.self.now c.double.new.self) (sym c.in-Double.is)
+    (leads_leaf g (double c.in-Double.double.0) ps c.args.self.now c.double.new.self (subst (λ v. Names a v) c.in-Double.is c.requires.value) c.in_ok-double-in-Double.ensures.ok)
 
 pub returns-in_ok-text_of-in-Text-clause-leads : goal.returns-in_ok-text_of-in-Text-clause-leads
-returns-in_ok-text_of-in-Text-clause-leads c =
+returns-in_ok-text_of-in-Text-clause-leads c = λ ps.
     let g = content c.args.graph.now in
     let a = c.args.graph.now.arena in
-    let old = segments_left a c.args.waiting.now.items in
     let x = text_at a c.in-Text.text.0 in
-    subst (λ v. Leads g (value (value_content a v) ∷ old) old c.args.self.now c.text_of.new.self) (sym c.in-Text.is)
-    (leads_leaf g (text x) old c.args.self.now c.text_of.new.self c.in_ok-text_of-in-Text.ensures.text (wrote_two (byte 6) (word x) c.args.self.now c.marker-in-Text.new.self c.text_of.new.self c.in_ok-marker-in-Text.ensures.ok c.in_ok-text_of-in-Text.ensures.ok))
+    subst (λ v. Leads g (value (value_content a v) ∷ ps) ps c.args.self.now c.text_of.new.self) (sym c.in-Text.is)
+    (leads_leaf g (text x) ps c.args.self.now c.text_of.new.self c.in_ok-text_of-in-Text.ensures.text (wrote_two (byte 6) (word x) c.args.self.now c.marker-in-Text.new.self c.text_of.new.self c.in_ok-marker-in-Text.ensures.ok c.in_ok-text_of-in-Text.ensures.ok))
