@@ -21,7 +21,7 @@ import time
 from pathlib import Path
 
 ROOT = Path(__file__).resolve().parent.parent
-PROGRAM = ROOT / "crates/amf_cli/out/amf_cli"
+PROGRAM = ROOT / "crates/amf_main/out/amf_main"
 RUNS = 5
 PATIENCE = 60
 

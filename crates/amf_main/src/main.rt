@@ -2,49 +2,8 @@
 //! file, checks it, lists it, tells whether two values are the same graph, and serves remoting calls over HTTP.
 #![tactic(auto)]
 
-#[cfg(test)]
-mod amf0_tests;
-mod arguments;
-mod command;
-#[cfg(test)]
-mod command_tests;
-mod content;
-mod facts;
-mod format;
-#[cfg(test)]
-mod hostile_tests;
-mod kind;
-#[cfg(test)]
-mod large_tests;
-mod lines;
-mod making;
-mod number;
-mod output;
-#[cfg(test)]
-mod packet_tests;
-mod reading;
-#[cfg(test)]
-mod real_tests;
-mod report;
-mod run;
-mod run_end;
-#[cfg(test)]
-mod serve_tests;
-mod serving;
-#[cfg(test)]
-mod sol_tests;
-mod spelling;
-mod start;
-#[cfg(test)]
-mod start_tests;
-#[cfg(test)]
-mod tests;
-mod writing;
-
-use crate::arguments::{Arguments, Environment};
-use crate::report::end_with;
-use crate::run_end::RunEnd;
-use crate::start::start;
+use amf_cli::start::start;
+use amf_cli::{Arguments, Environment, RunEnd, end_with};
 use amf_io::{
     Front, Hall, OpenGate, Sink, Source, StandardError, StandardInput, StandardOutput, TcpFront,
 };

@@ -1,5 +1,5 @@
-use crate::run::LIMIT;
 use crate::tests::{check, refused, run_over};
+use amf_cli::run::LIMIT;
 use amf_graph::{BuildEnd, Builder};
 use amf_wire::{U29, is_amf_text, write_u29};
 use std::alloc::{AllocError, Global};

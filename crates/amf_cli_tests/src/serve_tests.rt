@@ -1,6 +1,6 @@
 ghost use Rattle.std.specs.Prelude.{◌≡◌, length, IfOk, All};
 
-use crate::run::run;
+use amf_cli::run::run;
 use amf_io::{
     Gate, Joined, MemoryFront, MemoryHall, MemoryLink, MemorySink, MemorySource, OpenGate,
 };

@@ -1,5 +1,5 @@
-use crate::arguments::{Arguments, Environment, words_of};
-use crate::start::start;
+use amf_cli::start::start;
+use amf_cli::{Arguments, Environment, words_of};
 use amf_io::{
     FaultlessFront, FaultlessLink, MemorySink, MemorySource, OpenGate, StandardError,
     StandardInput, StandardOutput,

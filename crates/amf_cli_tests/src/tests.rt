@@ -1,4 +1,4 @@
-use crate::run::run;
+use amf_cli::run::run;
 use amf_io::{
     FaultlessFront, FaultlessLink, FaultlessSink, FaultlessSource, MemorySink, MemorySource,
     OpenGate, Sink, Source,
