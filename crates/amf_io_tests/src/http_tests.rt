@@ -92,82 +92,98 @@ const ECHO: &[u8] =
 const ECHO_BODY: &[u8] =
     b"\x00\x00\x00\x00\x00\x01\x00\x09echo.echo\x00\x02/1\x00\x00\x00\x0A\x0A\x00\x00\x00\x01\x02\x00\x02hi";
 
+/// The first answer of a head and the body `hi`.
+fn has_answer(rt: &impl Abort, alloc: Global, text: &[u8], want: First) -> Result<(), Fail> {
+    let bytes = request(alloc, text, b"hi")?;
+    expect_first(rt, alloc, &bytes, want);
+    let head = request(alloc, text, b"")?;
+    expect_truncated(rt, alloc, &head);
+    Ok(())
+}
+
+/// Heads that are taken, and whether the link ends behind them.
+static TAKEN: [(&[u8], bool); 5] = [
+    (GOOD, false),
+    (
+        b"POST /amf HTTP/1.1|Host: h|content-encoding: Identity|CONTENT-TYPE:\tApplication/X-AMF ; v=1|Content-Length: 2|",
+        false,
+    ),
+    (
+        b"POST /amf HTTP/1.0|Content-Type: application/x-amf|Content-Length: 2|",
+        true,
+    ),
+    (
+        b"POST /amf HTTP/1.1|Host: h|Connection: keep-alive , Close|Content-Type: application/x-amf|Content-Length: 2|",
+        true,
+    ),
+    (
+        b"POST /amf HTTP/1.1|Host: h|Connection: closed|Content-Type: application/x-amf|Content-Length: 2|",
+        false,
+    ),
+];
+
+#[test]
+fn heads_that_are_taken(rt: HostRuntime) -> Result<(), Fail> {
+    for (text, close) in TAKEN.iter() {
+        has_answer(&rt, rt.alloc(), text, Ok(Some((2, *close))))?;
+    }
+    Ok(())
+}
+
+/// Heads that are refused, with their status.
+static REFUSED: [(&[u8], u16); 20] = [
+    (b"GET /amf HTTP/1.1|Host: h|", 405),
+    (b"post /amf HTTP/1.1|Host: h|", 405),
+    (b"POST /x HTTP/1.1|Host: h|", 404),
+    (b"POST /amf/ HTTP/1.1|Host: h|", 404),
+    (b"POST /amf HTTP/1.1|", 400),
+    (b"POST /amf HTTP/1.1|Host: h|host: h|", 400),
+    (b"POST /amf HTTP/2.0|Host: h|", 400),
+    (b"POST /amf|Host: h|", 400),
+    (b"POST /amf HTTP/1.1|Host : h|", 400),
+    (b"|", 400),
+    (b"|POST /amf HTTP/1.1|Host: h|", 415),
+    (b"POST /amf HTTP/1.1\nHost: h|", 415),
+    (b"POST /amf HTTP/1.1\nHost: h\n|", 400),
+    (
+        b"POST /amf HTTP/1.1|Host: h|Transfer-Encoding: chunked|",
+        501,
+    ),
+    (b"POST /amf HTTP/1.1|Host: h|Expect: 100-continue|", 417),
+    (
+        b"POST /amf HTTP/1.1|Host: h|Content-Type: text/plain|Content-Length: 2|",
+        415,
+    ),
+    (
+        b"POST /amf HTTP/1.1|Host: h|Content-Type: application/x-amf|Content-Type: application/x-amf|",
+        415,
+    ),
+    (
+        b"POST /amf HTTP/1.1|Host: h|Content-Encoding: gzip|Content-Type: application/x-amf|",
+        415,
+    ),
+    (
+        b"POST /amf HTTP/1.1|Host: h|Content-Type: application/x-amf|",
+        411,
+    ),
+    (
+        b"POST /amf HTTP/1.1|Host: h|Content-Type: application/x-amf|Content-Length: 2|Content-Length: 2|",
+        400,
+    ),
+];
+
 #[test]
 fn the_table_is_in_its_order(rt: HostRuntime) -> Result<(), Fail> {
-    let alloc = rt.alloc();
-    let refused = |status: u16| Err(HttpEnd::Status(status));
-    for (text, want) in [
-        (GOOD, Ok(Some((2usize, false)))),
-        (b"GET /amf HTTP/1.1|Host: h|".as_slice(), refused(405)),
-        (b"post /amf HTTP/1.1|Host: h|", refused(405)),
-        (b"POST /x HTTP/1.1|Host: h|", refused(404)),
-        (b"POST /amf/ HTTP/1.1|Host: h|", refused(404)),
-        (b"POST /amf HTTP/1.1|", refused(400)),
-        (b"POST /amf HTTP/1.1|Host: h|host: h|", refused(400)),
-        (b"POST /amf HTTP/2.0|Host: h|", refused(400)),
-        (b"POST /amf|Host: h|", refused(400)),
-        (b"POST /amf HTTP/1.1|Host : h|", refused(400)),
-        (b"|", refused(400)),
-        (b"|POST /amf HTTP/1.1|Host: h|", refused(415)),
-        (b"POST /amf HTTP/1.1\nHost: h|", refused(415)),
-        (b"POST /amf HTTP/1.1\nHost: h\n|", refused(400)),
-        (
-            b"POST /amf HTTP/1.1|Host: h|Transfer-Encoding: chunked|",
-            refused(501),
-        ),
-        (
-            b"POST /amf HTTP/1.1|Host: h|Expect: 100-continue|",
-            refused(417),
-        ),
-        (
-            b"POST /amf HTTP/1.1|Host: h|Content-Type: text/plain|Content-Length: 2|",
-            refused(415),
-        ),
-        (
-            b"POST /amf HTTP/1.1|Host: h|Content-Type: application/x-amf|Content-Type: application/x-amf|",
-            refused(415),
-        ),
-        (
-            b"POST /amf HTTP/1.1|Host: h|Content-Encoding: gzip|Content-Type: application/x-amf|",
-            refused(415),
-        ),
-        (
-            b"POST /amf HTTP/1.1|Host: h|Content-Type: application/x-amf|",
-            refused(411),
-        ),
-        (
-            b"POST /amf HTTP/1.1|Host: h|content-encoding: Identity|CONTENT-TYPE:\tApplication/X-AMF ; v=1|Content-Length: 2|",
-            Ok(Some((2, false))),
-        ),
-        (
-            b"POST /amf HTTP/1.1|Host: h|Content-Type: application/x-amf|Content-Length: 2|Content-Length: 2|",
-            refused(400),
-        ),
-        (
-            b"POST /amf HTTP/1.0|Content-Type: application/x-amf|Content-Length: 2|",
-            Ok(Some((2, true))),
-        ),
-        (
-            b"POST /amf HTTP/1.1|Host: h|Connection: keep-alive , Close|Content-Type: application/x-amf|Content-Length: 2|",
-            Ok(Some((2, true))),
-        ),
-        (
-            b"POST /amf HTTP/1.1|Host: h|Connection: closed|Content-Type: application/x-amf|Content-Length: 2|",
-            Ok(Some((2, false))),
-        ),
-    ] {
-        let bytes = request(alloc, text, b"hi")?;
-        expect_first(&rt, alloc, &bytes, want);
-        let head = request(alloc, text, b"")?;
-        expect_truncated(&rt, alloc, &head);
+    for (text, status) in REFUSED.iter() {
+        has_answer(&rt, rt.alloc(), text, Err(HttpEnd::Status(*status)))?;
     }
     Ok(())
 }
 
 /// The parts of a head that nothing refuses.
-const LINE: [&[u8]; 3] = [b"POST ", b"/amf ", b"HTTP/1.1|"];
+static LINE: [&[u8]; 3] = [b"POST ", b"/amf ", b"HTTP/1.1|"];
 
-const FIELDS: [&[u8]; 5] = [
+static FIELDS: [&[u8]; 5] = [
     b"Host: h|",
     b"A: coding|",
     b"A: expectation|",
@@ -175,8 +191,20 @@ const FIELDS: [&[u8]; 5] = [
     b"Content-Length: 2|",
 ];
 
-/// A part, what may stand in its place, and the status for it, in the order of the table.
-const FAULTS: [(&[u8], &[u8], u16); 10] = [
+/// The fields in the other order.
+static TURNED_FIELDS: [&[u8]; 5] = [
+    b"Content-Length: 2|",
+    b"Content-Type: application/x-amf|",
+    b"A: expectation|",
+    b"A: coding|",
+    b"Host: h|",
+];
+
+/// A part, what may stand in its place, and the status for it.
+type Fault = (&'static [u8], &'static [u8], u16);
+
+/// They are in the order of the table.
+static FAULTS: [Fault; 10] = [
     (b"HTTP/1.1|", b"HTTP/3.1|", 400),
     (b"Host: h|", b"", 400),
     (b"A: coding|", b"Transfer-Encoding: chunked|", 501),
@@ -190,11 +218,7 @@ const FAULTS: [(&[u8], &[u8], u16); 10] = [
 ];
 
 /// What stands in the place of a part, where these two are wrong.
-fn part_with<'a>(
-    part: &'a [u8],
-    first: &(&'a [u8], &'a [u8], u16),
-    second: &(&'a [u8], &'a [u8], u16),
-) -> &'a [u8] {
+fn part_with(part: &'static [u8], first: &Fault, second: &Fault) -> &'static [u8] {
     if part == first.0 {
         first.1
     } else if part == second.0 {
@@ -204,110 +228,162 @@ fn part_with<'a>(
     }
 }
 
+/// Appends parts, with what stands in their places where these two are wrong.
+fn put_parts(
+    out: &mut Vec<u8>,
+    parts: &[&'static [u8]],
+    first: &Fault,
+    second: &Fault,
+) -> Result<(), Memory> {
+    for part in parts {
+        out.extend_from_slice(part_with(*part, first, second))?;
+    }
+    Ok(())
+}
+
+/// The first answer where two parts are wrong, and where the head is too long besides.
+fn expect_fault(
+    rt: &impl Abort,
+    alloc: Global,
+    fields: &[&'static [u8]],
+    earlier: &Fault,
+    later: &Fault,
+) -> Result<(), Fail> {
+    let mut text = Vec::new(alloc);
+    put_parts(&mut text, &LINE, earlier, later)?;
+    put_parts(&mut text, fields, earlier, later)?;
+    let bytes = request(alloc, &text, b"hi")?;
+    expect_first(rt, alloc, &bytes, Err(HttpEnd::Status(earlier.2)));
+    let long = filled(alloc, b'x', 8192)?;
+    text.extend_from_slice(&long)?;
+    let bytes = request(alloc, &text, b"hi")?;
+    assert_eq!(rt; first(alloc, &bytes), Err(HttpEnd::Status(431)));
+    Ok(())
+}
+
 #[test]
 fn the_first_of_two_faults_decides(rt: HostRuntime) -> Result<(), Fail> {
-    let alloc = rt.alloc();
-    let long = filled(alloc, b'x', 8192)?;
     for (number, earlier) in FAULTS.iter().enumerate() {
         for later in FAULTS.iter().skip(number) {
-            let mut text = Vec::new(alloc);
-            for part in LINE {
-                text.extend_from_slice(part_with(part, earlier, later))?;
-            }
-            let mut turned = text.clone()?;
-            for part in FIELDS {
-                text.extend_from_slice(part_with(part, earlier, later))?;
-            }
-            for part in FIELDS.iter().rev() {
-                turned.extend_from_slice(part_with(part, earlier, later))?;
-            }
-            for text in [&text, &turned] {
-                let bytes = request(alloc, text, b"hi")?;
-                expect_first(&rt, alloc, &bytes, Err(HttpEnd::Status(earlier.2)));
-            }
-            text.extend_from_slice(&long)?;
-            let bytes = request(alloc, &text, b"hi")?;
-            assert_eq!(rt; first(alloc, &bytes), Err(HttpEnd::Status(431)));
+            expect_fault(&rt, rt.alloc(), &FIELDS, earlier, later)?;
+            expect_fault(&rt, rt.alloc(), &TURNED_FIELDS, earlier, later)?;
         }
     }
     Ok(())
 }
 
+/// In which pieces bytes come.
+static PIECES: [(usize, usize); 4] = [(usize::MAX, 0), (1, 0), (8192, 0), (usize::MAX, 100)];
+
+/// The first answer of a head with these digits for a length.
+fn has_length(
+    rt: &impl Abort,
+    alloc: Global,
+    digits: &[u8],
+    body: &[u8],
+    want: First,
+) -> Result<(), Fail> {
+    let mut text = Vec::new(alloc);
+    text.extend_from_slice(
+        b"POST /amf HTTP/1.1|Host: h|Content-Type: application/x-amf|Content-Length: ",
+    )?;
+    text.extend_from_slice(digits)?;
+    text.extend_from_slice(b"|")?;
+    let bytes = request(alloc, &text, body)?;
+    for (most, cut) in PIECES.iter() {
+        assert_eq!(rt; first_in(alloc, &bytes, *most, *cut), want);
+    }
+    Ok(())
+}
+
+static LENGTHS: [(&[u8], usize); 5] = [
+    (b"0", 0),
+    (b"00", 0),
+    (b"35", 35),
+    (b"00000000000000000035", 35),
+    (b"1048576", 1_048_576),
+];
+
+static WRONG_LENGTHS: [(&[u8], u16); 7] = [
+    (b"1048577", 413),
+    (b"99999999999999999999", 413),
+    (b"", 400),
+    (b"-2", 400),
+    (b"0x2", 400),
+    (b"2 2", 400),
+    (b"2, 2", 400),
+];
+
 #[test]
 fn a_length_is_decimal_digits(rt: HostRuntime) -> Result<(), Fail> {
     let alloc = rt.alloc();
     let body = filled(alloc, b'x', 1_048_576)?;
-    let refused = |status: u16| Err(HttpEnd::Status(status));
-    for (digits, want) in [
-        (b"0".as_slice(), Ok(Some((0usize, false)))),
-        (b"00", Ok(Some((0, false)))),
-        (b"35", Ok(Some((35, false)))),
-        (b"00000000000000000035", Ok(Some((35, false)))),
-        (b"1048576", Ok(Some((1_048_576, false)))),
-        (b"1048577", refused(413)),
-        (b"99999999999999999999", refused(413)),
-        (b"", refused(400)),
-        (b"-2", refused(400)),
-        (b"0x2", refused(400)),
-        (b"2 2", refused(400)),
-        (b"2, 2", refused(400)),
-    ] {
-        let mut text = Vec::new(alloc);
-        text.extend_from_slice(
-            b"POST /amf HTTP/1.1|Host: h|Content-Type: application/x-amf|Content-Length: ",
-        )?;
-        text.extend_from_slice(digits)?;
-        text.extend_from_slice(b"|")?;
-        let bytes = request(alloc, &text, &body)?;
-        for (most, cut) in [(usize::MAX, 0usize), (1, 0), (8192, 0), (usize::MAX, 100)] {
-            assert_eq!(rt; first_in(alloc, &bytes, most, cut), want);
-        }
+    for (digits, length) in LENGTHS.iter() {
+        has_length(&rt, alloc, digits, &body, Ok(Some((*length, false))))?;
     }
+    for (digits, status) in WRONG_LENGTHS.iter() {
+        has_length(&rt, alloc, digits, &body, Err(HttpEnd::Status(*status)))?;
+    }
+    Ok(())
+}
+
+/// A request whose head has so many bytes.
+fn head_of_size(alloc: Global, size: usize) -> Result<Vec<u8>, Memory> {
+    let mut bytes = lines(alloc, GOOD)?;
+    bytes.extend_from_slice(b"X: ")?;
+    let room = size.saturating_sub(bytes.len()).saturating_sub(4);
+    let fill = filled(alloc, b'x', room)?;
+    bytes.extend_from_slice(&fill)?;
+    bytes.extend_from_slice(b"\r\n\r\nhi")?;
+    Ok(bytes)
+}
+
+/// In which pieces a large head comes.
+static LARGE_PIECES: [(usize, usize); 4] = [
+    (usize::MAX, 0),
+    (1, 0),
+    (usize::MAX, 8190),
+    (8191, 8192),
+];
+
+/// The first answer of a head of this size.
+fn has_size(rt: &impl Abort, alloc: Global, size: usize, want: First) -> Result<(), Fail> {
+    let bytes = head_of_size(alloc, size)?;
+    for (most, cut) in LARGE_PIECES.iter() {
+        assert_eq!(rt; first_in(alloc, &bytes, *most, *cut), want);
+    }
+    let front = &bytes[..100.min(bytes.len())];
+    assert_eq!(rt; first(alloc, front), Err(HttpEnd::Truncated));
     Ok(())
 }
 
 #[test]
 fn a_head_has_at_most_8192_bytes(rt: HostRuntime) -> Result<(), Fail> {
     let alloc = rt.alloc();
-    for (size, want) in [
-        (8191usize, Ok(Some((2usize, false)))),
-        (8192, Ok(Some((2, false)))),
-        (8193, Err(HttpEnd::Status(431))),
-    ] {
-        let mut bytes = lines(alloc, GOOD)?;
-        bytes.extend_from_slice(b"X: ")?;
-        let room = size.saturating_sub(bytes.len()).saturating_sub(4);
-        let fill = filled(alloc, b'x', room)?;
-        bytes.extend_from_slice(&fill)?;
-        bytes.extend_from_slice(b"\r\n\r\nhi")?;
-        for (most, cut) in [
-            (usize::MAX, 0usize),
-            (1, 0),
-            (usize::MAX, 8190),
-            (8191, 8192),
-        ] {
-            assert_eq!(rt; first_in(alloc, &bytes, most, cut), want);
-        }
-        assert_eq!(rt;
-            first(alloc, &bytes[..100.min(bytes.len())]),
-            Err(HttpEnd::Truncated)
-        );
-    }
-    let endless = filled(alloc, b'A', 8192)?;
-    for (most, cut) in [
-        (usize::MAX, 0usize),
-        (1, 0),
-        (usize::MAX, 1),
-        (usize::MAX, 8191),
-    ] {
-        assert_eq!(rt;
-            first_in(alloc, &endless, most, cut),
-            Err(HttpEnd::Status(431))
-        );
+    has_size(&rt, alloc, 8191, Ok(Some((2, false))))?;
+    has_size(&rt, alloc, 8192, Ok(Some((2, false))))?;
+    has_size(&rt, alloc, 8193, Err(HttpEnd::Status(431)))
+}
+
+/// In which pieces 8192 bytes without a line come.
+static ENDLESS_PIECES: [(usize, usize); 4] = [
+    (usize::MAX, 0),
+    (1, 0),
+    (usize::MAX, 1),
+    (usize::MAX, 8191),
+];
+
+#[test]
+fn a_line_has_at_most_8192_bytes(rt: HostRuntime) -> Result<(), Fail> {
+    let endless = filled(rt.alloc(), b'A', 8192)?;
+    for (most, cut) in ENDLESS_PIECES.iter() {
+        let found = first_in(rt.alloc(), &endless, *most, *cut);
+        assert_eq!(rt; found, Err(HttpEnd::Status(431)));
     }
     for size in [1usize, 4096, 8191] {
-        let shorter = filled(alloc, b'A', size)?;
-        assert_eq!(rt; first(alloc, &shorter), Err(HttpEnd::Truncated));
+        let shorter = filled(rt.alloc(), b'A', size)?;
+        let found = first(rt.alloc(), &shorter);
+        assert_eq!(rt; found, Err(HttpEnd::Truncated));
     }
     Ok(())
 }
@@ -375,32 +451,41 @@ fn requests_before(
     Ok((bytes.len(), Ok(None)))
 }
 
-#[test]
-fn a_failed_read_decides_nothing(rt: HostRuntime) -> Result<(), Fail> {
-    let alloc = rt.alloc();
+/// Two requests, one behind the other.
+fn two_requests(alloc: Global) -> Result<(Vec<u8>, usize), Fail> {
     let one = request(alloc, GOOD, b"hi")?;
     let mut bytes = one.clone()?;
     bytes.extend_from_slice(&one)?;
-    let fault = Err(HttpEnd::ReadFault);
+    Ok((bytes, one.len()))
+}
+
+const FAULT: First = Err(HttpEnd::ReadFault);
+
+#[test]
+fn a_failed_read_decides_nothing(rt: HostRuntime) -> Result<(), Fail> {
+    let (bytes, length) = two_requests(rt.alloc())?;
     // The second request is whole with the last byte, so the read behind it finds the end.
     for failing in 0..bytes.len() {
-        let whole = if failing < one.len() { 0 } else { 1 };
-        assert_eq!(rt;
-            requests_before(alloc, &bytes, 1, 0, failing as u64)?,
-            (whole, fault)
-        );
+        let whole = if failing < length { 0 } else { 1 };
+        let found = requests_before(rt.alloc(), &bytes, 1, 0, failing as u64)?;
+        assert_eq!(rt; found, (whole, FAULT));
     }
+    Ok(())
+}
+
+#[test]
+fn a_failed_read_of_long_pieces(rt: HostRuntime) -> Result<(), Fail> {
+    let (bytes, length) = two_requests(rt.alloc())?;
+    let bytes = bytes.as_slice();
     for (bytes, cut, failing, want) in [
-        (b"P".as_slice(), 0, 1, (0usize, fault)),
-        (bytes.as_slice(), 0, 0, (0, fault)),
-        (bytes.as_slice(), 0, 1, (2, fault)),
-        (bytes.as_slice(), 0, 2, (2, Ok(None))),
-        (bytes.as_slice(), one.len(), 1, (1, fault)),
+        (b"P".as_slice(), 0, 1, (0usize, FAULT)),
+        (bytes, 0, 0, (0, FAULT)),
+        (bytes, 0, 1, (2, FAULT)),
+        (bytes, 0, 2, (2, Ok(None))),
+        (bytes, length, 1, (1, FAULT)),
     ] {
-        assert_eq!(rt;
-            requests_before(alloc, bytes, usize::MAX, cut, failing)?,
-            want
-        );
+        let found = requests_before(rt.alloc(), bytes, usize::MAX, cut, failing)?;
+        assert_eq!(rt; found, want);
     }
     Ok(())
 }
@@ -435,78 +520,90 @@ fn written(
     Ok((taken, answer))
 }
 
+static RESPONSES: [(u16, bool, &[u8]); 11] = [
+    (
+        200,
+        false,
+        b"HTTP/1.1 200 OK|Content-Type: application/x-amf|Content-Length: 2||hi",
+    ),
+    (
+        200,
+        true,
+        b"HTTP/1.1 200 OK|Content-Type: application/x-amf|Content-Length: 2|Connection: close||hi",
+    ),
+    (
+        400,
+        false,
+        b"HTTP/1.1 400 Bad Request|Content-Length: 0|Connection: close||",
+    ),
+    (
+        404,
+        false,
+        b"HTTP/1.1 404 Not Found|Content-Length: 0|Connection: close||",
+    ),
+    (
+        405,
+        true,
+        b"HTTP/1.1 405 Method Not Allowed|Allow: POST|Content-Length: 0|Connection: close||",
+    ),
+    (
+        411,
+        false,
+        b"HTTP/1.1 411 Length Required|Content-Length: 0|Connection: close||",
+    ),
+    (
+        413,
+        false,
+        b"HTTP/1.1 413 Content Too Large|Content-Length: 0|Connection: close||",
+    ),
+    (
+        415,
+        false,
+        b"HTTP/1.1 415 Unsupported Media Type|Content-Length: 0|Connection: close||",
+    ),
+    (
+        417,
+        false,
+        b"HTTP/1.1 417 Expectation Failed|Content-Length: 0|Connection: close||",
+    ),
+    (
+        431,
+        false,
+        b"HTTP/1.1 431 Request Header Fields Too Large|Content-Length: 0|Connection: close||",
+    ),
+    (
+        501,
+        false,
+        b"HTTP/1.1 501 Not Implemented|Content-Length: 0|Connection: close||",
+    ),
+];
+
+/// Checks what is written of a response, also where a write fails.
+fn is_written_as(
+    rt: &impl Abort,
+    alloc: Global,
+    status: u16,
+    close: bool,
+    want: &[u8],
+) -> Result<(), Fail> {
+    let (taken, answer) = written(rt, alloc, status, close, u64::MAX)?;
+    assert_eq!(rt; taken.as_slice(), want);
+    assert_eq!(rt; answer, Ok(()));
+    // There is a write for each 16 bytes, and then the flush.
+    for failing in 0..=want.len().div_ceil(16) {
+        let (taken, answer) = written(rt, alloc, status, close, failing as u64)?;
+        let front = want.len().min(failing.saturating_mul(16));
+        assert_eq!(rt; taken.as_slice(), &want[..front]);
+        assert_eq!(rt; answer, Err(AnswerEnd::WriteFault));
+    }
+    Ok(())
+}
+
 #[test]
 fn responses_and_fronts_of_them(rt: HostRuntime) -> Result<(), Fail> {
-    let alloc = rt.alloc();
-    for (status, close, text) in [
-        (
-            200u16,
-            false,
-            b"HTTP/1.1 200 OK|Content-Type: application/x-amf|Content-Length: 2||hi".as_slice(),
-        ),
-        (
-            200,
-            true,
-            b"HTTP/1.1 200 OK|Content-Type: application/x-amf|Content-Length: 2|Connection: close||hi",
-        ),
-        (
-            400,
-            false,
-            b"HTTP/1.1 400 Bad Request|Content-Length: 0|Connection: close||",
-        ),
-        (
-            404,
-            false,
-            b"HTTP/1.1 404 Not Found|Content-Length: 0|Connection: close||",
-        ),
-        (
-            405,
-            true,
-            b"HTTP/1.1 405 Method Not Allowed|Allow: POST|Content-Length: 0|Connection: close||",
-        ),
-        (
-            411,
-            false,
-            b"HTTP/1.1 411 Length Required|Content-Length: 0|Connection: close||",
-        ),
-        (
-            413,
-            false,
-            b"HTTP/1.1 413 Content Too Large|Content-Length: 0|Connection: close||",
-        ),
-        (
-            415,
-            false,
-            b"HTTP/1.1 415 Unsupported Media Type|Content-Length: 0|Connection: close||",
-        ),
-        (
-            417,
-            false,
-            b"HTTP/1.1 417 Expectation Failed|Content-Length: 0|Connection: close||",
-        ),
-        (
-            431,
-            false,
-            b"HTTP/1.1 431 Request Header Fields Too Large|Content-Length: 0|Connection: close||",
-        ),
-        (
-            501,
-            false,
-            b"HTTP/1.1 501 Not Implemented|Content-Length: 0|Connection: close||",
-        ),
-    ] {
-        let want = lines(alloc, text)?;
-        let (taken, answer) = written(&rt, alloc, status, close, u64::MAX)?;
-        assert_eq!(rt; taken.as_slice(), want.as_slice());
-        assert_eq!(rt; answer, Ok(()));
-        // There is a write for each 16 bytes, and then the flush.
-        let writes = want.len().div_ceil(16);
-        for failing in 0..=writes {
-            let (taken, answer) = written(&rt, alloc, status, close, failing as u64)?;
-            let front = want.len().min(failing.saturating_mul(16));
-            assert_eq!(rt; taken.as_slice(), &want[..front]);
-            assert_eq!(rt; answer, Err(AnswerEnd::WriteFault));
-        }
+    for (status, close, text) in RESPONSES.iter() {
+        let want = lines(rt.alloc(), text)?;
+        is_written_as(&rt, rt.alloc(), *status, *close, &want)?;
     }
     Ok(())
 }

@@ -5,19 +5,20 @@ use amf_wire::{
 };
 use std::test::Fail;
 
+static NUMBERS: [(u32, &[u8]); 8] = [
+    (0, &[0x00]),
+    (0x7F, &[0x7F]),
+    (0x80, &[0x81, 0x00]),
+    (0x3FFF, &[0xFF, 0x7F]),
+    (0x4000, &[0x81, 0x80, 0x00]),
+    (0x1F_FFFF, &[0xFF, 0xFF, 0x7F]),
+    (0x20_0000, &[0x80, 0xC0, 0x80, 0x00]),
+    (0x1FFF_FFFF, &[0xFF, 0xFF, 0xFF, 0xFF]),
+];
+
 #[test]
 fn spells_numbers(rt: HostRuntime) -> Result<(), Fail> {
-    let rows: [(u32, &[u8]); 8] = [
-        (0, &[0x00]),
-        (0x7F, &[0x7F]),
-        (0x80, &[0x81, 0x00]),
-        (0x3FFF, &[0xFF, 0x7F]),
-        (0x4000, &[0x81, 0x80, 0x00]),
-        (0x1F_FFFF, &[0xFF, 0xFF, 0x7F]),
-        (0x20_0000, &[0x80, 0xC0, 0x80, 0x00]),
-        (0x1FFF_FFFF, &[0xFF, 0xFF, 0xFF, 0xFF]),
-    ];
-    for (number, bytes) in rows.iter() {
+    for (number, bytes) in NUMBERS.iter() {
         let n = U29::new(*number).ok_or("a number of 29 bits")?;
         let written = write_u29(n);
         assert_eq!(rt; written.as_slice(), *bytes);
@@ -29,16 +30,17 @@ fn spells_numbers(rt: HostRuntime) -> Result<(), Fail> {
     Ok(())
 }
 
+static INTEGERS: [(u32, i32); 5] = [
+    (0, 0),
+    (0x0FFF_FFFF, 268_435_455),
+    (0x1000_0000, -268_435_456),
+    (0x1FFF_FFFF, -1),
+    (5, 5),
+];
+
 #[test]
 fn reads_integers(rt: HostRuntime) -> Result<(), Fail> {
-    let rows: [(u32, i32); 5] = [
-        (0, 0),
-        (0x0FFF_FFFF, 268_435_455),
-        (0x1000_0000, -268_435_456),
-        (0x1FFF_FFFF, -1),
-        (5, 5),
-    ];
-    for (bits, integer) in rows.iter() {
+    for (bits, integer) in INTEGERS.iter() {
         let n = U29::new(*bits).ok_or("a number of 29 bits")?;
         assert_eq!(rt; sign29(n), *integer);
         assert_eq!(rt; unsign29(*integer), Some(n));
@@ -57,62 +59,65 @@ fn reads_big_endian(rt: HostRuntime) -> Result<(), Fail> {
     Ok(())
 }
 
+static WHOLE_NUMBERS: [(i64, u64); 8] = [
+    (0, 0),
+    (1, 0x3FF0_0000_0000_0000),
+    (-1, 0xBFF0_0000_0000_0000),
+    (5, 0x4014_0000_0000_0000),
+    (-5, 0xC014_0000_0000_0000),
+    (268_435_455, 0x41AF_FFFF_FE00_0000),
+    (9_007_199_254_740_991, 0x433F_FFFF_FFFF_FFFF),
+    (-9_007_199_254_740_991, 0xC33F_FFFF_FFFF_FFFF),
+];
+
+/// Minus zero, a half, one and a half, 2^53, 2^60, the least number, infinity and a not-a-number.
+static OTHERS: [u64; 8] = [
+    0x8000_0000_0000_0000,
+    0x3FE0_0000_0000_0000,
+    0x3FF8_0000_0000_0000,
+    0x4340_0000_0000_0000,
+    0x43B0_0000_0000_0000,
+    1,
+    0x7FF0_0000_0000_0000,
+    0x7FF8_0000_0000_0000,
+];
+
 #[test]
 fn knows_whole_numbers(rt: HostRuntime) -> Result<(), Fail> {
-    let rows: [(i64, u64); 8] = [
-        (0, 0),
-        (1, 0x3FF0_0000_0000_0000),
-        (-1, 0xBFF0_0000_0000_0000),
-        (5, 0x4014_0000_0000_0000),
-        (-5, 0xC014_0000_0000_0000),
-        (268_435_455, 0x41AF_FFFF_FE00_0000),
-        (9_007_199_254_740_991, 0x433F_FFFF_FFFF_FFFF),
-        (-9_007_199_254_740_991, 0xC33F_FFFF_FFFF_FFFF),
-    ];
-    for (whole, bits) in rows.iter() {
+    for (whole, bits) in WHOLE_NUMBERS.iter() {
         assert_eq!(rt; pattern_of(*whole), Some(Pattern(*bits)));
         assert_eq!(rt; whole_of(Pattern(*bits)), Some(*whole));
     }
     for large in [9_007_199_254_740_992, i64::MAX, i64::MIN] {
         assert_eq!(rt; pattern_of(large), None);
     }
-    // minus zero, a half, one and a half, 2^53, 2^60, the least number, infinity and a not-a-number
-    let others: [u64; 8] = [
-        0x8000_0000_0000_0000,
-        0x3FE0_0000_0000_0000,
-        0x3FF8_0000_0000_0000,
-        0x4340_0000_0000_0000,
-        0x43B0_0000_0000_0000,
-        1,
-        0x7FF0_0000_0000_0000,
-        0x7FF8_0000_0000_0000,
-    ];
-    for bits in others.iter() {
+    for bits in OTHERS.iter() {
         assert_eq!(rt; whole_of(Pattern(*bits)), None);
     }
     Ok(())
 }
 
+static TEXTS: [(&[u8], Option<usize>); 12] = [
+    (&[], None),
+    (b"plain", None),
+    (
+        &[0xC3, 0xA9, 0xE2, 0x82, 0xAC, 0xF0, 0x9F, 0x98, 0x80],
+        None,
+    ),
+    (&[0xC0, 0x80], None),
+    (&[0xED, 0xA0, 0x80, 0xED, 0xBF, 0xBF], None),
+    (&[0xFF], Some(0)),
+    (&[0x41, 0xC0, 0x81], Some(1)),
+    (&[0x41, 0xED], Some(1)),
+    (&[0x41, 0x42, 0xE2, 0x82], Some(2)),
+    (&[0xE0, 0x9F, 0x80], Some(0)),
+    (&[0xF4, 0x90, 0x80, 0x80], Some(0)),
+    (&[0x41, 0x80], Some(1)),
+];
+
 #[test]
 fn judges_texts(rt: HostRuntime) -> Result<(), Fail> {
-    let rows: [(&[u8], Option<usize>); 12] = [
-        (&[], None),
-        (b"plain", None),
-        (
-            &[0xC3, 0xA9, 0xE2, 0x82, 0xAC, 0xF0, 0x9F, 0x98, 0x80],
-            None,
-        ),
-        (&[0xC0, 0x80], None),
-        (&[0xED, 0xA0, 0x80, 0xED, 0xBF, 0xBF], None),
-        (&[0xFF], Some(0)),
-        (&[0x41, 0xC0, 0x81], Some(1)),
-        (&[0x41, 0xED], Some(1)),
-        (&[0x41, 0x42, 0xE2, 0x82], Some(2)),
-        (&[0xE0, 0x9F, 0x80], Some(0)),
-        (&[0xF4, 0x90, 0x80, 0x80], Some(0)),
-        (&[0x41, 0x80], Some(1)),
-    ];
-    for (bytes, bad) in rows.iter() {
+    for (bytes, bad) in TEXTS.iter() {
         assert_eq!(rt; first_bad(bytes), *bad);
         assert_eq!(rt; is_amf_text(bytes), bad.is_none());
     }
