@@ -153,30 +153,39 @@ fn call(
     Ok(registry.call(alloc, &service, &operation, &args))
 }
 
-#[test]
-fn calls_services_by_their_names(rt: HostRuntime) -> Result<(), Fail> {
-    let alloc = rt.alloc();
+/// The services of the tests.
+fn registry(alloc: Global) -> Result<Registry, Fail> {
     let mut entries: Vec<(Name, Box<dyn Service>)> = Vec::new(alloc);
     add(alloc, &mut entries, "echo", Box::new(alloc, Echo)?)?;
     add(alloc, &mut entries, "sum", Box::new(alloc, Sum)?)?;
     add(alloc, &mut entries, "count", Box::new(alloc, Count)?)?;
-    let registry = Registry::new(alloc, entries).ok().ok_or("a registry")?;
-    let five = Value::Double(Pattern(0x4014_0000_0000_0000));
-    let (two, three) = (Value::Integer(2), Value::Integer(3));
-    for (called, want) in [
-        (("sum", "sum"), Want::Root(five)),
-        (("echo", "echo"), Want::Fault("wrong arguments")),
-        (("count", "count"), Want::Root(two)),
-        (("ech", "echo"), Want::NoService),
-        (("echo", "other"), Want::NoOperation),
-    ] {
-        expect(&rt, call(&registry, alloc, called, &[two, three])?, &want)?;
+    Ok(Registry::new(alloc, entries).ok().ok_or("a registry")?)
+}
+
+const FIVE: Value = Value::Double(Pattern(0x4014_0000_0000_0000));
+
+/// A service and its operation, the items that it is given, and what it comes to.
+type Row = (&'static str, &'static str, &'static [Value], Want<'static>);
+
+const TWO: &[Value] = &[Value::Integer(2), Value::Integer(3)];
+
+static CALLS: [Row; 6] = [
+    ("sum", "sum", TWO, Want::Root(FIVE)),
+    ("echo", "echo", TWO, Want::Fault("wrong arguments")),
+    ("count", "count", TWO, Want::Root(Value::Integer(2))),
+    ("ech", "echo", TWO, Want::NoService),
+    ("echo", "other", TWO, Want::NoOperation),
+    ("echo", "echo", &[FIVE], Want::Root(FIVE)),
+];
+
+#[test]
+fn calls_services_by_their_names(rt: HostRuntime) -> Result<(), Fail> {
+    let registry = registry(rt.alloc())?;
+    for (service, operation, items, want) in CALLS.iter() {
+        let answer = call(&registry, rt.alloc(), (*service, *operation), items)?;
+        expect(&rt, answer, want)?;
     }
-    expect(
-        &rt,
-        call(&registry, alloc, ("echo", "echo"), &[five])?,
-        &Want::Root(five),
-    )
+    Ok(())
 }
 
 /// The name that stands twice.
@@ -188,14 +197,18 @@ fn repeated(end: Option<RegistryEnd>) -> Result<Name, Fail> {
     }
 }
 
-#[test]
-fn a_name_that_stands_twice(rt: HostRuntime) -> Result<(), Fail> {
-    let alloc = rt.alloc();
+/// The end of a registry with a name that stands twice.
+fn ended(alloc: Global) -> Result<Option<RegistryEnd>, Fail> {
     let mut entries: Vec<(Name, Box<dyn Service>)> = Vec::new(alloc);
     add(alloc, &mut entries, "echo", Box::new(alloc, Echo)?)?;
     add(alloc, &mut entries, "sum", Box::new(alloc, Sum)?)?;
     add(alloc, &mut entries, "echo", Box::new(alloc, Echo)?)?;
-    let name = repeated(Registry::new(alloc, entries).err())?;
+    Ok(Registry::new(alloc, entries).err())
+}
+
+#[test]
+fn a_name_that_stands_twice(rt: HostRuntime) -> Result<(), Fail> {
+    let name = repeated(ended(rt.alloc())?)?;
     assert_eq!(rt; name.as_bytes(), b"echo".as_slice());
     Ok(())
 }
@@ -239,17 +252,28 @@ fn text_at(graph: &Rooted, place: usize) -> Option<&[u8]> {
     }
 }
 
+/// The names of the members of the object.
+fn ordered_names(alloc: Global) -> Result<Rooted, Fail> {
+    let args = two_members(alloc)?;
+    let operation = name_of(alloc, "names")?;
+    Ok(
+        Names
+            .answers(alloc, &operation, &args)
+            .ok()
+            .ok_or("an array")?,
+    )
+}
+
 #[test]
 fn names_are_ordered(rt: HostRuntime) -> Result<(), Fail> {
-    let alloc = rt.alloc();
-    let args = two_members(alloc)?;
-    let names = Names
-        .answers(alloc, &name_of(alloc, "names")?, &args)
-        .ok()
-        .ok_or("an array")?;
-    assert_eq!(rt; text_at(&names, 0).ok_or("a text")?, b"a".as_slice());
-    assert_eq!(rt; text_at(&names, 1).ok_or("a text")?, b"b".as_slice());
-    assert!(rt; text_at(&names, 2).is_none());
+    let names = ordered_names(rt.alloc())?;
+    for (place, want) in [
+        (0, Some(b"a".as_slice())),
+        (1, Some(b"b".as_slice())),
+        (2, None),
+    ] {
+        assert_eq!(rt; text_at(&names, place), want);
+    }
     Ok(())
 }
 
