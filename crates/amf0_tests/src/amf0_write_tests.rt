@@ -1,26 +1,17 @@
-ghost use Rattle.std.specs.Prelude.{◌≡◌, IfOk};
-ghost use Rattle.amf_graph.specs.Arena.{Names};
-
-use amf_graph::{Builder, Lack, LackKind, Part, Rooted, Shape, Value, WriteEnd};
-use amf_io::{Cursor, MemorySource};
-use amf_tables::{Tables3, WriterTables};
-use amf_wire::{U29, is_amf_text, write_u29};
+use crate::amf0_read_tests::graph_of as read_graph;
+use amf_graph::{Lack, LackKind, Rooted, WriteEnd};
+use amf_tables::WriterTables;
+use amf_wire::{U29, write_u29};
 use amf0_tables::graphs_have_one_lowering;
 use amf0_write::{first_lack0, lower, write0, write0_part};
-use amf3_read::read3;
 use std::alloc::Global;
 use std::test::Fail;
 
-/// The graph that these bytes of AMF 3 spell.
+/// The graph that these bytes of AMF 3 spell, which stand within AMF 0.
 fn graph_of(alloc: Global, bytes: &[u8]) -> Result<Rooted, Fail> {
-    let mut source = MemorySource::new(alloc, bytes, 65536, 0, &[])?;
-    let mut cursor = Cursor::new(alloc, &mut source, 100_000)?;
-    let mut builder = Builder::new(alloc)?;
-    let mut tables = Tables3::new(alloc)?;
-    let Ok(root) = read3(alloc, &mut cursor, &mut builder, &mut tables) else {
-        return Err("no value")?;
-    };
-    Ok(builder.finish(root).ok().ok_or("an open node")?)
+    let mut all = vec![in alloc; 0x11]?;
+    all.extend_from_slice(bytes)?;
+    read_graph(alloc, &all)
 }
 
 /// What is written of the lowered graph, behind a byte that was there.
@@ -53,115 +44,74 @@ fn twice(alloc: Global, graph: &Rooted) -> Result<Vec<u8>, WriteEnd> {
     Ok(out)
 }
 
-/// The graph with this root, of nodes that are all complete.
-fn finished(builder: Builder, root: Value) -> Result<Rooted, Fail>
-    requires { Names builder root }
-    ensures { IfOk result (λ graph. graph ≡ record { arena = builder; root = root }) }
-{
-    let graph = builder.finish(root).ok().ok_or("an open node")?;
-    Ok(graph)
-}
-
-#[test]
-fn values_without_nodes(rt: HostRuntime) -> Result<(), Fail> {
-    for (spelled, bytes) in [
-        (b"\x00".as_slice(), b"\xAA\x06".as_slice()),
-        (b"\x01", b"\xAA\x05"),
-        (b"\x02", b"\xAA\x01\x00"),
-        (b"\x03", b"\xAA\x01\x01"),
-        (b"\x04\x00", b"\xAA\x00\x00\x00\x00\x00\x00\x00\x00\x00"),
-        (b"\x04\x05", b"\xAA\x00\x40\x14\x00\x00\x00\x00\x00\x00"),
-        (
-            b"\x04\xFF\xFF\xFF\xFF",
-            b"\xAA\x00\xBF\xF0\x00\x00\x00\x00\x00\x00",
-        ),
-        (
-            b"\x05\x3F\xF0\x00\x00\x00\x00\x00\x00",
-            b"\xAA\x00\x3F\xF0\x00\x00\x00\x00\x00\x00",
-        ),
-    ] {
-        let graph = graph_of(rt.alloc(), spelled)?;
-        assert_eq!(rt;
-            written(rt.alloc(), &graph)?.as_slice(),
-            bytes,
-            "{spelled:?}"
-        );
-    }
-    Ok(())
-}
-
-#[test]
-fn nodes_without_parts(rt: HostRuntime) -> Result<(), Fail> {
+/// Values in AMF 3, and what is written of them behind a byte.
+static WRITTEN: [(&[u8], &[u8]); 13] = [
+    (b"\x00", b"\xAA\x06"),
+    (b"\x01", b"\xAA\x05"),
+    (b"\x02", b"\xAA\x01\x00"),
+    (b"\x03", b"\xAA\x01\x01"),
+    (b"\x04\x00", b"\xAA\x00\x00\x00\x00\x00\x00\x00\x00\x00"),
+    (b"\x04\x05", b"\xAA\x00\x40\x14\x00\x00\x00\x00\x00\x00"),
+    (
+        b"\x04\xFF\xFF\xFF\xFF",
+        b"\xAA\x00\xBF\xF0\x00\x00\x00\x00\x00\x00",
+    ),
+    (
+        b"\x05\x3F\xF0\x00\x00\x00\x00\x00\x00",
+        b"\xAA\x00\x3F\xF0\x00\x00\x00\x00\x00\x00",
+    ),
     // An array of a date, an XML document and a text.
-    let graph = graph_of(
-        rt.alloc(),
+    (
         b"\x09\x07\x01\x08\x01\x3F\xF0\x00\x00\x00\x00\x00\x00\x07\x03a\x06\x03a",
-    )?;
-    let bytes =
-        b"\xAA\x0A\x00\x00\x00\x03\x0B\x3F\xF0\x00\x00\x00\x00\x00\x00\x00\x00\x0F\x00\x00\x00\x01a\x02\x00\x01a".as_slice();
-    assert_eq!(rt; written(rt.alloc(), &graph)?.as_slice(), bytes);
-    Ok(())
-}
-
-#[test]
-fn a_shared_node_and_a_ring(rt: HostRuntime) -> Result<(), Fail> {
+        b"\xAA\x0A\x00\x00\x00\x03\x0B\x3F\xF0\x00\x00\x00\x00\x00\x00\x00\x00\x0F\x00\x00\x00\x01a\x02\x00\x01a",
+    ),
     // An array of one array twice, which holds the first.
-    let graph = graph_of(rt.alloc(), b"\x09\x05\x01\x09\x03\x01\x09\x00\x09\x02")?;
-    let bytes = b"\xAA\x0A\x00\x00\x00\x02\x0A\x00\x00\x00\x01\x07\x00\x00\x07\x00\x01".as_slice();
-    assert_eq!(rt; written(rt.alloc(), &graph)?.as_slice(), bytes);
-    Ok(())
-}
-
-#[test]
-fn names_in_order(rt: HostRuntime) -> Result<(), Fail> {
-    let graph = graph_of(rt.alloc(), b"\x09\x01\x03b\x01\x03a\x03\x00\x00\x01")?;
-    let bytes =
-        b"\xAA\x08\x00\x00\x00\x03\x00\x01a\x01\x01\x00\x01b\x05\x00\x01b\x06\x00\x00\x09".as_slice();
-    assert_eq!(rt; written(rt.alloc(), &graph)?.as_slice(), bytes);
-    Ok(())
-}
-
-#[test]
-fn sealed_members_are_members(rt: HostRuntime) -> Result<(), Fail> {
-    let mut builder = Builder::new(rt.alloc())?;
-    assert!(rt; is_amf_text(b"C") && is_amf_text(b"s") && is_amf_text(b"m") && is_amf_text(b""));
-    let (class, name, member, empty) = (
-        builder.text(b"C")?,
-        builder.text(b"s")?,
-        builder.text(b"m")?,
-        builder.text(b"")?,
-    );
-    let typed = builder.traits(class, true, &[name])?;
-    let plain = builder.traits(empty, false, &[name])?;
-    let inner = builder.open_node(Shape::Object(plain))?;
-    builder.put(inner, Part::Item(Value::Null))?;
-    builder.close_node(inner);
-    let root = builder.open_node(Shape::Object(typed))?;
-    builder.put(root, Part::Item(Value::Integer(5)))?;
-    builder.put(root, Part::Named(name, Value::Undefined))?;
-    builder.put(root, Part::Named(member, Value::Node(inner)))?;
-    builder.put(root, Part::Named(empty, Value::Null))?;
-    builder.close_node(root);
-    let graph = finished(builder, Value::Node(root))?;
-    let bytes =
-        b"\xAA\x10\x00\x01C\x00\x00\x05\x00\x01m\x03\x00\x01s\x05\x00\x00\x09\x00\x01s\x00\x40\x14\x00\x00\x00\x00\x00\x00\x00\x01s\x06\x00\x00\x09".as_slice();
-    assert_eq!(rt; written(rt.alloc(), &graph)?.as_slice(), bytes);
-    Ok(())
-}
-
-#[test]
-fn wrappers_within_one_another(rt: HostRuntime) -> Result<(), Fail> {
+    (
+        b"\x09\x05\x01\x09\x03\x01\x09\x00\x09\x02",
+        b"\xAA\x0A\x00\x00\x00\x02\x0A\x00\x00\x00\x01\x07\x00\x00\x07\x00\x01",
+    ),
+    // Names in order.
+    (
+        b"\x09\x01\x03b\x01\x03a\x03\x00\x00\x01",
+        b"\xAA\x08\x00\x00\x00\x03\x00\x01a\x01\x01\x00\x01b\x05\x00\x01b\x06\x00\x00\x09",
+    ),
+    // An object of class C with the sealed members s and one with no name, and the members s and m, of which the last is
+    // an object without a class whose one member is sealed.
+    (
+        b"\x0A\x2B\x03C\x03s\x01\x04\x05\x01\x03s\x00\x03m\x0A\x13\x01\x03s\x01\x01",
+        b"\xAA\x10\x00\x01C\x00\x00\x05\x00\x01m\x03\x00\x01s\x05\x00\x00\x09\x00\x01s\x00\x40\x14\x00\x00\x00\x00\x00\x00\x00\x01s\x06\x00\x00\x09",
+    ),
     // Three wrappers over 5, and one that wraps itself.
-    let graph = graph_of(
-        rt.alloc(),
+    (
         b"\x09\x05\x01\
             \x0A\x07\x37flex.messaging.io.ArrayList\
             \x0A\x07\x3Bflex.messaging.io.ObjectProxy\
             \x0A\x07\x43flex.messaging.io.ArrayCollection\x04\x05\
             \x0A\x01\x0A\x08",
-    )?;
-    let bytes = b"\xAA\x0A\x00\x00\x00\x02\x00\x40\x14\x00\x00\x00\x00\x00\x00\x05".as_slice();
-    assert_eq!(rt; written(rt.alloc(), &graph)?.as_slice(), bytes);
+        b"\xAA\x0A\x00\x00\x00\x02\x00\x40\x14\x00\x00\x00\x00\x00\x00\x05",
+    ),
+];
+
+#[test]
+fn writes_values(rt: HostRuntime) -> Result<(), Fail> {
+    for (spelled, bytes) in WRITTEN.iter() {
+        let graph = graph_of(rt.alloc(), spelled)?;
+        let out = written(rt.alloc(), &graph)?;
+        assert_eq!(rt; out.as_slice(), *bytes, "{spelled:?}");
+    }
+    Ok(())
+}
+
+/// An object of class C with a member that has no name.
+#[test]
+fn writes_what_was_read(rt: HostRuntime) -> Result<(), Fail> {
+    let bytes = b"\x10\x00\x01C\x00\x00\x05\x00\x01m\x06\x00\x00\x09";
+    let graph = read_graph(rt.alloc(), bytes)?;
+    let out = written(rt.alloc(), &graph)?;
+    assert_eq!(rt;
+        out.as_slice(),
+        b"\xAA\x10\x00\x01C\x00\x00\x05\x00\x01m\x06\x00\x00\x09".as_slice()
+    );
     Ok(())
 }
 
