@@ -1,10 +1,18 @@
-//! Tests of packets and of shared object files, and nothing else.
+//! Tests of packets, of shared object files and of the listings, and nothing else.
 #![tactic(auto)]
 
 #[cfg(test)]
+mod graphs;
+#[cfg(test)]
+mod packet_show_tests;
+#[cfg(test)]
 mod packet_tests;
 #[cfg(test)]
+mod show_tests;
+#[cfg(test)]
 mod sol_read_tests;
+#[cfg(test)]
+mod sol_show_tests;
 #[cfg(test)]
 mod sol_tests;
 #[cfg(test)]

@@ -12,6 +12,7 @@ use amf_packet::{
 };
 use amf_wire::{Name, is_amf_text};
 use std::alloc::Global;
+use std::process::Abort;
 use std::test::Fail;
 
 /// Two headers and two messages in all forms, with a flag, lengths and texts that no writer gives.
@@ -77,41 +78,54 @@ fn keeps_names_flags_and_forms(rt: HostRuntime) -> Result<(), Fail> {
     Ok(())
 }
 
-#[test]
-fn refuses_the_first_wrong_field(rt: HostRuntime) -> Result<(), Fail> {
-    let rows: [(&[u8], Reason, u32); 10] = [
-        (b"", Reason::Truncated, 0),
-        (b"\x00\x02", Reason::BadVersion, 0),
-        (b"\x00\x00\x00", Reason::Truncated, 2),
-        (b"\x00\x00\x00\x00\x00", Reason::Truncated, 4),
-        (b"\x00\x00\x00\x01\x00\x02h", Reason::Truncated, 6),
-        (b"\x00\x00\x00\x01\x00\x01\xFF", Reason::BadText, 6),
-        (b"\x00\x00\x00\x01\x00\x00\x01\x00", Reason::Truncated, 7),
-        (
-            b"\x00\x00\x00\x01\x00\x00\x01\x00\x00\x00\x00\x04",
-            Reason::BadMarker,
-            11,
-        ),
-        // No value knows the tables of the one before.
-        (
-            b"\x00\x00\x00\x00\x00\x02\
+/// Bytes that are refused within a limit of 30, for a reason at a place.
+static REFUSED: [(&[u8], Reason, u32); 10] = [
+    (b"", Reason::Truncated, 0),
+    (b"\x00\x02", Reason::BadVersion, 0),
+    (b"\x00\x00\x00", Reason::Truncated, 2),
+    (b"\x00\x00\x00\x00\x00", Reason::Truncated, 4),
+    (b"\x00\x00\x00\x01\x00\x02h", Reason::Truncated, 6),
+    (b"\x00\x00\x00\x01\x00\x01\xFF", Reason::BadText, 6),
+    (b"\x00\x00\x00\x01\x00\x00\x01\x00", Reason::Truncated, 7),
+    (
+        b"\x00\x00\x00\x01\x00\x00\x01\x00\x00\x00\x00\x04",
+        Reason::BadMarker,
+        11,
+    ),
+    // No value knows the tables of the one before.
+    (
+        b"\x00\x00\x00\x00\x00\x02\
             \x00\x00\x00\x00\x00\x00\x00\x00\x0A\x00\x00\x00\x00\
             \x00\x00\x00\x00\x00\x00\x00\x00\x07\x00\x00",
-            Reason::BadReference,
-            27,
-        ),
-        // The limit stands inside the length of the second header.
-        (ODD, Reason::TooLarge, 27),
-    ];
-    for (bytes, reason, at) in rows {
-        for most in [1, 65536] {
-            let end = read_of(rt.alloc(), bytes, 30, most)?.err();
-            assert_eq!(rt;
-                end,
-                Some(ReadEnd::Refused(Refusal { reason, at })),
-                "{bytes:?}"
-            );
-        }
+        Reason::BadReference,
+        27,
+    ),
+    // The limit stands inside the length of the second header.
+    (ODD, Reason::TooLarge, 27),
+];
+
+/// Reads bytes within a limit of 30, in pieces of at most so many, and compares why they are refused.
+fn is_refused(
+    rt: &impl Abort,
+    alloc: Global,
+    bytes: &[u8],
+    most: usize,
+    refusal: Refusal,
+) -> Result<(), Fail> {
+    let end = read_of(alloc, bytes, 30, most)?.err();
+    assert_eq!(rt; end, Some(ReadEnd::Refused(refusal)), "{bytes:?}");
+    Ok(())
+}
+
+#[test]
+fn refuses_the_first_wrong_field(rt: HostRuntime) -> Result<(), Fail> {
+    for (bytes, reason, at) in REFUSED.iter() {
+        let refusal = Refusal {
+            reason: *reason,
+            at: *at,
+        };
+        is_refused(&rt, rt.alloc(), bytes, 1, refusal)?;
+        is_refused(&rt, rt.alloc(), bytes, 65536, refusal)?;
     }
     Ok(())
 }
@@ -164,9 +178,21 @@ fn tells_which_value_is_not_written(rt: HostRuntime) -> Result<(), Fail> {
     let (out, end) = written_of(rt.alloc(), NAMELESS, 65536)?;
     assert_eq!(rt; end, Err(PacketEnd::NoSpelling { value: 1, lack }));
     assert_eq!(rt; out.as_slice(), b"\xAA".as_slice());
-    // A text of one byte too many.
-    let target = letters(rt.alloc(), 65536)?;
-    let packet = targeted(rt.alloc(), &target, null(rt.alloc())?)?;
+    Ok(())
+}
+
+/// A packet of one message whose target has one byte too many.
+fn too_long(alloc: Global) -> Result<Packet, Fail>
+    ensures version { IfOk result (λ packet. is_version packet.version ≡ true) }
+    ensures texts { IfOk result (λ packet. HasTexts (packet_of packet)) }
+{
+    let target = letters(alloc, 65536)?;
+    targeted(alloc, &target, null(alloc)?)
+}
+
+#[test]
+fn writes_no_long_text(rt: HostRuntime) -> Result<(), Fail> {
+    let packet = too_long(rt.alloc())?;
     let mut out = vec![in rt.alloc(); 0xAA]?;
     let end = write_packet(rt.alloc(), &packet, &mut out);
     assert_eq!(rt; end, Err(PacketEnd::LongText(0)));
@@ -174,23 +200,28 @@ fn tells_which_value_is_not_written(rt: HostRuntime) -> Result<(), Fail> {
     Ok(())
 }
 
+/// Ends, and how they are told.
+static ENDS: [(PacketEnd, &str); 4] = [
+    (PacketEnd::TooMany, "too many headers or messages"),
+    (PacketEnd::LongText(3), "a long text with value 3"),
+    (
+        PacketEnd::NoSpelling {
+            value: 1,
+            lack: Lack {
+                kind: LackKind::EmptyName,
+                node: 2,
+            },
+        },
+        "no spelling of value 1 from node 2",
+    ),
+    (PacketEnd::Memory, "no memory"),
+];
+
 #[test]
 fn says_why_nothing_was_written(rt: HostRuntime) -> Result<(), Fail> {
-    let lack = Lack {
-        kind: LackKind::EmptyName,
-        node: 2,
-    };
-    for (end, words) in [
-        (PacketEnd::TooMany, "too many headers or messages"),
-        (PacketEnd::LongText(3), "a long text with value 3"),
-        (
-            PacketEnd::NoSpelling { value: 1, lack },
-            "no spelling of value 1 from node 2",
-        ),
-        (PacketEnd::Memory, "no memory"),
-    ] {
+    for (end, words) in ENDS.iter() {
         let said = format!(in rt.alloc(); "{end}")?;
-        assert_eq!(rt; said.as_str(), words);
+        assert_eq!(rt; said.as_str(), *words);
     }
     Ok(())
 }

@@ -1,10 +1,12 @@
-use amf_graph::{Builder, Part, Rooted, Shape, Value};
+use crate::graphs::{graph_from, graph_of};
+use amf_graph::Rooted;
 use amf_sol::{
     SharedObject, SolEnd, SolVersion, file_faults_are_first, files_fix_next_kind,
     files_have_holders, files_have_one_verdict, worked_files,
 };
-use amf_wire::{Name, is_amf_text};
+use amf_wire::Name;
 use std::alloc::Global;
+use std::process::Abort;
 use std::test::Fail;
 
 #[test]
@@ -16,46 +18,45 @@ fn facts_and_laws_stand(_rt: HostRuntime) {
     files_have_holders();
 }
 
-/// An object without sealed names that has one member, an array. Where `held`, the array holds the object.
-fn object(alloc: Global, class: &[u8], dynamic: bool, held: bool) -> Result<Rooted, Fail> {
-    if !is_amf_text(class) {
-        Err("no text")?;
-    }
-    let mut builder = Builder::new(alloc)?;
-    let class = builder.text(class)?;
-    let traits = builder.traits(class, dynamic, &[])?;
-    let object = builder.open_node(Shape::Object(traits))?;
-    let array = builder.open_node(Shape::Array)?;
-    if dynamic {
-        builder.put(object, Part::Named(class, Value::Node(array)))?;
-    }
-    if held {
-        builder.put(array, Part::Item(Value::Node(object)))?;
-    }
-    builder.close_node(object);
-    builder.close_node(array);
-    let graph = builder
-        .finish(Value::Node(object))
-        .ok()
-        .ok_or("an open node")?;
-    Ok(graph)
+/// An object without a class that has one member, an array.
+const HOLDER: &[u8] = b"\x03\0\0\x0A\0\0\0\0\0\0\x09";
+
+/// The same of a class.
+const CLASSED: &[u8] = b"\x10\0\x01C\0\x01C\x0A\0\0\0\0\0\0\x09";
+
+/// The same with an array that holds the object.
+const HELD: &[u8] = b"\x03\0\0\x0A\0\0\0\x01\x07\0\0\0\0\x09";
+
+/// An array of an object that has no members and is not dynamic, which is node 1, and of an array.
+const SEALED: &[u8] = b"\x11\x09\x05\x01\x0A\x03\x01\x09\x01\x01";
+
+/// Graphs, the nodes that are their roots, and why these are no holders.
+static HOLDERS: [(&[u8], u32, Option<SolEnd>); 4] = [
+    (HOLDER, 0, None),
+    (CLASSED, 0, Some(SolEnd::NotAHolder)),
+    (SEALED, 1, Some(SolEnd::NotAHolder)),
+    (HELD, 0, Some(SolEnd::NotAHolder)),
+];
+
+/// Checks why no shared object of this name and holder is made, or that it is made.
+fn is_made(
+    rt: &impl Abort,
+    alloc: Global,
+    name: &[u8],
+    holder: Rooted,
+    end: Option<SolEnd>,
+) -> Result<(), Fail> {
+    let name = Name::from_bytes(alloc, name)?;
+    let made = SharedObject::new(alloc, name, SolVersion::Amf0, holder);
+    assert_eq!(rt; made.err(), end);
+    Ok(())
 }
 
 #[test]
 fn only_holders_are_taken(rt: HostRuntime) -> Result<(), Fail> {
-    let rows: [(&[u8], bool, bool, Option<SolEnd>); 4] = [
-        (b"", true, false, None),
-        (b"C", true, false, Some(SolEnd::NotAHolder)),
-        (b"", false, false, Some(SolEnd::NotAHolder)),
-        (b"", true, true, Some(SolEnd::NotAHolder)),
-    ];
-    for (class, dynamic, held, end) in rows {
-        let name = Name::from_bytes(rt.alloc(), b"t")?;
-        let holder = object(rt.alloc(), class, dynamic, held)?;
-        assert_eq!(rt;
-            SharedObject::new(rt.alloc(), name, SolVersion::Amf0, holder).err(),
-            end
-        );
+    for (bytes, node, end) in HOLDERS.iter() {
+        let holder = graph_from(rt.alloc(), bytes, *node)?;
+        is_made(&rt, rt.alloc(), b"t", holder, *end)?;
     }
     Ok(())
 }
@@ -63,13 +64,7 @@ fn only_holders_are_taken(rt: HostRuntime) -> Result<(), Fail> {
 #[test]
 fn an_array_is_no_holder(rt: HostRuntime) -> Result<(), Fail> {
     let name = Name::from_bytes(rt.alloc(), b"t")?;
-    let mut builder = Builder::new(rt.alloc())?;
-    let array = builder.open_node(Shape::Array)?;
-    builder.close_node(array);
-    let graph = builder
-        .finish(Value::Node(array))
-        .ok()
-        .ok_or("an open node")?;
+    let graph = graph_of(rt.alloc(), b"\x0A\0\0\0\0")?;
     let made = SharedObject::new(rt.alloc(), name, SolVersion::Amf3, graph);
     assert_eq!(rt; made.err(), Some(SolEnd::NotAHolder));
     Ok(())
@@ -78,13 +73,9 @@ fn an_array_is_no_holder(rt: HostRuntime) -> Result<(), Fail> {
 #[test]
 fn names_have_a_longest(rt: HostRuntime) -> Result<(), Fail> {
     for (length, end) in [(65_535, None), (65_536, Some(SolEnd::LongName))] {
-        let bytes = vec![in rt.alloc(); 0x61_u8; length]?;
-        let name = Name::from_bytes(rt.alloc(), &bytes)?;
-        let holder = object(rt.alloc(), b"", true, false)?;
-        assert_eq!(rt;
-            SharedObject::new(rt.alloc(), name, SolVersion::Amf0, holder).err(),
-            end
-        );
+        let name = vec![in rt.alloc(); 0x61_u8; length]?;
+        let holder = graph_of(rt.alloc(), HOLDER)?;
+        is_made(&rt, rt.alloc(), &name, holder, end)?;
     }
     Ok(())
 }
@@ -93,7 +84,7 @@ fn names_have_a_longest(rt: HostRuntime) -> Result<(), Fail> {
 fn a_shared_object_shows_its_parts(rt: HostRuntime) -> Result<(), Fail> {
     for version in [SolVersion::Amf0, SolVersion::Amf3] {
         let name = Name::from_bytes(rt.alloc(), b"t")?;
-        let holder = object(rt.alloc(), b"", true, false)?;
+        let holder = graph_of(rt.alloc(), HOLDER)?;
         let made = SharedObject::new(rt.alloc(), name, version, holder)
             .ok()
             .ok_or("no holder")?;

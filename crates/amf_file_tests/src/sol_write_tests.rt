@@ -1,11 +1,8 @@
-ghost use Rattle.std.specs.Prelude.{◌≡◌, IfOk};
-ghost use Rattle.amf_graph.specs.Arena.{Names};
-
-use amf_graph::{Builder, Lack, LackKind, Leaf, Part, Rooted, Shape, Value, WriteEnd};
+use crate::graphs::graph_of;
+use amf_graph::{Lack, LackKind, Rooted, WriteEnd};
 use amf_sol::{SharedObject, SolVersion, files_or_lacks, write_sol};
-use amf_wire::{Name, Pattern, is_amf_text};
+use amf_wire::Name;
 use std::alloc::Global;
-use std::process::Abort;
 use std::test::Fail;
 
 /// `{a: true}` in AMF 0.
@@ -44,77 +41,31 @@ fn written(
     Ok((out, end))
 }
 
-/// The graph with this root, of nodes that are all complete.
-fn finished(builder: Builder, root: Value) -> Result<Rooted, Fail>
-    requires { Names builder root }
-    ensures { IfOk result (λ graph. graph ≡ record { arena = builder; root = root }) }
-{
-    let graph = builder.finish(root).ok().ok_or("an open node")?;
-    Ok(graph)
-}
-
-/// A holder of one pair.
-fn one_true(alloc: Global, name: &[u8]) -> Result<Rooted, Fail> {
-    if !is_amf_text(name) {
-        Err("no text")?;
-    }
-    let mut builder = Builder::new(alloc)?;
-    let empty = builder.text(b"")?;
-    let name = builder.text(name)?;
-    let traits = builder.traits(empty, true, &[])?;
-    let holder = builder.open_node(Shape::Object(traits))?;
-    builder.put(holder, Part::Named(name, Value::Bool(true)))?;
-    builder.close_node(holder);
-    finished(builder, Value::Node(holder))
+/// A holder of one pair, which is true, with a name of the size that the first bytes say.
+fn one_true(alloc: Global, size: &[u8], name: &[u8]) -> Result<Rooted, Fail> {
+    let mut bytes = b"\x11\x0A\x0B\x01".to_vec(alloc)?;
+    bytes.extend_from_slice(size)?;
+    bytes.extend_from_slice(name)?;
+    bytes.extend_from_slice(b"\x03\x01")?;
+    graph_of(alloc, &bytes)
 }
 
 /// A holder whose pairs stand in no order, two of them of one array.
-fn shared_array(alloc: Global, rt: &impl Abort) -> Result<Rooted, Fail> {
-    assert!(rt; is_amf_text(b"") && is_amf_text(b"a") && is_amf_text(b"b") && is_amf_text(b"c"));
-    let mut builder = Builder::new(alloc)?;
-    let empty = builder.text(b"")?;
-    let a = builder.text(b"a")?;
-    let b = builder.text(b"b")?;
-    let c = builder.text(b"c")?;
-    let traits = builder.traits(empty, true, &[])?;
-    let holder = builder.open_node(Shape::Object(traits))?;
-    let array = builder.open_node(Shape::Array)?;
-    builder.put(holder, Part::Named(c, Value::Integer(5)))?;
-    builder.put(holder, Part::Named(b, Value::Node(array)))?;
-    builder.put(holder, Part::Named(empty, Value::Text(b)))?;
-    builder.put(holder, Part::Named(a, Value::Node(array)))?;
-    builder.close_node(array);
-    builder.close_node(holder);
-    finished(builder, Value::Node(holder))
-}
+const SHARED_ARRAY: &[u8] = b"\x03\0\x01c\x11\x04\x05\0\x01b\x0A\0\0\0\0\
+    \0\0\x02\0\x01b\0\x01a\x07\0\x01\0\0\x09";
 
 /// A holder of two pairs of one date, and of an array with an empty name.
-fn lacking(alloc: Global, rt: &impl Abort) -> Result<Rooted, Fail> {
-    assert!(rt; is_amf_text(b"") && is_amf_text(b"a") && is_amf_text(b"b"));
-    let mut builder = Builder::new(alloc)?;
-    let empty = builder.text(b"")?;
-    let a = builder.text(b"a")?;
-    let b = builder.text(b"b")?;
-    let traits = builder.traits(empty, true, &[])?;
-    let date = builder.leaf(Leaf::Date(Pattern(0)))?;
-    let holder = builder.open_node(Shape::Object(traits))?;
-    let array = builder.open_node(Shape::Array)?;
-    builder.put(array, Part::Named(empty, Value::Node(date)))?;
-    builder.put(holder, Part::Named(b, Value::Node(array)))?;
-    builder.put(holder, Part::Named(a, Value::Node(date)))?;
-    builder.close_node(array);
-    builder.close_node(holder);
-    finished(builder, Value::Node(holder))
-}
+const LACKING: &[u8] = b"\x03\0\x01b\x08\0\0\0\0\0\0\x11\x08\x01\0\0\0\0\0\0\0\0\0\0\x09\
+    \0\x01a\x11\x08\0\0\0\x09";
 
 #[test]
 fn pairs_by_name_over_one_set_of_tables(rt: HostRuntime) -> Result<(), Fail> {
     let alloc = rt.alloc();
-    let (out, end) = written(alloc, SolVersion::Amf0, one_true(alloc, b"a")?)?;
+    let (out, end) = written(alloc, SolVersion::Amf0, one_true(alloc, b"\x03", b"a")?)?;
     assert_eq!(rt; end, Ok(()));
     assert_eq!(rt; out.as_slice(), ONE_TRUE);
     for (version, bytes) in [(SolVersion::Amf0, SHARED0), (SolVersion::Amf3, SHARED3)] {
-        let (out, end) = written(alloc, version, shared_array(alloc, &rt)?)?;
+        let (out, end) = written(alloc, version, graph_of(alloc, SHARED_ARRAY)?)?;
         assert_eq!(rt; end, Ok(()));
         assert_eq!(rt; out.as_slice(), bytes);
     }
@@ -129,7 +80,7 @@ fn the_first_lack_and_nothing_written(rt: HostRuntime) -> Result<(), Fail> {
         (SolVersion::Amf0, LackKind::Shared, 1),
         (SolVersion::Amf3, LackKind::EmptyName, 2),
     ] {
-        let (out, end) = written(alloc, version, lacking(alloc, &rt)?)?;
+        let (out, end) = written(alloc, version, graph_of(alloc, LACKING)?)?;
         assert_eq!(rt; end, Err(WriteEnd::NoSpelling(Lack { kind, node })));
         assert_eq!(rt; out.as_slice(), b"\xAA".as_slice());
     }
@@ -143,13 +94,13 @@ fn long_names_of_pairs(rt: HostRuntime) -> Result<(), Fail> {
         kind: LackKind::LongName,
         node: 0,
     });
-    for (version, length, wanted) in [
-        (SolVersion::Amf0, 65_535, Ok(())),
-        (SolVersion::Amf0, 65_536, Err(too_long)),
-        (SolVersion::Amf3, 65_536, Ok(())),
+    for (version, length, size, wanted) in [
+        (SolVersion::Amf0, 65_535, b"\x87\xFF\x7F", Ok(())),
+        (SolVersion::Amf0, 65_536, b"\x88\x80\x01", Err(too_long)),
+        (SolVersion::Amf3, 65_536, b"\x88\x80\x01", Ok(())),
     ] {
-        let bytes = vec![in alloc; b'a'; length]?;
-        let (_, end) = written(alloc, version, one_true(alloc, &bytes)?)?;
+        let name = vec![in alloc; b'a'; length]?;
+        let (_, end) = written(alloc, version, one_true(alloc, size, &name)?)?;
         assert_eq!(rt; end, wanted);
     }
     Ok(())

@@ -3,6 +3,7 @@ use amf_sol::{SharedObject, SolVersion};
 use amf_sol_show::{file_has_lowering, show_file};
 use amf_wire::Name;
 use std::alloc::Global;
+use std::process::Abort;
 use std::test::Fail;
 
 const LISTING: &[u8] = b">sol \"\\22t\" 0\n\
@@ -27,14 +28,18 @@ fn file(alloc: Global, version: SolVersion) -> Result<SharedObject, Fail> {
     Ok(file)
 }
 
+/// Compares the listing of a shared object behind a first byte.
+fn shows(rt: &impl Abort, alloc: Global, version: SolVersion, listing: &[u8]) -> Result<(), Fail> {
+    let file = file(alloc, version)?;
+    file_has_lowering(&file);
+    let mut out = vec![in alloc; b'>']?;
+    show_file(alloc, &file, &mut out)?;
+    assert_eq!(rt; out.as_slice(), listing);
+    Ok(())
+}
+
 #[test]
 fn lists_both_versions(rt: HostRuntime) -> Result<(), Fail> {
-    for (version, listing) in [(SolVersion::Amf0, LISTING), (SolVersion::Amf3, LISTING3)] {
-        let file = file(rt.alloc(), version)?;
-        file_has_lowering(&file);
-        let mut out = vec![in rt.alloc(); b'>']?;
-        show_file(rt.alloc(), &file, &mut out)?;
-        assert_eq!(rt; out.as_slice(), listing);
-    }
-    Ok(())
+    shows(&rt, rt.alloc(), SolVersion::Amf0, LISTING)?;
+    shows(&rt, rt.alloc(), SolVersion::Amf3, LISTING3)
 }
