@@ -89,7 +89,7 @@ fn spelled(alloc: Global, pieces: &[Piece<'_>]) -> Result<Rooted, Fail> {
 }
 
 /// A message of this class with one member, which is undefined.
-fn with_member(alloc: Global, class: &str, member: &str) -> Result<Rooted, Fail> {
+fn with_member<'t>(alloc: Global, class: &'t str, member: &'t str) -> Result<Rooted, Fail> {
     spelled(
         alloc,
         &[

@@ -6,7 +6,8 @@ use Rattle.amf_io.specs.declared.window.Window.{Window}
 use Rattle.amf_io.specs.declared.cursor.Cursor.{Cursor}
 use Rattle.amf_io.specs.Cursor.{source_of, ahead, unread}
 use Rattle.amf_io.specs.Cursor as cursors
-use Rattle.amf_io.specs.ReadEnds.{IsFaultedEnd, Goes}
+use Rattle.amf_io.specs.Outside.{Rose}
+use Rattle.amf_io.specs.ReadEnds.{CountsEnd, IsFaultedEnd, Goes}
 use Rattle.amf_io.specs.Field.{Field, flat}
 use Rattle.amf_io.specs.declared.reason.Reason.{Reason}
 use Rattle.amf_io.specs.Verdict.{IsRefused, IsCutOff, IsInputRefused, refused, trailing}
@@ -48,7 +49,7 @@ use Rattle.amf_cli.specs.declared.content.Content.{Content as KeptContent}
 use Rattle.amf_cli.specs.Content.{Content, value, packet, file, content_of}
 use Rattle.amf_cli.specs.Formats.{GivesLength, IsContent}
 use Rattle.amf_cli.specs.Input.{most, Input, one, two, IsRefusedAs}
-use Rattle.amf_cli.specs.Run.{IsInputOf, ArePairIn, IsHidden, IsReadEnd, NeverLacks, ReadsInput}
+use Rattle.amf_cli.specs.Run.{IsInputOf, ArePairIn, CountsReads, IsHidden, IsReadEnd, NeverLacks, ReadsInput}
 use Rattle.amf_cli.specs.ReadContent.{IsReadOne, AnswersOne, AnswersEnd, mapped}
 use Rattle.amf_cli.specs.Lines.{end_of}
 use Rattle.amf3_read.proofs.Pairs.{first_refused, first_cut, second_refused, second_cut}
@@ -324,6 +325,12 @@ pub end_is_read : (X : Type 0) (e : ReadEnd) → IsReadEnd {T = X} (Err (end_of 
 end_is_read X (Refused f) = tt
 end_is_read X ReadFault = tt
 end_is_read X Memory = tt
+
+-- and its faults are counted, behind parts without one
+pub end_counts : (X : Type 0) (e : ReadEnd) (m n k l : ℕ) → n ≡ m → k ≡ n → CountsEnd k l e → CountsReads {T = X} m l (Err (end_of e))
+end_counts X (Refused f) m n k l p q r = r ∙ q ∙ p
+end_counts X ReadFault m n k l p q r = subst (λ z. (z ≤ l) × Rose z l) (q ∙ p) r
+end_counts X Memory m n k l p q r = r ∙ q ∙ p
 
 -- and that of what is made of the input
 pub end_goes_on : {X Y : Type 0} (i : Input) (L : ℕ → Lack → Type 0) (P : X → Type 0) (Q : Y → Type 0) (input left : List ℕ) (e : RunEnd) → ReadsInput i NeverLacks P input left (Err e) → ReadsInput i L Q input left (Err e)

@@ -8,7 +8,7 @@ use Rattle.amf_io.specs.Cursor.{source_of, place, bound, unread}
 use Rattle.amf_io.specs.ReadEnds.{Goes}
 use Rattle.amf_io.specs.CursorReads.{Ends}
 use Rattle.amf_io.specs.Field.{Field}
-use Rattle.amf_io.proofs.CursorReads.{end_reads}
+use Rattle.amf_io.proofs.CursorReads.{end_reads, goes_end}
 use Rattle.amf_wire.specs.Style.{free}
 use Rattle.amf3_read.specs.Answer.{left_of}
 use Rattle.amf3_read.proofs.LayoutVerdicts.{answers_taken, answers_ended}
@@ -45,6 +45,11 @@ module _ {S : Type 0} (tells : S → Type 0) (left : S → List ℕ) (faults : S
   pub fueled_passed : {X : Type 0} (P : X → List Field → Type 0) (t : ℕ → BareLayout) (c d : Cursor S Window) (r : Result X ReadEnd) (e : ReadEnd) → IsErrAnd r (λ x. x ≡ e) → ((n : ℕ) → left_of c < n → Ends tells left (t n) c d e) → ReadsFueled tells left P t c d r
   fueled_passed P t c d (Ok x) e h a n lt = absurd h
   fueled_passed P t c d (Err x) e h a n lt = subst (Ends tells left (t n) c d) (sym h) (a n lt)
+
+  -- the cursor of a reader whose error is passed on
+  pub goes_passed : {X Z : Type 0} (c d : Cursor S Window) (r : Result Z ReadEnd) (e : ReadEnd) → IsErrAnd r (λ x. x ≡ e) → Goes {X = X} tells left faults c d (Err e) → Goes {X = Z} tells left faults c d r
+  goes_passed c d (Ok x) e h a = absurd h
+  goes_passed {Z = Z} c d (Err x) e h a = subst (λ z. Goes {X = Z} tells left faults c d (Err z)) (sym h) (goes_end tells left faults c d e a)
 
   -- a part, and then another
   pub reads_then : {X Z : Type 0} (P : List Field → Type 0) (Q : Z → List Field → Type 0) (t : BareLayout) (u : ℕ → BareLayout) (c d e : Cursor S Window) (x : X) (r : Result Z ReadEnd) → Goes tells left faults c d (Ok x) → Took tells left t tt P c d → ReadsFueled tells left Q u d e r → ReadsFueled tells left (λ z. Beside P (Q z)) (λ n. and_then t (u n)) c e r

@@ -11,3 +11,8 @@ pub returns-in_err-to_vec-clause-counts : goal.returns-in_err-to_vec-clause-coun
 returns-in_err-to_vec-clause-counts g c =
     let p = err_from_is_err_and c.from_residual-in_err-to_vec.result c.from_residual-in_err-to_vec.ensures.1 in
     rw (p.1, p.2) c.in_ok-left.ensures.counts
+
+pub returns-in_err-to_vec-clause-ends : goal.returns-in_err-to_vec-clause-ends
+returns-in_err-to_vec-clause-ends g c =
+    let p = err_from_is_err_and c.from_residual-in_err-to_vec.result c.from_residual-in_err-to_vec.ensures.1 in
+    rw (p.1, p.2) tt

@@ -1,6 +1,7 @@
 use Rattle.std.proofs.Common.{Ok, Err, sym, subst}
 use Rattle.std.proofs.lemmas.Result.{err_from_is_err_and}
 use Rattle.amf_io.specs.Cursor.{source_of, place, bound, unread}
+use Rattle.amf_io.proofs.CursorReads.{goes_end}
 use Rattle.amf_graph.specs.Rooted.{RootedArena, content}
 use Rattle.amf0_tables.specs.TableParts0.{shown_tables}
 use Rattle.amf_cli.specs.declared.format.Format.TheVariants.{Amf0}
@@ -32,3 +33,9 @@ returns-in_err-read-clause-answers g c =
     let p = err_from_is_err_and c.from_residual-in_err-read.result c.from_residual-in_err-read.ensures.1 in
     rw (p.1, p.2) (one_ends0 y c.read0.new.builder (shown_tables c.read0.new.tables) input rest at k e
     (from_nothing0 y c.in_ok-builder.builder c.read0.new.builder (shown_tables c.in_ok-tables.tables) (shown_tables c.read0.new.tables) input rest at k (bound c.args.cursor.now) (Err e) c.in_ok-builder.ensures c.in_ok-tables.ensures c.requires.limit c.in_err-read.ensures.answers))
+
+pub returns-in_err-read-clause-goes : goal.returns-in_err-read-clause-goes
+returns-in_err-read-clause-goes g c =
+    let S = g.S.Source in
+    let p = err_from_is_err_and c.from_residual-in_err-read.result c.from_residual-in_err-read.ensures.1 in
+    rw (p.1, p.2) (goes_end S.tells S.left S.faults c.args.cursor.now c.read0.new.cursor c.in_err-read.field-0.0 c.in_err-read.ensures.goes)

@@ -7,7 +7,7 @@ use Rattle.amf_cli.specs.Input.{two}
 use Rattle.amf_cli.specs.declared.format.Format.TheVariants.{Amf3}
 use Rattle.amf_cli.specs.ReadContent.{IsReadOne, AnswersOne}
 use Rattle.amf_cli.specs.Run.{ArePairIn}
-use Rattle.amf_cli.proofs.Inputs.{of_value, end_is_read, pair_first_ends, pair_second_ends, pair_read, pair_end_ends, end_of_input, left_behind, nothing_left, taken_by, taken_behind, taken_last, read_told, ends_told}
+use Rattle.amf_cli.proofs.Inputs.{of_value, end_is_read, end_counts, pair_first_ends, pair_second_ends, pair_read, pair_end_ends, end_of_input, left_behind, nothing_left, taken_by, taken_behind, taken_last, read_told, ends_told}
 use Rattle.amf_cli.proofs.reading.read_pair.Goals as goal
 
 pub returns-in_err-left-clause-reads : goal.returns-in_err-left-clause-reads
@@ -70,6 +70,12 @@ pub returns-in_err-expect_end-clause-ends : goal.returns-in_err-expect_end-claus
 returns-in_err-expect_end-clause-ends g c =
     let p = err_from_is_err_and c.from_residual-in_err-expect_end.result c.from_residual-in_err-expect_end.ensures.1 in
     rw (p.1, p.2) (end_is_read (RootedArena × RootedArena) c.in_err-expect_end.field-0.0)
+
+pub returns-in_err-expect_end-clause-counts : goal.returns-in_err-expect_end-clause-counts
+returns-in_err-expect_end-clause-counts g c =
+    let faults = g.S.Source.faults in
+    let p = err_from_is_err_and c.from_residual-in_err-expect_end.result c.from_residual-in_err-expect_end.ensures.1 in
+    rw (p.1, p.2) (end_counts (RootedArena × RootedArena) c.in_err-expect_end.field-0.0 (faults (source_of c.args.cursor.now).now) (faults (source_of c.read_one3.new.cursor).now) (faults (source_of c.read_one3-2.new.cursor).now) (faults (source_of c.expect_end.new.cursor).now) c.in_ok-left.ensures.goes.cause c.in_ok-right.ensures.goes.cause c.in_err-expect_end.ensures.goes.cause)
 
 pub returns-in_err-expect_end-clause-taken : goal.returns-in_err-expect_end-clause-taken
 returns-in_err-expect_end-clause-taken g c = λ told. taken_last g.S.Source.tells g.S.Source.left g.S.Source.faults c.args.cursor.now c.read_one3.new.cursor c.read_one3-2.new.cursor c.expect_end.new.cursor _ _ _ c.requires.at_start c.requires.limit c.in_ok-left.ensures.goes c.in_ok-right.ensures.goes c.in_err-expect_end.ensures.goes told

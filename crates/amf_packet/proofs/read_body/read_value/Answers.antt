@@ -6,9 +6,14 @@ use Rattle.amf0_tables.specs.TableParts0.{shown_tables}
 use Rattle.amf_packet.specs.Content.{body_of}
 use Rattle.amf_packet.specs.LayoutPacket.{body_layout}
 use Rattle.amf_packet.specs.Packet.{BodyBy}
-use Rattle.amf_packet.proofs.PartReads.{fueled_passed}
+use Rattle.amf_packet.proofs.PartReads.{fueled_passed, goes_passed}
 use Rattle.amf_packet.proofs.ValueReads.{raised_weight, from_new, names_root, closed_nodes, call_has_item, value_placed, value_stays, value_took, value_ended}
 use Rattle.amf_packet.proofs.read_body.read_value.Goals as goal
+
+pub returns-in_err-read-clause-goes : goal.returns-in_err-read-clause-goes
+returns-in_err-read-clause-goes g c =
+    let S = g.S.Source in
+    goes_passed S.tells S.left S.faults c.args.cursor.now c.read0.new.cursor c.from_residual-in_err-read.result c.in_err-read.field-0.0 c.from_residual-in_err-read.ensures.1 c.in_err-read.ensures.goes
 
 pub returns-in_err-read-clause-reads : goal.returns-in_err-read-clause-reads
 returns-in_err-read-clause-reads g c =

@@ -19,3 +19,10 @@ returns-in_err-holder-clause-answers g c = λ n name lt.
     let r = c.from_residual-in_err-holder in
     holder_passed S.tells S.left c.args.version n name k k r.result end r.ensures.1
     (subst (λ (y : ReadEnd). AnswersHolder S.tells S.left c.args.version n name k k (Err y)) (sym c.in_err-holder.ensures.err) (pairs_unread S.tells S.left c.args.version n name k k))
+
+pub returns-clause-answers : goal.returns-clause-answers
+returns-clause-answers g c = λ n name lt. record {
+  arena = c.read_pairs.new.builder;
+  is = c.close_holder.ensures;
+  pairs = c.in_ok-read_pairs.ensures.answers n name lt;
+}
