@@ -17,6 +17,7 @@ mod limits;
 mod name_marks;
 mod nodes;
 mod number_set;
+mod pairs;
 mod part;
 mod pools;
 mod ranges;

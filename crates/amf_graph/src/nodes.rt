@@ -66,7 +66,7 @@ fn next_slot(
     alloc: Global,
     slots: &mut Vec<Slot>,
     used: usize,
-    owner: usize,
+    owner: u32,
     shape: Shape,
 ) -> Result<(), Memory>
     requires { used ≤ length slots.old.items }
@@ -197,7 +197,7 @@ impl Nodes {
         ensures ok { OnOk result (self.new ≡ self.old ++ begun (shape_head shape) ∷ []) }
         ensures err { OnErr result (self.new ≡ self.old) }
     {
-        let place = self.rows.len();
+        let place = number_of(self.rows.len())?;
         let slot = number_of(self.used)?;
         self.rows.reserve(1)?;
         next_slot(alloc, &mut self.slots, self.used, place, shape)?;

@@ -8,76 +8,80 @@ ghost use Rattle.amf_graph.specs.Held.{held_node};
 ghost use Rattle.amf_graph.specs.Slots.{with_node};
 
 use crate::held::{Form, Held};
-use crate::{Part, Shape, TextId, Value};
+use crate::pairs::Pairs;
+use crate::{Part, Shape, Value};
 use amf_wire::Memory;
 use std::alloc::Global;
 use std::marker::Model;
 
+/// Whose a slot is: no node's, or that of the node at this place, which is open or closed.
+#[derive(Clone, Copy)]
+enum State {
+    Left,
+    Open(u32),
+    Closed(u32),
+}
+
 /// A node that is open, or that has its lists to itself, or none. The lists are used again.
 #[derive(Drop)]
 pub(crate) struct Slot {
-    /// The node that stands here.
-    owner: Option<usize>,
-    opened: bool,
+    state: State,
     shape: Shape,
     values: Vec<Value>,
-    names: Vec<(TextId, Value)>,
-    /// Those of a dictionary.
-    entries: Vec<(Value, Value)>,
+    pairs: Pairs,
 }
 
 impl Model for Slot {
-    ghost use Rattle.amf_graph.specs.Slots.{KeptSlot, slot_node};
+    ghost use Rattle.amf_graph.specs.Slots.{KeptSlot, state_owner, state_open, slot_node};
 
     ghost Value = { KeptSlot };
 
-    ghost view = { λ s. record { owner = s.owner; node = slot_node s.opened s.shape s.values.items s.names.items s.entries.items } };
+    ghost view = { λ s. record { owner = state_owner s.state; node = slot_node (state_open s.state) s.shape s.values.items s.pairs.names s.pairs.entries } };
 }
 
 impl Slot {
     /// A node that has no parts yet.
-    pub(crate) fn new(alloc: Global, owner: usize, shape: Shape) -> Slot
+    pub(crate) fn new(alloc: Global, owner: u32, shape: Shape) -> Slot
         ensures { result ≡ record { owner = Some owner; node = begun (shape_head shape) } }
     {
         Slot {
-            owner: Some(owner),
-            opened: true,
+            state: State::Open(owner),
             shape,
             values: Vec::new(alloc),
-            names: Vec::new(alloc),
-            entries: Vec::new(alloc),
+            pairs: Pairs::new(),
         }
     }
 
     /// Another node in the place of the one that was here, without parts.
-    pub(crate) fn begin(&mut self, owner: usize, shape: Shape)
+    pub(crate) fn begin(&mut self, owner: u32, shape: Shape)
         ensures { self.new ≡ record { owner = Some owner; node = begun (shape_head shape) } }
     {
-        self.owner = Some(owner);
-        self.opened = true;
+        self.state = State::Open(owner);
         self.shape = shape;
         self.values.clear();
-        self.names.clear();
-        self.entries.clear();
+        self.pairs.clear();
     }
 
-    pub(crate) fn owner(&self) -> Option<usize>
+    pub(crate) fn owner(&self) -> Option<u32>
         ensures { result ≡ self.now.owner }
     {
-        self.owner
+        match self.state {
+            State::Left => None,
+            State::Open(owner) | State::Closed(owner) => Some(owner),
+        }
     }
 
     /// No node stands here any more.
     pub(crate) fn leave(&mut self)
         ensures { self.new.owner ≡ None }
     {
-        self.owner = None;
+        self.state = State::Left;
     }
 
     pub(crate) fn is_open(&self) -> bool
         ensures { result ≡ self.now.node.is_open }
     {
-        self.opened
+        matches!(self.state, State::Open(_))
     }
 
     /// What the node is and holds.
@@ -89,9 +93,9 @@ impl Slot {
             Shape::Object(traits) => Form::Object(traits),
             Shape::Wrapper(class) => Form::Wrapper(class),
             Shape::Values(fixed, of) => Form::Values(fixed, of),
-            Shape::Dictionary(weak) => return Held::Dictionary(weak, &self.entries),
+            Shape::Dictionary(weak) => return Held::Dictionary(weak, self.pairs.entries()),
         };
-        Held::Parts(form, &self.values, &self.names)
+        Held::Parts(form, &self.values, self.pairs.names())
     }
 
     /// How many names and parts the node has together.
@@ -100,8 +104,8 @@ impl Slot {
         ensures { result ≡ size_of self.now.node }
     {
         match self.shape {
-            Shape::Dictionary(_) => self.entries.len(),
-            _ => self.names.len() + self.values.len(),
+            Shape::Dictionary(_) => self.pairs.entries().len(),
+            _ => self.pairs.names().len() + self.values.len(),
         }
     }
 
@@ -111,10 +115,11 @@ impl Slot {
         ensures err { OnErr result (self.new ≡ self.old) }
         ensures owner { self.new.owner ≡ self.old.owner }
     {
+        let alloc = *self.values.allocator();
         match part {
             Part::Item(item) => self.values.push(item)?,
-            Part::Named(name, value) => self.names.push((name, value))?,
-            Part::Entry(key, value) => self.entries.push((key, value))?,
+            Part::Named(name, value) => self.pairs.push_name(alloc, name, value)?,
+            Part::Entry(key, value) => self.pairs.push_entry(alloc, key, value)?,
         }
         Ok(())
     }
@@ -122,6 +127,8 @@ impl Slot {
     pub(crate) fn close(&mut self)
         ensures { self.new ≡ with_node (shut self.old.node) self.old }
     {
-        self.opened = false;
+        if let State::Open(owner) = self.state {
+            self.state = State::Closed(owner);
+        }
     }
 }

@@ -21,5 +21,5 @@ returns-clause-ok c =
     let slot : ℕ → KeptSlot = λ n. record { owner = Some n; node = node } in
     let last = c.in_ok-push.ensures.items ∙ ap (λ w. w ++ row.Slot c.in_ok-slot.slot ∷ []) c.reserve.ensures.items ∙ ap (λ n. rows ++ row.Slot n ∷ []) c.in_ok-slot.ensures in
     nodes_open c.self.inside.pools c.self.inside.slots.items c.next_slot.new.slots.items c.self.inside.used rows c.push.new.self.items node last c.in_ok-next_slot.ensures.others
-    (c.in_ok-next_slot.ensures.begun ∙ ap slot (c.len-place.ensures ∙ c.self.inside.rows.ok.0)) c.self.invariant
+    (c.in_ok-next_slot.ensures.begun ∙ ap slot (c.in_ok-place.ensures ∙ c.len.ensures ∙ c.self.inside.rows.ok.0)) c.self.invariant
     ∙ ap (λ w. w ++ node ∷ []) c.self.view_is

@@ -2,14 +2,14 @@
 use Rattle.std.proofs.Common.{ap}
 use Rattle.amf_graph.specs.Bodies.{TakesEntry}
 use Rattle.amf_graph.specs.Arena.{StoredNode}
-use Rattle.amf_graph.specs.Slots.{KeptSlot, slot_node}
+use Rattle.amf_graph.specs.Slots.{KeptSlot, state_owner, state_open, slot_node}
 use Rattle.amf_graph.proofs.SlotNodes.{slot_entry}
 use Rattle.amf_graph.proofs.slot.Slot.put.Goals as goal
 
-pub returns-in_ok-push-in-Entry-clause-ok : goal.returns-in_ok-push-in-Entry-clause-ok
-returns-in_ok-push-in-Entry-clause-ok c =
+pub returns-in_ok-push_entry-in-Entry-clause-ok : goal.returns-in_ok-push_entry-in-Entry-clause-ok
+returns-in_ok-push_entry-in-Entry-clause-ok c =
     let s = c.self.inside in
-    let takes : TakesEntry (slot_node s.opened s.shape s.values.items s.names.items s.entries.items).head = rw (← c.self.view_is, c.in-Entry.is) at c.requires in
-    let made : StoredNode → KeptSlot = λ n. record { owner = s.owner; node = n } in
-    rw (← c.self.view_is, c.in-Entry.is, c.in_ok-push-in-Entry.ensures.items)
-    (ap made (slot_entry s.opened s.shape s.values.items s.names.items s.entries.items c.in-Entry.key c.in-Entry.value takes))
+    let takes : TakesEntry (slot_node (state_open s.state) s.shape s.values.items s.pairs.names s.pairs.entries).head = rw (← c.self.view_is, c.in-Entry.is) at c.requires in
+    let made : StoredNode → KeptSlot = λ n. record { owner = state_owner s.state; node = n } in
+    rw (← c.self.view_is, c.in-Entry.is, c.in_ok-push_entry-in-Entry.ensures.ok)
+    (ap made (slot_entry (state_open s.state) s.shape s.values.items s.pairs.names s.pairs.entries c.in-Entry.key c.in-Entry.value takes))
