@@ -1,6 +1,6 @@
 //! The texts of a graph, each content kept once.
 
-ghost use Rattle.std.specs.Prelude.{◌≡◌, ◌<◌, ◌≤◌, [], ◌∷◌, ◌++◌, length, map, take, get_or, slice_get, Some, nat_lt, MatchOption, IfOk, OnOk, OnErr};
+ghost use Rattle.std.specs.Prelude.{◌≡◌, ◌<◌, ◌≤◌, [], ◌∷◌, ◌++◌, true, length, map, take, get_or, slice_get, Some, nat_lt, MatchOption, IfOk, OnOk, OnErr};
 ghost use Rattle.std.specs.List.{AllByRecursion, list_any};
 ghost use Rattle.amf_graph.specs.Order.{Absent};
 ghost use Rattle.amf_graph.specs.TextNumbers.{with_content, contents_of};
@@ -21,6 +21,8 @@ pub(crate) struct Texts {
     contents: TextPool,
     chains: Chains,
     numbers: Vec<u32>,
+    /// Where the empty content was met last. It may stand elsewhere, or not be there.
+    empty: u32,
 }
 
 impl Model for Texts {
@@ -76,12 +78,29 @@ fn enter(
     }
 }
 
+/// Whether a content is the empty one, and stands at this number.
+fn is_empty_at(contents: &TextPool, number: u32, bytes: &[u8]) -> bool
+    ensures { result ≡ true → slice_get contents.now number ≡ Some bytes.now }
+{
+    let place = number as usize;
+    if !bytes.is_empty() || place >= contents.len() {
+        return false;
+    }
+    contents.get(place) == bytes
+}
+
+/// Where the empty content was met last, once this one is met too.
+fn empty_after(empty: u32, number: u32, bytes: &[u8]) -> u32 {
+    if bytes.is_empty() { number } else { empty }
+}
+
 /// The number of a content, which is kept behind the others where it is not there. After an end nothing has changed.
 fn number_for(
     contents: &mut TextPool,
     chains: &mut Chains,
     bytes: &[u8],
     keys: TextKeys,
+    empty: u32,
 ) -> Result<u32, Memory>
     requires { chains.old ≡ map (text_hash keys) contents.old }
     ensures number { IfOk result (λ n. slice_get contents.new n ≡ Some bytes.now) }
@@ -89,6 +108,9 @@ fn number_for(
     ensures err { OnErr result (contents.new ≡ contents.old) }
     ensures hashes { chains.new ≡ map (text_hash keys) contents.new }
 {
+    if is_empty_at(contents, empty, bytes) {
+        return Ok(empty);
+    }
     match number_of(contents, chains, bytes, keys) {
         Some(number) => Ok(number),
         None => enter(contents, chains, bytes, keys),
@@ -127,6 +149,7 @@ impl Texts {
             contents: TextPool::new(alloc),
             chains: Chains::new(alloc),
             numbers: Vec::new(alloc),
+            empty: 0,
         }
     }
 
@@ -139,6 +162,7 @@ impl Texts {
             contents: TextPool::new(alloc),
             chains: Chains::new(alloc),
             numbers: Vec::new(alloc),
+            empty: 0,
         }
     }
 
@@ -176,7 +200,14 @@ impl Texts {
         ensures err { OnErr result (self.new ≡ self.old) }
     {
         self.numbers.reserve(1)?;
-        let number = number_for(&mut self.contents, &mut self.chains, bytes, self.keys)?;
+        let number = number_for(
+            &mut self.contents,
+            &mut self.chains,
+            bytes,
+            self.keys,
+            self.empty,
+        )?;
+        self.empty = empty_after(self.empty, number, bytes);
         self.numbers.push(number)?;
         Ok(())
     }
@@ -234,6 +265,7 @@ impl Texts {
             contents: self.contents.copy(alloc)?,
             chains: self.chains.copy(alloc)?,
             numbers: self.numbers.to_vec(alloc)?,
+            empty: self.empty,
         })
     }
 }

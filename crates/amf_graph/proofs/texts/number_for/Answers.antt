@@ -5,3 +5,6 @@ use Rattle.amf_graph.proofs.texts.number_for.Goals as goal
 
 pub returns-in-Some-clause-ok : goal.returns-in-Some-clause-ok
 returns-in-Some-clause-ok c = sym (content_there c.args.contents.now c.args.bytes.now c.in-Some.number c.in-Some.ensures)
+
+pub returns-then-is_empty_at-clause-ok : goal.returns-then-is_empty_at-clause-ok
+returns-then-is_empty_at-clause-ok c = sym (content_there c.args.contents.now c.args.bytes.now c.args.empty (c.is_empty_at.ensures c.if-is_empty_at.true))
