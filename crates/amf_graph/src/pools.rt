@@ -1,6 +1,6 @@
 //! The parts of closed nodes, one behind the other.
 
-ghost use Rattle.std.specs.Prelude.{◌≡◌, ◌≤◌, [], length, map, slice_range, false, IfOk};
+ghost use Rattle.std.specs.Prelude.{◌≡◌, ◌≤◌, ◌++◌, [], length, map, slice_range, false, is_ok, if◌then◌else◌, IfOk};
 ghost use Rattle.amf_graph.specs.Arena.{dictionary};
 ghost use Rattle.amf_graph.specs.Building.{leaf_head, closed};
 ghost use Rattle.amf_graph.specs.Held.{form_head, held_node};
@@ -52,6 +52,16 @@ fn entries_in(entries: &[(Value, Value)], span: Span) -> &[(Value, Value)]
     ensures { result.now ≡ span_of entries.now span }
 {
     &entries[span.start as usize..span.end as usize]
+}
+
+/// Puts these parts behind the others: of most nodes there are none. After an end nothing has changed.
+fn extend<T: Copy>(parts: &mut Vec<T>, more: &[T]) -> Result<(), Memory>
+    ensures { parts.new.items ≡ (if is_ok result then parts.old.items ++ more.now else parts.old.items) }
+{
+    if !more.is_empty() {
+        parts.extend_from_slice(more)?;
+    }
+    Ok(())
 }
 
 impl Pools {
@@ -106,8 +116,8 @@ impl Pools {
     {
         let value_span = span_from(self.values.len(), values.len())?;
         let name_span = span_from(self.names.len(), names.len())?;
-        self.values.extend_from_slice(values)?;
-        self.names.extend_from_slice(names)?;
+        extend(&mut self.values, values)?;
+        extend(&mut self.names, names)?;
         Ok(Row::Parts(form, value_span, name_span))
     }
 
@@ -121,7 +131,7 @@ impl Pools {
         ensures grows { Grows self.old self.new }
     {
         let span = span_from(self.entries.len(), entries.len())?;
-        self.entries.extend_from_slice(entries)?;
+        extend(&mut self.entries, entries)?;
         Ok(Row::Dictionary(weak, span))
     }
 }
