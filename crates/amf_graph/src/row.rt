@@ -15,7 +15,7 @@ pub(crate) struct Span {
 /// Where a node is kept. All but those in slots are closed.
 #[derive(Clone, Copy)]
 pub(crate) enum Row {
-    /// In a slot: it is open, or has so many parts that they stay where they are.
+    /// In a slot: it is open, or its parts stay where they are, since they are so many or the pools had no room.
     Slot(u32),
     /// A node without parts, by its place among these.
     Leaf(u32),

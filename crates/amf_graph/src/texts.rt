@@ -36,12 +36,20 @@ impl Model for Texts {
     ghost invariant = { λ t. AreTexts t.keys t.contents t.chains t.numbers.items };
 }
 
-/// The number of a content, if it is there.
-fn number_of(contents: &TextPool, chains: &Chains, bytes: &[u8], keys: TextKeys) -> Option<u32>
-    requires { chains.now ≡ map (text_hash keys) contents.now }
+/// The number of a content with this hash, if it is there.
+fn number_of(
+    contents: &TextPool,
+    chains: &Chains,
+    bytes: &[u8],
+    keys: TextKeys,
+    hash: u32,
+) -> Option<u32>
+    requires hashes { chains.now ≡ map (text_hash keys) contents.now }
+    requires hash { hash ≡ text_hash keys bytes.now }
     ensures { MatchOption result (Absent contents.now bytes.now) (λ n. slice_get contents.now n ≡ Some bytes.now) }
 {
-    let mut link = chains.first(keys.hash(bytes));
+    let _ = keys;
+    let mut link = chains.first(hash);
     while link > 0 {
         let number = link - 1;
         if contents.get(number as usize) == bytes {
@@ -52,22 +60,24 @@ fn number_of(contents: &TextPool, chains: &Chains, bytes: &[u8], keys: TextKeys)
     None
 }
 
-/// Keeps a content that is not there, with its hash, behind the others. After an end nothing has changed.
+/// Keeps a content that is not there, and its hash, behind the others. After an end nothing has changed.
 fn enter(
     contents: &mut TextPool,
     chains: &mut Chains,
     bytes: &[u8],
     keys: TextKeys,
+    hash: u32,
 ) -> Result<u32, Memory>
     requires hashes { chains.old ≡ map (text_hash keys) contents.old }
+    requires hash { hash ≡ text_hash keys bytes.now }
     requires new { Absent contents.old bytes.now }
     ensures number { IfOk result (λ n. slice_get contents.new n ≡ Some bytes.now) }
     ensures ok { OnOk result (contents.new ≡ with_content contents.old bytes.now) }
     ensures err { OnErr result (contents.new ≡ contents.old) }
     ensures hashes { chains.new ≡ map (text_hash keys) contents.new }
 {
+    let _ = keys;
     let number = contents.len();
-    let hash = keys.hash(bytes);
     contents.push(bytes)?;
     match chains.push(hash) {
         Ok(()) => Ok(number as u32),
@@ -111,9 +121,10 @@ fn number_for(
     if is_empty_at(contents, empty, bytes) {
         return Ok(empty);
     }
-    match number_of(contents, chains, bytes, keys) {
+    let hash = keys.hash(bytes);
+    match number_of(contents, chains, bytes, keys, hash) {
         Some(number) => Ok(number),
-        None => enter(contents, chains, bytes, keys),
+        None => enter(contents, chains, bytes, keys, hash),
     }
 }
 

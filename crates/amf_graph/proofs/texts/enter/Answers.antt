@@ -11,7 +11,7 @@ pub returns-in-Ok-clause-ok : goal.returns-in-Ok-clause-ok
 returns-in-Ok-clause-ok c = c.in_ok-push.ensures.ok ∙ sym (content_new c.args.contents.now c.args.bytes.now c.requires.new)
 
 pub returns-in-Ok-clause-hashes : goal.returns-in-Ok-clause-hashes
-returns-in-Ok-clause-hashes c = entered_hashes c.args.keys c.args.contents.now c.push.new.self c.args.chains.now c.push-2.new.self c.args.bytes.now c.hash-hash.result c.requires.hashes c.in-Ok.ensures.ok c.hash-hash.ensures c.in_ok-push.ensures.ok
+returns-in-Ok-clause-hashes c = entered_hashes c.args.keys c.args.contents.now c.push.new.self c.args.chains.now c.push-2.new.self c.args.bytes.now c.args.hash c.requires.hashes c.in-Ok.ensures.ok c.requires.hash c.in_ok-push.ensures.ok
 
 pub returns-in-Err-clause-err : goal.returns-in-Err-clause-err
 returns-in-Err-clause-err c = c.truncate.ensures ∙ taken_back c.args.contents.now c.push.new.self c.args.bytes.now c.len-number.result c.len-number.ensures c.in_ok-push.ensures.ok

@@ -9,7 +9,7 @@ use Rattle.amf_graph.proofs.Contents.{sought_first, sought_next, sought_nowhere}
 use Rattle.amf_graph.proofs.texts.number_of.Goals as goal
 
 pub loop-link-init : goal.loop-link-init
-loop-link-init c = sought_first c.args.keys c.args.contents.now c.args.chains.now c.args.bytes.now c.hash.result c.first-link.result c.requires c.hash.ensures c.first-link.ensures
+loop-link-init c = sought_first c.args.keys c.args.contents.now c.args.chains.now c.args.bytes.now c.args.hash c.first-link.result c.requires.hashes c.requires.hash c.first-link.ensures
 
 pub get-requires : goal.get-requires
 get-requires c = let w = c.loop-link.invariant.within in omega arith
@@ -23,12 +23,12 @@ returns-then-eq c =
 pub next-link-requires-clause-there : goal.next-link-requires-clause-there
 next-link-requires-clause-there c =
     let w = c.loop-link.invariant.within in
-    let many : length c.args.chains.now ≡ length c.args.contents.now = ap length c.requires ∙ length-map c.args.contents.now (text_hash c.args.keys) in
+    let many : length c.args.chains.now ≡ length c.args.contents.now = ap length c.requires.hashes ∙ length-map c.args.contents.now (text_hash c.args.keys) in
     omega (arith, many)
 
 pub loop-link-preserved : goal.loop-link-preserved
 loop-link-preserved c =
-    sought_next c.args.keys c.args.contents.now c.args.chains.now c.args.bytes.now c.loop-link.link c.next-link.result c.requires (omega arith)
+    sought_next c.args.keys c.args.contents.now c.args.chains.now c.args.bytes.now c.loop-link.link c.next-link.result c.requires.hashes (omega arith)
     (λ e. false≢true (sym (sym c.eq.ensures ∙ c.if-eq.false) ∙ (bytes_eq-Decides c.get.result.now c.args.bytes.now).1 (c.get.ensures ∙ e)))
     c.next-link.ensures c.loop-link.invariant
 
