@@ -14,9 +14,9 @@ use std::alloc::Global;
 use std::hash::RandomState;
 use std::marker::Model;
 
-/// Texts by the numbers of their contents.
+/// Texts in the order in which they were kept. Each content stands once, whatever the number of texts that have it, and is found by its hash.
 #[derive(Drop)]
-pub(crate) struct Texts {
+pub struct Texts {
     keys: TextKeys,
     contents: TextPool,
     chains: Chains,
@@ -151,8 +151,8 @@ fn truncate_chains(chains: &mut Chains, count: usize)
 }
 
 impl Texts {
-    /// No texts yet, which are looked up by these keys.
-    pub(crate) fn new(alloc: Global, keys: Option<RandomState>) -> Texts
+    /// No texts yet. Their hashes go by these keys, which the maker of an input does not know, or by none.
+    pub fn new(alloc: Global, keys: Option<RandomState>) -> Texts
         ensures { result ≡ [] }
     {
         Texts {
@@ -177,21 +177,22 @@ impl Texts {
         }
     }
 
-    pub(crate) fn len(&self) -> usize
+    /// How many texts there are.
+    pub fn len(&self) -> usize
         ensures { result ≡ length self.now }
     {
         self.numbers.len()
     }
 
     /// How many contents they have.
-    pub(crate) fn content_count(&self) -> usize
+    pub fn content_count(&self) -> usize
         ensures { result ≡ length (contents_of self.now) }
     {
         self.contents.len()
     }
 
     /// The bytes of a text, or none where there is no such text.
-    pub(crate) fn get(&self, place: usize) -> &[u8]
+    pub fn get(&self, place: usize) -> &[u8]
         ensures { result.now ≡ get_or self.now place [] }
     {
         text_at(&self.contents, &self.numbers, place)
@@ -205,8 +206,16 @@ impl Texts {
         self.numbers[place]
     }
 
+    /// The number of a content, counted from 0 in the order in which they came, if a text has it. It takes no memory.
+    pub fn find(&self, bytes: &[u8]) -> Option<u32>
+        ensures { MatchOption result (Absent (contents_of self.now) bytes.now) (λ n. slice_get (contents_of self.now) n ≡ Some bytes.now) }
+    {
+        let hash = self.keys.hash(bytes);
+        number_of(&self.contents, &self.chains, bytes, self.keys, hash)
+    }
+
     /// Keeps a text behind the others. After an end nothing has changed.
-    pub(crate) fn push(&mut self, bytes: &[u8]) -> Result<(), Memory>
+    pub fn push(&mut self, bytes: &[u8]) -> Result<(), Memory>
         ensures ok { OnOk result (self.new ≡ self.old ++ bytes.now ∷ []) }
         ensures err { OnErr result (self.new ≡ self.old) }
     {
