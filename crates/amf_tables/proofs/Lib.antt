@@ -1,6 +1,7 @@
 -- The lemmas that several proofs share.
 pub mod HashedPlaces
 pub mod NodePlaces
+pub mod TextFirsts
 pub mod KnownPlaces
 pub mod SpelledNodes
 pub mod ShownTexts

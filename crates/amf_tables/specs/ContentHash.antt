@@ -1,4 +1,4 @@
--- The hash of what a writer's table keeps: of a text by its bytes, and of traits by their flag and the codes of their texts. A device of proofs.
+-- The hash of traits that a writer's table keeps: by their flag and the codes of their texts. A device of proofs.
 use Rattle.std.specs.Prelude.{ℕ, Bool, List, [], ◌∷◌, cond}
 use Rattle.std.specs.List.{fold}
 use Rattle.std.specs.Hash as fed
@@ -7,9 +7,6 @@ use Rattle.std.specs.declared.hash.DefaultHasher.{DefaultHasher}
 use Rattle.amf_graph.specs.declared.wrapped.Wrapped.{Wrapped}
 use Rattle.amf_graph.specs.declared.wrapped.Wrapped.TheVariants.{ArrayCollection, ArrayList, ObjectProxy}
 use Rattle.amf_tables.specs.WrittenParts.{Written, coded, copied, wrapped}
-
-abbrev pub text_hash : DefaultHasher → List ℕ → ℕ
-text_hash start x = finish (write start x)
 
 abbrev pub write_code : DefaultHasher → ℕ → DefaultHasher
 write_code s k = fold write s (fed.u32 k)

@@ -9,6 +9,7 @@ pub mod ShownTraits
 -- Devices of the proofs: no clause of a public call needs them.
 pub mod ContentHash
 pub mod HashedPlaces
+pub mod TextFirsts
 pub mod NodePlaces
 pub mod SpelledNodes
 pub mod TextCodes

@@ -1,18 +1,9 @@
 ghost use Rattle.std.specs.Prelude.{◌≡◌};
 ghost use Rattle.std.specs.List.{fold};
-ghost use Rattle.amf_tables.specs.ContentHash.{text_hash, coded_hash, class_hash, write_code};
+ghost use Rattle.amf_tables.specs.ContentHash.{coded_hash, class_hash, write_code};
 
 use amf_graph::Wrapped;
 use std::hash::{DefaultHasher, Hasher};
-
-/// The hash of a text, from this start.
-pub(crate) fn hash_of_text(start: DefaultHasher, bytes: &[u8]) -> u64
-    ensures { result ≡ text_hash start bytes.now }
-{
-    let mut state = start;
-    state.write(bytes);
-    state.finish()
-}
 
 /// Takes in codes of texts, one after another.
 fn take_codes(state: &mut DefaultHasher, codes: &[u32])

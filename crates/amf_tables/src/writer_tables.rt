@@ -54,22 +54,23 @@ impl WriterTables {
     pub fn new(alloc: Global) -> Result<WriterTables, Memory>
         ensures { IfOk result (λ tables. tables ≡ no_tables) }
     {
-        Ok(WriterTables::hashed(alloc, DefaultHasher::new()))
+        Ok(WriterTables::hashed(alloc, DefaultHasher::new(), None))
     }
 
     /// Tables without entries, whose hashes go by keys that the maker of an input does not know.
     pub fn keyed(alloc: Global, keys: RandomState) -> WriterTables
         ensures { result ≡ no_tables }
     {
-        WriterTables::hashed(alloc, keys.build_hasher())
+        WriterTables::hashed(alloc, keys.build_hasher(), Some(keys))
     }
 
-    fn hashed(alloc: Global, start: DefaultHasher) -> WriterTables
+    /// Tables without entries: the hash of traits begins so, and texts are looked up by these keys or by none.
+    fn hashed(alloc: Global, start: DefaultHasher, keys: Option<RandomState>) -> WriterTables
         ensures { result ≡ no_tables }
     {
         WriterTables {
             alloc,
-            texts: TextTable::new(alloc, start),
+            texts: TextTable::new(alloc, keys),
             traits: TraitsTable::new(alloc, start),
             nodes: SpelledNodes::new(alloc),
         }
