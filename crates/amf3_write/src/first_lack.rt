@@ -59,7 +59,7 @@ fn lack_at(node: NodeId, numbering: &Numbering, graph: &Rooted) -> Option<Lack>
     requires there { node.0 < length graph.now.arena.nodes }
     ensures { IsLeast (PartLacks3 (content graph.now) numbering.now (node.0 ∷ [])) result }
 {
-    if !is_unnamed(node, graph) {
+    if !is_unnamed(node, graph.node(node), graph) {
         return None;
     }
     let number = numbering.number_of(node)?;

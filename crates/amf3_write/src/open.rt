@@ -1,9 +1,11 @@
 ghost use Rattle.std.specs.Prelude.{◌≡◌, ◌+◌, ◌<◌, ◌≤◌, [], ◌++◌, length, OnOk};
 ghost use Rattle.amf_graph.specs.Arena.{traits_at};
+ghost use Rattle.amf_graph.specs.Building.{stored_at};
 ghost use Rattle.amf_graph.specs.ByName.{by_name};
 ghost use Rattle.amf_graph.specs.Graph as graph_of_values;
 ghost use Rattle.amf_graph.specs.Graph.{node_at};
 ghost use Rattle.amf_graph.specs.Rooted.{content};
+ghost use Rattle.amf_graph.specs.Views.{Shows};
 ghost use Rattle.amf_graph.specs.Bounds.{count_end};
 ghost use Rattle.amf3_spelling.specs.ByteSpelling as spell;
 ghost use Rattle.amf_iso.specs.Contents.{values_of, pairs_of, AreValues, ArePairs};
@@ -26,10 +28,12 @@ impl Output {
     pub(crate) fn open<'g>(
         &mut self,
         node: NodeId,
+        view: NodeView<'g>,
         graph: &'g Rooted,
         waiting: &mut Vec<Unwritten<'g>>,
     ) -> Result<(), Memory>
         requires there { node.0 < length graph.now.arena.nodes }
+        requires shown { Shows graph.now.arena (stored_at graph.now.arena node.0) view }
         requires runs { AreRunsOf graph.now.arena waiting.old.items }
         requires ready { IsReady graph.now.arena self.old.tables self.old.known }
         ensures leads { OnOk result (Leads (content graph.now) (node_segments (node_at (content graph.now) node.0) ++ segments_left graph.now.arena waiting.old.items) (segments_left graph.now.arena waiting.new.items) self.old self.new) }
@@ -38,8 +42,9 @@ impl Output {
         ensures keeps { Keeps self.old self.new }
         ensures ready { OnOk result (IsReady graph.now.arena self.new.tables self.new.known) }
     {
+        let _ = node;
         graph.is_finished();
-        match graph.node(node) {
+        match view {
             NodeView::XmlDocument(text) => self.counted(text)?,
             NodeView::Xml(text) => self.counted(text)?,
             NodeView::Bytes(bytes) => self.counted(bytes)?,
@@ -91,7 +96,29 @@ impl Output {
     {
         self.number(2 * items.len() as u32 + 1)?;
         push_values(items, waiting)?;
-        push_pairs(self.alloc, names, graph, waiting)
+        self.pairs_of(names, graph, waiting)
+    }
+
+    /// Pairs in by-name order, onto the stack. Where there are none, the empty name that ends them is written.
+    fn pairs_of<'g>(
+        &mut self,
+        pairs: &'g [(TextId, Value)],
+        graph: &'g Rooted,
+        waiting: &mut Vec<Unwritten<'g>>,
+    ) -> Result<(), Memory>
+        requires pairs { ArePairs graph.now.arena pairs.now }
+        requires ready { IsReady graph.now.arena self.old.tables self.old.known }
+        ensures leads { OnOk result (Leads (content graph.now) (spell.pairs_then (by_name (pairs_of graph.now.arena pairs.now)) [] ++ segments_left graph.now.arena waiting.old.items) (segments_left graph.now.arena waiting.new.items) self.old self.new) }
+        ensures runs { AreRunsOf graph.now.arena waiting.old.items → OnOk result (AreRunsOf graph.now.arena waiting.new.items) }
+        ensures turns { OnOk result (turns_left waiting.new.items ≤ turns_left waiting.old.items + (length pairs.now + 1)) }
+        ensures keeps { Keeps self.old self.new }
+        ensures ready { OnOk result (IsReady graph.now.arena self.new.tables self.new.known) }
+    {
+        if pairs.is_empty() {
+            self.text(b"")?;
+            return Ok(());
+        }
+        push_pairs(self.alloc, pairs, graph, waiting)
     }
 
     /// An object: its sealed values, and then its members, if it may have some (3.12).

@@ -1,4 +1,4 @@
-ghost use Rattle.std.specs.Prelude.{◌≡◌, ◌≢◌, ◌<◌, [], length, take, true, false, OnOk, OnErr, IfOk, IfSome, IfNone};
+ghost use Rattle.std.specs.Prelude.{◌≡◌, ◌≢◌, ◌<◌, ◌≤◌, ◌^◌, [], length, take, true, false, OnOk, OnErr, IfOk, IfSome, IfNone};
 ghost use Rattle.amf_graph.specs.Arena.{Arena};
 ghost use Rattle.amf_wire.specs.Text.{IsText};
 ghost use Rattle.amf_graph.specs.Bounds.{count_end};
@@ -90,10 +90,42 @@ impl Output {
         ensures tables { self.new.tables ≡ self.old.tables }
         ensures known { self.new.known ≡ self.old.known }
     {
+        if number < 0x80 {
+            return self.one_byte(number);
+        }
+        if number < 0x4000 {
+            return self.two_bytes(number);
+        }
         match U29::new(number) {
-            Some(number) => self.raw_number(number),
+            Some(number) => self.raw(write_u29(number).as_slice()),
             None => unreachable!(),
         }
+    }
+
+    /// A number of one byte.
+    fn one_byte(&mut self, number: u32) -> Result<(), Memory>
+        requires { number < 2 ^ 7 }
+        ensures ok { OnOk result (WritesStep (spell.number number) self.old self.new) }
+        ensures keeps { Keeps self.old self.new }
+        ensures tables { self.new.tables ≡ self.old.tables }
+        ensures known { self.new.known ≡ self.old.known }
+    {
+        self.bytes.push(number as u8)?;
+        Ok(())
+    }
+
+    /// A number of two bytes.
+    fn two_bytes(&mut self, number: u32) -> Result<(), Memory>
+        requires large { 2 ^ 7 ≤ number }
+        requires small { number < 2 ^ 14 }
+        ensures ok { OnOk result (WritesStep (spell.number number) self.old self.new) }
+        ensures keeps { Keeps self.old self.new }
+        ensures tables { self.new.tables ≡ self.old.tables }
+        ensures known { self.new.known ≡ self.old.known }
+    {
+        self.bytes.push(0x80 + (number / 0x80 % 0x80) as u8)?;
+        self.bytes.push((number % 0x80) as u8)?;
+        Ok(())
     }
 
     /// Bytes as they are.
@@ -104,24 +136,6 @@ impl Output {
         ensures known { self.new.known ≡ self.old.known }
     {
         self.bytes.extend_from_slice(bytes)?;
-        Ok(())
-    }
-
-    fn raw_number(&mut self, number: U29) -> Result<(), Memory>
-        ensures ok { OnOk result (WritesStep (spell.number number) self.old self.new) }
-        ensures keeps { Keeps self.old self.new }
-        ensures tables { self.new.tables ≡ self.old.tables }
-        ensures known { self.new.known ≡ self.old.known }
-    {
-        let spelled = write_u29(number);
-        match spelled.as_slice() {
-            [byte] => self.bytes.push(*byte)?,
-            [first, last] => {
-                self.bytes.push(*first)?;
-                self.bytes.push(*last)?;
-            }
-            bytes => self.bytes.extend_from_slice(bytes)?,
-        }
         Ok(())
     }
 

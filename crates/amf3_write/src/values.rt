@@ -10,7 +10,7 @@ ghost use Rattle.amf3_spelling.specs.ByteSpelling as spell;
 ghost use Rattle.amf3_write.specs.Unwritten.{AreRunsOf, IsNextOf, next_segments, segments_left, turns_left, Falls};
 ghost use Rattle.amf3_write.specs.Writes.{WritesSteps, WritesValue, Leads, Keeps, Stops, IsReady};
 
-use crate::nodes::is_unnamed;
+use crate::nodes::{is_unnamed, kind_of};
 use crate::output::Output;
 use crate::unwritten::Unwritten;
 use amf_graph::{Lack, LackKind, NodeId, Rooted, Value, WriteEnd};
@@ -134,15 +134,16 @@ impl Output {
         ensures ready { OnOk result (IsReady graph.now.arena self.new.tables self.new.known) }
     {
         graph.is_finished();
-        if is_unnamed(node, graph) {
+        let view = graph.node(node);
+        if is_unnamed(node, view, graph) {
             return Err(WriteEnd::NoSpelling(Lack {
                 kind: LackKind::EmptyName,
                 node: self.tables.node_count(),
             }));
         }
-        self.marker(Marker::Node(graph.kind_of(node)))?;
+        self.marker(Marker::Node(kind_of(view)))?;
         self.tables.add_node(node)?;
-        self.open(node, graph, waiting)?;
+        self.open(node, view, graph, waiting)?;
         Ok(())
     }
 }

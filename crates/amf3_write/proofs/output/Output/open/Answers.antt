@@ -5,7 +5,8 @@ use Rattle.amf_graph.specs.Arena.{StoredNode, value_content, text_at}
 use Rattle.amf_graph.specs.Bounds.{NodeWithin}
 use Rattle.amf_graph.specs.Graph.{Node}
 use Rattle.amf_graph.specs.Rooted.{content}
-use Rattle.amf_graph.specs.Views.{flat}
+use Rattle.amf_graph.specs.Views.{flat, Shows}
+use Rattle.amf_graph.specs.Building.{stored_at}
 use Rattle.amf3_spelling.specs.Tables.{external}
 use Rattle.amf3_spelling.specs.ByteSpelling.{step, value, number, flag, raw, word, unused, traits, values_then, signed_bytes, four_bytes, eight_bytes}
 use Rattle.amf_iso.specs.Contents.{values_of}
@@ -25,7 +26,7 @@ returns-in_ok-counted-in-XmlDocument-clause-leads c =
     let old = segments_left a c.args.waiting.now.items in
     let o = c.args.self.now in
     let n = c.counted.new.self in
-    let s = c.in-XmlDocument.ensures in
+    let s = (subst (λ w. Shows c.args.graph.now.arena (stored_at c.args.graph.now.arena c.args.node.0) w) c.in-XmlDocument.is c.requires.shown) in
     subst (λ (x : Node). Leads g (node_segments x ++ old) old o n) (sym (shown a c.args.graph.now.root c.args.node.0 _ s.1))
     (subst (λ (x : List ℕ). Leads g (step (number (2 * length x + 1)) ∷ step (raw x) ∷ old) old o n) s.2
     (leads_steps g (step (number (2 * length c.in-XmlDocument.text.now + 1)) ∷ step (raw c.in-XmlDocument.text.now) ∷ []) old o n c.in_ok-counted-in-XmlDocument.ensures.ok))
@@ -37,7 +38,7 @@ returns-in_ok-counted-in-Xml-clause-leads c =
     let old = segments_left a c.args.waiting.now.items in
     let o = c.args.self.now in
     let n = c.counted-in-Xml.new.self in
-    let s = c.in-Xml.ensures in
+    let s = (subst (λ w. Shows c.args.graph.now.arena (stored_at c.args.graph.now.arena c.args.node.0) w) c.in-Xml.is c.requires.shown) in
     subst (λ (x : Node). Leads g (node_segments x ++ old) old o n) (sym (shown a c.args.graph.now.root c.args.node.0 _ s.1))
     (subst (λ (x : List ℕ). Leads g (step (number (2 * length x + 1)) ∷ step (raw x) ∷ old) old o n) s.2
     (leads_steps g (step (number (2 * length c.in-Xml.text.now + 1)) ∷ step (raw c.in-Xml.text.now) ∷ []) old o n c.in_ok-counted-in-Xml.ensures.ok))
@@ -48,7 +49,7 @@ returns-in_ok-counted-in-Bytes-clause-leads c =
     let a = c.args.graph.now.arena in
     let old = segments_left a c.args.waiting.now.items in
     let x = c.in-Bytes.bytes.now in
-    subst (λ (z : Node). Leads g (node_segments z ++ old) old c.args.self.now c.counted-in-Bytes.new.self) (sym (shown a c.args.graph.now.root c.args.node.0 _ c.in-Bytes.ensures))
+    subst (λ (z : Node). Leads g (node_segments z ++ old) old c.args.self.now c.counted-in-Bytes.new.self) (sym (shown a c.args.graph.now.root c.args.node.0 _ (subst (λ w. Shows c.args.graph.now.arena (stored_at c.args.graph.now.arena c.args.node.0) w) c.in-Bytes.is c.requires.shown)))
     (leads_steps g (step (number (2 * length x + 1)) ∷ step (raw x) ∷ []) old c.args.self.now c.counted-in-Bytes.new.self c.in_ok-counted-in-Bytes.ensures.ok)
 
 pub returns-in_ok-date-in-Date-clause-leads : goal.returns-in_ok-date-in-Date-clause-leads
@@ -56,7 +57,7 @@ returns-in_ok-date-in-Date-clause-leads c =
     let g = content c.args.graph.now in
     let a = c.args.graph.now.arena in
     let old = segments_left a c.args.waiting.now.items in
-    subst (λ (z : Node). Leads g (node_segments z ++ old) old c.args.self.now c.date.new.self) (sym (shown a c.args.graph.now.root c.args.node.0 _ c.in-Date.ensures))
+    subst (λ (z : Node). Leads g (node_segments z ++ old) old c.args.self.now c.date.new.self) (sym (shown a c.args.graph.now.root c.args.node.0 _ (subst (λ w. Shows c.args.graph.now.arena (stored_at c.args.graph.now.arena c.args.node.0) w) c.in-Date.is c.requires.shown)))
     (leads_steps g (step unused ∷ step (raw (to_be_bytes w64 c.in-Date.milliseconds.0)) ∷ []) old c.args.self.now c.date.new.self c.in_ok-date-in-Date.ensures.ok)
 
 pub returns-in_ok-ints-in-Ints-clause-leads : goal.returns-in_ok-ints-in-Ints-clause-leads
@@ -65,7 +66,7 @@ returns-in_ok-ints-in-Ints-clause-leads c =
     let a = c.args.graph.now.arena in
     let old = segments_left a c.args.waiting.now.items in
     let x = c.in-Ints.items.now in
-    subst (λ (z : Node). Leads g (node_segments z ++ old) old c.args.self.now c.ints.new.self) (sym (shown a c.args.graph.now.root c.args.node.0 _ c.in-Ints.ensures))
+    subst (λ (z : Node). Leads g (node_segments z ++ old) old c.args.self.now c.ints.new.self) (sym (shown a c.args.graph.now.root c.args.node.0 _ (subst (λ w. Shows c.args.graph.now.arena (stored_at c.args.graph.now.arena c.args.node.0) w) c.in-Ints.is c.requires.shown)))
     (leads_steps g (step (number (2 * length x + 1)) ∷ step (flag c.in-Ints.fixed) ∷ step (raw (signed_bytes x)) ∷ []) old c.args.self.now c.ints.new.self c.in_ok-ints-in-Ints.ensures.ok)
 
 pub returns-in_ok-uints-in-Uints-clause-leads : goal.returns-in_ok-uints-in-Uints-clause-leads
@@ -74,7 +75,7 @@ returns-in_ok-uints-in-Uints-clause-leads c =
     let a = c.args.graph.now.arena in
     let old = segments_left a c.args.waiting.now.items in
     let x = c.in-Uints.items.now in
-    subst (λ (z : Node). Leads g (node_segments z ++ old) old c.args.self.now c.uints.new.self) (sym (shown a c.args.graph.now.root c.args.node.0 _ c.in-Uints.ensures))
+    subst (λ (z : Node). Leads g (node_segments z ++ old) old c.args.self.now c.uints.new.self) (sym (shown a c.args.graph.now.root c.args.node.0 _ (subst (λ w. Shows c.args.graph.now.arena (stored_at c.args.graph.now.arena c.args.node.0) w) c.in-Uints.is c.requires.shown)))
     (leads_steps g (step (number (2 * length x + 1)) ∷ step (flag c.in-Uints.fixed) ∷ step (raw (four_bytes x)) ∷ []) old c.args.self.now c.uints.new.self c.in_ok-uints-in-Uints.ensures.ok)
 
 pub returns-in_ok-doubles-in-Doubles-clause-leads : goal.returns-in_ok-doubles-in-Doubles-clause-leads
@@ -83,7 +84,7 @@ returns-in_ok-doubles-in-Doubles-clause-leads c =
     let a = c.args.graph.now.arena in
     let old = segments_left a c.args.waiting.now.items in
     let x = map (λ p. p.0) c.in-Doubles.items.now in
-    subst (λ (z : Node). Leads g (node_segments z ++ old) old c.args.self.now c.doubles.new.self) (sym (shown a c.args.graph.now.root c.args.node.0 _ c.in-Doubles.ensures))
+    subst (λ (z : Node). Leads g (node_segments z ++ old) old c.args.self.now c.doubles.new.self) (sym (shown a c.args.graph.now.root c.args.node.0 _ (subst (λ w. Shows c.args.graph.now.arena (stored_at c.args.graph.now.arena c.args.node.0) w) c.in-Doubles.is c.requires.shown)))
     (leads_steps g (step (number (2 * length x + 1)) ∷ step (flag c.in-Doubles.fixed) ∷ step (raw (eight_bytes x)) ∷ []) old c.args.self.now c.doubles.new.self c.in_ok-doubles-in-Doubles.ensures.ok)
 
 pub returns-in_ok-push-in-Wrapper-clause-leads : goal.returns-in_ok-push-in-Wrapper-clause-leads
@@ -94,7 +95,7 @@ returns-in_ok-push-in-Wrapper-clause-leads c =
     let now = segments_left a c.push.new.self.items in
     let v = value (value_content a c.in-Wrapper.value) in
     let x = traits (external c.in-Wrapper.class) in
-    subst (λ (z : Node). Leads g (node_segments z ++ old) now c.args.self.now c.wrapper.new.self) (sym (shown a c.args.graph.now.root c.args.node.0 _ c.in-Wrapper.ensures))
+    subst (λ (z : Node). Leads g (node_segments z ++ old) now c.args.self.now c.wrapper.new.self) (sym (shown a c.args.graph.now.root c.args.node.0 _ (subst (λ w. Shows c.args.graph.now.arena (stored_at c.args.graph.now.arena c.args.node.0) w) c.in-Wrapper.is c.requires.shown)))
     (leads_to g (step x ∷ v ∷ old) (v ∷ old) now c.args.self.now c.wrapper.new.self (sym (segments_pushed a c.args.waiting.now.items c.push.new.self.items (One c.in-Wrapper.value) c.in_ok-push-in-Wrapper.ensures.items))
     (leads_step g x (v ∷ old) c.args.self.now c.wrapper.new.self c.in_ok-wrapper-in-Wrapper.ensures.ok))
 
@@ -114,7 +115,7 @@ returns-in_ok-push-in-Values-clause-leads c =
     let x = word (text_at a c.in-Values.of.0) in
     let head = step (number (2 * length vs + 1)) ∷ step (flag c.in-Values.fixed) ∷ [] in
     let count = sym (length-map c.in-Values.items.now (value_content a)) in
-    subst (λ (z : Node). Leads g (node_segments z ++ old) now o n) (sym (shown a c.args.graph.now.root c.args.node.0 _ c.in-Values.ensures))
+    subst (λ (z : Node). Leads g (node_segments z ++ old) now o n) (sym (shown a c.args.graph.now.root c.args.node.0 _ (subst (λ w. Shows c.args.graph.now.arena (stored_at c.args.graph.now.arena c.args.node.0) w) c.in-Values.is c.requires.shown)))
     (leads_to g (head ++ step x ∷ (values_then vs [] ++ old)) (values_then vs [] ++ old) now o n (sym (segments_pushed a c.args.waiting.now.items c.push-in-Values.new.self.items (Values c.in-Values.items) c.in_ok-push-in-Values.ensures.items))
     (leads_then g (head ++ step x ∷ (values_then vs [] ++ old)) (step x ∷ (values_then vs [] ++ old)) (values_then vs [] ++ old) o m n
     (leads_steps g head (step x ∷ (values_then vs [] ++ old)) o m (subst (λ k. WritesSteps (step (number (2 * k + 1)) ∷ step (flag c.in-Values.fixed) ∷ []) o m) count c.in_ok-vector-in-Values.ensures.ok))
@@ -122,12 +123,12 @@ returns-in_ok-push-in-Values-clause-leads c =
 
 pub returns-in_ok-push-in-Values-clause-turns : goal.returns-in_ok-push-in-Values-clause-turns
 returns-in_ok-push-in-Values-clause-turns c =
-    let w = subst (λ (n : StoredNode). NodeWithin n) c.in-Values.ensures (node_within c.args.graph.now.arena c.args.node.0 c.is_finished.ensures.bounds c.requires.there) in
+    let w = subst (λ (n : StoredNode). NodeWithin n) (subst (λ w. Shows c.args.graph.now.arena (stored_at c.args.graph.now.arena c.args.node.0) w) c.in-Values.is c.requires.shown) (node_within c.args.graph.now.arena c.args.node.0 c.is_finished.ensures.bounds c.requires.there) in
     omega (arith, w.together, turns_pushed c.args.waiting.now.items c.push-in-Values.new.self.items (Values c.in-Values.items) c.in_ok-push-in-Values.ensures.items)
 
 pub vector-requires-in-Dictionary : goal.vector-requires-in-Dictionary
 vector-requires-in-Dictionary c =
-    let w = subst (λ (n : StoredNode). NodeWithin n) c.in-Dictionary.ensures (node_within c.args.graph.now.arena c.args.node.0 c.is_finished.ensures.bounds c.requires.there) in
+    let w = subst (λ (n : StoredNode). NodeWithin n) (subst (λ w. Shows c.args.graph.now.arena (stored_at c.args.graph.now.arena c.args.node.0) w) c.in-Dictionary.is c.requires.shown) (node_within c.args.graph.now.arena c.args.node.0 c.is_finished.ensures.bounds c.requires.there) in
     omega (arith, w.together, flat_length c.in-Dictionary.entries.now)
 
 pub returns-in_ok-push-in-Dictionary-clause-leads : goal.returns-in_ok-push-in-Dictionary-clause-leads
@@ -142,13 +143,13 @@ returns-in_ok-push-in-Dictionary-clause-leads c =
     let vs = values_of a (flat es) in
     let head = step (number (length vs + 1)) ∷ step (flag c.in-Dictionary.weak) ∷ [] in
     let count : 2 * length es + 1 ≡ length vs + 1 = ap (λ k. k + 1) (sym (length-map (flat es) (value_content a) ∙ flat_length es)) in
-    subst (λ (z : Node). Leads g (node_segments z ++ old) now o m) (sym (shown a c.args.graph.now.root c.args.node.0 _ c.in-Dictionary.ensures))
+    subst (λ (z : Node). Leads g (node_segments z ++ old) now o m) (sym (shown a c.args.graph.now.root c.args.node.0 _ (subst (λ w. Shows c.args.graph.now.arena (stored_at c.args.graph.now.arena c.args.node.0) w) c.in-Dictionary.is c.requires.shown)))
     (leads_to g (head ++ (values_then vs [] ++ old)) (values_then vs [] ++ old) now o m (sym (segments_pushed a c.args.waiting.now.items c.push-in-Dictionary.new.self.items (Entries c.in-Dictionary.entries) c.in_ok-push-in-Dictionary.ensures.items))
     (leads_steps g head (values_then vs [] ++ old) o m (subst (λ k. WritesSteps (step (number k) ∷ step (flag c.in-Dictionary.weak) ∷ []) o m) count c.in_ok-vector-in-Dictionary.ensures.ok)))
 
 pub returns-in_ok-push-in-Dictionary-clause-turns : goal.returns-in_ok-push-in-Dictionary-clause-turns
 returns-in_ok-push-in-Dictionary-clause-turns c =
-    let w = subst (λ (n : StoredNode). NodeWithin n) c.in-Dictionary.ensures (node_within c.args.graph.now.arena c.args.node.0 c.is_finished.ensures.bounds c.requires.there) in
+    let w = subst (λ (n : StoredNode). NodeWithin n) (subst (λ w. Shows c.args.graph.now.arena (stored_at c.args.graph.now.arena c.args.node.0) w) c.in-Dictionary.is c.requires.shown) (node_within c.args.graph.now.arena c.args.node.0 c.is_finished.ensures.bounds c.requires.there) in
     omega (arith, w.together, flat_length c.in-Dictionary.entries.now, turns_pushed c.args.waiting.now.items c.push-in-Dictionary.new.self.items (Entries c.in-Dictionary.entries) c.in_ok-push-in-Dictionary.ensures.items)
 
 pub returns-in_ok-push-in-Wrapper-clause-ready : goal.returns-in_ok-push-in-Wrapper-clause-ready
