@@ -6,4 +6,6 @@ mod graph_tests;
 #[cfg(test)]
 mod tables_tests;
 #[cfg(test)]
+mod texts_tests;
+#[cfg(test)]
 mod vectors_tests;
