@@ -18,11 +18,10 @@ use Rattle.amf_graph.specs.Reached.{Reached, at_root, inside, IsReachedValue}
 use Rattle.amf_graph.specs.Rooted.{RootedArena, content}
 use Rattle.amf_graph.proofs.Alls.{all_at, each_from}
 use Rattle.amf_graph.proofs.NameOrder.{by_name_all}
-use Rattle.amf_iso.specs.Contents.{values_of, pairs_of, named_pairs, ArePairs, AreNamedPairs}
+use Rattle.amf_iso.specs.Contents.{values_of, pairs_of, ArePairs}
 use Rattle.amf0_tables.specs.Lacks0.{IsShortName}
 use Rattle.amf0_tables.specs.Lowered.{IsLowered}
 use Rattle.amf0_write.specs.Unwritten0.{IsMetValue, IsMetPair, AreMetPairs}
-use denote.Ref.{Bor}
 
 -- Nodes by content.
 
@@ -74,11 +73,14 @@ met_names g i n ps r e f h s = record {
   reached = subst (AllByRecursion (λ p. IsReachedValue (content g) p.1)) f (subst (λ (m : Node). AllByRecursion (λ p. IsReachedValue (content g) p.1) m.names) e (names_reached (content g) i r));
 }
 
-pairs_met : (g : RootedArena) (ps : List (Bor (List ℕ) × Stored)) → AreNamedPairs g.arena ps → AllByRecursion (λ p. IsShortName p.0) (named_pairs g.arena ps) → AllByRecursion (λ p. IsReachedValue (content g) p.1) (named_pairs g.arena ps) → AllByRecursion (IsMetPair g) ps
+pairs_met : (g : RootedArena) (ps : List (TextId × Stored)) → ArePairs g.arena ps → AllByRecursion (λ p. IsShortName p.0) (pairs_of g.arena ps) → AllByRecursion (λ p. IsReachedValue (content g) p.1) (pairs_of g.arena ps) → AllByRecursion (IsMetPair g) ps
 pairs_met g [] h s r = tt
-pairs_met g (p ∷ ps) h s r = (record { named = h.0; short = s.0; value = record { names = h.0.2; reached = r.0 } }, pairs_met g ps h.1 s.1 r.1)
+pairs_met g (p ∷ ps) h s r = (record { name = h.0.0; short = s.0; value = record { names = h.0.1; reached = r.0 } }, pairs_met g ps h.1 s.1 r.1)
 
-pub sorted_met : (g : RootedArena) (ps : List (TextId × Stored)) (qs : List (Bor (List ℕ) × Stored)) → AreMetPairs g ps → named_pairs g.arena qs ≡ by_name (pairs_of g.arena ps) → AreNamedPairs g.arena qs → AllByRecursion (IsMetPair g) qs
+pub each_pair_met : (g : RootedArena) (ps : List (TextId × Stored)) → AreMetPairs g ps → AllByRecursion (IsMetPair g) ps
+each_pair_met g ps m = pairs_met g ps m.pairs m.short m.reached
+
+pub sorted_met : (g : RootedArena) (ps qs : List (TextId × Stored)) → AreMetPairs g ps → pairs_of g.arena qs ≡ by_name (pairs_of g.arena ps) → ArePairs g.arena qs → AllByRecursion (IsMetPair g) qs
 sorted_met g ps qs m e h =
     pairs_met g qs h (subst (AllByRecursion (λ p. IsShortName p.0)) (sym e) (by_name_all (λ p. IsShortName p.0) (pairs_of g.arena ps) m.short)) (subst (AllByRecursion (λ p. IsReachedValue (content g) p.1)) (sym e) (by_name_all (λ p. IsReachedValue (content g) p.1) (pairs_of g.arena ps) m.reached))
 

@@ -3,22 +3,22 @@ use Rattle.std.specs.Prelude.{◌≡◌, ℕ, ◌+◌, ◌^◌, ◌<◌, ◌≤�
 use Rattle.std.specs.List.{AllByRecursion}
 use Rattle.amf_graph.specs.declared.value.TextId.{TextId}
 use Rattle.amf_graph.specs.declared.value.Value.{Value as Stored}
-use Rattle.amf_graph.specs.Arena.{Arena, Names, value_content}
+use Rattle.amf_graph.specs.Arena.{Arena, Names, IsTextId, text_at, value_content}
 use Rattle.amf_graph.specs.Order.{Absent}
 use Rattle.amf_graph.specs.Reached.{IsReachedValue}
 use Rattle.amf_graph.specs.Rooted.{RootedArena, content}
-use Rattle.amf_iso.specs.Contents.{values_of, pairs_of, named_pairs, ArePairs, IsNamedPair}
+use Rattle.amf_iso.specs.Contents.{values_of, pairs_of, ArePairs}
 use Rattle.amf0_tables.specs.Lacks0.{IsShortName}
 use Rattle.amf0_write.specs.declared.unwritten.Unwritten.{Unwritten}
-use Rattle.amf0_write.specs.declared.unwritten.Unwritten.TheVariants.{One, Values, Pairs}
+use Rattle.amf0_write.specs.declared.unwritten.Unwritten.TheVariants.{One, Values, Pairs, Sorted}
 use Rattle.amf0_write.specs.Writes0.{Segment, value, values_then, pairs_then}
-use denote.Ref.{Bor}
 
 -- the segments of a run
 abbrev pub run_segments : Arena → Unwritten → List Segment
 run_segments a (One v) = value (value_content a v) ∷ []
 run_segments a (Values vs) = values_then (values_of a vs.now)
-run_segments a (Pairs ps) = pairs_then (named_pairs a (reverse ps.items))
+run_segments a (Pairs ps) = pairs_then (pairs_of a ps.now)
+run_segments a (Sorted ps) = pairs_then (pairs_of a (reverse ps.items))
 
 -- the segments of a stack, those of the last run first
 abbrev pub segments_left : Arena → List Unwritten → List Segment
@@ -35,13 +35,13 @@ pub record IsMetValue (g : RootedArena) (v : Stored) : Type 0 where
   pub names : Names g.arena v
   pub reached : IsReachedValue (content g) (value_content g.arena v)
 
--- the name fits its length field
-pub record IsMetPair (g : RootedArena) (p : Bor (List ℕ) × Stored) : Type 0 where
-  pub named : IsNamedPair g.arena p
-  pub short : IsShortName p.0.now
+-- the name is the graph's, and fits its length field
+pub record IsMetPair (g : RootedArena) (p : TextId × Stored) : Type 0 where
+  pub name : IsTextId g.arena p.0.0
+  pub short : IsShortName (text_at g.arena p.0.0)
   pub value : IsMetValue g p.1
 
--- the same of pairs with their names' places
+-- the same of pairs by content
 pub record AreMetPairs (g : RootedArena) (ps : List (TextId × Stored)) : Type 0 where
   pub pairs : ArePairs g.arena ps
   pub short : AllByRecursion (λ p. IsShortName p.0) (pairs_of g.arena ps)
@@ -54,7 +54,8 @@ IsNextOf g (Some v) = IsMetValue g v
 abbrev pub IsRunOf : RootedArena → Unwritten → Type 0
 IsRunOf g (One v) = IsMetValue g v
 IsRunOf g (Values vs) = AllByRecursion (IsMetValue g) vs.now
-IsRunOf g (Pairs ps) = AllByRecursion (IsMetPair g) ps.items
+IsRunOf g (Pairs ps) = AllByRecursion (IsMetPair g) ps.now
+IsRunOf g (Sorted ps) = AllByRecursion (IsMetPair g) ps.items
 
 abbrev pub AreRunsOf : RootedArena → List Unwritten → Type 0
 AreRunsOf g runs = AllByRecursion (IsRunOf g) runs
@@ -63,7 +64,8 @@ AreRunsOf g runs = AllByRecursion (IsRunOf g) runs
 abbrev pub run_turns : Unwritten → ℕ
 run_turns (One v) = 1
 run_turns (Values vs) = 1 + length vs.now
-run_turns (Pairs ps) = 1 + length ps.items
+run_turns (Pairs ps) = 1 + length ps.now
+run_turns (Sorted ps) = 1 + length ps.items
 
 abbrev pub turns_left : List Unwritten → ℕ
 turns_left [] = 0

@@ -9,6 +9,7 @@ mod meetings;
 mod nodes;
 mod open;
 mod output;
+mod pairs;
 mod part_lack;
 mod stop;
 mod unwritten;

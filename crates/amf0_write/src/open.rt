@@ -17,9 +17,10 @@ ghost use Rattle.amf0_write.specs.Writes0.{pairs_then, done_of, Leads, Keeps, Op
 ghost use Rattle.amf_graph.specs.Bounds.{count_end};
 
 use crate::output::Output;
+use crate::pairs::are_by_name;
 use crate::unwritten::Unwritten;
 use amf_graph::{NodeId, NodeView, Rooted, TextId, TraitsId, Value};
-use amf_iso::by_name;
+use amf_iso::ids_by_name;
 use amf_wire::Memory;
 use std::alloc::Global;
 
@@ -77,7 +78,7 @@ impl Output {
     fn array<'g>(
         &mut self,
         items: &'g [Value],
-        names: &[(TextId, Value)],
+        names: &'g [(TextId, Value)],
         graph: &'g Rooted,
         waiting: &mut Vec<Unwritten<'g>>,
     ) -> Result<(), Memory>
@@ -107,7 +108,7 @@ impl Output {
     fn object<'g>(
         &mut self,
         traits: TraitsId,
-        members: &[(TextId, Value)],
+        members: &'g [(TextId, Value)],
         graph: &'g Rooted,
         waiting: &mut Vec<Unwritten<'g>>,
     ) -> Result<(), Memory>
@@ -133,10 +134,10 @@ impl Output {
     }
 }
 
-/// Puts pairs onto the stack, in by-name order.
+/// Puts pairs onto the stack, in by-name order: as they stand, if they stand in it.
 fn push_pairs<'g>(
     alloc: Global,
-    pairs: &[(TextId, Value)],
+    pairs: &'g [(TextId, Value)],
     graph: &'g Rooted,
     waiting: &mut Vec<Unwritten<'g>>,
 ) -> Result<(), Memory>
@@ -145,8 +146,12 @@ fn push_pairs<'g>(
     ensures runs { AreRunsOf graph.now waiting.old.items → OnOk result (AreRunsOf graph.now waiting.new.items) }
     ensures turns { OnOk result (turns_left waiting.new.items ≡ turns_left waiting.old.items + (length pairs.now + 1)) }
 {
-    let mut pairs = by_name(alloc, pairs, graph)?;
-    pairs.reverse();
-    waiting.push(Unwritten::Pairs(pairs))?;
+    if are_by_name(pairs, graph) {
+        waiting.push(Unwritten::Pairs(pairs))?;
+        return Ok(());
+    }
+    let mut sorted = ids_by_name(alloc, pairs, graph)?;
+    sorted.reverse();
+    waiting.push(Unwritten::Sorted(sorted))?;
     Ok(())
 }

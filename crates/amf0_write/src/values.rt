@@ -41,7 +41,7 @@ impl Output {
     {
         let mut waiting = vec![in self.alloc; Unwritten::One(value)]?;
         while let Some(top) = waiting.pop() {
-            let next = self.next_value(top, &mut waiting)?;
+            let next = self.next_value(top, graph, &mut waiting)?;
             if let Some(value) = next {
                 self.begin(value, graph, &mut waiting)?;
             }

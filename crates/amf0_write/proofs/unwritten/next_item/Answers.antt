@@ -13,10 +13,12 @@ returns-in_ok-push-in-Some-clause-left c = λ a.
     let old = c.args.waiting.now.items in
     ap (λ w. value (value_content a c.in-Some.value.now) ∷ w) (segments_pushed a old c.push.new.self.items (Values c.in-Some.rest) c.in_ok-push-in-Some.ensures.items) ∙ sym (ap (λ vs. values_then (values_of a vs) ++ segments_left a old) c.in-Some.ensures.cases.0)
 
+pub returns-in_ok-push-in-Some-clause-next : goal.returns-in_ok-push-in-Some-clause-next
+returns-in_ok-push-in-Some-clause-next c = λ g h. (subst (AllByRecursion (IsMetValue g)) c.in-Some.ensures.cases.0 h).0
+
 pub returns-in_ok-push-in-Some-clause-runs : goal.returns-in_ok-push-in-Some-clause-runs
 returns-in_ok-push-in-Some-clause-runs c = λ g h k.
-    let all = subst (AllByRecursion (IsMetValue g)) c.in-Some.ensures.cases.0 h in
-    (all.0, runs_pushed g c.args.waiting.now.items c.push.new.self.items (Values c.in-Some.rest) c.in_ok-push-in-Some.ensures.items k all.1)
+    runs_pushed g c.args.waiting.now.items c.push.new.self.items (Values c.in-Some.rest) c.in_ok-push-in-Some.ensures.items k (subst (AllByRecursion (IsMetValue g)) c.in-Some.ensures.cases.0 h).1
 
 pub returns-in_ok-push-in-Some-clause-turns : goal.returns-in_ok-push-in-Some-clause-turns
 returns-in_ok-push-in-Some-clause-turns c = omega (arith, turns_pushed c.args.waiting.now.items c.push.new.self.items (Values c.in-Some.rest) c.in_ok-push-in-Some.ensures.items, c.in-Some.ensures.cases.1)

@@ -22,14 +22,12 @@ loop-top-init c =
     }
 
 pub next_value-requires : goal.next_value-requires
-next_value-requires c = (c.args.graph.now, top_of (IsRunOf c.args.graph.now) c.loop-top.waiting.items c.pop.new.self.items c.in-Some.top c.in-Some.ensures.items c.loop-top.invariant.runs)
+next_value-requires c = top_of (IsRunOf c.args.graph.now) c.loop-top.waiting.items c.pop.new.self.items c.in-Some.top c.in-Some.ensures.items c.loop-top.invariant.runs
 
 pub begin-requires-clause-met : goal.begin-requires-clause-met
 begin-requires-clause-met c =
     let g = c.args.graph.now in
-    let top = top_of (IsRunOf g) c.loop-top.waiting.items c.pop.new.self.items c.in-Some.top c.in-Some.ensures.items c.loop-top.invariant.runs in
-    let rest = rest_of (IsRunOf g) c.loop-top.waiting.items c.pop.new.self.items c.in-Some.top c.in-Some.ensures.items c.loop-top.invariant.runs in
-    subst (λ next. IsNextOf g next) c.in-Some-next.is (c.in_ok-next.ensures.runs g top rest).0
+    subst (λ next. IsNextOf g next) c.in-Some-next.is c.in_ok-next.ensures.next
 
 pub begin-requires-clause-tables : goal.begin-requires-clause-tables
 begin-requires-clause-tables c = subst (AreTables0 (content c.args.graph.now)) (sym c.in_ok-next.ensures.tables) (c.loop-top.invariant.leads.sound c.requires.tables)
@@ -37,9 +35,8 @@ begin-requires-clause-tables c = subst (AreTables0 (content c.args.graph.now)) (
 pub begin-requires-clause-runs : goal.begin-requires-clause-runs
 begin-requires-clause-runs c =
     let g = c.args.graph.now in
-    let top = top_of (IsRunOf g) c.loop-top.waiting.items c.pop.new.self.items c.in-Some.top c.in-Some.ensures.items c.loop-top.invariant.runs in
     let rest = rest_of (IsRunOf g) c.loop-top.waiting.items c.pop.new.self.items c.in-Some.top c.in-Some.ensures.items c.loop-top.invariant.runs in
-    (c.in_ok-next.ensures.runs g top rest).1
+    c.in_ok-next.ensures.runs rest
 
 pub returns-in_err-begin-clause-lack : goal.returns-in_err-begin-clause-lack
 returns-in_err-begin-clause-lack c = λ e.
@@ -48,8 +45,7 @@ returns-in_err-begin-clause-lack c = λ e.
     let whole = value (value_content a c.args.value) ∷ [] in
     let left = c.next_value.new.waiting.items in
     let now = value (value_content a c.in-Some-next.value) ∷ segments_left a left in
-    let top = top_of (IsRunOf c.args.graph.now) c.loop-top.waiting.items c.pop.new.self.items c.in-Some.top c.in-Some.ensures.items c.loop-top.invariant.runs in
-    let before = turned g a whole c.pop.new.self.items c.loop-top.waiting.items left c.in-Some.top c.in_ok-next.next c.args.self.now c.loop-top.self c.next_value.new.self c.in-Some.ensures.items c.loop-top.invariant.leads (c.in_ok-next.ensures.leads c.args.graph.now top) in
+    let before = turned g a whole c.pop.new.self.items c.loop-top.waiting.items left c.in-Some.top c.in_ok-next.next c.args.self.now c.loop-top.self c.next_value.new.self c.in-Some.ensures.items c.loop-top.invariant.leads c.in_ok-next.ensures.leads in
     let begun = subst (λ next. Leads g whole (next_segments a next ++ segments_left a left) c.args.self.now c.next_value.new.self) c.in-Some-next.is before in
     stops_behind g whole now c.args.self.now c.next_value.new.self begun (c.in_err-begin.ensures.lack (same_stop c.from_residual-in_err-begin.result c.in_err-begin.field-0.0 c.from_residual-in_err-begin.ensures.1 e))
 
@@ -59,8 +55,7 @@ returns-in_err-begin-clause-grown c = λ e.
     let a = c.args.graph.now.arena in
     let whole = value (value_content a c.args.value) ∷ [] in
     let left = c.next_value.new.waiting.items in
-    let top = top_of (IsRunOf c.args.graph.now) c.loop-top.waiting.items c.pop.new.self.items c.in-Some.top c.in-Some.ensures.items c.loop-top.invariant.runs in
-    let before = turned g a whole c.pop.new.self.items c.loop-top.waiting.items left c.in-Some.top c.in_ok-next.next c.args.self.now c.loop-top.self c.next_value.new.self c.in-Some.ensures.items c.loop-top.invariant.leads (c.in_ok-next.ensures.leads c.args.graph.now top) in
+    let before = turned g a whole c.pop.new.self.items c.loop-top.waiting.items left c.in-Some.top c.in_ok-next.next c.args.self.now c.loop-top.self c.next_value.new.self c.in-Some.ensures.items c.loop-top.invariant.leads c.in_ok-next.ensures.leads in
     let still = c.in_err-begin.ensures.still (same_stop c.from_residual-in_err-begin.result c.in_err-begin.field-0.0 c.from_residual-in_err-begin.ensures.1 e) in (
       grown_then g c.args.self.now c.next_value.new.self c.begin.new.self before.grown (grown_still g c.next_value.new.self c.begin.new.self still),
       subst (AreTables0 g) (sym still.0) (before.sound c.requires.tables),
@@ -73,8 +68,7 @@ loop-top-preserved-in-Continue-branch-3 c =
     let whole = value (value_content a c.args.value) ∷ [] in
     let left = c.next_value.new.waiting.items in
     let now = value (value_content a c.in-Some-next.value) ∷ segments_left a left in
-    let top = top_of (IsRunOf c.args.graph.now) c.loop-top.waiting.items c.pop.new.self.items c.in-Some.top c.in-Some.ensures.items c.loop-top.invariant.runs in
-    let before = turned g a whole c.pop.new.self.items c.loop-top.waiting.items left c.in-Some.top c.in_ok-next.next c.args.self.now c.loop-top.self c.next_value.new.self c.in-Some.ensures.items c.loop-top.invariant.leads (c.in_ok-next.ensures.leads c.args.graph.now top) in
+    let before = turned g a whole c.pop.new.self.items c.loop-top.waiting.items left c.in-Some.top c.in_ok-next.next c.args.self.now c.loop-top.self c.next_value.new.self c.in-Some.ensures.items c.loop-top.invariant.leads c.in_ok-next.ensures.leads in
     let begun = subst (λ next. Leads g whole (next_segments a next ++ segments_left a left) c.args.self.now c.next_value.new.self) c.in-Some-next.is before in
     record {
       leads = leads_then g whole now (segments_left a c.begin.new.waiting.items) c.args.self.now c.next_value.new.self c.begin.new.self begun c.in_ok-begin.ensures.leads;
@@ -94,14 +88,13 @@ pub loop-top-preserved : goal.loop-top-preserved
 loop-top-preserved c =
     let g = content c.args.graph.now in
     let a = c.args.graph.now.arena in
-    let top = top_of (IsRunOf c.args.graph.now) c.loop-top.waiting.items c.pop.new.self.items c.in-Some.top c.in-Some.ensures.items c.loop-top.invariant.runs in
     let rest = rest_of (IsRunOf c.args.graph.now) c.loop-top.waiting.items c.pop.new.self.items c.in-Some.top c.in-Some.ensures.items c.loop-top.invariant.runs in
     let whole = value (value_content a c.args.value) ∷ [] in
     let left = c.next_value.new.waiting.items in
-    let before = turned g a whole c.pop.new.self.items c.loop-top.waiting.items left c.in-Some.top c.in_ok-next.next c.args.self.now c.loop-top.self c.next_value.new.self c.in-Some.ensures.items c.loop-top.invariant.leads (c.in_ok-next.ensures.leads c.args.graph.now top) in
+    let before = turned g a whole c.pop.new.self.items c.loop-top.waiting.items left c.in-Some.top c.in_ok-next.next c.args.self.now c.loop-top.self c.next_value.new.self c.in-Some.ensures.items c.loop-top.invariant.leads c.in_ok-next.ensures.leads in
     record {
       leads = subst (λ next. Leads g whole (next_segments a next ++ segments_left a left) c.args.self.now c.next_value.new.self) c.in_default-next.is before;
-      runs = (c.in_ok-next.ensures.runs c.args.graph.now top rest).1;
+      runs = c.in_ok-next.ensures.runs rest;
       keeps = λ front h. c.in_ok-next.ensures.keeps front (c.loop-top.invariant.keeps front h);
     }
 
