@@ -28,7 +28,7 @@ use Rattle.amf0_tables.proofs.Meeting.{meets_prefix, meets_stays, meets_first}
 use Rattle.amf0_write.specs.declared.output.Output.{Output}
 use Rattle.amf0_write.specs.PartLacks0.{outside_of, HasNoIndex, PlaceLacks0}
 use Rattle.amf0_write.specs.Written0.{AreTables0}
-use Rattle.amf0_write.specs.Writes0.{tables_of, done_of, IsDone, Adds, AddsBy, Segment, name, value, ending, segment_values, IsLeafSpelled, IsCanonical, Segments, Leads, Stops}
+use Rattle.amf0_write.specs.Writes0.{tables_of, done_of, IsDone, Still, Adds, AddsBy, Segment, name, value, ending, segment_values, IsLeafSpelled, IsCanonical, Segments, Leads, Stops}
 use Rattle.amf0_write.proofs.Closing0.{contents_flat, name_fields}
 use Rattle.amf0_write.proofs.Grown0.{grown_still, grown_then, same_outside, count_outside, rank_is, entered_in}
 
@@ -99,15 +99,21 @@ sound_done g t i enters loose new h = record {
 pub same_done : (o m : Output) → tables_of m ≡ tables_of o → done_of m ≡ done_of o
 same_done o m e = ap (λ (t : Tables0). t.amf3.done) e
 
+adds_still : (b : List ℕ) (o m : Output) → Adds b o m → Still o m
+adds_still b o m h = (h.tables, h.loose)
+
 -- what a value that is no node appends changes no table
-pub plain_done : (a : Arena) (v : Stored) (o m : Output) → ((n : NodeId) → v ≡ NodeRef n → ⊥) → ((x : Leaf) → value_content a v ≡ leaf x → AddsBy (IsLeafSpelled x) o m) → done_of m ≡ done_of o
-plain_done a Undefined o m n f = same_done o m (f undefined refl).2.tables
-plain_done a Null o m n f = same_done o m (f null refl).2.tables
-plain_done a (Flag b) o m n f = same_done o m (f (boolean b) refl).2.tables
-plain_done a (Integer i) o m n f = same_done o m (f (integer i) refl).2.tables
-plain_done a (Double p) o m n f = same_done o m (f (double p.0) refl).2.tables
-plain_done a (Text t) o m n f = same_done o m (f (text (text_at a t.0)) refl).2.tables
-plain_done a (NodeRef i) o m n f = absurd (n i refl)
+pub plain_still : (a : Arena) (v : Stored) (o m : Output) → ((n : NodeId) → v ≡ NodeRef n → ⊥) → ((x : Leaf) → value_content a v ≡ leaf x → AddsBy (IsLeafSpelled x) o m) → Still o m
+plain_still a Undefined o m n f = let h = f undefined refl in adds_still h.0 o m h.2
+plain_still a Null o m n f = let h = f null refl in adds_still h.0 o m h.2
+plain_still a (Flag b) o m n f = let h = f (boolean b) refl in adds_still h.0 o m h.2
+plain_still a (Integer i) o m n f = let h = f (integer i) refl in adds_still h.0 o m h.2
+plain_still a (Double p) o m n f = let h = f (double p.0) refl in adds_still h.0 o m h.2
+plain_still a (Text t) o m n f = let h = f (text (text_at a t.0)) refl in adds_still h.0 o m h.2
+plain_still a (NodeRef i) o m n f = absurd (n i refl)
+
+pub still_then : (o m n : Output) → Still o m → Still m n → Still o n
+still_then o m n h k = (k.0 ∙ h.0, k.1 ∙ h.1)
 
 pub adds_then : (b c : List ℕ) (o m n : Output) → Adds b o m → Adds c m n → Adds (b ++ c) o n
 adds_then b c o m n h k = record { bytes = k.bytes ∙ ap (λ w. w ++ c) h.bytes ∙ append_assoc o.bytes.items b c; tables = k.tables ∙ h.tables; loose = k.loose ∙ h.loose }

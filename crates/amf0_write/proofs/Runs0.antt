@@ -4,9 +4,10 @@ use Rattle.std.specs.Prelude.{Result, Ok, Err}
 use Rattle.std.specs.Result.{IsErrAnd, IsErrOf}
 use Rattle.std.specs.List.{AllByRecursion}
 use Rattle.std.proofs.lemmas.List.{reverse-append}
+use Rattle.amf_graph.specs.declared.value.NodeId.{NodeId}
 use Rattle.amf_graph.specs.declared.value.TextId.{TextId}
 use Rattle.amf_graph.specs.declared.value.Value.{Value as Stored}
-use Rattle.amf_graph.specs.Graph.{Graph}
+use Rattle.amf_graph.specs.Graph.{Graph, Value, node}
 use Rattle.amf_graph.specs.Arena.{Arena, text_at, value_content}
 use Rattle.amf_graph.specs.Rooted.{RootedArena}
 use Rattle.amf_graph.proofs.Counting.{missing, missing_push}
@@ -17,8 +18,8 @@ use Rattle.amf0_write.specs.declared.stop.Stop.{Stop}
 use Rattle.amf0_write.specs.declared.stop.Stop.TheVariants.{Lack}
 use Rattle.amf0_write.specs.declared.unwritten.Unwritten.{Unwritten}
 use Rattle.amf0_write.specs.Unwritten0.{run_segments, next_segments, segments_left, IsRunOf, AreRunsOf, run_turns, turns_left, Falls}
-use Rattle.amf0_write.specs.Writes0.{Segment, name, value, pairs_then, Leads}
-use Rattle.amf0_write.proofs.Leading0.{leads_then, leads_from}
+use Rattle.amf0_write.specs.Writes0.{Segment, name, value, pairs_then, Leads, Stops}
+use Rattle.amf0_write.proofs.Leading0.{leads_then, leads_from, leads_to, stops_behind}
 
 pub on_ok : {T E P Q : Type 0} (r : Result T E) → (P → Q) → OnOk r P → OnOk r Q
 on_ok (Ok v) f h = f h
@@ -63,18 +64,41 @@ pairs_popped a all rest p e = ap (λ w. pairs_then (pairs_of a w)) (ap reverse e
 pub runs_pushed : (g : RootedArena) (runs now : List Unwritten) (run : Unwritten) → now ≡ runs ++ run ∷ [] → AreRunsOf g runs → IsRunOf g run → AreRunsOf g now
 runs_pushed g runs now run e h k = subst (λ w. AreRunsOf g w) (sym e) (each_append (IsRunOf g) runs (run ∷ []) h (k, tt))
 
--- one run taken off the stack, and written up to its next value
-pub turned : (g : Graph) (a : Arena) (whole : List Segment) (runs all left : List Unwritten) (top : Unwritten) (next : Option Stored) (o m n : Output) → all ≡ runs ++ top ∷ [] → Leads g whole (segments_left a all) o m
-    → Leads g (run_segments a top ++ segments_left a runs) (next_segments a next ++ segments_left a left) m n → Leads g whole (next_segments a next ++ segments_left a left) o n
+-- What is written of a run, up to a node that is new.
+
+module _ (g : Graph) (whole ps old new : List Segment) where
+  -- the name at its front
+  pub name_on : (x : List ℕ) (v : Value) (o m n : Output) → old ≡ name x ∷ value v ∷ new → Leads g whole (old ++ ps) o m → ((qs : List Segment) → Leads g (name x ∷ qs) qs m n) → Leads g whole ((value v ∷ new) ++ ps) o n
+  name_on x v o m n e h k = leads_then g whole (name x ∷ value v ∷ (new ++ ps)) (value v ∷ (new ++ ps)) o m n (leads_to g whole (old ++ ps) (name x ∷ value v ∷ (new ++ ps)) o m (ap (λ w. w ++ ps) e) h) (k (value v ∷ (new ++ ps)))
+
+  -- the value at its front
+  pub value_on : (v : Value) (next : Option NodeId) (o m n : Output) → old ≡ value v ∷ new → Leads g whole (old ++ ps) o m → ((qs : List Segment) → Leads g (value v ∷ qs) (next_segments next ++ qs) m n) → Leads g whole (next_segments next ++ (new ++ ps)) o n
+  value_on v next o m n e h k = leads_then g whole (value v ∷ (new ++ ps)) (next_segments next ++ (new ++ ps)) o m n (leads_to g whole (old ++ ps) (value v ∷ (new ++ ps)) o m (ap (λ w. w ++ ps) e) h) (k (new ++ ps))
+
+  -- the value at its front, where a writer stops
+  pub value_stops : (v : Value) (o m : Output) → old ≡ value v ∷ new → Leads g whole (old ++ ps) o m → ((qs : List Segment) → Stops g (value v ∷ qs) m) → Stops g whole o
+  value_stops v o m e h k = stops_behind g whole (value v ∷ (new ++ ps)) o m (leads_to g whole (old ++ ps) (value v ∷ (new ++ ps)) o m (ap (λ w. w ++ ps) e) h) (k (new ++ ps))
+
+-- a node that is new, with what is behind it put back onto the stack
+pub put_back : (g : Graph) (a : Arena) (whole : List Segment) (runs now : List Unwritten) (run : Unwritten) (n : NodeId) (o m : Output) → now ≡ runs ++ run ∷ [] → Leads g whole (value (node n.0) ∷ (run_segments a run ++ segments_left a runs)) o m → Leads g whole (value (node n.0) ∷ segments_left a now) o m
+put_back g a whole runs now run n o m e h = leads_to g whole (value (node n.0) ∷ (run_segments a run ++ segments_left a runs)) (value (node n.0) ∷ segments_left a now) o m (ap (λ w. value (node n.0) ∷ w) (sym (segments_pushed a runs now run e))) h
+
+-- one run taken off the stack, and written up to its next node that is new
+pub turned : (g : Graph) (a : Arena) (whole : List Segment) (runs all left : List Unwritten) (top : Unwritten) (next : Option NodeId) (o m n : Output) → all ≡ runs ++ top ∷ [] → Leads g whole (segments_left a all) o m
+    → Leads g (run_segments a top ++ segments_left a runs) (next_segments next ++ segments_left a left) m n → Leads g whole (next_segments next ++ segments_left a left) o n
 turned g a whole runs all left top next o m n e h k =
-    let behind = next_segments a next ++ segments_left a left in
+    let behind = next_segments next ++ segments_left a left in
     leads_then g whole (segments_left a all) behind o m n h (leads_from g (segments_left a all) (run_segments a top ++ segments_left a runs) behind m n (segments_pushed a runs all top e) k)
+
+-- one run taken off the stack, in which the writer stops
+pub turn_stops : (g : Graph) (a : Arena) (whole : List Segment) (runs all : List Unwritten) (top : Unwritten) (o m : Output) → all ≡ runs ++ top ∷ [] → Leads g whole (segments_left a all) o m → Stops g (run_segments a top ++ segments_left a runs) m → Stops g whole o
+turn_stops g a whole runs all top o m e h s = stops_behind g whole (run_segments a top ++ segments_left a runs) o m (leads_to g whole (segments_left a all) (run_segments a top ++ segments_left a runs) o m (segments_pushed a runs all top e) h) s
 
 pub falls_less : (n : ℕ) (old new : List ℕ) (before after : ℕ) → Falls n old new before after → missing n new * 1073741824 + after ≤ missing n old * 1073741824 + before
 falls_less n old new before after (inl (e, l)) = omega (arith, ap (missing n) e, l)
 falls_less n old new before after (inr (i, l, absent, e, t)) = omega (arith, missing_push n i old l absent, ap (missing n) e, t)
 
 -- the end that is handed on is the one that came
-pub same_stop : {T : Type 0} (r : Result T Stop) (x : Stop) → IsErrAnd r (λ e. e ≡ x) → IsErrOf r Lack → IsErrOf {T = Unit {0}} (Err x) Lack
+pub same_stop : {T S : Type 0} (r : Result T Stop) (x : Stop) → IsErrAnd r (λ e. e ≡ x) → IsErrOf r Lack → IsErrOf {T = S} (Err x) Lack
 same_stop (Ok v) x h k = absurd h
 same_stop (Err e) x h k = cc

@@ -1,8 +1,11 @@
 -- What a stack of runs stands for. A device of proofs.
 use Rattle.std.specs.Prelude.{◌≡◌, ℕ, ◌+◌, ◌^◌, ◌<◌, ◌≤◌, ◌⊎◌, List, [], ◌∷◌, ◌++◌, length, reverse, Option, Some, None}
 use Rattle.std.specs.List.{AllByRecursion}
+use Rattle.amf_graph.specs.declared.value.NodeId.{NodeId}
 use Rattle.amf_graph.specs.declared.value.TextId.{TextId}
 use Rattle.amf_graph.specs.declared.value.Value.{Value as Stored}
+use Rattle.amf_graph.specs.declared.value.Value.TheVariants.{Node as NodeRef}
+use Rattle.amf_graph.specs.Graph.{node}
 use Rattle.amf_graph.specs.Arena.{Arena, Names, IsTextId, text_at, value_content}
 use Rattle.amf_graph.specs.Order.{Absent}
 use Rattle.amf_graph.specs.Reached.{IsReachedValue}
@@ -25,10 +28,10 @@ abbrev pub segments_left : Arena → List Unwritten → List Segment
 segments_left a [] = []
 segments_left a (run ∷ runs) = segments_left a runs ++ run_segments a run
 
--- the segment that a value is, if there is one
-abbrev pub next_segments : Arena → Option Stored → List Segment
-next_segments a None = []
-next_segments a (Some v) = value (value_content a v) ∷ []
+-- the segment that a node is, if there is one
+abbrev pub next_segments : Option NodeId → List Segment
+next_segments None = []
+next_segments (Some n) = value (node n.0) ∷ []
 
 -- the value is the graph's, and the root leads to it
 pub record IsMetValue (g : RootedArena) (v : Stored) : Type 0 where
@@ -47,9 +50,10 @@ pub record AreMetPairs (g : RootedArena) (ps : List (TextId × Stored)) : Type 0
   pub short : AllByRecursion (λ p. IsShortName p.0) (pairs_of g.arena ps)
   pub reached : AllByRecursion (λ p. IsReachedValue (content g) p.1) (pairs_of g.arena ps)
 
-abbrev pub IsNextOf : RootedArena → Option Stored → Type 0
-IsNextOf g None = Unit {0}
-IsNextOf g (Some v) = IsMetValue g v
+-- a node that the root leads to, and that has not been written
+abbrev pub IsNextOf : RootedArena → List ℕ → Option NodeId → Type 0
+IsNextOf g done None = Unit {0}
+IsNextOf g done (Some n) = IsMetValue g (NodeRef n) × Absent done n.0
 
 abbrev pub IsRunOf : RootedArena → Unwritten → Type 0
 IsRunOf g (One v) = IsMetValue g v

@@ -18,7 +18,7 @@ ghost use Rattle.amf_graph.specs.Bounds.{count_end};
 
 use crate::output::Output;
 use crate::pairs::are_by_name;
-use crate::unwritten::Unwritten;
+use crate::unwritten::{Unwritten, push_values};
 use amf_graph::{NodeId, NodeView, Rooted, TextId, TraitsId, Value};
 use amf_iso::ids_by_name;
 use amf_wire::Memory;
@@ -95,8 +95,7 @@ impl Output {
         if names.is_empty() {
             self.byte(0x0A)?;
             self.count(items.len() as u32)?;
-            waiting.push(Unwritten::Values(items))?;
-            Ok(())
+            push_values(items, waiting)
         } else {
             self.byte(0x08)?;
             self.count(names.len() as u32)?;

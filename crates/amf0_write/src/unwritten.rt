@@ -1,16 +1,21 @@
 ghost use Rattle.std.specs.Prelude.{◌≡◌, ◌+◌, ◌<◌, ◌≤◌, List, [], ◌∷◌, ◌++◌, length, reverse, IfOk, OnOk};
 ghost use Rattle.std.specs.List.{AllByRecursion};
+ghost use Rattle.std.specs.Result.{IsErrOf};
 ghost use Rattle.amf_graph.specs.Arena.{Arena, text_at};
 ghost use Rattle.amf_graph.specs.Graph as graph_of_values;
 ghost use Rattle.amf_graph.specs.Rooted.{RootedArena, content};
 ghost use Rattle.amf_iso.specs.Contents.{values_of, pairs_of};
 ghost use Rattle.amf0_tables.specs.Lacks0.{IsShortName};
+ghost use Rattle.amf0_tables.specs.Lowered.{IsLowered};
+ghost use Rattle.amf0_write.specs.declared.stop.Stop.TheVariants.{Lack};
 ghost use Rattle.amf0_write.specs.Unwritten0.{IsMetValue, IsMetPair, IsRunOf, AreRunsOf, IsNextOf, run_segments, next_segments, segments_left, run_turns, turns_left};
 ghost use Rattle.amf0_write.specs.Writes0 as segment;
-ghost use Rattle.amf0_write.specs.Writes0.{values_then, pairs_then, tables_of, Leads, Keeps};
+ghost use Rattle.amf0_write.specs.Writes0.{values_then, pairs_then, tables_of, done_of, Still, Leads, Keeps, Stops};
+ghost use Rattle.amf0_write.specs.Written0.{AreTables0};
 
 use crate::output::Output;
-use amf_graph::{Rooted, TextId, Value};
+use crate::stop::Stop;
+use amf_graph::{NodeId, Rooted, TextId, Value};
 use amf_wire::Memory;
 
 /// A run of what is still to be written, within one node.
@@ -27,93 +32,134 @@ pub(crate) enum Unwritten<'g> {
 }
 
 impl Output {
-    /// Writes a run up to its next value, and puts what is behind that back onto the stack. There is no value where the run
-    /// is at its end.
-    pub(crate) fn next_value<'g>(
+    /// Writes a run up to its next node that has not been written, and puts what is behind that back onto the stack. There is
+    /// no such node where the run is written to its end. It stops at a node that was written and that no index can say.
+    pub(crate) fn run<'g>(
         &mut self,
         run: Unwritten<'g>,
         graph: &'g Rooted,
         waiting: &mut Vec<Unwritten<'g>>,
-    ) -> Result<Option<Value>, Memory>
-        requires { IsRunOf graph.now run }
-        ensures leads { IfOk result (λ next. Leads (content graph.now) (run_segments graph.now.arena run.entry ++ segments_left graph.now.arena waiting.old.items) (next_segments graph.now.arena next ++ segments_left graph.now.arena waiting.new.items) self.old self.new) }
-        ensures next { IfOk result (IsNextOf graph.now) }
+    ) -> Result<Option<NodeId>, Stop>
+        requires low { IsLowered (content graph.now) }
+        requires run { IsRunOf graph.now run }
+        requires tables { AreTables0 (content graph.now) (tables_of self.old) }
+        ensures leads { IfOk result (λ next. Leads (content graph.now) (run_segments graph.now.arena run.entry ++ segments_left graph.now.arena waiting.old.items) (next_segments next ++ segments_left graph.now.arena waiting.new.items) self.old self.new) }
+        ensures lack { IsErrOf result Lack → Stops (content graph.now) (run_segments graph.now.arena run.entry ++ segments_left graph.now.arena waiting.old.items) self.old }
+        ensures next { IfOk result (IsNextOf graph.now (done_of self.new)) }
         ensures runs { AreRunsOf graph.now waiting.old.items → OnOk result (AreRunsOf graph.now waiting.new.items) }
         ensures turns { OnOk result (turns_left waiting.new.items + 1 ≤ run_turns run.entry + turns_left waiting.old.items) }
-        ensures tables { OnOk result (tables_of self.new ≡ tables_of self.old) }
+        ensures still { OnOk result (Still self.old self.new) }
+        ensures stopped { IsErrOf result Lack → Still self.old self.new }
         ensures keeps { Keeps self.old self.new }
     {
         match run {
-            Unwritten::One(value) => Ok(Some(value)),
-            Unwritten::Values(values) => next_item(values, waiting),
-            Unwritten::Pairs(pairs) => self.next_pair(pairs, graph, waiting),
-            Unwritten::Sorted(pairs) => self.next_sorted(pairs, graph, waiting),
+            Unwritten::One(value) => self.whole(value, graph),
+            Unwritten::Values(values) => self.values(values, graph, waiting),
+            Unwritten::Pairs(pairs) => self.pairs(pairs, graph, waiting),
+            Unwritten::Sorted(pairs) => self.sorted(pairs, graph, waiting),
         }
     }
 
-    /// Of pairs as they stand the next name, whose value follows, or the end of the pairs.
-    fn next_pair<'g>(
+    /// Values.
+    fn values<'g>(
+        &mut self,
+        values: &'g [Value],
+        graph: &'g Rooted,
+        waiting: &mut Vec<Unwritten<'g>>,
+    ) -> Result<Option<NodeId>, Stop>
+        requires low { IsLowered (content graph.now) }
+        requires run { AllByRecursion (IsMetValue graph.now) values.now }
+        requires tables { AreTables0 (content graph.now) (tables_of self.old) }
+        ensures leads { IfOk result (λ next. Leads (content graph.now) (values_then (values_of graph.now.arena values.now) ++ segments_left graph.now.arena waiting.old.items) (next_segments next ++ segments_left graph.now.arena waiting.new.items) self.old self.new) }
+        ensures lack { IsErrOf result Lack → Stops (content graph.now) (values_then (values_of graph.now.arena values.now) ++ segments_left graph.now.arena waiting.old.items) self.old }
+        ensures next { IfOk result (IsNextOf graph.now (done_of self.new)) }
+        ensures runs { AreRunsOf graph.now waiting.old.items → OnOk result (AreRunsOf graph.now waiting.new.items) }
+        ensures turns { OnOk result (turns_left waiting.new.items ≤ length values.now + turns_left waiting.old.items) }
+        ensures still { OnOk result (Still self.old self.new) }
+        ensures stopped { IsErrOf result Lack → Still self.old self.new }
+        ensures keeps { Keeps self.old self.new }
+    {
+        let mut left = values;
+        while let Some((value, rest)) = left.split_first() {
+            left = rest;
+            if let Some(node) = self.whole(*value, graph)? {
+                push_values(left, waiting)?;
+                return Ok(Some(node));
+            }
+        }
+        Ok(None)
+    }
+
+    /// Pairs as they stand: each name, and then its value, and the end behind them.
+    fn pairs<'g>(
         &mut self,
         pairs: &'g [(TextId, Value)],
         graph: &'g Rooted,
         waiting: &mut Vec<Unwritten<'g>>,
-    ) -> Result<Option<Value>, Memory>
-        requires { AllByRecursion (IsMetPair graph.now) pairs.now }
-        ensures leads { IfOk result (λ next. Leads (content graph.now) (pairs_then (pairs_of graph.now.arena pairs.now) ++ segments_left graph.now.arena waiting.old.items) (next_segments graph.now.arena next ++ segments_left graph.now.arena waiting.new.items) self.old self.new) }
-        ensures next { IfOk result (IsNextOf graph.now) }
+    ) -> Result<Option<NodeId>, Stop>
+        requires low { IsLowered (content graph.now) }
+        requires run { AllByRecursion (IsMetPair graph.now) pairs.now }
+        requires tables { AreTables0 (content graph.now) (tables_of self.old) }
+        ensures leads { IfOk result (λ next. Leads (content graph.now) (pairs_then (pairs_of graph.now.arena pairs.now) ++ segments_left graph.now.arena waiting.old.items) (next_segments next ++ segments_left graph.now.arena waiting.new.items) self.old self.new) }
+        ensures lack { IsErrOf result Lack → Stops (content graph.now) (pairs_then (pairs_of graph.now.arena pairs.now) ++ segments_left graph.now.arena waiting.old.items) self.old }
+        ensures next { IfOk result (IsNextOf graph.now (done_of self.new)) }
         ensures runs { AreRunsOf graph.now waiting.old.items → OnOk result (AreRunsOf graph.now waiting.new.items) }
         ensures turns { OnOk result (turns_left waiting.new.items ≤ length pairs.now + turns_left waiting.old.items) }
-        ensures tables { OnOk result (tables_of self.new ≡ tables_of self.old) }
+        ensures still { OnOk result (Still self.old self.new) }
+        ensures stopped { IsErrOf result Lack → Still self.old self.new }
         ensures keeps { Keeps self.old self.new }
     {
-        match pairs.split_first() {
-            Some((pair, rest)) => {
-                let (name, value) = *pair;
-                self.name(name, graph)?;
-                waiting.push(Unwritten::Pairs(rest))?;
-                Ok(Some(value))
-            }
-            None => {
-                self.end()?;
-                Ok(None)
+        let mut left = pairs;
+        while let Some((pair, rest)) = left.split_first() {
+            left = rest;
+            let (name, value) = *pair;
+            self.name(name, graph)?;
+            if let Some(node) = self.whole(value, graph)? {
+                waiting.push(Unwritten::Pairs(left))?;
+                return Ok(Some(node));
             }
         }
+        self.end()?;
+        Ok(None)
     }
 
-    /// Of pairs from the last to the first the next name, whose value follows, or the end of the pairs.
-    fn next_sorted<'g>(
+    /// Pairs from the last to the first, and the end behind them.
+    fn sorted<'g>(
         &mut self,
         mut pairs: Vec<(TextId, Value)>,
         graph: &'g Rooted,
         waiting: &mut Vec<Unwritten<'g>>,
-    ) -> Result<Option<Value>, Memory>
-        requires { AllByRecursion (IsMetPair graph.now) pairs.items }
-        ensures leads { IfOk result (λ next. Leads (content graph.now) (pairs_then (pairs_of graph.now.arena (reverse pairs.items)) ++ segments_left graph.now.arena waiting.old.items) (next_segments graph.now.arena next ++ segments_left graph.now.arena waiting.new.items) self.old self.new) }
-        ensures next { IfOk result (IsNextOf graph.now) }
+    ) -> Result<Option<NodeId>, Stop>
+        requires low { IsLowered (content graph.now) }
+        requires run { AllByRecursion (IsMetPair graph.now) pairs.items }
+        requires tables { AreTables0 (content graph.now) (tables_of self.old) }
+        ensures leads { IfOk result (λ next. Leads (content graph.now) (pairs_then (pairs_of graph.now.arena (reverse pairs.items)) ++ segments_left graph.now.arena waiting.old.items) (next_segments next ++ segments_left graph.now.arena waiting.new.items) self.old self.new) }
+        ensures lack { IsErrOf result Lack → Stops (content graph.now) (pairs_then (pairs_of graph.now.arena (reverse pairs.items)) ++ segments_left graph.now.arena waiting.old.items) self.old }
+        ensures next { IfOk result (IsNextOf graph.now (done_of self.new)) }
         ensures runs { AreRunsOf graph.now waiting.old.items → OnOk result (AreRunsOf graph.now waiting.new.items) }
         ensures turns { OnOk result (turns_left waiting.new.items ≤ length pairs.items + turns_left waiting.old.items) }
-        ensures tables { OnOk result (tables_of self.new ≡ tables_of self.old) }
+        ensures still { OnOk result (Still self.old self.new) }
+        ensures stopped { IsErrOf result Lack → Still self.old self.new }
         ensures keeps { Keeps self.old self.new }
     {
-        match pairs.pop() {
-            Some((name, value)) => {
-                self.name(name, graph)?;
+        while let Some((name, value)) = pairs.pop() {
+            self.name(name, graph)?;
+            if let Some(node) = self.whole(value, graph)? {
                 waiting.push(Unwritten::Sorted(pairs))?;
-                Ok(Some(value))
-            }
-            None => {
-                self.end()?;
-                Ok(None)
+                return Ok(Some(node));
             }
         }
+        self.end()?;
+        Ok(None)
     }
 
     /// A name.
+    #[inline]
     fn name(&mut self, name: TextId, graph: &Rooted) -> Result<(), Memory>
         requires there { name.0 < length graph.now.arena.texts }
         requires fits { IsShortName (text_at graph.now.arena name.0) }
         ensures leads { OnOk result ((ps : List segment.Segment) → Leads (content graph.now) (segment.name (text_at graph.now.arena name.0) ∷ ps) ps self.old self.new) }
-        ensures tables { OnOk result (tables_of self.new ≡ tables_of self.old) }
+        ensures still { OnOk result (Still self.old self.new) }
         ensures keeps { Keeps self.old self.new }
     {
         graph.is_finished();
@@ -123,7 +169,7 @@ impl Output {
     /// The end of pairs: the empty name and the marker of the end (2.5, 2.10).
     fn end(&mut self) -> Result<(), Memory>
         ensures leads { OnOk result ((g : graph_of_values.Graph) (ps : List segment.Segment) → Leads g (segment.name [] ∷ segment.ending ∷ ps) ps self.old self.new) }
-        ensures tables { OnOk result (tables_of self.new ≡ tables_of self.old) }
+        ensures still { OnOk result (Still self.old self.new) }
         ensures keeps { Keeps self.old self.new }
     {
         self.short(b"")?;
@@ -131,21 +177,19 @@ impl Output {
     }
 }
 
-/// The first value, with those behind it put back onto the stack.
-fn next_item<'g>(
+/// Puts values onto the stack, if there are some.
+#[inline]
+pub(crate) fn push_values<'g>(
     values: &'g [Value],
     waiting: &mut Vec<Unwritten<'g>>,
-) -> Result<Option<Value>, Memory>
-    ensures left { (a : Arena) → IfOk result (λ next. next_segments a next ++ segments_left a waiting.new.items ≡ values_then (values_of a values.now) ++ segments_left a waiting.old.items) }
-    ensures next { (g : RootedArena) → AllByRecursion (IsMetValue g) values.now → IfOk result (IsNextOf g) }
+) -> Result<(), Memory>
+    ensures left { (a : Arena) → OnOk result (segments_left a waiting.new.items ≡ values_then (values_of a values.now) ++ segments_left a waiting.old.items) }
     ensures runs { (g : RootedArena) → AllByRecursion (IsMetValue g) values.now → AreRunsOf g waiting.old.items → OnOk result (AreRunsOf g waiting.new.items) }
-    ensures turns { OnOk result (turns_left waiting.new.items ≤ length values.now + turns_left waiting.old.items) }
+    ensures turns { OnOk result (turns_left waiting.new.items ≤ turns_left waiting.old.items + (length values.now + 1)) }
 {
-    match values.split_first() {
-        Some((value, rest)) => {
-            waiting.push(Unwritten::Values(rest))?;
-            Ok(Some(*value))
-        }
-        None => Ok(None),
+    if values.is_empty() {
+        return Ok(());
     }
+    waiting.push(Unwritten::Values(values))?;
+    Ok(())
 }

@@ -1,4 +1,4 @@
-ghost use Rattle.std.specs.Prelude.{◌≡◌, ◌≢◌, ◌<◌, ◌≤◌, ◌^◌, ◌∷◌, [], length, OnOk};
+ghost use Rattle.std.specs.Prelude.{◌≡◌, ◌≢◌, ◌<◌, ◌≤◌, ◌^◌, ◌∷◌, ◌++◌, List, [], length, IfOk, OnOk};
 ghost use Rattle.std.specs.Int.{to_be_bytes, w16};
 ghost use Rattle.std.specs.Result.{IsErrOf};
 ghost use Rattle.amf_graph.specs.declared.value.NodeId.{NodeId};
@@ -6,11 +6,11 @@ ghost use Rattle.amf_graph.specs.declared.value.Value.TheVariants.{Node as NodeR
 ghost use Rattle.amf_graph.specs.Arena.{value_content};
 ghost use Rattle.amf_graph.specs.Graph as graph_of_values;
 ghost use Rattle.amf_graph.specs.Order.{Absent};
-ghost use Rattle.amf_graph.specs.Rooted.{content};
+ghost use Rattle.amf_graph.specs.Rooted.{RootedArena, content};
 ghost use Rattle.amf_wire.specs.Text.{IsText};
 ghost use Rattle.amf0_tables.specs.Lowered.{IsLowered};
 ghost use Rattle.amf0_write.specs.declared.stop.Stop.TheVariants.{Lack};
-ghost use Rattle.amf0_write.specs.Unwritten0.{IsMetValue, AreRunsOf, segments_left, turns_left, Falls};
+ghost use Rattle.amf0_write.specs.Unwritten0.{IsMetValue, AreRunsOf, IsNextOf, next_segments, segments_left, turns_left, Falls};
 ghost use Rattle.amf0_write.specs.Writes0 as segment;
 ghost use Rattle.amf0_write.specs.Writes0.{tables_of, done_of, IsLeafSpelled, Adds, AddsBy, Still, Grown, Leads, Keeps, Stops};
 ghost use Rattle.amf0_write.specs.Written0.{AreTables0};
@@ -41,42 +41,39 @@ impl Output {
     {
         let mut waiting = vec![in self.alloc; Unwritten::One(value)]?;
         while let Some(top) = waiting.pop() {
-            let next = self.next_value(top, graph, &mut waiting)?;
-            if let Some(value) = next {
-                self.begin(value, graph, &mut waiting)?;
+            let next = self.run(top, graph, &mut waiting)?;
+            if let Some(node) = next {
+                self.new_node(node, graph, &mut waiting)?;
             }
         }
         Ok(())
     }
 
-    /// A value that is no node, or the start of a node, whose values go onto the stack.
-    fn begin<'g>(
-        &mut self,
-        value: Value,
-        graph: &'g Rooted,
-        waiting: &mut Vec<Unwritten<'g>>,
-    ) -> Result<(), Stop>
+    /// Writes a value that is whole where it starts: one that is no node, or a node by its index. A node that has not been
+    /// written is given back. It stops at one that was, and that no index can say.
+    #[inline(always)]
+    pub(crate) fn whole(&mut self, value: Value, graph: &Rooted) -> Result<Option<NodeId>, Stop>
         requires low { IsLowered (content graph.now) }
         requires met { IsMetValue graph.now value }
         requires tables { AreTables0 (content graph.now) (tables_of self.old) }
-        requires runs { AreRunsOf graph.now waiting.old.items }
-        ensures leads { OnOk result (Leads (content graph.now) (segment.value (value_content graph.now.arena value) ∷ segments_left graph.now.arena waiting.old.items) (segments_left graph.now.arena waiting.new.items) self.old self.new) }
-        ensures lack { IsErrOf result Lack → Stops (content graph.now) (segment.value (value_content graph.now.arena value) ∷ segments_left graph.now.arena waiting.old.items) self.old }
-        ensures still { IsErrOf result Lack → Still self.old self.new }
-        ensures runs { OnOk result (AreRunsOf graph.now waiting.new.items) }
-        ensures falls { OnOk result (Falls (length graph.now.arena.nodes) (done_of self.old) (done_of self.new) (turns_left waiting.old.items) (turns_left waiting.new.items)) }
+        ensures leads { IfOk result (λ next. (ps : List segment.Segment) → Leads (content graph.now) (segment.value (value_content graph.now.arena value) ∷ ps) (next_segments next ++ ps) self.old self.new) }
+        ensures lack { IsErrOf result Lack → (ps : List segment.Segment) → Stops (content graph.now) (segment.value (value_content graph.now.arena value) ∷ ps) self.old }
+        ensures next { IfOk result (IsNextOf graph.now (done_of self.new)) }
+        ensures still { OnOk result (Still self.old self.new) }
+        ensures stopped { IsErrOf result Lack → Still self.old self.new }
         ensures keeps { Keeps self.old self.new }
     {
         match value {
-            Value::Node(node) => self.node(node, graph, waiting),
+            Value::Node(node) => self.known_node(node),
             _ => {
                 self.plain(value, graph)?;
-                Ok(())
+                Ok(None)
             }
         }
     }
 
     /// A value that is no node.
+    #[inline(always)]
     fn plain(&mut self, value: Value, graph: &Rooted) -> Result<(), Memory>
         requires low { IsLowered (content graph.now) }
         requires met { IsMetValue graph.now value }
@@ -117,32 +114,26 @@ impl Output {
         }
     }
 
-    /// A node: by its index, or up to its first value where it has not been written (2.9). It stops where no index can say
-    /// the place.
-    fn node<'g>(
-        &mut self,
-        node: NodeId,
-        graph: &'g Rooted,
-        waiting: &mut Vec<Unwritten<'g>>,
-    ) -> Result<(), Stop>
-        requires low { IsLowered (content graph.now) }
-        requires met { IsMetValue graph.now (NodeRef node) }
-        requires tables { AreTables0 (content graph.now) (tables_of self.old) }
-        requires runs { AreRunsOf graph.now waiting.old.items }
-        ensures leads { OnOk result (Leads (content graph.now) (segment.value (graph_of_values.node node.0) ∷ segments_left graph.now.arena waiting.old.items) (segments_left graph.now.arena waiting.new.items) self.old self.new) }
-        ensures lack { IsErrOf result Lack → Stops (content graph.now) (segment.value (graph_of_values.node node.0) ∷ segments_left graph.now.arena waiting.old.items) self.old }
-        ensures still { IsErrOf result Lack → Still self.old self.new }
-        ensures runs { OnOk result (AreRunsOf graph.now waiting.new.items) }
-        ensures falls { OnOk result (Falls (length graph.now.arena.nodes) (done_of self.old) (done_of self.new) (turns_left waiting.old.items) (turns_left waiting.new.items)) }
+    /// Writes a node by its index (2.9). One that has not been written is given back. It stops where no index can say the place.
+    #[inline(always)]
+    fn known_node(&mut self, node: NodeId) -> Result<Option<NodeId>, Stop>
+        ensures leads { (g : graph_of_values.Graph) → AreTables0 g (tables_of self.old) → IfOk result (λ next. (ps : List segment.Segment) → Leads g (segment.value (graph_of_values.node node.0) ∷ ps) (next_segments next ++ ps) self.old self.new) }
+        ensures lack { (g : graph_of_values.Graph) → AreTables0 g (tables_of self.old) → IsErrOf result Lack → (ps : List segment.Segment) → Stops g (segment.value (graph_of_values.node node.0) ∷ ps) self.old }
+        ensures next { (g : RootedArena) → IsMetValue g (NodeRef node) → IfOk result (IsNextOf g (done_of self.new)) }
+        ensures still { OnOk result (Still self.old self.new) }
+        ensures stopped { IsErrOf result Lack → Still self.old self.new }
         ensures keeps { Keeps self.old self.new }
     {
         match self.tables.place_of_node(node) {
-            Some(place) => self.index(place),
+            Some(place) => {
+                self.index(place)?;
+                Ok(None)
+            }
             None => {
                 if self.tables.is_done(node) {
                     return Err(Stop::Lack);
                 }
-                self.new_node(node, graph, waiting)
+                Ok(Some(node))
             }
         }
     }

@@ -11,5 +11,5 @@ returns-clause-leads c =
     on_ok c.byte.result (λ h g ps.
     leads_then g (name [] ∷ ending ∷ ps) (ending ∷ ps) ps o m c.byte.new.self (leads_name g [] _ (ending ∷ ps) o m ([], tt, refl) (omega arith) refl c.in_ok-short.ensures.adds) (leads_end g ps m c.byte.new.self h)) c.byte.ensures.adds
 
-pub returns-clause-tables : goal.returns-clause-tables
-returns-clause-tables c = on_ok c.byte.result (λ h. h.tables ∙ c.in_ok-short.ensures.adds.tables) c.byte.ensures.adds
+pub returns-clause-still : goal.returns-clause-still
+returns-clause-still c = on_ok c.byte.result (λ h. (h.tables ∙ c.in_ok-short.ensures.adds.tables, h.loose ∙ c.in_ok-short.ensures.adds.loose)) c.byte.ensures.adds

@@ -19,5 +19,5 @@ returns-clause-leads c =
     leads_name (content c.args.graph.now) x (to_be_bytes w16 (length x) ++ x) ps c.args.self.now c.short.new.self (text_in a c.args.name.0 c.is_finished.ensures.finished c.requires.there) c.requires.fits refl
     (subst (λ (y : List ℕ). Adds (to_be_bytes w16 (length y) ++ y) c.args.self.now c.short.new.self) c.text.ensures h)) c.short.ensures.adds
 
-pub returns-clause-tables : goal.returns-clause-tables
-returns-clause-tables c = on_ok c.short.result (λ h. h.tables) c.short.ensures.adds
+pub returns-clause-still : goal.returns-clause-still
+returns-clause-still c = on_ok c.short.result (λ h. (h.tables, h.loose)) c.short.ensures.adds
