@@ -1,6 +1,7 @@
 mod States0
 pub mod TextReads0
 mod Stack0
+mod Fills0
 mod GoesOn0
 mod Opened0
 mod Starts0

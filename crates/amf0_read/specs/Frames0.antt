@@ -1,13 +1,15 @@
 -- What a stack of open nodes is: what is still to be read, as a layout, and what holds of the arena. A device by which verdicts are proved.
-use Rattle.std.specs.Prelude.{◌≡◌, ℕ, suc, ◌<◌, ◌≤◌, true, List, [], ◌∷◌, length, ◌⊎◌, Result, Ok, Err, if◌then◌else◌, Some}
+use Rattle.std.specs.Prelude.{◌≡◌, ℕ, suc, ◌<◌, ◌≤◌, true, List, [], ◌∷◌, ◌++◌, length, ◌⊎◌, Result, Ok, Err, if◌then◌else◌, Some}
 use Rattle.amf_io.specs.declared.window.Window.{Window}
 use Rattle.amf_io.specs.declared.cursor.Cursor.{Cursor}
 use Rattle.amf_io.specs.declared.ends.ReadEnd.{ReadEnd}
 use Rattle.amf_io.specs.Layout.{Layout, give, stuck, bind}
+use Rattle.amf_io.specs.Cursor.{place}
 use Rattle.amf_io.specs.ReadEnds.{Goes}
 use Rattle.amf_io.specs.CursorReads.{Answers, Ends, Leads}
 use Rattle.amf_graph.specs.declared.value.Value.{Value}
 use Rattle.amf_graph.specs.declared.value.Value.TheVariants as value
+use Rattle.amf_graph.specs.declared.value.NodeId.{NodeId}
 use Rattle.amf_graph.specs.declared.part.Part.{Part}
 use Rattle.amf_graph.specs.declared.part.Part.TheVariants as part
 use Rattle.amf_graph.specs.Graph as graph
@@ -33,6 +35,8 @@ use Rattle.amf0_read.specs.declared.node.Start.{Start}
 use Rattle.amf0_read.specs.declared.node.Start.TheVariants as start
 use Rattle.amf0_read.specs.declared.fill.Step.{Step}
 use Rattle.amf0_read.specs.declared.fill.Step.TheVariants as step
+use Rattle.amf0_read.specs.declared.fill.Filled.{Filled}
+use Rattle.amf0_read.specs.declared.fill.Filled.TheVariants as filled
 use Rattle.amf0_read.specs.Ready0.{Ready0, StillReady0}
 
 -- The part that a value is, and what is still to be read behind it.
@@ -110,6 +114,10 @@ Nested left (f ∷ fs) b = Waits (Nested (suc left) fs) left b f
 pub record IsOpen (Below : Arena → Type 0) (left : ℕ) (b : Arena) (i : ℕ) (p : Todo) : Type 0 where
   pub over : IsOver Below left b i
   pub lacks : Lacks (head_content b (stored_at b i).head) (stored_at b i) p
+
+-- with nothing said of what is below
+abbrev pub IsOpenAlone : ℕ → Arena → ℕ → Todo → Type 0
+IsOpenAlone left b i p = IsOpen (Nested (suc left) []) left b i p
 
 -- a value's marker, which was read, is the byte to spare
 abbrev pub Holds : ℕ → Now → List Frame → Arena → Type 0
@@ -196,3 +204,29 @@ pub record StackSo {S : Type 0} (tells : S → Type 0) (left : S → List ℕ) (
   pub still_ready : StillReady0 (owed now) (owed old) a b u c d
   pub holds : Holds (left_of d) now fs b
   pub at : (fuel : Fuel) (fuels : List Fuel) → Enough (left_of c) fuel → HaveFuel (left_of c) fuels es → IsAt tells left (bind (current fuel old (state0_of a t)) (rest fuels es)) now fs (state0_of b u) c d
+
+-- The loop over the values of one node.
+
+-- whatever was to be read first, and whatever is open below: where it led to this open node, it leads on to what was read last, with these frames above those below
+pub record Carries {S : Type 0} (tells : S → Type 0) (left : S → List ℕ) (faults : S → ℕ) (i : NodeId) (p : Todo) (b b1 : Arena) (u u1 : KeptTables0) (d e : Cursor S Window) (last : Now) (above : List Frame) : Type 0 where
+  pub on : (old : Now) (es fs : List Frame) (a : Arena) (t : KeptTables0) (c : Cursor S Window) → StackSo tells left faults old es a b t u c d (now.Open i p) fs → StackSo tells left faults old es a b1 t u1 c e last (above ++ fs)
+
+-- or to an end
+pub record CarriesEnd {S : Type 0} (tells : S → Type 0) (left : S → List ℕ) (faults : S → ℕ) (i : NodeId) (p : Todo) (b : Arena) (u : KeptTables0) (d e : Cursor S Window) (end : ReadEnd) : Type 0 where
+  pub on : (old : Now) (es fs : List Frame) (a : Arena) (t : KeptTables0) (c : Cursor S Window) → StackSo tells left faults old es a b t u c d (now.Open i p) fs → (fuel : Fuel) (fuels : List Fuel) → Enough (left_of c) fuel → HaveFuel (left_of c) fuels es → Ends tells left (bind (current fuel old (state0_of a t)) (rest fuels es)) c e end
+
+abbrev pub Fills : {S : Type 0} → (S → Type 0) → (S → List ℕ) → (S → ℕ) → NodeId → Todo → Arena → Arena → KeptTables0 → KeptTables0 → Cursor S Window → Cursor S Window → Result Filled ReadEnd → Type 0
+Fills tells left faults i p b b1 u u1 d e (Ok filled.Closed) = Carries tells left faults i p b b1 u u1 d e (now.Given (value.Node i)) []
+Fills tells left faults i p b b1 u u1 d e (Ok (filled.Within x j q)) = Carries tells left faults i p b b1 u u1 d e (now.Open j q) (record { node = i; slot = x } ∷ [])
+Fills tells left faults i p b b1 u u1 d e (Err end) = CarriesEnd tells left faults i p b u d e end
+
+-- where a node begins within it, a marker was read
+abbrev pub FilledMoves : ℕ → ℕ → Filled → Type 0
+FilledMoves old new filled.Closed = old ≤ new
+FilledMoves old new (filled.Within x j q) = old < new
+
+-- the loop's invariant: by itself, and over whatever is below
+pub record FilledSo {S : Type 0} (tells : S → Type 0) (left : S → List ℕ) (faults : S → ℕ) (i : NodeId) (p : Todo) (b b1 : Arena) (u u1 : KeptTables0) (d e : Cursor S Window) (q : Todo) : Type 0 where
+  pub here : StackSo tells left faults (now.Open i p) [] b b1 u u1 d e (now.Open i q) []
+  pub carries : Carries tells left faults i p b b1 u u1 d e (now.Open i q) []
+  pub stays : place d ≤ place e

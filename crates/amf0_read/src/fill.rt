@@ -10,15 +10,26 @@ ghost use Rattle.amf3_read.specs.Filling.{IsOpened};
 ghost use Rattle.amf3_read.specs.Answer.{left_of};
 ghost use Rattle.amf3_read.specs.Frames.{Fuel, Enough};
 ghost use Rattle.amf0_read.specs.Ready0.{Ready0, StillReady0};
-ghost use Rattle.amf0_read.specs.Frames0.{todo as still, Lacks, GoesOn, StepHolds, StepMoves, owed_at};
+ghost use Rattle.amf0_read.specs.Frames0.{todo as still, Lacks, GoesOn, StepHolds, StepMoves, owed_at, IsOpenAlone, Fills, FilledMoves};
 
 use crate::frame::{Slot, Todo};
 use crate::marker::{read_marker, read_marker_or_end};
+use crate::node::{Start, start_value};
 use crate::text::read_short_text;
 use amf_graph::{Builder, NodeId};
 use amf_io::{Cursor, ReadEnd, Source};
 use amf0_tables::{Marker0, Tables0};
+use amf3_read::kept;
 use std::alloc::Global;
+
+/// How far an open node was filled.
+#[derive(Clone, Copy, Debug, PartialEq, Eq)]
+pub enum Filled {
+    /// It has all of its parts, and is closed.
+    Closed,
+    /// In this slot of it a node begins, which is open, and of which so much is still to be read.
+    Within(Slot, NodeId, Todo),
+}
 
 /// How an open node went on.
 #[derive(Clone, Copy, Debug, PartialEq, Eq)]
@@ -29,8 +40,39 @@ pub enum Step {
     Closed,
 }
 
+/// Reads the values of an open node, each into it, up to its end, where it is closed, or to a node that begins within it.
+pub fn fill<S: Source>(
+    alloc: Global,
+    cursor: &mut Cursor<'_, S>,
+    builder: &mut Builder,
+    tables: &mut Tables0,
+    node: NodeId,
+    mut todo: Todo,
+) -> Result<Filled, ReadEnd>
+    requires ready { Ready0 0 builder.old (shown_tables tables.old) cursor.old }
+    requires opened { IsOpenAlone (left_of cursor.old) builder.old node.0 todo }
+    ensures goes { Goes S.tells S.left S.faults cursor.old cursor.new result }
+    ensures fills { Fills S.tells S.left S.faults node todo builder.old builder.new (shown_tables tables.old) (shown_tables tables.new) cursor.old cursor.new result }
+    ensures moves { IfOk result (FilledMoves (place cursor.old) (place cursor.new)) }
+{
+    loop {
+        match go_on(alloc, cursor, builder, tables, node, todo)? {
+            Step::Closed => return Ok(Filled::Closed),
+            Step::Wait(slot, marker) => {
+                match start_value(alloc, cursor, builder, tables, marker)? {
+                    Start::Value(value) => {
+                        kept(builder.put(node, slot.part_of(value)))?;
+                        todo = slot.todo_behind();
+                    }
+                    Start::Open(child, more) => return Ok(Filled::Within(slot, child, more)),
+                }
+            }
+        }
+    }
+}
+
 /// Reads on in an open node, up to the marker of its next value, or its end, where it is closed.
-pub fn go_on<S: Source>(
+fn go_on<S: Source>(
     alloc: Global,
     cursor: &mut Cursor<'_, S>,
     builder: &mut Builder,

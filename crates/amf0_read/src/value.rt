@@ -15,7 +15,7 @@ ghost use Rattle.amf0_read.specs.Fronts0.{form_of};
 ghost use Rattle.amf0_read.specs.Ready0.{Ready0, StillReady0};
 ghost use Rattle.amf0_read.specs.Frames0.{current, rest, HaveFuel, Holds, owed};
 
-use crate::fill::{Step, go_on};
+use crate::fill::{Filled, fill};
 use crate::formed::Read0;
 use crate::frame::{Frame, Now};
 use crate::front::{Front, read_front};
@@ -118,12 +118,12 @@ fn read_on<S: Source>(
                 kept(builder.put(frame.node, frame.slot.part_of(value)))?;
                 now = Now::Open(frame.node, frame.slot.todo_behind());
             }
-            Now::Open(node, todo) => match go_on(alloc, cursor, builder, tables, node, todo)? {
-                Step::Wait(slot, marker) => {
+            Now::Open(node, todo) => match fill(alloc, cursor, builder, tables, node, todo)? {
+                Filled::Within(slot, child, more) => {
                     frames.push(Frame { node, slot })?;
-                    now = Now::Begun(marker);
+                    now = Now::Open(child, more);
                 }
-                Step::Closed => now = Now::Given(Value::Node(node)),
+                Filled::Closed => now = Now::Given(Value::Node(node)),
             },
         }
     }

@@ -7,7 +7,8 @@ use Rattle.amf0_read.specs.declared.frame.Frame.{Frame}
 use Rattle.amf0_read.specs.declared.frame.Now.{Now}
 use Rattle.amf0_read.specs.declared.frame.Now.TheVariants as now
 use Rattle.amf0_read.specs.Frames0.{StackSo}
-use Rattle.amf0_read.proofs.Stack0.{so_begin, so_end, so_start, go_end, go_wait, go_closed, so_done, so_put, popped, popped_none, pushed}
+use Rattle.amf0_read.proofs.Stack0.{so_begin, so_end, so_start, so_done, so_put, popped, popped_none, pushed}
+use Rattle.amf0_read.proofs.Fills0.{alone}
 use Rattle.amf0_read.proofs.value.read_on.Goals as goal
 
 pub loop-now-init : goal.loop-now-init
@@ -39,22 +40,29 @@ returns-in_default-clause-answers g c = λ fuel fuels lt f.
     let so = subst (λ (w : Now). StackSo S.tells S.left S.faults old es a b t u c.args.cursor.now d w (reverse c.loop-now.frames.items)) c.in-Given.is c.loop-now.invariant in
     so_done S.tells S.left S.faults old es a t c.args.cursor.now b u d v (subst (λ fs. StackSo S.tells S.left S.faults old es a b t u c.args.cursor.now d (now.Given v) fs) (popped_none c.loop-now.frames.items c.pop.new.self.items c.pop.result _ c.in_default.is c.pop.ensures.variant c.pop.ensures.items c.pop.ensures.rest) so) fuel fuels lt f
 
+pub fill-requires-clause-opened : goal.fill-requires-clause-opened
+fill-requires-clause-opened g c =
+    let S = g.S.Source in
+    let old = c.args.now in let es = reverse c.args.frames.items in let a = c.args.builder.now in let t = shown_tables c.args.tables.now in let b = c.loop-now.builder in let u = shown_tables c.loop-now.tables in let d = c.loop-now.cursor in let fs = reverse c.loop-now.frames.items in
+    let so = subst (λ (w : Now). StackSo S.tells S.left S.faults old es a b t u c.args.cursor.now d w fs) c.in-Open.is c.loop-now.invariant in
+    alone S.tells S.left S.faults old es a b t u c.args.cursor.now d c.in-Open.node c.in-Open.todo fs so
+
 pub returns-in_err-slot-in-Open-clause-answers : goal.returns-in_err-slot-in-Open-clause-answers
 returns-in_err-slot-in-Open-clause-answers g c = λ fuel fuels lt f.
     let S = g.S.Source in
     let old = c.args.now in let es = reverse c.args.frames.items in let a = c.args.builder.now in let t = shown_tables c.args.tables.now in let b = c.loop-now.builder in let u = shown_tables c.loop-now.tables in let d = c.loop-now.cursor in let fs = reverse c.loop-now.frames.items in
     let so = subst (λ (w : Now). StackSo S.tells S.left S.faults old es a b t u c.args.cursor.now d w fs) c.in-Open.is c.loop-now.invariant in
-    passed_on S.tells S.left S.faults _ _ c.args.cursor.now c.go_on.new.cursor c.from_residual-in_err-slot-in-Open.result c.in_err-slot-in-Open.field-0.0 c.from_residual-in_err-slot-in-Open.ensures.1
-    (go_end S.tells S.left S.faults old es a t c.args.cursor.now b u d fs c.in-Open.node c.in-Open.todo so c.go_on.new.builder c.go_on.new.cursor c.in_err-slot-in-Open.field-0.0 c.in_err-slot-in-Open.ensures.answers fuel fuels lt f)
+    passed_on S.tells S.left S.faults _ _ c.args.cursor.now c.fill.new.cursor c.from_residual-in_err-slot-in-Open.result c.in_err-slot-in-Open.field-0.0 c.from_residual-in_err-slot-in-Open.ensures.1
+    (c.in_err-slot-in-Open.ensures.fills.on old es fs a t c.args.cursor.now so fuel fuels lt f)
 
-pub loop-now-preserved-in-Wait : goal.loop-now-preserved-in-Wait
-loop-now-preserved-in-Wait g c =
+pub loop-now-preserved-in-Within : goal.loop-now-preserved-in-Within
+loop-now-preserved-in-Within g c =
     let S = g.S.Source in
     let old = c.args.now in let es = reverse c.args.frames.items in let a = c.args.builder.now in let t = shown_tables c.args.tables.now in let b = c.loop-now.builder in let u = shown_tables c.loop-now.tables in let d = c.loop-now.cursor in let fs = reverse c.loop-now.frames.items in
     let so = subst (λ (w : Now). StackSo S.tells S.left S.faults old es a b t u c.args.cursor.now d w fs) c.in-Open.is c.loop-now.invariant in
-    let h = rw c.in-Wait.is at c.in_ok-slot-in-Open.ensures in
-    subst (StackSo S.tells S.left S.faults old es a c.go_on.new.builder t u c.args.cursor.now c.go_on.new.cursor (now.Begun c.in-Wait.marker)) (sym (pushed c.push.new.self.items c.loop-now.frames.items c.push.result c.in_ok-push-in-Wait.field-0 (record { node = c.in-Open.node; slot = c.in-Wait.slot }) c.in_ok-push-in-Wait.was c.push.ensures.items))
-    (go_wait S.tells S.left S.faults old es a t c.args.cursor.now b u d fs c.in-Open.node c.in-Open.todo so c.go_on.new.builder c.go_on.new.cursor c.in-Wait.slot c.in-Wait.marker h.still_ready (let x = h.goes.same_bound in let y = h.moves in let z = h.still_ready.placed.within in omega arith) h.goes h.answers h.holds)
+    let h = rw c.in-Within.is at c.in_ok-slot-in-Open.ensures in
+    subst (StackSo S.tells S.left S.faults old es a c.fill.new.builder t (shown_tables c.fill.new.tables) c.args.cursor.now c.fill.new.cursor (now.Open c.in-Within.child c.in-Within.more)) (sym (pushed c.push.new.self.items c.loop-now.frames.items c.push.result c.in_ok-push-in-Within.field-0 (record { node = c.in-Open.node; slot = c.in-Within.slot }) c.in_ok-push-in-Within.was c.push.ensures.items))
+    (h.fills.on old es fs a t c.args.cursor.now so)
 
 pub loop-now-preserved : goal.loop-now-preserved
 loop-now-preserved g c =
@@ -62,7 +70,7 @@ loop-now-preserved g c =
     let old = c.args.now in let es = reverse c.args.frames.items in let a = c.args.builder.now in let t = shown_tables c.args.tables.now in let b = c.loop-now.builder in let u = shown_tables c.loop-now.tables in let d = c.loop-now.cursor in let fs = reverse c.loop-now.frames.items in
     let so = subst (λ (w : Now). StackSo S.tells S.left S.faults old es a b t u c.args.cursor.now d w fs) c.in-Open.is c.loop-now.invariant in
     let h = rw c.in-Closed.is at c.in_ok-slot-in-Open.ensures in
-    go_closed S.tells S.left S.faults old es a t c.args.cursor.now b u d fs c.in-Open.node c.in-Open.todo so c.go_on.new.builder c.go_on.new.cursor h.still_ready (let x = h.goes.same_bound in let y = h.moves in omega arith) h.goes h.answers h.holds
+    h.fills.on old es fs a t c.args.cursor.now so
 
 pub loop-now-preserved-in-Given : goal.loop-now-preserved-in-Given
 loop-now-preserved-in-Given g c =

@@ -1,0 +1,11 @@
+use Rattle.amf0_tables.specs.TableParts0.{shown_tables}
+use Rattle.amf3_read.specs.Answer.{left_of}
+use Rattle.amf0_read.specs.Frames0.{FilledSo}
+use Rattle.amf0_read.proofs.fill.fill.Given as goal
+
+abbrev pub invariant-loop-slot : goal.invariant-loop-slot
+invariant-loop-slot g l =
+    FilledSo g.S.Source.tells g.S.Source.left g.S.Source.faults l.node l.fn.todo l.fn.builder l.builder (shown_tables l.fn.tables) (shown_tables l.tables) l.fn.cursor l.cursor l.todo
+
+abbrev pub decreases-loop-slot : goal.decreases-loop-slot
+decreases-loop-slot g l = left_of l.cursor
