@@ -27,6 +27,7 @@ fn judged(byte: u8, tables: &Tables0) -> Result<Marker0, Reason>
 }
 
 /// Reads the marker of a value.
+#[inline(always)]
 pub fn read_marker<S: Source>(
     cursor: &mut Cursor<'_, S>,
     tables: &Tables0,

@@ -17,6 +17,7 @@ use amf3_read::{FieldSize, kept, read_field, read_loose_text};
 use std::alloc::Global;
 
 /// Reads a text behind its length of 16 bits, as names are too (AMF 0, 1.3.1). Its ends are those of [`read0`].
+#[inline(always)]
 pub fn read_short_text<S: Source>(
     alloc: Global,
     cursor: &mut Cursor<'_, S>,
