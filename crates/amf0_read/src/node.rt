@@ -44,6 +44,7 @@ impl Start {
 }
 
 /// Reads the start of a value behind its marker: all of it, or a node up to its first value.
+#[inline(always)]
 pub fn start_value<S: Source>(
     alloc: Global,
     cursor: &mut Cursor<'_, S>,
