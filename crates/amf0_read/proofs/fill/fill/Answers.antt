@@ -3,7 +3,7 @@ use Rattle.amf_graph.specs.Building.{changed as changed_arena, more_part, stored
 use Rattle.amf0_tables.specs.TableParts0.{shown_tables}
 use Rattle.amf3_read.specs.Answer.{left_of}
 use Rattle.amf3_read.proofs.Stack.{done}
-use Rattle.amf0_read.specs.Frames0.{part_of, FilledSo, CarriesEnd}
+use Rattle.amf0_read.specs.Frames0.{FilledSo, CarriesEnd}
 use Rattle.amf0_read.proofs.Fills0.{fills_begin, fills_passed, fills_memory, fills_end, fills_closed, fills_wait, fills_start_end, fills_within, fills_given, fills_room, fills_there, fills_put}
 use Rattle.amf0_read.proofs.fill.fill.Goals as goal
 
