@@ -1,6 +1,7 @@
 -- A stack of open nodes: what each step of its loop keeps.
-use Rattle.std.proofs.Common.{◌≡◌, ℕ, suc, ◌+◌, ◌≤◌, ◌<◌, true, false, inl, inr, List, [], ◌∷◌, length, Option, Some, None, refl, sym, ap, ◌∙◌, arith, subst, Result, Ok, Err, OnOk}
-use Rattle.std.proofs.lemmas.List.{append-nil}
+use Rattle.std.proofs.Common.{◌≡◌, ℕ, zero, suc, ◌+◌, ◌≤◌, ◌<◌, true, false, inl, inr, List, [], ◌∷◌, ◌++◌, length, Option, Some, None, refl, sym, ap, ◌∙◌, arith, subst, Result, Ok, Err, OnOk, if◌then◌else◌, is_ok, option_to_list, IsSome, ◌↔◌, reverse, take, ◌-◌}
+use Rattle.std.specs.Result.{IsErrAnd}
+use Rattle.std.proofs.lemmas.List.{append-nil, reverse-append}
 use Rattle.std.proofs.Common.{length-append}
 use Rattle.amf_io.specs.declared.window.Window.{Window}
 use Rattle.amf_io.specs.declared.cursor.Cursor.{Cursor}
@@ -18,7 +19,7 @@ use Rattle.amf_graph.specs.declared.value.Value.TheVariants as value
 use Rattle.amf_graph.specs.declared.part.Part.{Part}
 use Rattle.amf_graph.specs.declared.part.Part.TheVariants as part
 use Rattle.amf_graph.specs.Graph as graph
-use Rattle.amf_graph.specs.Arena.{Arena, StoredNode, IsBuilt, head_content}
+use Rattle.amf_graph.specs.Arena.{Arena, StoredNode, IsBuilt, Names, head_content}
 use Rattle.amf_graph.specs.Building.{kept_node, stored_at, changed as changed_arena, more_part, PartNames, Takes, HasRoom, size_of}
 use Rattle.amf3_spelling.specs.KeptTables.{KeptTables}
 use Rattle.amf3_spelling.specs.Reads3.{Grows}
@@ -31,14 +32,17 @@ use Rattle.amf3_read.specs.declared.opening.Parts.TheVariants.{Array, Object, It
 use Rattle.amf3_read.specs.declared.frame.Slot.{Slot}
 use Rattle.amf3_read.specs.declared.frame.Slot.TheVariants as slot
 use Rattle.amf3_read.specs.declared.frame.Frame.{Frame}
-use Rattle.amf3_read.specs.declared.frame.Now.TheVariants as now
+use Rattle.amf3_read.specs.Now.{Now}
+use Rattle.amf3_read.specs.declared.frame.Unfinished.{Unfinished}
+use Rattle.amf3_read.specs.Now as now
 use Rattle.amf3_read.specs.declared.node.Start.TheVariants as start
 use Rattle.amf3_read.specs.declared.fill.Step.TheVariants as step
 use Rattle.amf3_read.specs.Slots.{IsPart}
 use Rattle.amf3_read.specs.Filling.{with_more, IsOpened}
 use Rattle.amf3_read.specs.Answer.{left_of}
 use Rattle.amf3_read.specs.Ready.{Ready, Continues}
-use Rattle.amf3_read.specs.Frames.{todo, resume, Fuel, rest, Enough, HaveFuel, LacksItems, Suits, WaitsFor, SlotNames, spare, Nested, IsAt, StillReady, Starts, StartHolds, GoesOn, StepHolds, StackSo}
+use Rattle.amf3_read.specs.Frames.{todo, resume, Fuel, rest, Enough, HaveFuel, LacksItems, Suits, WaitsFor, SlotNames, spare, Waits, Nested, IsAt, StillReady, Starts, StartHolds, GoesOn, StepHolds, StackSo}
+use Rattle.amf3_read.specs.Follows.{Follows, IsWaiting, entry_of}
 use Rattle.amf3_read.proofs.LayoutBinds.{bind_give, bind_bind}
 use Rattle.amf3_read.proofs.PartPut.{part_names, part_values, more_size, there, stays, still_open, same_head, put_node, put_built, put_tables, put_opened, put_head, put_nodes}
 
@@ -190,9 +194,71 @@ pub done : {T E : Type 0} (P : Type 0) (r : Result T E) (x : T) → r ≡ Ok x �
 done P (Ok y) x e h = h
 done P (Err y) x e h = absurd cc
 
+-- The stack as a vector keeps the innermost frame last.
+
+pub popped : (xs ys : List Frame) (o : Option Frame) (f : Frame) → o ≡ Some f → xs ≡ ys ++ option_to_list o → reverse xs ≡ f ∷ reverse ys
+popped xs ys o f e h = ap reverse (h ∙ ap (λ z. ys ++ option_to_list z) e) ∙ reverse-append ys (f ∷ [])
+
+pub popped_none : (xs ys : List Frame) (o : Option Frame) (n : ℕ) → o ≡ None → (IsSome o ↔ (0 < n)) → xs ≡ ys ++ option_to_list o → ys ≡ take (n - 1) xs → reverse xs ≡ []
+popped_none xs ys o zero e h p q = ap reverse (p ∙ ap (λ z. ys ++ option_to_list z) e ∙ append-nil ys ∙ q)
+popped_none xs ys o (suc n) e h p q = let s = subst IsSome e (h.1 (omega arith)) in absurd cc
+
+pub pushed : {T E : Type 0} (xs ys : List Frame) (r : Result T E) (x : T) (f : Frame) → r ≡ Ok x → xs ≡ (if is_ok r then ys ++ f ∷ [] else ys) → reverse xs ≡ f ∷ reverse ys
+pushed xs ys (Ok y) x f e h = ap reverse h ∙ reverse-append ys (f ∷ [])
+pushed xs ys (Err y) x f e h = absurd cc
+
+-- A frame waits, whatever stands below it.
+
+pub waits_any : (B : Arena → Type 0) (left : ℕ) (b : Arena) (f : Frame) → Waits B left b f → IsWaiting left b f
+waits_any B left b f h = record { over = record { opened = h.over.opened; below = tt; built = h.over.built }; names = h.names; suits = h.suits }
+
+-- and still waits where what is closed and new stands behind it
+pub waits_grown : (left more : ℕ) (b b1 : Arena) (f : Frame) → left ≤ more → IsBuilt b → Grows b b1 → IsWaiting more b f → IsWaiting left b1 f
+waits_grown left more b b1 f le k g h =
+    let i = f.node.0 in
+    let l = more + spare f.slot in
+    let o = h.over.opened in
+    record {
+      over = record { opened = opened_less b1 i (left + spare f.slot) l (omega arith) (opened_grown b b1 i l g o); below = tt; built = h.over.built };
+      names = slot_names b b1 g f.slot h.names;
+      suits = subst (λ x. WaitsFor x (stored_at b1 i) f.slot f.todo) (sym (same_head i l b b1 o g k)) (subst (λ m. WaitsFor (head_content b (stored_at b i).head) m f.slot f.todo) (sym (stays i l b b1 o g)) h.suits);
+    }
+
+-- a key that was given waits for its value
+pub key_waits : (left : ℕ) (b : Arena) (f : Frame) (v : Stored) → f.slot ≡ slot.Key → Names b v → IsWaiting (suc left) b f → IsWaiting left b (entry_of f.node v f.todo)
+key_waits left b f v is names h = record {
+  over = record { opened = opened_less b f.node.0 (left + 1) (suc left + spare f.slot) (omega arith) h.over.opened; below = tt; built = h.over.built };
+  names = names;
+  suits = entry_waits (head_content b (stored_at b f.node.0).head) (stored_at b f.node.0) v f.todo (subst (λ x. WaitsFor (head_content b (stored_at b f.node.0).head) (stored_at b f.node.0) x f.todo) is h.suits);
+}
+  where
+    entry_waits : (h : graph.Head) (m : StoredNode) (v : Stored) (q : Parts) → WaitsFor h m slot.Key q → WaitsFor h m (slot.Entry v) q
+    entry_waits h m v (Entries n) w = w
+    entry_waits h m v (Array n) w = absurd w
+    entry_waits h m v (Object n x) w = absurd w
+    entry_waits h m v (Items n) w = absurd w
+
+-- the part that its value is can be put into its node
+module _ (left : ℕ) (b : Arena) (f : Frame) (h : IsWaiting left b f) where
+  pub part_there : f.node.0 < length b.nodes
+  part_there = there f.node.0 (left + spare f.slot) b b h.over.opened (grows_itself b)
+
+  module _ (v : Stored) (p : Part) (is : IsPart f.slot v (Some p)) where
+    pub part_room : HasRoom b (stored_at b f.node.0) p
+    part_room = takes (head_content b (stored_at b f.node.0).head) (stored_at b f.node.0) f.slot f.todo v p is h.suits
+
+    pub part_named : Names b v → PartNames b p
+    part_named n = by f.slot h.names is
+      where
+        by : (x : Slot) → SlotNames b x → IsPart x v (Some p) → PartNames b p
+        by slot.Item s e = subst (PartNames b) (sym (some_part p _ e)) n
+        by (slot.Named y) s e = subst (PartNames b) (sym (some_part p _ e)) (s, n)
+        by slot.Key s e = absurd cc
+        by (slot.Entry k) s e = subst (PartNames b) (sym (some_part p _ e)) (s, n)
+
 -- The steps of the loop.
 
-ready_on : {S : Type 0} (b b1 : Arena) (u u1 : KeptTables) (d e : Cursor S Window) → Ready 0 b u d → StillReady 0 b b1 u1 d e → Ready 0 b1 u1 e
+pub ready_on : {S : Type 0} (b b1 : Arena) (u u1 : KeptTables) (d e : Cursor S Window) → Ready 0 b u d → StillReady 0 b b1 u1 d e → Ready 0 b1 u1 e
 ready_on b b1 u u1 d e r k = record {
   built = k.built;
   tables = k.tables;
@@ -220,7 +286,7 @@ module _ {S : Type 0} (tells : S → Type 0) (left : S → List ℕ) (faults : S
   pub leads_bound : {X Y : Type 0} (t u : Layout X) (f : X → Layout Y) (c d : Cursor S Window) → Leads tells left t u c d → Leads tells left (bind t f) (bind u f) c d
   leads_bound t u f c d l = record { fields = l.fields; path = path_bind t u f l.fields l.path; bytes = l.bytes; taken = l.taken; within = l.within; parts = l.parts }
 
-  pub so_begin : (a : Arena) (t : KeptTables) (c : Cursor S Window) → Ready 0 a t c → StackSo tells left faults a a t t c c now.Wanted []
+  pub so_begin : (a : Arena) (t : KeptTables) (c : Cursor S Window) → Ready 0 a t c → StackSo tells left faults a a t t c c now.wanted []
   so_begin a t c r = record {
     goes = goes_nowhere tells left faults c tt r.placed;
     ready = r;
@@ -238,7 +304,7 @@ module _ {S : Type 0} (tells : S → Type 0) (left : S → List ℕ) (faults : S
 
   module _ (a b : Arena) (t u : KeptTables) (c d : Cursor S Window) (fs : List Frame) where
     -- a value is wanted
-    module _ (so : StackSo tells left faults a b t u c d now.Wanted fs) (b1 : Arena) (u1 : KeptTables) (e : Cursor S Window) where
+    module _ (so : StackSo tells left faults a b t u c d now.wanted fs) (b1 : Arena) (u1 : KeptTables) (e : Cursor S Window) where
       pub so_end : (end : ReadEnd) → ((n : ℕ) → left_of d < n → Starts tells left n (state_of b u) (state_of b1 u1) d e (Err end)) → (n : ℕ) → left_of c < n → Ends tells left (value_layout n (state_of a t)) c e end
       so_end end h n lt =
           let y = so.at n lt in
@@ -246,7 +312,7 @@ module _ {S : Type 0} (tells : S → Type 0) (left : S → List ℕ) (faults : S
           (end_reads tells left faults (value_layout y.fuel.values (state_of b u)) (rest y.fuels fs) d e end (h y.fuel.values y.enough.0).starts)
 
       pub so_value : (v : Stored) → Goes tells left faults d e (Ok (start.Value v)) → ((n : ℕ) → left_of d < n → Starts tells left n (state_of b u) (state_of b1 u1) d e (Ok (start.Value v))) → StillReady 0 b b1 u1 d e → StartHolds b b1 (left_of e) (start.Value v) → place d < place e
-          → StackSo tells left faults a b1 t u1 c e (now.Given v) fs
+          → StackSo tells left faults a b1 t u1 c e (now.given v) fs
       so_value v g h k (names, grows) lt1 =
           let less : suc (left_of e) ≤ left_of d = let p = k.placed.within in let q = g.same_bound in omega arith in
           record {
@@ -268,7 +334,7 @@ module _ {S : Type 0} (tells : S → Type 0) (left : S → List ℕ) (faults : S
           }
 
       pub so_open : (i : NodeId) (p : Parts) → Goes tells left faults d e (Ok (start.Open i p)) → ((n : ℕ) → left_of d < n → Starts tells left n (state_of b u) (state_of b1 u1) d e (Ok (start.Open i p))) → StillReady 0 b b1 u1 d e → StartHolds b b1 (left_of e) (start.Open i p) → place d < place e
-          → StackSo tells left faults a b1 t u1 c e (now.Open i p) fs
+          → StackSo tells left faults a b1 t u1 c e (now.unfinished i p) fs
       so_open i p g h k o lt1 =
           let less : suc (left_of e) ≤ left_of d = let p = k.placed.within in let q = g.same_bound in omega arith in
           record {
@@ -298,7 +364,7 @@ module _ {S : Type 0} (tells : S → Type 0) (left : S → List ℕ) (faults : S
           }
 
     -- a node is open
-    module _ (i : NodeId) (p : Parts) (so : StackSo tells left faults a b t u c d (now.Open i p) fs) (b1 : Arena) (u1 : KeptTables) (e : Cursor S Window) where
+    module _ (i : NodeId) (p : Parts) (so : StackSo tells left faults a b t u c d (now.unfinished i p) fs) (b1 : Arena) (u1 : KeptTables) (e : Cursor S Window) where
       pub go_end : (end : ReadEnd) → ((v : State3 → Layout ValueRead) (m : ℕ) → left_of d < m → GoesOn tells left v m i.0 p (state_of b u) (state_of b1 u1) d e (Err end)) → (n : ℕ) → left_of c < n → Ends tells left (value_layout n (state_of a t)) c e end
       go_end end h n lt =
           let y = so.at n lt in
@@ -308,7 +374,7 @@ module _ {S : Type 0} (tells : S → Type 0) (left : S → List ℕ) (faults : S
 
       module _ (k : StillReady 0 b b1 u1 d e) (stays : place d ≤ place e) (same : left_of e ≤ left_of d) where
         pub go_wait : (x : Slot) (q : Parts) → Goes tells left faults d e (Ok (step.Wait x q)) → ((v : State3 → Layout ValueRead) (m : ℕ) → left_of d < m → GoesOn tells left v m i.0 p (state_of b u) (state_of b1 u1) d e (Ok (step.Wait x q))) → StepHolds b b1 i.0 (step.Wait x q)
-            → StackSo tells left faults a b1 t u1 c e now.Wanted (record { node = i; slot = x; todo = q } ∷ fs)
+            → StackSo tells left faults a b1 t u1 c e now.wanted (record { node = i; slot = x; todo = q } ∷ fs)
         go_wait x q g h (none, grows, names, suits) =
             record {
               goes = goes_then tells left faults c d e tt (Ok tt) so.goes (goes_other tells left faults d e (step.Wait x q) tt g);
@@ -343,7 +409,7 @@ module _ {S : Type 0} (tells : S → Type 0) (left : S → List ℕ) (faults : S
             }
 
         pub go_open : (q : Parts) → Goes tells left faults d e (Ok (step.Open q)) → ((v : State3 → Layout ValueRead) (m : ℕ) → left_of d < m → GoesOn tells left v m i.0 p (state_of b u) (state_of b1 u1) d e (Ok (step.Open q))) → StepHolds b b1 i.0 (step.Open q)
-            → StackSo tells left faults a b1 t u1 c e (now.Open i q) fs
+            → StackSo tells left faults a b1 t u1 c e (now.unfinished i q) fs
         go_open q g h (grows, suits) =
             record {
               goes = goes_then tells left faults c d e tt (Ok tt) so.goes (goes_other tells left faults d e (step.Open q) tt g);
@@ -374,7 +440,7 @@ module _ {S : Type 0} (tells : S → Type 0) (left : S → List ℕ) (faults : S
             }
 
         pub go_closed : Goes tells left faults d e (Ok step.Closed) → ((v : State3 → Layout ValueRead) (m : ℕ) → left_of d < m → GoesOn tells left v m i.0 p (state_of b u) (state_of b1 u1) d e (Ok step.Closed)) → StepHolds b b1 i.0 step.Closed
-            → StackSo tells left faults a b1 t u1 c e (now.Given (value.Node i)) fs
+            → StackSo tells left faults a b1 t u1 c e (now.given (value.Node i)) fs
         go_closed g h (there, closes) =
             let o = so.holds.over in
             record {
@@ -399,15 +465,15 @@ module _ {S : Type 0} (tells : S → Type 0) (left : S → List ℕ) (faults : S
 
   -- A value was read.
 
-  pub so_done : (a b : Arena) (t u : KeptTables) (c d : Cursor S Window) (v : Stored) → StackSo tells left faults a b t u c d (now.Given v) [] → (n : ℕ) → left_of c < n → Answers tells left (λ x. read x (state_of b u)) (value_layout n (state_of a t)) c d (Ok v)
+  pub so_done : (a b : Arena) (t u : KeptTables) (c d : Cursor S Window) (v : Stored) → StackSo tells left faults a b t u c d (now.given v) [] → (n : ℕ) → left_of c < n → Answers tells left (λ x. read x (state_of b u)) (value_layout n (state_of a t)) c d (Ok v)
   so_done a b t u c d v so n lt = leads_answers tells left faults (λ x. read x (state_of b u)) (value_layout n (state_of a t)) (read v (state_of b u)) c d v refl (so.at n lt).leads
 
-  pub so_continues : (a b : Arena) (t u : KeptTables) (c d : Cursor S Window) (v : Stored) → StackSo tells left faults a b t u c d (now.Given v) [] → Continues 0 a b u c d
+  pub so_continues : (a b : Arena) (t u : KeptTables) (c d : Cursor S Window) (v : Stored) → StackSo tells left faults a b t u c d (now.given v) [] → Continues 0 a b u c d
   so_continues a b t u c d v so = let k = so.still_ready in record { built = k.built; tables = k.tables; placed = k.placed; grows = so.holds.0; texts = k.texts; traits = k.traits; nodes = k.nodes }
 
   module _ (a b : Arena) (t u : KeptTables) (c d : Cursor S Window) (fs : List Frame) (v : Stored) where
     -- it is a key, and its value is wanted
-    pub so_key : (i : NodeId) (q : Parts) → StackSo tells left faults a b t u c d (now.Given v) (record { node = i; slot = slot.Key; todo = q } ∷ fs) → StackSo tells left faults a b t u c d now.Wanted (record { node = i; slot = slot.Entry v; todo = q } ∷ fs)
+    pub so_key : (i : NodeId) (q : Parts) → StackSo tells left faults a b t u c d (now.given v) (record { node = i; slot = slot.Key; todo = q } ∷ fs) → StackSo tells left faults a b t u c d now.wanted (record { node = i; slot = slot.Entry v; todo = q } ∷ fs)
     so_key i q so = record {
       goes = so.goes;
       ready = so.ready;
@@ -432,7 +498,7 @@ module _ {S : Type 0} (tells : S → Type 0) (left : S → List ℕ) (faults : S
         waits (Items n) h = absurd h
 
         by : (n : ℕ) (us : List Fuel) → HaveFuel (left_of d) us (record { node = i; slot = slot.Key; todo = q } ∷ fs) → Leads tells left (value_layout n (state_of a t)) (rest us (record { node = i; slot = slot.Key; todo = q } ∷ fs) (read v (state_of b u))) c d
-            → IsAt tells left n (state_of a t) now.Wanted (record { node = i; slot = slot.Entry v; todo = q } ∷ fs) (state_of b u) c d
+            → IsAt tells left n (state_of a t) now.wanted (record { node = i; slot = slot.Entry v; todo = q } ∷ fs) (state_of b u) c d
         by n [] h l = absurd h
         by n (f ∷ us) h l = record {
           fuel = f;
@@ -443,7 +509,7 @@ module _ {S : Type 0} (tells : S → Type 0) (left : S → List ℕ) (faults : S
         }
 
     -- it is a part of the innermost node
-    module _ (f : Frame) (so : StackSo tells left faults a b t u c d (now.Given v) (f ∷ fs)) (p : Part) (is : IsPart f.slot v (Some p)) where
+    module _ (f : Frame) (so : StackSo tells left faults a b t u c d (now.given v) (f ∷ fs)) (p : Part) (is : IsPart f.slot v (Some p)) where
       abbrev o : IsOpened b f.node.0 (suc (left_of d) + spare f.slot)
       o = so.holds.0.over.opened
 
@@ -462,7 +528,7 @@ module _ {S : Type 0} (tells : S → Type 0) (left : S → List ℕ) (faults : S
       pub put_room : HasRoom b (stored_at b f.node.0) p
       put_room = takes (head_content b (stored_at b f.node.0).head) (stored_at b f.node.0) f.slot f.todo v p is so.holds.0.suits
 
-      pub so_put : (b2 : Arena) → b2 ≡ changed_arena (more_part p) f.node.0 b → StackSo tells left faults a b2 t u c d (now.Open f.node f.todo) fs
+      pub so_put : (b2 : Arena) → b2 ≡ changed_arena (more_part p) f.node.0 b → StackSo tells left faults a b2 t u c d (now.unfinished f.node f.todo) fs
       so_put b2 e =
           let i = f.node.0 in
           let l = suc (left_of d) + spare f.slot in
@@ -492,7 +558,7 @@ module _ {S : Type 0} (tells : S → Type 0) (left : S → List ℕ) (faults : S
           state_is : (x : Slot) → IsPart x v (Some p) → (w : State3 → Layout ValueRead) (m : ℕ) → resume w m f.node.0 x f.todo (read v (state_of b u)) ≡ todo w m f.node.0 f.todo (state_of b2 u)
           state_is x h w m = resumed b u v p b2 f.node.0 f.todo e x h w m
 
-          by : (n : ℕ) (us : List Fuel) → HaveFuel (left_of d) us (f ∷ fs) → Leads tells left (value_layout n (state_of a t)) (rest us (f ∷ fs) (read v (state_of b u))) c d → IsAt tells left n (state_of a t) (now.Open f.node f.todo) fs (state_of b2 u) c d
+          by : (n : ℕ) (us : List Fuel) → HaveFuel (left_of d) us (f ∷ fs) → Leads tells left (value_layout n (state_of a t)) (rest us (f ∷ fs) (read v (state_of b u))) c d → IsAt tells left n (state_of a t) (now.unfinished f.node f.todo) fs (state_of b2 u) c d
           by n [] h l = absurd h
           by n (z ∷ us) h l = record {
             fuel = z;
@@ -501,3 +567,13 @@ module _ {S : Type 0} (tells : S → Type 0) (left : S → List ℕ) (faults : S
             fueled = h.1;
             leads = subst (λ w. Leads tells left (value_layout n (state_of a t)) (bind w (rest us fs)) c d) (state_is f.slot is (value_layout z.values) z.pairs) l;
           }
+
+  -- An end is passed on.
+  pub follows_end : (b b1 : Arena) (u u1 : KeptTables) (d e : Cursor S Window) (w : Now) (fs gs : List Frame) (r : Result Unfinished ReadEnd) (end : ReadEnd) → IsErrAnd r (λ x. x ≡ end)
+      → ((a : Arena) (t : KeptTables) (c : Cursor S Window) → StackSo tells left faults a b t u c d w fs → (n : ℕ) → left_of c < n → Ends tells left (value_layout n (state_of a t)) c e end) → Follows tells left faults b b1 u u1 d e w fs gs r
+  follows_end b b1 u u1 d e w fs gs (Ok x) end i h = absurd i
+  follows_end b b1 u u1 d e w fs gs (Err x) end i h = record { goes_on = λ a t c so. tt; ends = λ a t c so n lt. subst (Ends tells left (value_layout n (state_of a t)) c e) (sym i) (h a t c so n lt) }
+
+  pub goes_passed : {X Z : Type 0} (c d e : Cursor S Window) (r : Result Z ReadEnd) (end : ReadEnd) → IsErrAnd r (λ x. x ≡ end) → Goes {X = Unit {0}} tells left faults c d (Ok tt) → Goes {X = X} tells left faults d e (Err end) → Goes {X = Z} tells left faults c e r
+  goes_passed c d e (Ok x) end i g h = absurd i
+  goes_passed {X} {Z} c d e (Err x) end i g h = goes_then tells left faults c d e tt (Err x) g (subst (λ y. Goes {X = Z} tells left faults d e (Err y)) (sym i) (record { told = h.told; same_source = h.same_source; same_bound = h.same_bound; one_past = h.one_past; cause = h.cause; none_ahead = h.none_ahead; total = h.total }))

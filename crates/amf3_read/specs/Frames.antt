@@ -21,8 +21,8 @@ use Rattle.amf3_read.specs.declared.opening.Parts.TheVariants.{Array, Object, It
 use Rattle.amf3_read.specs.declared.frame.Slot.{Slot}
 use Rattle.amf3_read.specs.declared.frame.Slot.TheVariants as slot
 use Rattle.amf3_read.specs.declared.frame.Frame.{Frame}
-use Rattle.amf3_read.specs.declared.frame.Now.{Now}
-use Rattle.amf3_read.specs.declared.frame.Now.TheVariants as now
+use Rattle.amf3_read.specs.Now.{Now}
+use Rattle.amf3_read.specs.Now as now
 use Rattle.amf3_read.specs.declared.node.Start.{Start}
 use Rattle.amf3_read.specs.declared.node.Start.TheVariants as start
 use Rattle.amf3_read.specs.declared.fill.Next.{Next}
@@ -65,9 +65,9 @@ rest (u ∷ us) (f ∷ fs) x = bind (resume (value_layout u.values) u.pairs f.no
 
 -- what is read now
 abbrev pub current : Fuel → Now → State3 → Layout ValueRead
-current u now.Wanted s = value_layout u.values s
-current u (now.Given v) s = give (read v s)
-current u (now.Open node p) s = todo (value_layout u.values) u.pairs node.0 p s
+current u now.wanted s = value_layout u.values s
+current u (now.given v) s = give (read v s)
+current u (now.unfinished node p) s = todo (value_layout u.values) u.pairs node.0 p s
 
 -- the fuel is more than the bytes that may come
 abbrev pub Enough : ℕ → Fuel → Type 0
@@ -132,17 +132,11 @@ pub record IsOpen (Below : Arena → Type 0) (left : ℕ) (b : Arena) (i : ℕ) 
   pub suits : Suits (head_content b (stored_at b i).head) (stored_at b i) p
 
 abbrev pub Holds : Arena → ℕ → Now → List Frame → Arena → Type 0
-Holds a left now.Wanted fs b = Nested a left fs b
-Holds a left (now.Given v) fs b = Nested a (suc left) fs b × Names b v
-Holds a left (now.Open node p) fs b = IsOpen (Nested a (suc left) fs) left b node.0 p
+Holds a left now.wanted fs b = Nested a left fs b
+Holds a left (now.given v) fs b = Nested a (suc left) fs b × Names b v
+Holds a left (now.unfinished node p) fs b = IsOpen (Nested a (suc left) fs) left b node.0 p
 
 -- The loop.
-
--- the measure: a byte for each value that begins, and what is done without one
-abbrev pub weight_of : Now → ℕ
-weight_of now.Wanted = 0
-weight_of (now.Given v) = 2
-weight_of (now.Open node p) = 3
 
 -- what is read leads from the value that is wanted to what is still to be read
 pub record IsAt {S : Type 0} (tells : S → Type 0) (left : S → List ℕ) (n : ℕ) (s : State3) (now : Now) (fs : List Frame) (z : State3) (c d : Cursor S Window) : Type 0 where
@@ -228,7 +222,7 @@ IsBehindPairs (Entries n) p = p ≡ Entries n
 
 -- where a value has begun, its first byte came
 abbrev pub Moved : Now → ℕ → ℕ → Type 0
-Moved now.Wanted old new = old ≤ new
+Moved now.wanted old new = old ≤ new
 Moved _ old new = old < new
 
 -- the loop's invariant, the innermost frame first

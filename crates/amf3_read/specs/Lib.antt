@@ -10,7 +10,9 @@ pub mod Begins
 pub mod FieldSize
 pub mod Filling
 pub mod Slots
+pub mod Now
 pub mod Frames
+pub mod Follows
 pub mod Headers
 pub mod Opened
 pub mod OpeningItems

@@ -38,6 +38,7 @@ pub enum Start {
 }
 
 /// Reads the start of the node of this kind behind its marker: one of the table, or one inline.
+#[inline(always)]
 pub fn start_node<S: Source>(
     alloc: Global,
     cursor: &mut Cursor<'_, S>,
@@ -62,6 +63,7 @@ pub fn start_node<S: Source>(
 }
 
 /// Reads the start of a node that is given inline, behind its header.
+#[inline(always)]
 fn start_inline<S: Source>(
     alloc: Global,
     cursor: &mut Cursor<'_, S>,
@@ -86,6 +88,7 @@ fn start_inline<S: Source>(
 }
 
 /// Reads what stands between a node's header and its values, and enters the node.
+#[inline(always)]
 fn begin_node<S: Source>(
     alloc: Global,
     cursor: &mut Cursor<'_, S>,

@@ -1,4 +1,4 @@
-ghost use Rattle.std.specs.Prelude.{ℕ, ◌<◌, ◌≤◌, ◌^◌, ◌-◌, OnOk, IfOk};
+ghost use Rattle.std.specs.Prelude.{ℕ, suc, ◌<◌, ◌≤◌, ◌^◌, ◌+◌, ◌-◌, ◌*◌, ◌∷◌, length, reverse, OnOk, IfOk};
 ghost use Rattle.amf_wire.specs.Integer.{IsInteger, integer_of};
 ghost use Rattle.amf_wire.specs.U29.{u29_value};
 ghost use Rattle.amf_io.specs.Field.{u29_kind, no_refusal};
@@ -14,15 +14,18 @@ ghost use Rattle.amf_io.specs.Stretch.{between};
 ghost use Rattle.amf3_read.specs.Answer.{HasRoomFor, Answers3, Raises, left_of};
 ghost use Rattle.amf3_read.specs.Steps.{marker_layout};
 ghost use Rattle.amf3_read.specs.Frames.{Starts, StartHolds, StillReady};
+ghost use Rattle.amf3_read.specs.Follows.{Follows, IsWaiting, entry_of};
+ghost use Rattle.amf3_read.specs.Now as now;
+ghost use Rattle.amf_graph.specs.Arena.{Names};
 
 use crate::ends::{kept, refused};
 use crate::field::{FieldSize, read_field, read_number};
 use crate::fill::{Step, go_on};
-use crate::frame::{Frame, Now, Slot, part_of};
-use crate::frames::Frames;
+use crate::frame::{Frame, Slot, Unfinished, part_of};
 use crate::node::{Start, start_node};
+use crate::opening::Parts;
 use crate::text::read_text;
-use amf_graph::{Builder, Value};
+use amf_graph::{Builder, NodeId, Part, Value};
 use amf_io::{Cursor, ReadEnd, Reason, Source};
 use amf_tables::Tables3;
 use amf_wire::{Pattern, sign29};
@@ -70,50 +73,137 @@ pub fn read_value<S: Source>(
     ensures continues { OnOk result (Continues 0 builder.old builder.new tables.new cursor.old cursor.new) }
     ensures moves { OnOk result (place cursor.old < place cursor.new) }
 {
-    let mut frames = Frames::new(alloc);
-    let mut now = Now::Wanted;
+    let mut innermost = match start_apart(alloc, cursor, builder, tables)? {
+        Start::Value(value) => return Ok(value),
+        Start::Open(node, todo) => Unfinished { node, todo },
+    };
+    let mut frames: Vec<Frame> = Vec::new(alloc);
     loop {
-        match now {
-            Now::Wanted => match start_value(alloc, cursor, builder, tables)? {
-                Start::Value(value) => now = Now::Given(value),
-                Start::Open(node, todo) => now = Now::Open(node, todo),
-            },
-            Now::Given(value) => {
+        let Unfinished { node, todo } = innermost;
+        match go_on(alloc, cursor, builder, tables, node, todo)? {
+            Step::Open(todo) => innermost = Unfinished { node, todo },
+            Step::Wait(slot, todo) => {
+                let frame = Frame { node, slot, todo };
+                innermost = read_part(alloc, cursor, builder, tables, &mut frames, frame)?;
+            }
+            Step::Closed => {
+                let value = Value::Node(node);
                 let Some(frame) = frames.pop() else {
                     return Ok(value);
                 };
-                match part_of(frame.slot, value) {
-                    None => {
-                        frames.push(Frame {
-                            node: frame.node,
-                            slot: Slot::Entry(value),
-                            todo: frame.todo,
-                        })?;
-                        now = Now::Wanted;
-                    }
-                    Some(part) => {
-                        kept(builder.put(frame.node, part))?;
-                        now = Now::Open(frame.node, frame.todo);
-                    }
-                }
+                innermost = give(alloc, cursor, builder, tables, &mut frames, frame, value)?;
             }
-            Now::Open(node, todo) => match go_on(alloc, cursor, builder, tables, node, todo)? {
-                Step::Wait(slot, rest) => {
-                    frames.push(Frame {
-                        node,
-                        slot,
-                        todo: rest,
-                    })?;
-                    now = Now::Wanted;
-                }
-                Step::Open(rest) => now = Now::Open(node, rest),
-                Step::Closed => now = Now::Given(Value::Node(node)),
-            },
         }
     }
 }
 
+/// Reads the value that a frame waits for, or its start: then the frame goes onto the stack. The answer is the node that is
+/// innermost then.
+#[inline(always)]
+fn read_part<S: Source>(
+    alloc: Global,
+    cursor: &mut Cursor<'_, S>,
+    builder: &mut Builder,
+    tables: &mut Tables3,
+    frames: &mut Vec<Frame>,
+    frame: Frame,
+) -> Result<Unfinished, ReadEnd>
+    requires ready { Ready 0 builder.old tables.old cursor.old }
+    requires waits { IsWaiting (left_of cursor.old) builder.old frame }
+    ensures goes { Goes S.tells S.left S.faults cursor.old cursor.new result }
+    ensures follows { Follows S.tells S.left S.faults builder.old builder.new tables.old tables.new cursor.old cursor.new now.wanted (frame ∷ reverse frames.old.items) (reverse frames.new.items) result }
+    ensures less { OnOk result (2 * left_of cursor.new + length frames.new.items < 2 * left_of cursor.old + length frames.old.items) }
+{
+    match start_value(alloc, cursor, builder, tables)? {
+        Start::Value(value) => give(alloc, cursor, builder, tables, frames, frame, value),
+        Start::Open(node, todo) => {
+            frames.push(frame)?;
+            Ok(Unfinished { node, todo })
+        }
+    }
+}
+
+/// Gives a frame the value that it waits for: it is put into the frame's node, or it is a key, and the key's value is read.
+#[inline(always)]
+fn give<S: Source>(
+    alloc: Global,
+    cursor: &mut Cursor<'_, S>,
+    builder: &mut Builder,
+    tables: &mut Tables3,
+    frames: &mut Vec<Frame>,
+    frame: Frame,
+    value: Value,
+) -> Result<Unfinished, ReadEnd>
+    requires ready { Ready 0 builder.old tables.old cursor.old }
+    requires waits { IsWaiting (suc (left_of cursor.old)) builder.old frame }
+    requires names { Names builder.old value }
+    ensures goes { Goes S.tells S.left S.faults cursor.old cursor.new result }
+    ensures follows { Follows S.tells S.left S.faults builder.old builder.new tables.old tables.new cursor.old cursor.new (now.given value) (frame ∷ reverse frames.old.items) (reverse frames.new.items) result }
+    ensures no_more { OnOk result (2 * left_of cursor.new + length frames.new.items ≤ 2 * left_of cursor.old + length frames.old.items) }
+{
+    let Frame { node, slot, todo } = frame;
+    match part_of(slot, value) {
+        Some(part) => {
+            kept(builder.put(node, part))?;
+            Ok(Unfinished { node, todo })
+        }
+        None => read_entry(alloc, cursor, builder, tables, frames, node, value, todo),
+    }
+}
+
+/// Reads the value of a key, or its start, as [`read_part`] does.
+fn read_entry<S: Source>(
+    alloc: Global,
+    cursor: &mut Cursor<'_, S>,
+    builder: &mut Builder,
+    tables: &mut Tables3,
+    frames: &mut Vec<Frame>,
+    node: NodeId,
+    key: Value,
+    todo: Parts,
+) -> Result<Unfinished, ReadEnd>
+    requires ready { Ready 0 builder.old tables.old cursor.old }
+    requires waits { IsWaiting (left_of cursor.old) builder.old (entry_of node key todo) }
+    ensures goes { Goes S.tells S.left S.faults cursor.old cursor.new result }
+    ensures follows { Follows S.tells S.left S.faults builder.old builder.new tables.old tables.new cursor.old cursor.new now.wanted (entry_of node key todo ∷ reverse frames.old.items) (reverse frames.new.items) result }
+    ensures less { OnOk result (2 * left_of cursor.new + length frames.new.items < 2 * left_of cursor.old + length frames.old.items) }
+{
+    match start_apart(alloc, cursor, builder, tables)? {
+        Start::Value(value) => {
+            kept(builder.put(node, Part::Entry(key, value)))?;
+            Ok(Unfinished { node, todo })
+        }
+        Start::Open(child, parts) => {
+            let slot = Slot::Entry(key);
+            frames.push(Frame { node, slot, todo })?;
+            Ok(Unfinished {
+                node: child,
+                todo: parts,
+            })
+        }
+    }
+}
+
+/// Reads the start of a value as [`start_value`] does, where that is rarely done.
+#[inline(never)]
+fn start_apart<S: Source>(
+    alloc: Global,
+    cursor: &mut Cursor<'_, S>,
+    builder: &mut Builder,
+    tables: &mut Tables3,
+) -> Result<Start, ReadEnd>
+    requires { Ready 0 builder.old tables.old cursor.old }
+    ensures goes { Goes S.tells S.left S.faults cursor.old cursor.new result }
+    ensures starts { (n : ℕ) → left_of cursor.old < n → Starts S.tells S.left n (state_of builder.old tables.old) (state_of builder.new tables.new) cursor.old cursor.new result }
+    ensures still_ready { OnOk result (StillReady 0 builder.old builder.new tables.new cursor.old cursor.new) }
+    ensures holds { IfOk result (StartHolds builder.old builder.new (left_of cursor.new)) }
+    ensures moves { OnOk result (place cursor.old < place cursor.new) }
+{
+    start_value(alloc, cursor, builder, tables)
+}
+
 /// Reads the start of a value: all of it, or a node up to its first value.
+#[inline(always)]
 fn start_value<S: Source>(
     alloc: Global,
     cursor: &mut Cursor<'_, S>,
@@ -143,6 +233,7 @@ fn start_value<S: Source>(
 }
 
 /// Reads a marker.
+#[inline(always)]
 fn read_marker<S: Source>(cursor: &mut Cursor<'_, S>) -> Result<Marker, ReadEnd>
     ensures goes { Goes S.tells S.left S.faults cursor.old cursor.new result }
     ensures answers { Answers S.tells S.left (λ m. m) marker_layout cursor.old cursor.new result }
@@ -158,6 +249,7 @@ fn read_marker<S: Source>(cursor: &mut Cursor<'_, S>) -> Result<Marker, ReadEnd>
 }
 
 /// Reads an integer (AMF 3 specification, 3.6).
+#[inline(always)]
 fn read_integer<S: Source>(cursor: &mut Cursor<'_, S>) -> Result<i32, ReadEnd>
     ensures goes { Goes S.tells S.left S.faults cursor.old cursor.new result }
     ensures answers { Answers S.tells S.left (λ n. n) (want (u29_kind no_refusal) (λ b. give (integer_of (u29_value b)))) cursor.old cursor.new result }

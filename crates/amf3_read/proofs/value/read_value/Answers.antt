@@ -1,106 +1,244 @@
-use Rattle.std.proofs.Common.{◌≡◌, ◌∷◌, sym, ap, ◌∙◌, subst, arith}
+use Rattle.std.proofs.Common.{suc, List, [], reverse, sym, ap, subst, arith}
+use Rattle.amf_graph.specs.declared.value.Value.TheVariants as value
 use Rattle.amf3_layout.specs.Layout3State.{state_of}
-use Rattle.amf3_read.specs.declared.frame.Frame.{Frame}
-use Rattle.amf3_read.specs.declared.frame.Now.{Now}
-use Rattle.amf3_read.specs.declared.frame.Now.TheVariants as now
-use Rattle.amf3_read.specs.declared.frame.Slot.TheVariants as slot
-use Rattle.amf3_read.specs.Slots.{IsPart}
 use Rattle.amf3_layout.specs.Layout3.{value_layout}
-use Rattle.amf3_read.specs.Frames.{StackSo}
+use Rattle.amf3_read.specs.declared.frame.Frame.{Frame}
+use Rattle.amf3_read.specs.Now as now
+use Rattle.amf3_read.specs.Answer.{left_of}
+use Rattle.amf3_read.specs.Frames.{Nested, StackSo}
+use Rattle.amf_io.proofs.CursorReads.{goes_other}
 use Rattle.amf3_read.proofs.LayoutBinds.{passed_on}
-use Rattle.amf3_read.proofs.Stack.{so_begin, so_end, so_value, so_open, go_end, go_wait, go_open, go_closed, so_done, so_key, so_put, key_of, done}
+use Rattle.amf3_read.proofs.Stack.{so_begin, so_end, so_value, so_open, go_end, go_wait, go_open, go_closed, so_done, so_continues, popped, popped_none, waits_any, goes_passed}
 use Rattle.amf3_read.proofs.value.read_value.Goals as goal
 
-pub loop-now-init : goal.loop-now-init
-loop-now-init g c =
+pub returns-in_err-value-clause-answers : goal.returns-in_err-value-clause-answers
+returns-in_err-value-clause-answers g c = λ n lt.
     let S = g.S.Source in
-    subst (StackSo S.tells S.left S.faults c.args.builder.now c.args.builder.now c.args.tables.now c.args.tables.now c.args.cursor.now c.args.cursor.now now.Wanted) (sym c.new-frames.ensures)
-    (so_begin S.tells S.left S.faults c.args.builder.now c.args.tables.now c.args.cursor.now c.requires)
+    let a = c.args.builder.now in let t = c.args.tables.now in let k = c.args.cursor.now in
+    let b1 = c.start_apart.new.builder in let u1 = c.start_apart.new.tables in let e = c.start_apart.new.cursor in
+    let so = so_begin S.tells S.left S.faults a t k c.requires in
+    passed_on S.tells S.left S.faults _ (value_layout n (state_of a t)) k e c.from_residual.result c.in_err-value.field-0.0 c.from_residual.ensures.1
+    (so_end S.tells S.left S.faults a a t t k k [] so b1 u1 e c.in_err-value.field-0.0 c.in_err-value.ensures.starts n lt)
 
-pub returns-in_err-value-in-Wanted-clause-answers : goal.returns-in_err-value-in-Wanted-clause-answers
-returns-in_err-value-in-Wanted-clause-answers g c = λ n lt.
+pub returns-in-Value-clause-answers : goal.returns-in-Value-clause-answers
+returns-in-Value-clause-answers g c = λ n lt.
     let S = g.S.Source in
-    let a = c.args.builder.now in let b = c.loop-now.builder in let t = c.args.tables.now in let u = c.loop-now.tables in let d = c.loop-now.cursor in let fs = c.loop-now.frames in
-    let so = subst (λ (w : Now). StackSo S.tells S.left S.faults a b t u c.args.cursor.now d w fs) c.in-Wanted.is c.loop-now.invariant in
-    passed_on S.tells S.left S.faults _ (value_layout n (state_of a t)) c.args.cursor.now c.start_value.new.cursor c.from_residual.result c.in_err-value-in-Wanted.field-0.0 c.from_residual.ensures.1
-    (so_end S.tells S.left S.faults a b t u c.args.cursor.now d fs so c.start_value.new.builder c.start_value.new.tables c.start_value.new.cursor c.in_err-value-in-Wanted.field-0.0 c.in_err-value-in-Wanted.ensures.starts n lt)
+    let a = c.args.builder.now in let t = c.args.tables.now in let k = c.args.cursor.now in
+    let b1 = c.start_apart.new.builder in let u1 = c.start_apart.new.tables in let e = c.start_apart.new.cursor in
+    let so = so_begin S.tells S.left S.faults a t k c.requires in
+    let h = rw c.in-Value.is at c.in_ok-value.ensures in
+    let one = so_value S.tells S.left S.faults a a t t k k [] so b1 u1 e c.in-Value.value h.goes h.starts h.still_ready h.holds h.moves in
+    so_done S.tells S.left S.faults a b1 t u1 k e c.in-Value.value one n lt
 
-pub loop-now-preserved-in-Value : goal.loop-now-preserved-in-Value
-loop-now-preserved-in-Value g c =
+pub returns-in-Value-clause-continues : goal.returns-in-Value-clause-continues
+returns-in-Value-clause-continues g c =
     let S = g.S.Source in
-    let a = c.args.builder.now in let b = c.loop-now.builder in let t = c.args.tables.now in let u = c.loop-now.tables in let d = c.loop-now.cursor in let fs = c.loop-now.frames in
-    let so = subst (λ (w : Now). StackSo S.tells S.left S.faults a b t u c.args.cursor.now d w fs) c.in-Wanted.is c.loop-now.invariant in
-    let h = rw c.in-Value.is at c.in_ok-value-in-Wanted.ensures in
-    so_value S.tells S.left S.faults a b t u c.args.cursor.now d fs so c.start_value.new.builder c.start_value.new.tables c.start_value.new.cursor c.in-Value.value h.goes h.starts h.still_ready h.holds h.moves
+    let a = c.args.builder.now in let t = c.args.tables.now in let k = c.args.cursor.now in
+    let b1 = c.start_apart.new.builder in let u1 = c.start_apart.new.tables in let e = c.start_apart.new.cursor in
+    let so = so_begin S.tells S.left S.faults a t k c.requires in
+    let h = rw c.in-Value.is at c.in_ok-value.ensures in
+    let one = so_value S.tells S.left S.faults a a t t k k [] so b1 u1 e c.in-Value.value h.goes h.starts h.still_ready h.holds h.moves in
+    so_continues S.tells S.left S.faults a b1 t u1 k e c.in-Value.value one
 
-pub loop-now-preserved-in-Open-2 : goal.loop-now-preserved-in-Open-2
-loop-now-preserved-in-Open-2 g c =
+pub loop-frames-init : goal.loop-frames-init
+loop-frames-init g c =
     let S = g.S.Source in
-    let a = c.args.builder.now in let b = c.loop-now.builder in let t = c.args.tables.now in let u = c.loop-now.tables in let d = c.loop-now.cursor in let fs = c.loop-now.frames in
-    let so = subst (λ (w : Now). StackSo S.tells S.left S.faults a b t u c.args.cursor.now d w fs) c.in-Wanted.is c.loop-now.invariant in
-    let h = rw c.in-Open-2.is at c.in_ok-value-in-Wanted.ensures in
-    so_open S.tells S.left S.faults a b t u c.args.cursor.now d fs so c.start_value.new.builder c.start_value.new.tables c.start_value.new.cursor c.in-Open-2.node c.in-Open-2.todo h.goes h.starts h.still_ready h.holds h.moves
+    let a = c.args.builder.now in let t = c.args.tables.now in let k = c.args.cursor.now in
+    let b1 = c.start_apart.new.builder in let u1 = c.start_apart.new.tables in let e = c.start_apart.new.cursor in
+    let so = so_begin S.tells S.left S.faults a t k c.requires in
+    let h = rw c.in-Open.is at c.in_ok-value.ensures in
+    subst (λ (l : List Frame). StackSo S.tells S.left S.faults a b1 t u1 k e (now.unfinished c.in-Open.node c.in-Open.todo) l) (sym (ap (λ (l : List Frame). reverse l) c.new-frames.ensures.items))
+    (so_open S.tells S.left S.faults a a t t k k [] so b1 u1 e c.in-Open.node c.in-Open.todo h.goes h.starts h.still_ready h.holds h.moves)
+
+pub returns-in_err-todo-clause-goes : goal.returns-in_err-todo-clause-goes
+returns-in_err-todo-clause-goes g c =
+    let S = g.S.Source in
+    let a = c.args.builder.now in let t = c.args.tables.now in let k = c.args.cursor.now in let b = c.loop-frames.builder in let u = c.loop-frames.tables in let d = c.loop-frames.cursor in let fs = reverse c.loop-frames.frames.items in
+    let i = c.loop-frames.innermost.node in let p = c.loop-frames.innermost.todo in
+    let b1 = c.go_on.new.builder in let u1 = c.go_on.new.tables in let e = c.go_on.new.cursor in
+    goes_passed S.tells S.left S.faults k d e c.from_residual-in_err-todo.result c.in_err-todo.field-0.0 c.from_residual-in_err-todo.ensures.1 c.loop-frames.invariant.goes c.in_err-todo.ensures.goes
+
+pub returns-in_err-todo-clause-answers : goal.returns-in_err-todo-clause-answers
+returns-in_err-todo-clause-answers g c = λ n lt.
+    let S = g.S.Source in
+    let a = c.args.builder.now in let t = c.args.tables.now in let k = c.args.cursor.now in let b = c.loop-frames.builder in let u = c.loop-frames.tables in let d = c.loop-frames.cursor in let fs = reverse c.loop-frames.frames.items in
+    let i = c.loop-frames.innermost.node in let p = c.loop-frames.innermost.todo in
+    let b1 = c.go_on.new.builder in let u1 = c.go_on.new.tables in let e = c.go_on.new.cursor in
+    passed_on S.tells S.left S.faults _ (value_layout n (state_of a t)) k e c.from_residual-in_err-todo.result c.in_err-todo.field-0.0 c.from_residual-in_err-todo.ensures.1
+    (go_end S.tells S.left S.faults a b t u k d fs i p c.loop-frames.invariant b1 u1 e c.in_err-todo.field-0.0 c.in_err-todo.ensures.answers n lt)
+
+pub loop-frames-preserved-in-Open-2 : goal.loop-frames-preserved-in-Open-2
+loop-frames-preserved-in-Open-2 g c =
+    let S = g.S.Source in
+    let a = c.args.builder.now in let t = c.args.tables.now in let k = c.args.cursor.now in let b = c.loop-frames.builder in let u = c.loop-frames.tables in let d = c.loop-frames.cursor in let fs = reverse c.loop-frames.frames.items in
+    let i = c.loop-frames.innermost.node in let p = c.loop-frames.innermost.todo in
+    let b1 = c.go_on.new.builder in let u1 = c.go_on.new.tables in let e = c.go_on.new.cursor in
+    let h = rw c.in-Open-2.is at c.in_ok-todo.ensures in
+    let so = go_open S.tells S.left S.faults a b t u k d fs i p c.loop-frames.invariant b1 u1 e h.still_ready h.stays (let x = h.goes.same_bound in let y = h.stays in omega arith) c.in-Open-2.todo h.goes h.answers h.holds in
+    so
+
+pub read_part-requires-clause-ready : goal.read_part-requires-clause-ready
+read_part-requires-clause-ready g c =
+    let S = g.S.Source in
+    let a = c.args.builder.now in let t = c.args.tables.now in let k = c.args.cursor.now in let b = c.loop-frames.builder in let u = c.loop-frames.tables in let d = c.loop-frames.cursor in let fs = reverse c.loop-frames.frames.items in
+    let i = c.loop-frames.innermost.node in let p = c.loop-frames.innermost.todo in
+    let b1 = c.go_on.new.builder in let u1 = c.go_on.new.tables in let e = c.go_on.new.cursor in
+    let h = rw c.in-Wait.is at c.in_ok-todo.ensures in
+    let so = go_wait S.tells S.left S.faults a b t u k d fs i p c.loop-frames.invariant b1 u1 e h.still_ready h.stays (let x = h.goes.same_bound in let y = h.stays in omega arith) c.in-Wait.slot c.in-Wait.todo h.goes h.answers h.holds in
+    so.ready
+
+pub read_part-requires-clause-waits : goal.read_part-requires-clause-waits
+read_part-requires-clause-waits g c =
+    let S = g.S.Source in
+    let a = c.args.builder.now in let t = c.args.tables.now in let k = c.args.cursor.now in let b = c.loop-frames.builder in let u = c.loop-frames.tables in let d = c.loop-frames.cursor in let fs = reverse c.loop-frames.frames.items in
+    let i = c.loop-frames.innermost.node in let p = c.loop-frames.innermost.todo in
+    let b1 = c.go_on.new.builder in let u1 = c.go_on.new.tables in let e = c.go_on.new.cursor in
+    let h = rw c.in-Wait.is at c.in_ok-todo.ensures in
+    let so = go_wait S.tells S.left S.faults a b t u k d fs i p c.loop-frames.invariant b1 u1 e h.still_ready h.stays (let x = h.goes.same_bound in let y = h.stays in omega arith) c.in-Wait.slot c.in-Wait.todo h.goes h.answers h.holds in
+    let f : Frame = record { node = i; slot = c.in-Wait.slot; todo = c.in-Wait.todo } in
+    waits_any (Nested a (suc (left_of e)) fs) (left_of e) b1 f so.holds
+
+pub returns-in_err-innermost-in-Wait-clause-goes : goal.returns-in_err-innermost-in-Wait-clause-goes
+returns-in_err-innermost-in-Wait-clause-goes g c =
+    let S = g.S.Source in
+    let a = c.args.builder.now in let t = c.args.tables.now in let k = c.args.cursor.now in let b = c.loop-frames.builder in let u = c.loop-frames.tables in let d = c.loop-frames.cursor in let fs = reverse c.loop-frames.frames.items in
+    let i = c.loop-frames.innermost.node in let p = c.loop-frames.innermost.todo in
+    let b1 = c.go_on.new.builder in let u1 = c.go_on.new.tables in let e = c.go_on.new.cursor in
+    let h = rw c.in-Wait.is at c.in_ok-todo.ensures in
+    let so = go_wait S.tells S.left S.faults a b t u k d fs i p c.loop-frames.invariant b1 u1 e h.still_ready h.stays (let x = h.goes.same_bound in let y = h.stays in omega arith) c.in-Wait.slot c.in-Wait.todo h.goes h.answers h.holds in
+    goes_passed S.tells S.left S.faults k e c.read_part.new.cursor c.from_residual-in_err-innermost-in-Wait.result c.in_err-innermost-in-Wait.field-0.0 c.from_residual-in_err-innermost-in-Wait.ensures.1 so.goes c.in_err-innermost-in-Wait.ensures.goes
+
+pub returns-in_err-innermost-in-Wait-clause-answers : goal.returns-in_err-innermost-in-Wait-clause-answers
+returns-in_err-innermost-in-Wait-clause-answers g c = λ n lt.
+    let S = g.S.Source in
+    let a = c.args.builder.now in let t = c.args.tables.now in let k = c.args.cursor.now in let b = c.loop-frames.builder in let u = c.loop-frames.tables in let d = c.loop-frames.cursor in let fs = reverse c.loop-frames.frames.items in
+    let i = c.loop-frames.innermost.node in let p = c.loop-frames.innermost.todo in
+    let b1 = c.go_on.new.builder in let u1 = c.go_on.new.tables in let e = c.go_on.new.cursor in
+    let h = rw c.in-Wait.is at c.in_ok-todo.ensures in
+    let so = go_wait S.tells S.left S.faults a b t u k d fs i p c.loop-frames.invariant b1 u1 e h.still_ready h.stays (let x = h.goes.same_bound in let y = h.stays in omega arith) c.in-Wait.slot c.in-Wait.todo h.goes h.answers h.holds in
+    let x = c.in_err-innermost-in-Wait.ensures.follows in
+    passed_on S.tells S.left S.faults _ (value_layout n (state_of a t)) k c.read_part.new.cursor c.from_residual-in_err-innermost-in-Wait.result c.in_err-innermost-in-Wait.field-0.0 c.from_residual-in_err-innermost-in-Wait.ensures.1 (x.ends a t k so n lt)
+
+pub loop-frames-preserved-in-Wait : goal.loop-frames-preserved-in-Wait
+loop-frames-preserved-in-Wait g c =
+    let S = g.S.Source in
+    let a = c.args.builder.now in let t = c.args.tables.now in let k = c.args.cursor.now in let b = c.loop-frames.builder in let u = c.loop-frames.tables in let d = c.loop-frames.cursor in let fs = reverse c.loop-frames.frames.items in
+    let i = c.loop-frames.innermost.node in let p = c.loop-frames.innermost.todo in
+    let b1 = c.go_on.new.builder in let u1 = c.go_on.new.tables in let e = c.go_on.new.cursor in
+    let h = rw c.in-Wait.is at c.in_ok-todo.ensures in
+    let so = go_wait S.tells S.left S.faults a b t u k d fs i p c.loop-frames.invariant b1 u1 e h.still_ready h.stays (let x = h.goes.same_bound in let y = h.stays in omega arith) c.in-Wait.slot c.in-Wait.todo h.goes h.answers h.holds in
+    let x = c.in_ok-innermost-in-Wait.ensures.follows in
+    x.goes_on a t k so
+
+pub returns-in_default-clause-goes : goal.returns-in_default-clause-goes
+returns-in_default-clause-goes g c =
+    let S = g.S.Source in
+    let a = c.args.builder.now in let t = c.args.tables.now in let k = c.args.cursor.now in let b = c.loop-frames.builder in let u = c.loop-frames.tables in let d = c.loop-frames.cursor in let fs = reverse c.loop-frames.frames.items in
+    let i = c.loop-frames.innermost.node in let p = c.loop-frames.innermost.todo in
+    let b1 = c.go_on.new.builder in let u1 = c.go_on.new.tables in let e = c.go_on.new.cursor in
+    let h = rw c.in-Closed.is at c.in_ok-todo.ensures in
+    let so = go_closed S.tells S.left S.faults a b t u k d fs i p c.loop-frames.invariant b1 u1 e h.still_ready h.stays (let x = h.goes.same_bound in let y = h.stays in omega arith) h.goes h.answers h.holds in
+    goes_other S.tells S.left S.faults k e tt (value.Node i) so.goes
 
 pub returns-in_default-clause-answers : goal.returns-in_default-clause-answers
 returns-in_default-clause-answers g c = λ n lt.
     let S = g.S.Source in
-    let a = c.args.builder.now in let b = c.loop-now.builder in let t = c.args.tables.now in let u = c.loop-now.tables in let d = c.loop-now.cursor in let v = c.in-Given.value in
-    let so = subst (λ (w : Now). StackSo S.tells S.left S.faults a b t u c.args.cursor.now d w c.loop-now.frames) c.in-Given.is c.loop-now.invariant in
-    so_done S.tells S.left S.faults a b t u c.args.cursor.now d v (subst (λ fs. StackSo S.tells S.left S.faults a b t u c.args.cursor.now d (now.Given v) fs) (rw c.in_default.is at c.pop.ensures) so) n lt
+    let a = c.args.builder.now in let t = c.args.tables.now in let k = c.args.cursor.now in let b = c.loop-frames.builder in let u = c.loop-frames.tables in let d = c.loop-frames.cursor in let fs = reverse c.loop-frames.frames.items in
+    let i = c.loop-frames.innermost.node in let p = c.loop-frames.innermost.todo in
+    let b1 = c.go_on.new.builder in let u1 = c.go_on.new.tables in let e = c.go_on.new.cursor in
+    let h = rw c.in-Closed.is at c.in_ok-todo.ensures in
+    let so = go_closed S.tells S.left S.faults a b t u k d fs i p c.loop-frames.invariant b1 u1 e h.still_ready h.stays (let x = h.goes.same_bound in let y = h.stays in omega arith) h.goes h.answers h.holds in
+    let one = subst (λ (l : List Frame). StackSo S.tells S.left S.faults a b1 t u1 k e (now.given (value.Node i)) l) (popped_none c.loop-frames.frames.items c.pop.new.self.items c.pop.result _ c.in_default.is c.pop.ensures.variant c.pop.ensures.items c.pop.ensures.rest) so in
+    so_done S.tells S.left S.faults a b1 t u1 k e (value.Node i) one n lt
 
-pub loop-now-preserved-in-None : goal.loop-now-preserved-in-None
-loop-now-preserved-in-None g c =
+pub returns-in_default-clause-continues : goal.returns-in_default-clause-continues
+returns-in_default-clause-continues g c =
     let S = g.S.Source in
-    let a = c.args.builder.now in let b = c.loop-now.builder in let t = c.args.tables.now in let u = c.loop-now.tables in let d = c.loop-now.cursor in let v = c.in-Given.value in
-    let so = subst (λ (w : Now). StackSo S.tells S.left S.faults a b t u c.args.cursor.now d w c.loop-now.frames) c.in-Given.is c.loop-now.invariant in
+    let a = c.args.builder.now in let t = c.args.tables.now in let k = c.args.cursor.now in let b = c.loop-frames.builder in let u = c.loop-frames.tables in let d = c.loop-frames.cursor in let fs = reverse c.loop-frames.frames.items in
+    let i = c.loop-frames.innermost.node in let p = c.loop-frames.innermost.todo in
+    let b1 = c.go_on.new.builder in let u1 = c.go_on.new.tables in let e = c.go_on.new.cursor in
+    let h = rw c.in-Closed.is at c.in_ok-todo.ensures in
+    let so = go_closed S.tells S.left S.faults a b t u k d fs i p c.loop-frames.invariant b1 u1 e h.still_ready h.stays (let x = h.goes.same_bound in let y = h.stays in omega arith) h.goes h.answers h.holds in
+    let one = subst (λ (l : List Frame). StackSo S.tells S.left S.faults a b1 t u1 k e (now.given (value.Node i)) l) (popped_none c.loop-frames.frames.items c.pop.new.self.items c.pop.result _ c.in_default.is c.pop.ensures.variant c.pop.ensures.items c.pop.ensures.rest) so in
+    so_continues S.tells S.left S.faults a b1 t u1 k e (value.Node i) one
+
+pub returns-in_default-clause-moves : goal.returns-in_default-clause-moves
+returns-in_default-clause-moves g c =
+    let S = g.S.Source in
+    let a = c.args.builder.now in let t = c.args.tables.now in let k = c.args.cursor.now in let b = c.loop-frames.builder in let u = c.loop-frames.tables in let d = c.loop-frames.cursor in let fs = reverse c.loop-frames.frames.items in
+    let i = c.loop-frames.innermost.node in let p = c.loop-frames.innermost.todo in
+    let b1 = c.go_on.new.builder in let u1 = c.go_on.new.tables in let e = c.go_on.new.cursor in
+    let h = rw c.in-Closed.is at c.in_ok-todo.ensures in
+    let so = go_closed S.tells S.left S.faults a b t u k d fs i p c.loop-frames.invariant b1 u1 e h.still_ready h.stays (let x = h.goes.same_bound in let y = h.stays in omega arith) h.goes h.answers h.holds in
+    so.moved
+
+pub give-requires-clause-ready : goal.give-requires-clause-ready
+give-requires-clause-ready g c =
+    let S = g.S.Source in
+    let a = c.args.builder.now in let t = c.args.tables.now in let k = c.args.cursor.now in let b = c.loop-frames.builder in let u = c.loop-frames.tables in let d = c.loop-frames.cursor in let fs = reverse c.loop-frames.frames.items in
+    let i = c.loop-frames.innermost.node in let p = c.loop-frames.innermost.todo in
+    let b1 = c.go_on.new.builder in let u1 = c.go_on.new.tables in let e = c.go_on.new.cursor in
+    let h = rw c.in-Closed.is at c.in_ok-todo.ensures in
+    let so = go_closed S.tells S.left S.faults a b t u k d fs i p c.loop-frames.invariant b1 u1 e h.still_ready h.stays (let x = h.goes.same_bound in let y = h.stays in omega arith) h.goes h.answers h.holds in
+    so.ready
+
+pub give-requires-clause-waits : goal.give-requires-clause-waits
+give-requires-clause-waits g c =
+    let S = g.S.Source in
+    let a = c.args.builder.now in let t = c.args.tables.now in let k = c.args.cursor.now in let b = c.loop-frames.builder in let u = c.loop-frames.tables in let d = c.loop-frames.cursor in let fs = reverse c.loop-frames.frames.items in
+    let i = c.loop-frames.innermost.node in let p = c.loop-frames.innermost.todo in
+    let b1 = c.go_on.new.builder in let u1 = c.go_on.new.tables in let e = c.go_on.new.cursor in
+    let h = rw c.in-Closed.is at c.in_ok-todo.ensures in
+    let so = go_closed S.tells S.left S.faults a b t u k d fs i p c.loop-frames.invariant b1 u1 e h.still_ready h.stays (let x = h.goes.same_bound in let y = h.stays in omega arith) h.goes h.answers h.holds in
     let f = c.in-Some.frame in
-    let fs = c.pop.new.self in
-    let key : f.slot ≡ slot.Key = key_of f.slot v c.part_of.result c.in-None.is c.part_of.ensures in
-    let at : c.loop-now.frames ≡ f ∷ fs = rw c.in-Some.is at c.pop.ensures in
-    let two = subst (λ fs. StackSo S.tells S.left S.faults a b t u c.args.cursor.now d (now.Given v) fs) (at ∙ ap (λ x. (let z : Frame = record { node = f.node; slot = x; todo = f.todo } in z) ∷ fs) key) so in
-    subst (StackSo S.tells S.left S.faults a b t u c.args.cursor.now d now.Wanted) (sym c.in_ok-push-in-None.ensures)
-    (so_key S.tells S.left S.faults a b t u c.args.cursor.now d fs v f.node f.todo two)
+    let gs = reverse c.pop.new.self.items in
+    let two = subst (λ (l : List Frame). StackSo S.tells S.left S.faults a b1 t u1 k e (now.given (value.Node i)) l) (popped c.loop-frames.frames.items c.pop.new.self.items c.pop.result f c.in-Some.is c.pop.ensures.items) so in
+    waits_any (Nested a (suc (suc (left_of e))) gs) (suc (left_of e)) b1 f two.holds.0
 
-pub loop-now-preserved-in-Some-part_of : goal.loop-now-preserved-in-Some-part_of
-loop-now-preserved-in-Some-part_of g c =
+pub give-requires-clause-names : goal.give-requires-clause-names
+give-requires-clause-names g c =
     let S = g.S.Source in
-    let a = c.args.builder.now in let b = c.loop-now.builder in let t = c.args.tables.now in let u = c.loop-now.tables in let d = c.loop-now.cursor in let v = c.in-Given.value in
-    let so = subst (λ (w : Now). StackSo S.tells S.left S.faults a b t u c.args.cursor.now d w c.loop-now.frames) c.in-Given.is c.loop-now.invariant in
+    let a = c.args.builder.now in let t = c.args.tables.now in let k = c.args.cursor.now in let b = c.loop-frames.builder in let u = c.loop-frames.tables in let d = c.loop-frames.cursor in let fs = reverse c.loop-frames.frames.items in
+    let i = c.loop-frames.innermost.node in let p = c.loop-frames.innermost.todo in
+    let b1 = c.go_on.new.builder in let u1 = c.go_on.new.tables in let e = c.go_on.new.cursor in
+    let h = rw c.in-Closed.is at c.in_ok-todo.ensures in
+    let so = go_closed S.tells S.left S.faults a b t u k d fs i p c.loop-frames.invariant b1 u1 e h.still_ready h.stays (let x = h.goes.same_bound in let y = h.stays in omega arith) h.goes h.answers h.holds in
+    so.holds.1
+
+pub returns-in_err-innermost-in-Closed-clause-goes : goal.returns-in_err-innermost-in-Closed-clause-goes
+returns-in_err-innermost-in-Closed-clause-goes g c =
+    let S = g.S.Source in
+    let a = c.args.builder.now in let t = c.args.tables.now in let k = c.args.cursor.now in let b = c.loop-frames.builder in let u = c.loop-frames.tables in let d = c.loop-frames.cursor in let fs = reverse c.loop-frames.frames.items in
+    let i = c.loop-frames.innermost.node in let p = c.loop-frames.innermost.todo in
+    let b1 = c.go_on.new.builder in let u1 = c.go_on.new.tables in let e = c.go_on.new.cursor in
+    let h = rw c.in-Closed.is at c.in_ok-todo.ensures in
+    let so = go_closed S.tells S.left S.faults a b t u k d fs i p c.loop-frames.invariant b1 u1 e h.still_ready h.stays (let x = h.goes.same_bound in let y = h.stays in omega arith) h.goes h.answers h.holds in
+    goes_passed S.tells S.left S.faults k e c.give.new.cursor c.from_residual-in_err-innermost-in-Closed.result c.in_err-innermost-in-Closed.field-0.0 c.from_residual-in_err-innermost-in-Closed.ensures.1 so.goes c.in_err-innermost-in-Closed.ensures.goes
+
+pub returns-in_err-innermost-in-Closed-clause-answers : goal.returns-in_err-innermost-in-Closed-clause-answers
+returns-in_err-innermost-in-Closed-clause-answers g c = λ n lt.
+    let S = g.S.Source in
+    let a = c.args.builder.now in let t = c.args.tables.now in let k = c.args.cursor.now in let b = c.loop-frames.builder in let u = c.loop-frames.tables in let d = c.loop-frames.cursor in let fs = reverse c.loop-frames.frames.items in
+    let i = c.loop-frames.innermost.node in let p = c.loop-frames.innermost.todo in
+    let b1 = c.go_on.new.builder in let u1 = c.go_on.new.tables in let e = c.go_on.new.cursor in
+    let h = rw c.in-Closed.is at c.in_ok-todo.ensures in
+    let so = go_closed S.tells S.left S.faults a b t u k d fs i p c.loop-frames.invariant b1 u1 e h.still_ready h.stays (let x = h.goes.same_bound in let y = h.stays in omega arith) h.goes h.answers h.holds in
     let f = c.in-Some.frame in
-    let fs = c.pop.new.self in
-    let at : c.loop-now.frames ≡ f ∷ fs = rw c.in-Some.is at c.pop.ensures in
-    let two = subst (λ fs. StackSo S.tells S.left S.faults a b t u c.args.cursor.now d (now.Given v) fs) at so in
-    so_put S.tells S.left S.faults a b t u c.args.cursor.now d fs v f two c.in-Some-part_of.part (subst (IsPart f.slot v) c.in-Some-part_of.is c.part_of.ensures) c.put.new.self (done _ c.put.result c.in_ok-kept-in-Some-part_of.field-0 c.in_ok-kept-in-Some-part_of.ensures.ok c.put.ensures.ok)
+    let gs = reverse c.pop.new.self.items in
+    let two = subst (λ (l : List Frame). StackSo S.tells S.left S.faults a b1 t u1 k e (now.given (value.Node i)) l) (popped c.loop-frames.frames.items c.pop.new.self.items c.pop.result f c.in-Some.is c.pop.ensures.items) so in
+    let x = c.in_err-innermost-in-Closed.ensures.follows in
+    passed_on S.tells S.left S.faults _ (value_layout n (state_of a t)) k c.give.new.cursor c.from_residual-in_err-innermost-in-Closed.result c.in_err-innermost-in-Closed.field-0.0 c.from_residual-in_err-innermost-in-Closed.ensures.1 (x.ends a t k two n lt)
 
-pub returns-in_err-slot-in-Open-clause-answers : goal.returns-in_err-slot-in-Open-clause-answers
-returns-in_err-slot-in-Open-clause-answers g c = λ n lt.
+pub loop-frames-preserved : goal.loop-frames-preserved
+loop-frames-preserved g c =
     let S = g.S.Source in
-    let a = c.args.builder.now in let b = c.loop-now.builder in let t = c.args.tables.now in let u = c.loop-now.tables in let d = c.loop-now.cursor in let fs = c.loop-now.frames in
-    let so = subst (λ (w : Now). StackSo S.tells S.left S.faults a b t u c.args.cursor.now d w fs) c.in-Open.is c.loop-now.invariant in
-    passed_on S.tells S.left S.faults _ (value_layout n (state_of a t)) c.args.cursor.now c.go_on.new.cursor c.from_residual-in_err-slot-in-Open.result c.in_err-slot-in-Open.field-0.0 c.from_residual-in_err-slot-in-Open.ensures.1
-    (go_end S.tells S.left S.faults a b t u c.args.cursor.now d fs c.in-Open.node c.in-Open.todo so c.go_on.new.builder c.go_on.new.tables c.go_on.new.cursor c.in_err-slot-in-Open.field-0.0 c.in_err-slot-in-Open.ensures.answers n lt)
-
-pub loop-now-preserved-in-Wait : goal.loop-now-preserved-in-Wait
-loop-now-preserved-in-Wait g c =
-    let S = g.S.Source in
-    let a = c.args.builder.now in let b = c.loop-now.builder in let t = c.args.tables.now in let u = c.loop-now.tables in let d = c.loop-now.cursor in let fs = c.loop-now.frames in
-    let so = subst (λ (w : Now). StackSo S.tells S.left S.faults a b t u c.args.cursor.now d w fs) c.in-Open.is c.loop-now.invariant in
-    let h = rw c.in-Wait.is at c.in_ok-slot-in-Open.ensures in
-    subst (StackSo S.tells S.left S.faults a c.go_on.new.builder t c.go_on.new.tables c.args.cursor.now c.go_on.new.cursor now.Wanted) (sym c.in_ok-push-in-Wait.ensures)
-    (go_wait S.tells S.left S.faults a b t u c.args.cursor.now d fs c.in-Open.node c.in-Open.todo so c.go_on.new.builder c.go_on.new.tables c.go_on.new.cursor h.still_ready h.stays (let x = h.goes.same_bound in let y = h.stays in omega arith) c.in-Wait.slot c.in-Wait.rest h.goes h.answers h.holds)
-
-pub loop-now-preserved-in-Open-3 : goal.loop-now-preserved-in-Open-3
-loop-now-preserved-in-Open-3 g c =
-    let S = g.S.Source in
-    let a = c.args.builder.now in let b = c.loop-now.builder in let t = c.args.tables.now in let u = c.loop-now.tables in let d = c.loop-now.cursor in let fs = c.loop-now.frames in
-    let so = subst (λ (w : Now). StackSo S.tells S.left S.faults a b t u c.args.cursor.now d w fs) c.in-Open.is c.loop-now.invariant in
-    let h = rw c.in-Open-3.is at c.in_ok-slot-in-Open.ensures in
-    go_open S.tells S.left S.faults a b t u c.args.cursor.now d fs c.in-Open.node c.in-Open.todo so c.go_on.new.builder c.go_on.new.tables c.go_on.new.cursor h.still_ready h.stays (let x = h.goes.same_bound in let y = h.stays in omega arith) c.in-Open-3.rest h.goes h.answers h.holds
-
-pub loop-now-preserved : goal.loop-now-preserved
-loop-now-preserved g c =
-    let S = g.S.Source in
-    let a = c.args.builder.now in let b = c.loop-now.builder in let t = c.args.tables.now in let u = c.loop-now.tables in let d = c.loop-now.cursor in let fs = c.loop-now.frames in
-    let so = subst (λ (w : Now). StackSo S.tells S.left S.faults a b t u c.args.cursor.now d w fs) c.in-Open.is c.loop-now.invariant in
-    let h = rw c.in-Closed.is at c.in_ok-slot-in-Open.ensures in
-    go_closed S.tells S.left S.faults a b t u c.args.cursor.now d fs c.in-Open.node c.in-Open.todo so c.go_on.new.builder c.go_on.new.tables c.go_on.new.cursor h.still_ready h.stays (let x = h.goes.same_bound in let y = h.stays in omega arith) h.goes h.answers h.holds
+    let a = c.args.builder.now in let t = c.args.tables.now in let k = c.args.cursor.now in let b = c.loop-frames.builder in let u = c.loop-frames.tables in let d = c.loop-frames.cursor in let fs = reverse c.loop-frames.frames.items in
+    let i = c.loop-frames.innermost.node in let p = c.loop-frames.innermost.todo in
+    let b1 = c.go_on.new.builder in let u1 = c.go_on.new.tables in let e = c.go_on.new.cursor in
+    let h = rw c.in-Closed.is at c.in_ok-todo.ensures in
+    let so = go_closed S.tells S.left S.faults a b t u k d fs i p c.loop-frames.invariant b1 u1 e h.still_ready h.stays (let x = h.goes.same_bound in let y = h.stays in omega arith) h.goes h.answers h.holds in
+    let f = c.in-Some.frame in
+    let gs = reverse c.pop.new.self.items in
+    let two = subst (λ (l : List Frame). StackSo S.tells S.left S.faults a b1 t u1 k e (now.given (value.Node i)) l) (popped c.loop-frames.frames.items c.pop.new.self.items c.pop.result f c.in-Some.is c.pop.ensures.items) so in
+    let x = c.in_ok-innermost-in-Closed.ensures.follows in
+    x.goes_on a t k two
