@@ -4,6 +4,7 @@ ghost use Rattle.amf_wire.specs.Text.{IsText};
 ghost use Rattle.amf_graph.specs.Arena.{IsBuilt, IsFinished, IsTraitsIn, HeadNames, Names, text_at, no_traits};
 ghost use Rattle.amf_graph.specs.Bounds.{IsWithinBounds, items_of};
 ghost use Rattle.amf_graph.specs.Building.{no_arena, kept_text, kept_traits, kept_node, stored_traits, stored_at, leaf_head, shape_head, begun, closed, changed, more_part, shut, PartNames, HasRoom, FitsNow, size_of, IsFirstOpen, kind_of};
+ghost use Rattle.amf_graph.specs.declared.part.Part.TheVariants.{Item};
 ghost use Rattle.amf_graph.specs.Grafting.{Grafted, IsTooMuch};
 ghost use Rattle.amf_graph.specs.Views.{ShowsTraits};
 
@@ -172,7 +173,41 @@ impl Builder {
     ///
     /// `Full` comes exactly where the node has [`MAX_COUNT`] items, names and parts together, and `Memory` where there is no
     /// room. After an end the builder is as before.
+    #[inline(always)]
     pub fn put(&mut self, node: NodeId, part: Part) -> Result<(), BuildEnd>
+        requires there { node.0 < length self.old.nodes }
+        requires opened { (stored_at self.old node.0).is_open ≡ true }
+        requires room { HasRoom self.old (stored_at self.old node.0) part }
+        requires names { PartNames self.old part }
+        ensures ok { OnOk result (self.new ≡ changed (more_part part) node.0 self.old) }
+        ensures err { OnErr result (self.new ≡ self.old) }
+        ensures full { IsErrOf result BuildEnd.Full ↔ (MAX_COUNT ≤ size_of (stored_at self.old node.0)) }
+    {
+        match part {
+            Part::Item(item) => self.put_item(node, item),
+            part => self.put_part(node, part),
+        }
+    }
+
+    /// Does what `put` does, for an item. Most parts are items.
+    fn put_item(&mut self, node: NodeId, item: Value) -> Result<(), BuildEnd>
+        requires there { node.0 < length self.old.nodes }
+        requires opened { (stored_at self.old node.0).is_open ≡ true }
+        requires room { HasRoom self.old (stored_at self.old node.0) (Item item) }
+        requires names { PartNames self.old (Item item) }
+        ensures ok { OnOk result (self.new ≡ changed (more_part (Item item)) node.0 self.old) }
+        ensures err { OnErr result (self.new ≡ self.old) }
+        ensures full { IsErrOf result BuildEnd.Full ↔ (MAX_COUNT ≤ size_of (stored_at self.old node.0)) }
+    {
+        if self.store.size(node) >= MAX_COUNT as usize {
+            return Err(BuildEnd::Full);
+        }
+        self.store.put_item(node, item)?;
+        Ok(())
+    }
+
+    /// Does what `put` does, whatever the part is.
+    fn put_part(&mut self, node: NodeId, part: Part) -> Result<(), BuildEnd>
         requires there { node.0 < length self.old.nodes }
         requires opened { (stored_at self.old node.0).is_open ≡ true }
         requires room { HasRoom self.old (stored_at self.old node.0) part }

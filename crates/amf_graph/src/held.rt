@@ -2,7 +2,7 @@
 
 ghost use Rattle.std.specs.Prelude.{◌≡◌};
 ghost use Rattle.amf_graph.specs.Building.{kind_of};
-ghost use Rattle.amf_graph.specs.Held.{held_head};
+ghost use Rattle.amf_graph.specs.Held.{form_head};
 
 use crate::{Leaf, NodeKind, TextId, TraitsId, Value, Wrapped};
 
@@ -26,17 +26,15 @@ pub(crate) enum Held<'a> {
     Dictionary(bool, &'a [(Value, Value)]),
 }
 
-impl Held<'_> {
+impl Form {
     pub(crate) fn kind(self) -> NodeKind
-        ensures { result ≡ kind_of (held_head self.entry) }
+        ensures { result ≡ kind_of (form_head self) }
     {
         match self {
-            Held::Leaf(leaf) => leaf.kind(),
-            Held::Parts(Form::Array, ..) => NodeKind::Array,
-            Held::Parts(Form::Object(_), ..) => NodeKind::Object,
-            Held::Parts(Form::Wrapper(_), ..) => NodeKind::Wrapper,
-            Held::Parts(Form::Values(..), ..) => NodeKind::Values,
-            Held::Dictionary(..) => NodeKind::Dictionary,
+            Form::Array => NodeKind::Array,
+            Form::Object(_) => NodeKind::Object,
+            Form::Wrapper(_) => NodeKind::Wrapper,
+            Form::Values(..) => NodeKind::Values,
         }
     }
 }

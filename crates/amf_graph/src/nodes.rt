@@ -9,13 +9,14 @@ ghost use Rattle.amf_graph.specs.Held.{held_node};
 ghost use Rattle.amf_graph.specs.NodeRows.{IsOpenAt, IsClosedAt, IsFirstOf};
 ghost use Rattle.amf_graph.specs.Pools.{Keeps, Grows};
 ghost use Rattle.amf_graph.specs.Slots.{no_slot};
+ghost use Rattle.amf_graph.specs.declared.part.Part.TheVariants.{Item};
 
 use crate::body::Body;
 use crate::held::Held;
 use crate::pools::Pools;
 use crate::row::{Row, number_of};
 use crate::slot::Slot;
-use crate::{NodeKind, Part, Shape};
+use crate::{NodeKind, Part, Shape, Value};
 use amf_wire::Memory;
 use std::alloc::Global;
 use std::marker::Model;
@@ -166,7 +167,10 @@ impl Nodes {
         requires { place < length self.now }
         ensures { result ≡ kind_of (get_or self.now place no_stored).head }
     {
-        self.held(place).kind()
+        match self.rows[place] {
+            Row::Slot(slot) => self.slots[slot as usize].kind(),
+            row => self.pools.kind(row),
+        }
     }
 
     /// How many items, names and parts a node that is open has together.
@@ -216,6 +220,20 @@ impl Nodes {
     {
         match self.rows[place] {
             Row::Slot(slot) => self.slots[slot as usize].put(part),
+            _ => unreachable!(),
+        }
+    }
+
+    /// Adds an item to a node that is open. After an end nothing has changed.
+    pub(crate) fn put_item(&mut self, place: usize, item: Value) -> Result<(), Memory>
+        requires there { place < length self.old }
+        requires opened { IsOpenAt self.old place }
+        requires takes { TakesPart (get_or self.old place no_stored) (Item item) }
+        ensures ok { OnOk result (self.new ≡ set self.old place (more_part (Item item) (get_or self.old place no_stored))) }
+        ensures err { OnErr result (self.new ≡ self.old) }
+    {
+        match self.rows[place] {
+            Row::Slot(slot) => self.slots[slot as usize].put_item(item),
             _ => unreachable!(),
         }
     }

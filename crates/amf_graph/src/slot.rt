@@ -3,13 +3,14 @@
 ghost use Rattle.std.specs.Prelude.{◌≡◌, ◌<◌, Some, None, OnOk, OnErr};
 ghost use Rattle.amf_graph.specs.Bodies.{TakesPart};
 ghost use Rattle.amf_graph.specs.Bounds.{count_end};
-ghost use Rattle.amf_graph.specs.Building.{shape_head, begun, more_part, shut, size_of};
+ghost use Rattle.amf_graph.specs.Building.{shape_head, begun, more_part, shut, size_of, kind_of};
 ghost use Rattle.amf_graph.specs.Held.{held_node};
 ghost use Rattle.amf_graph.specs.Slots.{with_node};
+ghost use Rattle.amf_graph.specs.declared.part.Part.TheVariants.{Item};
 
 use crate::held::{Form, Held};
 use crate::pairs::Pairs;
-use crate::{Part, Shape, Value};
+use crate::{NodeKind, Part, Shape, Value};
 use amf_wire::Memory;
 use std::alloc::Global;
 use std::marker::Model;
@@ -98,6 +99,19 @@ impl Slot {
         Held::Parts(form, &self.values, self.pairs.names())
     }
 
+    /// What kind of node it is.
+    pub(crate) fn kind(&self) -> NodeKind
+        ensures { result ≡ kind_of self.now.node.head }
+    {
+        match self.shape {
+            Shape::Array => NodeKind::Array,
+            Shape::Object(_) => NodeKind::Object,
+            Shape::Wrapper(_) => NodeKind::Wrapper,
+            Shape::Values(..) => NodeKind::Values,
+            Shape::Dictionary(_) => NodeKind::Dictionary,
+        }
+    }
+
     /// How many names and parts the node has together.
     pub(crate) fn size(&self) -> usize
         requires { size_of self.now.node < count_end }
@@ -117,10 +131,21 @@ impl Slot {
     {
         let alloc = *self.values.allocator();
         match part {
-            Part::Item(item) => self.values.push(item)?,
+            Part::Item(item) => return self.put_item(item),
             Part::Named(name, value) => self.pairs.push_name(alloc, name, value)?,
             Part::Entry(key, value) => self.pairs.push_entry(alloc, key, value)?,
         }
+        Ok(())
+    }
+
+    /// Adds an item. After an end nothing has changed.
+    pub(crate) fn put_item(&mut self, item: Value) -> Result<(), Memory>
+        requires { TakesPart self.old.node (Item item) }
+        ensures ok { OnOk result (self.new ≡ with_node (more_part (Item item) self.old.node) self.old) }
+        ensures err { OnErr result (self.new ≡ self.old) }
+        ensures owner { self.new.owner ≡ self.old.owner }
+    {
+        self.values.push(item)?;
         Ok(())
     }
 

@@ -13,6 +13,7 @@ ghost use Rattle.amf_graph.specs.StandIns.{NodeStandsFor, opened_traits};
 ghost use Rattle.amf_graph.specs.Views.{Shows, ShowsTraits, named};
 ghost use Rattle.amf_graph.specs.TextNumbers.{contents_of};
 ghost use Rattle.amf_graph.specs.Bounds.{count_end};
+ghost use Rattle.amf_graph.specs.declared.part.Part.TheVariants.{Item};
 
 use crate::body::{Body, renumbered_body};
 use crate::classes::Classes;
@@ -172,6 +173,16 @@ impl Store {
         ensures err { OnErr result (self.new ≡ self.old) }
     {
         self.nodes.put(node.0 as usize, part)
+    }
+
+    pub(crate) fn put_item(&mut self, node: NodeId, item: Value) -> Result<(), Memory>
+        requires there { node.0 < length self.old.nodes }
+        requires opened { (stored_at self.old node.0).is_open ≡ true }
+        requires takes { TakesPart (stored_at self.old node.0) (Item item) }
+        ensures ok { OnOk result (self.new ≡ changed (more_part (Item item)) node.0 self.old) }
+        ensures err { OnErr result (self.new ≡ self.old) }
+    {
+        self.nodes.put_item(node.0 as usize, item)
     }
 
     pub(crate) fn close(&mut self, node: NodeId)

@@ -3,7 +3,7 @@ use Rattle.std.proofs.Common.{◌≡◌, ◌<◌, length, true, arith}
 use Rattle.amf_graph.specs.Building.{stored_at, more_part, HasRoom, PartNames}
 use Rattle.amf_graph.proofs.Built.{built_changed, within_changed, stands}
 use Rattle.amf_graph.proofs.Begun.{part_in, part_within}
-use Rattle.amf_graph.proofs.builder.Builder.put.Goals as goal
+use Rattle.amf_graph.proofs.builder.Builder.put_part.Goals as goal
 
 pub invariant_of-self-2 : goal.invariant_of-self-2
 invariant_of-self-2 c =
