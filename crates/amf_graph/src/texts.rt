@@ -232,6 +232,23 @@ impl Texts {
         Ok(())
     }
 
+    /// The number of a content that a text has: then nothing changes. A text with another content is kept behind the others, and there is no number. After an end nothing has changed.
+    pub fn find_or_push(&mut self, bytes: &[u8]) -> Result<Option<u32>, Memory>
+        ensures number { IfOk result (λ found. MatchOption found (Absent (contents_of self.old) bytes.now) (λ n. slice_get (contents_of self.old) n ≡ Some bytes.now)) }
+        ensures texts { IfOk result (λ found. MatchOption found (self.new ≡ self.old ++ bytes.now ∷ []) (λ n. self.new ≡ self.old)) }
+        ensures err { OnErr result (self.new ≡ self.old) }
+    {
+        let hash = self.keys.hash(bytes);
+        if let Some(number) = number_of(&self.contents, &self.chains, bytes, self.keys, hash) {
+            return Ok(Some(number));
+        }
+        self.numbers.reserve(1)?;
+        let number = enter(&mut self.contents, &mut self.chains, bytes, self.keys, hash)?;
+        self.empty = empty_after(self.empty, number, bytes);
+        self.numbers.push(number)?;
+        Ok(None)
+    }
+
     /// Keeps so many texts alone, which have so many contents.
     fn truncate(&mut self, count: usize, contents: usize)
         requires { contents ≡ length (contents_of (take count self.old)) }

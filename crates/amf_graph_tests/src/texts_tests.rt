@@ -41,3 +41,13 @@ fn gives_texts_by_place(rt: HostRuntime) -> Result<(), Fail> {
     assert_eq!(rt; texts.get(KEPT.len()), b"".as_slice());
     Ok(())
 }
+
+#[test]
+fn keeps_what_is_not_there(rt: HostRuntime) -> Result<(), Fail> {
+    let mut texts = kept_texts(rt.alloc())?;
+    assert_eq!(rt; texts.find_or_push(b"b")?, Some(2));
+    assert_eq!(rt; texts.find_or_push(b"c")?, None);
+    assert_eq!(rt; texts.find_or_push(b"c")?, Some(4));
+    assert_eq!(rt; (texts.len(), texts.content_count()), (6, 5));
+    Ok(())
+}
