@@ -1,10 +1,27 @@
 -- Chains of numbers, where numbers are entered, linked anew, looked up and forgotten.
 use Rattle.std.proofs.Common.{◌≡◌, ◌≢◌, ℕ, ◌+◌, ◌-◌, ◌<◌, ◌≤◌, ◌^◌, List, [], ◌∷◌, ◌++◌, length, get_or, set, take, sym, refl, ap, ◌∙◌, subst, inl, inr, arith, get_or-set_same, get_or-set_other}
 use Rattle.std.proofs.lemmas.Bool.{cases_eq, cases_lt}
-use Rattle.std.proofs.lemmas.List.{length-set, get_or_append_left, get_or_push, get_or_default, get_or-take, take_at, length_push, length-take}
+use Rattle.std.proofs.lemmas.List.{length-set, get_or_append_left, get_or_push, get_or_default, get_or-take, take_at, length_push, length-map, length-take, map_push, map-set}
 use Rattle.std.proofs.lemmas.Nat.{and_le_r}
+use Rattle.std.proofs.Math.ListN.{get_or-map}
+use Rattle.std.proofs.Math.Seq.{map-set_same}
 use Rattle.std.specs.Int.Bits.{bit_and}
-use Rattle.amf_graph.specs.Chains.{LeadsTo, hash_at, bucket_at, AreNexts, AreLinked, AreChains}
+use Rattle.amf_graph.specs.declared.chains.Link.{Link}
+use Rattle.amf_graph.specs.Chains.{LeadsTo, hash_at, bucket_at, hashes_of, nexts_of, AreNexts, AreLinked, AreChains}
+
+-- What is kept of each number.
+
+pub count_of : (links : List Link) → length (hashes_of links) ≡ length links
+count_of links = length-map links (λ l. l.hash)
+
+abbrev pub no_link : Link
+no_link = record { hash = 0; next = 0 }
+
+pub hash_kept : (links : List Link) (i : ℕ) → (get_or links i no_link).hash ≡ hash_at (hashes_of links) i
+hash_kept links i = sym (get_or-map (λ l. l.hash) links i no_link)
+
+pub next_kept : (links : List Link) (i : ℕ) → (get_or links i no_link).next ≡ get_or (nexts_of links) i 0
+next_kept links i = sym (get_or-map (λ l. l.next) links i no_link)
 
 -- a link on the way from a bucket's first to one of a hash: no number of this hash was passed
 pub record OnTheWay (mask bound : ℕ) (hashes : List ℕ) (wanted link : ℕ) : Type 0 where
@@ -54,6 +71,21 @@ one_linked mask n hashes next buckets room is h =
       ];
     }
 
+-- as it is done where all are linked anew
+pub relinked : (mask place head : ℕ) (first links : List Link) (buckets more : List ℕ) → hashes_of links ≡ hashes_of first → mask < length buckets → place < length links → head ≡ get_or buckets (bit_and (get_or links place no_link).hash mask) 0 → more ≡ set buckets (bit_and (get_or links place no_link).hash mask) (place + 1) → AreLinked mask place (hashes_of first) (nexts_of links) buckets → AreLinked mask (place + 1) (hashes_of first) (nexts_of (set links place (record { hash = (get_or links place no_link).hash; next = head }))) more
+relinked mask place head first links buckets more same room there read entered h =
+    let l : Link = record { hash = (get_or links place no_link).hash; next = head } in
+    let hash_is : (get_or links place no_link).hash ≡ hash_at (hashes_of first) place = hash_kept links place ∙ ap (λ w. hash_at w place) same in
+    let nexts : nexts_of (set links place l) ≡ set (nexts_of links) place head = map-set (λ w. w.next) links place l in
+    let many : length (nexts_of links) ≡ length links = length-map links (λ w. w.next) in
+    let kept : AreLinked mask place (hashes_of first) (set (nexts_of links) place head) buckets = linked_along mask place (hashes_of first) (hashes_of first) (nexts_of links) (set (nexts_of links) place head) buckets (λ i k. refl) (λ i k. get_or-set_other (nexts_of links) place i head 0 (λ e. absurd (omega arith))) h in
+    let one = one_linked mask place (hashes_of first) (set (nexts_of links) place head) buckets room (get_or-set_same (nexts_of links) place head 0 (omega arith) ∙ read ∙ ap (λ w. get_or buckets (bit_and w mask) 0) hash_is) kept in
+    subst (λ w. AreLinked mask (place + 1) (hashes_of first) w more) (sym nexts)
+    (subst (AreLinked mask (place + 1) (hashes_of first) (set (nexts_of links) place head)) (sym (entered ∙ ap (λ w. set buckets (bit_and w mask) (place + 1)) hash_is)) one)
+
+pub same_hashes : (links : List Link) (place head : ℕ) → hashes_of (set links place (record { hash = (get_or links place no_link).hash; next = head })) ≡ hashes_of links
+same_hashes links place head = map-set_same (λ l. l.hash) links place (record { hash = (get_or links place no_link).hash; next = head }) no_link refl
+
 -- one number less: its bucket gets the link that it had
 pub one_unlinked : (mask n : ℕ) (hashes next buckets : List ℕ) → mask < length buckets → AreLinked mask (n + 1) hashes next buckets → AreLinked mask n hashes next (set buckets (bucket_at mask hashes n) (get_or next n 0))
 one_unlinked mask n hashes next buckets room h =
@@ -83,8 +115,8 @@ one_unlinked mask n hashes next buckets room h =
 -- Links as they are looked up.
 
 -- the link that a chain has after a number of another hash
-pub passed_on : (mask bound : ℕ) (hashes next : List ℕ) (link wanted : ℕ) → AreNexts mask (length hashes) hashes next → bound ≤ length hashes → 0 < link → hash_at hashes (link - 1) ≢ wanted → OnTheWay mask bound hashes wanted link → OnTheWay mask bound hashes wanted (get_or next (link - 1) 0)
-passed_on mask bound hashes next link wanted nexts few some other h =
+pub passed_on : (mask bound n : ℕ) (hashes next : List ℕ) (link wanted : ℕ) → AreNexts mask n hashes next → bound ≤ n → 0 < link → hash_at hashes (link - 1) ≢ wanted → OnTheWay mask bound hashes wanted link → OnTheWay mask bound hashes wanted (get_or next (link - 1) 0)
+passed_on mask bound n hashes next link wanted nexts few some other h =
     let w = h.within in
     let step = nexts (link - 1) (omega arith) in
     let lower = step.within in
@@ -148,7 +180,7 @@ chains_pop n hashes next buckets is h =
     }
 
 -- as it is done
-pub pushed : (hashes next buckets hashes' next' : List ℕ) (hash number count bucket head : ℕ) → hashes' ≡ hashes ++ hash ∷ [] → next' ≡ next ++ head ∷ [] → head ≡ get_or buckets bucket head → bucket ≡ bit_and hash (count - 1) → count ≡ length buckets → number ≡ length hashes → number + 1 < 2 ^ 32 → length hashes < length buckets → AreChains hashes next buckets → AreChains hashes' next' (set buckets bucket (number + 1))
+pushed : (hashes next buckets hashes' next' : List ℕ) (hash number count bucket head : ℕ) → hashes' ≡ hashes ++ hash ∷ [] → next' ≡ next ++ head ∷ [] → head ≡ get_or buckets bucket head → bucket ≡ bit_and hash (count - 1) → count ≡ length buckets → number ≡ length hashes → number + 1 < 2 ^ 32 → length hashes < length buckets → AreChains hashes next buckets → AreChains hashes' next' (set buckets bucket (number + 1))
 pushed hashes next buckets hashes' next' hash number count bucket head more links read is size at few room h =
     let masked : bit_and hash (count - 1) ≡ bit_and hash (length buckets - 1) = ap (λ n. bit_and hash (n - 1)) size in
     let found : bucket ≡ bit_and hash (length buckets - 1) = is ∙ masked in
@@ -162,7 +194,7 @@ pushed hashes next buckets hashes' next' hash number count bucket head more link
     (subst (λ w. AreChains (hashes ++ hash ∷ []) (next ++ get_or buckets (bit_and hash (length buckets - 1)) 0 ∷ []) (set buckets w (number + 1))) (sym found)
     (subst (λ w. AreChains (hashes ++ hash ∷ []) (next ++ get_or buckets (bit_and hash (length buckets - 1)) 0 ∷ []) (set buckets (bit_and hash (length buckets - 1)) (w + 1))) (sym at) all))))
 
-pub popped : (hashes next buckets hashes' next' : List ℕ) (hash link count bucket : ℕ) → hashes ≡ hashes' ++ hash ∷ [] → next ≡ next' ++ link ∷ [] → bucket ≡ bit_and hash (count - 1) → count ≡ length buckets → AreChains hashes next buckets → AreChains hashes' next' (set buckets bucket link)
+popped : (hashes next buckets hashes' next' : List ℕ) (hash link count bucket : ℕ) → hashes ≡ hashes' ++ hash ∷ [] → next ≡ next' ++ link ∷ [] → bucket ≡ bit_and hash (count - 1) → count ≡ length buckets → AreChains hashes next buckets → AreChains hashes' next' (set buckets bucket link)
 popped hashes next buckets hashes' next' hash link count bucket last lead is size h =
     let many : length hashes ≡ length hashes' + 1 = ap length last ∙ length_push hashes' hash in
     let less : length next' ≡ length hashes' = let w = ap length lead ∙ length_push next' link in let v = h.links in omega arith in
@@ -176,3 +208,13 @@ popped hashes next buckets hashes' next' hash link count bucket last lead is siz
     (subst (λ w. AreChains (take (length hashes') hashes) w (set buckets bucket link)) two
     (subst (λ w. AreChains (take (length hashes') hashes) (take (length hashes') next) (set buckets w link)) bucket_is
     (subst (λ w. AreChains (take (length hashes') hashes) (take (length hashes') next) (set buckets (bucket_at (length buckets - 1) hashes (length hashes')) w)) link_is all)))
+
+pub link_pushed : (links more : List Link) (buckets : List ℕ) (hash number count bucket head : ℕ) → more ≡ links ++ (record { hash = hash; next = head }) ∷ [] → head ≡ get_or buckets bucket head → bucket ≡ bit_and hash (count - 1) → count ≡ length buckets → number ≡ length links → number + 1 < 2 ^ 32 → length links < length buckets → AreChains (hashes_of links) (nexts_of links) buckets → AreChains (hashes_of more) (nexts_of more) (set buckets bucket (number + 1))
+link_pushed links more buckets hash number count bucket head e read is size at few room h =
+    let l : Link = record { hash = hash; next = head } in
+    let many = count_of links in
+    pushed (hashes_of links) (nexts_of links) buckets (hashes_of more) (nexts_of more) hash number count bucket head (ap hashes_of e ∙ map_push (λ w. w.hash) links l) (ap nexts_of e ∙ map_push (λ w. w.next) links l) read is size (omega arith) few (omega arith) h
+
+pub link_popped : (links left : List Link) (buckets : List ℕ) (l : Link) (count bucket : ℕ) → links ≡ left ++ l ∷ [] → bucket ≡ bit_and l.hash (count - 1) → count ≡ length buckets → AreChains (hashes_of links) (nexts_of links) buckets → AreChains (hashes_of left) (nexts_of left) (set buckets bucket l.next)
+link_popped links left buckets l count bucket e is size h =
+    popped (hashes_of links) (nexts_of links) buckets (hashes_of left) (nexts_of left) l.hash l.next count bucket (ap hashes_of e ∙ map_push (λ w. w.hash) left l) (ap nexts_of e ∙ map_push (λ w. w.next) left l) is size h

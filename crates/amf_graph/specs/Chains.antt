@@ -1,5 +1,13 @@
 -- Numbers by their hashes, in chains that lead to lower numbers. A device of proofs.
-use Rattle.std.specs.Prelude.{◌≡◌, ◌≢◌, ℕ, ◌-◌, ◌<◌, ◌≤◌, ◌^◌, List, length, get_or, bit_and}
+use Rattle.std.specs.Prelude.{◌≡◌, ◌≢◌, ℕ, ◌-◌, ◌<◌, ◌≤◌, ◌^◌, List, length, map, get_or, bit_and}
+use Rattle.amf_graph.specs.declared.chains.Link.{Link}
+
+-- what is kept of each number: its hash, and the link to the next lower number of its bucket
+abbrev pub hashes_of : List Link → List ℕ
+hashes_of links = map (λ l. l.hash) links
+
+abbrev pub nexts_of : List Link → List ℕ
+nexts_of links = map (λ l. l.next) links
 
 -- A link is one more than a number, or 0 for none. This one leads to the greatest number below an end that has a key, if one has.
 pub record LeadsTo (key : ℕ → ℕ) (bound wanted link : ℕ) : Type 0 where

@@ -1,7 +1,7 @@
 //! Numbers by their hashes.
 
 ghost use Rattle.std.specs.Prelude.{◌≡◌, ℕ, ◌+◌, ◌-◌, ◌<◌, ◌≤◌, ◌^◌, [], ◌∷◌, ◌++◌, length, take, set, get_or, bit_and, IfOk, OnOk, OnErr};
-ghost use Rattle.amf_graph.specs.Chains.{LeadsTo, hash_at, bucket_at, AreNexts, AreLinked, AreChains};
+ghost use Rattle.amf_graph.specs.Chains.{LeadsTo, hash_at, bucket_at, hashes_of, nexts_of, AreNexts, AreLinked, AreChains};
 
 use amf_wire::Memory;
 use std::alloc::Global;
@@ -13,26 +13,32 @@ const MAX_NUMBERS: usize = 4_294_967_295;
 /// How many buckets there are at first.
 const FIRST_BUCKETS: usize = 16;
 
+/// What is kept of a number. Both stand together, since a step along a chain reads both.
+#[derive(Clone, Copy)]
+struct Link {
+    hash: u32,
+    /// The link to the next lower number of its bucket.
+    next: u32,
+}
+
 /// Hashes, each with its number, which counts from 0. The numbers of one hash are found from the greatest down.
 #[derive(Drop)]
 pub(crate) struct Chains {
     alloc: Global,
-    hashes: Vec<u32>,
-    /// For each number the link to the next lower one of its bucket.
-    next: Vec<u32>,
+    links: Vec<Link>,
     /// For each bucket the link to its greatest number. A link is one more than the number, or 0 for none.
     buckets: Vec<u32>,
 }
 
 impl Model for Chains {
     ghost use Rattle.std.specs.Prelude.{List, ℕ};
-    ghost use Rattle.amf_graph.specs.Chains.{AreChains};
+    ghost use Rattle.amf_graph.specs.Chains.{hashes_of, nexts_of, AreChains};
 
     ghost Value = { List ℕ };
 
-    ghost view = { λ c. c.hashes.items };
+    ghost view = { λ c. hashes_of c.links.items };
 
-    ghost invariant = { λ c. AreChains c.hashes.items c.next.items c.buckets.items };
+    ghost invariant = { λ c. AreChains (hashes_of c.links.items) (nexts_of c.links.items) c.buckets.items };
 }
 
 /// The bucket of a hash, of so many.
@@ -58,73 +64,73 @@ fn enter(hash: u32, number: u32, buckets: &mut [u32]) -> u32
 }
 
 /// Links all numbers anew, in buckets that are empty.
-fn link_all(hashes: &[u32], next: &mut [u32], buckets: &mut [u32])
-    requires few { length hashes.now < 2 ^ 32 }
-    requires links { length next.old ≡ length hashes.now }
+fn link_all(links: &mut [Link], buckets: &mut [u32])
+    requires few { length links.old < 2 ^ 32 }
     requires there { 0 < length buckets.old }
-    requires none { AreLinked (length buckets.old - 1) 0 hashes.now next.old buckets.old }
-    ensures { AreLinked (length buckets.old - 1) (length hashes.now) hashes.now next.new buckets.new }
+    requires none { AreLinked (length buckets.old - 1) 0 (hashes_of links.old) (nexts_of links.old) buckets.old }
+    ensures same { hashes_of links.new ≡ hashes_of links.old }
+    ensures linked { AreLinked (length buckets.old - 1) (length links.old) (hashes_of links.old) (nexts_of links.new) buckets.new }
+    ensures count { length buckets.new ≡ length buckets.old }
 {
-    for (place, hash) in hashes.iter().enumerate() {
-        next[place] = enter(*hash, place as u32, buckets);
+    for place in 0..links.len() {
+        links[place].next = enter(links[place].hash, place as u32, buckets);
     }
 }
 
 /// From a link of a chain on, the first one that leads to this hash.
-fn link_of(hashes: &[u32], next: &[u32], from: u32, hash: u32) -> u32
-    requires links { length next.now ≡ length hashes.now }
-    requires from { from ≤ length hashes.now }
-    requires lower { (i : ℕ) → i < length hashes.now → get_or next.now i 0 ≤ i }
-    ensures { (mask bound : ℕ) → AreNexts mask (length hashes.now) hashes.now next.now → LeadsTo (bucket_at mask hashes.now) bound (bit_and hash mask) from → bound ≤ length hashes.now → LeadsTo (hash_at hashes.now) bound hash result }
+fn link_of(links: &[Link], from: u32, hash: u32) -> u32
+    requires from { from ≤ length links.now }
+    requires lower { (i : ℕ) → i < length links.now → get_or (nexts_of links.now) i 0 ≤ i }
+    ensures { (mask bound : ℕ) → AreNexts mask (length links.now) (hashes_of links.now) (nexts_of links.now) → LeadsTo (bucket_at mask (hashes_of links.now)) bound (bit_and hash mask) from → bound ≤ length links.now → LeadsTo (hash_at (hashes_of links.now)) bound hash result }
 {
     let mut link = from;
-    while link > 0 && hashes[link as usize - 1] != hash {
-        link = next[link as usize - 1];
+    while link > 0 {
+        let at = links[link as usize - 1];
+        if at.hash == hash {
+            return link;
+        }
+        link = at.next;
     }
-    link
+    0
 }
 
 /// The link to the greatest number that has this hash.
-fn first_of(hashes: &[u32], next: &[u32], buckets: &[u32], hash: u32) -> u32
-    requires { AreChains hashes.now next.now buckets.now }
-    ensures { LeadsTo (hash_at hashes.now) (length hashes.now) hash result }
+fn first_of(links: &[Link], buckets: &[u32], hash: u32) -> u32
+    requires { AreChains (hashes_of links.now) (nexts_of links.now) buckets.now }
+    ensures { LeadsTo (hash_at (hashes_of links.now)) (length links.now) hash result }
 {
     if buckets.is_empty() {
         return 0;
     }
     let bucket = bucket_of(buckets.len(), hash);
-    link_of(hashes, next, buckets[bucket], hash)
+    link_of(links, buckets[bucket], hash)
 }
 
 /// From the link to a number, the one to the next lower number of the same hash.
-fn next_of(hashes: &[u32], next: &[u32], buckets: &[u32], link: u32) -> u32
-    requires chains { AreChains hashes.now next.now buckets.now }
+fn next_of(links: &[Link], buckets: &[u32], link: u32) -> u32
+    requires chains { AreChains (hashes_of links.now) (nexts_of links.now) buckets.now }
     requires some { 0 < link }
-    requires there { link ≤ length hashes.now }
-    ensures { LeadsTo (hash_at hashes.now) (link - 1) (hash_at hashes.now (link - 1)) result }
+    requires there { link ≤ length links.now }
+    ensures { LeadsTo (hash_at (hashes_of links.now)) (link - 1) (hash_at (hashes_of links.now) (link - 1)) result }
 {
     let _ = buckets;
-    let place = link as usize - 1;
-    link_of(hashes, next, next[place], hashes[place])
+    let at = links[link as usize - 1];
+    link_of(links, at.next, at.hash)
 }
 
 /// Links all numbers in twice as many buckets, where there are as many numbers as buckets. After an end nothing has changed.
-fn make_room(
-    alloc: Global,
-    hashes: &[u32],
-    next: &mut Vec<u32>,
-    buckets: &mut Vec<u32>,
-) -> Result<(), Memory>
-    requires { AreChains hashes.now next.old.items buckets.old.items }
-    ensures chains { AreChains hashes.now next.new.items buckets.new.items }
-    ensures room { OnOk result (length hashes.now < length buckets.new.items) }
+fn make_room(alloc: Global, links: &mut [Link], buckets: &mut Vec<u32>) -> Result<(), Memory>
+    requires { AreChains (hashes_of links.old) (nexts_of links.old) buckets.old.items }
+    ensures same { hashes_of links.new ≡ hashes_of links.old }
+    ensures chains { AreChains (hashes_of links.new) (nexts_of links.new) buckets.new.items }
+    ensures room { OnOk result (length links.new < length buckets.new.items) }
 {
-    let count = hashes.len();
+    let count = links.len();
     if count < buckets.len() {
         return Ok(());
     }
     let mut more = vec![in alloc; 0; FIRST_BUCKETS.max(2 * count)]?;
-    link_all(hashes, next, &mut more);
+    link_all(links, &mut more);
     *buckets = more;
     Ok(())
 }
@@ -136,8 +142,7 @@ impl Chains {
     {
         Chains {
             alloc,
-            hashes: Vec::new(alloc),
-            next: Vec::new(alloc),
+            links: Vec::new(alloc),
             buckets: Vec::new(alloc),
         }
     }
@@ -146,14 +151,14 @@ impl Chains {
     pub(crate) fn len(&self) -> usize
         ensures { result ≡ length self.now }
     {
-        self.hashes.len()
+        self.links.len()
     }
 
     /// The link to the greatest number that has this hash.
     pub(crate) fn first(&self, hash: u32) -> u32
         ensures { LeadsTo (hash_at self.now) (length self.now) hash result }
     {
-        first_of(&self.hashes, &self.next, &self.buckets, hash)
+        first_of(&self.links, &self.buckets, hash)
     }
 
     /// From the link to a number, the one to the next lower number of the same hash.
@@ -162,7 +167,7 @@ impl Chains {
         requires there { link ≤ length self.now }
         ensures { LeadsTo (hash_at self.now) (link - 1) (hash_at self.now (link - 1)) result }
     {
-        next_of(&self.hashes, &self.next, &self.buckets, link)
+        next_of(&self.links, &self.buckets, link)
     }
 
     /// Gives the next number to a hash. After an end nothing has changed.
@@ -171,16 +176,14 @@ impl Chains {
         ensures ok { OnOk result (self.new ≡ self.old ++ hash ∷ []) }
         ensures err { OnErr result (self.new ≡ self.old) }
     {
-        let number = self.hashes.len();
+        let number = self.links.len();
         if number >= MAX_NUMBERS {
             return Err(Memory);
         }
-        make_room(self.alloc, &self.hashes, &mut self.next, &mut self.buckets)?;
-        self.next.reserve(1)?;
-        self.hashes.push(hash)?;
+        make_room(self.alloc, &mut self.links, &mut self.buckets)?;
         let bucket = bucket_of(self.buckets.len(), hash);
-        let head = self.buckets[bucket];
-        self.next.push(head)?;
+        let next = self.buckets[bucket];
+        self.links.push(Link { hash, next })?;
         self.buckets[bucket] = number as u32 + 1;
         Ok(())
     }
@@ -190,9 +193,9 @@ impl Chains {
         requires { 0 < length self.old }
         ensures { self.new ≡ take (length self.old - 1) self.old }
     {
-        if let (Some(hash), Some(link)) = (self.hashes.pop(), self.next.pop()) {
+        if let Some(Link { hash, next }) = self.links.pop() {
             let bucket = bucket_of(self.buckets.len(), hash);
-            self.buckets[bucket] = link;
+            self.buckets[bucket] = next;
         }
     }
 
@@ -202,8 +205,7 @@ impl Chains {
     {
         Ok(Chains {
             alloc,
-            hashes: self.hashes.to_vec(alloc)?,
-            next: self.next.to_vec(alloc)?,
+            links: self.links.to_vec(alloc)?,
             buckets: self.buckets.to_vec(alloc)?,
         })
     }

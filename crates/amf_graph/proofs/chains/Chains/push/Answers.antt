@@ -1,17 +1,21 @@
 -- The next number has its hash, and stands at the front of its bucket's chain.
-use Rattle.std.proofs.Common.{◌∷◌, ◌++◌, [], length, sym, ap, ◌∙◌, arith}
-use Rattle.amf_graph.proofs.Links.{pushed}
+use Rattle.std.proofs.Common.{◌≡◌, [], ◌∷◌, ◌++◌, length, drop, sym, ap, ◌∙◌, arith}
+use Rattle.std.proofs.lemmas.List.{take_at}
+use Rattle.amf_graph.specs.Chains.{hashes_of}
+use Rattle.amf_graph.proofs.Links.{count_of, link_pushed}
 use Rattle.amf_graph.proofs.chains.Chains.push.Goals as goal
 
 pub invariant_of-self-2 : goal.invariant_of-self-2
 invariant_of-self-2 c =
-    pushed c.deref.result.now c.make_room.new.next.items c.make_room.new.buckets.items c.push.new.self.items c.push-2.new.self.items c.args.hash c.len-number.result c.len.result c.bucket_of-bucket.result c.index-head.result.now
-    (c.in_ok-push.ensures.items ∙ ap (λ w. w ++ c.args.hash ∷ []) (sym c.deref.ensures.value))
-    (c.in_ok-push-2.ensures.items ∙ ap (λ w. w ++ c.index-head.result.now ∷ []) c.reserve.ensures.items)
-    c.index-head.ensures
+    let many : length c.self.inside.links.items ≡ length c.make_room.new.links =
+    sym (count_of c.self.inside.links.items) ∙ ap (λ w. length (hashes_of w)) (sym c.deref_mut.ensures.value) ∙ ap length (sym c.make_room.ensures.same) ∙ count_of c.make_room.new.links in
+    let all = take_at c.make_room.new.links (drop (length c.make_room.new.links) c.self.inside.links.items) c.self.inside.links.len (sym many ∙ sym c.self.inside.links.ok.0) in
+    link_pushed c.make_room.new.links c.push.new.self.items c.make_room.new.buckets.items c.args.hash c.len-number.result c.len.result c.bucket_of-bucket.result c.index-next.result.now
+    (c.in_ok-push.ensures.items ∙ ap (λ w. w ++ record { hash = c.args.hash; next = c.index-next.result.now } ∷ []) all)
+    c.index-next.ensures
     c.bucket_of-bucket.ensures.bucket
     (c.len.ensures ∙ c.make_room.new.buckets.ok.0)
-    (c.len-number.ensures ∙ c.self.inside.hashes.ok.0 ∙ ap length (sym c.deref.ensures.value))
+    (c.len-number.ensures ∙ c.self.inside.links.ok.0 ∙ many)
     (omega arith)
     c.in_ok-make_room.ensures.room
     c.make_room.ensures.chains
