@@ -7,7 +7,7 @@ use Rattle.std.proofs.lemmas.List.Sums.{fold-append}
 use Rattle.std.proofs.lemmas.Option.{slice_get_within, slice_get_read}
 use Rattle.amf_graph.specs.Order.{Absent}
 use Rattle.amf_graph.specs.TextNumbers.{with_content, contents_of}
-use Rattle.amf_graph.proofs.Contents.{content_there, text_in_contents}
+use Rattle.amf_graph.proofs.Contents.{content_there, content_new, text_in_contents}
 use Rattle.amf_graph.proofs.Lists.{at_push}
 use Rattle.amf_tables.specs.FirstPlace.{IsFirstPlace}
 use Rattle.amf_tables.specs.TextFirsts.{AreTextFirsts}
@@ -110,3 +110,9 @@ pushed_kept texts texts' firsts firsts' x is room noted same h =
     subst (λ w. AreTextFirsts w firsts') (sym is)
     (subst (λ w. AreTextFirsts (texts ++ x ∷ []) w) (sym noted)
     (firsts_kept texts firsts x h room (subst (λ w. length (contents_of w) ≤ length firsts) is same)))
+
+pub pushed_absent : (texts texts' : List (List ℕ)) (firsts firsts' : List ℕ) (x : List ℕ) (place : ℕ) → texts' ≡ texts ++ x ∷ [] → place ≡ length texts → place < MAX_ENTRIES → firsts' ≡ firsts ++ place ∷ [] → Absent (contents_of texts) x → AreTextFirsts texts firsts → AreTextFirsts texts' firsts'
+pushed_absent texts texts' firsts firsts' x place is at room noted none h =
+    let many = h.each in
+    let grows = ap length (ap contents_of is ∙ contents_pushed texts x ∙ content_new (contents_of texts) x none) ∙ length_push (contents_of texts) x in
+    pushed_new texts texts' firsts firsts' x place is at room noted (omega (arith, many, grows)) h

@@ -74,11 +74,21 @@ impl TextTable {
         ensures ok { IfOk result (IsEntered self.old bytes.now self.new) }
         ensures err { OnErr result (self.new ≡ self.old) }
     {
-        if let Some(place) = self.place_of(bytes) {
-            return Ok(TextPlace::Old(place));
+        let place = self.texts.len();
+        if place >= MAX_ENTRIES {
+            return match self.place_of(bytes) {
+                Some(first) => Ok(TextPlace::Old(first)),
+                None => Err(Memory),
+            };
         }
-        self.push(bytes)?;
-        Ok(TextPlace::New((self.texts.len() - 1) as u32))
+        self.firsts.reserve(1)?;
+        match self.texts.find_or_push(bytes)? {
+            Some(number) => Ok(TextPlace::Old(self.firsts[number as usize])),
+            None => {
+                self.firsts.push(place as u32)?;
+                Ok(TextPlace::New(place as u32))
+            }
+        }
     }
 
     /// Enters a text. After an error nothing has changed.
