@@ -1,5 +1,5 @@
 -- Nodes by their rows, where a row or a slot is another.
-use Rattle.std.proofs.Common.{◌≡◌, ◌≢◌, ℕ, zero, suc, ◌+◌, ◌<◌, ◌≤◌, List, [], ◌∷◌, ◌++◌, length, get_or, map, set, take, Some, None, ◌⊎◌, inl, inr, Result, Ok, Err, OnErr, sym, refl, ap, ◌∙◌, subst, arith, get_or-set_other, get_or-set_same, length-set}
+use Rattle.std.proofs.Common.{◌≡◌, ◌≢◌, ℕ, zero, suc, ◌+◌, ◌-◌, ◌<◌, ◌≤◌, List, [], ◌∷◌, ◌++◌, length, get_or, map, set, take, Some, None, ◌⊎◌, inl, inr, Result, Ok, Err, OnErr, sym, refl, ap, ◌∙◌, subst, arith, get_or-set_other, get_or-set_same, length-set}
 use Rattle.std.proofs.lemmas.List.{length-append, length-map, get_or-map, set-get_or, take-map, get_or_read}
 use Rattle.amf_graph.specs.declared.row.Row.{Row}
 use Rattle.amf_graph.specs.declared.row.Row.TheVariants as row
@@ -132,6 +132,11 @@ rows_used p ss ss' used rows l e a = record { slots = l; fits = λ i m. fits_use
 
 pub nodes_used : (p : Pool) (ss ss' : List KeptSlot) (used : ℕ) (rows : List Row) → ((k : ℕ) → k < used → get_or ss' k no_slot ≡ get_or ss k no_slot) → AreRows p ss used rows → row_nodes p ss' rows ≡ row_nodes p ss rows
 nodes_used p ss ss' used rows e a = rows_same (row_node p ss) (row_node p ss') rows (λ i m. shows_used p ss ss' used i (get_or rows i no_row) e (a.fits i m))
+
+-- A slot that is not used has another content, and one below has what it had.
+pub handed_down : (ss : List KeptSlot) (used : ℕ) (x y : KeptSlot) → y ≡ get_or (set ss used x) (used - 1) no_slot → (k : ℕ) → k < used → get_or (set (set ss used x) (used - 1) y) k no_slot ≡ get_or ss k no_slot
+handed_down ss used x y same k l =
+    ap (λ w. get_or w k no_slot) (ap (set (set ss used x) (used - 1)) same ∙ set-get_or (set ss used x) (used - 1) no_slot) ∙ get_or-set_other ss used k x no_slot (λ e. absurd (omega arith))
 
 -- One node more, in the next slot.
 

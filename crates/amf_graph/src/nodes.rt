@@ -265,6 +265,18 @@ impl Nodes {
         }
     }
 
+    /// Hands the list of values of the slot that was left to the one below, if that has none: so nodes within one another need one
+    /// list, and not one each.
+    fn hand_down(&mut self)
+        ensures { self.new ≡ self.old }
+    {
+        let used = self.used;
+        if used > 0 && used < self.slots.len() && self.slots[used - 1].is_bare() {
+            let list = self.slots[used].take_list();
+            self.slots[used - 1].use_list(list);
+        }
+    }
+
     /// Closes a node that is open.
     pub(crate) fn close(&mut self, place: usize)
         requires there { place < length self.old }
@@ -273,6 +285,7 @@ impl Nodes {
     {
         self.shut(place);
         self.settle(place);
+        self.hand_down();
     }
 
     /// Lets the lists go that no node has.

@@ -1,6 +1,6 @@
 //! Nodes with lists of their own.
 
-ghost use Rattle.std.specs.Prelude.{◌≡◌, ◌<◌, Some, None, OnOk, OnErr};
+ghost use Rattle.std.specs.Prelude.{◌≡◌, ◌<◌, [], Some, None, OnOk, OnErr};
 ghost use Rattle.amf_graph.specs.Bodies.{TakesPart};
 ghost use Rattle.amf_graph.specs.Bounds.{count_end};
 ghost use Rattle.amf_graph.specs.Building.{shape_head, begun, more_part, shut, size_of, kind_of};
@@ -14,6 +14,7 @@ use crate::{NodeKind, Part, Shape, Value};
 use amf_wire::Memory;
 use std::alloc::Global;
 use std::marker::Model;
+use std::mem;
 
 /// Whose a slot is: no node's, or that of the node at this place, which is open or closed.
 #[derive(Clone, Copy)]
@@ -77,6 +78,31 @@ impl Slot {
         ensures { self.new.owner ≡ None }
     {
         self.state = State::Left;
+    }
+
+    /// Whether it has no list for values yet.
+    pub(crate) fn is_bare(&self) -> bool {
+        self.values.capacity() == 0
+    }
+
+    /// Gives its list for values, without them. No node stands here.
+    pub(crate) fn take_list(&mut self) -> Vec<Value>
+        ensures { result.items ≡ [] }
+    {
+        let none = Vec::new(*self.values.allocator());
+        let mut list = mem::replace(&mut self.values, none);
+        list.clear();
+        list
+    }
+
+    /// Uses a list that is empty for its values, if it has none yet.
+    pub(crate) fn use_list(&mut self, list: Vec<Value>)
+        requires { list.items ≡ [] }
+        ensures { self.new ≡ self.old }
+    {
+        if self.values.is_empty() {
+            self.values = list;
+        }
     }
 
     pub(crate) fn is_open(&self) -> bool
