@@ -8,7 +8,7 @@ ghost use Rattle.amf_graph.specs.Pools.{no_pool, span_of, SpanIn, RowIn, pool_no
 ghost use Rattle.amf_graph.specs.Views.{named, flat};
 
 use crate::held::{Form, Held};
-use crate::row::{Row, Span, number_of, span_from};
+use crate::row::{NOWHERE, Row, Span, number_of, span_from};
 use crate::{Leaf, NodeKind, TextId, Value};
 use amf_wire::Memory;
 use std::alloc::Global;
@@ -127,6 +127,9 @@ impl Pools {
         ensures ok { IfOk result (λ row. Keeps self.old self.new (closed (form_head form) (named names.now) values.now) row) }
         ensures grows { Grows self.old self.new }
     {
+        if values.is_empty() && names.is_empty() {
+            return Ok(Row::Parts(form, NOWHERE, NOWHERE));
+        }
         let value_span = span_from(self.values.len(), values.len())?;
         let name_span = span_from(self.names.len(), names.len())?;
         extend(&mut self.values, values)?;

@@ -25,6 +25,9 @@ pub(crate) enum Row {
     Dictionary(bool, Span),
 }
 
+/// No places.
+pub(crate) const NOWHERE: Span = Span { start: 0, end: 0 };
+
 /// The number of a place. It gives up where it has none.
 pub(crate) fn number_of(place: usize) -> Result<u32, Memory>
     ensures { IfOk result (λ number. number ≡ place) }
