@@ -10,7 +10,7 @@ ghost use Rattle.amf3_spelling.specs.ByteSpelling as spell;
 ghost use Rattle.amf3_write.specs.Unwritten.{AreRunsOf, IsNextOf, next_segments, segments_left, turns_left, Falls};
 ghost use Rattle.amf3_write.specs.Writes.{WritesSteps, WritesValue, Leads, Keeps, Stops, IsReady};
 
-use crate::nodes::{is_unnamed, kind_of};
+use crate::nodes::is_unnamed;
 use crate::output::Output;
 use crate::unwritten::Unwritten;
 use amf_graph::{Lack, LackKind, NodeId, Rooted, Value, WriteEnd};
@@ -141,7 +141,7 @@ impl Output {
                 node: self.tables.node_count(),
             }));
         }
-        self.marker(Marker::Node(kind_of(view)))?;
+        self.marker(Marker::Node(view.kind()))?;
         self.tables.add_node(node)?;
         self.open(node, view, graph, waiting)?;
         Ok(())

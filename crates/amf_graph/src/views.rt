@@ -1,4 +1,9 @@
-use crate::{TextId, TraitsId, Value, Wrapped};
+ghost use Rattle.std.specs.Prelude.{◌≡◌};
+ghost use Rattle.amf_graph.specs.Arena.{Arena, StoredNode};
+ghost use Rattle.amf_graph.specs.Building.{kind_of};
+ghost use Rattle.amf_graph.specs.Views.{Shows};
+
+use crate::{NodeKind, TextId, TraitsId, Value, Wrapped};
 use amf_wire::Pattern;
 
 /// A complete node, as a graph shows it.
@@ -46,6 +51,28 @@ pub enum NodeView<'a> {
         weak: bool,
         entries: &'a [(Value, Value)],
     },
+}
+
+impl NodeView<'_> {
+    /// The kind of the node.
+    pub fn kind(self) -> NodeKind
+        ensures { (a : Arena) (n : StoredNode) → Shows a n self.entry → result ≡ kind_of n.head }
+    {
+        match self {
+            NodeView::XmlDocument(_) => NodeKind::XmlDocument,
+            NodeView::Xml(_) => NodeKind::Xml,
+            NodeView::Date(_) => NodeKind::Date,
+            NodeView::Bytes(_) => NodeKind::Bytes,
+            NodeView::Ints { .. } => NodeKind::Ints,
+            NodeView::Uints { .. } => NodeKind::Uints,
+            NodeView::Doubles { .. } => NodeKind::Doubles,
+            NodeView::Array { .. } => NodeKind::Array,
+            NodeView::Object { .. } => NodeKind::Object,
+            NodeView::Wrapper { .. } => NodeKind::Wrapper,
+            NodeView::Values { .. } => NodeKind::Values,
+            NodeView::Dictionary { .. } => NodeKind::Dictionary,
+        }
+    }
 }
 
 /// A class, as a graph shows it.

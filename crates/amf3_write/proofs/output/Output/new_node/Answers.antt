@@ -40,9 +40,9 @@ returns-clause-leads c =
     let m : Output = record { alloc = p.alloc; tables = c.add_node.new.self; known = p.known; bytes = p.bytes } in
     let old = segments_left a c.args.waiting.now.items in
     let there = subst (λ k. i < k) (sym (length-map a.nodes (node_content a))) c.requires.there in
-    let marked = ap node_marker (c.kind_of.ensures a (stored_at a i) c.node-view.ensures) ∙ sym (shown_marker a c.args.graph.now.root i) in
+    let marked = ap node_marker (c.kind.ensures a (stored_at a i) c.node-view.ensures) ∙ sym (shown_marker a c.args.graph.now.root i) in
     leads_then g (value (node i) ∷ old) (node_segments (node_at g i) ++ old) (segments_left a c.open.new.waiting.items) c.args.self.now m c.open.new.self
-    (leads_new g i (marker_byte (Node c.kind_of.result)) old c.args.self.now p m there c.requires.new c.requires.ready.placed (named_from (node_at g i).names c.is_unnamed.result c.if-is_unnamed.false c.is_unnamed.ensures.1)
+    (leads_new g i (marker_byte (Node c.kind.result)) old c.args.self.now p m there c.requires.new c.requires.ready.placed (named_from (node_at g i).names c.is_unnamed.result c.if-is_unnamed.false c.is_unnamed.ensures.1)
     (fits_now a c.args.graph.now.root i c.is_finished.ensures.finished c.requires.there) marked c.in_ok-marker.ensures.ok c.in_ok-add_node.ensures.ok refl) c.in_ok-open.ensures.leads
 
 pub returns-clause-falls : goal.returns-clause-falls
