@@ -147,7 +147,10 @@ fn give<S: Source>(
             kept(builder.put(node, part))?;
             Ok(Unfinished { node, todo })
         }
-        None => read_entry(alloc, cursor, builder, tables, frames, node, value, todo),
+        None => {
+            let inner = read_entry(alloc, cursor, builder, tables, frames, node, value, todo)?;
+            Ok(inner)
+        }
     }
 }
 
