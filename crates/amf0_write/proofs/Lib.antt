@@ -5,7 +5,6 @@ pub mod Lowers
 pub mod MeetingSteps
 pub mod FirstReasons
 pub mod ShortNames
-pub mod InOrder
 pub mod Heights0
 pub mod Closing0
 pub mod Grown0

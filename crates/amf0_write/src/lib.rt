@@ -9,7 +9,6 @@ mod meetings;
 mod nodes;
 mod open;
 mod output;
-mod pairs;
 mod part_lack;
 mod stop;
 mod unwritten;

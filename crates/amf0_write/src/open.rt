@@ -17,10 +17,9 @@ ghost use Rattle.amf0_write.specs.Writes0.{pairs_then, done_of, Leads, Keeps, Op
 ghost use Rattle.amf_graph.specs.Bounds.{count_end};
 
 use crate::output::Output;
-use crate::pairs::are_by_name;
 use crate::unwritten::{Unwritten, push_values};
 use amf_graph::{NodeId, NodeView, Rooted, TextId, TraitsId, Value};
-use amf_iso::ids_by_name;
+use amf_iso::{are_by_name, ids_by_name};
 use amf_wire::Memory;
 use std::alloc::Global;
 

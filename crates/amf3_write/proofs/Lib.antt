@@ -3,7 +3,6 @@ pub mod Wrote
 pub mod WroteSegments
 pub mod Ready
 pub mod NamedPairs
-pub mod InOrder
 pub mod Runs
 pub mod Leading
 pub mod WroteNodes

@@ -14,10 +14,9 @@ ghost use Rattle.amf3_write.specs.Unwritten.{AreRunsOf, segments_left, turns_lef
 ghost use Rattle.amf3_write.specs.Writes.{Leads, Keeps, IsReady};
 
 use crate::output::Output;
-use crate::pairs::are_by_name;
 use crate::unwritten::{Unwritten, push_values};
 use amf_graph::{NodeId, NodeView, Rooted, TextId, TraitsId, Value};
-use amf_iso::ids_by_name;
+use amf_iso::{are_by_name, ids_by_name};
 use amf_wire::Memory;
 use std::alloc::Global;
 

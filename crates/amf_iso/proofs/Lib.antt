@@ -12,7 +12,7 @@ mod ClosedOrders
 mod Relabelled
 pub mod EntriesRemain
 mod Joins
-mod InOrder
+pub mod InOrder
 mod Held
 pub mod Meeting
 mod NamesAlike

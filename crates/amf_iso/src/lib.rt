@@ -17,5 +17,5 @@ mod walk;
 pub use compare::isomorphic;
 pub use met::values_met;
 pub use numbering::Numbering;
-pub use pairs::{by_name, ids_by_name};
+pub use pairs::{are_by_name, by_name, ids_by_name};
 pub use relabelling::relabel;

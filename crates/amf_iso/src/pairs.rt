@@ -1,4 +1,4 @@
-ghost use Rattle.std.specs.Prelude.{◌≡◌, ◌<◌, ◌↔◌, length, IfOk, IsTrue};
+ghost use Rattle.std.specs.Prelude.{◌≡◌, ◌↔◌, IfOk, IsTrue};
 ghost use Rattle.std.specs.Cmp.Lexicographic.{slice_cmp};
 ghost use Rattle.std.specs.List.Sorted.{IsSortedBy};
 ghost use Rattle.std.specs.Ordering.{is_lt, nat_cmp};
@@ -6,7 +6,7 @@ ghost use Rattle.amf_graph.specs.Arena.{text_at};
 ghost use Rattle.amf_graph.specs.ByName.{before, by_name};
 ghost use Rattle.amf_iso.specs.Contents.{pairs_of, ArePairs, named_pairs, AreNamedPairs};
 
-use amf_graph::{Rooted, TextId, Value, number_facts};
+use amf_graph::{Rooted, TextId, Value};
 use amf_wire::Memory;
 use std::alloc::Global;
 
@@ -58,22 +58,16 @@ pub fn ids_by_name(
     Ok(sorted)
 }
 
-/// Whether one name stands before another, by their bytes. One content is not compared with itself.
+/// Whether one name stands before another, by their bytes. A name is not compared with itself.
 fn is_before(name: TextId, other: TextId, graph: &Rooted) -> bool
-    requires name { name.0 < length graph.now.arena.texts }
-    requires other { other.0 < length graph.now.arena.texts }
     ensures { result ≡ is_lt (slice_cmp nat_cmp (text_at graph.now.arena name.0) (text_at graph.now.arena other.0)) }
 {
-    number_facts();
-    if graph.text_number(name) == graph.text_number(other) {
-        return false;
-    }
-    graph.compare_texts(name, other).is_lt()
+    name != other && graph.compare_texts(name, other).is_lt()
 }
 
-/// Whether pairs stand in the order of their names' bytes.
-pub(crate) fn are_by_name(pairs: &[(TextId, Value)], graph: &Rooted) -> bool
-    requires { ArePairs graph.now.arena pairs.now }
+/// Whether pairs stand in the order of their names' bytes, so that `by_name` would change nothing. Pairs of one name may stand in
+/// any order. Each name is compared with the one before it alone, and no memory is taken.
+pub fn are_by_name(pairs: &[(TextId, Value)], graph: &Rooted) -> bool
     ensures { IsTrue result ↔ IsSortedBy before (pairs_of graph.now.arena pairs.now) }
 {
     for index in 1..pairs.len() {

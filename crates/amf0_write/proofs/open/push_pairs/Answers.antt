@@ -3,10 +3,10 @@ use Rattle.std.specs.List.{AllByRecursion}
 use Rattle.std.proofs.lemmas.List.{reverse-reverse}
 use Rattle.amf_graph.proofs.NameOrder.{by_name_length}
 use Rattle.amf_iso.specs.Contents.{pairs_of}
+use Rattle.amf_iso.proofs.InOrder.{already_by_name}
 use Rattle.amf0_write.specs.declared.unwritten.Unwritten.TheVariants.{Pairs, Sorted}
 use Rattle.amf0_write.specs.Unwritten0.{IsMetPair, segments_left}
 use Rattle.amf0_write.specs.Writes0.{pairs_then}
-use Rattle.amf0_write.proofs.InOrder.{already_by_name}
 use Rattle.amf0_write.proofs.MetValues0.{each_pair_met, sorted_met, pairs_length}
 use Rattle.amf0_write.proofs.Runs0.{all_reverse, segments_pushed, turns_pushed, runs_pushed}
 use Rattle.amf0_write.proofs.open.push_pairs.Goals as goal

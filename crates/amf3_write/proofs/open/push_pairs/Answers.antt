@@ -4,10 +4,10 @@ use Rattle.amf_graph.specs.Views.{named}
 use Rattle.amf_graph.proofs.NameOrder.{by_name_length}
 use Rattle.amf3_spelling.specs.ByteSpelling.{pairs_then}
 use Rattle.amf_iso.specs.Contents.{pairs_of}
+use Rattle.amf_iso.proofs.InOrder.{already_by_name}
 use Rattle.amf3_write.specs.declared.unwritten.Unwritten.TheVariants.{Pairs, Sorted}
 use Rattle.amf3_write.specs.Unwritten.{segments_left, IsStoredPair, AreStoredPairs}
 use Rattle.amf3_write.proofs.FoundSteps.{all_reverse}
-use Rattle.amf3_write.proofs.InOrder.{already_by_name}
 use Rattle.amf3_write.proofs.Runs.{segments_pushed, turns_pushed, runs_pushed, stored_pairs}
 use Rattle.amf3_write.proofs.WroteNodes.{true_is}
 use Rattle.amf3_write.proofs.open.push_pairs.Goals as goal
