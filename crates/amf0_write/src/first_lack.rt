@@ -23,9 +23,10 @@ fn reason(node: NodeId, place: u32, is_again: bool, graph: &Rooted) -> Option<La
     requires { node.0 < length graph.now.arena.nodes }
     ensures { (outside : ℕ) (order : List ℕ) (number : ℕ) → place ≡ place0 (content graph.now) outside order number → (is_again ≡ true) ↔ IsTwice (all_met (content graph.now) order) (graph_of_values.node node.0) → IsFirstReason (NodeLacks0 (content graph.now) outside order number node.0) result }
 {
-    if has_no_form(node, graph) {
+    let view = graph.node(node);
+    if has_no_form(node, view, graph) {
         Some(LackKind::NoForm)
-    } else if !has_short_names(node, graph) {
+    } else if !has_short_names(node, view, graph) {
         Some(LackKind::LongName)
     } else if !is_again {
         None

@@ -1,6 +1,8 @@
 ghost use Rattle.std.specs.Prelude.{◌≡◌, ◌<◌, ◌↔◌, length, IsTrue};
+ghost use Rattle.amf_graph.specs.Building.{stored_at};
 ghost use Rattle.amf_graph.specs.Graph.{node_at};
 ghost use Rattle.amf_graph.specs.Rooted.{content};
+ghost use Rattle.amf_graph.specs.Views.{Shows};
 ghost use Rattle.amf0_tables.specs.Lacks0.{HasNoForm, HasShortNames, IsShortName, enters0, is_loose0};
 ghost use Rattle.std.specs.List.{AllByRecursion};
 ghost use Rattle.amf_iso.specs.Contents.{pairs_of, ArePairs};
@@ -9,12 +11,14 @@ use crate::values::MAX_SHORT;
 use amf_graph::{NodeId, NodeView, Rooted, TextId, Value};
 
 /// Whether AMF 0 has no form of a node: it is of a kind that AMF 0 lacks, or an array with both items and names.
-pub(crate) fn has_no_form(node: NodeId, graph: &Rooted) -> bool
-    requires { node.0 < length graph.now.arena.nodes }
+pub(crate) fn has_no_form(node: NodeId, view: NodeView<'_>, graph: &Rooted) -> bool
+    requires there { node.0 < length graph.now.arena.nodes }
+    requires shown { Shows graph.now.arena (stored_at graph.now.arena node.0) view }
     ensures { IsTrue result ↔ HasNoForm (node_at (content graph.now) node.0) (node_at (content graph.now) node.0).head }
 {
+    let _ = node;
     graph.is_finished();
-    match graph.node(node) {
+    match view {
         NodeView::Array { items, names } => !items.is_empty() && !names.is_empty(),
         NodeView::Object { .. } | NodeView::Date(_) | NodeView::XmlDocument(_) => false,
         _ => true,
@@ -35,12 +39,14 @@ fn are_short(pairs: &[(TextId, Value)], graph: &Rooted) -> bool
 }
 
 /// Whether the class and the names of a node fit their length fields (1.3.1).
-pub(crate) fn has_short_names(node: NodeId, graph: &Rooted) -> bool
-    requires { node.0 < length graph.now.arena.nodes }
+pub(crate) fn has_short_names(node: NodeId, view: NodeView<'_>, graph: &Rooted) -> bool
+    requires there { node.0 < length graph.now.arena.nodes }
+    requires shown { Shows graph.now.arena (stored_at graph.now.arena node.0) view }
     ensures { IsTrue result ↔ HasShortNames (node_at (content graph.now) node.0) }
 {
+    let _ = node;
     graph.is_finished();
-    match graph.node(node) {
+    match view {
         NodeView::Array { names, .. } => are_short(names, graph),
         NodeView::Object {
             traits,

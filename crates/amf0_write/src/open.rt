@@ -2,11 +2,13 @@ ghost use Rattle.std.specs.Prelude.{◌≡◌, ◌≢◌, ◌+◌, ◌<◌, ◌�
 ghost use Rattle.std.specs.List.{AllByRecursion};
 ghost use Rattle.amf_graph.specs.declared.value.Value.TheVariants.{Node as NodeRef};
 ghost use Rattle.amf_graph.specs.Arena.{traits_at};
+ghost use Rattle.amf_graph.specs.Building.{stored_at};
 ghost use Rattle.amf_graph.specs.ByName.{by_name};
 ghost use Rattle.amf_graph.specs.Graph as graph_of_values;
 ghost use Rattle.amf_graph.specs.Graph.{node_at};
 ghost use Rattle.amf_graph.specs.Order.{Absent};
 ghost use Rattle.amf_graph.specs.Rooted.{content};
+ghost use Rattle.amf_graph.specs.Views.{Shows};
 ghost use Rattle.amf_iso.specs.Contents.{values_of, pairs_of};
 ghost use Rattle.amf0_tables.specs.Lacks0.{HasNoForm, HasShortNames, IsShortName};
 ghost use Rattle.amf0_tables.specs.Lowered.{IsLowered};
@@ -30,11 +32,13 @@ impl Output {
     pub(crate) fn open<'g>(
         &mut self,
         node: NodeId,
+        view: NodeView<'g>,
         graph: &'g Rooted,
         waiting: &mut Vec<Unwritten<'g>>,
     ) -> Result<(), Memory>
         requires low { IsLowered (content graph.now) }
         requires met { IsMetValue graph.now (NodeRef node) }
+        requires shown { Shows graph.now.arena (stored_at graph.now.arena node.0) view }
         requires new { Absent (done_of self.old) node.0 }
         requires form { HasNoForm (node_at (content graph.now) node.0) (node_at (content graph.now) node.0).head → ⊥ }
         requires short { HasShortNames (node_at (content graph.now) node.0) }
@@ -45,7 +49,7 @@ impl Output {
         ensures keeps { Keeps self.old self.new }
     {
         graph.is_finished();
-        match graph.node(node) {
+        match view {
             NodeView::Date(milliseconds) => {
                 self.enter_loose(node)?;
                 self.byte(0x0B)?;

@@ -25,9 +25,10 @@ fn new_reason(node: NodeId, graph: &Rooted) -> Option<LackKind>
     requires { node.0 < length graph.now.arena.nodes }
     ensures { IsFirstReason (MeetingLacks (content graph.now) node.0 Meeting.Never) result }
 {
-    if has_no_form(node, graph) {
+    let view = graph.node(node);
+    if has_no_form(node, view, graph) {
         Some(LackKind::NoForm)
-    } else if !has_short_names(node, graph) {
+    } else if !has_short_names(node, view, graph) {
         Some(LackKind::LongName)
     } else {
         None

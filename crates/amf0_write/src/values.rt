@@ -172,13 +172,14 @@ impl Output {
         ensures keeps { Keeps self.old self.new }
     {
         graph.is_finished();
-        if has_no_form(node, graph) {
+        let view = graph.node(node);
+        if has_no_form(node, view, graph) {
             return Err(Stop::Lack);
         }
-        if !has_short_names(node, graph) {
+        if !has_short_names(node, view, graph) {
             return Err(Stop::Lack);
         }
-        self.open(node, graph, waiting)?;
+        self.open(node, view, graph, waiting)?;
         Ok(())
     }
 }

@@ -1,11 +1,11 @@
 use Rattle.std.proofs.Common.{◌≡◌, ◌++◌, ◌∷◌, [], refl, ap, sym, ◌∙◌, subst, length, arith, List, ℕ}
 use Rattle.std.specs.Int.{to_be_bytes, w32, w64}
 use Rattle.amf_graph.specs.Arena.{node_content, traits_at, text_at, array, object, date, xml_document}
-use Rattle.amf_graph.specs.Building.{closed}
+use Rattle.amf_graph.specs.Building.{closed, stored_at}
 use Rattle.amf_graph.specs.Graph as graph
 use Rattle.amf_graph.specs.Graph.{Node, Head, node_at}
 use Rattle.amf_graph.specs.Rooted.{content}
-use Rattle.amf_graph.specs.Views.{named}
+use Rattle.amf_graph.specs.Views.{named, Shows}
 use Rattle.amf_iso.specs.Contents.{pairs_of, values_of}
 use Rattle.amf0_tables.specs.Lowered.{IsLowHead}
 use Rattle.amf0_tables.specs.Spells0.{IsOpenTraits}
@@ -22,21 +22,24 @@ array-requires-clause-items c =
     let a = c.args.graph.now.arena in
     let i = c.args.node.0 in
     let n = closed array (named c.in-Array.names.now) c.in-Array.items.now in
-    met_items c.args.graph.now i (node_content a n) c.in-Array.items.now (reached_node c.requires.met.reached) (shown a c.args.graph.now.root i n c.in-Array.ensures) refl (node_in a i n c.is_finished.ensures.finished c.requires.met.names c.in-Array.ensures).values
+    let there = subst (λ w. Shows a (stored_at a i) w) c.in-Array.is c.requires.shown in
+    met_items c.args.graph.now i (node_content a n) c.in-Array.items.now (reached_node c.requires.met.reached) (shown a c.args.graph.now.root i n there) refl (node_in a i n c.is_finished.ensures.finished c.requires.met.names there).values
 
 pub array-requires-clause-names : goal.array-requires-clause-names
 array-requires-clause-names c =
     let a = c.args.graph.now.arena in
     let i = c.args.node.0 in
     let n = closed array (named c.in-Array.names.now) c.in-Array.items.now in
-    met_names c.args.graph.now i (node_content a n) c.in-Array.names.now (reached_node c.requires.met.reached) (shown a c.args.graph.now.root i n c.in-Array.ensures) refl (node_in a i n c.is_finished.ensures.finished c.requires.met.names c.in-Array.ensures).names c.requires.short.1
+    let there = subst (λ w. Shows a (stored_at a i) w) c.in-Array.is c.requires.shown in
+    met_names c.args.graph.now i (node_content a n) c.in-Array.names.now (reached_node c.requires.met.reached) (shown a c.args.graph.now.root i n there) refl (node_in a i n c.is_finished.ensures.finished c.requires.met.names there).names c.requires.short.1
 
 pub object-requires-clause-open : goal.object-requires-clause-open
 object-requires-clause-open c =
     let a = c.args.graph.now.arena in
     let i = c.args.node.0 in
     let n = closed (object c.in-Object.traits.0) (named c.in-Object.members.now) c.in-Object.sealed.now in
-    let low = subst (λ (x : Node). IsLowHead x.head) (shown a c.args.graph.now.root i n c.in-Object.ensures) (c.requires.low.nodes i (reached_node c.requires.met.reached)) in
+    let there = subst (λ w. Shows a (stored_at a i) w) c.in-Object.is c.requires.shown in
+    let low = subst (λ (x : Node). IsLowHead x.head) (shown a c.args.graph.now.root i n there) (c.requires.low.nodes i (reached_node c.requires.met.reached)) in
     record { dynamic = low.0; unsealed = low.1 }
 
 pub object-requires-clause-names : goal.object-requires-clause-names
@@ -44,16 +47,18 @@ object-requires-clause-names c =
     let a = c.args.graph.now.arena in
     let i = c.args.node.0 in
     let n = closed (object c.in-Object.traits.0) (named c.in-Object.members.now) c.in-Object.sealed.now in
-    met_names c.args.graph.now i (node_content a n) c.in-Object.members.now (reached_node c.requires.met.reached) (shown a c.args.graph.now.root i n c.in-Object.ensures) refl (node_in a i n c.is_finished.ensures.finished c.requires.met.names c.in-Object.ensures).names c.requires.short.1
+    let there = subst (λ w. Shows a (stored_at a i) w) c.in-Object.is c.requires.shown in
+    met_names c.args.graph.now i (node_content a n) c.in-Object.members.now (reached_node c.requires.met.reached) (shown a c.args.graph.now.root i n there) refl (node_in a i n c.is_finished.ensures.finished c.requires.met.names there).names c.requires.short.1
 
 pub returns-in_ok-double-in-Date-clause-leads : goal.returns-in_ok-double-in-Date-clause-leads
 returns-in_ok-double-in-Date-clause-leads c =
     let g = content c.args.graph.now in
     let a = c.args.graph.now.arena in
     let i = c.args.node.0 in
+    let there = subst (λ w. Shows a (stored_at a i) w) c.in-Date.is c.requires.shown in
     let p = c.in-Date.milliseconds.0 in
     let m = c.enter_loose.new.self in
-    let e = ap (λ (x : Node). x.head) (shown a c.args.graph.now.root i (closed (date p) [] []) c.in-Date.ensures) in
+    let e = ap (λ (x : Node). x.head) (shown a c.args.graph.now.root i (closed (date p) [] []) there) in
     on_ok c.raw.result (λ h.
     leads_loose g i (node_there a c.args.graph.now.root i c.requires.met.names) (node_fits a c.args.graph.now.root i c.is_finished.ensures.finished c.requires.met.names) (0x0B ∷ to_be_bytes w64 p ++ 0 ∷ 0 ∷ []) (segments_left a c.args.waiting.now.items) c.args.self.now m c.raw.new.self c.args.node refl c.requires.new
     c.in_ok-enter_loose-in-Date.ensures.ok c.in_ok-enter_loose-in-Date.ensures.loose c.in_ok-enter_loose-in-Date.ensures.bytes (dated p e)
@@ -65,7 +70,7 @@ returns-in_ok-byte-in-XmlDocument-clause-leads c =
     let g = content c.args.graph.now in
     let a = c.args.graph.now.arena in
     let i = c.args.node.0 in
-    let s = c.in-XmlDocument.ensures in
+    let s = subst (λ w. Shows a (stored_at a i) w) c.in-XmlDocument.is c.requires.shown in
     let x = text_at a s.0 in
     let m = c.enter_loose-in-XmlDocument.new.self in
     let n = closed (xml_document s.0) [] [] in
@@ -83,12 +88,13 @@ returns-in_ok-enter-in-Array-clause-leads c =
     let a = c.args.graph.now.arena in
     let i = c.args.node.0 in
     let n = closed array (named c.in-Array.names.now) c.in-Array.items.now in
+    let there = subst (λ w. Shows a (stored_at a i) w) c.in-Array.is c.requires.shown in
     let before = segments_left a c.args.waiting.now.items in
     let after = segments_left a c.array.new.waiting.items in
     let m = c.enter.new.self in
     on_ok c.array.result (λ h.
     leads_opened g i (node_there a c.args.graph.now.root i c.requires.met.names) (node_fits a c.args.graph.now.root i c.is_finished.ensures.finished c.requires.met.names) before after c.args.self.now m c.array.new.self c.requires.new
-    c.in_ok-enter-in-Array.ensures.ok c.in_ok-enter-in-Array.ensures.loose c.in_ok-enter-in-Array.ensures.bytes (subst (λ (x : Node). Opened x before after m c.array.new.self) (sym (shown a c.args.graph.now.root i n c.in-Array.ensures)) h)) c.array.ensures.opened
+    c.in_ok-enter-in-Array.ensures.ok c.in_ok-enter-in-Array.ensures.loose c.in_ok-enter-in-Array.ensures.bytes (subst (λ (x : Node). Opened x before after m c.array.new.self) (sym (shown a c.args.graph.now.root i n there)) h)) c.array.ensures.opened
 
 pub returns-in_ok-enter-in-Object-clause-leads : goal.returns-in_ok-enter-in-Object-clause-leads
 returns-in_ok-enter-in-Object-clause-leads c =
@@ -98,7 +104,8 @@ returns-in_ok-enter-in-Object-clause-leads c =
     let t = traits_at a c.in-Object.traits.0 in
     let ps = pairs_of a c.in-Object.members.now in
     let n = closed (object c.in-Object.traits.0) (named c.in-Object.members.now) c.in-Object.sealed.now in
-    let s = shown a c.args.graph.now.root i n c.in-Object.ensures in
+    let there = subst (λ w. Shows a (stored_at a i) w) c.in-Object.is c.requires.shown in
+    let s = shown a c.args.graph.now.root i n there in
     let low = subst (λ (x : Node). IsLowHead x.head) s (c.requires.low.nodes i (reached_node c.requires.met.reached)) in
     let open_traits : IsOpenTraits t = record { dynamic = low.0; unsealed = low.1 } in
     let fits = node_fits a c.args.graph.now.root i c.is_finished.ensures.finished c.requires.met.names in
