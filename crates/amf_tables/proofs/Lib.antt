@@ -1,5 +1,6 @@
 -- The lemmas that several proofs share.
 pub mod HashedPlaces
+pub mod NodeRuns
 pub mod NodePlaces
 pub mod TextFirsts
 pub mod KnownPlaces

@@ -10,6 +10,7 @@ pub mod ShownTraits
 pub mod ContentHash
 pub mod HashedPlaces
 pub mod TextFirsts
+pub mod NodeRuns
 pub mod NodePlaces
 pub mod SpelledNodes
 pub mod TextCodes

@@ -26,8 +26,8 @@ kept_entry_of t None = plain t.0
 kept_entry_of t (Some c) = external t.0 c
 
 -- a reader's tables
-abbrev pub kept_tables : List TextId → List KeptEntry → List NodeId → KeptTables
-kept_tables texts traits nodes = record { texts = map text_number texts; traits = traits; nodes = map node_number nodes }
+abbrev pub kept_tables : List TextId → List KeptEntry → List ℕ → KeptTables
+kept_tables texts traits nodes = record { texts = map text_number texts; traits = traits; nodes = nodes }
 
 -- a writer's tables
 abbrev pub written_tables : List (List ℕ) → List Written → Spelled → Tables

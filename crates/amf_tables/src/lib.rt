@@ -5,6 +5,7 @@ mod content_hash;
 mod first_places;
 mod known_places;
 mod known_words;
+mod node_run;
 mod node_table;
 mod spelled_nodes;
 mod tables3;

@@ -1,9 +1,10 @@
-ghost use Rattle.std.specs.Prelude.{◌≡◌, IfOk, OnOk, OnErr, map, slice_get};
+ghost use Rattle.std.specs.Prelude.{◌≡◌, IfOk, OnOk, OnErr, slice_get};
 ghost use Rattle.std.specs.Option.{option_map, option_and_then};
 ghost use Rattle.amf_tables.specs.TableParts.{text_number, node_number, traits_number};
 ghost use Rattle.amf3_spelling.specs.KeptTables.{no_kept_tables, kept_text_place, kept_entry, kept_node_place};
 ghost use Rattle.amf3_spelling.specs.KeptTables.{plain, external, traits_place, external_class};
 
+use crate::node_run::NodeRun;
 use crate::traits_entry::TraitsEntry;
 use amf_graph::{NodeId, TextId, TraitsId, Wrapped};
 use amf_wire::Memory;
@@ -16,7 +17,7 @@ use std::marker::Model;
 pub struct Tables3 {
     texts: Vec<TextId>,
     traits: Vec<TraitsEntry>,
-    nodes: Vec<NodeId>,
+    nodes: NodeRun,
 }
 
 impl Model for Tables3 {
@@ -26,7 +27,7 @@ impl Model for Tables3 {
 
     ghost use Rattle.amf_tables.specs.TableParts.{kept_tables};
 
-    ghost view = { λ t. kept_tables t.texts.items t.traits.items t.nodes.items };
+    ghost view = { λ t. kept_tables t.texts.items t.traits.items t.nodes };
 }
 
 impl Tables3 {
@@ -37,7 +38,7 @@ impl Tables3 {
         Ok(Tables3 {
             texts: Vec::new(alloc),
             traits: Vec::new(alloc),
-            nodes: Vec::new(alloc),
+            nodes: NodeRun::new(alloc),
         })
     }
 
@@ -55,8 +56,7 @@ impl Tables3 {
         ensures ok { OnOk result (self.new ≡ kept_node_place self.old node.0) }
         ensures err { OnErr result (self.new ≡ self.old) }
     {
-        self.nodes.push(node)?;
-        Ok(())
+        self.nodes.push(node)
     }
 
     /// Enters traits of a class that is not externalizable (AMF 3, 3.12). After an error nothing has changed.
@@ -88,14 +88,7 @@ impl Tables3 {
     pub fn node_at(&self, index: u32) -> Option<NodeId>
         ensures { option_map node_number result ≡ slice_get self.now.nodes index }
     {
-        self.nodes.get(index as usize).copied()
-    }
-
-    /// The nodes, in the order in which they were entered.
-    pub fn nodes(&self) -> &[NodeId]
-        ensures { map node_number result.now ≡ self.now.nodes }
-    {
-        &self.nodes
+        self.nodes.get(index)
     }
 
     /// The traits that an index names: `None` exactly past the last ones. It takes no memory.
