@@ -43,14 +43,9 @@ module _ (g : Graph) where
       subst (λ k. AllByRecursion (λ i. i < k) n.tables.nodes) e
       (stays_value (NodeIn height canonical g) (stays_node height) v o.tables w.bytes n.tables w.spelled.1 (subst (λ k. AllByRecursion (λ i. i < k) o.tables.nodes) (sym e) h))
 
-map_take : (ns : List NodeId) (n : ℕ) → map {A = NodeId} {B = ℕ} (λ i. i.0) (take n ns) ≡ take n (map (λ i. i.0) ns)
-map_take ns zero = refl
-map_take [] (suc n) = refl
-map_take (i ∷ ns) (suc n) = ap (λ w. i.0 ∷ w) (map_take ns n)
-
--- so many of the nodes as there were are those that there were
-pub nodes_before : (ns : List NodeId) (old new : List ℕ) (count : ℕ) → count ≡ length old → map (λ i. i.0) ns ≡ new → BeginsWith old new → map (λ i. i.0) (take count ns) ≡ old
-nodes_before ns old new count c e b = map_take ns count ∙ ap (take count) (e ∙ b.is) ∙ take_at old b.rest count (sym c)
+-- the first of the nodes, so many as there were, are those that there were
+pub nodes_before : (ns met : List NodeId) (old new : List ℕ) (count : ℕ) → count ≡ length old → ns ≡ met → map (λ i. i.0) met ≡ take count new → BeginsWith old new → map (λ i. i.0) ns ≡ old
+nodes_before ns met old new count c same e b = ap (map {A = NodeId} {B = ℕ} (λ i. i.0)) same ∙ e ∙ ap (take count) b.is ∙ take_at old b.rest count (sym c)
 
 pub ids_inside : (ns : List NodeId) (n : ℕ) (old : List ℕ) → map (λ i. i.0) ns ≡ old → AllByRecursion (λ i. i < n) old → AllByRecursion (λ (i : NodeId). i.0 < n) ns
 ids_inside ns n old e h = go ns (subst (λ w. AllByRecursion (λ i. i < n) w) (sym e) h)

@@ -135,8 +135,8 @@ pub fn write3_part_of(
     let count = tables.tables.node_count();
     match write_value(alloc, graph, value, tables, out) {
         Err(WriteEnd::NoSpelling(_)) => {
-            let met = &tables.tables.nodes()[..count as usize];
-            let lack = first_lack(alloc, value, met, graph)?;
+            let met = tables.tables.first_nodes(alloc, count)?;
+            let lack = first_lack(alloc, value, &met, graph)?;
             Err(WriteEnd::NoSpelling(lack))
         }
         result => result,

@@ -1,7 +1,9 @@
 -- Nodes of which the first ones are a run of numbers: one more node, and the node at a place.
-use Rattle.std.proofs.Common.{◌≡◌, ℕ, zero, suc, ◌+◌, ◌-◌, ◌<◌, ◌≤◌, List, [], ◌∷◌, ◌++◌, length, map, slice_get, Some, refl, ap, sym, ◌∙◌, subst, arith}
+use Rattle.std.proofs.Common.{◌≡◌, ℕ, zero, suc, ◌+◌, ◌-◌, ◌<◌, ◌≤◌, List, [], ◌∷◌, ◌++◌, length, map, take, slice_get, Some, refl, ap, sym, ◌∙◌, arith}
 use Rattle.std.specs.List.{range_with_len}
-use Rattle.std.proofs.lemmas.List.{append-nil}
+use Rattle.std.proofs.lemmas.List.{append-nil, length-append, length-map, take_more}
+use Rattle.std.proofs.lemmas.List.FromFn.{length-range_with_len}
+use Rattle.std.proofs.lemmas.Option.{slice_get_within, get_or_from_slice_get}
 use Rattle.amf_graph.specs.declared.value.NodeId.{NodeId}
 use Rattle.amf_graph.proofs.Lists.{at_left}
 use Rattle.amf_tables.specs.NodeRuns.{run_nodes}
@@ -36,9 +38,20 @@ run_longer first count more node rest m n none =
     ∙ ap (λ w. w ++ (first + count) ∷ []) (sym (append-nil (range_with_len first count)) ∙ sym (ap (run_nodes first count) empty))
     ∙ ap (λ w. run_nodes first count rest ++ w ∷ []) (sym n)
 
+pub run_length : (first count : ℕ) (rest : List NodeId) → count + length rest ≡ length (run_nodes first count rest)
+run_length first count rest =
+    let all = length-append (range_with_len first count) (map node_number rest) in
+    let run = length-range_with_len first count in
+    let others = length-map rest node_number in
+    omega (arith, all, run, others)
+
 -- the node at a place of the run, and behind it
 pub at_run : (first count i : ℕ) (rest : List NodeId) → i < count → Some (first + i) ≡ slice_get (run_nodes first count rest) i
 at_run first count i rest h = sym (at_left (range_with_len first count) (map node_number rest) i (first + i) (in_range first count i h))
 
 pub behind_run : (first count i : ℕ) (rest : List NodeId) → count ≤ i → slice_get (map node_number rest) (i - count) ≡ slice_get (run_nodes first count rest) i
 behind_run first count i rest h = sym (behind_range first count i (map node_number rest) h)
+
+-- the first of them, one more
+pub take_next : (xs : List ℕ) (i x : ℕ) → Some x ≡ slice_get xs i → take (i + 1) xs ≡ take i xs ++ x ∷ []
+take_next xs i x e = take_more xs i x (slice_get_within xs i x (sym e)) ∙ ap (λ w. take i xs ++ w ∷ []) (get_or_from_slice_get xs i x x (sym e))

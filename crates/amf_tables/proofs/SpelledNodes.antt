@@ -1,7 +1,8 @@
 -- Nodes that were spelled: one more with a place, and one more without.
 use Rattle.std.specs.Prelude.{◌≡◌, ◌↔◌, ℕ, ◌<◌, Bool, true, false, cond, IsTrue, get_or, List, [], ◌∷◌, ◌++◌, length, slice_get, Some}
-use Rattle.std.proofs.Common.{refl, set, ap, sym, subst, ◌∙◌, inl, inr, arith, rules}
+use Rattle.std.proofs.Common.{refl, set, take, ap, sym, subst, ◌∙◌, inl, inr, arith, rules}
 use Rattle.std.proofs.lemmas.Bool.{cases_eq}
+use Rattle.std.proofs.lemmas.List.{take_all}
 use Rattle.std.proofs.lemmas.Option.{slice_get-get_or}
 use Rattle.amf_graph.specs.Order.{Absent}
 use Rattle.amf_graph.proofs.Lists.{at_left, at_end, at_push, length_pushed}
@@ -76,6 +77,11 @@ alone_split true nodes all now marks i s e l h = subst (λ w. AreSpelled nodes w
 pub done_split : (split : Bool) (nodes all now old : List ℕ) (i : ℕ) → split ≡ true → now ≡ all ++ i ∷ [] → cond split all nodes ≡ old → cond split now nodes ≡ old ++ i ∷ []
 done_split false nodes all now old i s e f = cc
 done_split true nodes all now old i s e f = e ∙ ap (λ w. w ++ i ∷ []) f
+
+-- a list that begins with all that have places
+pub list_begun : (old : Bool) (new all nodes : List ℕ) (count : ℕ) → old ≡ false → count ≡ length nodes → new ≡ take count nodes → new ≡ cond old all nodes
+list_begun true new all nodes count o c e = cc
+list_begun false new all nodes count o c e = e ∙ take_all count nodes (omega (arith, c))
 
 -- what is marked and has no place was spelled alone, and nothing else
 pub alone_where : (r : Bool) (nodes done : List ℕ) (marks : List Bool) (i : ℕ) → AreSpelled nodes done marks → Absent nodes i → (IsTrue r ↔ (slice_get marks i ≡ Some true)) → IsTrue r ↔ (((k : ℕ) × (slice_get done k ≡ Some i)) × Absent nodes i)

@@ -1,4 +1,4 @@
-ghost use Rattle.std.specs.Prelude.{◌≡◌, ◌++◌, ◌∷◌, [], slice_get, OnOk, OnErr};
+ghost use Rattle.std.specs.Prelude.{◌≡◌, ◌++◌, ◌∷◌, [], length, map, take, slice_get, IfOk, OnOk, OnErr};
 ghost use Rattle.std.specs.Option.{option_map};
 ghost use Rattle.amf_tables.specs.TableParts.{node_number};
 
@@ -38,6 +38,27 @@ impl NodeRun {
             count: 0,
             rest: Vec::new(alloc),
         }
+    }
+
+    /// How many nodes have been entered.
+    pub(crate) fn len(&self) -> usize
+        ensures { result ≡ length self.now }
+    {
+        self.count as usize + self.rest.len()
+    }
+
+    /// The first nodes that have been entered: so many, or all where there are fewer.
+    pub(crate) fn first_nodes(&self, alloc: Global, count: u32) -> Result<Vec<NodeId>, Memory>
+        ensures { IfOk result (λ nodes. map node_number nodes.items ≡ take count self.now) }
+    {
+        let mut nodes = Vec::new(alloc);
+        for index in 0..count {
+            match self.get(index) {
+                Some(node) => nodes.push(node)?,
+                None => return Ok(nodes),
+            }
+        }
+        Ok(nodes)
     }
 
     /// The node that was entered at this place: `None` exactly past the last one. It takes no memory.

@@ -1,8 +1,9 @@
-ghost use Rattle.std.specs.Prelude.{◌≡◌, ℕ, ◌<◌, ◌≤◌, ◌++◌, ◌∷◌, [], List, length, map, IfSome, IfNone, OnOk, OnErr};
+ghost use Rattle.std.specs.Prelude.{◌≡◌, ℕ, ◌<◌, ◌≤◌, ◌++◌, ◌∷◌, [], List, length, map, take, IfOk, IfSome, IfNone, OnOk, OnErr};
 ghost use Rattle.amf_graph.specs.Order.{Absent};
 ghost use Rattle.amf_tables.specs.FirstPlace.{IsFirstPlace};
 ghost use Rattle.amf_tables.specs.NodePlaces.{ArePlacesOf};
 
+use crate::node_run::NodeRun;
 use amf_graph::NodeId;
 use amf_wire::Memory;
 use std::alloc::Global;
@@ -17,28 +18,29 @@ const NONE: u32 = 4_294_967_295;
 /// The nodes of a writer's tables, in the order of their places, with the first place of each number.
 #[derive(Drop)]
 pub(crate) struct NodeTable {
-    nodes: Vec<NodeId>,
+    nodes: NodeRun,
+    /// So many of the first nodes have their numbers for their places: 0, 1, 2 and on.
+    own: u32,
+    /// The first places of the other numbers: that of the number `own` stands first.
     places: Vec<u32>,
 }
 
 impl Model for NodeTable {
-    ghost use Rattle.std.specs.Prelude.{◌≤◌, ℕ, List, map, length};
-    ghost use Rattle.amf_tables.specs.TableParts.{node_number};
+    ghost use Rattle.std.specs.Prelude.{◌≤◌, ℕ, List, length};
     ghost use Rattle.amf_tables.specs.NodePlaces.{ArePlacesOf};
     ghost use Rattle.amf_tables.specs.declared.node_table.TheConstants.{MAX_NODES};
 
     ghost Value = { List ℕ };
 
-    ghost view = { λ t. map node_number t.nodes.items };
+    ghost view = { λ t. t.nodes };
 
-    ghost invariant = { λ t. (length t.nodes.items ≤ MAX_NODES)
-        × ArePlacesOf (map node_number t.nodes.items) t.places.items };
+    ghost invariant = { λ t. (length t.nodes ≤ MAX_NODES) × ArePlacesOf t.own t.nodes t.places.items };
 }
 
 /// Makes room for the place of a node. After an error there may be some room more.
 fn make_room(places: &mut Vec<u32>, index: usize) -> Result<(), Memory>
     ensures ok { OnOk result (index < length places.new.items) }
-    ensures placed { (nodes : List ℕ) → ArePlacesOf nodes places.old.items → ArePlacesOf nodes places.new.items }
+    ensures placed { (own : ℕ) (nodes : List ℕ) → ArePlacesOf own nodes places.old.items → ArePlacesOf own nodes places.new.items }
 {
     while places.len() <= index {
         places.push(NONE)?;
@@ -52,7 +54,8 @@ impl NodeTable {
         ensures { result ≡ [] }
     {
         NodeTable {
-            nodes: Vec::new(alloc),
+            nodes: NodeRun::new(alloc),
+            own: 0,
             places: Vec::new(alloc),
         }
     }
@@ -65,11 +68,11 @@ impl NodeTable {
         self.nodes.len() as u32
     }
 
-    /// The nodes that have been entered, in the order of their places.
-    pub(crate) fn as_slice(&self) -> &[NodeId]
-        ensures { map (λ node. node.0) result.now ≡ self.now }
+    /// The first nodes that have been entered, in the order of their places: so many, or all where there are fewer.
+    pub(crate) fn first_nodes(&self, alloc: Global, count: u32) -> Result<Vec<NodeId>, Memory>
+        ensures { IfOk result (λ nodes. map (λ node. node.0) nodes.items ≡ take count self.now) }
     {
-        &self.nodes
+        self.nodes.first_nodes(alloc, count)
     }
 
     /// The first place of a node: `None` exactly where it has none. It takes no memory.
@@ -78,7 +81,10 @@ impl NodeTable {
         ensures within { IfSome result (λ place. place < MAX_NODES) }
         ensures none { IfNone result (Absent self.now node.0) }
     {
-        let place = *self.places.get(node.0 as usize)?;
+        if node.0 < self.own {
+            return Some(node.0);
+        }
+        let place = *self.places.get((node.0 - self.own) as usize)?;
         if place == NONE { None } else { Some(place) }
     }
 
@@ -91,7 +97,16 @@ impl NodeTable {
         if place >= MAX_NODES {
             return Err(Memory);
         }
-        let index = node.0 as usize;
+        if node.0 < self.own {
+            self.nodes.push(node)?;
+            return Ok(());
+        }
+        if node.0 == self.own && place == self.own as usize {
+            self.nodes.push(node)?;
+            self.own += 1;
+            return Ok(());
+        }
+        let index = (node.0 - self.own) as usize;
         make_room(&mut self.places, index)?;
         self.nodes.push(node)?;
         if self.places[index] == NONE {

@@ -1,4 +1,4 @@
-ghost use Rattle.std.specs.Prelude.{◌≡◌, ◌↔◌, ℕ, ◌<◌, ◌≤◌, ◌++◌, ◌∷◌, [], List, Bool, true, cond, length, map, slice_get, Some, IsTrue, IfSome, IfNone, OnOk, OnErr};
+ghost use Rattle.std.specs.Prelude.{◌≡◌, ◌↔◌, ℕ, ◌<◌, ◌≤◌, ◌++◌, ◌∷◌, [], List, Bool, true, cond, length, map, take, slice_get, Some, IsTrue, IfOk, IfSome, IfNone, OnOk, OnErr};
 ghost use Rattle.amf_graph.specs.Order.{Absent};
 ghost use Rattle.amf_tables.specs.FirstPlace.{IsFirstPlace};
 ghost use Rattle.amf_tables.specs.SpelledNodes.{AreSpelled};
@@ -55,13 +55,18 @@ fn is_marked(marks: &[bool], index: usize) -> bool
 }
 
 /// Keeps a list of all nodes from now on, and not only of those that have places.
-fn begin_list(split: &mut bool, done: &mut Vec<NodeId>, placed: &[NodeId]) -> Result<(), Memory>
+#[tactic(auto, using(crate::proofs::SpelledNodes::list_begun))]
+fn begin_list(
+    alloc: Global,
+    split: &mut bool,
+    done: &mut Vec<NodeId>,
+    placed: &NodeTable,
+) -> Result<(), Memory>
     ensures ok { OnOk result (split.new ≡ true) }
-    ensures same { cond split.new (map node_number done.new.items) (map node_number placed.now) ≡ cond split.old (map node_number done.old.items) (map node_number placed.now) }
+    ensures same { cond split.new (map node_number done.new.items) placed.now ≡ cond split.old (map node_number done.old.items) placed.now }
 {
     if !*split {
-        done.clear();
-        done.extend_from_slice(placed)?;
+        *done = placed.first_nodes(alloc, placed.count())?;
         *split = true;
     }
     Ok(())
@@ -89,11 +94,11 @@ impl SpelledNodes {
         self.placed.count()
     }
 
-    /// Those that have a place, in the order of their places.
-    pub(crate) fn as_slice(&self) -> &[NodeId]
-        ensures { map (λ node. node.0) result.now ≡ self.now.nodes }
+    /// The first of those that have a place, in the order of their places: so many, or all where there are fewer.
+    pub(crate) fn first_nodes(&self, alloc: Global, count: u32) -> Result<Vec<NodeId>, Memory>
+        ensures { IfOk result (λ nodes. map (λ node. node.0) nodes.items ≡ take count self.now.nodes) }
     {
-        self.placed.as_slice()
+        self.placed.first_nodes(alloc, count)
     }
 
     /// The first place of a node: `None` exactly where it has none. It takes no memory.
@@ -143,14 +148,14 @@ impl SpelledNodes {
     }
 
     /// Enters a node without a place. After an error nothing has changed.
-    pub(crate) fn push_alone(&mut self, node: NodeId) -> Result<(), Memory>
+    pub(crate) fn push_alone(&mut self, alloc: Global, node: NodeId) -> Result<(), Memory>
         ensures nodes { OnOk result (self.new.nodes ≡ self.old.nodes) }
         ensures done { OnOk result (self.new.done ≡ self.old.done ++ node.0 ∷ []) }
         ensures err { OnErr result (self.new ≡ self.old) }
     {
         let index = node.0 as usize;
         make_room(&mut self.marks, index)?;
-        begin_list(&mut self.split, &mut self.done, self.placed.as_slice())?;
+        begin_list(alloc, &mut self.split, &mut self.done, &self.placed)?;
         self.done.push(node)?;
         self.marks[index] = true;
         Ok(())

@@ -1,4 +1,4 @@
-ghost use Rattle.std.specs.Prelude.{◌≡◌, ◌<◌, ◌≤◌, ◌↔◌, length, map, IsTrue, IfOk, IfNone, IfSome, OnOk, OnErr};
+ghost use Rattle.std.specs.Prelude.{◌≡◌, ◌<◌, ◌≤◌, ◌↔◌, length, map, take, IsTrue, IfOk, IfNone, IfSome, OnOk, OnErr};
 ghost use Rattle.amf_graph.specs.Order.{Absent};
 ghost use Rattle.amf_tables.specs.FirstPlace.{IsFirstPlace};
 ghost use Rattle.amf_tables.specs.KnownPlaces.{AreKnown};
@@ -91,11 +91,12 @@ impl WriterTables {
         self.nodes.count()
     }
 
-    /// The nodes that have been entered with a place, in the order of their places.
-    pub fn nodes(&self) -> &[NodeId]
-        ensures { map (λ node. node.0) result.now ≡ self.now.nodes }
+    /// The first nodes that have been entered with a place, in the order of their places: so many, or all where there are
+    /// fewer. It gives up where there is no memory.
+    pub fn first_nodes(&self, alloc: Global, count: u32) -> Result<Vec<NodeId>, Memory>
+        ensures { IfOk result (λ nodes. map (λ node. node.0) nodes.items ≡ take count self.now.nodes) }
     {
-        self.nodes.as_slice()
+        self.nodes.first_nodes(alloc, count)
     }
 
     /// The first place of a text: `None` exactly where it has none. It takes no memory.
@@ -181,7 +182,7 @@ impl WriterTables {
         ensures ok { OnOk result (self.new ≡ add_done self.old node.0) }
         ensures err { OnErr result (self.new ≡ self.old) }
     {
-        self.nodes.push_alone(node)
+        self.nodes.push_alone(self.alloc, node)
     }
 
     /// Enters a node. After an error nothing has changed.
