@@ -1,6 +1,6 @@
 //! Workers at a desk, each with a pass and a hall of its own.
 
-ghost use Rattle.std.specs.Prelude.{◌≡◌, ◌||◌, List};
+ghost use Rattle.std.specs.Prelude.{◌≡◌, ◌||◌, List, None};
 ghost use Rattle.amf_service.specs.Registry.{Entry};
 ghost use Rattle.amf_gateway.specs.Services.{services_by};
 ghost use Rattle.amf_gateway.specs.Served.{Served};
@@ -49,6 +49,8 @@ impl<H: Hall> Worker<H> {
         ensures number { result.number ≡ number }
         ensures pass { result.pass ≡ pass }
         ensures hall { result.hall ≡ hall }
+        ensures calls { result.calls ≡ 0 }
+        ensures keys { result.keys ≡ None }
     {
         Worker::keyed(number, pass, hall, None)
     }
@@ -58,6 +60,8 @@ impl<H: Hall> Worker<H> {
         ensures number { result.number ≡ number }
         ensures pass { result.pass ≡ pass }
         ensures hall { result.hall ≡ hall }
+        ensures calls { result.calls ≡ 0 }
+        ensures keys { result.keys ≡ keys }
     {
         Worker {
             number,
@@ -94,7 +98,9 @@ impl<H: Hall> Worker<H> {
         mut link: H::Link,
     ) -> bool
         requires { self.old.pass.desk ≡ desk.now }
-        ensures { let services : List Entry = services_by registry.now.services.entries (λ x. x.items) (λ s. knows (s.vtable, s.value)) (λ s. gives (s.vtable, s.value)) in ServedNext (record { tells_links = H.tells_links; coming = H.coming; served = H.served; faults = H.faults; tells_moments = H.tells_moments; moments = H.moments; tells_words = H.tells_words; words = H.words }) (record { tells_left = H.Link.tells_left; left = H.Link.left; tells_held = H.Link.tells_held; held = H.Link.held; read_faults = H.Link.read_faults; write_faults = H.Link.write_faults }) services self.old.pass self.new.pass self.old.hall self.new.hall link result }
+        ensures served { let services : List Entry = services_by registry.now.services.entries (λ x. x.items) (λ s. knows (s.vtable, s.value)) (λ s. gives (s.vtable, s.value)) in ServedNext (record { tells_links = H.tells_links; coming = H.coming; served = H.served; faults = H.faults; tells_moments = H.tells_moments; moments = H.moments; tells_words = H.tells_words; words = H.words }) (record { tells_left = H.Link.tells_left; left = H.Link.left; tells_held = H.Link.tells_held; held = H.Link.held; read_faults = H.Link.read_faults; write_faults = H.Link.write_faults }) services self.old.pass self.new.pass self.old.hall self.new.hall link result }
+        ensures number { self.new.number ≡ self.old.number }
+        ensures keys { self.new.keys ≡ self.old.keys }
     {
         let end = serve_link_keyed(
             rt,
@@ -114,7 +120,7 @@ impl<H: Hall> Worker<H> {
     }
 
     /// Serves up to `each` links of the hall, one after the other, and gives each back to it. A link's end does not stop the
-    /// worker. The desk is that of its pass.
+    /// worker. The desk is that of its pass. Its number and its keys stay.
     pub fn serve<R: Wait, G: Gate>(
         &mut self,
         rt: &R,
@@ -125,7 +131,9 @@ impl<H: Hall> Worker<H> {
         each: u64,
     ) -> WorkerEnd
         requires { self.old.pass.desk ≡ desk.now }
-        ensures { let services : List Entry = services_by registry.now.services.entries (λ x. x.items) (λ s. knows (s.vtable, s.value)) (λ s. gives (s.vtable, s.value)) in Served (record { tells_links = H.tells_links; coming = H.coming; served = H.served; faults = H.faults; tells_moments = H.tells_moments; moments = H.moments; tells_words = H.tells_words; words = H.words }) (record { tells_left = H.Link.tells_left; left = H.Link.left; tells_held = H.Link.tells_held; held = H.Link.held; read_faults = H.Link.read_faults; write_faults = H.Link.write_faults }) services each self.old.pass self.new.pass self.old.hall self.new.hall result }
+        ensures served { let services : List Entry = services_by registry.now.services.entries (λ x. x.items) (λ s. knows (s.vtable, s.value)) (λ s. gives (s.vtable, s.value)) in Served (record { tells_links = H.tells_links; coming = H.coming; served = H.served; faults = H.faults; tells_moments = H.tells_moments; moments = H.moments; tells_words = H.tells_words; words = H.words }) (record { tells_left = H.Link.tells_left; left = H.Link.left; tells_held = H.Link.tells_held; held = H.Link.held; read_faults = H.Link.read_faults; write_faults = H.Link.write_faults }) services each self.old.pass self.new.pass self.old.hall self.new.hall result }
+        ensures number { self.new.number ≡ self.old.number }
+        ensures keys { self.new.keys ≡ self.old.keys }
     {
         let mut starved = false;
         for _ in 0..each {

@@ -1,24 +1,27 @@
-use Rattle.std.proofs.Common.{arith}
+use Rattle.std.proofs.Common.{refl, ◌∙◌, arith}
 use Rattle.amf_gateway.proofs.SoFar.{sofar_none, sofar_next, served_each, served_all, served_until}
 use Rattle.amf_gateway.proofs.worker.Worker.serve.Goals as goal
 
 pub loop-init : goal.loop-init
-loop-init g c = sofar_none _ _ _ _ _
+loop-init g c = (sofar_none _ _ _ _ _, refl, refl)
 
-pub returns-in-Ok-None : goal.returns-in-Ok-None
-returns-in-Ok-None g c =
+pub returns-in-Ok-None-clause-served : goal.returns-in-Ok-None-clause-served
+returns-in-Ok-None-clause-served g c =
     let e = c.in-Ok-None.ensures in
-    served_all _ _ _ _ _ _ _ _ _ _ _ (omega arith) c.loop.invariant (record { tells = e.tells; served = e.served; moments = e.moments; words = e.words }) (rw c.in-Ok-None.field-0-is at e.gives) e.cause
+    served_all _ _ _ _ _ _ _ _ _ _ _ (omega arith) c.loop.invariant.0 (record { tells = e.tells; served = e.served; moments = e.moments; words = e.words }) (rw c.in-Ok-None.field-0-is at e.gives) e.cause
 
-pub returns-in-Err : goal.returns-in-Err
-returns-in-Err g c =
+pub returns-in-Err-clause-served : goal.returns-in-Err-clause-served
+returns-in-Err-clause-served g c =
     let e = c.in-Err.ensures in
-    served_until _ _ _ _ _ _ _ _ _ _ _ (omega arith) c.loop.invariant (record { tells = e.tells; served = e.served; moments = e.moments; words = e.words }) e.gives e.cause
+    served_until _ _ _ _ _ _ _ _ _ _ _ (omega arith) c.loop.invariant.0 (record { tells = e.tells; served = e.served; moments = e.moments; words = e.words }) e.gives e.cause
 
-pub returns : goal.returns
-returns g c = served_each _ _ _ _ _ _ _ _ _ _ (omega arith) c.loop.invariant
+pub returns-clause-served : goal.returns-clause-served
+returns-clause-served g c = served_each _ _ _ _ _ _ _ _ _ _ (omega arith) c.loop.invariant.0
 
 pub loop-preserved : goal.loop-preserved
 loop-preserved g c =
-    let e = c.in-Ok-Some.ensures in
-    rw c.either-starved.ensures (sofar_next _ _ _ _ _ _ _ _ _ _ _ c.in-Ok-Some.link _ _ c.loop.invariant (record { tells = e.tells; served = e.served; moments = e.moments; words = e.words }) (rw c.in-Ok-Some.field-0-is at e.gives) e.cause c.serve_next-hungry.ensures)
+    let e = c.in-Ok-Some.ensures in (
+      rw c.either-starved.ensures (sofar_next _ _ _ _ _ _ _ _ _ _ _ c.in-Ok-Some.link _ _ c.loop.invariant.0 (record { tells = e.tells; served = e.served; moments = e.moments; words = e.words }) (rw c.in-Ok-Some.field-0-is at e.gives) e.cause c.serve_next-hungry.ensures.served),
+      c.serve_next-hungry.ensures.number ∙ c.loop.invariant.1,
+      c.serve_next-hungry.ensures.keys ∙ c.loop.invariant.2,
+    )

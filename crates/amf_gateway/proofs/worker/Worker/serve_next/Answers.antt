@@ -2,8 +2,8 @@ use Rattle.amf_gateway.specs.LinkSteps.{end_of}
 use Rattle.amf_gateway.proofs.SoFar.{served_next}
 use Rattle.amf_gateway.proofs.worker.Worker.serve_next.Goals as goal
 
-pub returns : goal.returns
-returns g c =
+pub returns-clause-served : goal.returns-clause-served
+returns-clause-served g c =
     let s = c.serve_link_keyed-end.ensures in
     let b = c.back.ensures in
     served_next _ _ _ _ _ _ c.serve_link_keyed-end.new.aid _ (record { came = c.args.link; left = c.serve_link_keyed-end.new.link; took = s.0; end = end_of c.serve_link_keyed-end.result }) _ s.1
