@@ -1,6 +1,6 @@
 -- Closed nodes that are read and copied.
-use Rattle.std.proofs.Common.{◌≡◌, ℕ, zero, suc, ◌<◌, false, List, [], ◌∷◌, ◌++◌, length, get_or, map, refl, sym, ap, ◌∙◌, subst, arith}
-use Rattle.std.specs.List.{AllByRecursion, AllZip, zip}
+use Rattle.std.proofs.Common.{◌≡◌, ℕ, zero, suc, ◌<◌, false, List, [], ◌∷◌, length, get_or, map, refl, sym, ap, ◌∙◌, subst, arith}
+use Rattle.std.specs.List.{AllByRecursion}
 use Rattle.amf_graph.specs.declared.value.Value.{Value as Stored}
 use Rattle.amf_graph.specs.declared.body.Body.{Body}
 use Rattle.amf_graph.specs.declared.held.Held.{Held}
@@ -13,7 +13,7 @@ use Rattle.amf_graph.specs.Grafting.{Renaming, copied_nodes}
 use Rattle.amf_graph.specs.HaveStandIns.{HasStandIn, HasSealed, NodeHasStandIns}
 use Rattle.amf_graph.specs.Held.{held_head, held_names, held_values, held_node}
 use Rattle.amf_graph.specs.Renumbered.{renumbered_names, renumbered_values, renumbered_node, HasNumber, HaveNumbers}
-use Rattle.amf_graph.specs.StandIns.{StandsFor, PairStandsFor, NodeStandsFor, sealed_of, unsealed_of}
+use Rattle.amf_graph.specs.StandIns.{NodeStandsFor}
 
 pub held_closed : (n : StoredNode) (h : Held) → n ≡ held_node n.is_open h → n.is_open ≡ false → n ≡ held_node false h
 held_closed n h e c = e ∙ ap (λ o. held_node o h) c
@@ -59,8 +59,8 @@ has_names ts ins n h e k = subst (AllByRecursion (λ p. HasStandIn ins p.1)) (ap
 pub has_values : (ts : List StoredTraits) (ins : List Stored) (n : StoredNode) (h : Held) → n ≡ held_node n.is_open h → NodeHasStandIns ts ins n → AllByRecursion (HasStandIn ins) (held_values h)
 has_values ts ins n h e k = subst (AllByRecursion (HasStandIn ins)) (ap (λ (m : StoredNode). m.values) e) k.values
 
-pub body_stands : (ts : List StoredTraits) (ins : List Stored) (n : StoredNode) (h : Held) (b : Body) → n ≡ held_node n.is_open h → n.is_open ≡ false → body_head b ≡ held_head h → AllZip (PairStandsFor ins) (zip (sealed_of ts (held_head h)) (held_values h) ++ held_names h) (body_names b) → AllZip (StandsFor ins) (unsealed_of (held_head h) (held_values h)) (body_values b) → NodeStandsFor ts ins n (body_node false b)
-body_stands ts ins n h b e c d x y = subst (λ (m : StoredNode). NodeStandsFor ts ins m (body_node false b)) (sym (held_closed n h e c)) (record { is_open = refl; head = d; names = x; values = y })
+pub held_stands : (ts : List StoredTraits) (ins : List Stored) (n : StoredNode) (h : Held) (copy : StoredNode) → n ≡ held_node n.is_open h → n.is_open ≡ false → NodeStandsFor ts ins (held_node false h) copy → NodeStandsFor ts ins n copy
+held_stands ts ins n h copy e c s = subst (λ m. NodeStandsFor ts ins m copy) (sym (held_closed n h e c)) s
 
 -- The parts of a closed node.
 

@@ -4,19 +4,20 @@ ghost use Rattle.std.specs.Prelude.{◌≡◌, ℕ, ◌<◌, ◌≤◌, [], ◌�
 ghost use Rattle.std.specs.List.{AllByRecursion};
 ghost use Rattle.amf_graph.specs.Bodies.{TakesPart, body_node};
 ghost use Rattle.amf_graph.specs.Bounds.{count_end};
-ghost use Rattle.amf_graph.specs.Building.{kind_of, shape_head, begun, more_part, shut, size_of, no_stored};
-ghost use Rattle.amf_graph.specs.Held.{held_node};
+ghost use Rattle.amf_graph.specs.Building.{kind_of, shape_head, begun, closed, more_part, shut, size_of, no_stored};
+ghost use Rattle.amf_graph.specs.Held.{form_head, held_node};
 ghost use Rattle.amf_graph.specs.NodeRows.{IsOpenAt, IsClosedAt, IsFirstOf};
 ghost use Rattle.amf_graph.specs.Pools.{Keeps, Grows};
 ghost use Rattle.amf_graph.specs.Slots.{no_slot};
+ghost use Rattle.amf_graph.specs.Views.{named};
 ghost use Rattle.amf_graph.specs.declared.part.Part.TheVariants.{Item};
 
 use crate::body::Body;
-use crate::held::Held;
+use crate::held::{Form, Held};
 use crate::pools::Pools;
 use crate::row::{Row, number_of};
 use crate::slot::Slot;
-use crate::{NodeKind, Part, Shape, Value};
+use crate::{NodeKind, Part, Shape, TextId, Value};
 use amf_wire::Memory;
 use std::alloc::Global;
 use std::marker::Model;
@@ -192,6 +193,21 @@ impl Nodes {
         ensures err { OnErr result (self.new ≡ self.old) }
     {
         let row = keep_body(&mut self.pools, body)?;
+        self.rows.push(row)?;
+        Ok(())
+    }
+
+    /// Keeps a node that is closed and has these values and pairs behind the others. After an end nothing has changed.
+    pub(crate) fn keep_parts(
+        &mut self,
+        form: Form,
+        values: &[Value],
+        names: &[(TextId, Value)],
+    ) -> Result<(), Memory>
+        ensures ok { OnOk result (self.new ≡ self.old ++ closed (form_head form) (named names.now) values.now ∷ []) }
+        ensures err { OnErr result (self.new ≡ self.old) }
+    {
+        let row = self.pools.keep_parts(form, values, names)?;
         self.rows.push(row)?;
         Ok(())
     }

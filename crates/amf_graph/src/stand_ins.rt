@@ -1,12 +1,13 @@
 //! Copies of nodes with doubles for integers, members for sealed values, and for each node the value that stands in for it.
 
-ghost use Rattle.std.specs.Prelude.{◌≡◌, ◌<◌, ◌++◌, [], false, length, map, IfOk};
+ghost use Rattle.std.specs.Prelude.{◌≡◌, ℕ, ◌<◌, ◌++◌, List, [], ◌∷◌, false, length, map, IfOk, OnOk};
 ghost use Rattle.std.specs.List.{AllByRecursion, AllZip, zip};
 ghost use Rattle.amf_wire.specs.Integer.{IsInteger};
 ghost use Rattle.amf_wire.specs.Whole.{IsPatternOf};
+ghost use Rattle.amf_graph.specs.declared.value.Value.{Value as Stored};
+ghost use Rattle.amf_graph.specs.Arena.{StoredNode};
 ghost use Rattle.amf_graph.specs.Graph.{IsPattern};
-ghost use Rattle.amf_graph.specs.Bodies.{body_head, body_names, body_values};
-ghost use Rattle.amf_graph.specs.Held.{form_head, held_head, held_names, held_values};
+ghost use Rattle.amf_graph.specs.Held.{form_head, held_head, held_names, held_values, held_node};
 ghost use Rattle.amf_graph.specs.HaveStandIns.{HasStandIn, HasSealed, NodeHasStandIns};
 ghost use Rattle.amf_graph.specs.StandIns.{StandsFor, PairStandsFor, NodeStandsFor, sealed_of, unsealed_of};
 ghost use Rattle.amf_graph.specs.Views.{named, flat};
@@ -43,34 +44,47 @@ pub(crate) fn stand_in(value: Value, stand_ins: &[Value]) -> Value
     }
 }
 
-fn stand_in_values(
-    alloc: Global,
-    values: &[Value],
-    stand_ins: &[Value],
-) -> Result<Vec<Value>, Memory>
+/// Puts what stands for each of the values behind the copies.
+fn push_values(values: &[Value], stand_ins: &[Value], copies: &mut Vec<Value>) -> Result<(), Memory>
     requires { AllByRecursion (HasStandIn stand_ins.now) values.now }
-    ensures { IfOk result (λ copies. AllZip (StandsFor stand_ins.now) values.now copies.items) }
+    ensures { (before : List Stored) → AllZip (StandsFor stand_ins.now) before copies.old.items → OnOk result (AllZip (StandsFor stand_ins.now) (before ++ values.now) copies.new.items) }
 {
-    let mut copies = Vec::new(alloc);
     for value in values {
         copies.push(stand_in(*value, stand_ins))?;
     }
-    Ok(copies)
+    Ok(())
 }
 
-fn stand_in_pairs(
-    alloc: Global,
+/// Puts each of the pairs, with what stands for its value, behind the copies.
+fn push_pairs(
     pairs: &[(TextId, Value)],
     stand_ins: &[Value],
-) -> Result<Vec<(TextId, Value)>, Memory>
+    copies: &mut Vec<(TextId, Value)>,
+) -> Result<(), Memory>
     requires { AllByRecursion (λ p. HasStandIn stand_ins.now p.1) (named pairs.now) }
-    ensures { IfOk result (λ copies. AllZip (PairStandsFor stand_ins.now) (named pairs.now) (named copies.items)) }
+    ensures { (before : List (ℕ × Stored)) → AllZip (PairStandsFor stand_ins.now) before (named copies.old.items) → OnOk result (AllZip (PairStandsFor stand_ins.now) (before ++ named pairs.now) (named copies.new.items)) }
 {
-    let mut copies = Vec::new(alloc);
     for (name, value) in pairs {
         copies.push((*name, stand_in(*value, stand_ins)))?;
     }
-    Ok(copies)
+    Ok(())
+}
+
+/// Puts each name, with what stands for the value at its place, behind the copies.
+fn push_sealed(
+    names: &[TextId],
+    values: &[Value],
+    stand_ins: &[Value],
+    copies: &mut Vec<(TextId, Value)>,
+) -> Result<(), Memory>
+    requires all { length values.now ≡ length names.now }
+    requires values { AllByRecursion (HasStandIn stand_ins.now) values.now }
+    ensures { (before : List (ℕ × Stored)) → AllZip (PairStandsFor stand_ins.now) before (named copies.old.items) → OnOk result (AllZip (PairStandsFor stand_ins.now) (before ++ zip (map (λ x. x.0) names.now) values.now) (named copies.new.items)) }
+{
+    for (place, name) in names.iter().enumerate() {
+        copies.push((*name, stand_in(values[place], stand_ins)))?;
+    }
+    Ok(())
 }
 
 fn stand_in_entries(
@@ -89,85 +103,79 @@ fn stand_in_entries(
     Ok(copies)
 }
 
-/// Each name with the value at its place.
-fn sealed_pairs(
-    alloc: Global,
-    names: &[TextId],
-    values: &[Value],
-) -> Result<Vec<(TextId, Value)>, Memory>
-    requires { length values.now ≡ length names.now }
-    ensures { IfOk result (λ pairs. named pairs.items ≡ zip (map (λ x. x.0) names.now) values.now) }
-{
-    let mut pairs = Vec::new(alloc);
-    for (place, name) in names.iter().enumerate() {
-        pairs.push((*name, values[place]))?;
+/// What stands for the values and the pairs of one node, in lists that are used again for the next.
+#[derive(Drop)]
+struct Lists {
+    values: Vec<Value>,
+    pairs: Vec<(TextId, Value)>,
+}
+
+impl Lists {
+    fn new(alloc: Global) -> Lists {
+        Lists {
+            values: Vec::new(alloc),
+            pairs: Vec::new(alloc),
+        }
     }
-    Ok(pairs)
-}
 
-/// An object's sealed pairs, and behind them its members.
-fn all_pairs(
-    alloc: Global,
-    names: &[TextId],
-    values: &[Value],
-    members: &[(TextId, Value)],
-) -> Result<Vec<(TextId, Value)>, Memory>
-    requires { length values.now ≡ length names.now }
-    ensures { IfOk result (λ pairs. named pairs.items ≡ zip (map (λ x. x.0) names.now) values.now ++ named members.now) }
-{
-    let mut pairs = sealed_pairs(alloc, names, values)?;
-    pairs.extend_from_slice(members)?;
-    Ok(pairs)
-}
-
-/// The values and the pairs of a node of this form, of classes that are no longer sealed.
-fn stand_in_parts(
-    alloc: Global,
-    form: Form,
-    values: &[Value],
-    names: &[(TextId, Value)],
-    classes: &Classes,
-    stand_ins: &[Value],
-) -> Result<Body, Memory>
-    requires sealed { HasSealed classes.now (form_head form) values.now }
-    requires names { AllByRecursion (λ p. HasStandIn stand_ins.now p.1) (named names.now) }
-    requires values { AllByRecursion (HasStandIn stand_ins.now) values.now }
-    ensures head { IfOk result (λ copy. body_head copy ≡ form_head form) }
-    ensures names { IfOk result (λ copy. AllZip (PairStandsFor stand_ins.now) (zip (sealed_of classes.now (form_head form)) values.now ++ named names.now) (body_names copy)) }
-    ensures values { IfOk result (λ copy. AllZip (StandsFor stand_ins.now) (unsealed_of (form_head form) values.now) (body_values copy)) }
-{
-    if let Form::Object(traits) = form {
-        let class = classes.get(traits.0 as usize);
-        let pairs = all_pairs(alloc, class.sealed, values, names)?;
-        let members = stand_in_pairs(alloc, &pairs, stand_ins)?;
-        return Ok(Body::Parts(form, Vec::new(alloc), members));
+    fn clear(&mut self)
+        ensures values { self.new.values.items ≡ [] }
+        ensures pairs { self.new.pairs.items ≡ [] }
+    {
+        self.values.clear();
+        self.pairs.clear();
     }
-    let values = stand_in_values(alloc, values, stand_ins)?;
-    Ok(Body::Parts(form, values, stand_in_pairs(alloc, names, stand_ins)?))
+
+    /// The values and the pairs of a node of this form, of classes that are no longer sealed: an object's sealed pairs, and
+    /// behind them its members.
+    fn fill(
+        &mut self,
+        form: Form,
+        values: &[Value],
+        names: &[(TextId, Value)],
+        classes: &Classes,
+        stand_ins: &[Value],
+    ) -> Result<(), Memory>
+        requires sealed { HasSealed classes.now (form_head form) values.now }
+        requires names { AllByRecursion (λ p. HasStandIn stand_ins.now p.1) (named names.now) }
+        requires values { AllByRecursion (HasStandIn stand_ins.now) values.now }
+        ensures names { OnOk result (AllZip (PairStandsFor stand_ins.now) (zip (sealed_of classes.now (form_head form)) values.now ++ named names.now) (named self.new.pairs.items)) }
+        ensures values { OnOk result (AllZip (StandsFor stand_ins.now) (unsealed_of (form_head form) values.now) self.new.values.items) }
+    {
+        self.clear();
+        if let Form::Object(traits) = form {
+            let class = classes.get(traits.0 as usize);
+            push_sealed(class.sealed, values, stand_ins, &mut self.pairs)?;
+            return push_pairs(names, stand_ins, &mut self.pairs);
+        }
+        push_values(values, stand_ins, &mut self.values)?;
+        push_pairs(names, stand_ins, &mut self.pairs)
+    }
 }
 
-/// What a node is and holds, of classes that are no longer sealed.
-fn stand_in_body(
+/// Keeps what stands for a node behind the copies, of classes that are no longer sealed.
+fn keep_stand_in(
     alloc: Global,
     held: Held<'_>,
     classes: &Classes,
     stand_ins: &[Value],
-) -> Result<Body, Memory>
+    lists: &mut Lists,
+    copies: &mut Nodes,
+) -> Result<(), Memory>
     requires sealed { HasSealed classes.now (held_head held) (held_values held) }
     requires names { AllByRecursion (λ p. HasStandIn stand_ins.now p.1) (held_names held) }
     requires values { AllByRecursion (HasStandIn stand_ins.now) (held_values held) }
-    ensures head { IfOk result (λ copy. body_head copy ≡ held_head held.entry) }
-    ensures names { IfOk result (λ copy. AllZip (PairStandsFor stand_ins.now) (zip (sealed_of classes.now (held_head held.entry)) (held_values held.entry) ++ (held_names held.entry)) (body_names copy)) }
-    ensures values { IfOk result (λ copy. AllZip (StandsFor stand_ins.now) (unsealed_of (held_head held.entry) (held_values held.entry)) (body_values copy)) }
+    ensures { OnOk result ((copy : StoredNode) × (copies.new ≡ copies.old ++ copy ∷ []) × NodeStandsFor classes.now stand_ins.now (held_node false held.entry) copy) }
 {
     match held {
-        Held::Leaf(leaf) => Ok(Body::Leaf(leaf.copy(alloc)?)),
+        Held::Leaf(leaf) => copies.keep(Body::Leaf(leaf.copy(alloc)?)),
         Held::Parts(form, values, names) => {
-            stand_in_parts(alloc, form, values, names, classes, stand_ins)
+            lists.fill(form, values, names, classes, stand_ins)?;
+            copies.keep_parts(form, &lists.values, &lists.pairs)
         }
         Held::Dictionary(weak, entries) => {
             let entries = stand_in_entries(alloc, entries, stand_ins)?;
-            Ok(Body::Dictionary(weak, entries))
+            copies.keep(Body::Dictionary(weak, entries))
         }
     }
 }
@@ -183,10 +191,11 @@ pub(crate) fn stand_in_nodes(
     requires closed { AllByRecursion (λ n. n.is_open ≡ false) nodes.now }
     ensures { IfOk result (λ copies. AllZip (NodeStandsFor classes.now stand_ins.now) nodes.now copies) }
 {
+    let mut lists = Lists::new(alloc);
     let mut copies = Nodes::new(alloc);
     for place in 0..nodes.len() {
         let held = nodes.held(place);
-        copies.keep(stand_in_body(alloc, held, classes, stand_ins)?)?;
+        keep_stand_in(alloc, held, classes, stand_ins, &mut lists, &mut copies)?;
     }
     Ok(copies)
 }

@@ -1,8 +1,8 @@
 -- The slots that are used have what they had.
-use Rattle.std.proofs.Common.{◌≡◌, ◌-◌, ◌<◌, ℕ, length, get_or, set, sym, ◌∙◌, arith, length-set}
+use Rattle.std.proofs.Common.{◌-◌, ◌<◌, length, set, ◌∙◌, arith, length-set}
 use Rattle.std.proofs.lemmas.List.{get_or_read}
 use Rattle.amf_graph.specs.Slots.{no_slot}
-use Rattle.amf_graph.proofs.NodeKept.{rows_used, nodes_used, handed_down}
+use Rattle.amf_graph.proofs.NodeKept.{nodes_used, handed_down}
 use Rattle.amf_graph.proofs.nodes.Nodes.hand_down.Goals as goal
 
 pub returns-then-is_bare : goal.returns-then-is_bare
