@@ -1,11 +1,11 @@
 -- Where chains of wrappers lead. A device of proofs.
-use Rattle.std.specs.Prelude.{◌≡◌, ℕ, List, length, slice_get, Some}
+use Rattle.std.specs.Prelude.{◌≡◌, ℕ, ◌<◌, false, List, length, slice_get, Some}
 use Rattle.std.specs.List.{AllByRecursion}
 use Rattle.amf_graph.specs.declared.value.Value.{Value as Stored}
 use Rattle.amf_graph.specs.Arena.{Names, value_content}
-use Rattle.amf_graph.specs.Graph.{node}
+use Rattle.amf_graph.specs.Graph.{node, node_at}
 use Rattle.amf_graph.specs.Rooted.{RootedArena, content}
-use Rattle.amf0_tables.specs.Lowered.{unwrapped_times, Low}
+use Rattle.amf0_tables.specs.Lowered.{is_wrapper, unwrapped_times, Low}
 
 -- so many values of the graph, each of which is one for the node of its number
 pub record AreFor (g : RootedArena) (IsFor : ℕ → Stored → Type 0) (count : ℕ) (vs : List Stored) : Type 0 where
@@ -26,3 +26,6 @@ IsLowFor g i v = Low (content g) (node i) (value_content g.arena v)
 
 abbrev pub AreLow : RootedArena → List Stored → Type 0
 AreLow g vs = AreFor g (IsLowFor g) (length g.arena.nodes) vs
+
+abbrev pub HasNoWrapper : RootedArena → Type 0
+HasNoWrapper g = (i : ℕ) → i < length g.arena.nodes → is_wrapper (node_at (content g) i).head ≡ false

@@ -7,11 +7,22 @@ ghost use Rattle.amf_graph.specs.Rooted.{RootedArena, content};
 ghost use Rattle.amf_wire.specs.Integer.{IsInteger};
 ghost use Rattle.amf_wire.specs.Whole.{IsPatternOf};
 ghost use Rattle.amf0_tables.specs.Lowered.{is_wrapper, wraps, unwrapped, Low, unwrapped_times};
-ghost use Rattle.amf0_write.specs.Chained.{AreAfter, AreLow};
+ghost use Rattle.amf0_write.specs.Chained.{AreAfter, HasNoWrapper, AreLow};
 
-use amf_graph::{NodeId, NodeView, Rooted, Value};
+use amf_graph::{NodeId, NodeKind, NodeView, Rooted, Value};
 use amf_wire::{Memory, Pattern, pattern_of};
 use std::alloc::Global;
+
+/// Whether a node is a wrapper.
+fn is_wrapper(node: NodeId, graph: &Rooted) -> bool
+    requires { node.0 < length graph.now.arena.nodes }
+    ensures { result ≡ is_wrapper (node_at (content graph.now) node.0).head }
+{
+    match graph.kind_of(node) {
+        NodeKind::Wrapper => true,
+        _ => false,
+    }
+}
 
 /// What a wrapper wraps; any other node itself.
 fn unwrapped(node: NodeId, graph: &Rooted) -> Value
@@ -20,21 +31,12 @@ fn unwrapped(node: NodeId, graph: &Rooted) -> Value
     ensures names { Names graph.now.arena result }
 {
     graph.is_finished();
+    if !is_wrapper(node, graph) {
+        return Value::Node(node);
+    }
     match graph.node(node) {
         NodeView::Wrapper { value, .. } => value,
         _ => Value::Node(node),
-    }
-}
-
-/// Whether a node is a wrapper.
-fn is_wrapper(node: NodeId, graph: &Rooted) -> bool
-    requires { node.0 < length graph.now.arena.nodes }
-    ensures { result ≡ is_wrapper (node_at (content graph.now) node.0).head }
-{
-    graph.is_finished();
-    match graph.node(node) {
-        NodeView::Wrapper { .. } => true,
-        _ => false,
     }
 }
 
@@ -139,11 +141,39 @@ fn low(end: Value, graph: &Rooted) -> Value
     }
 }
 
+/// Whether any node is a wrapper.
+fn has_wrapper(graph: &Rooted) -> bool
+    ensures { result ≡ false → HasNoWrapper graph.now }
+{
+    for number in 0..graph.node_count() {
+        if is_wrapper(NodeId(number), graph) {
+            return true;
+        }
+    }
+    false
+}
+
+/// For each node itself, where none is a wrapper.
+fn all_themselves(alloc: Global, graph: &Rooted) -> Result<Vec<Value>, Memory>
+    requires { HasNoWrapper graph.now }
+    ensures { IfOk result (λ ins. AreLow graph.now ins.items) }
+{
+    let count = graph.node_count();
+    let mut stand_ins = Vec::with_capacity(alloc, count as usize)?;
+    for number in 0..count {
+        stand_ins.push(Value::Node(NodeId(number)))?;
+    }
+    Ok(stand_ins)
+}
+
 /// For each node what it is in a lowered graph: itself, or for a wrapper what its chain ends in. A chain of so many wrappers
 /// takes as many turns as its length has binary digits.
 pub(crate) fn stand_ins(alloc: Global, graph: &Rooted) -> Result<Vec<Value>, Memory>
     ensures { IfOk result (λ ins. AreLow graph.now ins.items) }
 {
+    if !has_wrapper(graph) {
+        return all_themselves(alloc, graph);
+    }
     let ends = chain_ends(alloc, graph)?;
     let mut stand_ins = Vec::new(alloc);
     for end in &ends {
