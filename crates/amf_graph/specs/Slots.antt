@@ -5,31 +5,35 @@ use Rattle.amf_graph.specs.declared.value.Value.{Value as Stored}
 use Rattle.amf_graph.specs.declared.value.TextId.{TextId}
 use Rattle.amf_graph.specs.declared.shape.Shape.{Shape}
 use Rattle.amf_graph.specs.declared.shape.Shape.TheVariants as shape
-use Rattle.amf_graph.specs.declared.pairs.Lists.{Lists}
+use Rattle.amf_graph.specs.declared.part_lists.Lists.{Lists}
 use Rattle.amf_graph.specs.declared.slot.State.{State}
 use Rattle.amf_graph.specs.declared.slot.State.TheVariants as state
 use Rattle.amf_graph.specs.Arena.{dictionary, StoredNode}
 use Rattle.amf_graph.specs.Building.{shape_head, no_stored}
 use Rattle.amf_graph.specs.Views.{named, flat}
 
--- pairs by name, and the entries of a dictionary
-pub record KeptPairs : Type 0 where
+-- values, pairs by name, and the entries of a dictionary
+pub record KeptLists : Type 0 where
+  pub values : List Stored
   pub names : List (TextId × Stored)
   pub entries : List (Stored × Stored)
 
-abbrev pub no_pairs : KeptPairs
-no_pairs = record { names = []; entries = [] }
+abbrev pub no_lists : KeptLists
+no_lists = record { values = []; names = []; entries = [] }
 
--- the lists are made with the first pair
-abbrev pub pairs_of : Option (Box Lists) → KeptPairs
-pairs_of None = no_pairs
-pairs_of (Some b) = record { names = b.value.names.items; entries = b.value.entries.items }
+-- the lists are made with the first part
+abbrev pub lists_of : Option (Box Lists) → KeptLists
+lists_of None = no_lists
+lists_of (Some b) = record { values = b.value.values.items; names = b.value.names.items; entries = b.value.entries.items }
 
-abbrev pub more_names : TextId × Stored → KeptPairs → KeptPairs
-more_names p ps = record { names = ps.names ++ p ∷ []; entries = ps.entries }
+abbrev pub more_values : Stored → KeptLists → KeptLists
+more_values v ls = record { values = ls.values ++ v ∷ []; names = ls.names; entries = ls.entries }
 
-abbrev pub more_entries : Stored × Stored → KeptPairs → KeptPairs
-more_entries e ps = record { names = ps.names; entries = ps.entries ++ e ∷ [] }
+abbrev pub more_names : TextId × Stored → KeptLists → KeptLists
+more_names p ls = record { values = ls.values; names = ls.names ++ p ∷ []; entries = ls.entries }
+
+abbrev pub more_entries : Stored × Stored → KeptLists → KeptLists
+more_entries e ls = record { values = ls.values; names = ls.names; entries = ls.entries ++ e ∷ [] }
 
 abbrev pub state_owner : State → Option ℕ
 state_owner state.Left = None

@@ -165,7 +165,7 @@ impl Builder {
         if place >= MAX_COUNT as usize {
             return Err(BuildEnd::Full);
         }
-        self.store.open_node(self.alloc, shape)?;
+        self.store.open_node(shape)?;
         Ok(NodeId(place as u32))
     }
 

@@ -64,13 +64,7 @@ fn used_of(slots: &[Slot], count: usize) -> usize
 }
 
 /// Begins a node in the slot behind those that are used.
-fn next_slot(
-    alloc: Global,
-    slots: &mut Vec<Slot>,
-    used: usize,
-    owner: u32,
-    shape: Shape,
-) -> Result<(), Memory>
+fn next_slot(slots: &mut Vec<Slot>, used: usize, owner: u32, shape: Shape) -> Result<(), Memory>
     requires { used ≤ length slots.old.items }
     ensures there { OnOk result (used < length slots.new.items) }
     ensures room { used ≤ length slots.new.items }
@@ -80,7 +74,7 @@ fn next_slot(
     if used < slots.len() {
         slots[used].begin(owner, shape);
     } else {
-        slots.push(Slot::new(alloc, owner, shape))?;
+        slots.push(Slot::new(owner, shape))?;
     }
     Ok(())
 }
@@ -213,14 +207,14 @@ impl Nodes {
     }
 
     /// Keeps a node that is open and has no parts yet behind the others. After an end nothing has changed.
-    pub(crate) fn open(&mut self, alloc: Global, shape: Shape) -> Result<(), Memory>
+    pub(crate) fn open(&mut self, shape: Shape) -> Result<(), Memory>
         ensures ok { OnOk result (self.new ≡ self.old ++ begun (shape_head shape) ∷ []) }
         ensures err { OnErr result (self.new ≡ self.old) }
     {
         let place = number_of(self.rows.len())?;
         let slot = number_of(self.used)?;
         self.rows.reserve(1)?;
-        next_slot(alloc, &mut self.slots, self.used, place, shape)?;
+        next_slot(&mut self.slots, self.used, place, shape)?;
         self.used += 1;
         self.rows.push(Row::Slot(slot))?;
         Ok(())
@@ -234,8 +228,9 @@ impl Nodes {
         ensures ok { OnOk result (self.new ≡ set self.old place (more_part part (get_or self.old place no_stored))) }
         ensures err { OnErr result (self.new ≡ self.old) }
     {
+        let alloc = *self.rows.allocator();
         match self.rows[place] {
-            Row::Slot(slot) => self.slots[slot as usize].put(part),
+            Row::Slot(slot) => self.slots[slot as usize].put(alloc, part),
             _ => unreachable!(),
         }
     }
@@ -248,8 +243,9 @@ impl Nodes {
         ensures ok { OnOk result (self.new ≡ set self.old place (more_part (Item item) (get_or self.old place no_stored))) }
         ensures err { OnErr result (self.new ≡ self.old) }
     {
+        let alloc = *self.rows.allocator();
         match self.rows[place] {
-            Row::Slot(slot) => self.slots[slot as usize].put_item(item),
+            Row::Slot(slot) => self.slots[slot as usize].put_item(alloc, item),
             _ => unreachable!(),
         }
     }
@@ -281,15 +277,15 @@ impl Nodes {
         }
     }
 
-    /// Hands the list of values of the slot that was left to the one below, if that has none: so nodes within one another need one
-    /// list, and not one each.
+    /// Hands the lists of the slot that was left to the one below, if that has none: so nodes within one another need lists once, and
+    /// not each its own.
     fn hand_down(&mut self)
         ensures { self.new ≡ self.old }
     {
         let used = self.used;
         if used > 0 && used < self.slots.len() && self.slots[used - 1].is_bare() {
-            let list = self.slots[used].take_list();
-            self.slots[used - 1].use_list(list);
+            let lists = self.slots[used].take_lists();
+            self.slots[used - 1].use_lists(lists);
         }
     }
 

@@ -1,20 +1,19 @@
 //! Nodes with lists of their own.
 
-ghost use Rattle.std.specs.Prelude.{◌≡◌, ◌<◌, [], Some, None, OnOk, OnErr};
+ghost use Rattle.std.specs.Prelude.{◌≡◌, ◌<◌, Some, None, OnOk, OnErr};
 ghost use Rattle.amf_graph.specs.Bodies.{TakesPart};
 ghost use Rattle.amf_graph.specs.Bounds.{count_end};
 ghost use Rattle.amf_graph.specs.Building.{shape_head, begun, more_part, shut, size_of, kind_of};
 ghost use Rattle.amf_graph.specs.Held.{held_node};
-ghost use Rattle.amf_graph.specs.Slots.{with_node};
+ghost use Rattle.amf_graph.specs.Slots.{no_lists, with_node};
 ghost use Rattle.amf_graph.specs.declared.part.Part.TheVariants.{Item};
 
 use crate::held::{Form, Held};
-use crate::pairs::Pairs;
+use crate::part_lists::PartLists;
 use crate::{NodeKind, Part, Shape, Value};
 use amf_wire::Memory;
 use std::alloc::Global;
 use std::marker::Model;
-use std::mem;
 
 /// Whose a slot is: no node's, or that of the node at this place, which is open or closed.
 #[derive(Clone, Copy)]
@@ -29,8 +28,7 @@ enum State {
 pub(crate) struct Slot {
     state: State,
     shape: Shape,
-    values: Vec<Value>,
-    pairs: Pairs,
+    lists: PartLists,
 }
 
 impl Model for Slot {
@@ -38,19 +36,18 @@ impl Model for Slot {
 
     ghost Value = { KeptSlot };
 
-    ghost view = { λ s. record { owner = state_owner s.state; node = slot_node (state_open s.state) s.shape s.values.items s.pairs.names s.pairs.entries } };
+    ghost view = { λ s. record { owner = state_owner s.state; node = slot_node (state_open s.state) s.shape s.lists.values s.lists.names s.lists.entries } };
 }
 
 impl Slot {
     /// A node that has no parts yet.
-    pub(crate) fn new(alloc: Global, owner: u32, shape: Shape) -> Slot
+    pub(crate) fn new(owner: u32, shape: Shape) -> Slot
         ensures { result ≡ record { owner = Some owner; node = begun (shape_head shape) } }
     {
         Slot {
             state: State::Open(owner),
             shape,
-            values: Vec::new(alloc),
-            pairs: Pairs::new(),
+            lists: PartLists::new(),
         }
     }
 
@@ -60,8 +57,7 @@ impl Slot {
     {
         self.state = State::Open(owner);
         self.shape = shape;
-        self.values.clear();
-        self.pairs.clear();
+        self.lists.clear();
     }
 
     pub(crate) fn owner(&self) -> Option<u32>
@@ -80,29 +76,24 @@ impl Slot {
         self.state = State::Left;
     }
 
-    /// Whether it has no list for values yet.
+    /// Whether its lists are still to be made.
     pub(crate) fn is_bare(&self) -> bool {
-        self.values.capacity() == 0
+        self.lists.are_unmade()
     }
 
-    /// Gives its list for values, without them. No node stands here.
-    pub(crate) fn take_list(&mut self) -> Vec<Value>
-        ensures { result.items ≡ [] }
+    /// Gives its lists, without what they held. No node stands here.
+    pub(crate) fn take_lists(&mut self) -> PartLists
+        ensures { result ≡ no_lists }
     {
-        let none = Vec::new(*self.values.allocator());
-        let mut list = mem::replace(&mut self.values, none);
-        list.clear();
-        list
+        self.lists.take()
     }
 
-    /// Uses a list that is empty for its values, if it has none yet.
-    pub(crate) fn use_list(&mut self, list: Vec<Value>)
-        requires { list.items ≡ [] }
+    /// Uses lists that are empty, if its own are still to be made.
+    pub(crate) fn use_lists(&mut self, lists: PartLists)
+        requires { lists ≡ no_lists }
         ensures { self.new ≡ self.old }
     {
-        if self.values.is_empty() {
-            self.values = list;
-        }
+        self.lists.take_over(lists);
     }
 
     pub(crate) fn is_open(&self) -> bool
@@ -120,9 +111,9 @@ impl Slot {
             Shape::Object(traits) => Form::Object(traits),
             Shape::Wrapper(class) => Form::Wrapper(class),
             Shape::Values(fixed, of) => Form::Values(fixed, of),
-            Shape::Dictionary(weak) => return Held::Dictionary(weak, self.pairs.entries()),
+            Shape::Dictionary(weak) => return Held::Dictionary(weak, self.lists.entries()),
         };
-        Held::Parts(form, &self.values, self.pairs.names())
+        Held::Parts(form, self.lists.values(), self.lists.names())
     }
 
     /// What kind of node it is.
@@ -144,35 +135,36 @@ impl Slot {
         ensures { result ≡ size_of self.now.node }
     {
         match self.shape {
-            Shape::Dictionary(_) => self.pairs.entries().len(),
-            _ => self.pairs.names().len() + self.values.len(),
+            Shape::Dictionary(_) => self.lists.entries().len(),
+            _ => self.lists.names().len() + self.lists.values().len(),
         }
     }
 
-    pub(crate) fn put(&mut self, part: Part) -> Result<(), Memory>
+    /// Adds a part. After an end nothing has changed.
+    #[inline(always)]
+    pub(crate) fn put(&mut self, alloc: Global, part: Part) -> Result<(), Memory>
         requires { TakesPart self.old.node part }
         ensures ok { OnOk result (self.new ≡ with_node (more_part part self.old.node) self.old) }
         ensures err { OnErr result (self.new ≡ self.old) }
         ensures owner { self.new.owner ≡ self.old.owner }
     {
-        let alloc = *self.values.allocator();
         match part {
-            Part::Item(item) => return self.put_item(item),
-            Part::Named(name, value) => self.pairs.push_name(alloc, name, value)?,
-            Part::Entry(key, value) => self.pairs.push_entry(alloc, key, value)?,
+            Part::Item(item) => return self.put_item(alloc, item),
+            Part::Named(name, value) => self.lists.push_name(alloc, name, value)?,
+            Part::Entry(key, value) => self.lists.push_entry(alloc, key, value)?,
         }
         Ok(())
     }
 
     /// Adds an item. After an end nothing has changed.
-    pub(crate) fn put_item(&mut self, item: Value) -> Result<(), Memory>
+    #[inline(always)]
+    pub(crate) fn put_item(&mut self, alloc: Global, item: Value) -> Result<(), Memory>
         requires { TakesPart self.old.node (Item item) }
         ensures ok { OnOk result (self.new ≡ with_node (more_part (Item item) self.old.node) self.old) }
         ensures err { OnErr result (self.new ≡ self.old) }
         ensures owner { self.new.owner ≡ self.old.owner }
     {
-        self.values.push(item)?;
-        Ok(())
+        self.lists.push_value(alloc, item)
     }
 
     pub(crate) fn close(&mut self)

@@ -148,11 +148,11 @@ impl Store {
     }
 
     /// Keeps a node that is open and has no parts yet.
-    pub(crate) fn open_node(&mut self, alloc: Global, shape: Shape) -> Result<(), Memory>
+    pub(crate) fn open_node(&mut self, shape: Shape) -> Result<(), Memory>
         ensures ok { OnOk result (self.new ≡ kept_node self.old (begun (shape_head shape))) }
         ensures err { OnErr result (self.new ≡ self.old) }
     {
-        self.nodes.open(alloc, shape)
+        self.nodes.open(shape)
     }
 
     /// How many items, names and parts a node that is open has together.

@@ -8,11 +8,11 @@ use Rattle.amf_graph.proofs.nodes.Nodes.hand_down.Goals as goal
 pub returns-then-is_bare : goal.returns-then-is_bare
 returns-then-is_bare c =
     let s = c.self.inside in
-    let x = c.take_list-list.new.self in
-    let y = c.use_list.new.self in
+    let x = c.take_lists-lists.new.self in
+    let y = c.use_lists.new.self in
     let r = c.index_mut-then-is_bare.result.now in
     let within : s.used - 1 < length (set s.slots.items s.used x) = omega (arith, length-set s.slots.items s.used x, c.self.invariant.slots, c.if-used-gt0.true) in
-    let same = c.use_list.ensures ∙ get_or_read (set s.slots.items s.used x) (s.used - 1) r within c.index_mut-then-is_bare.ensures.value no_slot in
+    let same = c.use_lists.ensures ∙ get_or_read (set s.slots.items s.used x) (s.used - 1) r within c.index_mut-then-is_bare.ensures.value no_slot in
     nodes_used s.pools s.slots.items (set (set s.slots.items s.used x) (s.used - 1) y) s.used s.rows.items
     (handed_down s.slots.items s.used x y same) c.self.invariant
     ∙ c.self.view_is

@@ -8,8 +8,8 @@ use Rattle.amf_graph.proofs.slot.Slot.put.Goals as goal
 
 pub returns-in_ok-push_entry-in-Entry-clause-ok : goal.returns-in_ok-push_entry-in-Entry-clause-ok
 returns-in_ok-push_entry-in-Entry-clause-ok c =
-    let s = c.self.inside in
-    let takes : TakesEntry (slot_node (state_open s.state) s.shape s.values.items s.pairs.names s.pairs.entries).head = rw (← c.self.view_is, c.in-Entry.is) at c.requires in
+    let s = c.self-in-Entry.inside in
+    let takes : TakesEntry (slot_node (state_open s.state) s.shape s.lists.values s.lists.names s.lists.entries).head = rw (← c.self-in-Entry.view_is, c.in-Entry.is) at c.requires in
     let made : StoredNode → KeptSlot = λ n. record { owner = state_owner s.state; node = n } in
-    rw (← c.self.view_is, c.in-Entry.is, c.in_ok-push_entry-in-Entry.ensures.ok)
-    (ap made (slot_entry (state_open s.state) s.shape s.values.items s.pairs.names s.pairs.entries c.in-Entry.key c.in-Entry.value takes))
+    rw (← c.self-in-Entry.view_is, c.in-Entry.is, c.in_ok-push_entry-in-Entry.ensures.ok)
+    (ap made (slot_entry (state_open s.state) s.shape s.lists.values s.lists.names s.lists.entries c.in-Entry.key c.in-Entry.value takes))
