@@ -1,7 +1,7 @@
 -- A stack of open nodes: what each step of its loop keeps.
-use Rattle.std.proofs.Common.{◌≡◌, ℕ, zero, suc, ◌+◌, ◌≤◌, ◌<◌, true, false, inl, inr, List, [], ◌∷◌, ◌++◌, length, Option, Some, None, refl, sym, ap, ◌∙◌, arith, subst, Result, Ok, Err, OnOk, if◌then◌else◌, is_ok, option_to_list, IsSome, ◌↔◌, reverse, take, ◌-◌}
+use Rattle.std.proofs.Common.{◌≡◌, ℕ, suc, ◌+◌, ◌≤◌, ◌<◌, true, false, inl, inr, List, [], ◌∷◌, length, Option, Some, None, refl, sym, ap, ◌∙◌, arith, subst, Result, Ok, Err, OnOk}
 use Rattle.std.specs.Result.{IsErrAnd}
-use Rattle.std.proofs.lemmas.List.{append-nil, reverse-append}
+use Rattle.std.proofs.lemmas.List.{append-nil}
 use Rattle.std.proofs.Common.{length-append}
 use Rattle.amf_io.specs.declared.window.Window.{Window}
 use Rattle.amf_io.specs.declared.cursor.Cursor.{Cursor}
@@ -193,19 +193,6 @@ key_of (slot.Entry k) v o e h = absurd cc
 pub done : {T E : Type 0} (P : Type 0) (r : Result T E) (x : T) → r ≡ Ok x → OnOk r P → P
 done P (Ok y) x e h = h
 done P (Err y) x e h = absurd cc
-
--- The stack as a vector keeps the innermost frame last.
-
-pub popped : (xs ys : List Frame) (o : Option Frame) (f : Frame) → o ≡ Some f → xs ≡ ys ++ option_to_list o → reverse xs ≡ f ∷ reverse ys
-popped xs ys o f e h = ap reverse (h ∙ ap (λ z. ys ++ option_to_list z) e) ∙ reverse-append ys (f ∷ [])
-
-pub popped_none : (xs ys : List Frame) (o : Option Frame) (n : ℕ) → o ≡ None → (IsSome o ↔ (0 < n)) → xs ≡ ys ++ option_to_list o → ys ≡ take (n - 1) xs → reverse xs ≡ []
-popped_none xs ys o zero e h p q = ap reverse (p ∙ ap (λ z. ys ++ option_to_list z) e ∙ append-nil ys ∙ q)
-popped_none xs ys o (suc n) e h p q = let s = subst IsSome e (h.1 (omega arith)) in absurd cc
-
-pub pushed : {T E : Type 0} (xs ys : List Frame) (r : Result T E) (x : T) (f : Frame) → r ≡ Ok x → xs ≡ (if is_ok r then ys ++ f ∷ [] else ys) → reverse xs ≡ f ∷ reverse ys
-pushed xs ys (Ok y) x f e h = ap reverse h ∙ reverse-append ys (f ∷ [])
-pushed xs ys (Err y) x f e h = absurd cc
 
 -- A frame waits, whatever stands below it.
 

@@ -12,6 +12,7 @@ pub mod Filling
 pub mod Slots
 pub mod Now
 pub mod Frames
+pub mod FrameRows
 pub mod Follows
 pub mod Headers
 pub mod Opened

@@ -8,6 +8,7 @@ mod field;
 mod field_bytes;
 mod fill;
 mod frame;
+mod frames;
 mod header;
 mod laws;
 mod leaf;

@@ -1,4 +1,4 @@
-ghost use Rattle.std.specs.Prelude.{ℕ, suc, ◌<◌, ◌≤◌, ◌^◌, ◌+◌, ◌-◌, ◌*◌, ◌∷◌, length, reverse, OnOk, IfOk};
+ghost use Rattle.std.specs.Prelude.{ℕ, suc, ◌<◌, ◌≤◌, ◌^◌, ◌+◌, ◌-◌, ◌*◌, ◌∷◌, length, OnOk, IfOk};
 ghost use Rattle.amf_wire.specs.Integer.{IsInteger, integer_of};
 ghost use Rattle.amf_wire.specs.U29.{u29_value};
 ghost use Rattle.amf_io.specs.Field.{u29_kind, no_refusal};
@@ -22,6 +22,7 @@ use crate::ends::{kept, refused};
 use crate::field::{FieldSize, read_field, read_number};
 use crate::fill::{Step, go_on};
 use crate::frame::{Frame, Slot, Unfinished, part_of};
+use crate::frames::Frames;
 use crate::node::{Start, start_node};
 use crate::opening::Parts;
 use crate::text::read_text;
@@ -77,7 +78,7 @@ pub fn read_value<S: Source>(
         Start::Value(value) => return Ok(value),
         Start::Open(node, todo) => Unfinished { node, todo },
     };
-    let mut frames: Vec<Frame> = Vec::new(alloc);
+    let mut frames = Frames::new(alloc);
     loop {
         let Unfinished { node, todo } = innermost;
         match go_on(alloc, cursor, builder, tables, node, todo)? {
@@ -105,14 +106,14 @@ fn read_part<S: Source>(
     cursor: &mut Cursor<'_, S>,
     builder: &mut Builder,
     tables: &mut Tables3,
-    frames: &mut Vec<Frame>,
+    frames: &mut Frames,
     frame: Frame,
 ) -> Result<Unfinished, ReadEnd>
     requires ready { Ready 0 builder.old tables.old cursor.old }
     requires waits { IsWaiting (left_of cursor.old) builder.old frame }
     ensures goes { Goes S.tells S.left S.faults cursor.old cursor.new result }
-    ensures follows { Follows S.tells S.left S.faults builder.old builder.new tables.old tables.new cursor.old cursor.new now.wanted (frame ∷ reverse frames.old.items) (reverse frames.new.items) result }
-    ensures less { OnOk result (2 * left_of cursor.new + length frames.new.items < 2 * left_of cursor.old + length frames.old.items) }
+    ensures follows { Follows S.tells S.left S.faults builder.old builder.new tables.old tables.new cursor.old cursor.new now.wanted (frame ∷ frames.old) frames.new result }
+    ensures less { OnOk result (2 * left_of cursor.new + length frames.new < 2 * left_of cursor.old + length frames.old) }
 {
     match start_value(alloc, cursor, builder, tables)? {
         Start::Value(value) => give(alloc, cursor, builder, tables, frames, frame, value),
@@ -130,7 +131,7 @@ fn give<S: Source>(
     cursor: &mut Cursor<'_, S>,
     builder: &mut Builder,
     tables: &mut Tables3,
-    frames: &mut Vec<Frame>,
+    frames: &mut Frames,
     frame: Frame,
     value: Value,
 ) -> Result<Unfinished, ReadEnd>
@@ -138,8 +139,8 @@ fn give<S: Source>(
     requires waits { IsWaiting (suc (left_of cursor.old)) builder.old frame }
     requires names { Names builder.old value }
     ensures goes { Goes S.tells S.left S.faults cursor.old cursor.new result }
-    ensures follows { Follows S.tells S.left S.faults builder.old builder.new tables.old tables.new cursor.old cursor.new (now.given value) (frame ∷ reverse frames.old.items) (reverse frames.new.items) result }
-    ensures no_more { OnOk result (2 * left_of cursor.new + length frames.new.items ≤ 2 * left_of cursor.old + length frames.old.items) }
+    ensures follows { Follows S.tells S.left S.faults builder.old builder.new tables.old tables.new cursor.old cursor.new (now.given value) (frame ∷ frames.old) frames.new result }
+    ensures no_more { OnOk result (2 * left_of cursor.new + length frames.new ≤ 2 * left_of cursor.old + length frames.old) }
 {
     let Frame { node, slot, todo } = frame;
     match part_of(slot, value) {
@@ -160,7 +161,7 @@ fn read_entry<S: Source>(
     cursor: &mut Cursor<'_, S>,
     builder: &mut Builder,
     tables: &mut Tables3,
-    frames: &mut Vec<Frame>,
+    frames: &mut Frames,
     node: NodeId,
     key: Value,
     todo: Parts,
@@ -168,8 +169,8 @@ fn read_entry<S: Source>(
     requires ready { Ready 0 builder.old tables.old cursor.old }
     requires waits { IsWaiting (left_of cursor.old) builder.old (entry_of node key todo) }
     ensures goes { Goes S.tells S.left S.faults cursor.old cursor.new result }
-    ensures follows { Follows S.tells S.left S.faults builder.old builder.new tables.old tables.new cursor.old cursor.new now.wanted (entry_of node key todo ∷ reverse frames.old.items) (reverse frames.new.items) result }
-    ensures less { OnOk result (2 * left_of cursor.new + length frames.new.items < 2 * left_of cursor.old + length frames.old.items) }
+    ensures follows { Follows S.tells S.left S.faults builder.old builder.new tables.old tables.new cursor.old cursor.new now.wanted (entry_of node key todo ∷ frames.old) frames.new result }
+    ensures less { OnOk result (2 * left_of cursor.new + length frames.new < 2 * left_of cursor.old + length frames.old) }
 {
     match start_apart(alloc, cursor, builder, tables)? {
         Start::Value(value) => {

@@ -1,15 +1,15 @@
-use Rattle.std.proofs.Common.{suc, ◌≤◌, ◌∷◌, List, reverse, sym, subst, arith}
+use Rattle.std.proofs.Common.{suc, ◌≤◌, ◌∷◌, List, sym, subst, arith}
 use Rattle.amf3_read.specs.declared.frame.Frame.{Frame}
 use Rattle.amf3_read.specs.Now as now
 use Rattle.amf3_read.specs.Answer.{left_of}
 use Rattle.amf3_read.specs.Frames.{StackSo}
-use Rattle.amf3_read.proofs.Stack.{so_end, so_value, so_open, pushed, follows_end, waits_grown, ready_on}
+use Rattle.amf3_read.proofs.Stack.{so_end, so_value, so_open, follows_end, waits_grown, ready_on}
 use Rattle.amf3_read.proofs.value.read_part.Goals as goal
 
 pub returns-in_err-value-clause-follows : goal.returns-in_err-value-clause-follows
 returns-in_err-value-clause-follows g c =
     let S = g.S.Source in
-    let f = c.args.frame in let b = c.args.builder.now in let u = c.args.tables.now in let d = c.args.cursor.now in let fs = reverse c.args.frames.now.items in
+    let f = c.args.frame in let b = c.args.builder.now in let u = c.args.tables.now in let d = c.args.cursor.now in let fs = c.args.frames.now in
     let b1 = c.start_value.new.builder in let u1 = c.start_value.new.tables in let e = c.start_value.new.cursor in
     follows_end S.tells S.left S.faults b b1 u u1 d e now.wanted (f ∷ fs) fs c.from_residual.result c.in_err-value.field-0.0 c.from_residual.ensures.1
     (λ a t k so. so_end S.tells S.left S.faults a b t u k d (f ∷ fs) so b1 u1 e c.in_err-value.field-0.0 c.in_err-value.ensures.starts)
@@ -29,7 +29,7 @@ give-requires-clause-waits g c =
 pub returns-in-Value-clause-follows : goal.returns-in-Value-clause-follows
 returns-in-Value-clause-follows g c =
     let S = g.S.Source in
-    let f = c.args.frame in let b = c.args.builder.now in let u = c.args.tables.now in let d = c.args.cursor.now in let fs = reverse c.args.frames.now.items in
+    let f = c.args.frame in let b = c.args.builder.now in let u = c.args.tables.now in let d = c.args.cursor.now in let fs = c.args.frames.now in
     let b1 = c.start_value.new.builder in let u1 = c.start_value.new.tables in let e = c.start_value.new.cursor in
     let v = c.in-Value.value in
     let h = rw c.in-Value.is at c.in_ok-value.ensures in
@@ -42,12 +42,11 @@ returns-in-Value-clause-follows g c =
 pub returns-in_ok-push-in-Open-clause-follows : goal.returns-in_ok-push-in-Open-clause-follows
 returns-in_ok-push-in-Open-clause-follows g c =
     let S = g.S.Source in
-    let f = c.args.frame in let b = c.args.builder.now in let u = c.args.tables.now in let d = c.args.cursor.now in let fs = reverse c.args.frames.now.items in
+    let f = c.args.frame in let b = c.args.builder.now in let u = c.args.tables.now in let d = c.args.cursor.now in let fs = c.args.frames.now in
     let b1 = c.start_value.new.builder in let u1 = c.start_value.new.tables in let e = c.start_value.new.cursor in
     let i = c.in-Open.node in let p = c.in-Open.todo in
     let h = rw c.in-Open.is at c.in_ok-value.ensures in
-    let more = pushed c.push.new.self.items c.args.frames.now.items c.push.result c.in_ok-push-in-Open.field-0 f c.in_ok-push-in-Open.was c.push.ensures.items in
     record {
-      goes_on = λ a t k so. subst (λ (gs : List Frame). StackSo S.tells S.left S.faults a b1 t u1 k e (now.unfinished i p) gs) (sym more) (so_open S.tells S.left S.faults a b t u k d (f ∷ fs) so b1 u1 e i p h.goes h.starts h.still_ready h.holds h.moves);
+      goes_on = λ a t k so. subst (λ (gs : List Frame). StackSo S.tells S.left S.faults a b1 t u1 k e (now.unfinished i p) gs) (sym c.in_ok-push-in-Open.ensures) (so_open S.tells S.left S.faults a b t u k d (f ∷ fs) so b1 u1 e i p h.goes h.starts h.still_ready h.holds h.moves);
       ends = λ a t k so n lt. tt;
     }

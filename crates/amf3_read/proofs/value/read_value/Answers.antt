@@ -1,4 +1,4 @@
-use Rattle.std.proofs.Common.{suc, List, [], reverse, sym, ap, subst, arith}
+use Rattle.std.proofs.Common.{suc, List, [], sym, subst, arith}
 use Rattle.amf_graph.specs.declared.value.Value.TheVariants as value
 use Rattle.amf3_layout.specs.Layout3State.{state_of}
 use Rattle.amf3_layout.specs.Layout3.{value_layout}
@@ -8,7 +8,7 @@ use Rattle.amf3_read.specs.Answer.{left_of}
 use Rattle.amf3_read.specs.Frames.{Nested, StackSo}
 use Rattle.amf_io.proofs.CursorReads.{goes_other}
 use Rattle.amf3_read.proofs.LayoutBinds.{passed_on}
-use Rattle.amf3_read.proofs.Stack.{so_begin, so_end, so_value, so_open, go_end, go_wait, go_open, go_closed, so_done, so_continues, popped, popped_none, waits_any, goes_passed}
+use Rattle.amf3_read.proofs.Stack.{so_begin, so_end, so_value, so_open, go_end, go_wait, go_open, go_closed, so_done, so_continues, waits_any, goes_passed}
 use Rattle.amf3_read.proofs.value.read_value.Goals as goal
 
 pub returns-in_err-value-clause-answers : goal.returns-in_err-value-clause-answers
@@ -47,13 +47,13 @@ loop-frames-init g c =
     let b1 = c.start_apart.new.builder in let u1 = c.start_apart.new.tables in let e = c.start_apart.new.cursor in
     let so = so_begin S.tells S.left S.faults a t k c.requires in
     let h = rw c.in-Open.is at c.in_ok-value.ensures in
-    subst (λ (l : List Frame). StackSo S.tells S.left S.faults a b1 t u1 k e (now.unfinished c.in-Open.node c.in-Open.todo) l) (sym (ap (λ (l : List Frame). reverse l) c.new-frames.ensures.items))
+    subst (λ (l : List Frame). StackSo S.tells S.left S.faults a b1 t u1 k e (now.unfinished c.in-Open.node c.in-Open.todo) l) (sym c.new-frames.ensures)
     (so_open S.tells S.left S.faults a a t t k k [] so b1 u1 e c.in-Open.node c.in-Open.todo h.goes h.starts h.still_ready h.holds h.moves)
 
 pub returns-in_err-todo-clause-goes : goal.returns-in_err-todo-clause-goes
 returns-in_err-todo-clause-goes g c =
     let S = g.S.Source in
-    let a = c.args.builder.now in let t = c.args.tables.now in let k = c.args.cursor.now in let b = c.loop-frames.builder in let u = c.loop-frames.tables in let d = c.loop-frames.cursor in let fs = reverse c.loop-frames.frames.items in
+    let a = c.args.builder.now in let t = c.args.tables.now in let k = c.args.cursor.now in let b = c.loop-frames.builder in let u = c.loop-frames.tables in let d = c.loop-frames.cursor in let fs = c.loop-frames.frames in
     let i = c.loop-frames.innermost.node in let p = c.loop-frames.innermost.todo in
     let b1 = c.go_on.new.builder in let u1 = c.go_on.new.tables in let e = c.go_on.new.cursor in
     goes_passed S.tells S.left S.faults k d e c.from_residual-in_err-todo.result c.in_err-todo.field-0.0 c.from_residual-in_err-todo.ensures.1 c.loop-frames.invariant.goes c.in_err-todo.ensures.goes
@@ -61,7 +61,7 @@ returns-in_err-todo-clause-goes g c =
 pub returns-in_err-todo-clause-answers : goal.returns-in_err-todo-clause-answers
 returns-in_err-todo-clause-answers g c = λ n lt.
     let S = g.S.Source in
-    let a = c.args.builder.now in let t = c.args.tables.now in let k = c.args.cursor.now in let b = c.loop-frames.builder in let u = c.loop-frames.tables in let d = c.loop-frames.cursor in let fs = reverse c.loop-frames.frames.items in
+    let a = c.args.builder.now in let t = c.args.tables.now in let k = c.args.cursor.now in let b = c.loop-frames.builder in let u = c.loop-frames.tables in let d = c.loop-frames.cursor in let fs = c.loop-frames.frames in
     let i = c.loop-frames.innermost.node in let p = c.loop-frames.innermost.todo in
     let b1 = c.go_on.new.builder in let u1 = c.go_on.new.tables in let e = c.go_on.new.cursor in
     passed_on S.tells S.left S.faults _ (value_layout n (state_of a t)) k e c.from_residual-in_err-todo.result c.in_err-todo.field-0.0 c.from_residual-in_err-todo.ensures.1
@@ -70,7 +70,7 @@ returns-in_err-todo-clause-answers g c = λ n lt.
 pub loop-frames-preserved-in-Open-2 : goal.loop-frames-preserved-in-Open-2
 loop-frames-preserved-in-Open-2 g c =
     let S = g.S.Source in
-    let a = c.args.builder.now in let t = c.args.tables.now in let k = c.args.cursor.now in let b = c.loop-frames.builder in let u = c.loop-frames.tables in let d = c.loop-frames.cursor in let fs = reverse c.loop-frames.frames.items in
+    let a = c.args.builder.now in let t = c.args.tables.now in let k = c.args.cursor.now in let b = c.loop-frames.builder in let u = c.loop-frames.tables in let d = c.loop-frames.cursor in let fs = c.loop-frames.frames in
     let i = c.loop-frames.innermost.node in let p = c.loop-frames.innermost.todo in
     let b1 = c.go_on.new.builder in let u1 = c.go_on.new.tables in let e = c.go_on.new.cursor in
     let h = rw c.in-Open-2.is at c.in_ok-todo.ensures in
@@ -80,7 +80,7 @@ loop-frames-preserved-in-Open-2 g c =
 pub read_part-requires-clause-ready : goal.read_part-requires-clause-ready
 read_part-requires-clause-ready g c =
     let S = g.S.Source in
-    let a = c.args.builder.now in let t = c.args.tables.now in let k = c.args.cursor.now in let b = c.loop-frames.builder in let u = c.loop-frames.tables in let d = c.loop-frames.cursor in let fs = reverse c.loop-frames.frames.items in
+    let a = c.args.builder.now in let t = c.args.tables.now in let k = c.args.cursor.now in let b = c.loop-frames.builder in let u = c.loop-frames.tables in let d = c.loop-frames.cursor in let fs = c.loop-frames.frames in
     let i = c.loop-frames.innermost.node in let p = c.loop-frames.innermost.todo in
     let b1 = c.go_on.new.builder in let u1 = c.go_on.new.tables in let e = c.go_on.new.cursor in
     let h = rw c.in-Wait.is at c.in_ok-todo.ensures in
@@ -90,7 +90,7 @@ read_part-requires-clause-ready g c =
 pub read_part-requires-clause-waits : goal.read_part-requires-clause-waits
 read_part-requires-clause-waits g c =
     let S = g.S.Source in
-    let a = c.args.builder.now in let t = c.args.tables.now in let k = c.args.cursor.now in let b = c.loop-frames.builder in let u = c.loop-frames.tables in let d = c.loop-frames.cursor in let fs = reverse c.loop-frames.frames.items in
+    let a = c.args.builder.now in let t = c.args.tables.now in let k = c.args.cursor.now in let b = c.loop-frames.builder in let u = c.loop-frames.tables in let d = c.loop-frames.cursor in let fs = c.loop-frames.frames in
     let i = c.loop-frames.innermost.node in let p = c.loop-frames.innermost.todo in
     let b1 = c.go_on.new.builder in let u1 = c.go_on.new.tables in let e = c.go_on.new.cursor in
     let h = rw c.in-Wait.is at c.in_ok-todo.ensures in
@@ -101,7 +101,7 @@ read_part-requires-clause-waits g c =
 pub returns-in_err-innermost-in-Wait-clause-goes : goal.returns-in_err-innermost-in-Wait-clause-goes
 returns-in_err-innermost-in-Wait-clause-goes g c =
     let S = g.S.Source in
-    let a = c.args.builder.now in let t = c.args.tables.now in let k = c.args.cursor.now in let b = c.loop-frames.builder in let u = c.loop-frames.tables in let d = c.loop-frames.cursor in let fs = reverse c.loop-frames.frames.items in
+    let a = c.args.builder.now in let t = c.args.tables.now in let k = c.args.cursor.now in let b = c.loop-frames.builder in let u = c.loop-frames.tables in let d = c.loop-frames.cursor in let fs = c.loop-frames.frames in
     let i = c.loop-frames.innermost.node in let p = c.loop-frames.innermost.todo in
     let b1 = c.go_on.new.builder in let u1 = c.go_on.new.tables in let e = c.go_on.new.cursor in
     let h = rw c.in-Wait.is at c.in_ok-todo.ensures in
@@ -111,7 +111,7 @@ returns-in_err-innermost-in-Wait-clause-goes g c =
 pub returns-in_err-innermost-in-Wait-clause-answers : goal.returns-in_err-innermost-in-Wait-clause-answers
 returns-in_err-innermost-in-Wait-clause-answers g c = λ n lt.
     let S = g.S.Source in
-    let a = c.args.builder.now in let t = c.args.tables.now in let k = c.args.cursor.now in let b = c.loop-frames.builder in let u = c.loop-frames.tables in let d = c.loop-frames.cursor in let fs = reverse c.loop-frames.frames.items in
+    let a = c.args.builder.now in let t = c.args.tables.now in let k = c.args.cursor.now in let b = c.loop-frames.builder in let u = c.loop-frames.tables in let d = c.loop-frames.cursor in let fs = c.loop-frames.frames in
     let i = c.loop-frames.innermost.node in let p = c.loop-frames.innermost.todo in
     let b1 = c.go_on.new.builder in let u1 = c.go_on.new.tables in let e = c.go_on.new.cursor in
     let h = rw c.in-Wait.is at c.in_ok-todo.ensures in
@@ -122,7 +122,7 @@ returns-in_err-innermost-in-Wait-clause-answers g c = λ n lt.
 pub loop-frames-preserved-in-Wait : goal.loop-frames-preserved-in-Wait
 loop-frames-preserved-in-Wait g c =
     let S = g.S.Source in
-    let a = c.args.builder.now in let t = c.args.tables.now in let k = c.args.cursor.now in let b = c.loop-frames.builder in let u = c.loop-frames.tables in let d = c.loop-frames.cursor in let fs = reverse c.loop-frames.frames.items in
+    let a = c.args.builder.now in let t = c.args.tables.now in let k = c.args.cursor.now in let b = c.loop-frames.builder in let u = c.loop-frames.tables in let d = c.loop-frames.cursor in let fs = c.loop-frames.frames in
     let i = c.loop-frames.innermost.node in let p = c.loop-frames.innermost.todo in
     let b1 = c.go_on.new.builder in let u1 = c.go_on.new.tables in let e = c.go_on.new.cursor in
     let h = rw c.in-Wait.is at c.in_ok-todo.ensures in
@@ -133,7 +133,7 @@ loop-frames-preserved-in-Wait g c =
 pub returns-in_default-clause-goes : goal.returns-in_default-clause-goes
 returns-in_default-clause-goes g c =
     let S = g.S.Source in
-    let a = c.args.builder.now in let t = c.args.tables.now in let k = c.args.cursor.now in let b = c.loop-frames.builder in let u = c.loop-frames.tables in let d = c.loop-frames.cursor in let fs = reverse c.loop-frames.frames.items in
+    let a = c.args.builder.now in let t = c.args.tables.now in let k = c.args.cursor.now in let b = c.loop-frames.builder in let u = c.loop-frames.tables in let d = c.loop-frames.cursor in let fs = c.loop-frames.frames in
     let i = c.loop-frames.innermost.node in let p = c.loop-frames.innermost.todo in
     let b1 = c.go_on.new.builder in let u1 = c.go_on.new.tables in let e = c.go_on.new.cursor in
     let h = rw c.in-Closed.is at c.in_ok-todo.ensures in
@@ -143,29 +143,29 @@ returns-in_default-clause-goes g c =
 pub returns-in_default-clause-answers : goal.returns-in_default-clause-answers
 returns-in_default-clause-answers g c = λ n lt.
     let S = g.S.Source in
-    let a = c.args.builder.now in let t = c.args.tables.now in let k = c.args.cursor.now in let b = c.loop-frames.builder in let u = c.loop-frames.tables in let d = c.loop-frames.cursor in let fs = reverse c.loop-frames.frames.items in
+    let a = c.args.builder.now in let t = c.args.tables.now in let k = c.args.cursor.now in let b = c.loop-frames.builder in let u = c.loop-frames.tables in let d = c.loop-frames.cursor in let fs = c.loop-frames.frames in
     let i = c.loop-frames.innermost.node in let p = c.loop-frames.innermost.todo in
     let b1 = c.go_on.new.builder in let u1 = c.go_on.new.tables in let e = c.go_on.new.cursor in
     let h = rw c.in-Closed.is at c.in_ok-todo.ensures in
     let so = go_closed S.tells S.left S.faults a b t u k d fs i p c.loop-frames.invariant b1 u1 e h.still_ready h.stays (let x = h.goes.same_bound in let y = h.stays in omega arith) h.goes h.answers h.holds in
-    let one = subst (λ (l : List Frame). StackSo S.tells S.left S.faults a b1 t u1 k e (now.given (value.Node i)) l) (popped_none c.loop-frames.frames.items c.pop.new.self.items c.pop.result _ c.in_default.is c.pop.ensures.variant c.pop.ensures.items c.pop.ensures.rest) so in
+    let one = subst (λ (l : List Frame). StackSo S.tells S.left S.faults a b1 t u1 k e (now.given (value.Node i)) l) (rw c.in_default.is at c.pop.ensures) so in
     so_done S.tells S.left S.faults a b1 t u1 k e (value.Node i) one n lt
 
 pub returns-in_default-clause-continues : goal.returns-in_default-clause-continues
 returns-in_default-clause-continues g c =
     let S = g.S.Source in
-    let a = c.args.builder.now in let t = c.args.tables.now in let k = c.args.cursor.now in let b = c.loop-frames.builder in let u = c.loop-frames.tables in let d = c.loop-frames.cursor in let fs = reverse c.loop-frames.frames.items in
+    let a = c.args.builder.now in let t = c.args.tables.now in let k = c.args.cursor.now in let b = c.loop-frames.builder in let u = c.loop-frames.tables in let d = c.loop-frames.cursor in let fs = c.loop-frames.frames in
     let i = c.loop-frames.innermost.node in let p = c.loop-frames.innermost.todo in
     let b1 = c.go_on.new.builder in let u1 = c.go_on.new.tables in let e = c.go_on.new.cursor in
     let h = rw c.in-Closed.is at c.in_ok-todo.ensures in
     let so = go_closed S.tells S.left S.faults a b t u k d fs i p c.loop-frames.invariant b1 u1 e h.still_ready h.stays (let x = h.goes.same_bound in let y = h.stays in omega arith) h.goes h.answers h.holds in
-    let one = subst (λ (l : List Frame). StackSo S.tells S.left S.faults a b1 t u1 k e (now.given (value.Node i)) l) (popped_none c.loop-frames.frames.items c.pop.new.self.items c.pop.result _ c.in_default.is c.pop.ensures.variant c.pop.ensures.items c.pop.ensures.rest) so in
+    let one = subst (λ (l : List Frame). StackSo S.tells S.left S.faults a b1 t u1 k e (now.given (value.Node i)) l) (rw c.in_default.is at c.pop.ensures) so in
     so_continues S.tells S.left S.faults a b1 t u1 k e (value.Node i) one
 
 pub returns-in_default-clause-moves : goal.returns-in_default-clause-moves
 returns-in_default-clause-moves g c =
     let S = g.S.Source in
-    let a = c.args.builder.now in let t = c.args.tables.now in let k = c.args.cursor.now in let b = c.loop-frames.builder in let u = c.loop-frames.tables in let d = c.loop-frames.cursor in let fs = reverse c.loop-frames.frames.items in
+    let a = c.args.builder.now in let t = c.args.tables.now in let k = c.args.cursor.now in let b = c.loop-frames.builder in let u = c.loop-frames.tables in let d = c.loop-frames.cursor in let fs = c.loop-frames.frames in
     let i = c.loop-frames.innermost.node in let p = c.loop-frames.innermost.todo in
     let b1 = c.go_on.new.builder in let u1 = c.go_on.new.tables in let e = c.go_on.new.cursor in
     let h = rw c.in-Closed.is at c.in_ok-todo.ensures in
@@ -175,7 +175,7 @@ returns-in_default-clause-moves g c =
 pub give-requires-clause-ready : goal.give-requires-clause-ready
 give-requires-clause-ready g c =
     let S = g.S.Source in
-    let a = c.args.builder.now in let t = c.args.tables.now in let k = c.args.cursor.now in let b = c.loop-frames.builder in let u = c.loop-frames.tables in let d = c.loop-frames.cursor in let fs = reverse c.loop-frames.frames.items in
+    let a = c.args.builder.now in let t = c.args.tables.now in let k = c.args.cursor.now in let b = c.loop-frames.builder in let u = c.loop-frames.tables in let d = c.loop-frames.cursor in let fs = c.loop-frames.frames in
     let i = c.loop-frames.innermost.node in let p = c.loop-frames.innermost.todo in
     let b1 = c.go_on.new.builder in let u1 = c.go_on.new.tables in let e = c.go_on.new.cursor in
     let h = rw c.in-Closed.is at c.in_ok-todo.ensures in
@@ -185,20 +185,20 @@ give-requires-clause-ready g c =
 pub give-requires-clause-waits : goal.give-requires-clause-waits
 give-requires-clause-waits g c =
     let S = g.S.Source in
-    let a = c.args.builder.now in let t = c.args.tables.now in let k = c.args.cursor.now in let b = c.loop-frames.builder in let u = c.loop-frames.tables in let d = c.loop-frames.cursor in let fs = reverse c.loop-frames.frames.items in
+    let a = c.args.builder.now in let t = c.args.tables.now in let k = c.args.cursor.now in let b = c.loop-frames.builder in let u = c.loop-frames.tables in let d = c.loop-frames.cursor in let fs = c.loop-frames.frames in
     let i = c.loop-frames.innermost.node in let p = c.loop-frames.innermost.todo in
     let b1 = c.go_on.new.builder in let u1 = c.go_on.new.tables in let e = c.go_on.new.cursor in
     let h = rw c.in-Closed.is at c.in_ok-todo.ensures in
     let so = go_closed S.tells S.left S.faults a b t u k d fs i p c.loop-frames.invariant b1 u1 e h.still_ready h.stays (let x = h.goes.same_bound in let y = h.stays in omega arith) h.goes h.answers h.holds in
     let f = c.in-Some.frame in
-    let gs = reverse c.pop.new.self.items in
-    let two = subst (λ (l : List Frame). StackSo S.tells S.left S.faults a b1 t u1 k e (now.given (value.Node i)) l) (popped c.loop-frames.frames.items c.pop.new.self.items c.pop.result f c.in-Some.is c.pop.ensures.items) so in
+    let gs = c.pop.new.self in
+    let two = subst (λ (l : List Frame). StackSo S.tells S.left S.faults a b1 t u1 k e (now.given (value.Node i)) l) c.in-Some.ensures so in
     waits_any (Nested a (suc (suc (left_of e))) gs) (suc (left_of e)) b1 f two.holds.0
 
 pub give-requires-clause-names : goal.give-requires-clause-names
 give-requires-clause-names g c =
     let S = g.S.Source in
-    let a = c.args.builder.now in let t = c.args.tables.now in let k = c.args.cursor.now in let b = c.loop-frames.builder in let u = c.loop-frames.tables in let d = c.loop-frames.cursor in let fs = reverse c.loop-frames.frames.items in
+    let a = c.args.builder.now in let t = c.args.tables.now in let k = c.args.cursor.now in let b = c.loop-frames.builder in let u = c.loop-frames.tables in let d = c.loop-frames.cursor in let fs = c.loop-frames.frames in
     let i = c.loop-frames.innermost.node in let p = c.loop-frames.innermost.todo in
     let b1 = c.go_on.new.builder in let u1 = c.go_on.new.tables in let e = c.go_on.new.cursor in
     let h = rw c.in-Closed.is at c.in_ok-todo.ensures in
@@ -208,7 +208,7 @@ give-requires-clause-names g c =
 pub returns-in_err-innermost-in-Closed-clause-goes : goal.returns-in_err-innermost-in-Closed-clause-goes
 returns-in_err-innermost-in-Closed-clause-goes g c =
     let S = g.S.Source in
-    let a = c.args.builder.now in let t = c.args.tables.now in let k = c.args.cursor.now in let b = c.loop-frames.builder in let u = c.loop-frames.tables in let d = c.loop-frames.cursor in let fs = reverse c.loop-frames.frames.items in
+    let a = c.args.builder.now in let t = c.args.tables.now in let k = c.args.cursor.now in let b = c.loop-frames.builder in let u = c.loop-frames.tables in let d = c.loop-frames.cursor in let fs = c.loop-frames.frames in
     let i = c.loop-frames.innermost.node in let p = c.loop-frames.innermost.todo in
     let b1 = c.go_on.new.builder in let u1 = c.go_on.new.tables in let e = c.go_on.new.cursor in
     let h = rw c.in-Closed.is at c.in_ok-todo.ensures in
@@ -218,27 +218,27 @@ returns-in_err-innermost-in-Closed-clause-goes g c =
 pub returns-in_err-innermost-in-Closed-clause-answers : goal.returns-in_err-innermost-in-Closed-clause-answers
 returns-in_err-innermost-in-Closed-clause-answers g c = λ n lt.
     let S = g.S.Source in
-    let a = c.args.builder.now in let t = c.args.tables.now in let k = c.args.cursor.now in let b = c.loop-frames.builder in let u = c.loop-frames.tables in let d = c.loop-frames.cursor in let fs = reverse c.loop-frames.frames.items in
+    let a = c.args.builder.now in let t = c.args.tables.now in let k = c.args.cursor.now in let b = c.loop-frames.builder in let u = c.loop-frames.tables in let d = c.loop-frames.cursor in let fs = c.loop-frames.frames in
     let i = c.loop-frames.innermost.node in let p = c.loop-frames.innermost.todo in
     let b1 = c.go_on.new.builder in let u1 = c.go_on.new.tables in let e = c.go_on.new.cursor in
     let h = rw c.in-Closed.is at c.in_ok-todo.ensures in
     let so = go_closed S.tells S.left S.faults a b t u k d fs i p c.loop-frames.invariant b1 u1 e h.still_ready h.stays (let x = h.goes.same_bound in let y = h.stays in omega arith) h.goes h.answers h.holds in
     let f = c.in-Some.frame in
-    let gs = reverse c.pop.new.self.items in
-    let two = subst (λ (l : List Frame). StackSo S.tells S.left S.faults a b1 t u1 k e (now.given (value.Node i)) l) (popped c.loop-frames.frames.items c.pop.new.self.items c.pop.result f c.in-Some.is c.pop.ensures.items) so in
+    let gs = c.pop.new.self in
+    let two = subst (λ (l : List Frame). StackSo S.tells S.left S.faults a b1 t u1 k e (now.given (value.Node i)) l) c.in-Some.ensures so in
     let x = c.in_err-innermost-in-Closed.ensures.follows in
     passed_on S.tells S.left S.faults _ (value_layout n (state_of a t)) k c.give.new.cursor c.from_residual-in_err-innermost-in-Closed.result c.in_err-innermost-in-Closed.field-0.0 c.from_residual-in_err-innermost-in-Closed.ensures.1 (x.ends a t k two n lt)
 
 pub loop-frames-preserved : goal.loop-frames-preserved
 loop-frames-preserved g c =
     let S = g.S.Source in
-    let a = c.args.builder.now in let t = c.args.tables.now in let k = c.args.cursor.now in let b = c.loop-frames.builder in let u = c.loop-frames.tables in let d = c.loop-frames.cursor in let fs = reverse c.loop-frames.frames.items in
+    let a = c.args.builder.now in let t = c.args.tables.now in let k = c.args.cursor.now in let b = c.loop-frames.builder in let u = c.loop-frames.tables in let d = c.loop-frames.cursor in let fs = c.loop-frames.frames in
     let i = c.loop-frames.innermost.node in let p = c.loop-frames.innermost.todo in
     let b1 = c.go_on.new.builder in let u1 = c.go_on.new.tables in let e = c.go_on.new.cursor in
     let h = rw c.in-Closed.is at c.in_ok-todo.ensures in
     let so = go_closed S.tells S.left S.faults a b t u k d fs i p c.loop-frames.invariant b1 u1 e h.still_ready h.stays (let x = h.goes.same_bound in let y = h.stays in omega arith) h.goes h.answers h.holds in
     let f = c.in-Some.frame in
-    let gs = reverse c.pop.new.self.items in
-    let two = subst (λ (l : List Frame). StackSo S.tells S.left S.faults a b1 t u1 k e (now.given (value.Node i)) l) (popped c.loop-frames.frames.items c.pop.new.self.items c.pop.result f c.in-Some.is c.pop.ensures.items) so in
+    let gs = c.pop.new.self in
+    let two = subst (λ (l : List Frame). StackSo S.tells S.left S.faults a b1 t u1 k e (now.given (value.Node i)) l) c.in-Some.ensures so in
     let x = c.in_ok-innermost-in-Closed.ensures.follows in
     x.goes_on a t k two
