@@ -87,9 +87,57 @@ fn start_inline<S: Source>(
     }
 }
 
-/// Reads what stands between a node's header and its values, and enters the node.
+/// Does what `enter_node` does. Most nodes are arrays or objects of known traits: these have code of their own.
 #[inline(always)]
 fn begin_node<S: Source>(
+    alloc: Global,
+    cursor: &mut Cursor<'_, S>,
+    builder: &mut Builder,
+    tables: &mut Tables3,
+    kind: NodeKind,
+    header: u32,
+) -> Result<Entered, ReadEnd>
+    requires ready { Ready 1 builder.old tables.old cursor.old }
+    requires known { IsOpening tables.old (node_marker kind) header }
+    ensures goes { Goes S.tells S.left S.faults cursor.old cursor.new result }
+    ensures begins { IfOk result (Begins S.tells S.left kind header builder.old builder.new tables.old tables.new cursor.old cursor.new) }
+    ensures ends { IfErr result (Ends S.tells S.left (opening kind header (state_of builder.old tables.old)) cursor.old cursor.new) }
+    ensures ready { OnOk result (Ready 0 builder.new tables.new cursor.new) }
+    ensures stays { OnOk result (place cursor.old ≤ place cursor.new) }
+{
+    match kind {
+        NodeKind::Array => enter_node(alloc, cursor, builder, tables, NodeKind::Array, header),
+        NodeKind::Object if header % 4 == 1 => {
+            enter_node(alloc, cursor, builder, tables, NodeKind::Object, header)
+        }
+        _ => enter_apart(alloc, cursor, builder, tables, kind, header),
+    }
+}
+
+/// Does what `enter_node` does, for a kind of which there are few.
+#[inline(never)]
+fn enter_apart<S: Source>(
+    alloc: Global,
+    cursor: &mut Cursor<'_, S>,
+    builder: &mut Builder,
+    tables: &mut Tables3,
+    kind: NodeKind,
+    header: u32,
+) -> Result<Entered, ReadEnd>
+    requires ready { Ready 1 builder.old tables.old cursor.old }
+    requires known { IsOpening tables.old (node_marker kind) header }
+    ensures goes { Goes S.tells S.left S.faults cursor.old cursor.new result }
+    ensures begins { IfOk result (Begins S.tells S.left kind header builder.old builder.new tables.old tables.new cursor.old cursor.new) }
+    ensures ends { IfErr result (Ends S.tells S.left (opening kind header (state_of builder.old tables.old)) cursor.old cursor.new) }
+    ensures ready { OnOk result (Ready 0 builder.new tables.new cursor.new) }
+    ensures stays { OnOk result (place cursor.old ≤ place cursor.new) }
+{
+    enter_node(alloc, cursor, builder, tables, kind, header)
+}
+
+/// Reads what stands between a node's header and its values, and enters the node.
+#[inline(always)]
+fn enter_node<S: Source>(
     alloc: Global,
     cursor: &mut Cursor<'_, S>,
     builder: &mut Builder,
