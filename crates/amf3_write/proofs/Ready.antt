@@ -11,7 +11,7 @@ use Rattle.amf3_spelling.specs.Words3.{NoPlaceBelow}
 use Rattle.amf_tables.specs.declared.text_place.TextPlace.{TextPlace}
 use Rattle.amf_tables.specs.declared.text_place.TextPlace.TheVariants.{Old, New}
 use Rattle.amf3_spelling.specs.ByteSpelling.{whole, number, raw, word, step}
-use Rattle.amf_tables.proofs.KnownPlaces.{known_with_text, known_with_entry}
+use Rattle.amf_tables.proofs.KnownTexts.{known_with_text, known_with_entry}
 use Rattle.amf3_write.specs.declared.output.Output.{Output}
 use Rattle.amf3_write.specs.Writes.{Writes, WritesStep, WritesSteps, IsReady}
 

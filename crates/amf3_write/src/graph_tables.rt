@@ -15,10 +15,12 @@ pub struct GraphTables {
 
 impl GraphTables {
     /// These tables, of which nothing is known yet.
-    pub fn of(alloc: Global, tables: WriterTables) -> GraphTables
+    pub fn of(alloc: Global, mut tables: WriterTables) -> GraphTables
         ensures tables { result.tables ≡ tables }
         ensures known { (a : Arena) → AreKnownOf a result.tables.words result.known }
     {
+        // Where there is no memory for it, some of their texts are compared one by one.
+        let _ = tables.settle_texts();
         GraphTables {
             tables,
             known: KnownWords::new(alloc),

@@ -150,7 +150,7 @@ impl Output {
         Ok(())
     }
 
-    /// The first place of a text, if a header can name it.
+    /// The first place of a text, if a header can name it. It takes no memory.
     fn place_of_text(&self, text: &[u8]) -> Option<u32>
         ensures first { IfSome result (λ place. IsFirstPlace self.now.tables.words.texts text.now place) }
         ensures within { IfSome result (λ place. place < NAMEABLE_TEXTS) }
@@ -175,6 +175,19 @@ impl Output {
         if text.is_empty() {
             return self.number(1);
         }
+        self.tables.settle_texts()?;
+        self.settled_text(text)
+    }
+
+    /// A text that is not empty. Where texts of the tables are not hashed, it is compared with them one by one.
+    fn settled_text(&mut self, text: &[u8]) -> Result<(), Memory>
+        requires is_text { IsText text.now }
+        requires short { length text.now < count_end }
+        requires not_empty { text.now ≢ [] }
+        ensures ok { OnOk result (WritesStep (spell.word text.now) self.old self.new) }
+        ensures keeps { Keeps self.old self.new }
+        ensures ready { (a : Arena) → IsReady a self.old.tables self.old.known → IsReady a self.new.tables self.new.known }
+    {
         match self.place_of_text(text) {
             Some(place) => self.number(2 * place),
             None => self.text_inline(text),

@@ -50,6 +50,7 @@ pub use limits::{MAX_COUNT, MAX_SEALED, MAX_TRAITS};
 pub use part::Part;
 pub use rooted::Rooted;
 pub use shape::Shape;
+pub use text_pool::TextPool;
 pub use texts::Texts;
 pub use value::{NodeId, TextId, TraitsId, Value};
 pub use views::{NodeView, TraitsView};

@@ -8,9 +8,11 @@ use amf_wire::Memory;
 use std::alloc::Global;
 use std::marker::Model;
 
-/// Texts, each by the place where its bytes end.
+/// Texts in the order in which they were kept, each by the place where its bytes end. A content may stand more than once: nothing is looked up.
+///
+/// A text takes its bytes, and the size of a place more.
 #[derive(Drop)]
-pub(crate) struct TextPool {
+pub struct TextPool {
     bytes: Vec<u8>,
     ends: Vec<usize>,
 }
@@ -54,7 +56,8 @@ fn piece<'a>(bytes: &'a [u8], ends: &[usize], place: usize) -> &'a [u8]
 }
 
 impl TextPool {
-    pub(crate) fn new(alloc: Global) -> TextPool
+    /// No texts yet. It takes no memory.
+    pub fn new(alloc: Global) -> TextPool
         ensures { result ≡ [] }
     {
         TextPool {
@@ -63,14 +66,15 @@ impl TextPool {
         }
     }
 
-    pub(crate) fn len(&self) -> usize
+    /// How many texts there are.
+    pub fn len(&self) -> usize
         ensures { result ≡ length self.now }
     {
         self.ends.len()
     }
 
     /// The bytes of a text.
-    pub(crate) fn get(&self, place: usize) -> &[u8]
+    pub fn get(&self, place: usize) -> &[u8]
         requires { place < length self.now }
         ensures { result.now ≡ get_or self.now place [] }
     {
@@ -78,7 +82,7 @@ impl TextPool {
     }
 
     /// Keeps a text behind the others. After an end nothing has changed.
-    pub(crate) fn push(&mut self, text: &[u8]) -> Result<(), Memory>
+    pub fn push(&mut self, text: &[u8]) -> Result<(), Memory>
         ensures ok { OnOk result (self.new ≡ self.old ++ text.now ∷ []) }
         ensures err { OnErr result (self.new ≡ self.old) }
     {

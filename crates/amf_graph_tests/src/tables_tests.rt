@@ -137,6 +137,21 @@ fn a_writer_finds_first_places(rt: HostRuntime) -> Result<(), Fail> {
 }
 
 #[test]
+fn a_writer_finds_the_same_once_it_hashed_its_texts(rt: HostRuntime) -> Result<(), Fail> {
+    let mut tables = written_tables(rt.alloc())?;
+    assert_eq!(rt; tables.text_count(), 3);
+    tables.settle_texts()?;
+    assert_eq!(rt; tables.text_count(), 3);
+    tables.add_text(b"b")?;
+    tables.add_text(b"late")?;
+    for (entry, place) in FIRST_PLACES.iter() {
+        assert_eq!(rt; place_of(&tables, *entry), *place, "{entry:?}");
+    }
+    assert_eq!(rt; tables.place_of_text(b"late"), Some(4));
+    Ok(())
+}
+
+#[test]
 fn a_node_without_a_place(rt: HostRuntime) -> Result<(), Fail> {
     let mut tables = written_tables(rt.alloc())?;
     assert!(rt; tables.are_placed());

@@ -1,4 +1,4 @@
-use amf_graph::Texts;
+use amf_graph::{TextPool, Texts};
 use std::alloc::Global;
 use std::test::Fail;
 
@@ -49,5 +49,20 @@ fn keeps_what_is_not_there(rt: HostRuntime) -> Result<(), Fail> {
     assert_eq!(rt; texts.find_or_push(b"c")?, None);
     assert_eq!(rt; texts.find_or_push(b"c")?, Some(4));
     assert_eq!(rt; (texts.len(), texts.content_count()), (6, 5));
+    Ok(())
+}
+
+#[test]
+fn keeps_texts_without_hashes(rt: HostRuntime) -> Result<(), Fail> {
+    let mut pool = TextPool::new(rt.alloc());
+    for text in KEPT.iter() {
+        pool.push(text)?;
+    }
+    assert_eq!(rt; pool.len(), KEPT.len());
+    for (place, text) in KEPT.iter().enumerate() {
+        if place < pool.len() {
+            assert_eq!(rt; pool.get(place), *text);
+        }
+    }
     Ok(())
 }

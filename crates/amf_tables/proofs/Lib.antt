@@ -3,7 +3,9 @@ pub mod HashedPlaces
 pub mod NodeRuns
 pub mod NodePlaces
 pub mod TextFirsts
+pub mod LateTexts
 pub mod KnownPlaces
+pub mod KnownTexts
 pub mod SpelledNodes
 pub mod ShownTexts
 pub mod TextCodes

@@ -10,3 +10,11 @@ AreKnown named entries places = (i k : ℕ) → slice_get places i ≡ Some k �
 -- what is known behind was known before, or is this
 abbrev pub Knows : List ℕ → ℕ → ℕ → List ℕ → Type 0
 Knows old id place new = (i k : ℕ) → slice_get new i ≡ Some k → k ≢ UNKNOWN → ((i ≡ id) × (k ≡ place)) ⊎ (slice_get old i ≡ Some k)
+
+-- the place of a number is known
+abbrev pub HasPlace : List ℕ → ℕ → Type 0
+HasPlace places i = (k : ℕ) × (slice_get places i ≡ Some k) × (k ≢ UNKNOWN)
+
+-- a number whose place is known still has one
+abbrev pub KeepPlaces : List ℕ → List ℕ → Type 0
+KeepPlaces old new = (i : ℕ) → HasPlace old i → HasPlace new i

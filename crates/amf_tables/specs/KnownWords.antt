@@ -1,21 +1,17 @@
 -- What is known of the places of a graph's texts and traits in a writer's tables: of texts by the numbers of their contents, of traits
 -- by id.
-use Rattle.std.specs.Prelude.{ℕ, List, [], get_or}
+use Rattle.std.specs.Prelude.{ℕ, List, []}
 use Rattle.amf_graph.specs.Arena.{Arena, traits_at}
-use Rattle.amf_graph.specs.TextNumbers.{contents_of}
 use Rattle.amf_tables.specs.KnownPlaces.{AreKnown}
+use Rattle.amf_tables.specs.KnownTexts.{Noted, nothing_noted, AreNotedOf}
 use Rattle.amf3_spelling.specs.Tables.{Entry, plain, Words}
 
 pub record Known : Type 0 where
-  pub texts : List ℕ
+  pub texts : Noted
   pub traits : List ℕ
 
 abbrev pub nothing_known : Known
-nothing_known = record { texts = []; traits = [] }
-
--- the content that has a number
-abbrev pub content_at : Arena → ℕ → List ℕ
-content_at a n = get_or (contents_of a.texts) n []
+nothing_known = record { texts = nothing_noted; traits = [] }
 
 -- the traits at a place, as an entry
 abbrev pub entry_at : Arena → ℕ → Entry
@@ -23,5 +19,5 @@ entry_at a i = plain (traits_at a i)
 
 -- each place that is known is the first one
 pub record AreKnownOf (a : Arena) (w : Words) (known : Known) : Type 0 where
-  pub texts : AreKnown (content_at a) w.texts known.texts
+  pub texts : AreNotedOf a w.texts known.texts
   pub traits : AreKnown (entry_at a) w.traits known.traits

@@ -1,5 +1,5 @@
-ghost use Rattle.std.specs.Prelude.{◌≡◌, ◌≢◌, ℕ, [], slice_get, Some, IfSome};
-ghost use Rattle.amf_tables.specs.KnownPlaces.{Knows};
+ghost use Rattle.std.specs.Prelude.{◌≡◌, ◌≢◌, ℕ, [], true, slice_get, Some, IfSome, IfNone};
+ghost use Rattle.amf_tables.specs.KnownPlaces.{Knows, HasPlace, KeepPlaces};
 
 use amf_wire::Memory;
 use std::alloc::Global;
@@ -24,7 +24,8 @@ impl Model for KnownPlaces {
 
 /// Makes room for the place of a number. After an error there may be some room more.
 fn make_room(places: &mut Vec<u32>, index: usize) -> Result<(), Memory>
-    ensures { (i k : ℕ) → slice_get places.new.items i ≡ Some k → k ≢ UNKNOWN → slice_get places.old.items i ≡ Some k }
+    ensures known { (i k : ℕ) → slice_get places.new.items i ≡ Some k → k ≢ UNKNOWN → slice_get places.old.items i ≡ Some k }
+    ensures keeps { KeepPlaces places.old.items places.new.items }
 {
     while places.len() <= index {
         places.push(UNKNOWN)?;
@@ -44,20 +45,25 @@ impl KnownPlaces {
 
     /// What is known of a number.
     pub(crate) fn place_of(&self, number: u32) -> Option<u32>
-        ensures { IfSome result (λ place. (slice_get self.now number ≡ Some place) × (place ≢ UNKNOWN)) }
+        ensures known { IfSome result (λ place. (slice_get self.now number ≡ Some place) × (place ≢ UNKNOWN)) }
+        ensures unknown { IfNone result (HasPlace self.now number → ⊥) }
     {
         let place = *self.places.get(number as usize)?;
         if place == UNKNOWN { None } else { Some(place) }
     }
 
-    /// Keeps the place of a number, where there is memory for it.
-    pub(crate) fn keep(&mut self, number: u32, place: u32)
-        ensures { Knows self.old number place self.new }
+    /// Keeps the place of a number, where there is memory for it. It says whether it is kept.
+    pub(crate) fn keep(&mut self, number: u32, place: u32) -> bool
+        ensures knows { Knows self.old number place self.new }
+        ensures keeps { KeepPlaces self.old self.new }
+        ensures kept { result ≡ true → HasPlace self.new number }
     {
         let index = number as usize;
         let _ = make_room(&mut self.places, index);
-        if index < self.places.len() {
-            self.places[index] = place;
+        if place == UNKNOWN || index >= self.places.len() {
+            return false;
         }
+        self.places[index] = place;
+        true
     }
 }

@@ -2,13 +2,15 @@ ghost use Rattle.std.specs.Prelude.{◌≡◌, ◌<◌, length, IfOk, IfSome, If
 ghost use Rattle.amf_graph.specs.Arena.{IsTextId, text_at};
 ghost use Rattle.amf_graph.specs.Order.{Absent};
 ghost use Rattle.amf_tables.specs.FirstPlace.{IsFirstPlace};
-ghost use Rattle.amf_tables.specs.KnownPlaces.{AreKnown};
-ghost use Rattle.amf_tables.specs.KnownWords.{content_at, nothing_known, entry_at, AreKnownOf};
+ghost use Rattle.amf_tables.specs.KnownTexts.{AreNotedOf};
+ghost use Rattle.amf_tables.specs.KnownWords.{nothing_known, entry_at, AreKnownOf};
 ghost use Rattle.amf_tables.specs.ShownTraits.{AreTextIds, AreTraitsOf, shown_entry};
 ghost use Rattle.amf3_spelling.specs.Tables.{with_words, add_entry};
 ghost use Rattle.amf_tables.specs.TextPlaces.{IsEntered};
 
+use crate::first_places::MAX_ENTRIES;
 use crate::known_places::KnownPlaces;
+use crate::known_texts::KnownTexts;
 use crate::text_place::TextPlace;
 use crate::writer_tables::WriterTables;
 use amf_graph::{Rooted, TextId, TraitsId, TraitsView};
@@ -17,18 +19,18 @@ use std::alloc::Global;
 use std::marker::Model;
 
 /// The places of the texts and traits of one graph in a writer's tables, as far as they were asked for: of texts by the
-/// numbers of their contents, of traits by id. So each content is looked up once.
+/// numbers of their contents, of traits by id. So each content is looked up once, and a new one not even once as long as the
+/// tables have no texts but those that were entered here.
 ///
 /// Each number takes four bytes, up to the greatest that was asked for. Where there is no memory to note a place, it is
 /// looked up again.
 #[derive(Drop)]
 pub struct KnownWords {
-    texts: KnownPlaces,
+    texts: KnownTexts,
     traits: KnownPlaces,
 }
 
 impl Model for KnownWords {
-    ghost use Rattle.amf_tables.specs.KnownPlaces.{AreKnown};
     ghost use Rattle.amf_tables.specs.KnownWords.{Known};
 
     ghost Value = { Known };
@@ -37,16 +39,19 @@ impl Model for KnownWords {
 }
 
 /// Notes the place of a text of the graph. It says whether one is known then, or the text is empty.
-fn note_text(known: &mut KnownPlaces, text: TextId, graph: &Rooted, tables: &WriterTables) -> bool
+fn note_text(known: &mut KnownTexts, text: TextId, graph: &Rooted, tables: &WriterTables) -> bool
     requires id { IsTextId graph.now.arena text.0 }
-    requires known { AreKnown (content_at graph.now.arena) tables.now.words.texts known.old }
-    ensures { AreKnown (content_at graph.now.arena) tables.now.words.texts known.new }
+    requires known { AreNotedOf graph.now.arena tables.now.words.texts known.old }
+    ensures { AreNotedOf graph.now.arena tables.now.words.texts known.new }
 {
     let number = graph.text_number(text);
     if known.place_of(number).is_some() {
         return true;
     }
     let bytes = graph.text(text);
+    if known.covers(tables.text_count()) {
+        return bytes.is_empty();
+    }
     match tables.place_of_text(bytes) {
         Some(place) => {
             known.keep(number, place);
@@ -57,10 +62,10 @@ fn note_text(known: &mut KnownPlaces, text: TextId, graph: &Rooted, tables: &Wri
 }
 
 /// Notes the places of texts of the graph, one after another, up to the first that has none.
-fn note_texts(known: &mut KnownPlaces, ids: &[TextId], graph: &Rooted, tables: &WriterTables)
+fn note_texts(known: &mut KnownTexts, ids: &[TextId], graph: &Rooted, tables: &WriterTables)
     requires ids { AreTextIds graph.now.arena ids.now }
-    requires known { AreKnown (content_at graph.now.arena) tables.now.words.texts known.old }
-    ensures { AreKnown (content_at graph.now.arena) tables.now.words.texts known.new }
+    requires known { AreNotedOf graph.now.arena tables.now.words.texts known.old }
+    ensures { AreNotedOf graph.now.arena tables.now.words.texts known.new }
 {
     for id in ids {
         if !note_text(known, *id, graph, tables) {
@@ -71,14 +76,14 @@ fn note_texts(known: &mut KnownPlaces, ids: &[TextId], graph: &Rooted, tables: &
 
 /// Notes the places of the texts of traits, up to the first that has none.
 fn note_traits(
-    known: &mut KnownPlaces,
+    known: &mut KnownTexts,
     traits: &TraitsView<'_>,
     graph: &Rooted,
     tables: &WriterTables,
 )
     requires shown { AreTraitsOf graph.now.arena traits.now }
-    requires known { AreKnown (content_at graph.now.arena) tables.now.words.texts known.old }
-    ensures { AreKnown (content_at graph.now.arena) tables.now.words.texts known.new }
+    requires known { AreNotedOf graph.now.arena tables.now.words.texts known.old }
+    ensures { AreNotedOf graph.now.arena tables.now.words.texts known.new }
 {
     if note_text(known, traits.class, graph, tables) {
         note_texts(known, traits.sealed, graph, tables);
@@ -91,7 +96,7 @@ impl KnownWords {
         ensures { result ≡ nothing_known }
     {
         KnownWords {
-            texts: KnownPlaces::new(alloc),
+            texts: KnownTexts::new(alloc),
             traits: KnownPlaces::new(alloc),
         }
     }
@@ -114,7 +119,15 @@ impl KnownWords {
         if let Some(place) = self.texts.place_of(number) {
             return Ok(TextPlace::Old(place));
         }
-        let found = tables.place_or_add_text(graph.text(text))?;
+        let bytes = graph.text(text);
+        let count = tables.text_count();
+        if self.texts.covers(count) && count < MAX_ENTRIES {
+            tables.add_text(bytes)?;
+            let place = count as u32;
+            self.texts.keep_next(number, place);
+            return Ok(TextPlace::New(place));
+        }
+        let found = tables.place_or_add_text(bytes)?;
         match found {
             TextPlace::Old(place) => self.texts.keep(number, place),
             TextPlace::New(place) => self.texts.keep(number, place),

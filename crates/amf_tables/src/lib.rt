@@ -3,7 +3,9 @@
 
 mod content_hash;
 mod first_places;
+mod hashed_texts;
 mod known_places;
+mod known_texts;
 mod known_words;
 mod node_run;
 mod node_table;

@@ -2,12 +2,11 @@ ghost use Rattle.std.specs.Prelude.{IfOk, IfSome, IfNone, MatchOption};
 ghost use Rattle.amf_graph.specs.Arena.{IsTextId, text_at};
 ghost use Rattle.amf_graph.specs.Order.{Absent};
 ghost use Rattle.amf_tables.specs.FirstPlace.{IsFirstPlace};
-ghost use Rattle.amf_tables.specs.KnownPlaces.{AreKnown};
-ghost use Rattle.amf_tables.specs.KnownWords.{content_at};
+ghost use Rattle.amf_tables.specs.KnownTexts.{AreNotedOf};
 ghost use Rattle.amf_tables.specs.ShownTraits.{AreTextIds, texts_at};
 ghost use Rattle.amf_tables.specs.TextCodes.{IsCodeOf, IsUncoded, AreCodesOf, HasUncoded};
 
-use crate::known_places::KnownPlaces;
+use crate::known_texts::KnownTexts;
 use crate::text_table::TextTable;
 use amf_graph::{Rooted, TextId};
 use amf_wire::Memory;
@@ -17,17 +16,20 @@ use std::alloc::Global;
 /// this place has no code.
 pub(crate) const EMPTY: u32 = 4_294_967_295;
 
-/// The first place of a text of a graph, by the number of its content where that is known, and else by its bytes.
-fn place_of(text: TextId, graph: &Rooted, texts: &TextTable, known: &KnownPlaces) -> Option<u32>
+/// The first place of a text of a graph, by the number of its content where that tells it, and else by its bytes.
+fn place_of(text: TextId, graph: &Rooted, texts: &TextTable, known: &KnownTexts) -> Option<u32>
     requires id { IsTextId graph.now.arena text.0 }
-    requires known { AreKnown (content_at graph.now.arena) texts.now known.now }
+    requires known { AreNotedOf graph.now.arena texts.now known.now }
     ensures first { IfSome result (IsFirstPlace texts.now (text_at graph.now.arena text.0)) }
     ensures none { IfNone result (Absent texts.now (text_at graph.now.arena text.0)) }
 {
-    match known.place_of(graph.text_number(text)) {
-        Some(place) => Some(place),
-        None => texts.place_of(graph.text(text)),
+    if let Some(place) = known.place_of(graph.text_number(text)) {
+        return Some(place);
     }
+    if known.covers(texts.len()) {
+        return None;
+    }
+    texts.place_of(graph.text(text))
 }
 
 /// The code of a text of a graph: `None` exactly where it has none.
@@ -35,10 +37,10 @@ pub(crate) fn code_of(
     text: TextId,
     graph: &Rooted,
     texts: &TextTable,
-    known: &KnownPlaces,
+    known: &KnownTexts,
 ) -> Option<u32>
     requires id { IsTextId graph.now.arena text.0 }
-    requires known { AreKnown (content_at graph.now.arena) texts.now known.now }
+    requires known { AreNotedOf graph.now.arena texts.now known.now }
     ensures { MatchOption result (IsUncoded texts.now (text_at graph.now.arena text.0)) (IsCodeOf texts.now (text_at graph.now.arena text.0)) }
 {
     if graph.text(text).is_empty() {
@@ -54,10 +56,10 @@ pub(crate) fn codes_of(
     ids: &[TextId],
     graph: &Rooted,
     texts: &TextTable,
-    known: &KnownPlaces,
+    known: &KnownTexts,
 ) -> Result<Option<Vec<u32>>, Memory>
     requires ids { AreTextIds graph.now.arena ids.now }
-    requires known { AreKnown (content_at graph.now.arena) texts.now known.now }
+    requires known { AreNotedOf graph.now.arena texts.now known.now }
     ensures { IfOk result (λ found. MatchOption found (HasUncoded texts.now (texts_at graph.now.arena ids.now)) (λ codes. AreCodesOf texts.now (texts_at graph.now.arena ids.now) codes.items)) }
 {
     let mut codes = Vec::new(alloc);

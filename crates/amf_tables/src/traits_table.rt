@@ -2,14 +2,13 @@ ghost use Rattle.std.specs.Prelude.{◌≡◌, ◌≤◌, ◌++◌, ◌∷◌, [
 ghost use Rattle.std.specs.List.{AllByRecursion};
 ghost use Rattle.amf_graph.specs.Order.{Absent};
 ghost use Rattle.amf_tables.specs.FirstPlace.{IsFirstPlace};
-ghost use Rattle.amf_tables.specs.KnownPlaces.{AreKnown};
-ghost use Rattle.amf_tables.specs.KnownWords.{content_at};
+ghost use Rattle.amf_tables.specs.KnownTexts.{AreNotedOf};
 ghost use Rattle.amf_tables.specs.ShownTraits.{AreTraitsOf, shown_entry};
 ghost use Rattle.amf_tables.specs.WrittenParts.{Written, wrapped, entry_of, IsWritten, IsNoCopy, IsPushed};
 ghost use Rattle.amf3_spelling.specs.Tables.{external};
 
 use crate::first_places::{MAX_ENTRIES, enter, first_with};
-use crate::known_places::KnownPlaces;
+use crate::known_texts::KnownTexts;
 use crate::text_table::TextTable;
 use crate::written_entry::WrittenEntry;
 use amf_graph::{Rooted, TraitsView, Wrapped};
@@ -113,11 +112,11 @@ impl TraitsTable {
         traits: &TraitsView<'_>,
         graph: &Rooted,
         texts: &TextTable,
-        known: &KnownPlaces,
+        known: &KnownTexts,
     ) -> Option<u32>
         requires shown { AreTraitsOf graph.now.arena traits.now }
         requires codes { AllByRecursion (IsWritten texts.now) self.now }
-        requires known { AreKnown (content_at graph.now.arena) texts.now known.now }
+        requires known { AreNotedOf graph.now.arena texts.now known.now }
         ensures first { IfSome result (IsFirstPlace (map (entry_of texts.now) self.now) (shown_entry graph.now.arena traits.now)) }
         ensures none { IfNone result (Absent (map (entry_of texts.now) self.now) (shown_entry graph.now.arena traits.now)) }
     {
@@ -146,10 +145,10 @@ impl TraitsTable {
         traits: &TraitsView<'_>,
         graph: &Rooted,
         texts: &TextTable,
-        known: &KnownPlaces,
+        known: &KnownTexts,
     ) -> Result<(), Memory>
         requires shown { AreTraitsOf graph.now.arena traits.now }
-        requires known { AreKnown (content_at graph.now.arena) texts.now known.now }
+        requires known { AreNotedOf graph.now.arena texts.now known.now }
         ensures ok { OnOk result (IsPushed texts.now self.old (shown_entry graph.now.arena traits.now) self.new) }
         ensures err { OnErr result (self.new ≡ self.old) }
     {

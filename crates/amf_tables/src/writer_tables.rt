@@ -1,15 +1,14 @@
 ghost use Rattle.std.specs.Prelude.{◌≡◌, ◌<◌, ◌≤◌, ◌↔◌, length, map, take, IsTrue, IfOk, IfNone, IfSome, OnOk, OnErr};
 ghost use Rattle.amf_graph.specs.Order.{Absent};
 ghost use Rattle.amf_tables.specs.FirstPlace.{IsFirstPlace};
-ghost use Rattle.amf_tables.specs.KnownPlaces.{AreKnown};
-ghost use Rattle.amf_tables.specs.KnownWords.{content_at};
+ghost use Rattle.amf_tables.specs.KnownTexts.{AreNotedOf};
 ghost use Rattle.amf_tables.specs.SpelledAlone.{IsSpelledAlone};
 ghost use Rattle.amf_tables.specs.TextPlaces.{IsEntered};
 ghost use Rattle.amf_tables.specs.ShownTraits.{AreTraitsOf, shown_entry};
 ghost use Rattle.amf3_spelling.specs.Tables.{no_tables, with_words, external};
 ghost use Rattle.amf3_spelling.specs.Tables.{add_text, add_entry, add_node, add_done};
 
-use crate::known_places::KnownPlaces;
+use crate::known_texts::KnownTexts;
 use crate::node_table::MAX_NODES;
 use crate::spelled_nodes::SpelledNodes;
 use crate::text_place::TextPlace;
@@ -99,7 +98,15 @@ impl WriterTables {
         self.nodes.first_nodes(alloc, count)
     }
 
-    /// The first place of a text: `None` exactly where it has none. It takes no memory.
+    /// How many texts have been entered.
+    pub fn text_count(&self) -> usize
+        ensures { result ≡ length self.now.words.texts }
+    {
+        self.texts.len()
+    }
+
+    /// The first place of a text: `None` exactly where it has none. It takes no memory. Texts that `add_text` entered since
+    /// `settle_texts` or `place_or_add_text` was called last are compared one by one.
     pub fn place_of_text(&self, bytes: &[u8]) -> Option<u32>
         ensures first { IfSome result (IsFirstPlace self.now.words.texts bytes.now) }
         ensures none { IfNone result (Absent self.now.words.texts bytes.now) }
@@ -118,14 +125,14 @@ impl WriterTables {
 
     /// The first place of traits of a class that is not externalizable, as a graph shows them: `None`
     /// exactly where they have none. Where there is no memory for a list of places, the bytes of all
-    /// traits are compared. Each of their texts is looked up by its bytes: `KnownWords` does so once.
+    /// traits are compared. Each of their texts is looked up by its bytes, as `place_of_text` does: `KnownWords` does so once.
     pub fn place_of_traits(&self, traits: &TraitsView<'_>, graph: &Rooted) -> Option<u32>
         requires { AreTraitsOf graph.now.arena traits.now }
         ensures first { IfSome result
             (IsFirstPlace self.now.words.traits (shown_entry graph.now.arena traits.now)) }
         ensures none { IfNone result (Absent self.now.words.traits (shown_entry graph.now.arena traits.now)) }
     {
-        let known = KnownPlaces::new(self.alloc);
+        let known = KnownTexts::new(self.alloc);
         self.place_of_known(traits, graph, &known)
     }
 
@@ -134,10 +141,10 @@ impl WriterTables {
         &self,
         traits: &TraitsView<'_>,
         graph: &Rooted,
-        known: &KnownPlaces,
+        known: &KnownTexts,
     ) -> Option<u32>
         requires shown { AreTraitsOf graph.now.arena traits.now }
-        requires known { AreKnown (content_at graph.now.arena) self.now.words.texts known.now }
+        requires known { AreNotedOf graph.now.arena self.now.words.texts known.now }
         ensures first { IfSome result (IsFirstPlace self.now.words.traits (shown_entry graph.now.arena traits.now)) }
         ensures none { IfNone result (Absent self.now.words.traits (shown_entry graph.now.arena traits.now)) }
     {
@@ -153,7 +160,15 @@ impl WriterTables {
         self.traits.place_of_wrapped(class)
     }
 
-    /// Enters a text. After an error nothing has changed.
+    /// Hashes the texts that `add_text` entered, so that `place_of_text` does not compare them one by one. An error says that
+    /// it does so with some of them.
+    pub fn settle_texts(&mut self) -> Result<(), Memory>
+        ensures { self.new ≡ self.old }
+    {
+        self.texts.settle()
+    }
+
+    /// Enters a text, and looks up none. After an error nothing has changed.
     pub fn add_text(&mut self, bytes: &[u8]) -> Result<(), Memory>
         ensures ok { OnOk result (self.new ≡ with_words self.old (add_text self.old.words bytes.now)) }
         ensures err { OnErr result (self.new ≡ self.old) }
@@ -202,7 +217,9 @@ impl WriterTables {
             (add_entry self.old.words (shown_entry graph.now.arena traits.now))) }
         ensures err { OnErr result (self.new ≡ self.old) }
     {
-        let known = KnownPlaces::new(self.alloc);
+        // Where there is no memory for it, some texts are compared one by one.
+        let _ = self.settle_texts();
+        let known = KnownTexts::new(self.alloc);
         self.add_known(traits, graph, &known)
     }
 
@@ -211,10 +228,10 @@ impl WriterTables {
         &mut self,
         traits: &TraitsView<'_>,
         graph: &Rooted,
-        known: &KnownPlaces,
+        known: &KnownTexts,
     ) -> Result<(), Memory>
         requires shown { AreTraitsOf graph.now.arena traits.now }
-        requires known { AreKnown (content_at graph.now.arena) self.old.words.texts known.now }
+        requires known { AreNotedOf graph.now.arena self.old.words.texts known.now }
         ensures ok { OnOk result (self.new ≡ with_words self.old (add_entry self.old.words (shown_entry graph.now.arena traits.now))) }
         ensures err { OnErr result (self.new ≡ self.old) }
     {

@@ -1,12 +1,11 @@
 ghost use Rattle.std.specs.Prelude.{◌≡◌, ◌↔◌, false, IfOk, IsTrue, MatchOption};
 ghost use Rattle.amf_tables.specs.ContentHash.{written_hash};
-ghost use Rattle.amf_tables.specs.KnownPlaces.{AreKnown};
-ghost use Rattle.amf_tables.specs.KnownWords.{content_at};
+ghost use Rattle.amf_tables.specs.KnownTexts.{AreNotedOf};
 ghost use Rattle.amf_tables.specs.ShownTraits.{AreTraitsOf, shown_entry};
 ghost use Rattle.amf_tables.specs.WrittenParts.{copied, wrapped, entry_of, shown_traits, IsNoCopy, IsWrittenFor, IsUnwritten};
 
 use crate::content_hash::{hash_of_class, hash_of_codes};
-use crate::known_places::KnownPlaces;
+use crate::known_texts::KnownTexts;
 use crate::text_codes::{code_of, codes_of};
 use crate::text_table::TextTable;
 use crate::written_texts::{are_named, are_texts, copies_of, is_text};
@@ -58,10 +57,10 @@ impl WrittenEntry {
         traits: &TraitsView<'_>,
         graph: &Rooted,
         texts: &TextTable,
-        known: &KnownPlaces,
+        known: &KnownTexts,
     ) -> Result<Option<WrittenEntry>, Memory>
         requires shown { AreTraitsOf graph.now.arena traits.now }
-        requires known { AreKnown (content_at graph.now.arena) texts.now known.now }
+        requires known { AreNotedOf graph.now.arena texts.now known.now }
         ensures { IfOk result (λ found. MatchOption found (IsUnwritten texts.now (shown_entry graph.now.arena traits.now)) (IsWrittenFor texts.now (shown_entry graph.now.arena traits.now))) }
     {
         let Some(class) = code_of(traits.class, graph, texts, known) else {

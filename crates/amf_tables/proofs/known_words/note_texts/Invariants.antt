@@ -1,7 +1,6 @@
 -- What is known stays right.
-use Rattle.amf_tables.specs.KnownPlaces.{AreKnown}
-use Rattle.amf_tables.specs.KnownWords.{content_at}
+use Rattle.amf_tables.specs.KnownTexts.{AreNotedOf}
 use Rattle.amf_tables.proofs.known_words.note_texts.Given as goal
 
 abbrev pub invariant-loop-id : goal.invariant-loop-id
-invariant-loop-id l = AreKnown (content_at l.graph.arena) l.tables.words.texts l.known
+invariant-loop-id l = AreNotedOf l.graph.arena l.tables.words.texts l.known

@@ -3,7 +3,7 @@ use Rattle.std.specs.Int.{to_be_bytes, w32, w64}
 use Rattle.amf_graph.specs.Arena.{node_content, traits_at, text_at, array, object, date, xml_document}
 use Rattle.amf_graph.specs.Building.{closed, stored_at}
 use Rattle.amf_graph.specs.Graph as graph
-use Rattle.amf_graph.specs.Graph.{Node, Head, node_at}
+use Rattle.amf_graph.specs.Graph.{Node, node_at}
 use Rattle.amf_graph.specs.Rooted.{content}
 use Rattle.amf_graph.specs.Views.{named, Shows}
 use Rattle.amf_iso.specs.Contents.{pairs_of, values_of}

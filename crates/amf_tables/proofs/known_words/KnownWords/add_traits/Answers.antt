@@ -1,7 +1,7 @@
 use Rattle.std.proofs.Common.{sym, subst}
 use Rattle.amf_tables.specs.KnownWords.{AreKnownOf}
 use Rattle.amf_tables.specs.ShownTraits.{shown_entry}
-use Rattle.amf_tables.proofs.KnownPlaces.{known_after}
+use Rattle.amf_tables.proofs.KnownTexts.{known_after}
 use Rattle.amf_tables.proofs.known_words.KnownWords.add_traits.Goals as goal
 
 pub add_known-requires-clause-known : goal.add_known-requires-clause-known

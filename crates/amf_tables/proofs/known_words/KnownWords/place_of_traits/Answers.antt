@@ -7,7 +7,7 @@ use Rattle.amf_tables.proofs.known_words.KnownWords.place_of_traits.Goals as goa
 pub returns-in-Some-clause-first : goal.returns-in-Some-clause-first
 returns-in-Some-clause-first c =
     let known = subst (λ w. AreKnownOf c.args.graph.now.arena c.args.tables.now.words w) (sym c.self.view_is) c.requires.known in
-    known.traits c.args.traits.0 c.in-Some.place c.in-Some.ensures.0 c.in-Some.ensures.1
+    known.traits c.args.traits.0 c.in-Some.place c.in-Some.ensures.known.0 c.in-Some.ensures.known.1
 
 pub note_traits-requires-clause-known : goal.note_traits-requires-clause-known
 note_traits-requires-clause-known c = (subst (λ w. AreKnownOf c.args.graph.now.arena c.args.tables.now.words w) (sym c.self.view_is) c.requires.known).texts
@@ -25,4 +25,4 @@ returns-clause-known c =
     let a = c.args.graph.now.arena in
     let known = subst (λ w. AreKnownOf a c.args.tables.now.words w) (sym c.self.view_is) c.requires.known in
     let first : IsFirstPlace c.args.tables.now.words.traits (entry_at a c.args.traits.0) c.in_ok-place.place = rw (c.traits-shown.ensures) c.in_ok-place.ensures.first in
-    record { texts = c.note_traits.ensures; traits = known_more (entry_at a) c.args.tables.now.words.traits _ c.keep.new.self c.args.traits.0 c.in_ok-place.place known.traits first c.keep.ensures }
+    record { texts = c.note_traits.ensures; traits = known_more (entry_at a) c.args.tables.now.words.traits _ c.keep.new.self c.args.traits.0 c.in_ok-place.place known.traits first c.keep.ensures.knows }

@@ -1,13 +1,12 @@
 use Rattle.std.proofs.Common.{sym, subst}
 use Rattle.amf3_spelling.specs.Tables.{Tables}
-use Rattle.amf_tables.specs.KnownPlaces.{AreKnown}
-use Rattle.amf_tables.specs.KnownWords.{content_at}
+use Rattle.amf_tables.specs.KnownTexts.{AreNotedOf}
 use Rattle.amf_tables.specs.ShownTraits.{shown_entry}
 use Rattle.amf_tables.proofs.WrittenEntries.{written_pushed, entry_added, entries_as_before}
 use Rattle.amf_tables.proofs.writer_tables.WriterTables.add_known.Goals as goal
 
 pub push-requires-clause-known : goal.push-requires-clause-known
-push-requires-clause-known c = subst (λ (t : Tables). AreKnown (content_at c.args.graph.now.arena) t.words.texts c.args.known.now) (sym c.self.view_is) c.requires.known
+push-requires-clause-known c = subst (λ (t : Tables). AreNotedOf c.args.graph.now.arena t.words.texts c.args.known.now) (sym c.self.view_is) c.requires.known
 
 pub invariant_of-self : goal.invariant_of-self
 invariant_of-self c = written_pushed c.push.result c.self.inside.texts c.self.inside.traits (shown_entry c.args.graph.now.arena c.args.traits.now) c.push.new.self c.push.ensures.ok c.push.ensures.err c.self.invariant

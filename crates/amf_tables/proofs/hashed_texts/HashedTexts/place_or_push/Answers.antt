@@ -3,7 +3,7 @@ use Rattle.std.proofs.Common.{◌++◌, ◌∷◌, [], ap, sym, ◌∙◌, subst
 use Rattle.amf_tables.specs.FirstPlace.{IsFirstPlace}
 use Rattle.amf_tables.proofs.NodePlaces.{first_new}
 use Rattle.amf_tables.proofs.TextFirsts.{absent_by_contents, first_read, pushed_absent}
-use Rattle.amf_tables.proofs.text_table.TextTable.place_or_push.Goals as goal
+use Rattle.amf_tables.proofs.hashed_texts.HashedTexts.place_or_push.Goals as goal
 
 pub invariant_of-self-in-None-2 : goal.invariant_of-self-in-None-2
 invariant_of-self-in-None-2 c =

@@ -2,7 +2,7 @@
 use Rattle.std.proofs.Common.{◌<◌, ◌≤◌, ◌++◌, ◌∷◌, [], length, ap, ◌∙◌, arith}
 use Rattle.amf_graph.specs.TextNumbers.{contents_of}
 use Rattle.amf_tables.proofs.TextFirsts.{pushed_new, pushed_kept}
-use Rattle.amf_tables.proofs.text_table.TextTable.push.Goals as goal
+use Rattle.amf_tables.proofs.hashed_texts.HashedTexts.push.Goals as goal
 
 pub invariant_of-self-in-Continue-branch-3 : goal.invariant_of-self-in-Continue-branch-3
 invariant_of-self-in-Continue-branch-3 c =

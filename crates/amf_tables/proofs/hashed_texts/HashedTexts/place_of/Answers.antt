@@ -1,7 +1,7 @@
 -- A text stands first where its content does.
 use Rattle.std.proofs.Common.{◌<◌, sym, subst}
 use Rattle.amf_tables.proofs.TextFirsts.{absent_by_contents, number_within, first_read}
-use Rattle.amf_tables.proofs.text_table.TextTable.place_of.Goals as goal
+use Rattle.amf_tables.proofs.hashed_texts.HashedTexts.place_of.Goals as goal
 
 pub returns-in_err-number-clause-none : goal.returns-in_err-number-clause-none
 returns-in_err-number-clause-none c = rw (c.from_residual.ensures, ← c.self.view_is) (absent_by_contents c.self.inside.texts c.args.bytes.now c.in_err-number.ensures)
