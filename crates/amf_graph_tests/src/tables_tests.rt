@@ -151,6 +151,24 @@ fn a_writer_finds_the_same_once_it_hashed_its_texts(rt: HostRuntime) -> Result<(
     Ok(())
 }
 
+/// So many of the first nodes, or all where there are fewer.
+static FIRST_NODES: [(u32, &[NodeId]); 4] = [
+    (0, &[]),
+    (1, &[NodeId(3)]),
+    (2, &[NodeId(3), NodeId(0)]),
+    (5, &[NodeId(3), NodeId(0)]),
+];
+
+#[test]
+fn a_writer_tells_its_first_nodes(rt: HostRuntime) -> Result<(), Fail> {
+    let tables = written_tables(rt.alloc())?;
+    for (count, nodes) in FIRST_NODES.iter() {
+        let first = tables.first_nodes(rt.alloc(), *count)?;
+        assert_eq!(rt; first.as_slice(), *nodes, "{count}");
+    }
+    Ok(())
+}
+
 #[test]
 fn a_node_without_a_place(rt: HostRuntime) -> Result<(), Fail> {
     let mut tables = written_tables(rt.alloc())?;

@@ -3,7 +3,7 @@ ghost use Rattle.amf_graph.specs.Building.{kept_text};
 
 use amf_graph::{Builder, NodeId, Rooted, TextId, Value};
 use amf_io::{Cursor, MemorySource};
-use amf_iso::{Numbering, by_name, ids_by_name, isomorphic, relabel, values_met};
+use amf_iso::{Numbering, are_by_name, by_name, ids_by_name, isomorphic, relabel, values_met};
 use amf_tables::Tables3;
 use amf_wire::is_amf_text;
 use amf3_read::read3;
@@ -147,10 +147,12 @@ fn sorts_pairs_by_name(rt: HostRuntime) -> Result<(), Fail> {
 #[test]
 fn sorts_ids_by_name(rt: HostRuntime) -> Result<(), Fail> {
     let graph = two_texts(rt.alloc())?;
+    assert!(rt; !are_by_name(&PAIRS, &graph));
     let ids = ids_by_name(rt.alloc(), &PAIRS, &graph)?;
     assert_eq!(rt;
         ids.as_slice(),
         [(TextId(1), Value::Null), (TextId(0), Value::Null)].as_slice()
     );
+    assert!(rt; are_by_name(&ids, &graph));
     Ok(())
 }
