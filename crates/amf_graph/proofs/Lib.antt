@@ -44,4 +44,5 @@ pub mod Contents
 pub mod SlotNodes
 pub mod PoolNodes
 pub mod NodeKept
+pub mod NodeKinds
 pub mod HeldCopies

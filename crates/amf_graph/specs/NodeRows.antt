@@ -1,6 +1,7 @@
 -- Nodes by the places where they are kept. A device of proofs.
 use Rattle.std.specs.Prelude.{◌≡◌, ℕ, ◌≤◌, ◌<◌, true, false, List, length, get_or, map, Some}
-use Rattle.amf_graph.specs.Building.{no_stored}
+use Rattle.amf_graph.specs.Building.{no_stored, kind_of}
+use Rattle.amf_graph.specs.declared.kind.NodeKind.{NodeKind}
 use Rattle.amf_graph.specs.declared.row.Row.{Row}
 use Rattle.amf_graph.specs.declared.row.Row.TheVariants as row
 use Rattle.amf_graph.specs.Arena.{StoredNode}
@@ -26,6 +27,14 @@ RowFits p ss used i r = RowIn p r
 pub record AreRows (p : Pool) (ss : List KeptSlot) (used : ℕ) (rows : List Row) : Type 0 where
   pub slots : used ≤ length ss
   pub fits : (i : ℕ) → i < length rows → RowFits p ss used i (get_or rows i no_row)
+
+abbrev pub kinds_of : List StoredNode → List NodeKind
+kinds_of ns = map (λ n. kind_of n.head) ns
+
+-- the nodes that the rows name, and their kinds
+pub record AreNodes (p : Pool) (ss : List KeptSlot) (used : ℕ) (rows : List Row) (kinds : List NodeKind) : Type 0 where
+  pub placed : AreRows p ss used rows
+  pub same : kinds ≡ kinds_of (row_nodes p ss rows)
 
 abbrev pub IsOpenAt : List StoredNode → ℕ → Type 0
 IsOpenAt ns i = (get_or ns i no_stored).is_open ≡ true

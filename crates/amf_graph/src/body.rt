@@ -1,12 +1,13 @@
 ghost use Rattle.std.specs.Prelude.{◌≡◌, IfOk};
 ghost use Rattle.std.specs.List.{AllByRecursion};
 ghost use Rattle.amf_graph.specs.Bodies.{body_head, body_names, body_values};
+ghost use Rattle.amf_graph.specs.Building.{kind_of};
 ghost use Rattle.amf_graph.specs.Held.{held_head, held_names, held_values};
 ghost use Rattle.amf_graph.specs.Renumbered.{renumbered_names, renumbered_values, number_in, HasNumber};
 
 use crate::held::{Form, Held};
 use crate::renumber::{renumbered_entries, renumbered_pairs, renumbered_values};
-use crate::{Leaf, TextId, Value};
+use crate::{Leaf, NodeKind, TextId, Value};
 use amf_wire::Memory;
 use std::alloc::Global;
 
@@ -18,6 +19,18 @@ pub(crate) enum Body {
     Parts(Form, Vec<Value>, Vec<(TextId, Value)>),
     /// The entries of a dictionary, and whether its keys are held weakly.
     Dictionary(bool, Vec<(Value, Value)>),
+}
+
+impl Body {
+    pub(crate) fn kind(&self) -> NodeKind
+        ensures { result ≡ kind_of (body_head self.now) }
+    {
+        match self {
+            Body::Leaf(leaf) => leaf.kind(),
+            Body::Parts(form, ..) => form.kind(),
+            Body::Dictionary(..) => NodeKind::Dictionary,
+        }
+    }
 }
 
 /// A copy of what a node is and holds, each node in it under its number.

@@ -190,6 +190,7 @@ impl Builder {
     }
 
     /// Does what `put` does, for an item. Most parts are items.
+    #[inline(always)]
     fn put_item(&mut self, node: NodeId, item: Value) -> Result<(), BuildEnd>
         requires there { node.0 < length self.old.nodes }
         requires opened { (stored_at self.old node.0).is_open ≡ true }

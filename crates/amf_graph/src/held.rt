@@ -2,7 +2,7 @@
 
 ghost use Rattle.std.specs.Prelude.{◌≡◌};
 ghost use Rattle.amf_graph.specs.Building.{kind_of};
-ghost use Rattle.amf_graph.specs.Held.{form_head};
+ghost use Rattle.amf_graph.specs.Held.{form_head, held_head};
 
 use crate::{Leaf, NodeKind, TextId, TraitsId, Value, Wrapped};
 
@@ -35,6 +35,18 @@ impl Form {
             Form::Object(_) => NodeKind::Object,
             Form::Wrapper(_) => NodeKind::Wrapper,
             Form::Values(..) => NodeKind::Values,
+        }
+    }
+}
+
+impl Held<'_> {
+    pub(crate) fn kind(self) -> NodeKind
+        ensures { result ≡ kind_of (held_head self.entry) }
+    {
+        match self {
+            Held::Leaf(leaf) => leaf.kind(),
+            Held::Parts(form, ..) => form.kind(),
+            Held::Dictionary(..) => NodeKind::Dictionary,
         }
     }
 }

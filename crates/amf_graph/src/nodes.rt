@@ -1,6 +1,6 @@
 //! The nodes of a graph.
 
-ghost use Rattle.std.specs.Prelude.{◌≡◌, ℕ, ◌<◌, ◌≤◌, [], ◌∷◌, ◌++◌, length, set, take, get_or, false, Some, None, MatchOption, IfOk, OnOk, OnErr};
+ghost use Rattle.std.specs.Prelude.{◌≡◌, ℕ, ◌<◌, ◌≤◌, [], ◌∷◌, ◌++◌, length, set, take, get_or, false, Some, None, is_ok, if◌then◌else◌, MatchOption, IfOk, OnOk, OnErr};
 ghost use Rattle.std.specs.List.{AllByRecursion};
 ghost use Rattle.amf_graph.specs.Bodies.{TakesPart, body_node};
 ghost use Rattle.amf_graph.specs.Bounds.{count_end};
@@ -29,6 +29,8 @@ const MANY: usize = 4096;
 #[derive(Drop)]
 pub(crate) struct Nodes {
     rows: Vec<Row>,
+    /// The kind of each node. A reference asks for that alone, of any node: so it stands where many are close together.
+    kinds: Vec<NodeKind>,
     pools: Pools,
     slots: Vec<Slot>,
     /// How many of the slots are used.
@@ -38,13 +40,13 @@ pub(crate) struct Nodes {
 impl Model for Nodes {
     ghost use Rattle.std.specs.Prelude.{List};
     ghost use Rattle.amf_graph.specs.Arena.{StoredNode};
-    ghost use Rattle.amf_graph.specs.NodeRows.{row_nodes, AreRows};
+    ghost use Rattle.amf_graph.specs.NodeRows.{row_nodes, AreNodes};
 
     ghost Value = { List StoredNode };
 
     ghost view = { λ n. row_nodes n.pools n.slots.items n.rows.items };
 
-    ghost invariant = { λ n. AreRows n.pools n.slots.items n.used n.rows.items };
+    ghost invariant = { λ n. AreNodes n.pools n.slots.items n.used n.rows.items n.kinds.items };
 }
 
 /// How many of the first slots are used, where the last ones may be none's.
@@ -76,6 +78,22 @@ fn next_slot(slots: &mut Vec<Slot>, used: usize, owner: u32, shape: Shape) -> Re
     } else {
         slots.push(Slot::new(owner, shape))?;
     }
+    Ok(())
+}
+
+/// Puts where a node is kept, and its kind, behind the others. After an end nothing has changed.
+fn push_row(
+    rows: &mut Vec<Row>,
+    kinds: &mut Vec<NodeKind>,
+    row: Row,
+    kind: NodeKind,
+) -> Result<(), Memory>
+    ensures rows { rows.new.items ≡ (if is_ok result then rows.old.items ++ row ∷ [] else rows.old.items) }
+    ensures kinds { kinds.new.items ≡ (if is_ok result then kinds.old.items ++ kind ∷ [] else kinds.old.items) }
+{
+    rows.reserve(1)?;
+    kinds.push(kind)?;
+    rows.push(row)?;
     Ok(())
 }
 
@@ -125,6 +143,7 @@ impl Nodes {
     {
         Nodes {
             rows: Vec::new(alloc),
+            kinds: Vec::new(alloc),
             pools: Pools::new(alloc),
             slots: Vec::new(alloc),
             used: 0,
@@ -162,10 +181,7 @@ impl Nodes {
         requires { place < length self.now }
         ensures { result ≡ kind_of (get_or self.now place no_stored).head }
     {
-        match self.rows[place] {
-            Row::Slot(slot) => self.slots[slot as usize].kind(),
-            row => self.pools.kind(row),
-        }
+        self.kinds[place]
     }
 
     /// How many items, names and parts a node that is open has together.
@@ -186,8 +202,9 @@ impl Nodes {
         ensures ok { OnOk result (self.new ≡ self.old ++ body_node false body ∷ []) }
         ensures err { OnErr result (self.new ≡ self.old) }
     {
+        let kind = body.kind();
         let row = keep_body(&mut self.pools, body)?;
-        self.rows.push(row)?;
+        push_row(&mut self.rows, &mut self.kinds, row, kind)?;
         Ok(())
     }
 
@@ -202,7 +219,7 @@ impl Nodes {
         ensures err { OnErr result (self.new ≡ self.old) }
     {
         let row = self.pools.keep_parts(form, values, names)?;
-        self.rows.push(row)?;
+        push_row(&mut self.rows, &mut self.kinds, row, form.kind())?;
         Ok(())
     }
 
@@ -214,8 +231,10 @@ impl Nodes {
         let place = number_of(self.rows.len())?;
         let slot = number_of(self.used)?;
         self.rows.reserve(1)?;
+        self.kinds.reserve(1)?;
         next_slot(&mut self.slots, self.used, place, shape)?;
         self.used += 1;
+        self.kinds.push(shape.kind())?;
         self.rows.push(Row::Slot(slot))?;
         Ok(())
     }
@@ -325,7 +344,7 @@ impl Nodes {
         ensures err { OnErr result (self.new ≡ self.old) }
     {
         let row = copy_held(alloc, &mut self.pools, held)?;
-        self.rows.push(row)?;
+        push_row(&mut self.rows, &mut self.kinds, row, held.kind())?;
         Ok(())
     }
 
@@ -362,5 +381,6 @@ impl Nodes {
         ensures { self.new ≡ take count self.old }
     {
         self.rows.truncate(count);
+        self.kinds.truncate(count);
     }
 }

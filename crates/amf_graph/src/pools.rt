@@ -2,14 +2,14 @@
 
 ghost use Rattle.std.specs.Prelude.{◌≡◌, ◌≤◌, ◌++◌, [], length, map, slice_range, false, is_ok, if◌then◌else◌, IfOk};
 ghost use Rattle.amf_graph.specs.Arena.{dictionary};
-ghost use Rattle.amf_graph.specs.Building.{leaf_head, closed, kind_of};
+ghost use Rattle.amf_graph.specs.Building.{leaf_head, closed};
 ghost use Rattle.amf_graph.specs.Held.{form_head, held_node};
 ghost use Rattle.amf_graph.specs.Pools.{no_pool, span_of, SpanIn, RowIn, pool_node, Grows, Keeps};
 ghost use Rattle.amf_graph.specs.Views.{named, flat};
 
 use crate::held::{Form, Held};
 use crate::row::{NOWHERE, Row, Span, number_of, span_from};
-use crate::{Leaf, NodeKind, TextId, Value};
+use crate::{Leaf, TextId, Value};
 use amf_wire::Memory;
 use std::alloc::Global;
 use std::marker::Model;
@@ -91,19 +91,6 @@ impl Pools {
             Row::Dictionary(weak, entries) => {
                 Held::Dictionary(weak, entries_in(&self.entries, entries))
             }
-        }
-    }
-
-    /// What kind of node is kept there.
-    pub(crate) fn kind(&self, row: Row) -> NodeKind
-        requires { RowIn self.now row }
-        ensures { result ≡ kind_of (pool_node self.now row).head }
-    {
-        match row {
-            Row::Slot(_) => unreachable!(),
-            Row::Leaf(place) => self.leaves[place as usize].kind(),
-            Row::Parts(form, ..) => form.kind(),
-            Row::Dictionary(..) => NodeKind::Dictionary,
         }
     }
 

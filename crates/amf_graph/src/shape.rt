@@ -1,4 +1,7 @@
-use crate::{TextId, TraitsId, Wrapped};
+ghost use Rattle.std.specs.Prelude.{◌≡◌};
+ghost use Rattle.amf_graph.specs.Building.{shape_head, kind_of};
+
+use crate::{NodeKind, TextId, TraitsId, Wrapped};
 
 /// What a node is that takes parts, before it has any.
 #[derive(Clone, Copy, Debug, PartialEq, Eq)]
@@ -13,4 +16,18 @@ pub enum Shape {
     Values(bool, TextId),
     /// A dictionary: whether its keys are held weakly (3.16).
     Dictionary(bool),
+}
+
+impl Shape {
+    pub(crate) fn kind(self) -> NodeKind
+        ensures { result ≡ kind_of (shape_head self) }
+    {
+        match self {
+            Shape::Array => NodeKind::Array,
+            Shape::Object(_) => NodeKind::Object,
+            Shape::Wrapper(_) => NodeKind::Wrapper,
+            Shape::Values(..) => NodeKind::Values,
+            Shape::Dictionary(_) => NodeKind::Dictionary,
+        }
+    }
 }

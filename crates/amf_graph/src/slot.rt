@@ -3,14 +3,14 @@
 ghost use Rattle.std.specs.Prelude.{◌≡◌, ◌<◌, Some, None, OnOk, OnErr};
 ghost use Rattle.amf_graph.specs.Bodies.{TakesPart};
 ghost use Rattle.amf_graph.specs.Bounds.{count_end};
-ghost use Rattle.amf_graph.specs.Building.{shape_head, begun, more_part, shut, size_of, kind_of};
+ghost use Rattle.amf_graph.specs.Building.{shape_head, begun, more_part, shut, size_of};
 ghost use Rattle.amf_graph.specs.Held.{held_node};
 ghost use Rattle.amf_graph.specs.Slots.{no_lists, with_node};
 ghost use Rattle.amf_graph.specs.declared.part.Part.TheVariants.{Item};
 
 use crate::held::{Form, Held};
 use crate::part_lists::PartLists;
-use crate::{NodeKind, Part, Shape, Value};
+use crate::{Part, Shape, Value};
 use amf_wire::Memory;
 use std::alloc::Global;
 use std::marker::Model;
@@ -114,19 +114,6 @@ impl Slot {
             Shape::Dictionary(weak) => return Held::Dictionary(weak, self.lists.entries()),
         };
         Held::Parts(form, self.lists.values(), self.lists.names())
-    }
-
-    /// What kind of node it is.
-    pub(crate) fn kind(&self) -> NodeKind
-        ensures { result ≡ kind_of self.now.node.head }
-    {
-        match self.shape {
-            Shape::Array => NodeKind::Array,
-            Shape::Object(_) => NodeKind::Object,
-            Shape::Wrapper(_) => NodeKind::Wrapper,
-            Shape::Values(..) => NodeKind::Values,
-            Shape::Dictionary(_) => NodeKind::Dictionary,
-        }
     }
 
     /// How many names and parts the node has together.
