@@ -83,6 +83,12 @@ pub fn read_value<S: Source>(
         let Unfinished { node, todo } = innermost;
         match go_on(alloc, cursor, builder, tables, node, todo)? {
             Step::Open(todo) => innermost = Unfinished { node, todo },
+            // Most values are items: these have code of their own.
+            Step::Wait(Slot::Item, todo) => {
+                let slot = Slot::Item;
+                let frame = Frame { node, slot, todo };
+                innermost = read_part(alloc, cursor, builder, tables, &mut frames, frame)?;
+            }
             Step::Wait(slot, todo) => {
                 let frame = Frame { node, slot, todo };
                 innermost = read_part(alloc, cursor, builder, tables, &mut frames, frame)?;
