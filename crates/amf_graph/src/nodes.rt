@@ -185,6 +185,7 @@ impl Nodes {
     }
 
     /// How many items, names and parts a node that is open has together.
+    #[inline(always)]
     pub(crate) fn size(&self, place: usize) -> usize
         requires there { place < length self.now }
         requires opened { IsOpenAt self.now place }
@@ -255,6 +256,7 @@ impl Nodes {
     }
 
     /// Adds an item to a node that is open. After an end nothing has changed.
+    #[inline(always)]
     pub(crate) fn put_item(&mut self, place: usize, item: Value) -> Result<(), Memory>
         requires there { place < length self.old }
         requires opened { IsOpenAt self.old place }

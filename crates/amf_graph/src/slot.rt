@@ -117,6 +117,7 @@ impl Slot {
     }
 
     /// How many names and parts the node has together.
+    #[inline(always)]
     pub(crate) fn size(&self) -> usize
         requires { size_of self.now.node < count_end }
         ensures { result ≡ size_of self.now.node }

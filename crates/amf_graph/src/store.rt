@@ -156,6 +156,7 @@ impl Store {
     }
 
     /// How many items, names and parts a node that is open has together.
+    #[inline(always)]
     pub(crate) fn size(&self, node: NodeId) -> usize
         requires there { node.0 < length self.now.nodes }
         requires opened { (stored_at self.now node.0).is_open ≡ true }
@@ -175,6 +176,7 @@ impl Store {
         self.nodes.put(node.0 as usize, part)
     }
 
+    #[inline(always)]
     pub(crate) fn put_item(&mut self, node: NodeId, item: Value) -> Result<(), Memory>
         requires there { node.0 < length self.old.nodes }
         requires opened { (stored_at self.old node.0).is_open ≡ true }
