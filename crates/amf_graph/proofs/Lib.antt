@@ -38,6 +38,7 @@ pub mod Copied
 pub mod GraftMade
 pub mod CutSizes
 pub mod Links
+pub mod Marks
 pub mod Pieces
 pub mod ClassRows
 pub mod Contents

@@ -1,5 +1,5 @@
 -- Numbers by their hashes, in chains that lead to lower numbers. A device of proofs.
-use Rattle.std.specs.Prelude.{◌≡◌, ◌≢◌, ℕ, ◌-◌, ◌<◌, ◌≤◌, ◌^◌, List, length, map, get_or, bit_and}
+use Rattle.std.specs.Prelude.{◌≡◌, ◌≢◌, ℕ, ◌-◌, ◌/◌, ◌<◌, ◌≤◌, ◌^◌, List, length, map, set, get_or, bit_and, bit_or}
 use Rattle.amf_graph.specs.declared.chains.Link.{Link}
 
 -- what is kept of each number: its hash, and the link to the next lower number of its bucket
@@ -37,3 +37,27 @@ pub record AreChains (hashes next buckets : List ℕ) : Type 0 where
   pub room : length hashes ≤ length buckets
   pub links : length next ≡ length hashes
   pub linked : AreLinked (length buckets - 1) (length hashes) hashes next buckets
+
+-- A mark of a hash is one bit of eight.
+abbrev pub hash_mark : ℕ → ℕ
+hash_mark h = 2 ^ (h / 2 ^ 29)
+
+-- where the marks of a hash's bucket stand
+abbrev pub marks_at : ℕ → List ℕ → ℕ
+marks_at h marks = get_or marks (bit_and h (length marks - 1)) 0
+
+abbrev pub with_mark : ℕ → List ℕ → List ℕ
+with_mark h marks = set marks (bit_and h (length marks - 1)) (bit_or (marks_at h marks) (hash_mark h))
+
+-- the hash's mark is among those of its bucket
+abbrev pub IsMarked : List ℕ → ℕ → Type 0
+IsMarked marks h = bit_or (marks_at h marks) (hash_mark h) ≡ marks_at h marks
+
+abbrev pub AreMarked : List ℕ → List ℕ → Type 0
+AreMarked hashes marks = (i : ℕ) → i < length hashes → IsMarked marks (hash_at hashes i)
+
+-- each number is linked and its hash marked
+pub record AreFound (links : List Link) (buckets marks : List ℕ) : Type 0 where
+  pub chains : AreChains (hashes_of links) (nexts_of links) buckets
+  pub marked : AreMarked (hashes_of links) marks
+  pub count : length marks ≡ length buckets

@@ -1,7 +1,7 @@
 //! Numbers by their hashes.
 
-ghost use Rattle.std.specs.Prelude.{◌≡◌, ℕ, ◌+◌, ◌-◌, ◌<◌, ◌≤◌, ◌^◌, [], ◌∷◌, ◌++◌, length, take, set, get_or, bit_and, IfOk, OnOk, OnErr};
-ghost use Rattle.amf_graph.specs.Chains.{LeadsTo, hash_at, bucket_at, hashes_of, nexts_of, AreNexts, AreLinked, AreChains};
+ghost use Rattle.std.specs.Prelude.{◌≡◌, ℕ, ◌+◌, ◌-◌, ◌<◌, ◌≤◌, ◌^◌, [], ◌∷◌, ◌++◌, length, take, set, get_or, bit_and, false, IfOk, OnOk, OnErr};
+ghost use Rattle.amf_graph.specs.Chains.{LeadsTo, hash_at, bucket_at, hash_mark, hashes_of, nexts_of, with_mark, IsMarked, AreMarked, AreNexts, AreLinked, AreChains, AreFound};
 
 use amf_wire::Memory;
 use std::alloc::Global;
@@ -28,17 +28,19 @@ pub(crate) struct Chains {
     links: Vec<Link>,
     /// For each bucket the link to its greatest number. A link is one more than the number, or 0 for none.
     buckets: Vec<u32>,
+    /// For each bucket the marks of its hashes, in one byte: so most hashes that no number has are known by what is in the cache.
+    marks: Vec<u8>,
 }
 
 impl Model for Chains {
     ghost use Rattle.std.specs.Prelude.{List, ℕ};
-    ghost use Rattle.amf_graph.specs.Chains.{hashes_of, nexts_of, AreChains};
+    ghost use Rattle.amf_graph.specs.Chains.{hashes_of, AreFound};
 
     ghost Value = { List ℕ };
 
     ghost view = { λ c. hashes_of c.links.items };
 
-    ghost invariant = { λ c. AreChains (hashes_of c.links.items) (nexts_of c.links.items) c.buckets.items };
+    ghost invariant = { λ c. AreFound c.links.items c.buckets.items c.marks.items };
 }
 
 /// The bucket of a hash, of so many.
@@ -48,6 +50,42 @@ fn bucket_of(count: usize, hash: u32) -> usize
     ensures there { result < count }
 {
     hash as usize & (count - 1)
+}
+
+/// The mark of a hash, one of eight. It goes by bits that do not choose the bucket.
+fn mark_of(hash: u32) -> u8
+    ensures { result ≡ hash_mark hash }
+{
+    1 << (hash >> 29)
+}
+
+/// Whether a hash's bucket has its mark.
+fn is_marked(hash: u32, marks: &[u8]) -> bool
+    requires { 0 < length marks.now }
+    ensures { result ≡ false → IsMarked marks.now hash → ⊥ }
+{
+    let kept = marks[bucket_of(marks.len(), hash)];
+    kept | mark_of(hash) == kept
+}
+
+/// Adds a hash's mark to those of its bucket.
+fn mark(hash: u32, marks: &mut [u8])
+    requires { 0 < length marks.old }
+    ensures { marks.new ≡ with_mark hash marks.old }
+{
+    let bucket = bucket_of(marks.len(), hash);
+    marks[bucket] |= mark_of(hash);
+}
+
+/// Marks all hashes.
+fn mark_all(links: &[Link], marks: &mut [u8])
+    requires { 0 < length marks.old }
+    ensures marked { AreMarked (hashes_of links.now) marks.new }
+    ensures count { length marks.new ≡ length marks.old }
+{
+    for link in links {
+        mark(link.hash, marks);
+    }
 }
 
 /// Enters the next number at the front of its bucket's chain.
@@ -95,11 +133,13 @@ fn link_of(links: &[Link], from: u32, hash: u32) -> u32
 }
 
 /// The link to the greatest number that has this hash.
-fn first_of(links: &[Link], buckets: &[u32], hash: u32) -> u32
-    requires { AreChains (hashes_of links.now) (nexts_of links.now) buckets.now }
+fn first_of(links: &[Link], buckets: &[u32], marks: &[u8], hash: u32) -> u32
+    requires chains { AreChains (hashes_of links.now) (nexts_of links.now) buckets.now }
+    requires marked { AreMarked (hashes_of links.now) marks.now }
+    requires count { length marks.now ≡ length buckets.now }
     ensures { LeadsTo (hash_at (hashes_of links.now)) (length links.now) hash result }
 {
-    if buckets.is_empty() {
+    if marks.is_empty() || !is_marked(hash, marks) {
         return 0;
     }
     let bucket = bucket_of(buckets.len(), hash);
@@ -119,19 +159,28 @@ fn next_of(links: &[Link], buckets: &[u32], link: u32) -> u32
 }
 
 /// Links all numbers in twice as many buckets, where there are as many numbers as buckets. After an end nothing has changed.
-fn make_room(alloc: Global, links: &mut [Link], buckets: &mut Vec<u32>) -> Result<(), Memory>
-    requires { AreChains (hashes_of links.old) (nexts_of links.old) buckets.old.items }
+fn make_room(
+    alloc: Global,
+    links: &mut [Link],
+    buckets: &mut Vec<u32>,
+    marks: &mut Vec<u8>,
+) -> Result<(), Memory>
+    requires { AreFound links.old buckets.old.items marks.old.items }
     ensures same { hashes_of links.new ≡ hashes_of links.old }
-    ensures chains { AreChains (hashes_of links.new) (nexts_of links.new) buckets.new.items }
+    ensures found { AreFound links.new buckets.new.items marks.new.items }
     ensures room { OnOk result (length links.new < length buckets.new.items) }
 {
     let count = links.len();
     if count < buckets.len() {
         return Ok(());
     }
-    let mut more = vec![in alloc; 0; FIRST_BUCKETS.max(2 * count)]?;
+    let room = FIRST_BUCKETS.max(2 * count);
+    let mut more = vec![in alloc; 0; room]?;
+    let mut more_marks = vec![in alloc; 0; room]?;
     link_all(links, &mut more);
+    mark_all(links, &mut more_marks);
     *buckets = more;
+    *marks = more_marks;
     Ok(())
 }
 
@@ -144,6 +193,7 @@ impl Chains {
             alloc,
             links: Vec::new(alloc),
             buckets: Vec::new(alloc),
+            marks: Vec::new(alloc),
         }
     }
 
@@ -158,7 +208,7 @@ impl Chains {
     pub(crate) fn first(&self, hash: u32) -> u32
         ensures { LeadsTo (hash_at self.now) (length self.now) hash result }
     {
-        first_of(&self.links, &self.buckets, hash)
+        first_of(&self.links, &self.buckets, &self.marks, hash)
     }
 
     /// From the link to a number, the one to the next lower number of the same hash.
@@ -180,11 +230,17 @@ impl Chains {
         if number >= MAX_NUMBERS {
             return Err(Memory);
         }
-        make_room(self.alloc, &mut self.links, &mut self.buckets)?;
+        make_room(
+            self.alloc,
+            &mut self.links,
+            &mut self.buckets,
+            &mut self.marks,
+        )?;
         let bucket = bucket_of(self.buckets.len(), hash);
         let next = self.buckets[bucket];
         self.links.push(Link { hash, next })?;
         self.buckets[bucket] = number as u32 + 1;
+        mark(hash, &mut self.marks);
         Ok(())
     }
 
@@ -207,6 +263,7 @@ impl Chains {
             alloc,
             links: self.links.to_vec(alloc)?,
             buckets: self.buckets.to_vec(alloc)?,
+            marks: self.marks.to_vec(alloc)?,
         })
     }
 }

@@ -1,12 +1,23 @@
--- The first link of a bucket leads to the greatest number of it.
-use Rattle.std.proofs.Common.{◌-◌, length, get_or, bit_and, subst, arith}
+-- The first link of a bucket leads to the greatest number of it, and a hash whose mark is not there has none.
+use Rattle.std.proofs.Common.{◌≡◌, ◌-◌, length, get_or, bit_and, sym, ◌∙◌, subst, arith}
 use Rattle.amf_graph.specs.Chains.{LeadsTo, bucket_at, hashes_of, nexts_of, AreNexts}
 use Rattle.amf_graph.proofs.Links.{count_of}
+use Rattle.std.proofs.lemmas.Bool.{eqb-true}
+use Rattle.amf_graph.proofs.Marks.{no_hash, no_number}
 use Rattle.amf_graph.proofs.chains.first_of.Goals as goal
+use Rattle.amf_graph.proofs.chains.first_of.Goals.{then-is_empty-via-then-is_empty, then-is_empty-via-else-is_empty+then-not-is_marked}
+
+pub returns-then-is_empty : goal.returns-then-is_empty
+returns-then-is_empty c =
+    elim c.then-is_empty.branch [
+      | then-is_empty-via-then-is_empty w ↦ let none : length c.args.marks.now ≡ 0 = eqb-true (length c.args.marks.now) 0 (sym c.is_empty.ensures ∙ w.if-is_empty.true) in
+          no_hash (hashes_of c.args.links.now) c.args.hash (length c.args.links.now) (let r = c.requires.chains.room in let s = c.requires.count in let n = count_of c.args.links.now in omega arith)
+      | then-is_empty-via-else-is_empty+then-not-is_marked w ↦ no_number (hashes_of c.args.links.now) c.args.marks.now c.args.hash (length c.args.links.now) (sym (count_of c.args.links.now)) c.requires.marked (w.is_marked.ensures w.if-not-is_marked.true)
+    ]
 
 pub returns : goal.returns
 returns c =
-    let h = c.requires in
+    let h = c.requires.chains in
     let there = c.bucket_of-bucket.ensures.there in
     let count = count_of c.args.links.now in
     let head = h.linked.heads c.bucket_of-bucket.result (omega arith) in
