@@ -5,10 +5,9 @@ use Rattle.std.proofs.lemmas.List.{length-append, length-take, length-drop, take
 use Rattle.amf_graph.specs.declared.row.Span.{Span}
 use Rattle.amf_graph.specs.declared.row.Row.{Row}
 use Rattle.amf_graph.specs.declared.row.Row.TheVariants as row
-use Rattle.amf_graph.specs.Arena.{array, dictionary}
+use Rattle.amf_graph.specs.Arena.{StoredHead, array, object, wrapper, values, dictionary}
 use Rattle.amf_graph.specs.Building.{closed}
-use Rattle.amf_graph.specs.Held.{form_head}
-use Rattle.amf_graph.specs.Pools.{Pool, span_of, SpanIn, RowIn, pool_node, IsFront, Grows}
+use Rattle.amf_graph.specs.Pools.{Pool, span_of, SpanIn, RowIn, parts_node, pool_node, IsFront, Grows}
 use Rattle.amf_graph.specs.Views.{named, flat}
 
 pub front_same : {X : Type 0} (xs : List X) → IsFront xs xs
@@ -51,15 +50,26 @@ at_front xs ys k d f l = ap (λ w. get_or w k d) (sym (take-append-drop (length 
     at_append (x ∷ xs) more zero d l = refl
     at_append (x ∷ xs) more (suc k) d l = at_append xs more k d (omega arith)
 
+parts_grow : (p q : Pool) (h : StoredHead) (vs ps : Span) → Grows p q → SpanIn p.values vs × SpanIn p.names ps → parts_node q h vs ps ≡ parts_node p h vs ps
+parts_grow p q h vs ps g i = ap (λ w. closed h (named w) (span_of q.values vs)) (span_front p.names q.names ps g.names i.1) ∙ ap (closed h (named (span_of p.names ps))) (span_front p.values q.values vs g.values i.0)
+
+spans_grow : (p q : Pool) (vs ps : Span) → Grows p q → SpanIn p.values vs × SpanIn p.names ps → SpanIn q.values vs × SpanIn q.names ps
+spans_grow p q vs ps g i = (span_in_front p.values q.values vs g.values i.0, span_in_front p.names q.names ps g.names i.1)
+
 pub node_grows : (p q : Pool) (r : Row) → Grows p q → RowIn p r → pool_node q r ≡ pool_node p r
 node_grows p q (row.Slot s) g h = absurd h
 node_grows p q (row.Leaf k) g h = ap (λ w. closed w [] []) (at_front p.leaves q.leaves k array g.leaves h)
-node_grows p q (row.Parts s vs ps) g h =
-    ap (λ w. closed (form_head s) (named w) (span_of q.values vs)) (span_front p.names q.names ps g.names h.1) ∙ ap (closed (form_head s) (named (span_of p.names ps))) (span_front p.values q.values vs g.values h.0)
+node_grows p q (row.Array vs ps) g h = parts_grow p q array vs ps g h
+node_grows p q (row.Object t vs ps) g h = parts_grow p q (object t.0) vs ps g h
+node_grows p q (row.Wrapper c vs ps) g h = parts_grow p q (wrapper c) vs ps g h
+node_grows p q (row.Values f x vs ps) g h = parts_grow p q (values f x.0) vs ps g h
 node_grows p q (row.Dictionary w es) g h = ap (λ x. closed (dictionary w) [] (flat x)) (span_front p.entries q.entries es g.entries h)
 
 pub row_grows : (p q : Pool) (r : Row) → Grows p q → RowIn p r → RowIn q r
 row_grows p q (row.Slot s) g h = absurd h
 row_grows p q (row.Leaf k) g h = let l = front_length p.leaves q.leaves g.leaves in omega (arith, h)
-row_grows p q (row.Parts s vs ps) g h = (span_in_front p.values q.values vs g.values h.0, span_in_front p.names q.names ps g.names h.1)
+row_grows p q (row.Array vs ps) g h = spans_grow p q vs ps g h
+row_grows p q (row.Object t vs ps) g h = spans_grow p q vs ps g h
+row_grows p q (row.Wrapper c vs ps) g h = spans_grow p q vs ps g h
+row_grows p q (row.Values f x vs ps) g h = spans_grow p q vs ps g h
 row_grows p q (row.Dictionary w es) g h = span_in_front p.entries q.entries es g.entries h

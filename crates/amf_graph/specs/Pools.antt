@@ -5,9 +5,8 @@ use Rattle.amf_graph.specs.declared.value.TextId.{TextId}
 use Rattle.amf_graph.specs.declared.row.Span.{Span}
 use Rattle.amf_graph.specs.declared.row.Row.{Row}
 use Rattle.amf_graph.specs.declared.row.Row.TheVariants as row
-use Rattle.amf_graph.specs.Arena.{StoredHead, array, dictionary, StoredNode}
+use Rattle.amf_graph.specs.Arena.{StoredHead, array, object, wrapper, values, dictionary, StoredNode}
 use Rattle.amf_graph.specs.Building.{no_stored, closed}
-use Rattle.amf_graph.specs.Held.{form_head}
 use Rattle.amf_graph.specs.Views.{named, flat}
 
 pub record Pool : Type 0 where
@@ -30,13 +29,22 @@ SpanIn xs s = (s.start ≤ s.end) × (s.end ≤ length xs)
 abbrev pub RowIn : Pool → Row → Type 0
 RowIn p (row.Slot s) = ⊥
 RowIn p (row.Leaf k) = k < length p.leaves
-RowIn p (row.Parts s vs ps) = SpanIn p.values vs × SpanIn p.names ps
+RowIn p (row.Array vs ps) = SpanIn p.values vs × SpanIn p.names ps
+RowIn p (row.Object t vs ps) = SpanIn p.values vs × SpanIn p.names ps
+RowIn p (row.Wrapper c vs ps) = SpanIn p.values vs × SpanIn p.names ps
+RowIn p (row.Values f x vs ps) = SpanIn p.values vs × SpanIn p.names ps
 RowIn p (row.Dictionary w es) = SpanIn p.entries es
+
+abbrev pub parts_node : Pool → StoredHead → Span → Span → StoredNode
+parts_node p h vs ps = closed h (named (span_of p.names ps)) (span_of p.values vs)
 
 abbrev pub pool_node : Pool → Row → StoredNode
 pool_node p (row.Slot s) = no_stored
 pool_node p (row.Leaf k) = closed (get_or p.leaves k array) [] []
-pool_node p (row.Parts s vs ps) = closed (form_head s) (named (span_of p.names ps)) (span_of p.values vs)
+pool_node p (row.Array vs ps) = parts_node p array vs ps
+pool_node p (row.Object t vs ps) = parts_node p (object t.0) vs ps
+pool_node p (row.Wrapper c vs ps) = parts_node p (wrapper c) vs ps
+pool_node p (row.Values f x vs ps) = parts_node p (values f x.0) vs ps
 pool_node p (row.Dictionary w es) = closed (dictionary w) [] (flat (span_of p.entries es))
 
 -- the second list begins with the first

@@ -4,7 +4,7 @@ ghost use Rattle.std.specs.Prelude.{◌≡◌, ◌≤◌, ◌++◌, [], length, 
 ghost use Rattle.amf_graph.specs.Arena.{dictionary};
 ghost use Rattle.amf_graph.specs.Building.{leaf_head, closed};
 ghost use Rattle.amf_graph.specs.Held.{form_head, held_node};
-ghost use Rattle.amf_graph.specs.Pools.{no_pool, span_of, SpanIn, RowIn, pool_node, Grows, Keeps};
+ghost use Rattle.amf_graph.specs.Pools.{no_pool, span_of, SpanIn, RowIn, parts_node, pool_node, Grows, Keeps};
 ghost use Rattle.amf_graph.specs.Views.{named, flat};
 
 use crate::held::{Form, Held};
@@ -76,6 +76,15 @@ impl Pools {
         }
     }
 
+    fn parts(&self, form: Form, values: Span, names: Span) -> Held<'_>
+        requires values { SpanIn self.now.values values }
+        requires names { SpanIn self.now.names names }
+        ensures { parts_node self.now (form_head form) values names ≡ held_node false result }
+    {
+        let values = values_in(&self.values, values);
+        Held::Parts(form, values, names_in(&self.names, names))
+    }
+
     /// What a node that is kept here is and holds.
     pub(crate) fn held(&self, row: Row) -> Held<'_>
         requires { RowIn self.now row }
@@ -84,9 +93,11 @@ impl Pools {
         match row {
             Row::Slot(_) => unreachable!(),
             Row::Leaf(place) => Held::Leaf(&self.leaves[place as usize]),
-            Row::Parts(form, values, names) => {
-                let values = values_in(&self.values, values);
-                Held::Parts(form, values, names_in(&self.names, names))
+            Row::Array(values, names) => self.parts(Form::Array, values, names),
+            Row::Object(traits, values, names) => self.parts(Form::Object(traits), values, names),
+            Row::Wrapper(class, values, names) => self.parts(Form::Wrapper(class), values, names),
+            Row::Values(fixed, of, values, names) => {
+                self.parts(Form::Values(fixed, of), values, names)
             }
             Row::Dictionary(weak, entries) => {
                 Held::Dictionary(weak, entries_in(&self.entries, entries))
@@ -115,13 +126,13 @@ impl Pools {
         ensures grows { Grows self.old self.new }
     {
         if values.is_empty() && names.is_empty() {
-            return Ok(Row::Parts(form, NOWHERE, NOWHERE));
+            return Ok(Row::of_form(form, NOWHERE, NOWHERE));
         }
         let value_span = span_from(self.values.len(), values.len())?;
         let name_span = span_from(self.names.len(), names.len())?;
         extend(&mut self.values, values)?;
         extend(&mut self.names, names)?;
-        Ok(Row::Parts(form, value_span, name_span))
+        Ok(Row::of_form(form, value_span, name_span))
     }
 
     /// Keeps the entries of a dictionary. After an end what was there is there.
