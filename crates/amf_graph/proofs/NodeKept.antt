@@ -1,5 +1,5 @@
 -- Nodes by their rows, where a row or a slot is another.
-use Rattle.std.proofs.Common.{◌≡◌, ◌≢◌, ℕ, zero, suc, ◌+◌, ◌-◌, ◌<◌, ◌≤◌, List, [], ◌∷◌, ◌++◌, length, get_or, map, set, take, Some, None, ◌⊎◌, inl, inr, Result, Ok, Err, OnErr, sym, refl, ap, ◌∙◌, subst, arith, get_or-set_other, get_or-set_same, length-set}
+use Rattle.std.proofs.Common.{◌≡◌, ◌≢◌, ℕ, zero, suc, ◌+◌, ◌-◌, ◌<◌, ◌≤◌, List, [], ◌∷◌, ◌++◌, length, get_or, map, set, take, Some, None, false, ◌⊎◌, inl, inr, Result, Ok, Err, OnErr, sym, refl, ap, ◌∙◌, subst, arith, get_or-set_other, get_or-set_same, length-set}
 use Rattle.std.proofs.lemmas.List.{length-append, length-map, get_or-map, set-get_or, take-map, get_or_read}
 use Rattle.amf_graph.specs.declared.row.Row.{Row}
 use Rattle.amf_graph.specs.declared.row.Row.TheVariants as row
@@ -7,7 +7,7 @@ use Rattle.amf_graph.specs.Arena.{StoredNode}
 use Rattle.amf_graph.specs.Building.{no_stored}
 use Rattle.amf_graph.specs.Slots.{KeptSlot, no_slot}
 use Rattle.amf_graph.specs.Pools.{Pool, RowIn, pool_node, Grows, Keeps}
-use Rattle.amf_graph.specs.NodeRows.{no_row, row_node, row_nodes, RowFits, AreRows}
+use Rattle.amf_graph.specs.NodeRows.{no_row, row_node, row_nodes, RowFits, AreRows, IsClosedAt}
 use Rattle.amf_graph.proofs.PoolNodes.{node_grows, row_grows}
 
 -- Lists of nodes.
@@ -281,6 +281,24 @@ rows_take p ss used n rows rows' e a = subst (AreRows p ss used) (sym e) (record
 
 pub nodes_take : (p : Pool) (ss : List KeptSlot) (n : ℕ) (rows rows' : List Row) (ns : List StoredNode) → rows' ≡ take n rows → row_nodes p ss rows ≡ ns → row_nodes p ss rows' ≡ take n ns
 nodes_take p ss n rows rows' ns e v = ap (row_nodes p ss) e ∙ sym (take-map (row_node p ss) n rows) ∙ ap (take n) v
+
+-- Where no slot that is used has an open node, no node is open.
+
+shut_in : (p : Pool) (ss : List KeptSlot) (used i : ℕ) (r : Row) → ((k : ℕ) → k < used → (get_or ss k no_slot).node.is_open ≡ false) → RowFits p ss used i r → (row_node p ss r).is_open ≡ false
+shut_in p ss used i (row.Slot s) h f = h s f.0
+shut_in p ss used i (row.Leaf k) h f = refl
+shut_in p ss used i (row.Array vs ps) h f = refl
+shut_in p ss used i (row.Object t vs ps) h f = refl
+shut_in p ss used i (row.Wrapper c vs ps) h f = refl
+shut_in p ss used i (row.Values b y vs ps) h f = refl
+shut_in p ss used i (row.Dictionary w es) h f = refl
+
+pub all_shut : (p : Pool) (ss : List KeptSlot) (used : ℕ) (rows : List Row) (ns : List StoredNode) → row_nodes p ss rows ≡ ns → ((k : ℕ) → k < used → (get_or ss k no_slot).node.is_open ≡ false) → AreRows p ss used rows → (i : ℕ) → i < length ns → IsClosedAt ns i
+all_shut p ss used rows ns v h a i l =
+    ap (λ w. (get_or w i no_stored).is_open) (sym v) ∙ ap (λ (n : StoredNode). n.is_open) (node_at_row p ss rows i within) ∙ shut_in p ss used i (get_or rows i no_row) h (a.fits i within)
+  where
+    within : i < length rows
+    within = omega (arith, ap length v, length-map rows (row_node p ss))
 
 -- What a call leaves after an end.
 

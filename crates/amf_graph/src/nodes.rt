@@ -65,6 +65,14 @@ fn used_of(slots: &[Slot], count: usize) -> usize
     used
 }
 
+/// Whether a node is open in one of the first slots.
+fn has_open(slots: &[Slot], count: usize) -> bool
+    requires { count ≤ length slots.now }
+    ensures { result ≡ false → (k : ℕ) → k < count → (get_or slots.now k no_slot).node.is_open ≡ false }
+{
+    slots[..count].iter().any(|slot| slot.is_open())
+}
+
 /// Begins a node in the slot behind those that are used.
 fn next_slot(slots: &mut Vec<Slot>, used: usize, owner: u32, shape: Shape) -> Result<(), Memory>
     requires { used ≤ length slots.old.items }
@@ -328,10 +336,14 @@ impl Nodes {
         self.slots.truncate(self.used);
     }
 
-    /// The least place of a node that is open.
+    /// The least place of a node that is open. Each of these is in a slot, and few slots are used: so the rows are read only where
+    /// there is one.
     pub(crate) fn first_open(&self) -> Option<usize>
         ensures { MatchOption result ((k : ℕ) → k < length self.now → IsClosedAt self.now k) (λ i. IsFirstOf self.now i) }
     {
+        if !has_open(&self.slots, self.used) {
+            return None;
+        }
         for place in 0..self.len() {
             if self.is_open(place) {
                 return Some(place);
