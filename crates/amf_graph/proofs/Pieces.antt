@@ -72,6 +72,9 @@ pieces_take bytes start (e ∷ ends) (suc n) = ap (λ w. slice_range bytes start
 
 -- Texts as they are kept, by the fields that calls leave.
 
+pub all_ends : {X : Type 0} (bytes bytes' more : List X) (start count end : ℕ) → end ≡ start + count → start ≡ length bytes → count ≡ length more → bytes' ≡ bytes ++ more → end ≡ length bytes'
+all_ends bytes bytes' more start count end e s c is = let all = ap length is ∙ length-append bytes more in omega arith
+
 pub pool_pushed : {X : Type 0} (bytes bytes' more : List X) (ends ends' ends'' : List ℕ) (n : ℕ) → bytes' ≡ bytes ++ more → ends'' ≡ ends → ends' ≡ ends'' ++ n ∷ [] → n ≡ length bytes' → AreEnds 0 (length bytes) ends → AreEnds 0 (length bytes') ends'
 pool_pushed bytes bytes' more ends ends' ends'' n e f g m h =
     let all = ap length e ∙ length-append bytes more in

@@ -8,6 +8,7 @@ ghost use Rattle.amf_graph.specs.StandIns.{opened_traits};
 ghost use Rattle.amf_graph.specs.TextPool.{pieces, AreEnds};
 ghost use Rattle.amf_graph.specs.Views.{ShowsTraits};
 
+use crate::row::{Span, span_from};
 use crate::text_pool::start_of;
 use crate::{TextId, TraitsView};
 use amf_wire::Memory;
@@ -18,7 +19,7 @@ use std::marker::Model;
 #[derive(Drop)]
 pub(crate) struct Classes {
     heads: Vec<(TextId, bool)>,
-    ends: Vec<usize>,
+    ends: Vec<u32>,
     sealed: Vec<TextId>,
 }
 
@@ -45,20 +46,20 @@ fn part(names: &[TextId], start: usize, end: usize) -> &[TextId]
 }
 
 /// The sealed names of the traits at a place.
-fn names_at<'a>(sealed: &'a [TextId], ends: &[usize], place: usize) -> &'a [TextId]
+fn names_at<'a>(sealed: &'a [TextId], ends: &[u32], place: usize) -> &'a [TextId]
     requires ends { AreEnds 0 (length sealed.now) ends.now }
     requires there { place < length ends.now }
     ensures { result.now ≡ get_or (pieces sealed.now 0 ends.now) place [] }
 {
     let start = start_of(ends, place);
-    part(sealed, start, ends[place])
+    part(sealed, start, ends[place] as usize)
 }
 
 /// The traits at a place.
 fn class_at<'a>(
     heads: &[(TextId, bool)],
     sealed: &'a [TextId],
-    ends: &[usize],
+    ends: &[u32],
     place: usize,
 ) -> TraitsView<'a>
     requires ends { AreEnds 0 (length sealed.now) ends.now }
@@ -110,10 +111,11 @@ impl Classes {
         ensures ok { OnOk result (self.new ≡ self.old ++ stored_traits class dynamic sealed.now ∷ []) }
         ensures err { OnErr result (self.new ≡ self.old) }
     {
+        let Span { end, .. } = span_from(self.sealed.len(), sealed.len())?;
         self.heads.reserve(1)?;
         self.ends.reserve(1)?;
         self.sealed.extend_from_slice(sealed)?;
-        self.ends.push(self.sealed.len())?;
+        self.ends.push(end)?;
         self.heads.push((class, dynamic))?;
         Ok(())
     }

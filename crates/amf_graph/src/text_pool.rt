@@ -4,17 +4,18 @@ ghost use Rattle.std.specs.Prelude.{◌≡◌, ◌<◌, ◌≤◌, [], ◌∷◌
 ghost use Rattle.std.specs.List.{list_any};
 ghost use Rattle.amf_graph.specs.TextPool.{pieces, AreEnds};
 
+use crate::row::{Span, span_from};
 use amf_wire::Memory;
 use std::alloc::Global;
 use std::marker::Model;
 
 /// Texts in the order in which they were kept, each by the place where its bytes end. A content may stand more than once: nothing is looked up.
 ///
-/// A text takes its bytes, and the size of a place more.
+/// A text takes its bytes, and four more. All bytes together are below 2^32, else there is no memory.
 #[derive(Drop)]
 pub struct TextPool {
     bytes: Vec<u8>,
-    ends: Vec<usize>,
+    ends: Vec<u32>,
 }
 
 impl Model for TextPool {
@@ -29,11 +30,15 @@ impl Model for TextPool {
 }
 
 /// Where the text at a place begins: where the one before ends.
-pub(crate) fn start_of(ends: &[usize], place: usize) -> usize
+pub(crate) fn start_of(ends: &[u32], place: usize) -> usize
     requires { place ≤ length ends.now }
     ensures { result ≡ get_or (0 ∷ ends.now) place 0 }
 {
-    if place > 0 { ends[place - 1] } else { 0 }
+    if place > 0 {
+        ends[place - 1] as usize
+    } else {
+        0
+    }
 }
 
 /// The bytes from one place up to another.
@@ -46,13 +51,13 @@ fn part(bytes: &[u8], start: usize, end: usize) -> &[u8]
 }
 
 /// The bytes of the text at a place.
-fn piece<'a>(bytes: &'a [u8], ends: &[usize], place: usize) -> &'a [u8]
+fn piece<'a>(bytes: &'a [u8], ends: &[u32], place: usize) -> &'a [u8]
     requires ends { AreEnds 0 (length bytes.now) ends.now }
     requires there { place < length ends.now }
     ensures { result.now ≡ get_or (pieces bytes.now 0 ends.now) place [] }
 {
     let start = start_of(ends, place);
-    part(bytes, start, ends[place])
+    part(bytes, start, ends[place] as usize)
 }
 
 impl TextPool {
@@ -86,9 +91,10 @@ impl TextPool {
         ensures ok { OnOk result (self.new ≡ self.old ++ text.now ∷ []) }
         ensures err { OnErr result (self.new ≡ self.old) }
     {
+        let Span { end, .. } = span_from(self.bytes.len(), text.len())?;
         self.ends.reserve(1)?;
         self.bytes.extend_from_slice(text)?;
-        self.ends.push(self.bytes.len())?;
+        self.ends.push(end)?;
         Ok(())
     }
 
