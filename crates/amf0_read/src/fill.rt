@@ -47,6 +47,29 @@ pub fn fill<S: Source>(
     builder: &mut Builder,
     tables: &mut Tables0,
     node: NodeId,
+    todo: Todo,
+) -> Result<Filled, ReadEnd>
+    requires ready { Ready0 0 builder.old (shown_tables tables.old) cursor.old }
+    requires opened { IsOpenAlone (left_of cursor.old) builder.old node.0 todo }
+    ensures goes { Goes S.tells S.left S.faults cursor.old cursor.new result }
+    ensures fills { Fills S.tells S.left S.faults node todo builder.old builder.new (shown_tables tables.old) (shown_tables tables.new) cursor.old cursor.new result }
+    ensures moves { IfOk result (FilledMoves (place cursor.old) (place cursor.new)) }
+{
+    // Items and pairs each have a loop of their own.
+    match todo {
+        Todo::Items(more) => fill_by(alloc, cursor, builder, tables, node, Todo::Items(more)),
+        Todo::Pairs => fill_by(alloc, cursor, builder, tables, node, Todo::Pairs),
+    }
+}
+
+/// Does what [`fill`] does.
+#[inline(always)]
+fn fill_by<S: Source>(
+    alloc: Global,
+    cursor: &mut Cursor<'_, S>,
+    builder: &mut Builder,
+    tables: &mut Tables0,
+    node: NodeId,
     mut todo: Todo,
 ) -> Result<Filled, ReadEnd>
     requires ready { Ready0 0 builder.old (shown_tables tables.old) cursor.old }
@@ -72,6 +95,7 @@ pub fn fill<S: Source>(
 }
 
 /// Reads on in an open node, up to the marker of its next value, or its end, where it is closed.
+#[inline(always)]
 fn go_on<S: Source>(
     alloc: Global,
     cursor: &mut Cursor<'_, S>,

@@ -1,7 +1,7 @@
 use Rattle.amf0_tables.specs.TableParts0.{shown_tables}
 use Rattle.amf3_read.specs.Answer.{left_of}
 use Rattle.amf0_read.specs.Frames0.{FilledSo}
-use Rattle.amf0_read.proofs.fill.fill.Given as goal
+use Rattle.amf0_read.proofs.fill.fill_by.Given as goal
 
 abbrev pub invariant-loop-slot : goal.invariant-loop-slot
 invariant-loop-slot g l =

@@ -5,7 +5,7 @@ use Rattle.amf3_read.specs.Answer.{left_of}
 use Rattle.amf3_read.proofs.Stack.{done}
 use Rattle.amf0_read.specs.Frames0.{FilledSo, CarriesEnd}
 use Rattle.amf0_read.proofs.Fills0.{fills_begin, fills_passed, fills_memory, fills_end, fills_closed, fills_wait, fills_start_end, fills_within, fills_given, fills_room, fills_there, fills_put}
-use Rattle.amf0_read.proofs.fill.fill.Goals as goal
+use Rattle.amf0_read.proofs.fill.fill_by.Goals as goal
 
 pub loop-slot-init : goal.loop-slot-init
 loop-slot-init g c =
