@@ -11,7 +11,7 @@ ghost use Rattle.amf0_read.specs.Fronts0.{LeadsFront, LeadsItems};
 use crate::frame::{Frame, Now, Slot, Todo};
 use crate::leaf::read_count;
 use crate::marker::read_marker;
-use crate::node::{open_array, start_value};
+use crate::node::{open_array, start_apart};
 use amf_graph::Builder;
 use amf_io::{Cursor, ReadEnd, Source};
 use amf0_tables::{Marker0, Tables0};
@@ -42,7 +42,7 @@ pub fn read_front<S: Source>(
     match read_marker(cursor, tables)? {
         Marker0::Strict => read_items(alloc, cursor, builder, tables),
         marker => {
-            let start = start_value(alloc, cursor, builder, tables, marker)?;
+            let start = start_apart(alloc, cursor, builder, tables, marker)?;
             Ok(Front {
                 frames: Vec::new(alloc),
                 now: start.now(),

@@ -60,6 +60,47 @@ pub fn start_value<S: Source>(
     ensures stays { OnOk result (place cursor.old ≤ place cursor.new) }
 {
     match marker {
+        // Most values are these.
+        Marker0::Null => Ok(Start::Value(Value::Null)),
+        Marker0::Boolean => Ok(Start::Value(Value::Bool(read_flag(cursor)?))),
+        Marker0::Double => Ok(Start::Value(Value::Double(read_double(cursor)?))),
+        Marker0::Text => {
+            let text = read_short_text(alloc, cursor, builder)?;
+            builder.is_built();
+            Ok(Start::Value(Value::Text(text)))
+        }
+        _ => handed(start_apart(alloc, cursor, builder, tables, marker)),
+    }
+}
+
+/// What a call has read. Through it a loop that reads values needs no place in memory for those that it reads without a call.
+#[inline(always)]
+fn handed(read: Result<Start, ReadEnd>) -> Result<Start, ReadEnd>
+    ensures { result ≡ read }
+{
+    match read {
+        Ok(start) => Ok(start),
+        Err(end) => Err(end),
+    }
+}
+
+/// Reads the start of a value behind its marker as [`start_value`] does, where that is rarely done.
+#[inline(never)]
+pub fn start_apart<S: Source>(
+    alloc: Global,
+    cursor: &mut Cursor<'_, S>,
+    builder: &mut Builder,
+    tables: &mut Tables0,
+    marker: Marker0,
+) -> Result<Start, ReadEnd>
+    requires { Ready0 1 builder.old (shown_tables tables.old) cursor.old }
+    ensures goes { Goes S.tells S.left S.faults cursor.old cursor.new result }
+    ensures starts { (v : Reader0) (n : ℕ) → left_of cursor.old < n → StartsBy S.tells S.left v n (behind0 v n (state0_of builder.old (shown_tables tables.old)) (Some marker)) (state0_of builder.new (shown_tables tables.new)) cursor.old cursor.new result }
+    ensures still_ready { OnOk result (StillReady0 0 1 builder.old builder.new (shown_tables tables.new) cursor.old cursor.new) }
+    ensures holds { IfOk result (StartHolds builder.old builder.new (left_of cursor.new)) }
+    ensures stays { OnOk result (place cursor.old ≤ place cursor.new) }
+{
+    match marker {
         Marker0::Null => Ok(Start::Value(Value::Null)),
         Marker0::Undefined | Marker0::Unsupported => Ok(Start::Value(Value::Undefined)),
         Marker0::Boolean => Ok(Start::Value(Value::Bool(read_flag(cursor)?))),

@@ -19,7 +19,7 @@ use crate::fill::{Filled, fill};
 use crate::formed::Read0;
 use crate::frame::{Frame, Now};
 use crate::front::{Front, read_front};
-use crate::node::start_value;
+use crate::node::start_apart;
 use amf_graph::{Builder, Value};
 use amf_io::{Cursor, ReadEnd, Source};
 use amf0_tables::{Form, Tables0};
@@ -109,7 +109,7 @@ fn read_on<S: Source>(
     loop {
         match now {
             Now::Begun(marker) => {
-                now = start_value(alloc, cursor, builder, tables, marker)?.now();
+                now = start_apart(alloc, cursor, builder, tables, marker)?.now();
             }
             Now::Given(value) => {
                 let Some(frame) = frames.pop() else {

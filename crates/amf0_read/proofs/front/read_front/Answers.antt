@@ -35,10 +35,10 @@ returns-in_err-start-in_default-clause-leads g c = λ n lt.
     let m = c.in_ok-marker.marker in
     let h = c.in_ok-marker.ensures in
     let d = c.read_marker.new.cursor in
-    let z = state0_of c.start_value.new.builder (shown_tables c.start_value.new.tables) in
+    let z = state0_of c.start_apart.new.builder (shown_tables c.start_apart.new.tables) in
     let e = c.in_err-start-in_default.field-0.0 in
-    front_ended S.tells S.left S.faults (value0_layout n false (state0_of a t)) [] z k c.start_value.new.cursor c.from_residual-in_err-start-in_default.result e c.from_residual-in_err-start-in_default.ensures.1
-    (front_not S.tells S.left S.faults (state0_of a t) k d m h.goes h.answers h.moves z c.start_value.new.cursor e c.in_err-start-in_default.ensures.starts n lt)
+    front_ended S.tells S.left S.faults (value0_layout n false (state0_of a t)) [] z k c.start_apart.new.cursor c.from_residual-in_err-start-in_default.result e c.from_residual-in_err-start-in_default.ensures.1
+    (front_not S.tells S.left S.faults (state0_of a t) k d m h.goes h.answers h.moves z c.start_apart.new.cursor e c.in_err-start-in_default.ensures.starts n lt)
 
 pub returns-in_ok-start-in_default-clause-leads : goal.returns-in_ok-start-in_default-clause-leads
 returns-in_ok-start-in_default-clause-leads g c = λ n lt.
@@ -47,12 +47,12 @@ returns-in_ok-start-in_default-clause-leads g c = λ n lt.
     let m = c.in_ok-marker.marker in
     let h = c.in_ok-marker.ensures in
     let d = c.read_marker.new.cursor in
-    let z = state0_of c.start_value.new.builder (shown_tables c.start_value.new.tables) in
+    let z = state0_of c.start_apart.new.builder (shown_tables c.start_apart.new.tables) in
     let x = c.in_ok-start-in_default.start in
     let e = c.in_ok-start-in_default.ensures in
-    subst (λ (fs : List Frame). BeginsBy S.tells S.left (value0_layout n false (state0_of a t)) [] false c.now.result (reverse fs) z k c.start_value.new.cursor) (sym c.new.ensures.items)
-    (subst (λ (w : Now). BeginsBy S.tells S.left (value0_layout n false (state0_of a t)) [] false w [] z k c.start_value.new.cursor) (sym c.now.ensures)
-    (front_other S.tells S.left S.faults (state0_of a t) k d m h.goes h.answers h.moves c.in_default.not-Strict z c.start_value.new.cursor (let p = e.goes.same_bound in let q = e.stays in omega arith) x e.starts n lt))
+    subst (λ (fs : List Frame). BeginsBy S.tells S.left (value0_layout n false (state0_of a t)) [] false c.now.result (reverse fs) z k c.start_apart.new.cursor) (sym c.new.ensures.items)
+    (subst (λ (w : Now). BeginsBy S.tells S.left (value0_layout n false (state0_of a t)) [] false w [] z k c.start_apart.new.cursor) (sym c.now.ensures)
+    (front_other S.tells S.left S.faults (state0_of a t) k d m h.goes h.answers h.moves c.in_default.not-Strict z c.start_apart.new.cursor (let p = e.goes.same_bound in let q = e.stays in omega arith) x e.starts n lt))
 
 pub returns-in_ok-start-in_default-clause-still_ready : goal.returns-in_ok-start-in_default-clause-still_ready
 returns-in_ok-start-in_default-clause-still_ready g c =
@@ -63,8 +63,8 @@ returns-in_ok-start-in_default-clause-still_ready g c =
     let d = c.read_marker.new.cursor in
     let x = c.in_ok-start-in_default.start in
     let e = c.in_ok-start-in_default.ensures in
-    subst (λ o. StillReady0 o 0 a c.start_value.new.builder (shown_tables c.start_value.new.tables) k c.start_value.new.cursor) (sym (ap owed c.now.ensures ∙ owes_nothing x))
-    (marker_still_ready 0 a c.start_value.new.builder (shown_tables c.start_value.new.tables) k d c.start_value.new.cursor h.placed h.goes.same_bound h.moves e.still_ready)
+    subst (λ o. StillReady0 o 0 a c.start_apart.new.builder (shown_tables c.start_apart.new.tables) k c.start_apart.new.cursor) (sym (ap owed c.now.ensures ∙ owes_nothing x))
+    (marker_still_ready 0 a c.start_apart.new.builder (shown_tables c.start_apart.new.tables) k d c.start_apart.new.cursor h.placed h.goes.same_bound h.moves e.still_ready)
 
 pub returns-in_ok-start-in_default-clause-holds : goal.returns-in_ok-start-in_default-clause-holds
 returns-in_ok-start-in_default-clause-holds g c =
@@ -72,6 +72,6 @@ returns-in_ok-start-in_default-clause-holds g c =
     let a = c.args.builder.now in let t = shown_tables c.args.tables.now in let k = c.args.cursor.now in
     let x = c.in_ok-start-in_default.start in
     let e = c.in_ok-start-in_default.ensures in
-    let b = c.start_value.new.builder in
-    subst (λ (fs : List Frame). Holds (left_of c.start_value.new.cursor) c.now.result (reverse fs) b) (sym c.new.ensures.items)
-    (subst (λ (w : Now). Holds (left_of c.start_value.new.cursor) w [] b) (sym c.now.ensures) (begun_holds a b (left_of c.start_value.new.cursor) x c.requires.amf3.built e.holds))
+    let b = c.start_apart.new.builder in
+    subst (λ (fs : List Frame). Holds (left_of c.start_apart.new.cursor) c.now.result (reverse fs) b) (sym c.new.ensures.items)
+    (subst (λ (w : Now). Holds (left_of c.start_apart.new.cursor) w [] b) (sym c.now.ensures) (begun_holds a b (left_of c.start_apart.new.cursor) x c.requires.amf3.built e.holds))

@@ -16,22 +16,22 @@ loop-now-init g c =
     let S = g.S.Source in
     so_begin S.tells S.left S.faults c.args.now (reverse c.args.frames.items) c.args.builder.now (shown_tables c.args.tables.now) c.args.cursor.now c.requires.ready c.requires.holds
 
-pub returns-in_err-start_value-in-Begun-clause-answers : goal.returns-in_err-start_value-in-Begun-clause-answers
-returns-in_err-start_value-in-Begun-clause-answers g c = λ fuel fuels lt f.
+pub returns-in_err-start_apart-in-Begun-clause-answers : goal.returns-in_err-start_apart-in-Begun-clause-answers
+returns-in_err-start_apart-in-Begun-clause-answers g c = λ fuel fuels lt f.
     let S = g.S.Source in
     let old = c.args.now in let es = reverse c.args.frames.items in let a = c.args.builder.now in let t = shown_tables c.args.tables.now in let b = c.loop-now.builder in let u = shown_tables c.loop-now.tables in let d = c.loop-now.cursor in let fs = reverse c.loop-now.frames.items in
     let so = subst (λ (w : Now). StackSo S.tells S.left S.faults old es a b t u c.args.cursor.now d w fs) c.in-Begun.is c.loop-now.invariant in
-    passed_on S.tells S.left S.faults _ _ c.args.cursor.now c.start_value.new.cursor c.from_residual.result c.in_err-start_value-in-Begun.field-0.0 c.from_residual.ensures.1
-    (so_end S.tells S.left S.faults old es a t c.args.cursor.now b u d fs c.in-Begun.marker so c.start_value.new.builder (shown_tables c.start_value.new.tables) c.start_value.new.cursor c.in_err-start_value-in-Begun.field-0.0 c.in_err-start_value-in-Begun.ensures.starts fuel fuels lt f)
+    passed_on S.tells S.left S.faults _ _ c.args.cursor.now c.start_apart.new.cursor c.from_residual.result c.in_err-start_apart-in-Begun.field-0.0 c.from_residual.ensures.1
+    (so_end S.tells S.left S.faults old es a t c.args.cursor.now b u d fs c.in-Begun.marker so c.start_apart.new.builder (shown_tables c.start_apart.new.tables) c.start_apart.new.cursor c.in_err-start_apart-in-Begun.field-0.0 c.in_err-start_apart-in-Begun.ensures.starts fuel fuels lt f)
 
 pub loop-now-preserved-in-Begun : goal.loop-now-preserved-in-Begun
 loop-now-preserved-in-Begun g c =
     let S = g.S.Source in
     let old = c.args.now in let es = reverse c.args.frames.items in let a = c.args.builder.now in let t = shown_tables c.args.tables.now in let b = c.loop-now.builder in let u = shown_tables c.loop-now.tables in let d = c.loop-now.cursor in let fs = reverse c.loop-now.frames.items in
     let so = subst (λ (w : Now). StackSo S.tells S.left S.faults old es a b t u c.args.cursor.now d w fs) c.in-Begun.is c.loop-now.invariant in
-    let h = c.in_ok-start_value-in-Begun.ensures in
-    subst (λ (w : Now). StackSo S.tells S.left S.faults old es a c.start_value.new.builder t (shown_tables c.start_value.new.tables) c.args.cursor.now c.start_value.new.cursor w fs) (sym c.now-now.ensures)
-    (so_start S.tells S.left S.faults old es a t c.args.cursor.now b u d fs c.in-Begun.marker so c.start_value.new.builder (shown_tables c.start_value.new.tables) c.start_value.new.cursor h.still_ready (let x = h.goes.same_bound in let y = h.stays in omega arith) c.in_ok-start_value-in-Begun.field-0 h.goes h.starts h.holds)
+    let h = c.in_ok-start_apart-in-Begun.ensures in
+    subst (λ (w : Now). StackSo S.tells S.left S.faults old es a c.start_apart.new.builder t (shown_tables c.start_apart.new.tables) c.args.cursor.now c.start_apart.new.cursor w fs) (sym c.now-now.ensures)
+    (so_start S.tells S.left S.faults old es a t c.args.cursor.now b u d fs c.in-Begun.marker so c.start_apart.new.builder (shown_tables c.start_apart.new.tables) c.start_apart.new.cursor h.still_ready (let x = h.goes.same_bound in let y = h.stays in omega arith) c.in_ok-start_apart-in-Begun.field-0 h.goes h.starts h.holds)
 
 pub returns-in_default-clause-answers : goal.returns-in_default-clause-answers
 returns-in_default-clause-answers g c = λ fuel fuels lt f.
