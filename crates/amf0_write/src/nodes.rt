@@ -39,6 +39,7 @@ fn are_short(pairs: &[(TextId, Value)], graph: &Rooted) -> bool
 }
 
 /// Whether the class and the names of a node fit their length fields (1.3.1).
+#[inline(always)]
 pub(crate) fn has_short_names(node: NodeId, view: NodeView<'_>, graph: &Rooted) -> bool
     requires there { node.0 < length graph.now.arena.nodes }
     requires shown { Shows graph.now.arena (stored_at graph.now.arena node.0) view }

@@ -137,6 +137,7 @@ impl Output {
 }
 
 /// Puts pairs onto the stack, in by-name order: as they stand, if they stand in it.
+#[inline(always)]
 fn push_pairs<'g>(
     alloc: Global,
     pairs: &'g [(TextId, Value)],

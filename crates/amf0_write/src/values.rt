@@ -99,6 +99,7 @@ impl Output {
     }
 
     /// A text, by the shorter length where it fits (2.4, 2.14).
+    #[inline(always)]
     fn text(&mut self, text: &[u8]) -> Result<(), Memory>
         requires is_text { IsText text.now }
         requires fits { length text.now < 2 ^ 32 }
