@@ -3,13 +3,19 @@ use Rattle.std.proofs.Common.{◌≡◌, ℕ, List, [], sym, ap, ◌∙◌, subs
 use Rattle.std.specs.Prelude.{◌↔◌}
 use Rattle.std.specs.List.{AllZip}
 use Rattle.amf_graph.specs.declared.value.Value.{Value as Stored}
+use Rattle.amf_graph.specs.declared.views.NodeView.{NodeView}
 use Rattle.amf_graph.specs.Graph.{Node, node_at}
 use Rattle.amf_graph.specs.ByName.{by_name}
 use Rattle.amf_graph.specs.Isomorphic.{ValuesMatch, PairsMatch, NodesMatch}
 use Rattle.amf_graph.specs.Arena.{Arena, StoredHead, StoredNode, graph_of, head_content, node_content}
 use Rattle.amf_graph.specs.Building.{stored_at, closed}
+use Rattle.amf_graph.specs.Views.{Shows}
 use Rattle.amf_graph.proofs.Growth.{names_content, values_content}
 use Rattle.amf_iso.proofs.MetValues.{shown}
+
+-- what a view shows that is known to be this one
+pub view_is : (a : Arena) (i : ℕ) (v u : NodeView) → v ≡ u → Shows a (stored_at a i) v → Shows a (stored_at a i) u
+view_is a i v u e s = subst (λ w. Shows a (stored_at a i) w) e s
 
 module _ (P : ℕ → ℕ → Type 0) (a b : Arena) (root stem : Stored) (i j : ℕ) where
   abbrev pub Held : StoredNode → StoredNode → Type 0

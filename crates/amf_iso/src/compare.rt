@@ -1,7 +1,9 @@
 ghost use Rattle.std.specs.Prelude.{◌≡◌, ◌<◌, ◌↔◌, length, IsTrue, IfOk};
+ghost use Rattle.amf_graph.specs.Building.{stored_at};
 ghost use Rattle.amf_graph.specs.Graph.{node_at};
 ghost use Rattle.amf_graph.specs.Isomorphic.{Isomorphic};
 ghost use Rattle.amf_graph.specs.Rooted.{content};
+ghost use Rattle.amf_graph.specs.Views.{Shows};
 ghost use Rattle.amf_iso.specs.Contents.{AreValues, ArePairs};
 ghost use Rattle.amf_iso.specs.Walking.{IsSound, Met, NamedMatch, PartsMatch, NodePair, AllNodesMatch};
 
@@ -59,24 +61,28 @@ fn both_meet(
     named_meet(alloc, pairs.0, pairs.1, graphs, walk)
 }
 
-/// Whether what two nodes with the same head hold is alike, where it stands.
+/// Whether what two nodes with the same head hold is alike, where it stands. The views are these nodes'.
 #[tactic(auto, using(crate::proofs::Meeting::always))]
 fn parts_meet(
     alloc: Global,
     i: NodeId,
     j: NodeId,
+    left: NodeView<'_>,
+    right: NodeView<'_>,
     graphs: &Graphs<'_>,
     walk: &mut Walk,
 ) -> Result<bool, Memory>
     requires left { i.0 < length graphs.now.left.now.arena.nodes }
     requires right { j.0 < length graphs.now.right.now.arena.nodes }
+    requires left_view { Shows graphs.now.left.now.arena (stored_at graphs.now.left.now.arena i.0) left }
+    requires right_view { Shows graphs.now.right.now.arena (stored_at graphs.now.right.now.arena j.0) right }
     requires head { (node_at (content graphs.now.left.now) i.0).head ≡ (node_at (content graphs.now.right.now) j.0).head }
     requires sound { IsSound graphs.now.left.now.arena graphs.now.right.now.arena walk.old }
     ensures { IfOk result (λ same. Met graphs.now.left.now.arena graphs.now.right.now.arena walk.old walk.new (NodePair (content graphs.now.left.now) (content graphs.now.right.now) i.0 j.0) same) }
 {
     graphs.left.is_finished();
     graphs.right.is_finished();
-    match (graphs.left.node(i), graphs.right.node(j)) {
+    match (left, right) {
         (
             NodeView::Array {
                 items: vs,
@@ -125,10 +131,14 @@ fn node_pair_meets(
     requires sound { IsSound graphs.now.left.now.arena graphs.now.right.now.arena walk.old }
     ensures { IfOk result (λ same. Met graphs.now.left.now.arena graphs.now.right.now.arena walk.old walk.new (NodePair (content graphs.now.left.now) (content graphs.now.right.now) i.0 j.0) same) }
 {
-    if !heads_match(i, j, graphs.left, graphs.right, &mut walk.texts) {
+    graphs.left.is_finished();
+    graphs.right.is_finished();
+    let left = graphs.left.node(i);
+    let right = graphs.right.node(j);
+    if !heads_match(i, j, left, right, graphs, &mut walk.texts) {
         return Ok(false);
     }
-    parts_meet(alloc, i, j, graphs, walk)
+    parts_meet(alloc, i, j, left, right, graphs, walk)
 }
 
 /// Whether the nodes of each pair are alike, of those that were met and of those that are met on the way.

@@ -1,11 +1,14 @@
 ghost use Rattle.std.specs.Prelude.{◌≡◌, ◌<◌, ◌↔◌, length, IsTrue};
 ghost use Rattle.amf_graph.specs.Arena.{traits_at};
+ghost use Rattle.amf_graph.specs.Building.{stored_at};
 ghost use Rattle.amf_graph.specs.Graph.{node_at};
 ghost use Rattle.amf_graph.specs.Rooted.{content};
+ghost use Rattle.amf_graph.specs.Views.{Shows};
 ghost use Rattle.amf_iso.specs.Joined.{AreJoined};
 ghost use Rattle.amf_tables.specs.ShownTraits.{AreTextIds, texts_at};
 
 use crate::equal_texts::EqualTexts;
+use crate::walk::Graphs;
 use amf_graph::{NodeId, NodeView, Rooted, TextId, TraitsId};
 
 /// Whether texts are the same, place by place.
@@ -62,22 +65,26 @@ fn traits_match(
 }
 
 /// Whether what two nodes have beside their values is the same by content: kind, flags, traits, class, type name and contents.
+/// The views are these nodes'.
 pub(crate) fn heads_match(
     i: NodeId,
     j: NodeId,
-    left: &Rooted,
-    right: &Rooted,
+    left: NodeView<'_>,
+    right: NodeView<'_>,
+    graphs: &Graphs<'_>,
     texts: &mut EqualTexts,
 ) -> bool
-    requires left { i.0 < length left.now.arena.nodes }
-    requires right { j.0 < length right.now.arena.nodes }
-    requires known { AreJoined left.now.arena right.now.arena texts.old }
-    ensures known { AreJoined left.now.arena right.now.arena texts.new }
-    ensures same { IsTrue result ↔ (node_at (content left.now) i.0).head ≡ (node_at (content right.now) j.0).head }
+    requires left { i.0 < length graphs.now.left.now.arena.nodes }
+    requires right { j.0 < length graphs.now.right.now.arena.nodes }
+    requires left_view { Shows graphs.now.left.now.arena (stored_at graphs.now.left.now.arena i.0) left }
+    requires right_view { Shows graphs.now.right.now.arena (stored_at graphs.now.right.now.arena j.0) right }
+    requires known { AreJoined graphs.now.left.now.arena graphs.now.right.now.arena texts.old }
+    ensures known { AreJoined graphs.now.left.now.arena graphs.now.right.now.arena texts.new }
+    ensures same { IsTrue result ↔ (node_at (content graphs.now.left.now) i.0).head ≡ (node_at (content graphs.now.right.now) j.0).head }
 {
-    left.is_finished();
-    right.is_finished();
-    match (left.node(i), right.node(j)) {
+    graphs.left.is_finished();
+    graphs.right.is_finished();
+    match (left, right) {
         (NodeView::XmlDocument(x), NodeView::XmlDocument(y)) => x == y,
         (NodeView::Xml(x), NodeView::Xml(y)) => x == y,
         (NodeView::Date(p), NodeView::Date(q)) => p == q,
@@ -114,7 +121,7 @@ pub(crate) fn heads_match(
         ) => x == y && ns == ms,
         (NodeView::Array { .. }, NodeView::Array { .. }) => true,
         (NodeView::Object { traits: t, .. }, NodeView::Object { traits: u, .. }) => {
-            traits_match(t, u, left, right, texts)
+            traits_match(t, u, graphs.left, graphs.right, texts)
         }
         (NodeView::Wrapper { class: c, .. }, NodeView::Wrapper { class: d, .. }) => c == d,
         (
@@ -128,7 +135,7 @@ pub(crate) fn heads_match(
                 of: u,
                 ..
             },
-        ) => x == y && texts.are_equal(t, u, left, right),
+        ) => x == y && texts.are_equal(t, u, graphs.left, graphs.right),
         (NodeView::Dictionary { weak: x, .. }, NodeView::Dictionary { weak: y, .. }) => x == y,
         _ => false,
     }
