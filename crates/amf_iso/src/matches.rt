@@ -12,6 +12,7 @@ use amf_graph::{TextId, Value};
 use amf_wire::Memory;
 
 /// Whether two values that are no nodes are the same by content.
+#[inline(always)]
 fn leaves_match(v: Value, w: Value, graphs: &Graphs<'_>, texts: &mut EqualTexts) -> bool
     requires left { Names graphs.now.left.now.arena v }
     requires right { Names graphs.now.right.now.arena w }
@@ -27,6 +28,7 @@ fn leaves_match(v: Value, w: Value, graphs: &Graphs<'_>, texts: &mut EqualTexts)
 }
 
 /// Whether two values are alike: nodes where they are partners, and others by content.
+#[inline(always)]
 pub(crate) fn values_meet(
     v: Value,
     w: Value,

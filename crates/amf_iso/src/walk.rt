@@ -45,6 +45,7 @@ impl Walk {
     }
 
     /// Makes partners of two nodes, neither of which has one.
+    #[inline(always)]
     fn pair(&mut self, i: NodeId, j: NodeId) -> Result<(), Memory>
         requires left { slice_get self.old.partners.items i.0 ≡ Some None }
         requires right { slice_get self.old.taken.items j.0 ≡ Some false }
@@ -57,6 +58,7 @@ impl Walk {
     }
 
     /// Whether two nodes are partners. Where neither has a partner, they become so.
+    #[inline(always)]
     pub(crate) fn nodes_meet(&mut self, i: NodeId, j: NodeId) -> Result<bool, Memory>
         requires left { i.0 < length self.old.partners.items }
         requires right { j.0 < length self.old.taken.items }
