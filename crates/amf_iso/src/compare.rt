@@ -17,6 +17,7 @@ use std::alloc::Global;
 
 /// Whether pairs have the same names and values that are alike, place by place in by-name order. Values are looked at only
 /// where all names agree, and lists are made only where the names do not agree as they stand.
+#[inline(never)]
 fn named_meet(
     alloc: Global,
     ps: &[(TextId, Value)],
@@ -40,7 +41,8 @@ fn named_meet(
     seconds_meet(&left, &right, graphs, walk)
 }
 
-/// Whether values are alike, place by place, and pairs, in by-name order.
+/// Whether values are alike, place by place, and pairs, in by-name order. Most nodes have no pairs.
+#[inline(always)]
 fn both_meet(
     alloc: Global,
     values: (&[Value], &[Value]),
@@ -57,6 +59,9 @@ fn both_meet(
 {
     if !all_meet(values.0, values.1, graphs, walk)? {
         return Ok(false);
+    }
+    if pairs.0.is_empty() && pairs.1.is_empty() {
+        return Ok(true);
     }
     named_meet(alloc, pairs.0, pairs.1, graphs, walk)
 }
