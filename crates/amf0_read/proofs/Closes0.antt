@@ -10,15 +10,15 @@ use Rattle.amf_io.specs.declared.ends.ReadEnd.{ReadEnd}
 use Rattle.amf_io.specs.Layout.{Layout}
 use Rattle.amf_io.specs.ReadEnds.{IsPlaced}
 use Rattle.amf_io.specs.CursorReads.{Ends}
-use Rattle.amf0_tables.specs.Segments0.{is_empty}
-use Rattle.amf0_tables.specs.Layout0State.{State0}
-use Rattle.amf0_tables.specs.Layout0.{Read0}
+use Rattle.amf0_spelling.specs.Segments0.{is_empty}
+use Rattle.amf0_layout.specs.Layout0State.{State0}
+use Rattle.amf0_layout.specs.Layout0.{Read0}
 use Rattle.amf0_read.specs.declared.fill.Step.{Step}
 use Rattle.amf_graph.specs.Graph as graph
 use Rattle.amf_graph.specs.Arena.{Arena, StoredNode, IsBuilt, head_content}
 use Rattle.amf_graph.specs.Building.{changed as changed_arena, shut, stored_at, kept_node, FitsNow}
 use Rattle.amf3_layout.proofs.Reader3Tables.{grows_itself, grows_twice}
-use Rattle.amf0_tables.specs.KeptTables0.{KeptTables0}
+use Rattle.amf0_spelling.specs.KeptTables0.{KeptTables0}
 use Rattle.amf3_read.specs.declared.opening.Parts.{Parts}
 use Rattle.amf3_read.specs.declared.opening.Parts.TheVariants as parts
 use Rattle.amf3_read.specs.declared.fill.Next.TheVariants as next
@@ -31,7 +31,7 @@ use Rattle.amf3_read.proofs.Stack.{opened_less, opened_grown}
 use Rattle.amf3_read.proofs.GoesOn.{suits_behind, closed_there, closed_fits, closed_still_ready, closed_holds}
 use Rattle.amf0_read.specs.declared.frame.Todo.TheVariants.{Items, Pairs}
 use Rattle.amf0_read.specs.declared.frame.Slot.TheVariants.{Item}
-use Rattle.amf0_tables.specs.declared.marker.Marker0.{Marker0}
+use Rattle.amf0_spelling.specs.declared.marker.Marker0.{Marker0}
 use Rattle.amf0_read.specs.declared.fill.Step.TheVariants as step
 use Rattle.amf0_read.specs.Ready0.{Ready0, StillReady0}
 use Rattle.amf0_read.specs.Frames0.{Lacks, GoesOn, StepHolds}

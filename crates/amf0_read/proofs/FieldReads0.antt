@@ -15,7 +15,7 @@ use Rattle.amf_io.specs.Field.{Kind}
 use Rattle.amf_io.specs.Layout.{Layout, want}
 use Rattle.amf_io.specs.CursorReads.{AnswersField, Ends}
 use Rattle.amf_io.proofs.CursorReads.{field_refused}
-use Rattle.amf0_tables.specs.Refusals0.{marker0_refusal, index0_refusal}
+use Rattle.amf0_spelling.specs.Refusals0.{marker0_refusal, index0_refusal}
 use Rattle.amf3_read.proofs.TextReads.{slice_past}
 
 -- a field that is refused

@@ -12,9 +12,9 @@ use Rattle.amf_io.specs.CursorReads.{Answers, Ends}
 use Rattle.amf_io.proofs.CursorReads.{leads_end, end_reads}
 use Rattle.amf_graph.specs.declared.value.NodeId.{NodeId}
 use Rattle.amf_graph.specs.Arena.{Arena, IsBuilt, array}
-use Rattle.amf0_tables.specs.KeptTables0.{KeptTables0}
-use Rattle.amf0_tables.specs.Layout0State.{State0, state0_of}
-use Rattle.amf0_tables.specs.Layout0.{Read0, Reader0, with_items, behind0, value0_layout}
+use Rattle.amf0_spelling.specs.KeptTables0.{KeptTables0}
+use Rattle.amf0_layout.specs.Layout0State.{State0, state0_of}
+use Rattle.amf0_layout.specs.Layout0.{Read0, Reader0, with_items, behind0, value0_layout}
 use Rattle.amf3_read.specs.Answer.{left_of}
 use Rattle.amf3_read.specs.Frames.{Fuel}
 use Rattle.amf3_read.proofs.LayoutBinds.{bind_give, bind_same}
@@ -25,8 +25,8 @@ use Rattle.amf0_read.specs.declared.frame.Now.{Now}
 use Rattle.amf0_read.specs.declared.frame.Now.TheVariants as now
 use Rattle.amf0_read.specs.declared.frame.Slot.TheVariants.{Item}
 use Rattle.amf0_read.specs.declared.frame.Todo.TheVariants.{Items}
-use Rattle.amf0_tables.specs.declared.marker.Marker0.{Marker0}
-use Rattle.amf0_tables.specs.declared.marker.Marker0.TheVariants as marker
+use Rattle.amf0_spelling.specs.declared.marker.Marker0.{Marker0}
+use Rattle.amf0_spelling.specs.declared.marker.Marker0.TheVariants as marker
 use Rattle.amf0_read.specs.declared.node.Start.{Start}
 use Rattle.amf0_read.specs.declared.node.Start.TheVariants as start
 use Rattle.amf0_read.specs.Markers0.{marker_layout}

@@ -15,14 +15,14 @@ use Rattle.amf_io.proofs.Whole.{whole_fixed}
 use Rattle.amf_io.proofs.Paths.{path_join, path_bind, flat-append}
 use Rattle.amf_io.proofs.Ables.{bytes_flat}
 use Rattle.amf3_layout.proofs.Layout3SoundOpenings.{all_below}
-use Rattle.amf0_tables.specs.Form.{call_front}
-use Rattle.amf0_tables.proofs.Layout0Forms.{code0, code0_at}
-use Rattle.amf0_tables.specs.declared.marker.Marker0.{Marker0}
-use Rattle.amf0_tables.specs.declared.marker.Marker0.TheVariants as marker
+use Rattle.amf0_spelling.specs.Form.{call_front}
+use Rattle.amf0_layout.proofs.Layout0Forms.{code0, code0_at}
+use Rattle.amf0_spelling.specs.declared.marker.Marker0.{Marker0}
+use Rattle.amf0_spelling.specs.declared.marker.Marker0.TheVariants as marker
 use Rattle.amf0_read.specs.Markers0.{marker_layout}
 use Rattle.amf0_read.specs.Leaves0.{count_layout}
 use Rattle.amf0_read.specs.Fronts0.{LeadsWith, TellsCall}
-use Rattle.amf0_tables.specs.Markers0.{marker0_at}
+use Rattle.amf0_spelling.specs.Markers0.{marker0_at}
 
 module _ {S : Type 0} (tells : S → Type 0) (left : S → List ℕ) (faults : S → ℕ) where
   -- what was answered leads on

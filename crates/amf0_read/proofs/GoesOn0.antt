@@ -14,10 +14,10 @@ use Rattle.amf_graph.specs.Arena.{Arena, text_at}
 use Rattle.amf_graph.specs.Building.{changed as changed_arena, shut, more_value, more_name}
 use Rattle.amf3_layout.specs.Layout3State.{state_of}
 use Rattle.amf3_layout.proofs.Reader3States.{shut_state}
-use Rattle.amf0_tables.specs.KeptTables0.{KeptTables0}
-use Rattle.amf0_tables.specs.Segments0.{is_empty}
-use Rattle.amf0_tables.specs.Layout0State.{State0, state0_of, changed0}
-use Rattle.amf0_tables.specs.Layout0.{TextRead0, Read0, read0, Reader0, short_layout, items0, pairs0, shut0, behind0, value0_layout}
+use Rattle.amf0_spelling.specs.KeptTables0.{KeptTables0}
+use Rattle.amf0_spelling.specs.Segments0.{is_empty}
+use Rattle.amf0_layout.specs.Layout0State.{State0, state0_of, changed0}
+use Rattle.amf0_layout.specs.Layout0.{TextRead0, Read0, read0, Reader0, short_layout, items0, pairs0, shut0, behind0, value0_layout}
 use Rattle.amf3_read.specs.Answer.{left_of}
 use Rattle.amf3_read.specs.Frames.{Fuel, Enough}
 use Rattle.amf3_read.proofs.LayoutBinds.{bind_bind, bind_same}
@@ -25,7 +25,7 @@ use Rattle.amf3_read.proofs.Stack.{leads_bound}
 use Rattle.amf0_read.specs.declared.frame.Todo.TheVariants.{Items, Pairs}
 use Rattle.amf0_read.specs.declared.frame.Slot.TheVariants.{Item, Named}
 use Rattle.amf0_read.specs.declared.frame.Now.TheVariants as now
-use Rattle.amf0_tables.specs.declared.marker.Marker0.{Marker0}
+use Rattle.amf0_spelling.specs.declared.marker.Marker0.{Marker0}
 use Rattle.amf0_read.specs.declared.fill.Step.TheVariants as step
 use Rattle.amf0_read.specs.Markers0.{marker_layout}
 use Rattle.amf0_read.specs.Ready0.{text_read}

@@ -19,9 +19,9 @@ use Rattle.amf3_layout.proofs.Layout3Contents.{all_more}
 use Rattle.amf3_layout.proofs.Reader3Tables.{grows_itself, grows_twice, grows_traits, grows_node, tables_after_node, tables_after_traits}
 use Rattle.amf_graph.proofs.Built.{built_traits}
 use Rattle.amf3_spelling.specs.KeptTables.{KeptTables, AreTablesIn}
-use Rattle.amf0_tables.specs.KeptTables0.{KeptTables0, AreTables0In}
-use Rattle.amf0_tables.specs.Layout0State.{state0_of, switched, with_done0}
-use Rattle.amf0_tables.specs.Layout0.{read0, Reader0, with_pairs, with_items, with_members, whole0}
+use Rattle.amf0_spelling.specs.KeptTables0.{KeptTables0, AreTables0In}
+use Rattle.amf0_layout.specs.Layout0State.{state0_of, switched, with_done0}
+use Rattle.amf0_layout.specs.Layout0.{read0, Reader0, with_pairs, with_items, with_members, whole0}
 use Rattle.amf3_read.specs.Opened.{KeptText}
 use Rattle.amf3_read.specs.Answer.{left_of}
 use Rattle.amf3_read.specs.Ready.{Ready, Continues}

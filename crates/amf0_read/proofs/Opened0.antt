@@ -13,8 +13,8 @@ use Rattle.amf3_spelling.specs.Reads3.{Grows}
 use Rattle.amf3_layout.proofs.Layout3Contents.{Larger, head_stays, all_append, all_more, distinct_more}
 use Rattle.amf3_layout.proofs.Reader3Tables.{larger_node, open_there, tables_after_node}
 use Rattle.amf3_layout.proofs.Reader3Calls.{node_opened}
-use Rattle.amf0_tables.specs.KeptTables0.{KeptTables0, AreTables0In}
-use Rattle.amf0_tables.specs.TableParts0.{kept_node0}
+use Rattle.amf0_spelling.specs.KeptTables0.{KeptTables0, AreTables0In}
+use Rattle.amf0_spelling.specs.TableParts0.{kept_node0}
 use Rattle.amf3_read.specs.Filling.{IsOpened}
 use Rattle.amf3_read.specs.Answer.{left_of}
 use Rattle.amf0_read.specs.declared.frame.Todo.{Todo}

@@ -10,13 +10,13 @@ use Rattle.amf_io.specs.Field.{flat}
 use Rattle.amf_io.specs.Layout.{Layout, IsLayout, bind}
 use Rattle.amf_graph.specs.declared.value.Value.{Value}
 use Rattle.amf_graph.specs.Arena.{Arena, IsBuilt}
-use Rattle.amf0_tables.specs.declared.form.Form.{Form}
-use Rattle.amf0_tables.specs.KeptTables0.{KeptTables0, AreTables0In}
-use Rattle.amf0_tables.specs.Reads0.{IsReading0}
-use Rattle.amf0_tables.specs.Form.{IsForm}
-use Rattle.amf0_tables.specs.Layout0State.{state0_of}
-use Rattle.amf0_tables.specs.Layout0.{Read0, read0, value0_layout}
-use Rattle.amf0_tables.proofs.Layout0Format.{reads0, is_layout0}
+use Rattle.amf0_spelling.specs.declared.form.Form.{Form}
+use Rattle.amf0_spelling.specs.KeptTables0.{KeptTables0, AreTables0In}
+use Rattle.amf0_spelling.specs.Reads0.{IsReading0}
+use Rattle.amf0_spelling.specs.Form.{IsForm}
+use Rattle.amf0_layout.specs.Layout0State.{state0_of}
+use Rattle.amf0_layout.specs.Layout0.{Read0, read0, value0_layout}
+use Rattle.amf0_layout.proofs.Layout0Format.{reads0, is_layout0}
 use Rattle.amf_io.specs.Stretch.{between}
 use Rattle.amf3_read.specs.Answer.{Raises, left_of}
 use Rattle.amf3_read.proofs.LayoutVerdicts.{answers_taken, answers_ended}

@@ -20,9 +20,9 @@ use Rattle.amf3_spelling.specs.Reads3.{Grows}
 use Rattle.amf3_layout.specs.Layout3State.{State3, state_of}
 use Rattle.amf3_layout.proofs.Reader3Tables.{grows_itself, text_id_after_growth}
 use Rattle.amf3_layout.proofs.Reader3States.{more_value_state, more_name_state}
-use Rattle.amf0_tables.specs.KeptTables0.{KeptTables0, AreTables0In}
-use Rattle.amf0_tables.specs.Layout0State.{State0, state0_of}
-use Rattle.amf0_tables.specs.Layout0.{Read0, read0, Reader0, behind0, value0_layout}
+use Rattle.amf0_spelling.specs.KeptTables0.{KeptTables0, AreTables0In}
+use Rattle.amf0_layout.specs.Layout0State.{State0, state0_of}
+use Rattle.amf0_layout.specs.Layout0.{Read0, read0, Reader0, behind0, value0_layout}
 use Rattle.amf3_read.specs.declared.opening.Parts.TheVariants as parts
 use Rattle.amf3_read.specs.declared.frame.Slot.TheVariants as slot3
 use Rattle.amf3_read.specs.Filling.{with_more, IsOpened}
@@ -37,7 +37,7 @@ use Rattle.amf0_read.specs.declared.frame.Slot.TheVariants.{Item, Named}
 use Rattle.amf0_read.specs.declared.frame.Frame.{Frame}
 use Rattle.amf0_read.specs.declared.frame.Now.{Now}
 use Rattle.amf0_read.specs.declared.frame.Now.TheVariants as now
-use Rattle.amf0_tables.specs.declared.marker.Marker0.{Marker0}
+use Rattle.amf0_spelling.specs.declared.marker.Marker0.{Marker0}
 use Rattle.amf0_read.specs.declared.node.Start.{Start}
 use Rattle.amf0_read.specs.declared.node.Start.TheVariants as start
 use Rattle.amf0_read.specs.declared.fill.Step.TheVariants as step

@@ -18,9 +18,9 @@ use Rattle.amf3_layout.proofs.Reader3Tables.{tables_after_text, grows_text}
 use Rattle.amf3_layout.proofs.Reader3Calls.{tables_are, grows_are}
 use Rattle.amf3_spelling.specs.KeptTables.{AreTablesIn}
 use Rattle.amf3_layout.specs.Layout3Words.{chunk}
-use Rattle.amf0_tables.specs.KeptTables0.{KeptTables0, AreTables0In}
-use Rattle.amf0_tables.specs.Layout0.{TextRead0, new_text0}
-use Rattle.amf0_tables.specs.Layout0State.{State0, state0_of}
+use Rattle.amf0_spelling.specs.KeptTables0.{KeptTables0, AreTables0In}
+use Rattle.amf0_layout.specs.Layout0.{TextRead0, new_text0}
+use Rattle.amf0_layout.specs.Layout0State.{State0, state0_of}
 use Rattle.amf3_read.specs.Opened.{KeptText}
 use Rattle.amf3_read.proofs.LayoutBinds.{chunk_reads, chunk_ends}
 use Rattle.amf3_read.specs.declared.opening.Parts.TheVariants as parts
@@ -31,7 +31,7 @@ use Rattle.amf3_read.proofs.PartPut.{stays, same_head}
 use Rattle.amf3_read.proofs.GoesOn.{suits_name}
 use Rattle.amf0_read.specs.declared.frame.Todo.TheVariants.{Pairs}
 use Rattle.amf0_read.specs.declared.frame.Slot.TheVariants.{Named}
-use Rattle.amf0_tables.specs.declared.marker.Marker0.{Marker0}
+use Rattle.amf0_spelling.specs.declared.marker.Marker0.{Marker0}
 use Rattle.amf0_read.specs.declared.fill.Step.TheVariants as step
 use Rattle.amf0_read.specs.Frames0.{Lacks, LacksFor, StepHolds}
 use Rattle.amf0_read.specs.Ready0.{Ready0, StillReady0, text_read}

@@ -8,7 +8,7 @@ use Rattle.amf_io.specs.ReadEnds.{Goes}
 use Rattle.amf_io.specs.CursorReads.{Answers, Leads}
 use Rattle.amf_io.proofs.CursorReads.{leads_answers, leads_on, leads_end}
 use Rattle.amf_graph.specs.Arena.{Arena}
-use Rattle.amf0_tables.specs.KeptTables0.{KeptTables0}
+use Rattle.amf0_spelling.specs.KeptTables0.{KeptTables0}
 use Rattle.amf0_read.specs.Ready0.{StillReady0}
 use Rattle.amf0_read.proofs.Stack0.{ready_twice}
 

@@ -3,9 +3,9 @@ use Rattle.std.specs.Prelude.{List, Result}
 use Rattle.amf_io.specs.declared.ends.ReadEnd.{ReadEnd}
 use Rattle.amf_io.specs.Field.{Field, flat}
 use Rattle.amf_graph.specs.Arena.{Arena}
-use Rattle.amf0_tables.specs.KeptTables0.{KeptTables0}
-use Rattle.amf0_tables.specs.Reads0.{IsRead0, IsReading0}
-use Rattle.amf0_tables.specs.Form.{IsForm}
+use Rattle.amf0_spelling.specs.KeptTables0.{KeptTables0}
+use Rattle.amf0_spelling.specs.Reads0.{IsRead0, IsReading0}
+use Rattle.amf0_spelling.specs.Form.{IsForm}
 use Rattle.amf_io.specs.Stretch.{Stretch, AnswersOf}
 use Rattle.amf0_read.specs.declared.formed.Read0.{Read0}
 

@@ -16,9 +16,9 @@ use Rattle.amf_graph.specs.Graph as graph
 use Rattle.amf_graph.specs.Arena.{Arena, StoredNode, IsBuilt, IsTextId, Names, head_content}
 use Rattle.amf_graph.specs.Building.{kept_node, stored_at, more_value, more_name}
 use Rattle.amf3_spelling.specs.Reads3.{Grows}
-use Rattle.amf0_tables.specs.KeptTables0.{KeptTables0}
-use Rattle.amf0_tables.specs.Layout0State.{State0, state0_of, changed0}
-use Rattle.amf0_tables.specs.Layout0.{Read0, read0, Reader0, items0, pairs0, shut0, behind0, value0_layout}
+use Rattle.amf0_spelling.specs.KeptTables0.{KeptTables0}
+use Rattle.amf0_layout.specs.Layout0State.{State0, state0_of, changed0}
+use Rattle.amf0_layout.specs.Layout0.{Read0, read0, Reader0, items0, pairs0, shut0, behind0, value0_layout}
 use Rattle.amf3_read.specs.declared.opening.Parts.TheVariants as parts
 use Rattle.amf3_read.specs.declared.frame.Slot.TheVariants as slot3
 use Rattle.amf3_read.specs.Filling.{IsOpened}

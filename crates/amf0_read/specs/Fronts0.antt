@@ -6,18 +6,18 @@ use Rattle.amf_io.specs.declared.ends.ReadEnd.{ReadEnd}
 use Rattle.amf_io.specs.Field.{flat}
 use Rattle.amf_io.specs.Layout.{Layout, bind}
 use Rattle.amf_io.specs.CursorReads.{Ends, Leads}
-use Rattle.amf0_tables.specs.declared.form.Form.{Form}
-use Rattle.amf0_tables.specs.declared.form.Form.TheVariants as form
-use Rattle.amf0_tables.specs.Form.{call_front}
-use Rattle.amf0_tables.specs.Layout0State.{State0}
-use Rattle.amf0_tables.specs.Layout0.{Read0, behind0, value0_layout}
+use Rattle.amf0_spelling.specs.declared.form.Form.{Form}
+use Rattle.amf0_spelling.specs.declared.form.Form.TheVariants as form
+use Rattle.amf0_spelling.specs.Form.{call_front}
+use Rattle.amf0_layout.specs.Layout0State.{State0}
+use Rattle.amf0_layout.specs.Layout0.{Read0, behind0, value0_layout}
 use Rattle.amf3_read.specs.Answer.{left_of}
 use Rattle.amf3_read.specs.Frames.{Fuel, Enough}
 use Rattle.amf0_read.specs.declared.front.Front.{Front}
 use Rattle.amf0_read.specs.declared.frame.Frame.{Frame}
 use Rattle.amf0_read.specs.declared.frame.Now.{Now}
 use Rattle.amf0_read.specs.Frames0.{current, rest, HaveFuel}
-use Rattle.amf0_tables.specs.declared.marker.Marker0.TheVariants as marker
+use Rattle.amf0_spelling.specs.declared.marker.Marker0.TheVariants as marker
 
 -- what was read leads from one layout to another, and these are its bytes
 pub record LeadsWith {S Y : Type 0} (tells : S → Type 0) (left : S → List ℕ) (t u : Layout Y) (b : List ℕ) (c d : Cursor S Window) : Type 0 where

@@ -3,7 +3,7 @@ use Rattle.std.specs.Prelude.{ℕ, List, length, get_or}
 use Rattle.std.specs.Int.{from_be_bytes, w16, w32, w64}
 use Rattle.amf_io.specs.Field.{raw_kind, u32_kind, no_refusal}
 use Rattle.amf_io.specs.Layout.{Layout, give, want}
-use Rattle.amf0_tables.specs.Refusals0.{index0_kind}
+use Rattle.amf0_spelling.specs.Refusals0.{index0_kind}
 
 -- a place of the table
 abbrev pub place_layout : List ℕ → Layout ℕ

@@ -1,9 +1,9 @@
 -- A marker as the layouts have it. A device of proofs.
 use Rattle.std.specs.Prelude.{ℕ, Bool, Option, slice_index}
 use Rattle.amf_io.specs.Layout.{Layout, give, want}
-use Rattle.amf0_tables.specs.declared.marker.Marker0.{Marker0}
-use Rattle.amf0_tables.specs.Markers0.{marker0_at}
-use Rattle.amf0_tables.specs.Refusals0.{marker0_kind}
+use Rattle.amf0_spelling.specs.declared.marker.Marker0.{Marker0}
+use Rattle.amf0_spelling.specs.Markers0.{marker0_at}
+use Rattle.amf0_spelling.specs.Refusals0.{marker0_kind}
 
 -- that of a value, or of the end of pairs, with so many nodes in the table
 abbrev pub marker_layout : Bool → ℕ → Layout (Option Marker0)

@@ -2,8 +2,8 @@
 use Rattle.std.specs.Prelude.{◌≡◌, ℕ, true, [], length}
 use Rattle.amf_graph.specs.Arena.{Arena, StoredHead, StoredTraits, object}
 use Rattle.amf_graph.specs.Building.{kept_node, kept_traits, begun, closed}
-use Rattle.amf0_tables.specs.KeptTables0.{KeptTables0}
-use Rattle.amf0_tables.specs.TableParts0.{kept_node0}
+use Rattle.amf0_spelling.specs.KeptTables0.{KeptTables0}
+use Rattle.amf0_spelling.specs.TableParts0.{kept_node0}
 
 -- a node without parts was kept at this place
 pub record KeepsLeaf (a b : Arena) (h : StoredHead) (i : ℕ) : Type 0 where

@@ -7,9 +7,9 @@ use Rattle.amf_io.specs.ReadEnds.{IsPlaced}
 use Rattle.amf_graph.specs.declared.value.TextId.{TextId}
 use Rattle.amf_graph.specs.Arena.{Arena, IsBuilt, text_at}
 use Rattle.amf_graph.specs.Order.{IsDistinct}
-use Rattle.amf0_tables.specs.KeptTables0.{KeptTables0, AreTables0In}
-use Rattle.amf0_tables.specs.Layout0.{TextRead0}
-use Rattle.amf0_tables.specs.Layout0State.{state0_of}
+use Rattle.amf0_spelling.specs.KeptTables0.{KeptTables0, AreTables0In}
+use Rattle.amf0_layout.specs.Layout0.{TextRead0}
+use Rattle.amf0_layout.specs.Layout0State.{state0_of}
 use Rattle.amf3_read.specs.Answer.{left_of}
 use Rattle.amf3_read.specs.Ready.{Ready}
 

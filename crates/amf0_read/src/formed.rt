@@ -1,5 +1,5 @@
 use amf_graph::Value;
-use amf0_tables::Form;
+use amf0_spelling::Form;
 
 /// A value of AMF 0, and in which way it uses AMF 3.
 #[derive(Clone, Copy, Debug, PartialEq, Eq)]

@@ -2,7 +2,7 @@ ghost use Rattle.std.specs.Prelude.{◌≡◌};
 ghost use Rattle.amf0_read.specs.Frames0.{part_of, todo_behind};
 
 use amf_graph::{NodeId, Part, TextId, Value};
-use amf0_tables::Marker0;
+use amf0_spelling::Marker0;
 
 /// What is still to be read of an open node.
 #[derive(Clone, Copy, Debug, PartialEq, Eq)]

@@ -1,8 +1,8 @@
 ghost use Rattle.std.specs.Prelude.{ℕ, ◌<◌, reverse, IfOk};
 ghost use Rattle.amf_io.specs.ReadEnds.{Goes};
-ghost use Rattle.amf0_tables.specs.Layout0.{value0_layout};
-ghost use Rattle.amf0_tables.specs.Layout0State.{state0_of};
-ghost use Rattle.amf0_tables.specs.TableParts0.{shown_tables};
+ghost use Rattle.amf0_layout.specs.Layout0.{value0_layout};
+ghost use Rattle.amf0_layout.specs.Layout0State.{state0_of};
+ghost use Rattle.amf0_spelling.specs.TableParts0.{shown_tables};
 ghost use Rattle.amf3_read.specs.Answer.{left_of};
 ghost use Rattle.amf0_read.specs.Ready0.{Ready0, StillReady0};
 ghost use Rattle.amf0_read.specs.Frames0.{Holds, owed};
@@ -14,7 +14,7 @@ use crate::marker::read_marker;
 use crate::node::{open_array, start_apart};
 use amf_graph::Builder;
 use amf_io::{Cursor, ReadEnd, Source};
-use amf0_tables::{Marker0, Tables0};
+use amf0_spelling::{Marker0, Tables0};
 use std::alloc::Global;
 
 /// What is read of a value before its stack of open nodes is needed.

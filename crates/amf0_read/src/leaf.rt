@@ -1,13 +1,13 @@
 ghost use Rattle.std.specs.Prelude.{◌≡◌, ℕ, Some, slice_get, IfOk, OnOk};
 ghost use Rattle.amf_io.specs.ReadEnds.{IsPlaced, Goes};
 ghost use Rattle.amf_io.specs.CursorReads.{Answers};
-ghost use Rattle.amf0_tables.specs.TableParts0.{shown_tables};
+ghost use Rattle.amf0_spelling.specs.TableParts0.{shown_tables};
 ghost use Rattle.amf0_read.specs.Leaves0.{place_layout, time_layout, count_layout};
 
 use amf_graph::NodeId;
 use amf_io::{Cursor, ReadEnd, Reason, Source};
 use amf_wire::Pattern;
-use amf0_tables::Tables0;
+use amf0_spelling::Tables0;
 use amf3_read::{FieldSize, read_field, refused};
 
 /// Reads the index of a node of the table (AMF 0, 2.9).

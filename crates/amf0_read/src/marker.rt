@@ -2,13 +2,13 @@ ghost use Rattle.std.specs.Prelude.{◌≡◌, ◌<◌, true, false, length, Non
 ghost use Rattle.amf_io.specs.Cursor.{place};
 ghost use Rattle.amf_io.specs.ReadEnds.{IsPlaced, Goes};
 ghost use Rattle.amf_io.specs.CursorReads.{Answers};
-ghost use Rattle.amf0_tables.specs.Markers0.{marker0_at};
-ghost use Rattle.amf0_tables.specs.Refusals0.{marker0_refusal};
-ghost use Rattle.amf0_tables.specs.TableParts0.{shown_tables};
+ghost use Rattle.amf0_spelling.specs.Markers0.{marker0_at};
+ghost use Rattle.amf0_spelling.specs.Refusals0.{marker0_refusal};
+ghost use Rattle.amf0_spelling.specs.TableParts0.{shown_tables};
 ghost use Rattle.amf0_read.specs.Markers0.{marker_layout};
 
 use amf_io::{Cursor, ReadEnd, Reason, Source};
-use amf0_tables::{Marker0, Tables0};
+use amf0_spelling::{Marker0, Tables0};
 use amf3_read::{FieldSize, read_field, refused};
 
 /// The marker that ends the pairs of a node, behind an empty name.

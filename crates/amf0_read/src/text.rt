@@ -5,9 +5,9 @@ ghost use Rattle.amf_io.specs.CursorReads.{Answers};
 ghost use Rattle.amf_io.specs.Cursor.{place};
 ghost use Rattle.amf3_read.specs.Answer.{room_end, left_of};
 ghost use Rattle.amf3_spelling.specs.KeptTables.{AreTablesIn};
-ghost use Rattle.amf0_tables.specs.KeptTables0.{KeptTables0};
-ghost use Rattle.amf0_tables.specs.Layout0.{short_layout, long_layout};
-ghost use Rattle.amf0_tables.specs.Layout0State.{state0_of};
+ghost use Rattle.amf0_spelling.specs.KeptTables0.{KeptTables0};
+ghost use Rattle.amf0_layout.specs.Layout0.{short_layout, long_layout};
+ghost use Rattle.amf0_layout.specs.Layout0State.{state0_of};
 ghost use Rattle.amf3_read.specs.Opened.{KeptText};
 ghost use Rattle.amf0_read.specs.Ready0.{text_read};
 

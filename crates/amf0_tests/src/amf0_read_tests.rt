@@ -2,7 +2,7 @@ use amf_graph::{Builder, NodeId, NodeView, Rooted, TextId, Value};
 use amf_io::{Cursor, MemorySource, ReadEnd, Reason, Refusal};
 use amf_wire::Pattern;
 use amf0_read::{Read0, read0};
-use amf0_tables::{Form, Tables0};
+use amf0_spelling::{Form, Tables0};
 use std::alloc::Global;
 use std::process::Abort;
 use std::test::Fail;

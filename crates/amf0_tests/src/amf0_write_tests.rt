@@ -2,7 +2,7 @@ use crate::amf0_read_tests::graph_of as read_graph;
 use amf_graph::{Lack, LackKind, Rooted, WriteEnd};
 use amf_tables::WriterTables;
 use amf_wire::{U29, write_u29};
-use amf0_tables::graphs_have_one_lowering;
+use amf0_spelling::graphs_have_one_lowering;
 use amf0_write::{first_lack0, lower, write0, write0_part};
 use std::alloc::Global;
 use std::test::Fail;

@@ -6,11 +6,11 @@ use Rattle.amf_graph.specs.declared.value.Value.TheVariants.{Undefined, Null, Bo
 use Rattle.amf_graph.specs.Arena.{Names, value_content}
 use Rattle.amf_graph.specs.Graph.{leaf, node, null, Value, Graph}
 use Rattle.amf_graph.specs.Rooted.{RootedArena, content}
-use Rattle.amf0_tables.specs.Lowered.{wraps, unwrapped_times, LowPlain, Low, ends, never_ends}
+use Rattle.amf0_spelling.specs.Lowered.{wraps, unwrapped_times, LowPlain, Low, ends, never_ends}
 use Rattle.amf_graph.proofs.Alls.{all_push}
 use Rattle.amf_graph.proofs.Lists.{no_entry, at_push, length_pushed}
 use Rattle.amf0_write.specs.Chained.{AreFor}
-use Rattle.amf0_tables.proofs.Chains.{times_stays, times_plus, never_ending}
+use Rattle.amf0_spelling.proofs.Chains.{times_stays, times_plus, never_ending}
 
 -- what wraps after so many steps wraps before
 wraps_before : (g : Graph) (v : Value) (m n : ℕ) → n ≤ m → wraps g (unwrapped_times g m v) ≡ true → wraps g (unwrapped_times g n v) ≡ true

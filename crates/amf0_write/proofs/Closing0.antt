@@ -7,9 +7,9 @@ use Rattle.amf_wire.specs.Style.{canonical}
 use Rattle.amf_wire.specs.Text.{IsText}
 use Rattle.amf_graph.specs.Graph.{Value, Graph}
 use Rattle.amf3_spelling.specs.Then.{Spelling, Then}
-use Rattle.amf0_tables.specs.Tables0.{Tables0}
-use Rattle.amf0_tables.specs.Segments0.{marker0_field, Short, Values0, Pairs0, is_empty}
-use Rattle.amf0_tables.specs.Spells0.{SpellsIn0}
+use Rattle.amf0_spelling.specs.Tables0.{Tables0}
+use Rattle.amf0_spelling.specs.Segments0.{marker0_field, Short, Values0, Pairs0, is_empty}
+use Rattle.amf0_spelling.specs.Spells0.{SpellsIn0}
 use Rattle.amf0_write.specs.Writes0.{Segment, values_then, pairs_then, IsCanonical, Segments}
 use Rattle.amf0_write.proofs.Heights0.{higher, values_more, pairs_more}
 

@@ -17,17 +17,17 @@ use Rattle.amf_graph.proofs.OrderExists.{each_met}
 use Rattle.amf_graph.proofs.Reaching.{order_once, order_reached}
 use Rattle.amf_graph.proofs.Walks.{walks_fixed}
 use Rattle.amf3_spelling.specs.Tables.{no_tables, add_done}
-use Rattle.amf0_tables.specs.Lacks0.{enters0, entered}
-use Rattle.amf0_tables.specs.LacksMet.{LacksMet}
-use Rattle.amf0_tables.specs.Meets.{Meets, over, past, again, first, IsMet, IsAgain}
-use Rattle.amf0_tables.specs.Spells0.{Spells0}
-use Rattle.amf0_tables.specs.Tables0.{Tables0, no_tables0}
-use Rattle.amf0_tables.proofs.Entered.{take_front}
-use Rattle.amf0_tables.proofs.Found0.{Level}
-use Rattle.amf0_tables.proofs.Stays0.{Proper, proper_none, stays_done, keeps_values_in}
-use Rattle.amf0_tables.proofs.LackTwice0.{met_again_is_twice}
-use Rattle.amf0_tables.proofs.Met0.{covers_spells}
-use Rattle.amf0_tables.proofs.Meeting.{meets_prefix, meets_stays, meets_first, meets_fixed, walk_meets}
+use Rattle.amf0_spelling.specs.Lacks0.{enters0, entered}
+use Rattle.amf0_spelling.specs.LacksMet.{LacksMet}
+use Rattle.amf0_spelling.specs.Meets.{Meets, over, past, again, first, IsMet, IsAgain}
+use Rattle.amf0_spelling.specs.Spells0.{Spells0}
+use Rattle.amf0_spelling.specs.Tables0.{Tables0, no_tables0}
+use Rattle.amf0_spelling.proofs.Entered.{take_front}
+use Rattle.amf0_spelling.proofs.Found0.{Level}
+use Rattle.amf0_spelling.proofs.Stays0.{Proper, proper_none, stays_done, keeps_values_in}
+use Rattle.amf0_spelling.proofs.LackTwice0.{met_again_is_twice}
+use Rattle.amf0_spelling.proofs.Met0.{covers_spells}
+use Rattle.amf0_spelling.proofs.Meeting.{meets_prefix, meets_stays, meets_first, meets_fixed, walk_meets}
 use Rattle.amf0_write.specs.PartLacks0.{outside_of, PlaceLacks0, IsPartLack0, LacksOutside}
 use Rattle.amf0_write.specs.Written0.{tables0, AreTables0}
 use Rattle.amf0_write.proofs.SearchSteps.{not_both, place_same}

@@ -10,9 +10,9 @@ use Rattle.amf_graph.specs.Order.{IsOrder}
 use Rattle.amf_graph.proofs.Walks.{walks_fixed}
 use Rattle.amf_graph.specs.Graph.{Graph, node_at}
 use Rattle.amf_graph.specs.Lacks.{rank, IsFirstLack}
-use Rattle.amf0_tables.specs.Lacks0.{NodeLacks0, Lacks0, enters0, entered}
+use Rattle.amf0_spelling.specs.Lacks0.{NodeLacks0, Lacks0, enters0, entered}
 use Rattle.amf0_write.specs.PartLacks0.{LacksOutside, IsLackOutside}
-use Rattle.amf0_tables.proofs.Entered.{entered_push}
+use Rattle.amf0_spelling.proofs.Entered.{entered_push}
 use Rattle.amf0_write.specs.Meetings.{IsFirstReason}
 
 -- no number below this one has a lack

@@ -5,9 +5,9 @@ use Rattle.amf_graph.specs.declared.value.NodeId.{NodeId}
 use Rattle.amf_graph.specs.Graph.{Graph, node_at}
 use Rattle.amf_graph.specs.Renumbered.{numbers_of}
 use Rattle.amf_graph.proofs.Lists.{no_entry}
-use Rattle.amf0_tables.specs.Lacks0.{enters0, entered}
-use Rattle.amf0_tables.specs.Tables0.{Tables0, add_node0, add_done0}
-use Rattle.amf0_tables.proofs.Entered.{entered_at, entered_enters, entered_distinct, right_at}
+use Rattle.amf0_spelling.specs.Lacks0.{enters0, entered}
+use Rattle.amf0_spelling.specs.Tables0.{Tables0, add_node0, add_done0}
+use Rattle.amf0_spelling.proofs.Entered.{entered_at, entered_enters, entered_distinct, right_at}
 use Rattle.amf0_write.specs.declared.output.Output.{Output}
 use Rattle.amf0_write.specs.PartLacks0.{outside_of}
 use Rattle.amf0_write.specs.Written0.{AreTables0}

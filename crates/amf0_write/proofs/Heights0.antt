@@ -3,10 +3,10 @@ use Rattle.std.proofs.Common.{◌≡◌, ℕ, zero, suc, ◌+◌, Bool, false, L
 use Rattle.amf_wire.specs.Style.{canonical}
 use Rattle.amf_graph.specs.Graph.{Value, leaf, node, Head, xml_document, date, array, object, wrapper, xml, bytes, ints, uints, doubles, values, dictionary, Graph, node_at}
 use Rattle.amf3_spelling.specs.Then.{Spelling, Then, Plain}
-use Rattle.amf0_tables.specs.Tables0.{Tables0, add_node0}
-use Rattle.amf0_tables.specs.Segments0.{Short, Values0, Pairs0, Count0, PairsBy0, is_empty}
-use Rattle.amf0_tables.specs.Spells0.{NodeBy0, InlineIn0, SpellsIn0}
-use Rattle.amf0_tables.proofs.Forget0.{Implies}
+use Rattle.amf0_spelling.specs.Tables0.{Tables0, add_node0}
+use Rattle.amf0_spelling.specs.Segments0.{Short, Values0, Pairs0, Count0, PairsBy0, is_empty}
+use Rattle.amf0_spelling.specs.Spells0.{NodeBy0, InlineIn0, SpellsIn0}
+use Rattle.amf0_spelling.proofs.Forget0.{Implies}
 
 then_more : (A B A' B' : Spelling Tables0) → Implies A A' → Implies B B' → Implies (Then A B) (Then A' B')
 then_more A B A' B' f g t fs t' z = record { front = z.front; back = z.back; mid = z.mid; joined = z.joined; first = f t z.front z.mid z.first; second = g z.mid z.back t' z.second }

@@ -17,14 +17,14 @@ use Rattle.amf_graph.specs.Order.{Absent, values_met}
 use Rattle.amf_graph.proofs.Lists.{at_push}
 use Rattle.amf_graph.proofs.Walks.{distinct_push}
 use Rattle.amf_tables.specs.FirstPlace.{IsFirstPlace}
-use Rattle.amf0_tables.specs.Lacks0.{HasNoForm, HasShortNames, enters0, is_loose0, entered}
-use Rattle.amf0_tables.specs.Meets.{Meets, past, again, first, IsAgain}
-use Rattle.amf0_tables.specs.Segments0.{marker0_field, Long}
-use Rattle.amf0_tables.specs.Refusals0.{index0_kind}
-use Rattle.amf0_tables.specs.Spells0.{Spells0}
-use Rattle.amf0_tables.specs.Tables0.{Tables0, add_node0, add_done0}
-use Rattle.amf0_tables.proofs.Entered.{entered_push, entered_at, entered_enters, take_front, at_right, right_at}
-use Rattle.amf0_tables.proofs.Meeting.{meets_prefix, meets_stays, meets_first}
+use Rattle.amf0_spelling.specs.Lacks0.{HasNoForm, HasShortNames, enters0, is_loose0, entered}
+use Rattle.amf0_spelling.specs.Meets.{Meets, past, again, first, IsAgain}
+use Rattle.amf0_spelling.specs.Segments0.{marker0_field, Long}
+use Rattle.amf0_spelling.specs.Refusals0.{index0_kind}
+use Rattle.amf0_spelling.specs.Spells0.{Spells0}
+use Rattle.amf0_spelling.specs.Tables0.{Tables0, add_node0, add_done0}
+use Rattle.amf0_spelling.proofs.Entered.{entered_push, entered_at, entered_enters, take_front, at_right, right_at}
+use Rattle.amf0_spelling.proofs.Meeting.{meets_prefix, meets_stays, meets_first}
 use Rattle.amf0_write.specs.declared.output.Output.{Output}
 use Rattle.amf0_write.specs.PartLacks0.{outside_of, HasNoIndex, PlaceLacks0}
 use Rattle.amf0_write.specs.Written0.{AreTables0}

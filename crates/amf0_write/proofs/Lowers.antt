@@ -10,7 +10,7 @@ use Rattle.amf_graph.specs.Arena.{Arena, StoredTraits, no_traits, StoredHead, xm
 use Rattle.amf_graph.specs.Rooted.{RootedArena, content}
 use Rattle.amf_graph.specs.StandIns.{StandsFor, PairStandsFor, NodeStandsFor, GraphStandsFor, opened_traits, sealed_of, unsealed_of}
 use Rattle.amf_graph.proofs.StandInGraphs.{get_or_map}
-use Rattle.amf0_tables.specs.Lowered.{Low, ends, low_head, sealed_names, unsealed_values, LowNode, IsLoweringOf}
+use Rattle.amf0_spelling.specs.Lowered.{Low, ends, low_head, sealed_names, unsealed_values, LowNode, IsLoweringOf}
 use Rattle.amf0_write.specs.Chained.{AreLow}
 
 zip_maps : {A B X Y : Type 0} (R : A → B → Type 0) (S : X → Y → Type 0) (f : A → X) (h : B → Y) → ((x : A) (y : B) → R x y → S (f x) (h y)) → (xs : List A) (ys : List B) → AllZip R xs ys → AllZip S (map f xs) (map h ys)

@@ -16,7 +16,7 @@ use Rattle.amf_graph.specs.Order.{IsOrder, values_met}
 use Rattle.amf_graph.proofs.Finished.{finished}
 use Rattle.amf_graph.proofs.Reaching.{order_reached}
 use Rattle.amf_graph.proofs.Lists.{at_left, at_end, at_push}
-use Rattle.amf0_tables.specs.Met.{IsTwice}
+use Rattle.amf0_spelling.specs.Met.{IsTwice}
 use Rattle.amf0_write.specs.Meetings.{Stands, AreMet}
 
 set_there : (xs : List Bool) (i : ℕ) (y : Bool) → i < length xs → slice_get (set xs i y) i ≡ Some y

@@ -12,9 +12,9 @@ use Rattle.amf_graph.proofs.Alls.{each_from}
 use Rattle.amf_graph.specs.Renumbered.{numbers_of}
 use Rattle.amf_graph.proofs.Lists.{entry, at_left, at_end, at_push, no_entry}
 use Rattle.amf3_spelling.specs.Tables.{Tables}
-use Rattle.amf0_tables.specs.Lacks0.{enters0, entered}
-use Rattle.amf0_tables.specs.Tables0.{Tables0}
-use Rattle.amf0_tables.proofs.Entered.{entered_at, entered_enters, at_right, right_at}
+use Rattle.amf0_spelling.specs.Lacks0.{enters0, entered}
+use Rattle.amf0_spelling.specs.Tables0.{Tables0}
+use Rattle.amf0_spelling.proofs.Entered.{entered_at, entered_enters, at_right, right_at}
 use Rattle.amf0_write.specs.declared.meeting.Meeting.{Meeting}
 use Rattle.amf0_write.specs.declared.meeting.Meeting.TheVariants.{Never, Alone, At}
 use Rattle.amf0_write.specs.PartLacks0.{outside_of}

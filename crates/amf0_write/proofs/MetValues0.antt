@@ -19,8 +19,8 @@ use Rattle.amf_graph.specs.Rooted.{RootedArena, content}
 use Rattle.amf_graph.proofs.Alls.{all_at, each_from}
 use Rattle.amf_graph.proofs.NameOrder.{by_name_all}
 use Rattle.amf_iso.specs.Contents.{values_of, pairs_of, ArePairs}
-use Rattle.amf0_tables.specs.Lacks0.{IsShortName}
-use Rattle.amf0_tables.specs.Lowered.{IsLowered}
+use Rattle.amf0_spelling.specs.Lacks0.{IsShortName}
+use Rattle.amf0_spelling.specs.Lowered.{IsLowered}
 use Rattle.amf0_write.specs.Unwritten0.{IsMetValue, IsMetPair, AreMetPairs}
 
 -- Nodes by content.

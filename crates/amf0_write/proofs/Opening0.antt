@@ -12,11 +12,11 @@ use Rattle.amf_graph.specs.ByName.{by_name}
 use Rattle.amf_graph.specs.Order.{Absent, seconds, values_met}
 use Rattle.amf_graph.proofs.Lists.{length_pushed}
 use Rattle.amf_graph.proofs.NameOrder.{by_name_again}
-use Rattle.amf0_tables.specs.Lacks0.{enters0, is_loose0}
-use Rattle.amf0_tables.specs.Meets.{Meets}
-use Rattle.amf0_tables.specs.Segments0.{marker0_field}
-use Rattle.amf0_tables.specs.Spells0.{NodeBy0, SpellsIn0, IsOpenTraits}
-use Rattle.amf0_tables.specs.Tables0.{Tables0, add_node0, add_done0}
+use Rattle.amf0_spelling.specs.Lacks0.{enters0, is_loose0}
+use Rattle.amf0_spelling.specs.Meets.{Meets}
+use Rattle.amf0_spelling.specs.Segments0.{marker0_field}
+use Rattle.amf0_spelling.specs.Spells0.{NodeBy0, SpellsIn0, IsOpenTraits}
+use Rattle.amf0_spelling.specs.Tables0.{Tables0, add_node0, add_done0}
 use Rattle.amf0_write.specs.declared.output.Output.{Output}
 use Rattle.amf0_write.specs.Written0.{AreTables0}
 use Rattle.amf0_write.specs.Writes0.{tables_of, done_of, Adds, Segment, value, values_then, pairs_then, segment_values, IsCanonical, Segments, Leads, Opens, plain, typed, ecma, strict, Opened}

@@ -17,12 +17,12 @@ use Rattle.amf_graph.proofs.Lists.{length_pushed, no_entry}
 use Rattle.amf_graph.proofs.Reaching.{order_once, held_stands, reached_stands}
 use Rattle.amf_graph.proofs.Walks.{In, walks_fixed, walk_closed}
 use Rattle.amf3_spelling.specs.Tables.{Tables, no_tables}
-use Rattle.amf0_tables.specs.Lacks0.{IsLack0}
-use Rattle.amf0_tables.specs.LacksMet.{LacksMet}
-use Rattle.amf0_tables.specs.Meets.{Meets, over, past, again, first}
-use Rattle.amf0_tables.specs.Tables0.{Tables0}
-use Rattle.amf0_tables.proofs.LackTwice0.{met_again_is_twice}
-use Rattle.amf0_tables.proofs.Meeting.{meets_stays, meets_first, meets_walk}
+use Rattle.amf0_spelling.specs.Lacks0.{IsLack0}
+use Rattle.amf0_spelling.specs.LacksMet.{LacksMet}
+use Rattle.amf0_spelling.specs.Meets.{Meets, over, past, again, first}
+use Rattle.amf0_spelling.specs.Tables0.{Tables0}
+use Rattle.amf0_spelling.proofs.LackTwice0.{met_again_is_twice}
+use Rattle.amf0_spelling.proofs.Meeting.{meets_stays, meets_first, meets_walk}
 use Rattle.amf0_write.specs.declared.part_lack.Search.{Search}
 use Rattle.amf0_write.specs.PartLacks0.{outside_of, PlaceLacks0, PartLacks0, IsPartLack0}
 use Rattle.amf0_write.specs.Searched.{HasPartLack0, AreMetAs, Searched, IsLeast}

@@ -12,9 +12,9 @@ use Rattle.amf_graph.specs.Lacks.{rank}
 use Rattle.amf_graph.specs.Order.{Absent, IsDistinct, values_met}
 use Rattle.amf_graph.proofs.Lists.{at_left, at_end, at_push, length_pushed, no_entry}
 use Rattle.amf_graph.proofs.Walks.{distinct_push}
-use Rattle.amf0_tables.specs.Lacks0.{enters0, is_loose0, entered, place0}
-use Rattle.amf0_tables.specs.Meets.{Meets, past, again, first}
-use Rattle.amf0_tables.proofs.Entered.{entered_push, take_front}
+use Rattle.amf0_spelling.specs.Lacks0.{enters0, is_loose0, entered, place0}
+use Rattle.amf0_spelling.specs.Meets.{Meets, past, again, first}
+use Rattle.amf0_spelling.proofs.Entered.{entered_push, take_front}
 use Rattle.amf0_write.specs.declared.meeting.Meeting.{Meeting}
 use Rattle.amf0_write.specs.declared.meeting.Meeting.TheVariants.{Never, Alone, At}
 use Rattle.amf0_write.specs.declared.part_lack.Search.{Search}

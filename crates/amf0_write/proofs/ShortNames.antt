@@ -8,7 +8,7 @@ use Rattle.amf_graph.specs.declared.value.TextId.{TextId}
 use Rattle.amf_graph.specs.Graph.{Value}
 use Rattle.amf_graph.specs.Arena.{Arena, Names, IsTextId, text_at, value_content}
 use Rattle.amf_iso.specs.Contents.{pairs_of, ArePairs}
-use Rattle.amf0_tables.specs.Lacks0.{IsShortName}
+use Rattle.amf0_spelling.specs.Lacks0.{IsShortName}
 
 abbrev pub AreShort : List (List ℕ × Value) → Type 0
 AreShort ps = AllByRecursion (λ p. IsShortName p.0) ps

@@ -9,7 +9,7 @@ use Rattle.amf_graph.specs.Graph.{Value, Graph}
 use Rattle.amf_graph.specs.Rooted.{RootedArena}
 use Rattle.amf_graph.proofs.Lists.{no_entry}
 use Rattle.amf3_spelling.specs.Tables.{Tables, no_tables}
-use Rattle.amf0_tables.specs.Spells0.{Spells0}
+use Rattle.amf0_spelling.specs.Spells0.{Spells0}
 use Rattle.amf0_write.specs.declared.output.Output.{Output}
 use Rattle.amf0_write.specs.Searched.{HasPartLack0}
 use Rattle.amf0_write.specs.Unwritten0.{IsMetValue}

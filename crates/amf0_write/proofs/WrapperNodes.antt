@@ -13,7 +13,7 @@ use Rattle.amf_graph.specs.Arena.{Arena, StoredNode, StoredHead, xml_document, d
 use Rattle.amf_graph.specs.Building.{stored_at, no_stored, closed, kind_of}
 use Rattle.amf_graph.specs.Views.{Shows}
 use Rattle.amf_graph.proofs.Alls.{all_at}
-use Rattle.amf0_tables.specs.Lowered.{is_wrapper, first_of_values, unwrapped}
+use Rattle.amf0_spelling.specs.Lowered.{is_wrapper, first_of_values, unwrapped}
 
 -- a node by content, of which it is known what is kept
 pub shown : (a : Arena) (root : Stored) (i : ℕ) (n : StoredNode) → stored_at a i ≡ n → node_at (graph_of a root) i ≡ node_content a n

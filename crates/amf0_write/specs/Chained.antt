@@ -5,7 +5,7 @@ use Rattle.amf_graph.specs.declared.value.Value.{Value as Stored}
 use Rattle.amf_graph.specs.Arena.{Names, value_content}
 use Rattle.amf_graph.specs.Graph.{node, node_at}
 use Rattle.amf_graph.specs.Rooted.{RootedArena, content}
-use Rattle.amf0_tables.specs.Lowered.{is_wrapper, unwrapped_times, Low}
+use Rattle.amf0_spelling.specs.Lowered.{is_wrapper, unwrapped_times, Low}
 
 -- so many values of the graph, each of which is one for the node of its number
 pub record AreFor (g : RootedArena) (IsFor : ℕ → Stored → Type 0) (count : ℕ) (vs : List Stored) : Type 0 where

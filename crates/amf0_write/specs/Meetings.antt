@@ -3,7 +3,7 @@ use Rattle.std.specs.Prelude.{◌≡◌, ◌↔◌, ℕ, ◌<◌, ◌≤◌, Boo
 use Rattle.amf_graph.specs.declared.lack.LackKind.{LackKind}
 use Rattle.amf_graph.specs.Graph.{Value, node}
 use Rattle.amf_graph.specs.Lacks.{rank}
-use Rattle.amf0_tables.specs.Met.{IsTwice}
+use Rattle.amf0_spelling.specs.Met.{IsTwice}
 
 abbrev pub Stands : List Value → Value → Type 0
 Stands xs x = (k : ℕ) × (slice_get xs k ≡ Some x)

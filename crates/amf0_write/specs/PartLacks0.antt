@@ -5,9 +5,9 @@ use Rattle.amf_graph.specs.declared.lack.LackKind.TheVariants.{NoForm, LongName,
 use Rattle.amf_graph.specs.Graph.{Value, Graph, node_at}
 use Rattle.amf_graph.specs.Lacks.{IsFirstLack}
 use Rattle.amf_graph.specs.Order.{IsOrder}
-use Rattle.amf0_tables.specs.Lacks0.{HasNoForm, HasShortNames, enters0, is_loose0, entered, place0, Lacks0}
-use Rattle.amf0_tables.specs.Meets.{Meets, IsAgain}
-use Rattle.amf0_tables.specs.Tables0.{Tables0}
+use Rattle.amf0_spelling.specs.Lacks0.{HasNoForm, HasShortNames, enters0, is_loose0, entered, place0, Lacks0}
+use Rattle.amf0_spelling.specs.Meets.{Meets, IsAgain}
+use Rattle.amf0_spelling.specs.Tables0.{Tables0}
 
 -- how many nodes that an index could name are done, and are in no table
 abbrev pub outside_of : Graph → Tables0 → ℕ

@@ -6,9 +6,9 @@ use Rattle.amf_graph.specs.declared.lack.LackKind.TheVariants.{NoForm, LongName,
 use Rattle.amf_graph.specs.Graph.{Value, Graph, node_at}
 use Rattle.amf_graph.specs.Lacks.{IsFirstLack}
 use Rattle.amf_graph.specs.Order.{Absent, IsDistinct, values_met}
-use Rattle.amf0_tables.specs.Lacks0.{HasNoForm, HasShortNames, enters0, is_loose0, entered}
-use Rattle.amf0_tables.specs.Meets.{Meets}
-use Rattle.amf0_tables.specs.Tables0.{Tables0}
+use Rattle.amf0_spelling.specs.Lacks0.{HasNoForm, HasShortNames, enters0, is_loose0, entered}
+use Rattle.amf0_spelling.specs.Meets.{Meets}
+use Rattle.amf0_spelling.specs.Tables0.{Tables0}
 use Rattle.amf3_spelling.specs.Tables.{Tables}
 use Rattle.amf0_write.specs.Written0.{AreTables0}
 use Rattle.amf0_write.specs.Writes0.{unentered}

@@ -11,7 +11,7 @@ use Rattle.amf_graph.specs.Order.{Absent}
 use Rattle.amf_graph.specs.Reached.{IsReachedValue}
 use Rattle.amf_graph.specs.Rooted.{RootedArena, content}
 use Rattle.amf_iso.specs.Contents.{values_of, pairs_of, ArePairs}
-use Rattle.amf0_tables.specs.Lacks0.{IsShortName}
+use Rattle.amf0_spelling.specs.Lacks0.{IsShortName}
 use Rattle.amf0_write.specs.declared.unwritten.Unwritten.{Unwritten}
 use Rattle.amf0_write.specs.declared.unwritten.Unwritten.TheVariants.{One, Values, Pairs, Sorted}
 use Rattle.amf0_write.specs.Writes0.{Segment, value, values_then, pairs_then}

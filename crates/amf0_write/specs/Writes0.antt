@@ -9,10 +9,10 @@ use Rattle.amf_graph.specs.ByName.{by_name}
 use Rattle.amf_graph.specs.Graph.{Leaf, undefined, null, boolean, integer, double, text, Value, Traits, array, object, Node, Graph, node_at}
 use Rattle.amf_graph.specs.Renumbered.{numbers_of}
 use Rattle.amf3_spelling.specs.ByteSpelling.{Then}
-use Rattle.amf0_tables.specs.Lacks0.{enters0, entered}
-use Rattle.amf0_tables.specs.Meets.{Meets, IsAgain}
-use Rattle.amf0_tables.specs.Spells0.{SpellsIn0, IsOpenTraits}
-use Rattle.amf0_tables.specs.Tables0.{Tables0}
+use Rattle.amf0_spelling.specs.Lacks0.{enters0, entered}
+use Rattle.amf0_spelling.specs.Meets.{Meets, IsAgain}
+use Rattle.amf0_spelling.specs.Spells0.{SpellsIn0, IsOpenTraits}
+use Rattle.amf0_spelling.specs.Tables0.{Tables0}
 use Rattle.amf0_write.specs.declared.output.Output.{Output}
 use Rattle.amf0_write.specs.PartLacks0.{outside_of, PlaceLacks0}
 use Rattle.amf0_write.specs.Written0.{tables0, AreTables0}

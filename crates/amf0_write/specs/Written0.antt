@@ -5,9 +5,9 @@ use Rattle.amf_wire.specs.Style.{canonical}
 use Rattle.amf_graph.specs.Graph.{Value, Graph, node_at}
 use Rattle.amf_graph.specs.Order.{IsDistinct}
 use Rattle.amf3_spelling.specs.Tables.{Tables}
-use Rattle.amf0_tables.specs.Lacks0.{enters0, is_loose0, entered}
-use Rattle.amf0_tables.specs.Spells0.{Spells0, IsSpelling0}
-use Rattle.amf0_tables.specs.Tables0.{Tables0}
+use Rattle.amf0_spelling.specs.Lacks0.{enters0, is_loose0, entered}
+use Rattle.amf0_spelling.specs.Spells0.{Spells0, IsSpelling0}
+use Rattle.amf0_spelling.specs.Tables0.{Tables0}
 
 -- the bytes of the canonical spelling of a graph
 abbrev pub AppendsCanonical0 : Graph → List ℕ → List ℕ → Type 0

@@ -6,7 +6,7 @@ ghost use Rattle.amf_graph.specs.Graph.{node_at};
 ghost use Rattle.amf_graph.specs.Rooted.{RootedArena, content};
 ghost use Rattle.amf_wire.specs.Integer.{IsInteger};
 ghost use Rattle.amf_wire.specs.Whole.{IsPatternOf};
-ghost use Rattle.amf0_tables.specs.Lowered.{is_wrapper, wraps, unwrapped, Low, unwrapped_times};
+ghost use Rattle.amf0_spelling.specs.Lowered.{is_wrapper, wraps, unwrapped, Low, unwrapped_times};
 ghost use Rattle.amf0_write.specs.Chained.{AreAfter, HasNoWrapper, AreLow};
 
 use amf_graph::{NodeId, NodeKind, NodeView, Rooted, Value};

@@ -4,8 +4,8 @@ ghost use Rattle.amf_graph.specs.declared.lack.LackKind.{LackKind};
 ghost use Rattle.amf_graph.specs.Lacks.{IsFirstLack};
 ghost use Rattle.amf_graph.specs.Order.{IsOrder};
 ghost use Rattle.amf_graph.specs.Rooted.{content};
-ghost use Rattle.amf0_tables.specs.Lacks0.{Lacks0, NodeLacks0, place0};
-ghost use Rattle.amf0_tables.specs.Met.{all_met, IsTwice};
+ghost use Rattle.amf0_spelling.specs.Lacks0.{Lacks0, NodeLacks0, place0};
+ghost use Rattle.amf0_spelling.specs.Met.{all_met, IsTwice};
 ghost use Rattle.amf0_write.specs.PartLacks0.{LacksOutside, IsLackOutside};
 ghost use Rattle.amf0_write.specs.Meetings.{AreMarked, IsFirstReason};
 

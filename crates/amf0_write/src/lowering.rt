@@ -1,6 +1,6 @@
 ghost use Rattle.std.specs.Prelude.{IfOk};
 ghost use Rattle.amf_graph.specs.Rooted.{content};
-ghost use Rattle.amf0_tables.specs.Lowered.{IsLoweringOf};
+ghost use Rattle.amf0_spelling.specs.Lowered.{IsLoweringOf};
 
 use crate::chains::stand_ins;
 use amf_graph::Rooted;

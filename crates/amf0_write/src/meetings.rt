@@ -3,7 +3,7 @@ ghost use Rattle.amf_graph.specs.Arena.{Arena, Names, value_content};
 ghost use Rattle.amf_graph.specs.Graph as graph;
 ghost use Rattle.amf_graph.specs.Order.{IsOrder};
 ghost use Rattle.amf_graph.specs.Rooted.{content};
-ghost use Rattle.amf0_tables.specs.Met.{all_met};
+ghost use Rattle.amf0_spelling.specs.Met.{all_met};
 ghost use Rattle.amf0_write.specs.Meetings.{AreMet, AreMarked};
 
 use amf_graph::{Rooted, Value};

@@ -3,7 +3,7 @@ ghost use Rattle.amf_graph.specs.Building.{stored_at};
 ghost use Rattle.amf_graph.specs.Graph.{node_at};
 ghost use Rattle.amf_graph.specs.Rooted.{content};
 ghost use Rattle.amf_graph.specs.Views.{Shows};
-ghost use Rattle.amf0_tables.specs.Lacks0.{HasNoForm, HasShortNames, IsShortName, enters0, is_loose0};
+ghost use Rattle.amf0_spelling.specs.Lacks0.{HasNoForm, HasShortNames, IsShortName, enters0, is_loose0};
 ghost use Rattle.std.specs.List.{AllByRecursion};
 ghost use Rattle.amf_iso.specs.Contents.{pairs_of, ArePairs};
 

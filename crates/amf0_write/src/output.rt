@@ -1,6 +1,6 @@
 ghost use Rattle.std.specs.Prelude.{◌≡◌, ◌<◌, ◌^◌, ◌∷◌, [], ◌++◌, length, take, true, false, OnOk, OnErr, IfOk};
 ghost use Rattle.std.specs.Int.{to_be_bytes, w16, w32, w64};
-ghost use Rattle.amf0_tables.specs.Tables0.{add_node0, add_done0};
+ghost use Rattle.amf0_spelling.specs.Tables0.{add_node0, add_done0};
 ghost use Rattle.amf0_write.specs.Writes0.{tables_of, Adds, Keeps};
 
 use amf_graph::NodeId;

@@ -8,7 +8,7 @@ ghost use Rattle.amf_graph.specs.Graph as graph_of_values;
 ghost use Rattle.amf_graph.specs.Order.{Absent};
 ghost use Rattle.amf_graph.specs.Rooted.{RootedArena, content};
 ghost use Rattle.amf_wire.specs.Text.{IsText};
-ghost use Rattle.amf0_tables.specs.Lowered.{IsLowered};
+ghost use Rattle.amf0_spelling.specs.Lowered.{IsLowered};
 ghost use Rattle.amf0_write.specs.declared.stop.Stop.TheVariants.{Lack};
 ghost use Rattle.amf0_write.specs.Unwritten0.{IsMetValue, AreRunsOf, IsNextOf, next_segments, segments_left, turns_left, Falls};
 ghost use Rattle.amf0_write.specs.Writes0 as segment;

@@ -11,19 +11,19 @@ use Rattle.amf3_spelling.specs.Spells3.{Spelled3}
 use Rattle.amf3_spelling.proofs.Decides3.{canonical_decides, canonical_is_alone, same_bytes_isomorphic}
 use Rattle.amf3_spelling.proofs.Forget.{forget3}
 use Rattle.amf3_spelling.proofs.FirstLack3.{spelling_or_lack}
-use Rattle.amf0_tables.proofs.Decides0.{alone0, canonical_decides0, same_bytes_isomorphic0}
-use Rattle.amf0_tables.proofs.Forget0.{forget_spelled0}
-use Rattle.amf0_tables.proofs.LackTwice0.{spelling_or_lack0}
-use Rattle.amf0_tables.proofs.Low.{lowered_alike}
-use Rattle.amf_packet_show.specs.SamePacket.{SamePacket}
-use Rattle.amf_packet_show.proofs.Laws.{packet_laws}
-use Rattle.amf_packet_show.proofs.Lowerings.{same_sym, same_trans}
-use Rattle.amf0_tables.proofs.LoweredAgain.{lowered_again}
+use Rattle.amf0_spelling.proofs.Decides0.{alone0, canonical_decides0, same_bytes_isomorphic0}
+use Rattle.amf0_spelling.proofs.Forget0.{forget_spelled0}
+use Rattle.amf0_spelling.proofs.LackTwice0.{spelling_or_lack0}
+use Rattle.amf0_spelling.proofs.Low.{lowered_alike}
+use Rattle.amf_listings.specs.SamePacket.{SamePacket}
+use Rattle.amf_listings.proofs.PacketLawRows.{packet_laws}
+use Rattle.amf_listings.proofs.PacketLowerings.{same_sym, same_trans}
+use Rattle.amf0_spelling.proofs.LoweredAgain.{lowered_again}
 use Rattle.amf_sol.specs.SharedObject.{Shared}
 use Rattle.amf_sol.specs.declared.sol_version.SolVersion.{SolVersion}
 use Rattle.amf_sol.specs.declared.sol_version.SolVersion.TheVariants as version
-use Rattle.amf_sol_show.specs.SameFile.{SameFile, IsFittedHolder, IsLoweredFile}
-use Rattle.amf_sol_show.proofs.Laws.{file_laws}
+use Rattle.amf_listings.specs.SameFile.{SameFile, IsFittedHolder, IsLoweredFile}
+use Rattle.amf_listings.proofs.FileLawRows.{file_laws}
 use Rattle.amf_cli.specs.declared.format.Format.{Format}
 use Rattle.amf_cli.specs.declared.format.Format.TheVariants.{Amf3, Amf0, Packet, Sol}
 use Rattle.amf_cli.specs.Content.{Content, value, packet, file}

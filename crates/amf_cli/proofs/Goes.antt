@@ -6,13 +6,13 @@ use Rattle.amf_graph.specs.Graph.{Graph}
 use Rattle.amf_packet.specs.Packet.{Packet as PacketOf}
 use Rattle.amf_packet.specs.PacketLacks.{IsPacketLack}
 use Rattle.amf_packet.specs.WrittenPacket.{AppendsPacket}
-use Rattle.amf_packet_show.specs.SamePacket.{IsLoweredPacket}
-use Rattle.amf_packet_show.proofs.Laws.{packet_laws}
+use Rattle.amf_listings.specs.SamePacket.{IsLoweredPacket}
+use Rattle.amf_listings.proofs.PacketLawRows.{packet_laws}
 use Rattle.amf_sol.specs.FileLacks.{IsFileLack}
 use Rattle.amf_sol.specs.SharedObject.{Shared}
 use Rattle.amf_sol.specs.WrittenFile.{AppendsFile}
-use Rattle.amf_sol_show.specs.SameFile.{IsLoweredFile}
-use Rattle.amf_sol_show.proofs.Laws.{file_laws}
+use Rattle.amf_listings.specs.SameFile.{IsLoweredFile}
+use Rattle.amf_listings.proofs.FileLawRows.{file_laws}
 use Rattle.amf_cli.specs.declared.format.Format.{Format}
 use Rattle.amf_cli.specs.declared.format.Format.TheVariants.{Amf3, Amf0, Packet, Sol}
 use Rattle.amf_cli.specs.Content.{value, packet, file}

@@ -27,8 +27,8 @@ use Rattle.amf3_layout.specs.Layout3State.{no_state}
 use Rattle.amf3_layout.specs.Layout3.{value_layout}
 use Rattle.amf_io.specs.Stretch.{IsTaken, IsInterrupted, AnswersOf, stretch}
 use Rattle.amf3_read.specs.Answer.{Answers3}
-use Rattle.amf0_tables.specs.KeptTables0.{KeptTables0, no_kept_tables0, tables0_of}
-use Rattle.amf0_tables.specs.Reads0.{IsReading0}
+use Rattle.amf0_spelling.specs.KeptTables0.{KeptTables0, no_kept_tables0, tables0_of}
+use Rattle.amf0_spelling.specs.Reads0.{IsReading0}
 use Rattle.amf0_read.specs.Answer0.{IsReadWith}
 use Rattle.amf0_read.specs.declared.formed.Read0.{Read0}
 use Rattle.amf_wire.specs.Style.{free}

@@ -14,7 +14,7 @@ use Rattle.amf3_read.proofs.PairLayouts.{pair_layout, pairs_are_layouts}
 use Rattle.amf_packet.specs.LayoutPacket.{packet_layout}
 use Rattle.amf_packet.specs.Packet.{IsPacketReading}
 use Rattle.amf_packet.proofs.PacketLayout.{packet_is_layout}
-use Rattle.amf_packet_show.proofs.Rows.{called_counted}
+use Rattle.amf_listings.proofs.PacketRows.{called_counted}
 use Rattle.amf_sol.proofs.FileRows.{files}
 use Rattle.amf_cli.specs.Input.{most}
 use Rattle.amf_cli.specs.WorkedRuns.{RunRows}

@@ -17,11 +17,11 @@ use Rattle.amf_graph.specs.Isomorphic.{Isomorphic}
 use Rattle.amf_graph.proofs.Isomorphisms.{isomorphic_sym, isomorphic_trans}
 use Rattle.amf_packet.specs.Packet.{IsPacketReading}
 use Rattle.amf_packet.proofs.PacketVerdicts.{packet_verdicts}
-use Rattle.amf_packet_show.proofs.Laws.{packet_laws}
+use Rattle.amf_listings.proofs.PacketLawRows.{packet_laws}
 use Rattle.amf_show.proofs.Alike.{counted_alike, listed_alike}
 use Rattle.amf_sol.specs.SharedObject.{IsFileReading}
 use Rattle.amf_sol.proofs.FileVerdicts.{files_judged_once}
-use Rattle.amf_sol_show.proofs.Laws.{file_laws}
+use Rattle.amf_listings.proofs.FileLawRows.{file_laws}
 use Rattle.amf_vectors.specs.Made.{made}
 use Rattle.amf3_spelling.specs.Tables.{no_tables}
 use Rattle.amf3_spelling.specs.Lacks3.{IsLack3}
@@ -35,13 +35,13 @@ use Rattle.amf3_layout.proofs.Layout3Parts.{Found}
 use Rattle.amf3_layout.proofs.Layout3Complete.{spelled_read}
 use Rattle.amf3_layout.proofs.Values3Layout.{values3_is_layout}
 use Rattle.amf_graph.specs.Building.{no_arena}
-use Rattle.amf0_tables.specs.KeptTables0.{no_kept_tables0}
-use Rattle.amf0_tables.specs.Layout0.{Read0, value0_layout}
-use Rattle.amf0_tables.specs.Layout0State.{state0_of}
-use Rattle.amf0_tables.specs.Reads0.{IsValue0}
-use Rattle.amf0_tables.specs.Tables0.{no_tables0}
-use Rattle.amf0_tables.proofs.Layout0Complete.{Found0, spelled_read0}
-use Rattle.amf0_tables.proofs.Layout0Format.{values0_is_layout}
+use Rattle.amf0_spelling.specs.KeptTables0.{no_kept_tables0}
+use Rattle.amf0_layout.specs.Layout0.{Read0, value0_layout}
+use Rattle.amf0_layout.specs.Layout0State.{state0_of}
+use Rattle.amf0_spelling.specs.Reads0.{IsValue0}
+use Rattle.amf0_spelling.specs.Tables0.{no_tables0}
+use Rattle.amf0_layout.proofs.Layout0Complete.{Found0, spelled_read0}
+use Rattle.amf0_layout.proofs.Layout0Format.{values0_is_layout}
 use Rattle.amf_cli.specs.declared.command.Command.{Command}
 use Rattle.amf_cli.specs.declared.command.Command.TheVariants.{Canon, Check, Show, Same, Gen}
 use Rattle.amf3_read.specs.Pairs.{Pair}

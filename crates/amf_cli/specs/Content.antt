@@ -4,13 +4,13 @@ use Rattle.amf_graph.specs.Graph.{Graph}
 use Rattle.amf_graph.specs.Rooted.{content}
 use Rattle.amf_packet.specs.Content.{packet_of}
 use Rattle.amf_packet.specs.Packet.{Packet}
-use Rattle.amf_packet_show.specs.PacketListing.{IsPacketListing}
+use Rattle.amf_listings.specs.PacketListing.{IsPacketListing}
 use Rattle.amf_show.specs.Counting.{HasNodes as GraphHasNodes}
-use Rattle.amf_packet_show.specs.PacketNodes.{PacketHasNodes}
+use Rattle.amf_listings.specs.PacketNodes.{PacketHasNodes}
 use Rattle.amf_show.specs.Listing.{IsListing}
 use Rattle.amf_sol.specs.SharedObject.{Shared}
 use Rattle.amf_sol.specs.StoredFile.{shared}
-use Rattle.amf_sol_show.specs.FileListing.{IsFileListing}
+use Rattle.amf_listings.specs.FileListing.{IsFileListing}
 use Rattle.amf_cli.specs.declared.content.Content.{Content as KeptContent}
 use Rattle.amf_cli.specs.declared.content.Content.TheVariants as kept
 

@@ -7,18 +7,18 @@ use Rattle.amf_graph.specs.Isomorphic.{Isomorphic}
 use Rattle.amf3_spelling.specs.Lacks3.{IsLack3}
 use Rattle.amf3_spelling.specs.Reads3.{IsValue3}
 use Rattle.amf3_spelling.specs.Spells3.{IsSpelling3}
-use Rattle.amf0_tables.specs.Lacks0.{IsLack0}
-use Rattle.amf0_tables.specs.Lowered.{IsLoweringOf}
-use Rattle.amf0_tables.specs.Reads0.{IsValue0}
-use Rattle.amf0_tables.specs.Spells0.{IsSpelling0}
+use Rattle.amf0_spelling.specs.Lacks0.{IsLack0}
+use Rattle.amf0_spelling.specs.Lowered.{IsLoweringOf}
+use Rattle.amf0_spelling.specs.Reads0.{IsValue0}
+use Rattle.amf0_spelling.specs.Spells0.{IsSpelling0}
 use Rattle.amf_packet.specs.Packet.{IsPacketReading, SpellsPacket}
 use Rattle.amf_packet.specs.PacketLacks.{IsPacketLack}
-use Rattle.amf_packet_show.specs.PacketLaws.{IsAlikePacket}
-use Rattle.amf_packet_show.specs.SamePacket.{IsLoweredPacket}
+use Rattle.amf_listings.specs.PacketLaws.{IsAlikePacket}
+use Rattle.amf_listings.specs.SamePacket.{IsLoweredPacket}
 use Rattle.amf_sol.specs.FileLacks.{IsFileLack}
 use Rattle.amf_sol.specs.FileVerdict.{HasItsLength}
 use Rattle.amf_sol.specs.SharedObject.{SpellsFile, IsFileReading}
-use Rattle.amf_sol_show.specs.SameFile.{IsLoweredFile, IsAlikeFile}
+use Rattle.amf_listings.specs.SameFile.{IsLoweredFile, IsAlikeFile}
 use Rattle.amf_cli.specs.declared.format.Format.{Format}
 use Rattle.amf_cli.specs.declared.format.Format.TheVariants.{Amf3, Amf0, Packet, Sol}
 use Rattle.amf_cli.specs.Content.{Content, value, packet, file}

@@ -7,9 +7,9 @@ use Rattle.amf_io.specs.Verdict.{IsInputAccepted, IsInputRefused}
 use Rattle.amf_words.specs.Words.{Text}
 use Rattle.amf_graph.specs.declared.lack.LackKind.TheVariants.{NoForm}
 use Rattle.amf_graph.specs.Graph.{Graph, date, array, node}
-use Rattle.amf_packet_show.specs.WorkedPacketListings.{called}
+use Rattle.amf_listings.specs.WorkedPacketListings.{called}
 use Rattle.amf_sol.specs.WorkedFiles.{one_true_bytes}
-use Rattle.amf_sol_show.specs.WorkedFileListings.{one_array_twice}
+use Rattle.amf_listings.specs.WorkedFileListings.{one_array_twice}
 use Rattle.amf_cli.specs.declared.command.Command.{Command}
 use Rattle.amf_cli.specs.declared.command.Command.TheVariants.{Canon, Check, Show, Same, Gen}
 use Rattle.amf_cli.specs.declared.command.Task.TheVariants.{Output, Serve}

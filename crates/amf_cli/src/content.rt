@@ -2,11 +2,10 @@ ghost use Rattle.std.specs.Prelude.{IfOk};
 ghost use Rattle.amf_cli.specs.Content.{content_of, HasNodes, IsListed};
 
 use amf_graph::Rooted;
+use amf_listings::{count_packet_nodes, show_file, show_packet};
 use amf_packet::Packet;
-use amf_packet_show::{count_packet_nodes, show_packet};
 use amf_show::{count_nodes, show};
 use amf_sol::SharedObject;
-use amf_sol_show::show_file;
 use amf_wire::Memory;
 use std::alloc::Global;
 

@@ -24,7 +24,7 @@ use amf_packet::{Packet, read_packet_keyed};
 use amf_sol::read_sol_keyed;
 use amf_tables::Tables3;
 use amf0_read::read0;
-use amf0_tables::Tables0;
+use amf0_spelling::Tables0;
 use amf3_read::read3;
 use std::alloc::Global;
 use std::hash::RandomState;

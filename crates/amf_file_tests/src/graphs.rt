@@ -1,7 +1,7 @@
 use amf_graph::{Builder, NodeId, Rooted, Value};
 use amf_io::{Cursor, MemorySource};
 use amf0_read::read0;
-use amf0_tables::Tables0;
+use amf0_spelling::Tables0;
 use std::alloc::Global;
 use std::test::Fail;
 

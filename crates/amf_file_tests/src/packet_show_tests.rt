@@ -1,6 +1,6 @@
 use amf_io::{Cursor, MemorySource};
+use amf_listings::{count_packet_nodes, packet_has_lowering, show_packet};
 use amf_packet::{Packet, read_packet};
-use amf_packet_show::{count_packet_nodes, packet_has_lowering, show_packet};
 use std::alloc::Global;
 use std::test::Fail;
 

@@ -1,8 +1,7 @@
 use crate::graphs::{graph_from, graph_of};
 use amf_graph::Rooted;
-use amf_packet_show::{packet_laws, packet_listing_rows};
+use amf_listings::{file_laws, file_listing_rows, packet_laws, packet_listing_rows};
 use amf_show::{count_nodes, listing_laws, listing_rows, show, show_text};
-use amf_sol_show::{file_laws, file_listing_rows};
 use std::alloc::Global;
 use std::process::Abort;
 use std::test::Fail;

@@ -1,6 +1,6 @@
 use crate::graphs::graph_of;
+use amf_listings::{file_has_lowering, show_file};
 use amf_sol::{SharedObject, SolVersion};
-use amf_sol_show::{file_has_lowering, show_file};
 use amf_wire::Name;
 use std::alloc::Global;
 use std::process::Abort;

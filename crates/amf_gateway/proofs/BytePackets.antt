@@ -7,10 +7,10 @@ use Rattle.amf_wire.specs.Text.{is_text}
 use Rattle.amf_wire.proofs.TextTest.{is_text-is}
 use Rattle.amf_graph.specs.Graph.{Graph}
 use Rattle.amf3_spelling.proofs.Decides3.{same_bytes_isomorphic}
-use Rattle.amf0_tables.specs.declared.form.Form.{Form}
-use Rattle.amf0_tables.specs.declared.form.Form.TheVariants.{Call, Amf3}
-use Rattle.amf0_tables.specs.Segments0.{Short, marker0_field}
-use Rattle.amf0_tables.specs.Tables0.{no_tables0}
+use Rattle.amf0_spelling.specs.declared.form.Form.{Form}
+use Rattle.amf0_spelling.specs.declared.form.Form.TheVariants.{Call, Amf3}
+use Rattle.amf0_spelling.specs.Segments0.{Short, marker0_field}
+use Rattle.amf0_spelling.specs.Tables0.{no_tables0}
 use Rattle.amf_packet.specs.Packet.{Message, Packet, Beside, BodyBy, LengthBy, HeaderBy, MessageBy, ListBy, VersionBy, SpellsPacket, SpelledPacket, version_refusal, call_fields}
 use Rattle.amf_gateway.specs.Runs.{IsUnpacked, IsPacked}
 use Rattle.amf_gateway.proofs.Speller.{bytes_by, spells}

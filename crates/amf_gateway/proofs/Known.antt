@@ -1,8 +1,8 @@
 -- The laws of the crates below, as they are proved there.
 use Rattle.amf_graph.proofs.Isomorphisms.{isomorphic_sym, isomorphic_trans}
 use Rattle.amf3_spelling.proofs.Decides3.{canonical_is_alone, same_canonical, same_bytes_isomorphic}
-use Rattle.amf0_tables.proofs.Decides0.{alone0, same_canonical0}
-use Rattle.amf0_tables.proofs.Low.{lowered_alike}
+use Rattle.amf0_spelling.proofs.Decides0.{alone0, same_canonical0}
+use Rattle.amf0_spelling.proofs.Low.{lowered_alike}
 use Rattle.amf_http.proofs.OpenLemmas.{one_request, one_status, not_both}
 use Rattle.flex_msgs.proofs.GraphsAlike.{answers_alike}
 use Rattle.flex_msgs.proofs.ViewedAlike.{view_law}

@@ -6,8 +6,8 @@ use Rattle.amf_graph.specs.Isomorphic.{ValuesMatch, NodesMatch, StandIn, Isomorp
 use Rattle.amf_graph.specs.Reached.{IsReachedValue}
 use Rattle.amf_graph.specs.Roots.{SameFrom}
 use Rattle.amf3_spelling.specs.LawsCanonical3.{CanonicalIsAlone, IsomorphicHaveSameCanonical, SameBytesAreIsomorphic}
-use Rattle.amf0_tables.specs.LawsCanonical0.{CanonicalIsAlone0, IsomorphicHaveSameCanonical0}
-use Rattle.amf0_tables.specs.Lowered.{IsLoweringOf}
+use Rattle.amf0_spelling.specs.LawsCanonical0.{CanonicalIsAlone0, IsomorphicHaveSameCanonical0}
+use Rattle.amf0_spelling.specs.Lowered.{IsLoweringOf}
 use Rattle.amf_http.specs.Request.{BeginsWithRequest, IsRefused}
 use Rattle.flex_msgs.specs.Answers.{rooted_behind}
 use Rattle.flex_msgs.specs.Asked.{Told, remoting, request}

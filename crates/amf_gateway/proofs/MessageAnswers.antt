@@ -1,7 +1,7 @@
 -- One message answered: a Flex request or a plain call.
 use Rattle.std.proofs.Common.{◌≡◌, ◌∙◌, Bool, true, false, List, sym, subst}
 use Rattle.std.specs.Prelude.{bytes_eq, if◌then◌else◌}
-use Rattle.amf0_tables.specs.declared.form.Form.TheVariants.{Amf3}
+use Rattle.amf0_spelling.specs.declared.form.Form.TheVariants.{Amf3}
 use Rattle.amf_packet.specs.declared.body.Body.TheVariants as kept
 use Rattle.amf_packet.specs.Packet.{Message}
 use Rattle.amf_service.specs.Registry.{Entry}

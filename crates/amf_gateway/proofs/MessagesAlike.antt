@@ -11,8 +11,8 @@ use Rattle.amf_graph.specs.ByName.{by_name}
 use Rattle.amf_graph.proofs.NameOrder.{by_name_length}
 use Rattle.amf_graph.specs.Isomorphic.{ValuesMatch, PairsMatch, NodesMatch, StandIn, Isomorphic}
 use Rattle.amf_graph.specs.Reached.{Reached, at_root, inside, Holds, IsReachedValue, IsWhole}
-use Rattle.amf0_tables.specs.declared.form.Form.{Form}
-use Rattle.amf0_tables.specs.declared.form.Form.TheVariants as form
+use Rattle.amf0_spelling.specs.declared.form.Form.{Form}
+use Rattle.amf0_spelling.specs.declared.form.Form.TheVariants as form
 use Rattle.amf_packet.specs.Packet.{Message}
 use Rattle.flex_msgs.specs.Asked as asked
 use Rattle.flex_msgs.specs.Asked.{Asked, remoting, command, async, Viewed, not_object, not_served, wrong_kind, request}

@@ -17,14 +17,14 @@ use Rattle.amf3_spelling.specs.Lacks3.{IsLack3}
 use Rattle.amf3_spelling.specs.Spells3.{IsSpelling3}
 use Rattle.amf3_spelling.proofs.FirstLack3.{nothing_lacks}
 use Rattle.amf3_spelling.proofs.LacksAlike.{lack_is, lacks_alike}
-use Rattle.amf0_tables.specs.declared.form.Form.TheVariants.{Amf3, Plain}
-use Rattle.amf0_tables.specs.Lacks0.{IsLack0, NodeLacks0}
-use Rattle.amf0_tables.specs.Lowered.{Low, ends, IsLoweringOf}
-use Rattle.amf0_tables.specs.Spells0.{IsSpelling0}
-use Rattle.amf0_tables.proofs.Decides0.{same_canonical0}
-use Rattle.amf0_tables.proofs.LackTwice0.{spelling_or_lack0}
-use Rattle.amf0_tables.proofs.LacksAlike0.{lacks_alike0}
-use Rattle.amf0_tables.proofs.Low.{lowered_alike}
+use Rattle.amf0_spelling.specs.declared.form.Form.TheVariants.{Amf3, Plain}
+use Rattle.amf0_spelling.specs.Lacks0.{IsLack0, NodeLacks0}
+use Rattle.amf0_spelling.specs.Lowered.{Low, ends, IsLoweringOf}
+use Rattle.amf0_spelling.specs.Spells0.{IsSpelling0}
+use Rattle.amf0_spelling.proofs.Decides0.{same_canonical0}
+use Rattle.amf0_spelling.proofs.LackTwice0.{spelling_or_lack0}
+use Rattle.amf0_spelling.proofs.LacksAlike0.{lacks_alike0}
+use Rattle.amf0_spelling.proofs.Low.{lowered_alike}
 use Rattle.flex_msgs.specs.declared.reply.FaultText.{FaultText}
 use Rattle.flex_msgs.specs.declared.reply.Reply.{Reply}
 use Rattle.flex_msgs.specs.Answers.{error_graph}

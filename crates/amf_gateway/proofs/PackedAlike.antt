@@ -9,10 +9,10 @@ use Rattle.amf_graph.specs.Graph.{Graph}
 use Rattle.amf_graph.specs.Isomorphic.{Isomorphic}
 use Rattle.amf3_spelling.specs.Segments3.{IsFlag}
 use Rattle.amf3_spelling.specs.Spells3.{IsSpelling3}
-use Rattle.amf0_tables.specs.declared.form.Form.{Form}
-use Rattle.amf0_tables.specs.declared.form.Form.TheVariants.{Call, Amf3, Plain}
-use Rattle.amf0_tables.specs.Segments0.{Short, marker0_field}
-use Rattle.amf0_tables.specs.Tables0.{no_tables0}
+use Rattle.amf0_spelling.specs.declared.form.Form.{Form}
+use Rattle.amf0_spelling.specs.declared.form.Form.TheVariants.{Call, Amf3, Plain}
+use Rattle.amf0_spelling.specs.Segments0.{Short, marker0_field}
+use Rattle.amf0_spelling.specs.Tables0.{no_tables0}
 use Rattle.amf_packet.specs.Packet.{Body, Header, Message, Packet, Beside, Each, BodyBy, LengthBy, MustBy, SizedBy, HeaderBy, MessageBy, VersionBy, CountBy, ListBy, SpellsPacket, call_fields, version_refusal}
 use Rattle.amf_gateway.specs.Alike.{BodiesMatch, HeadersMatch, MessagesMatch, PacketsMatch}
 use Rattle.amf_gateway.specs.Runs.{IsPacked}

@@ -10,15 +10,15 @@ use Rattle.amf_graph.proofs.Lists.{cons_same, split_same, no_entry}
 use Rattle.amf3_spelling.specs.Segments3.{IsFlag}
 use Rattle.amf3_spelling.proofs.Decides3.{same_bytes_isomorphic}
 use Rattle.amf3_layout.proofs.OneCut.{has_one_cut}
-use Rattle.amf0_tables.specs.declared.form.Form.{Form}
-use Rattle.amf0_tables.specs.declared.form.Form.TheVariants.{Call, Amf3, Plain}
-use Rattle.amf0_tables.specs.Form.{call_front, IsForm}
-use Rattle.amf0_tables.specs.Segments0.{Short}
-use Rattle.amf0_tables.specs.Tables0.{no_tables0}
-use Rattle.amf0_tables.proofs.Alike0.{Tied, alike0}
-use Rattle.amf0_tables.proofs.Bytes.{be16, be32, cut, one_flat, short_same}
-use Rattle.amf0_tables.proofs.Decides0.{same_bytes_isomorphic0}
-use Rattle.amf0_tables.proofs.Forms0.{forms}
+use Rattle.amf0_spelling.specs.declared.form.Form.{Form}
+use Rattle.amf0_spelling.specs.declared.form.Form.TheVariants.{Call, Amf3, Plain}
+use Rattle.amf0_spelling.specs.Form.{call_front, IsForm}
+use Rattle.amf0_spelling.specs.Segments0.{Short}
+use Rattle.amf0_spelling.specs.Tables0.{no_tables0}
+use Rattle.amf0_spelling.proofs.Alike0.{Tied, alike0}
+use Rattle.amf0_spelling.proofs.Bytes.{be16, be32, cut, one_flat, short_same}
+use Rattle.amf0_spelling.proofs.Decides0.{same_bytes_isomorphic0}
+use Rattle.amf0_spelling.proofs.Forms0.{forms}
 use Rattle.amf_packet.specs.LayoutPacket.{body_layout}
 use Rattle.amf_packet.specs.Packet.{Body, Header, Message, Packet, Beside, Each, call_fields, CallBy, FormBy, BodyBy, LengthBy, MustBy, SizedBy, HeaderBy, MessageBy, is_version, version_refusal, VersionBy, CountBy, ListBy, SpellsPacket}
 use Rattle.amf_packet.proofs.PacketLayout.{body_is_layout}

@@ -5,7 +5,7 @@ use Rattle.amf_graph.specs.declared.lack.LackKind.{LackKind}
 use Rattle.amf_graph.specs.Isomorphic.{Isomorphic}
 use Rattle.amf_graph.specs.Rooted.{content}
 use Rattle.amf3_spelling.specs.Lacks3.{IsLack3}
-use Rattle.amf0_tables.specs.declared.form.Form.TheVariants.{Amf3}
+use Rattle.amf0_spelling.specs.declared.form.Form.TheVariants.{Amf3}
 use Rattle.amf_gateway.specs.declared.replies.FlexAnswer.{FlexAnswer}
 use Rattle.amf_gateway.specs.Begun.{Begun}
 use Rattle.amf_gateway.specs.Plan.{Plan}

@@ -1,8 +1,8 @@
 -- How a Flex request is answered: a message of a packet whose target is `null`.
 use Rattle.std.specs.Prelude.{List, Option, Some, None}
 use Rattle.amf_graph.specs.Graph.{Value, Graph}
-use Rattle.amf0_tables.specs.declared.form.Form.{Form}
-use Rattle.amf0_tables.specs.declared.form.Form.TheVariants as form
+use Rattle.amf0_spelling.specs.declared.form.Form.{Form}
+use Rattle.amf0_spelling.specs.declared.form.Form.TheVariants as form
 use Rattle.amf_packet.specs.Packet.{Body}
 use Rattle.flex_msgs.specs.Asked as asked
 use Rattle.flex_msgs.specs.Asked.{Asked, Viewed, request}

@@ -1,8 +1,8 @@
 -- How plain remoting is answered: a message of a packet whose target names a service and an operation (AMF 0, section 4.3).
 use Rattle.std.specs.Prelude.{ℕ, ◌==◌, Bool, true, false, if◌then◌else◌, List, [], ◌∷◌, codes, Option, Some, None}
 use Rattle.amf_graph.specs.Graph.{Value, leaf, node, text, object, Node, Graph}
-use Rattle.amf0_tables.specs.declared.form.Form.{Form}
-use Rattle.amf0_tables.specs.declared.form.Form.TheVariants.{Call, Amf3, Plain}
+use Rattle.amf0_spelling.specs.declared.form.Form.{Form}
+use Rattle.amf0_spelling.specs.declared.form.Form.TheVariants.{Call, Amf3, Plain}
 use Rattle.amf_packet.specs.Packet.{Body}
 use Rattle.flex_msgs.specs.declared.reply.FaultText.{FaultText}
 use Rattle.flex_msgs.specs.Answers.{rooted_behind}

@@ -2,7 +2,7 @@
 use Rattle.std.specs.Prelude.{ℕ, Bool, true, false, List, [], ◌∷◌, codes, Option, Some, None}
 use Rattle.amf_graph.specs.declared.value.Value.TheVariants.{Null}
 use Rattle.amf_graph.specs.Graph.{Value, Graph}
-use Rattle.amf0_tables.specs.declared.form.Form.TheVariants.{Amf3}
+use Rattle.amf0_spelling.specs.declared.form.Form.TheVariants.{Amf3}
 use Rattle.amf_packet.specs.Packet.{Body}
 use Rattle.flex_msgs.specs.declared.reply.Reply.{Reply}
 use Rattle.flex_msgs.specs.declared.reply.FaultText.{FaultText}

@@ -8,8 +8,8 @@ use Rattle.amf_graph.specs.Graph.{Graph, Value, leaf, node, Head, object, node_a
 use Rattle.amf_graph.specs.Isomorphic.{Isomorphic}
 use Rattle.amf_graph.specs.Reached.{IsWhole}
 use Rattle.amf3_spelling.specs.Spells3.{Spelled3}
-use Rattle.amf0_tables.specs.Lowered.{IsLoweringOf}
-use Rattle.amf0_tables.specs.Spells0.{Spelled0}
+use Rattle.amf0_spelling.specs.Lowered.{IsLoweringOf}
+use Rattle.amf0_spelling.specs.Spells0.{Spelled0}
 use Rattle.amf_http.specs.Request.{BeginsWithRequest, IsRefused, IsOpen}
 use Rattle.amf_packet.specs.Packet.{Packet, SpelledPacket}
 use Rattle.flex_msgs.specs.Classes.{async_traits}

@@ -7,7 +7,7 @@ use Rattle.amf_broker.specs.declared.call.Call.TheVariants.{Connect, Subscribe, 
 use Rattle.amf_broker.specs.declared.reply.Delivery.{Delivery}
 use Rattle.amf_broker.specs.declared.reply.Reply.{Reply}
 use Rattle.amf_broker.specs.declared.reply.Reply.TheVariants.{Client, Subscribed, Published, Batch}
-use Rattle.amf0_tables.specs.declared.form.Form.TheVariants as form
+use Rattle.amf0_spelling.specs.declared.form.Form.TheVariants as form
 use Rattle.amf_packet.specs.Packet.{Message}
 use Rattle.flex_msgs.specs.Classes.{acknowledge_traits, async_traits, command_traits, plain_traits, ds_id_name}
 use Rattle.flex_msgs.specs.Messages.{text_of, null_value, number_value, message_node, items_node, headers_node}

@@ -1,6 +1,6 @@
 -- Worked facts of the requests of a link, and of its end. What its bytes begin with is given, so that these facts speak of nothing else.
 use Rattle.std.specs.Prelude.{◌≡◌, ℕ, ◌==◌, Bool, true, false, if◌then◌else◌, List, [], ◌∷◌, length, codes, Option, Some, None}
-use Rattle.amf0_tables.specs.declared.form.Form.TheVariants.{Plain}
+use Rattle.amf0_spelling.specs.declared.form.Form.TheVariants.{Plain}
 use Rattle.amf_http.specs.Response.{response}
 use Rattle.amf_packet.specs.Packet.{Message, Packet}
 use Rattle.amf_service.specs.Shipped.{shipped}

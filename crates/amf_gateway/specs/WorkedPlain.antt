@@ -1,8 +1,8 @@
 -- Worked facts of plain remoting: what is answered, and in which form. It makes no call, and takes nothing.
 use Rattle.std.specs.Prelude.{◌≡◌, ℕ, true, false, List, [], ◌∷◌, codes, Option, Some, None}
 use Rattle.amf_graph.specs.Graph.{Value, Graph, leaf, node, double}
-use Rattle.amf0_tables.specs.declared.form.Form.{Form}
-use Rattle.amf0_tables.specs.declared.form.Form.TheVariants.{Call, Amf3, Plain}
+use Rattle.amf0_spelling.specs.declared.form.Form.{Form}
+use Rattle.amf0_spelling.specs.declared.form.Form.TheVariants.{Call, Amf3, Plain}
 use Rattle.amf_packet.specs.Packet.{Message}
 use Rattle.flex_msgs.specs.Messages.{text_of, null_value, number_value, items_node}
 use Rattle.amf_service.specs.Shipped.{shipped}

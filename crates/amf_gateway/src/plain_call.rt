@@ -29,7 +29,7 @@ use amf_graph::{Builder, Rooted, WriteEnd};
 use amf_packet::Body;
 use amf_service::{Registry, items};
 use amf_wire::{Memory, Name};
-use amf0_tables::{Form, graphs_have_one_lowering};
+use amf0_spelling::{Form, graphs_have_one_lowering};
 use amf0_write::{lower, write0};
 use amf3_write::write3_keyed;
 use flex_msgs::FaultText;

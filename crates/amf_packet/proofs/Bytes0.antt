@@ -5,9 +5,9 @@ use Rattle.amf_wire.specs.Style.{Style, free}
 use Rattle.amf_io.specs.Field.{Field, flat, text_kind, AreBytes}
 use Rattle.amf_graph.specs.Graph.{Leaf, undefined, null, boolean, integer, double, text, Value, leaf, node, Head, xml_document, date, array, object, wrapper, xml, bytes, ints, uints, doubles, values, dictionary, Graph, node_at}
 use Rattle.amf3_spelling.specs.Then.{Spelling, Then, Plain}
-use Rattle.amf0_tables.specs.Tables0.{Tables0, add_node0}
-use Rattle.amf0_tables.specs.Segments0.{Short, Long, Marked0, LeafBy0, Values0, Pairs0, Count0, PairsBy0, is_empty}
-use Rattle.amf0_tables.specs.Spells0.{NodeBy0, Switched, ValueBy0, InlineIn0, SpellsIn0, Spells0}
+use Rattle.amf0_spelling.specs.Tables0.{Tables0, add_node0}
+use Rattle.amf0_spelling.specs.Segments0.{Short, Long, Marked0, LeafBy0, Values0, Pairs0, Count0, PairsBy0, is_empty}
+use Rattle.amf0_spelling.specs.Spells0.{NodeBy0, Switched, ValueBy0, InlineIn0, SpellsIn0, Spells0}
 use Rattle.amf_packet.proofs.Lighter.{AllBytes, flat_bytes, bytes_joined, bytes_as, contents_bytes, text_bytes, be_4, be_8, bytes3}
 
 abbrev Are : {S : Type 0} → (S → List Field → S → Type 0) → Type 0

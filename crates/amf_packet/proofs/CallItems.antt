@@ -14,13 +14,13 @@ use Rattle.amf3_layout.specs.Layout3.{ValueRead, value_layout}
 use Rattle.amf3_spelling.proofs.Build.{absent_nil}
 use Rattle.amf3_layout.proofs.Layout3Parts.{Found}
 use Rattle.amf3_layout.proofs.Layout3Complete.{spelled_read}
-use Rattle.amf0_tables.specs.Form.{call_front}
-use Rattle.amf0_tables.specs.Segments0.{marker0_field, Values0}
-use Rattle.amf0_tables.specs.Spells0.{NodeBy0, Switched, SpellsIn0, Spells0}
-use Rattle.amf0_tables.specs.Tables0.{Tables0, no_tables0, add_node0}
-use Rattle.amf0_tables.specs.Layout0State.{State0, with_node0, switched, changed0}
-use Rattle.amf0_tables.specs.Layout0.{Read0, read0, shut0, value0_layout}
-use Rattle.amf0_tables.proofs.Alike0.{first_kind, Start, start_leaf, start_named, start_inline}
+use Rattle.amf0_spelling.specs.Form.{call_front}
+use Rattle.amf0_spelling.specs.Segments0.{marker0_field, Values0}
+use Rattle.amf0_spelling.specs.Spells0.{NodeBy0, Switched, SpellsIn0, Spells0}
+use Rattle.amf0_spelling.specs.Tables0.{Tables0, no_tables0, add_node0}
+use Rattle.amf0_layout.specs.Layout0State.{State0, with_node0, switched, changed0}
+use Rattle.amf0_layout.specs.Layout0.{Read0, read0, shut0, value0_layout}
+use Rattle.amf0_spelling.proofs.Alike0.{first_kind, Start, start_leaf, start_named, start_inline}
 use Rattle.amf_graph.specs.Building.{more_value}
 use Rattle.amf_graph.specs.Arena as arena
 use Rattle.amf_packet.specs.Packet.{call_fields}

@@ -20,17 +20,17 @@ use Rattle.amf3_layout.proofs.Layout3Fills.{Filled, text_filled, raw_filled, abl
 use Rattle.amf3_layout.proofs.Layout3Parts.{chunk_runs}
 use Rattle.amf3_layout.proofs.Layout3SoundOpenings.{all_below, Chunk, chunk_taken}
 use Rattle.amf3_layout.proofs.Layout3SoundTexts.{taken, texts_are}
-use Rattle.amf0_tables.specs.declared.form.Form.{Form}
-use Rattle.amf0_tables.specs.declared.form.Form.TheVariants.{Call, Amf3, Plain}
-use Rattle.amf0_tables.specs.Form.{IsForm}
-use Rattle.amf0_tables.specs.Segments0.{Short}
-use Rattle.amf0_tables.specs.Reads0.{IsValue0}
-use Rattle.amf0_tables.specs.Spells0.{Spells0}
-use Rattle.amf0_tables.specs.Tables0.{Tables0, no_tables0}
-use Rattle.amf0_tables.specs.Layout0.{Read0, value0_layout}
-use Rattle.amf0_tables.proofs.Forms0.{forms}
-use Rattle.amf0_tables.proofs.Layout0Format.{values0_is_layout, values_are_spellings0}
-use Rattle.amf0_tables.proofs.Layout0SoundParts.{u32_is, empty_text}
+use Rattle.amf0_spelling.specs.declared.form.Form.{Form}
+use Rattle.amf0_spelling.specs.declared.form.Form.TheVariants.{Call, Amf3, Plain}
+use Rattle.amf0_spelling.specs.Form.{IsForm}
+use Rattle.amf0_spelling.specs.Segments0.{Short}
+use Rattle.amf0_spelling.specs.Reads0.{IsValue0}
+use Rattle.amf0_spelling.specs.Spells0.{Spells0}
+use Rattle.amf0_spelling.specs.Tables0.{Tables0, no_tables0}
+use Rattle.amf0_layout.specs.Layout0.{Read0, value0_layout}
+use Rattle.amf0_spelling.proofs.Forms0.{forms}
+use Rattle.amf0_layout.proofs.Layout0Format.{values0_is_layout, values_are_spellings0}
+use Rattle.amf0_layout.proofs.Layout0SoundParts.{u32_is, empty_text}
 use Rattle.amf_packet.specs.Packet.{Body, Header, Message, Each, call_fields, CallBy, FormBy, BodyBy, LengthBy, MustBy, HeaderBy, MessageBy, is_version, version_refusal, VersionBy, ListBy, IsPacketReading}
 use Rattle.amf_packet.specs.LayoutPacket.{BareLayout, done, and_then, name_layout, must_layout, length_layout, no_state0, body_layout, header_layout, message_layout, version_layout, times, list_layout, packet_layout}
 use Rattle.amf_packet.proofs.Lighter.{flat_bytes, bytes_joined, bytes3}

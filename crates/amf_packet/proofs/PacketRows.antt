@@ -11,13 +11,13 @@ use Rattle.amf3_spelling.specs.Spells3.{InlineIn, SpellsIn, IsSpelling3}
 use Rattle.amf3_spelling.specs.Tables.{no_tables}
 use Rattle.amf3_spelling.specs.WorkedRows3.{alone}
 use Rattle.amf3_spelling.proofs.Build.{Built, a_null, an_integer, absent_nil}
-use Rattle.amf0_tables.specs.declared.form.Form.TheVariants.{Plain}
-use Rattle.amf0_tables.specs.Lowered.{IsLoweringOf, ends}
-use Rattle.amf0_tables.specs.Segments0.{Short, marker0_field}
-use Rattle.amf0_tables.specs.Spells0.{SpellsIn0, Switched}
-use Rattle.amf0_tables.specs.Tables0.{Tables0, no_tables0, add_node0}
-use Rattle.amf0_tables.proofs.Build0.{a_leaf0, a_null0, a_switch, no_values, value_then}
-use Rattle.amf0_tables.proofs.NodeRows0.{array0}
+use Rattle.amf0_spelling.specs.declared.form.Form.TheVariants.{Plain}
+use Rattle.amf0_spelling.specs.Lowered.{IsLoweringOf, ends}
+use Rattle.amf0_spelling.specs.Segments0.{Short, marker0_field}
+use Rattle.amf0_spelling.specs.Spells0.{SpellsIn0, Switched}
+use Rattle.amf0_spelling.specs.Tables0.{Tables0, no_tables0, add_node0}
+use Rattle.amf0_spelling.proofs.Build0.{a_leaf0, a_null0, a_switch, no_values, value_then}
+use Rattle.amf0_spelling.proofs.NodeRows0.{array0}
 use Rattle.amf_packet.specs.Packet.{Header, Beside, BodyBy, LengthBy, MustBy, HeaderBy, MessageBy, ListBy, VersionBy, version_refusal, call_fields}
 use Rattle.amf_packet.specs.WorkedPackets.{hi, request, headed, Packets}
 

@@ -13,12 +13,12 @@ use Rattle.amf_graph.specs.Rooted.{RootedArena, content}
 use Rattle.amf_graph.proofs.FinishedSmall.{completes_itself}
 use Rattle.amf3_spelling.specs.Reads3.{Grows}
 use Rattle.amf3_layout.proofs.Values3Layout.{no_arena_built}
-use Rattle.amf0_tables.specs.declared.form.Form.{Form}
-use Rattle.amf0_tables.specs.declared.form.Form.TheVariants as form
-use Rattle.amf0_tables.specs.Form.{IsForm}
-use Rattle.amf0_tables.specs.KeptTables0.{KeptTables0, no_kept_tables0, tables0_of}
-use Rattle.amf0_tables.specs.Spells0.{Spells0}
-use Rattle.amf0_tables.specs.Tables0.{no_tables0}
+use Rattle.amf0_spelling.specs.declared.form.Form.{Form}
+use Rattle.amf0_spelling.specs.declared.form.Form.TheVariants as form
+use Rattle.amf0_spelling.specs.Form.{IsForm}
+use Rattle.amf0_spelling.specs.KeptTables0.{KeptTables0, no_kept_tables0, tables0_of}
+use Rattle.amf0_spelling.specs.Spells0.{Spells0}
+use Rattle.amf0_spelling.specs.Tables0.{no_tables0}
 use Rattle.amf0_read.specs.declared.formed.Read0.{Read0}
 use Rattle.amf0_read.specs.Answer0.{IsReadWith}
 use Rattle.amf_packet.specs.declared.body.Body.{Body}

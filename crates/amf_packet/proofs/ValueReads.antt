@@ -15,13 +15,13 @@ use Rattle.amf_graph.specs.Bounds.{weight}
 use Rattle.amf_graph.specs.Building.{no_arena}
 use Rattle.amf_graph.specs.Rooted.{RootedArena}
 use Rattle.amf_graph.specs.declared.value.Value.{Value as Stored}
-use Rattle.amf0_tables.specs.declared.form.Form.{Form}
-use Rattle.amf0_tables.specs.declared.form.Form.TheVariants as form
-use Rattle.amf0_tables.specs.KeptTables0.{KeptTables0, no_kept_tables0}
-use Rattle.amf0_tables.specs.Reads0.{IsReading0, IsValue0}
-use Rattle.amf0_tables.specs.Tables0.{no_tables0}
-use Rattle.amf0_tables.specs.Layout0.{value0_layout}
-use Rattle.amf0_tables.proofs.Layout0Format.{values0_is_layout}
+use Rattle.amf0_spelling.specs.declared.form.Form.{Form}
+use Rattle.amf0_spelling.specs.declared.form.Form.TheVariants as form
+use Rattle.amf0_spelling.specs.KeptTables0.{KeptTables0, no_kept_tables0}
+use Rattle.amf0_spelling.specs.Reads0.{IsReading0, IsValue0}
+use Rattle.amf0_spelling.specs.Tables0.{no_tables0}
+use Rattle.amf0_layout.specs.Layout0.{value0_layout}
+use Rattle.amf0_layout.proofs.Layout0Format.{values0_is_layout}
 use Rattle.amf0_read.specs.declared.formed.Read0.{Read0}
 use Rattle.amf0_read.specs.Answer0.{IsReadWith, Answers0}
 use Rattle.amf_io.specs.Stretch.{AnswersOf, between}

@@ -3,9 +3,9 @@ use Rattle.std.proofs.Common.{◌≡◌, ℕ, false, List, [], ◌∷◌, ◌++�
 use Rattle.amf_io.specs.Field.{flat}
 use Rattle.amf_wire.specs.Style.{canonical}
 use Rattle.amf_graph.specs.Graph.{Graph}
-use Rattle.amf0_tables.specs.declared.form.Form.TheVariants as form
-use Rattle.amf0_tables.specs.Segments0.{marker0_field}
-use Rattle.amf0_tables.specs.Tables0.{no_tables0}
+use Rattle.amf0_spelling.specs.declared.form.Form.TheVariants as form
+use Rattle.amf0_spelling.specs.Segments0.{marker0_field}
+use Rattle.amf0_spelling.specs.Tables0.{no_tables0}
 use Rattle.amf0_write.specs.Written0.{AppendsCanonical0}
 use Rattle.amf3_write.specs.Written.{AppendsCanonical}
 use Rattle.amf_packet.specs.Packet.{BodyBy, call_fields}

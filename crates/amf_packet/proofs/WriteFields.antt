@@ -5,7 +5,7 @@ use Rattle.amf_io.specs.Field.{Kind, flat, field, contents, raw_kind, text_kind,
 use Rattle.amf_wire.specs.Style.{canonical}
 use Rattle.amf_wire.specs.Text.{IsText}
 use Rattle.amf3_spelling.specs.Segments3.{IsFlag}
-use Rattle.amf0_tables.specs.Segments0.{Short}
+use Rattle.amf0_spelling.specs.Segments0.{Short}
 use Rattle.amf_packet.specs.Packet.{LengthBy, MustBy, is_version, version_refusal, VersionBy, CountBy}
 use Rattle.amf_packet.specs.WriteParts.{Appends}
 use mir.Val.{bool_byte}

@@ -12,11 +12,11 @@ use Rattle.amf_graph.specs.Graph.{Graph}
 use Rattle.amf_graph.proofs.Alls.{all_append}
 use Rattle.amf_graph.proofs.Matched.{map_get}
 use Rattle.amf3_spelling.proofs.FirstLack3.{spelling_or_lack}
-use Rattle.amf0_tables.specs.declared.form.Form.{Form}
-use Rattle.amf0_tables.specs.declared.form.Form.TheVariants.{Call, Amf3, Plain}
-use Rattle.amf0_tables.specs.Lacks0.{IsLack0}
-use Rattle.amf0_tables.proofs.LackTwice0.{spelling_or_lack0}
-use Rattle.amf0_tables.proofs.LowLaws.{one_lowering}
+use Rattle.amf0_spelling.specs.declared.form.Form.{Form}
+use Rattle.amf0_spelling.specs.declared.form.Form.TheVariants.{Call, Amf3, Plain}
+use Rattle.amf0_spelling.specs.Lacks0.{IsLack0}
+use Rattle.amf0_spelling.proofs.LackTwice0.{spelling_or_lack0}
+use Rattle.amf0_spelling.proofs.LowLaws.{one_lowering}
 use Rattle.amf_packet.specs.Packet.{Body, Header, Message, Packet, BodyBy, SizedBy, HeaderBy, MessageBy, Each}
 use Rattle.amf_packet.specs.PacketLacks.{bodies, IsBodyLack, IsPacketLack}
 use Rattle.amf_packet.specs.WriteParts.{Appends, IsSpelledBody, LacksFirst, LacksHere}

@@ -6,8 +6,8 @@ use Rattle.amf_graph.specs.declared.value.Value.TheVariants.{Node}
 use Rattle.amf_graph.specs.Arena.{array}
 use Rattle.amf_graph.specs.Building.{stored_at}
 use Rattle.amf_graph.specs.Rooted.{RootedArena}
-use Rattle.amf0_tables.specs.declared.form.Form.{Form}
-use Rattle.amf0_tables.specs.declared.form.Form.TheVariants as form
+use Rattle.amf0_spelling.specs.declared.form.Form.{Form}
+use Rattle.amf0_spelling.specs.declared.form.Form.TheVariants as form
 use Rattle.amf_packet.specs.declared.body.Body.{Body}
 use Rattle.amf_packet.specs.declared.body.Body.TheVariants.{Call, Amf3, Plain}
 

@@ -4,9 +4,9 @@ use Rattle.amf_io.specs.Field.{Field, flat}
 use Rattle.amf_wire.specs.Style.{Style, free, canonical}
 use Rattle.amf_graph.specs.Graph.{Graph, null, integer, text, leaf}
 use Rattle.amf3_spelling.specs.WorkedRows3.{alone}
-use Rattle.amf0_tables.specs.declared.form.Form.{Form}
-use Rattle.amf0_tables.specs.declared.form.Form.TheVariants.{Call, Amf3, Plain}
-use Rattle.amf0_tables.specs.WorkedRows0.{array_of}
+use Rattle.amf0_spelling.specs.declared.form.Form.{Form}
+use Rattle.amf0_spelling.specs.declared.form.Form.TheVariants.{Call, Amf3, Plain}
+use Rattle.amf0_spelling.specs.WorkedRows0.{array_of}
 use Rattle.amf_packet.specs.Packet.{Packet, BodyBy, SpelledPacket}
 
 -- ["hi"]

@@ -18,7 +18,7 @@ use crate::read_field::read_length;
 use amf_graph::{Builder, NodeView, Rooted, Value};
 use amf_io::{Cursor, ReadEnd, Source};
 use amf0_read::read0;
-use amf0_tables::{Form, Tables0};
+use amf0_spelling::{Form, Tables0};
 use std::alloc::Global;
 use std::hash::RandomState;
 

@@ -2,7 +2,7 @@ ghost use Rattle.std.specs.Prelude.{◌≡◌, ◌≤◌, OnOk};
 ghost use Rattle.amf_io.specs.Cursor.{place};
 ghost use Rattle.amf_io.specs.ReadEnds.{IsPlaced, Goes};
 ghost use Rattle.amf_wire.specs.Style.{free};
-ghost use Rattle.amf0_tables.specs.Segments0.{Short};
+ghost use Rattle.amf0_spelling.specs.Segments0.{Short};
 ghost use Rattle.amf_packet.specs.LayoutPacket.{name_layout, must_layout, length_layout, version_layout};
 ghost use Rattle.amf_packet.specs.Packet.{LengthBy, MustBy, is_version, VersionBy, CountBy};
 ghost use Rattle.amf_packet.specs.ReadParts.{Reads, ReadsBare, count_layout};

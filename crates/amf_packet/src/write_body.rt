@@ -3,7 +3,7 @@ ghost use Rattle.std.specs.Result.{IsErrOf};
 ghost use Rattle.amf_wire.specs.Style.{canonical};
 ghost use Rattle.amf_graph.specs.declared.lack.Lack.{Lack};
 ghost use Rattle.amf_graph.specs.Rooted.{content};
-ghost use Rattle.amf0_tables.specs.declared.form.Form.TheVariants as form;
+ghost use Rattle.amf0_spelling.specs.declared.form.Form.TheVariants as form;
 ghost use Rattle.amf_packet.specs.Content.{body_of};
 ghost use Rattle.amf_packet.specs.Packet.{BodyBy};
 ghost use Rattle.amf_packet.specs.PacketLacks.{IsBodyLack};
@@ -11,7 +11,7 @@ ghost use Rattle.amf_packet.specs.WriteParts.{Grows, Appends, LacksHere, Writes}
 
 use crate::{Body, PacketEnd};
 use amf_graph::{Rooted, WriteEnd};
-use amf0_tables::graphs_have_one_lowering;
+use amf0_spelling::graphs_have_one_lowering;
 use amf0_write::{lower, write0};
 use amf3_write::write3_keyed;
 use std::alloc::Global;

@@ -1,7 +1,7 @@
 ghost use Rattle.std.specs.Prelude.{◌≡◌, ℕ, ◌+◌, ◌<◌, ◌≤◌, ◌^◌, ◌∷◌, [], length, map, true, OnOk};
 ghost use Rattle.std.specs.List.{AllByRecursion};
 ghost use Rattle.amf_wire.specs.Style.{canonical};
-ghost use Rattle.amf0_tables.specs.Segments0.{Short};
+ghost use Rattle.amf0_spelling.specs.Segments0.{Short};
 ghost use Rattle.amf_packet.specs.Content.{header_of, message_of, packet_of, body_of};
 ghost use Rattle.amf_packet.specs.Packet.{SpellsPacket, HeaderBy, MessageBy, ListBy, SizedBy, VersionBy, CountBy, MustBy, LengthBy, is_version};
 ghost use Rattle.amf_packet.specs.PacketLacks.{bodies, texts_by_value};

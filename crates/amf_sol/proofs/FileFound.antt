@@ -23,12 +23,12 @@ use Rattle.amf3_spelling.proofs.Clean.{AllClean, clean_as, text_field, contents_
 use Rattle.amf3_layout.proofs.Layout3Complete.{spelled_read}
 use Rattle.amf3_layout.proofs.Layout3Parts.{Like, parts_length, like_text, chunk_runs}
 use Rattle.amf3_layout.proofs.Layout3Texts.{takes, FoundText, text_complete}
-use Rattle.amf0_tables.specs.Layout0.{new_text0, short_layout, value0_layout}
-use Rattle.amf0_tables.specs.Layout0State.{State0, in_amf3}
-use Rattle.amf0_tables.specs.Segments0.{Short}
-use Rattle.amf0_tables.specs.Spells0.{Spells0}
-use Rattle.amf0_tables.specs.Tables0.{Tables0}
-use Rattle.amf0_tables.proofs.Layout0Complete.{Like0, spelled_read0}
+use Rattle.amf0_layout.specs.Layout0.{new_text0, short_layout, value0_layout}
+use Rattle.amf0_layout.specs.Layout0State.{State0, in_amf3}
+use Rattle.amf0_spelling.specs.Segments0.{Short}
+use Rattle.amf0_spelling.specs.Spells0.{Spells0}
+use Rattle.amf0_spelling.specs.Tables0.{Tables0}
+use Rattle.amf0_layout.proofs.Layout0Complete.{Like0, spelled_read0}
 use Rattle.amf_sol.specs.declared.sol_version.SolVersion.{SolVersion}
 use Rattle.amf_sol.specs.declared.sol_version.SolVersion.TheVariants.{Amf0, Amf3}
 use Rattle.amf_sol.specs.SharedObject.{signature, length_field, second_signature, padding, pair_end, version_number, version_kind, version_field, PairsBy, file_tables, file_tables0, PairsOf}

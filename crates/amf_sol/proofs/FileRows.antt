@@ -11,11 +11,11 @@ use Rattle.amf_graph.proofs.Alls.{each_at}
 use Rattle.amf_graph.proofs.Lists.{no_entry}
 use Rattle.amf3_spelling.specs.Then.{Spelling, Then, Plain}
 use Rattle.amf3_spelling.proofs.Build.{Built, both}
-use Rattle.amf0_tables.specs.Tables0.{Tables0}
-use Rattle.amf0_tables.specs.Segments0.{Short, marker0_field}
-use Rattle.amf0_tables.specs.Spells0.{Spells0, SpellsIn0}
-use Rattle.amf0_tables.specs.Lowered.{IsLoweringOf, ends}
-use Rattle.amf0_tables.proofs.Build0.{short, a_leaf0}
+use Rattle.amf0_spelling.specs.Tables0.{Tables0}
+use Rattle.amf0_spelling.specs.Segments0.{Short, marker0_field}
+use Rattle.amf0_spelling.specs.Spells0.{Spells0, SpellsIn0}
+use Rattle.amf0_spelling.specs.Lowered.{IsLoweringOf, ends}
+use Rattle.amf0_spelling.proofs.Build0.{short, a_leaf0}
 use Rattle.amf_sol.specs.declared.sol_version.SolVersion.TheVariants.{Amf0}
 use Rattle.amf_sol.specs.SharedObject.{IsPairHolder, IsHolder, PairsBy, PairsOf, AfterLength, file_tables0, pair_end, second_signature, padding, version_field, signature, length_field}
 use Rattle.amf_sol.specs.FileVerdict.{HasItsLength, IsWholeFile, bad_length}

@@ -19,12 +19,12 @@ use Rattle.amf3_spelling.specs.Then.{Then, Plain}
 use Rattle.amf3_spelling.specs.Words3.{Text}
 use Rattle.amf3_spelling.specs.Segments3.{Lifted}
 use Rattle.amf3_spelling.specs.Spells3.{Spells3}
-use Rattle.amf0_tables.specs.Lacks0.{Lacks0}
-use Rattle.amf0_tables.specs.Lowered.{IsLoweringOf}
-use Rattle.amf0_tables.specs.Segments0.{Short}
-use Rattle.amf0_tables.specs.Spells0.{Spells0}
-use Rattle.amf0_tables.specs.Tables0.{Tables0}
-use Rattle.amf0_tables.proofs.LowLaws.{one_lowering}
+use Rattle.amf0_spelling.specs.Lacks0.{Lacks0}
+use Rattle.amf0_spelling.specs.Lowered.{IsLoweringOf}
+use Rattle.amf0_spelling.specs.Segments0.{Short}
+use Rattle.amf0_spelling.specs.Spells0.{Spells0}
+use Rattle.amf0_spelling.specs.Tables0.{Tables0}
+use Rattle.amf0_spelling.proofs.LowLaws.{one_lowering}
 use Rattle.amf3_write.specs.Written.{AppendsPart, AppendsText}
 use Rattle.amf0_write.specs.PartLacks0.{IsLackOutside}
 use Rattle.amf0_write.specs.Written0.{tables0, AppendsPart0}

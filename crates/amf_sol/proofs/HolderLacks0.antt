@@ -18,16 +18,16 @@ use Rattle.amf_graph.proofs.OrderExists.{order_exists}
 use Rattle.amf_graph.proofs.Walks.{each_right, walk_stays, walks_fixed}
 use Rattle.amf3_spelling.specs.Tables.{Tables, no_tables, add_done}
 use Rattle.amf3_spelling.specs.Then.{Plain}
-use Rattle.amf0_tables.specs.Lacks0.{HasNoForm, HasShortNames, IsShortName, class_of, enters0, is_loose0, Lacks0}
-use Rattle.amf0_tables.specs.LacksMet.{LacksMet}
-use Rattle.amf0_tables.specs.Meets.{Meets, over, first, IsMet}
-use Rattle.amf0_tables.specs.Segments0.{Short}
-use Rattle.amf0_tables.specs.Spells0.{Spells0}
-use Rattle.amf0_tables.specs.Tables0.{Tables0, no_tables0}
-use Rattle.amf0_tables.proofs.Found0.{FineNode, FineAgain, Level}
-use Rattle.amf0_tables.proofs.Stays0.{Proper, proper_none, stays_done, keeps_values_in}
-use Rattle.amf0_tables.proofs.LackTwice0.{met_again_is_twice}
-use Rattle.amf0_tables.proofs.Met0.{Onward, Fresh, covers_spells}
+use Rattle.amf0_spelling.specs.Lacks0.{HasNoForm, HasShortNames, IsShortName, class_of, enters0, is_loose0, Lacks0}
+use Rattle.amf0_spelling.specs.LacksMet.{LacksMet}
+use Rattle.amf0_spelling.specs.Meets.{Meets, over, first, IsMet}
+use Rattle.amf0_spelling.specs.Segments0.{Short}
+use Rattle.amf0_spelling.specs.Spells0.{Spells0}
+use Rattle.amf0_spelling.specs.Tables0.{Tables0, no_tables0}
+use Rattle.amf0_spelling.proofs.Found0.{FineNode, FineAgain, Level}
+use Rattle.amf0_spelling.proofs.Stays0.{Proper, proper_none, stays_done, keeps_values_in}
+use Rattle.amf0_spelling.proofs.LackTwice0.{met_again_is_twice}
+use Rattle.amf0_spelling.proofs.Met0.{Onward, Fresh, covers_spells}
 use Rattle.amf0_write.specs.PartLacks0.{LacksOutside}
 use Rattle.amf0_write.specs.Written0.{tables0, AreTables0}
 use Rattle.amf0_write.proofs.FileLacks.{FileLeft, file_tables, file_begins, file_goes_on, lack_of_file}

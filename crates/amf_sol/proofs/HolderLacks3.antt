@@ -22,8 +22,8 @@ use Rattle.amf3_spelling.specs.Words3.{Text}
 use Rattle.amf3_spelling.specs.Segments3.{Lifted}
 use Rattle.amf3_spelling.specs.Spells3.{Spells3}
 use Rattle.amf3_spelling.proofs.Aside3.{IsAside, Beside, Moves, spells_moves}
-use Rattle.amf0_tables.proofs.Entered.{right_at}
-use Rattle.amf0_tables.proofs.Meeting.{walk_meets, meets_walk, meets_prefix}
+use Rattle.amf0_spelling.proofs.Entered.{right_at}
+use Rattle.amf0_spelling.proofs.Meeting.{walk_meets, meets_walk, meets_prefix}
 use Rattle.amf0_write.proofs.FileLacks.{cut}
 use Rattle.amf3_write.specs.PartLacks.{PartLacks3, IsPartLack3}
 use Rattle.amf_sol.specs.declared.sol_version.SolVersion.TheVariants.{Amf3}

@@ -7,10 +7,10 @@ use Rattle.amf_graph.specs.Reached.{Reached, at_root, inside, Holds}
 use Rattle.amf_graph.proofs.Alls.{all_append, each_from}
 use Rattle.amf_graph.proofs.Lists.{no_entry}
 use Rattle.amf_graph.proofs.Zipping.{zip_seconds}
-use Rattle.amf0_tables.specs.Lowered.{is_wrapper, wraps, first_of_values, unwrapped, unwrapped_times, LowPlain, Low, ends, never_ends, low_head, sealed_names, unsealed_values, LowNode, IsLoweringOf}
-use Rattle.amf0_tables.proofs.Chains.{times_stays}
-use Rattle.amf0_tables.proofs.LoweredLow.{low_at}
-use Rattle.amf0_tables.proofs.Zips.{zip_length}
+use Rattle.amf0_spelling.specs.Lowered.{is_wrapper, wraps, first_of_values, unwrapped, unwrapped_times, LowPlain, Low, ends, never_ends, low_head, sealed_names, unsealed_values, LowNode, IsLoweringOf}
+use Rattle.amf0_spelling.proofs.Chains.{times_stays}
+use Rattle.amf0_spelling.proofs.LoweredLow.{low_at}
+use Rattle.amf0_spelling.proofs.Zips.{zip_length}
 use Rattle.amf_sol.specs.SharedObject.{IsHolder, HasHolder}
 
 module _ (g : Graph) where

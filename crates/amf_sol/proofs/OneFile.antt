@@ -25,13 +25,13 @@ use Rattle.amf3_spelling.proofs.BytesOf.{to_spells}
 use Rattle.amf3_spelling.proofs.Fixed3.{fixed_spells}
 use Rattle.amf3_spelling.proofs.Stays3.{Proper, stays_same, keeps_spells}
 use Rattle.amf3_spelling.proofs.Steps3.{text_fixed}
-use Rattle.amf0_tables.specs.Lacks0.{Lacks0}
-use Rattle.amf0_tables.specs.Segments0.{Short}
-use Rattle.amf0_tables.specs.Spells0.{Spells0}
-use Rattle.amf0_tables.specs.Tables0.{Tables0, no_tables0}
-use Rattle.amf0_tables.proofs.Fixed0 as fixed0
-use Rattle.amf0_tables.proofs.Stays0 as kept0
-use Rattle.amf0_tables.proofs.LowLaws.{one_lowering}
+use Rattle.amf0_spelling.specs.Lacks0.{Lacks0}
+use Rattle.amf0_spelling.specs.Segments0.{Short}
+use Rattle.amf0_spelling.specs.Spells0.{Spells0}
+use Rattle.amf0_spelling.specs.Tables0.{Tables0, no_tables0}
+use Rattle.amf0_spelling.proofs.Fixed0 as fixed0
+use Rattle.amf0_spelling.proofs.Stays0 as kept0
+use Rattle.amf0_spelling.proofs.LowLaws.{one_lowering}
 use Rattle.amf_sol.specs.declared.sol_version.SolVersion.{SolVersion}
 use Rattle.amf_sol.specs.declared.sol_version.SolVersion.TheVariants.{Amf0, Amf3}
 use Rattle.amf_sol.specs.SharedObject.{Shared as Object, HasHolder, second_signature, padding, version_field, PairsBy, file_tables, file_tables0, PairsOf, HolderBy, AfterLength, SpellsFile}

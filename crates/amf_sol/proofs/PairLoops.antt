@@ -21,8 +21,8 @@ use Rattle.amf3_read.specs.Ready.{Ready}
 use Rattle.amf0_read.specs.Ready0.{Ready0}
 use Rattle.amf3_spelling.specs.KeptTables.{KeptTables, no_kept_tables}
 use Rattle.amf_graph.proofs.Lists.{no_entry}
-use Rattle.amf0_tables.specs.KeptTables0.{KeptTables0, no_kept_tables0}
-use Rattle.amf0_tables.specs.Layout0State.{State0, state0_of}
+use Rattle.amf0_spelling.specs.KeptTables0.{KeptTables0, no_kept_tables0}
+use Rattle.amf0_layout.specs.Layout0State.{State0, state0_of}
 use Rattle.amf0_read.proofs.ValueReads0.{led_answers}
 use Rattle.amf_sol.specs.declared.sol_version.SolVersion.{SolVersion}
 use Rattle.amf_sol.specs.declared.sol_version.SolVersion.TheVariants.{Amf0, Amf3}

@@ -22,10 +22,10 @@ use Rattle.amf3_layout.specs.Layout3.{read, value_layout}
 use Rattle.amf3_layout.proofs.Layout3Reads.{reads}
 use Rattle.amf3_layout.proofs.Reader3Tables.{grows_twice, text_id_after_growth}
 use Rattle.amf3_layout.proofs.Reader3States.{more_name_state}
-use Rattle.amf0_tables.specs.KeptTables0.{KeptTables0}
-use Rattle.amf0_tables.specs.Layout0.{read0, short_layout, value0_layout}
-use Rattle.amf0_tables.specs.Layout0State.{State0, state0_of, in_amf3}
-use Rattle.amf0_tables.proofs.Layout0Format.{reads0}
+use Rattle.amf0_spelling.specs.KeptTables0.{KeptTables0}
+use Rattle.amf0_layout.specs.Layout0.{read0, short_layout, value0_layout}
+use Rattle.amf0_layout.specs.Layout0State.{State0, state0_of, in_amf3}
+use Rattle.amf0_layout.proofs.Layout0Format.{reads0}
 use Rattle.amf3_read.specs.Opened.{KeptText}
 use Rattle.amf3_read.specs.Answer.{left_of}
 use Rattle.amf3_read.specs.Ready.{Ready, Continues, text_read}

@@ -18,9 +18,9 @@ use Rattle.amf3_spelling.specs.Headers3.{HeaderBy, marker_field}
 use Rattle.amf3_spelling.specs.Segments3.{Segment, flag, four, eight, raw, chars, word, value, Fixed, Lifted, Segments, values_then, pairs_then, segments_of}
 use Rattle.amf3_spelling.specs.Nodes3.{Begun}
 use Rattle.amf3_spelling.specs.Spells3.{LeafBy, ValueBy, InlineIn, Spells3}
-use Rattle.amf0_tables.specs.Segments0.{Short, Count0, Marked0, LeafBy0, Values0, Pairs0, PairsBy0, is_empty}
-use Rattle.amf0_tables.specs.Spells0.{NodeBy0, Named0, Begun0, Switched, ValueBy0, InlineIn0, Spells0}
-use Rattle.amf0_tables.specs.Tables0.{Tables0, add_node0, add_done0}
+use Rattle.amf0_spelling.specs.Segments0.{Short, Count0, Marked0, LeafBy0, Values0, Pairs0, PairsBy0, is_empty}
+use Rattle.amf0_spelling.specs.Spells0.{NodeBy0, Named0, Begun0, Switched, ValueBy0, InlineIn0, Spells0}
+use Rattle.amf0_spelling.specs.Tables0.{Tables0, add_node0, add_done0}
 use Rattle.amf_sol.specs.declared.sol_version.SolVersion.{SolVersion}
 use Rattle.amf_sol.specs.declared.sol_version.SolVersion.TheVariants.{Amf0, Amf3}
 use Rattle.amf_sol.specs.SharedObject.{Shared, PairsBy, PairsOf, HasHolder, SpellsFile, file_tables, file_tables0}

@@ -8,8 +8,8 @@ use Rattle.amf_graph.specs.Graph.{Graph}
 use Rattle.amf_graph.specs.Order.{IsOrder}
 use Rattle.amf_graph.specs.Lacks.{IsFirstLack}
 use Rattle.amf3_spelling.specs.Lacks3.{Lacks3}
-use Rattle.amf0_tables.specs.Lacks0.{Lacks0}
-use Rattle.amf0_tables.specs.Lowered.{IsLoweringOf}
+use Rattle.amf0_spelling.specs.Lacks0.{Lacks0}
+use Rattle.amf0_spelling.specs.Lowered.{IsLoweringOf}
 use Rattle.amf_sol.specs.declared.sol_version.SolVersion.{SolVersion}
 use Rattle.amf_sol.specs.declared.sol_version.SolVersion.TheVariants.{Amf0, Amf3}
 use Rattle.amf_sol.specs.SharedObject.{Shared, AfterLength}

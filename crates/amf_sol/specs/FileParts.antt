@@ -11,9 +11,9 @@ use Rattle.amf3_spelling.specs.Then.{Spelling, Then, Plain}
 use Rattle.amf3_spelling.specs.Words3.{Text}
 use Rattle.amf3_spelling.specs.Segments3.{Lifted}
 use Rattle.amf3_spelling.specs.Spells3.{Spells3}
-use Rattle.amf0_tables.specs.Segments0.{Short}
-use Rattle.amf0_tables.specs.Spells0.{Spells0}
-use Rattle.amf0_tables.specs.Tables0.{Tables0}
+use Rattle.amf0_spelling.specs.Segments0.{Short}
+use Rattle.amf0_spelling.specs.Spells0.{Spells0}
+use Rattle.amf0_spelling.specs.Tables0.{Tables0}
 use Rattle.amf0_write.specs.PartLacks0.{IsPartLack0}
 use Rattle.amf_sol.specs.declared.sol_version.SolVersion.{SolVersion}
 use Rattle.amf_sol.specs.SharedObject.{second_signature, padding, version_field, pair_end}

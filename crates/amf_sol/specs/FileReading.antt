@@ -19,9 +19,9 @@ use Rattle.amf_graph.specs.Rooted.{RootedArena}
 use Rattle.amf3_spelling.specs.KeptTables.{KeptTables}
 use Rattle.amf3_layout.specs.Layout3Words.{chunk}
 use Rattle.amf3_read.specs.Filling.{IsOpened}
-use Rattle.amf0_tables.specs.KeptTables0.{KeptTables0}
-use Rattle.amf0_tables.specs.Layout0.{short_layout}
-use Rattle.amf0_tables.specs.Layout0State.{state0_of}
+use Rattle.amf0_spelling.specs.KeptTables0.{KeptTables0}
+use Rattle.amf0_layout.specs.Layout0.{short_layout}
+use Rattle.amf0_layout.specs.Layout0State.{state0_of}
 use Rattle.amf_sol.specs.declared.sol_version.SolVersion.{SolVersion}
 use Rattle.amf_sol.specs.SharedObject.{exact_kind, signature, second_signature, version_kind}
 use Rattle.amf_sol.specs.FileLayout.{FileState, file, no_pairs, version_of, behind_name, pair_layout}

@@ -13,10 +13,10 @@ use Rattle.amf3_spelling.specs.Then.{Spelling, Then, Nothing, Plain}
 use Rattle.amf3_spelling.specs.Words3.{Text}
 use Rattle.amf3_spelling.specs.Segments3.{Lifted}
 use Rattle.amf3_spelling.specs.Spells3.{Spells3}
-use Rattle.amf0_tables.specs.Lowered.{IsLoweringOf}
-use Rattle.amf0_tables.specs.Segments0.{Short}
-use Rattle.amf0_tables.specs.Spells0.{Spells0}
-use Rattle.amf0_tables.specs.Tables0.{Tables0}
+use Rattle.amf0_spelling.specs.Lowered.{IsLoweringOf}
+use Rattle.amf0_spelling.specs.Segments0.{Short}
+use Rattle.amf0_spelling.specs.Spells0.{Spells0}
+use Rattle.amf0_spelling.specs.Tables0.{Tables0}
 use Rattle.amf_sol.specs.declared.sol_version.SolVersion.{SolVersion}
 use Rattle.amf_sol.specs.declared.sol_version.SolVersion.TheVariants.{Amf0, Amf3}
 

@@ -1,6 +1,6 @@
 ghost use Rattle.std.specs.Prelude.{◌≡◌, ◌<◌, ◌^◌, length, OnOk};
 ghost use Rattle.amf_wire.specs.Text.{IsText};
-ghost use Rattle.amf0_tables.specs.Segments0.{Short};
+ghost use Rattle.amf0_spelling.specs.Segments0.{Short};
 ghost use Rattle.amf_sol.specs.FileParts.{Appends, IsHead};
 ghost use Rattle.amf_sol.specs.SharedObject.{version_number};
 

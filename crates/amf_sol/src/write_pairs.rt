@@ -8,7 +8,7 @@ ghost use Rattle.amf_graph.specs.Graph.{node_at};
 ghost use Rattle.amf_graph.specs.Reached.{IsReachedValue};
 ghost use Rattle.amf_graph.specs.Rooted.{content};
 ghost use Rattle.amf_iso.specs.Contents.{pairs_of, ArePairs};
-ghost use Rattle.amf0_tables.specs.Lowered.{IsLowered};
+ghost use Rattle.amf0_spelling.specs.Lowered.{IsLowered};
 ghost use Rattle.amf3_spelling.specs.Tables.{no_tables};
 ghost use Rattle.amf3_write.specs.PartLacks.{IsPartLack3};
 ghost use Rattle.amf3_write.specs.PartTables.{AreTablesOf};
@@ -25,7 +25,7 @@ use amf_graph::{Lack, LackKind, NodeId, NodeView, Rooted, TextId, Value, WriteEn
 use amf_iso::ids_by_name;
 use amf_tables::WriterTables;
 use amf_wire::Memory;
-use amf0_tables::graphs_have_one_lowering;
+use amf0_spelling::graphs_have_one_lowering;
 use amf0_write::{first_lack0, lower, write0_part};
 use amf3_write::{GraphTables, write3_part_of, write3_text_of};
 use std::alloc::Global;

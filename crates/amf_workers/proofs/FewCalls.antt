@@ -9,8 +9,8 @@ use Rattle.amf_broker.specs.declared.reply.Reply.{Reply}
 use Rattle.amf_broker.specs.declared.reply.Reply.TheVariants.{Client, Subscribed, Batch, Numbered, Again}
 use Rattle.amf_broker.specs.History.{Entry as Event}
 use Rattle.amf_graph.specs.Graph.{Graph, Value}
-use Rattle.amf0_tables.specs.declared.form.Form.{Form}
-use Rattle.amf0_tables.specs.declared.form.Form.TheVariants as form
+use Rattle.amf0_spelling.specs.declared.form.Form.{Form}
+use Rattle.amf0_spelling.specs.declared.form.Form.TheVariants as form
 use Rattle.amf_packet.specs.Packet.{Body, Message, Packet, SpelledPacket}
 use Rattle.flex_msgs.specs.Asked as asked
 use Rattle.flex_msgs.specs.Asked.{Told, Asked, Viewed}

@@ -1,6 +1,6 @@
 use Rattle.std.proofs.Common.{suc, ◌≡◌, ◌≤◌, sym, subst, arith}
 use Rattle.amf_graph.specs.Building.{changed as changed_arena, more_part, stored_at, HasRoom, PartNames}
-use Rattle.amf0_tables.specs.TableParts0.{shown_tables}
+use Rattle.amf0_spelling.specs.TableParts0.{shown_tables}
 use Rattle.amf3_read.specs.Answer.{left_of}
 use Rattle.amf3_read.proofs.Stack.{done}
 use Rattle.amf0_read.specs.Frames0.{FilledSo, CarriesEnd}

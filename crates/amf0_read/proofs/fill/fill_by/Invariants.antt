@@ -1,4 +1,4 @@
-use Rattle.amf0_tables.specs.TableParts0.{shown_tables}
+use Rattle.amf0_spelling.specs.TableParts0.{shown_tables}
 use Rattle.amf3_read.specs.Answer.{left_of}
 use Rattle.amf0_read.specs.Frames0.{FilledSo}
 use Rattle.amf0_read.proofs.fill.fill_by.Given as goal

@@ -3,10 +3,10 @@ use Rattle.std.proofs.lemmas.Grind.{common_steps}
 use Rattle.amf_graph.specs.Arena.{head_content, text_at}
 use Rattle.amf_graph.specs.Building.{stored_at}
 use Rattle.amf3_read.specs.Answer.{left_of}
-use Rattle.amf0_tables.specs.TableParts0.{shown_tables}
-use Rattle.amf0_tables.specs.Segments0.{is_empty}
-use Rattle.amf0_tables.specs.Layout0State.{state0_of}
-use Rattle.amf0_tables.specs.Layout0.{value0_layout}
+use Rattle.amf0_spelling.specs.TableParts0.{shown_tables}
+use Rattle.amf0_spelling.specs.Segments0.{is_empty}
+use Rattle.amf0_layout.specs.Layout0State.{state0_of}
+use Rattle.amf0_layout.specs.Layout0.{value0_layout}
 use Rattle.amf0_read.specs.declared.frame.Todo.TheVariants.{Items, Pairs}
 use Rattle.amf0_read.specs.declared.frame.Slot.TheVariants.{Item, Named}
 use Rattle.amf0_read.specs.declared.fill.Step.TheVariants as step

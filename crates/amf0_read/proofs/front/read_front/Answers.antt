@@ -1,7 +1,7 @@
 use Rattle.std.proofs.Common.{false, [], List, reverse, sym, ap, ◌∙◌, subst, arith}
-use Rattle.amf0_tables.specs.TableParts0.{shown_tables}
-use Rattle.amf0_tables.specs.Layout0State.{state0_of}
-use Rattle.amf0_tables.specs.Layout0.{value0_layout}
+use Rattle.amf0_spelling.specs.TableParts0.{shown_tables}
+use Rattle.amf0_layout.specs.Layout0State.{state0_of}
+use Rattle.amf0_layout.specs.Layout0.{value0_layout}
 use Rattle.amf3_read.specs.Answer.{left_of}
 use Rattle.amf0_read.specs.declared.frame.Frame.{Frame}
 use Rattle.amf0_read.specs.declared.frame.Now.{Now}

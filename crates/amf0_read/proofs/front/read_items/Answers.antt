@@ -1,7 +1,7 @@
 use Rattle.std.proofs.Common.{rules, ◌≡◌, true, false, [], ◌∷◌, List, reverse, sym, ap, ◌∙◌, subst, arith, Some}
-use Rattle.amf0_tables.specs.TableParts0.{shown_tables}
-use Rattle.amf0_tables.specs.Layout0State.{state0_of}
-use Rattle.amf0_tables.specs.Layout0.{behind0, value0_layout}
+use Rattle.amf0_spelling.specs.TableParts0.{shown_tables}
+use Rattle.amf0_layout.specs.Layout0State.{state0_of}
+use Rattle.amf0_layout.specs.Layout0.{behind0, value0_layout}
 use Rattle.amf3_read.specs.Answer.{left_of}
 use Rattle.amf0_read.specs.declared.frame.Frame.{Frame}
 use Rattle.amf0_read.specs.declared.frame.Now.TheVariants as now
@@ -14,8 +14,8 @@ use Rattle.amf0_read.proofs.FrontStarts0.{front_ended, items_open, item_not, ite
 use Rattle.amf0_read.proofs.NodeStarts0.{array_still_ready, array_items}
 use Rattle.amf0_read.specs.declared.node.Start.TheVariants as start
 use denote.Enum.Bare.{same_true, sameb}
-use Rattle.amf0_tables.specs.declared.marker.Marker0.TheVariants as marker
-use Rattle.amf0_tables.specs.contracts.marker.Marker0.{the_type}
+use Rattle.amf0_spelling.specs.declared.marker.Marker0.TheVariants as marker
+use Rattle.amf0_spelling.specs.contracts.marker.Marker0.{the_type}
 use Rattle.amf0_read.proofs.front.read_items.Goals as goal
 
 pub returns-then-count-ne1-clause-leads : goal.returns-then-count-ne1-clause-leads

@@ -2,11 +2,11 @@ use Rattle.std.proofs.Common.{◌≡◌, false, length, None, Some, Ok, ap, ◌�
 use Rattle.std.specs.Prelude.{slice_index}
 use Rattle.amf_io.specs.Layout.{give}
 use Rattle.amf_io.proofs.CursorReads.{field_reads, gives}
-use Rattle.amf0_tables.specs.Refusals0.{marker0_kind, marker0_refusal}
-use Rattle.amf0_tables.specs.TableParts0.{shown_tables}
+use Rattle.amf0_spelling.specs.Refusals0.{marker0_kind, marker0_refusal}
+use Rattle.amf0_spelling.specs.TableParts0.{shown_tables}
 use Rattle.amf0_read.proofs.FieldReads0.{refused_at}
 use Rattle.amf0_read.proofs.marker.read_marker.Goals as goal
-use Rattle.amf0_tables.specs.Markers0.{marker0_at}
+use Rattle.amf0_spelling.specs.Markers0.{marker0_at}
 
 pub returns-in-Ok-clause-answers : goal.returns-in-Ok-clause-answers
 returns-in-Ok-clause-answers g c =

@@ -2,12 +2,12 @@ use Rattle.std.proofs.Common.{◌≡◌, true, length, None, Some, Ok, Option, a
 use Rattle.std.specs.Prelude.{slice_index}
 use Rattle.amf_io.specs.Layout.{give}
 use Rattle.amf_io.proofs.CursorReads.{field_reads, gives}
-use Rattle.amf0_tables.specs.Refusals0.{marker0_kind, marker0_refusal}
-use Rattle.amf0_tables.specs.TableParts0.{shown_tables}
-use Rattle.amf0_tables.specs.declared.marker.Marker0.{Marker0}
+use Rattle.amf0_spelling.specs.Refusals0.{marker0_kind, marker0_refusal}
+use Rattle.amf0_spelling.specs.TableParts0.{shown_tables}
+use Rattle.amf0_spelling.specs.declared.marker.Marker0.{Marker0}
 use Rattle.amf0_read.proofs.FieldReads0.{refused_at, end_clean, same_refusal}
 use Rattle.amf0_read.proofs.marker.read_marker_or_end.Goals as goal
-use Rattle.amf0_tables.specs.Markers0.{marker0_at}
+use Rattle.amf0_spelling.specs.Markers0.{marker0_at}
 
 pub returns-then-byte-eq-END-clause-answers : goal.returns-then-byte-eq-END-clause-answers
 returns-then-byte-eq-END-clause-answers g c =

@@ -4,9 +4,9 @@ use Rattle.amf3_layout.specs.Layout3State.{state_of}
 use Rattle.amf3_layout.specs.Layout3.{read, value_layout}
 use Rattle.amf_io.specs.Layout.{give}
 use Rattle.amf3_read.specs.Answer.{left_of}
-use Rattle.amf0_tables.specs.TableParts0.{shown_tables}
-use Rattle.amf0_tables.specs.Layout0.{read0}
-use Rattle.amf0_tables.specs.Layout0State.{state0_of, switched}
+use Rattle.amf0_spelling.specs.TableParts0.{shown_tables}
+use Rattle.amf0_layout.specs.Layout0.{read0}
+use Rattle.amf0_layout.specs.Layout0State.{state0_of, switched}
 use Rattle.amf0_read.proofs.Starts0.{made, ended}
 use Rattle.amf0_read.proofs.NodeStarts0.{switched_still_ready, switched_is, switched_names}
 use Rattle.amf0_read.proofs.node.read_switched.Goals as goal

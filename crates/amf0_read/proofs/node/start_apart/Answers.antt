@@ -10,11 +10,11 @@ use Rattle.amf_graph.specs.Arena.{text_at}
 use Rattle.amf3_layout.specs.Layout3.{flag_layout, eight_layout}
 use Rattle.amf3_layout.proofs.Layout3Contents.{all_place}
 use Rattle.amf3_layout.proofs.Reader3Tables.{grows_itself}
-use Rattle.amf0_tables.specs.TableParts0.{shown_tables}
-use Rattle.amf0_tables.specs.Layout0.{TextRead0, new_text0, read0, short_layout, long_layout, with_members}
-use Rattle.amf0_tables.specs.Layout0State.{State0, state0_of}
+use Rattle.amf0_spelling.specs.TableParts0.{shown_tables}
+use Rattle.amf0_layout.specs.Layout0.{TextRead0, new_text0, read0, short_layout, long_layout, with_members}
+use Rattle.amf0_layout.specs.Layout0State.{State0, state0_of}
 use Rattle.amf0_read.specs.declared.frame.Todo.TheVariants.{Pairs}
-use Rattle.amf0_tables.specs.declared.marker.Marker0.TheVariants as marker
+use Rattle.amf0_spelling.specs.declared.marker.Marker0.TheVariants as marker
 use Rattle.amf0_read.specs.declared.node.Start.TheVariants as start
 use Rattle.amf0_read.specs.Leaves0.{place_layout}
 use Rattle.amf0_read.specs.Ready0.{text_read}

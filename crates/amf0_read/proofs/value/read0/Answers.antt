@@ -1,5 +1,5 @@
 use Rattle.std.proofs.Common.{suc, reverse, ap, ◌∙◌, arith}
-use Rattle.amf0_tables.specs.TableParts0.{shown_tables}
+use Rattle.amf0_spelling.specs.TableParts0.{shown_tables}
 use Rattle.amf3_read.specs.Answer.{left_of}
 use Rattle.amf0_read.specs.Fronts0.{form_of}
 use Rattle.amf0_read.specs.Frames0.{owed}

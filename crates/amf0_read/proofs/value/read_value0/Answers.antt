@@ -1,8 +1,8 @@
 use Rattle.std.proofs.Common.{false, reverse}
 use Rattle.amf_io.specs.Layout.{bind}
-use Rattle.amf0_tables.specs.Layout0.{read0, value0_layout}
-use Rattle.amf0_tables.specs.Layout0State.{state0_of}
-use Rattle.amf0_tables.specs.TableParts0.{shown_tables}
+use Rattle.amf0_layout.specs.Layout0.{read0, value0_layout}
+use Rattle.amf0_layout.specs.Layout0State.{state0_of}
+use Rattle.amf0_spelling.specs.TableParts0.{shown_tables}
 use Rattle.amf_graph.specs.declared.value.Value.{Value}
 use Rattle.amf3_read.proofs.LayoutBinds.{passed_on}
 use Rattle.amf0_read.specs.Frames0.{current, rest, owed}

@@ -1,7 +1,7 @@
 -- A node that is no wrapper is low as it is.
 use Rattle.std.proofs.Common.{◌<◌, length, refl, arith}
 use Rattle.amf_graph.specs.declared.value.Value.TheVariants.{Node as NodeRef}
-use Rattle.amf0_tables.specs.Lowered.{ends}
+use Rattle.amf0_spelling.specs.Lowered.{ends}
 use Rattle.amf0_write.specs.Chained.{IsLowFor}
 use Rattle.amf0_write.proofs.ChainEnds.{for_more}
 use Rattle.amf0_write.proofs.chains.all_themselves.Goals as goal

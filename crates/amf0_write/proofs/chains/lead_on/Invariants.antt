@@ -2,7 +2,7 @@ use Rattle.std.proofs.Common.{◌≡◌, false, take}
 use Rattle.std.specs.List.{AllByRecursion}
 use Rattle.amf_graph.specs.Arena.{value_content}
 use Rattle.amf_graph.specs.Rooted.{content}
-use Rattle.amf0_tables.specs.Lowered.{wraps}
+use Rattle.amf0_spelling.specs.Lowered.{wraps}
 use Rattle.amf0_write.proofs.chains.lead_on.Given as goal
 
 abbrev pub invariant-loop-end : goal.invariant-loop-end

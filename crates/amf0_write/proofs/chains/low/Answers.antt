@@ -8,7 +8,7 @@ use Rattle.amf_graph.specs.Graph.{leaf, double}
 use Rattle.amf_graph.specs.Rooted.{content}
 use Rattle.amf_wire.specs.Integer.{IsInteger}
 use Rattle.amf_wire.specs.Whole.{IsPatternOf}
-use Rattle.amf0_tables.specs.Lowered.{wraps, LowPlain}
+use Rattle.amf0_spelling.specs.Lowered.{wraps, LowPlain}
 use Rattle.amf0_write.proofs.ChainEnds.{low_end, low_null, plain_same}
 use Rattle.amf0_write.proofs.chains.low.Goals as goal
 

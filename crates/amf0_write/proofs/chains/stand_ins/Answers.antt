@@ -7,7 +7,7 @@ use Rattle.amf_graph.specs.declared.value.Value.TheVariants.{Undefined}
 use Rattle.amf_graph.specs.Arena.{value_content}
 use Rattle.amf_graph.specs.Rooted.{content}
 use Rattle.amf_graph.proofs.Alls.{all_at}
-use Rattle.amf0_tables.specs.Lowered.{wraps}
+use Rattle.amf0_spelling.specs.Lowered.{wraps}
 use Rattle.amf0_write.specs.Chained.{IsLowFor, AreAfter}
 use Rattle.amf0_write.proofs.ChainEnds.{for_more}
 use Rattle.amf0_write.proofs.chains.stand_ins.Goals as goal

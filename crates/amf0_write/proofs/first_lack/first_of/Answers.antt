@@ -4,8 +4,8 @@ use Rattle.std.specs.Prelude.{◌↔◌}
 use Rattle.std.proofs.lemmas.Option.{slice_get_within, slice_get-get_or, get_or_from_slice_get}
 use Rattle.amf_graph.specs.Graph.{node}
 use Rattle.amf_graph.specs.Rooted.{content}
-use Rattle.amf0_tables.specs.Lacks0.{NodeLacks0, entered}
-use Rattle.amf0_tables.specs.Met.{all_met, IsTwice}
+use Rattle.amf0_spelling.specs.Lacks0.{NodeLacks0, entered}
+use Rattle.amf0_spelling.specs.Met.{all_met, IsTwice}
 use Rattle.amf0_write.specs.Meetings.{IsFirstReason}
 use Rattle.amf0_write.proofs.MeetingSteps.{in_order}
 use Rattle.amf0_write.proofs.FirstReasons.{found, none_more, no_reason, enters_more, enters_same}

@@ -1,6 +1,6 @@
 use Rattle.std.proofs.Common.{◌≡◌, ◌≤◌, length, take}
 use Rattle.amf_graph.specs.Rooted.{content}
-use Rattle.amf0_tables.specs.Lacks0.{entered}
+use Rattle.amf0_spelling.specs.Lacks0.{entered}
 use Rattle.amf0_write.proofs.FirstReasons.{NoneBelow}
 use Rattle.amf0_write.proofs.first_lack.first_of.Given as goal
 

@@ -3,7 +3,7 @@ use Rattle.std.proofs.lemmas.Result.{err_from_is_err_and}
 use Rattle.amf_io.specs.Cursor.{source_of, place, bound, unread}
 use Rattle.amf_io.proofs.CursorReads.{goes_end}
 use Rattle.amf_graph.specs.Rooted.{RootedArena, content}
-use Rattle.amf0_tables.specs.TableParts0.{shown_tables}
+use Rattle.amf0_spelling.specs.TableParts0.{shown_tables}
 use Rattle.amf_cli.specs.declared.format.Format.TheVariants.{Amf0}
 use Rattle.amf_cli.specs.Content.{value}
 use Rattle.amf_cli.specs.ReadContent.{IsReadOne}

@@ -3,7 +3,7 @@ use Rattle.amf_graph.specs.declared.lack.Lack.{Lack}
 use Rattle.amf_wire.specs.Style.{free}
 use Rattle.amf_packet.specs.Content.{packet_of}
 use Rattle.amf_packet.proofs.Spelled.{has_version, has_texts}
-use Rattle.amf_packet_show.proofs.ReadPackets.{not_many, not_long}
+use Rattle.amf_listings.proofs.ReadPackets.{not_many, not_long}
 use Rattle.amf_cli.specs.declared.format.Format.TheVariants.{Packet}
 use Rattle.amf_cli.specs.Content.{packet}
 use Rattle.amf_cli.specs.Formats.{IsUnwritten}

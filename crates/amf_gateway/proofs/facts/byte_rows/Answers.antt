@@ -4,7 +4,7 @@ use Rattle.std.specs.Fmt.{digits}
 use Rattle.uuid.specs.Text.{by_index}
 use Rattle.amf_graph.specs.Graph.{Graph}
 use Rattle.amf_wire.specs.Style.{free, canonical}
-use Rattle.amf0_tables.specs.declared.form.Form.TheVariants.{Call}
+use Rattle.amf0_spelling.specs.declared.form.Form.TheVariants.{Call}
 use Rattle.amf_broker.specs.declared.reply.Reply.TheVariants.{Client, Subscribed, Published, Batch}
 use Rattle.amf_packet.specs.Packet.{Packet}
 use Rattle.flex_msgs.specs.Answers.{published_graph}

@@ -1,8 +1,8 @@
 use Rattle.std.proofs.Common.{◌≡◌, true, false, Bool, subst}
 use Rattle.amf_graph.specs.Graph.{Graph}
 use Rattle.amf_graph.specs.Rooted.{content}
-use Rattle.amf0_tables.specs.declared.form.Form.{Form}
-use Rattle.amf0_tables.specs.declared.form.Form.TheVariants.{Amf3}
+use Rattle.amf0_spelling.specs.declared.form.Form.{Form}
+use Rattle.amf0_spelling.specs.declared.form.Form.TheVariants.{Amf3}
 use Rattle.amf_gateway.specs.Calls.{TellsSpelled, LacksNothing}
 use Rattle.amf_gateway.specs.Plan.{whole}
 use Rattle.amf_gateway.proofs.Plain.{amf3_well, amf3_badly, in_some}

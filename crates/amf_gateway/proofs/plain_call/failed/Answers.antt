@@ -1,7 +1,7 @@
 use Rattle.std.proofs.Common.{◌≡◌, ◌∙◌, ap}
 use Rattle.amf_graph.specs.Graph.{Graph}
 use Rattle.amf_graph.specs.Rooted.{content}
-use Rattle.amf0_tables.specs.declared.form.Form.{Form}
+use Rattle.amf0_spelling.specs.declared.form.Form.{Form}
 use Rattle.amf_gateway.specs.PlainCalls.{reply_form}
 use Rattle.amf_gateway.proofs.Plain.{body_with, fault_is}
 use Rattle.amf_gateway.proofs.plain_call.failed.Goals as goal

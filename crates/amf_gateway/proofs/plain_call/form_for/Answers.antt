@@ -1,7 +1,7 @@
 -- The form of a request chooses.
 use Rattle.std.proofs.Common.{◌≡◌, IfOk, sym, subst}
 use Rattle.amf_graph.specs.Rooted.{content}
-use Rattle.amf0_tables.specs.declared.form.Form.{Form}
+use Rattle.amf0_spelling.specs.declared.form.Form.{Form}
 use Rattle.amf_gateway.proofs.Plain.{RunsAs}
 use Rattle.amf_gateway.proofs.plain_call.form_for.Goals as goal
 

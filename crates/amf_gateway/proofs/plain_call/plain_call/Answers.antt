@@ -1,6 +1,6 @@
 use Rattle.std.proofs.Common.{◌≡◌, ◌∙◌, IfOk, sym, subst}
 use Rattle.std.proofs.lemmas.Result.{IfOk-weaker}
-use Rattle.amf0_tables.specs.declared.form.Form.{Form}
+use Rattle.amf0_spelling.specs.declared.form.Form.{Form}
 use Rattle.amf_packet.specs.Content.{body_of}
 use Rattle.flex_msgs.specs.declared.reply.FaultText.{FaultText}
 use Rattle.amf_gateway.specs.Calls.{AnswersMessage}

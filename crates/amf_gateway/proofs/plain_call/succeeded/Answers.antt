@@ -2,7 +2,7 @@ use Rattle.std.proofs.Common.{◌≡◌, Option, Some, None, IfOk, subst}
 use Rattle.std.proofs.lemmas.Result.{IfOk-weaker}
 use Rattle.amf_graph.specs.Graph.{Graph}
 use Rattle.amf_graph.specs.Rooted.{content}
-use Rattle.amf0_tables.specs.declared.form.Form.{Form}
+use Rattle.amf0_spelling.specs.declared.form.Form.{Form}
 use Rattle.flex_msgs.specs.declared.reply.FaultText.{FaultText}
 use Rattle.amf_gateway.specs.Calls.{AnswersMessage}
 use Rattle.amf_gateway.specs.PlainCalls.{form_for, failed as failed_answer}

@@ -1,7 +1,7 @@
 use Rattle.std.proofs.Common.{Ok, Err}
 use Rattle.amf_io.proofs.CursorReads.{end_reads}
 use Rattle.amf_wire.specs.Style.{free}
-use Rattle.amf0_tables.specs.Segments0.{Short}
+use Rattle.amf0_spelling.specs.Segments0.{Short}
 use Rattle.amf_packet.specs.declared.body.Body.{Body}
 use Rattle.amf_packet.specs.declared.packet.Header.{Header}
 use Rattle.amf_packet.specs.Content.{body_of, header_of}

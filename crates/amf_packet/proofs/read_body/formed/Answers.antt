@@ -1,5 +1,5 @@
 use Rattle.std.proofs.Common.{sym, subst}
-use Rattle.amf0_tables.specs.declared.form.Form.{Form}
+use Rattle.amf0_spelling.specs.declared.form.Form.{Form}
 use Rattle.amf_packet.specs.declared.body.Body.TheVariants.{Call}
 use Rattle.amf_packet.specs.Items.{IsBodyOf}
 use Rattle.amf_packet.proofs.read_body.formed.Goals as goal

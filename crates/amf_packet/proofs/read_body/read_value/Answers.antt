@@ -2,7 +2,7 @@ use Rattle.std.proofs.Common.{Ok, Err, ap}
 use Rattle.amf_io.specs.Cursor.{place}
 use Rattle.amf_graph.specs.Rooted.{RootedArena}
 use Rattle.amf_wire.specs.Style.{free}
-use Rattle.amf0_tables.specs.TableParts0.{shown_tables}
+use Rattle.amf0_spelling.specs.TableParts0.{shown_tables}
 use Rattle.amf_packet.specs.Content.{body_of}
 use Rattle.amf_packet.specs.LayoutPacket.{body_layout}
 use Rattle.amf_packet.specs.Packet.{BodyBy}

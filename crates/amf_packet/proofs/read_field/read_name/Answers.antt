@@ -5,7 +5,7 @@ use Rattle.amf_io.specs.Layout.{give}
 use Rattle.amf_io.specs.CursorReads.{Answers, Ends}
 use Rattle.amf_io.proofs.CursorReads.{field_ended}
 use Rattle.amf3_layout.specs.Layout3Words.{chunk}
-use Rattle.amf0_tables.specs.Segments0.{Short}
+use Rattle.amf0_spelling.specs.Segments0.{Short}
 use Rattle.amf_packet.specs.LayoutPacket.{done, name_layout}
 use Rattle.amf_packet.specs.ReadParts.{Took}
 use Rattle.amf_packet.proofs.FieldReads.{reads_passed, took_name, name_ended, took_stays}

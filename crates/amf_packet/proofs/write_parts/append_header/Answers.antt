@@ -1,5 +1,5 @@
 use Rattle.amf_wire.specs.Style.{canonical}
-use Rattle.amf0_tables.specs.Segments0.{Short}
+use Rattle.amf0_spelling.specs.Segments0.{Short}
 use Rattle.amf_packet.specs.Content.{body_of, header_of}
 use Rattle.amf_packet.specs.Packet.{Beside, MustBy, SizedBy, HeaderBy}
 use Rattle.amf_packet.specs.WriteParts.{LacksHere}

@@ -1,6 +1,6 @@
 use Rattle.std.proofs.Common.{ℕ, List, length, ◌<◌, ◌^◌, ◌++◌, ap, ◌∙◌, sym, subst}
 use Rattle.amf_wire.specs.Text.{IsText}
-use Rattle.amf0_tables.specs.Segments0.{Short}
+use Rattle.amf0_spelling.specs.Segments0.{Short}
 use Rattle.amf_packet.specs.WriteParts.{Appends}
 use Rattle.amf_packet.proofs.WriteFields.{name_written}
 use Rattle.amf_packet.proofs.WriteJoins.{appends_grow}

@@ -1,7 +1,7 @@
 use Rattle.std.proofs.Common.{◌≡◌, ◌≤◌, ◌<◌, true, length, sym, ap, ◌∙◌, subst, arith}
 use Rattle.amf_graph.specs.declared.part.Part.TheVariants.{Named}
 use Rattle.amf_graph.specs.Building.{changed, more_part, stored_at, HasRoom, size_of}
-use Rattle.amf0_tables.specs.TableParts0.{shown_tables}
+use Rattle.amf0_spelling.specs.TableParts0.{shown_tables}
 use Rattle.amf3_read.specs.Answer.{left_of}
 use Rattle.amf3_read.proofs.LayoutBinds.{passed_on}
 use Rattle.amf3_read.proofs.Stack.{done}

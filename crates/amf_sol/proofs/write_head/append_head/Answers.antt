@@ -1,5 +1,5 @@
 use Rattle.std.proofs.Common.{List, ℕ, ◌∷◌, [], ◌++◌, ap, ◌∙◌, subst}
-use Rattle.amf0_tables.specs.Segments0.{Short}
+use Rattle.amf0_spelling.specs.Segments0.{Short}
 use Rattle.amf_sol.specs.FileParts.{Appends}
 use Rattle.amf_sol.specs.SharedObject.{version_number}
 use Rattle.amf_sol.proofs.FileWrites.{head_written}

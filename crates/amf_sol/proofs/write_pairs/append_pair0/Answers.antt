@@ -1,7 +1,7 @@
 use Rattle.std.proofs.Common.{List, ℕ, subst}
 use Rattle.amf_graph.specs.Arena.{text_at, value_content}
 use Rattle.amf_graph.specs.Rooted.{content}
-use Rattle.amf0_tables.specs.Segments0.{Short}
+use Rattle.amf0_spelling.specs.Segments0.{Short}
 use Rattle.amf0_write.specs.Written0.{tables0}
 use Rattle.amf_sol.specs.FileParts.{Appends}
 use Rattle.amf_sol.proofs.FileWrites.{pair0_written}

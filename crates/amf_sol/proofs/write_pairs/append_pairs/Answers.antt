@@ -2,7 +2,7 @@ use Rattle.std.proofs.Common.{◌≡◌, sym, ◌∙◌, subst}
 use Rattle.amf_wire.specs.Style.{canonical}
 use Rattle.amf_graph.specs.Graph.{Graph}
 use Rattle.amf_graph.specs.Rooted.{RootedArena, content}
-use Rattle.amf0_tables.specs.Lowered.{IsLoweringOf}
+use Rattle.amf0_spelling.specs.Lowered.{IsLoweringOf}
 use Rattle.amf3_write.proofs.Wrote.{on_ok}
 use Rattle.amf_sol.specs.declared.sol_version.SolVersion.TheVariants.{Amf0, Amf3}
 use Rattle.amf_sol.specs.FileLacks.{IsHolderLack}

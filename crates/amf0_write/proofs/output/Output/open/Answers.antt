@@ -7,8 +7,8 @@ use Rattle.amf_graph.specs.Graph.{Node, node_at}
 use Rattle.amf_graph.specs.Rooted.{content}
 use Rattle.amf_graph.specs.Views.{named, Shows}
 use Rattle.amf_iso.specs.Contents.{pairs_of, values_of}
-use Rattle.amf0_tables.specs.Lowered.{IsLowHead}
-use Rattle.amf0_tables.specs.Spells0.{IsOpenTraits}
+use Rattle.amf0_spelling.specs.Lowered.{IsLowHead}
+use Rattle.amf0_spelling.specs.Spells0.{IsOpenTraits}
 use Rattle.amf0_write.specs.Unwritten0.{segments_left}
 use Rattle.amf0_write.specs.Writes0.{Adds, Opened}
 use Rattle.amf0_write.proofs.Leading0.{adds_then}

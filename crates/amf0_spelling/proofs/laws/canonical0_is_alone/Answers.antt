@@ -1,0 +1,5 @@
+use Rattle.amf0_spelling.proofs.Decides0 as law
+use Rattle.amf0_spelling.proofs.laws.canonical0_is_alone.Goals as goal
+
+pub returns : goal.returns
+returns c = law.alone0

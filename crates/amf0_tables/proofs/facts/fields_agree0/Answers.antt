@@ -1,5 +1,0 @@
-use Rattle.amf0_tables.proofs.Clean0 as law
-use Rattle.amf0_tables.proofs.facts.fields_agree0.Goals as goal
-
-pub returns : goal.returns
-returns c = law.clean0

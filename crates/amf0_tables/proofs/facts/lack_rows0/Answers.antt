@@ -1,5 +1,0 @@
-use Rattle.amf0_tables.proofs.LackRows0 as rows
-use Rattle.amf0_tables.proofs.facts.lack_rows0.Goals as goal
-
-pub returns : goal.returns
-returns c = rows.lack_rows

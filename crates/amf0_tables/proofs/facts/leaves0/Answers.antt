@@ -1,5 +1,0 @@
-use Rattle.amf0_tables.proofs.LeafRows0 as rows
-use Rattle.amf0_tables.proofs.facts.leaves0.Goals as goal
-
-pub returns : goal.returns
-returns c = rows.leaves0

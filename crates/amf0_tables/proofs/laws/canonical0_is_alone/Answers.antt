@@ -1,5 +1,0 @@
-use Rattle.amf0_tables.proofs.Decides0 as law
-use Rattle.amf0_tables.proofs.laws.canonical0_is_alone.Goals as goal
-
-pub returns : goal.returns
-returns c = law.alone0

@@ -1,5 +1,0 @@
-use Rattle.amf0_tables.proofs.LackTwice0 as law
-use Rattle.amf0_tables.proofs.laws.met_again_is_twice.Goals as goal
-
-pub returns : goal.returns
-returns c = law.met_again_is_twice

@@ -1,5 +1,0 @@
-use Rattle.amf0_tables.proofs.Decides0 as law
-use Rattle.amf0_tables.proofs.laws.same_bytes0_are_isomorphic.Goals as goal
-
-pub returns : goal.returns
-returns c = law.same_bytes_isomorphic0

@@ -1,0 +1,21 @@
+-- The lemmas that several proofs share: of packets, and of files.
+pub mod Fronts
+pub mod PacketLacks
+pub mod PacketLawRows
+pub mod ListedPackets
+pub mod PacketLowerings
+pub mod MatchedPackets
+pub mod ReadPackets
+pub mod PacketRows
+pub mod PacketSteps
+pub mod Switches
+pub mod PacketTurns
+pub mod Members
+pub mod FileParts
+pub mod SameFileBytes
+pub mod CanonicalFiles
+pub mod LackingFiles
+pub mod ListedFiles
+pub mod FileLawRows
+pub mod HasLow
+pub mod FileRows

@@ -1,8 +1,0 @@
--- The definitions that contracts cite.
-pub mod SamePacket
-pub mod PacketListing
-pub mod PacketNodes
-pub mod PacketLaws
-pub mod WorkedPacketListings
--- Devices of the proofs: no clause of a public call needs them.
-pub mod PacketParts

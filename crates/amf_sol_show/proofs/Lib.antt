@@ -1,9 +1,0 @@
-pub mod Members
-pub mod Parts
-pub mod SameBytes
-pub mod Canonical
-pub mod Lacking
-pub mod Listed
-pub mod Laws
-pub mod HasLow
-pub mod Rows
