@@ -1,4 +1,4 @@
--- A text that a reader kept.
+-- A text that a builder kept. A device of proofs.
 use Rattle.std.specs.Prelude.{◌≡◌, ℕ, length}
 use Rattle.amf_graph.specs.Arena.{Arena, text_at}
 use Rattle.amf_graph.specs.Building.{kept_text}

@@ -1,5 +1,5 @@
--- What a reader may take and add, and what it keeps.
+-- The definitions that contracts cite.
 pub mod Room
-pub mod KeptText
--- A device of the proofs: the fields that are read here.
+-- Devices of the proofs. Of the public calls only those need them by which a reader reads its fields.
 pub mod FieldSize
+pub mod KeptText

@@ -9,7 +9,7 @@ mod fixed;
 mod text;
 
 pub use contents::{Contents, read_contents};
-pub use ends::{kept, read_end, refused};
+pub use ends::{kept, refused};
 pub use field::{FieldSize, read_field, read_number};
 pub use field_bytes::FieldBytes;
 pub use fixed::{read_double, read_flag};
