@@ -2,7 +2,7 @@
 mod FieldLoop
 mod FieldNumbers
 pub mod Ahead
-pub mod Contents
+pub mod Chunks
 pub mod CameChunk
 pub mod LooseText
 pub mod LayoutBinds

@@ -22,7 +22,7 @@ use Rattle.amf_fields.specs.declared.contents.Contents.TheVariants.{Text}
 use Rattle.amf_fields.specs.FieldSize.{BeginsWithText}
 use Rattle.amf_fields.specs.KeptText.{KeptText}
 use Rattle.amf_fields.proofs.Ahead.{Passed}
-use Rattle.amf_fields.proofs.Contents.{chunk_ahead}
+use Rattle.amf_fields.proofs.Chunks.{chunk_ahead}
 
 -- there is room for one more text
 pub room_for_text : (n m : ℕ) → n < 2 ^ 27 → m < 2 ^ 28 → (268435455 ≤ n) ⊎ (268435455 < m) → ⊥

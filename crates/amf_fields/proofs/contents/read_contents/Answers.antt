@@ -4,7 +4,7 @@ use Rattle.amf_io.specs.declared.ends.ReadEnd.TheVariants.{Refused}
 use Rattle.amf_io.specs.Field.{AreBytes}
 use Rattle.amf_io.specs.ReadEnds.{IsEnd}
 use Rattle.amf_fields.specs.FieldSize.{contents_refusal}
-use Rattle.amf_fields.proofs.Contents.{chunk_done, chunk_refused, chunk_cut}
+use Rattle.amf_fields.proofs.Chunks.{chunk_done, chunk_refused, chunk_cut}
 use Rattle.amf_fields.proofs.contents.read_contents.Goals as goal
 
 pub returns-in-Err-clause-answers : goal.returns-in-Err-clause-answers

@@ -1,5 +1,5 @@
 use Rattle.std.proofs.Common.{arith}
-use Rattle.amf_fields.proofs.Contents.{are_bytes}
+use Rattle.amf_fields.proofs.Chunks.{are_bytes}
 use Rattle.amf_fields.proofs.LooseText.{begins_text}
 use Rattle.amf_fields.proofs.text.begins_with_text.Goals as goal
 

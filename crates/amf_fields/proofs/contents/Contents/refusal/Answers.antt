@@ -1,5 +1,5 @@
 use Rattle.std.proofs.Common.{sym, ◌∙◌, arith}
-use Rattle.amf_fields.proofs.Contents.{are_bytes, class_refused}
+use Rattle.amf_fields.proofs.Chunks.{are_bytes, class_refused}
 use Rattle.amf_fields.proofs.contents.Contents.refusal.Goals as goal
 
 pub returns-in-Class-clause-refusal : goal.returns-in-Class-clause-refusal

@@ -1,5 +1,5 @@
 use Rattle.std.proofs.Common.{arith}
-use Rattle.amf_fields.proofs.Contents.{are_bytes}
+use Rattle.amf_fields.proofs.Chunks.{are_bytes}
 use Rattle.amf_fields.proofs.field_bytes.FieldBytes.front.Goals as goal
 
 pub returns-clause-bytes : goal.returns-clause-bytes
