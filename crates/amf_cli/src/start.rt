@@ -2,7 +2,7 @@ ghost use Rattle.std.specs.Prelude.{◌≡◌, ℕ, ◌⊎◌, List};
 ghost use Rattle.std.specs.Process.{exit_status};
 ghost use Rattle.amf_io.specs.Outside.{Rose, Steady};
 ghost use Rattle.amf_service.specs.Registry.{Entry};
-ghost use Rattle.amf_gateway.specs.Services.{services_by};
+ghost use Rattle.amf_plan.specs.Services.{services_by};
 ghost use Rattle.amf_workers.specs.Together.{Serves};
 ghost use Rattle.amf_io.specs.declared.reason.Reason.{Reason};
 ghost use Rattle.amf_cli.specs.Input.{input_of, IsAcceptedAs, IsRefusedAs};
