@@ -1,5 +1,5 @@
 -- The message comes to those that listen to its topic, once others have left.
-use Rattle.std.proofs.Common.{◌≡◌, ◌++◌, ◌∙◌, refl, ap, sym, map, length, take, drop, arith}
+use Rattle.std.proofs.Common.{◌≡◌, ◌++◌, ◌∙◌, ap, sym, map, length, take, drop, arith}
 use Rattle.amf_broker.specs.Sound.{are_in_order}
 use Rattle.amf_broker.specs.Lines.{waiters_left}
 use Rattle.amf_broker.specs.Members.{members_at, lines_without, line_without, waiters_after, ended_after, spans_ended, logs_of}
