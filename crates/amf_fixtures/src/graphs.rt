@@ -1,6 +1,6 @@
 use crate::read0::read_into0;
 use crate::read3::read_into3;
-use crate::reading::WHOLE;
+use crate::reading::Reading;
 use amf_graph::{Builder, NodeId, Rooted, Value};
 use amf_io::ReadEnd;
 use amf_wire::Memory;
@@ -32,14 +32,14 @@ impl From<ReadEnd> for NoGraph {
 /// The graph that these bytes of AMF 3 spell.
 pub fn graph3(alloc: Global, bytes: &[u8]) -> Result<Rooted, NoGraph> {
     let mut builder = Builder::new(alloc)?;
-    let root = read_into3(alloc, bytes, &WHOLE, &mut builder)?;
+    let root = read_into3(alloc, bytes, &Reading::cut_at(100_000, 0), &mut builder)?;
     builder.finish(root).map_err(|_| NoGraph::Open)
 }
 
 /// The graph that these bytes of AMF 0 spell.
 pub fn graph0(alloc: Global, bytes: &[u8]) -> Result<Rooted, NoGraph> {
     let mut builder = Builder::new(alloc)?;
-    let read = read_into0(alloc, bytes, &WHOLE, &mut builder)?;
+    let read = read_into0(alloc, bytes, &Reading::cut_at(100_000, 0), &mut builder)?;
     builder.finish(read.value).map_err(|_| NoGraph::Open)
 }
 

@@ -10,5 +10,5 @@ mod told;
 pub use graphs::{NoGraph, graph0, graph3, rooted_at};
 pub use read0::told0;
 pub use read3::{told_texts3, told3};
-pub use reading::{BY_BYTES, Reading, WHOLE};
+pub use reading::Reading;
 pub use told::end_told;

@@ -9,18 +9,24 @@ pub struct Reading<'a> {
     pub failing: &'a [u64],
 }
 
-/// In pieces that are as long as they may be, within a limit of 100,000.
-pub const WHOLE: Reading<'static> = Reading {
-    limit: 100_000,
-    most: 65536,
-    cut: 0,
-    failing: &[],
-};
+impl Reading<'static> {
+    /// A byte at a time.
+    pub fn by_bytes(limit: u32) -> Reading<'static> {
+        Reading {
+            limit,
+            most: 1,
+            cut: 0,
+            failing: &[],
+        }
+    }
 
-/// A byte at a time, within a limit of 100,000.
-pub const BY_BYTES: Reading<'static> = Reading {
-    limit: 100_000,
-    most: 1,
-    cut: 0,
-    failing: &[],
-};
+    /// In two pieces that meet at an offset, or whole where that is 0 or the end.
+    pub fn cut_at(limit: u32, cut: usize) -> Reading<'static> {
+        Reading {
+            limit,
+            most: 65536,
+            cut,
+            failing: &[],
+        }
+    }
+}
