@@ -23,11 +23,8 @@ use Rattle.amf_commands.specs.Written.{WritesFront}
 
 -- whether a command has an input: `gen` has none
 abbrev pub TakesInput : Command → Type 0
-TakesInput (Canon from to) = Unit {0}
-TakesInput (Check from) = Unit {0}
-TakesInput (Show from) = Unit {0}
-TakesInput Same = Unit {0}
 TakesInput (Gen seed size) = ⊥
+TakesInput _ = Unit {0}
 
 -- the whole input is one spelling of the content, with its right length where the format gives one
 pub record IsInputOf (f : Format) (c : Content) (input : List ℕ) : Type 0 where
@@ -97,35 +94,23 @@ IsUnconverted from to input number l = (c : Content) × IsInputOf from c input �
 -- why an input that is accepted has no output, and the number of the value that lacks it: only `canon` may have none
 abbrev pub Lacks : Command → List ℕ → ℕ → Lack → Type 0
 Lacks (Canon from to) input number l = IsUnconverted from to input number l
-Lacks (Check from) input number l = ⊥
-Lacks (Show from) input number l = ⊥
-Lacks Same input number l = ⊥
-Lacks (Gen seed size) input number l = ⊥
+Lacks _ input number l = ⊥
 
 -- whichever content it is of those that the input spells
 abbrev pub LacksEver : Command → List ℕ → ℕ → Lack → Type 0
 LacksEver (Canon from to) input number l = (c fit : Content) → IsInputOf from c input → IsFitted to c fit → IsLackIn to fit number l
-LacksEver (Check from) input number l = ⊥
-LacksEver (Show from) input number l = ⊥
-LacksEver Same input number l = ⊥
-LacksEver (Gen seed size) input number l = ⊥
+LacksEver _ input number l = ⊥
 
 -- whether an input that is accepted can have no output: what AMF 3 spells has a canonical spelling in it
 abbrev pub MayLack : Command → Type 0
 MayLack (Canon Amf3 Amf3) = ⊥
 MayLack (Canon from to) = Unit {0}
-MayLack (Check from) = ⊥
-MayLack (Show from) = ⊥
-MayLack Same = ⊥
-MayLack (Gen seed size) = ⊥
+MayLack _ = ⊥
 
 -- the input is canonical in the format in which the command reads and writes
 abbrev pub IsOutputOf : Command → List ℕ → Type 0
 IsOutputOf (Canon from to) input = (from ≡ to) × (c : Content) × IsWritten to c input
-IsOutputOf (Check from) input = ⊥
-IsOutputOf (Show from) input = ⊥
-IsOutputOf Same input = ⊥
-IsOutputOf (Gen seed size) input = ⊥
+IsOutputOf _ input = ⊥
 
 -- the bytes that came before a read failed fix no verdict
 pub record IsHidden (i : Input) (input rest : List ℕ) : Type 0 where
@@ -138,11 +123,9 @@ abbrev pub ReadsInput : {X : Type 0} → Input → (ℕ → Lack → Type 0) →
 ReadsInput i L P input rest (Ok x) = P x × (rest ≡ [])
 ReadsInput i L P input rest (Err (Refused f)) = IsRefusedAs i input f.reason f.at
 ReadsInput i L P input rest (Err ReadFault) = IsHidden i input rest
-ReadsInput i L P input rest (Err Usage) = ⊥
-ReadsInput i L P input rest (Err WriteFault) = ⊥
 ReadsInput i L P input rest (Err NoMemory) = Unit {0}
-ReadsInput i L P input rest (Err FrontFault) = ⊥
 ReadsInput i L P input rest (Err (NoForm number l)) = L number l × (rest ≡ [])
+ReadsInput i L P input rest _ = ⊥
 
 -- how the making of an output ends: where a command has an input, this is read
 abbrev pub OutputEnds : {X : Type 0} → Command → (X → Type 0) → List ℕ → List ℕ → Result X RunEnd → Type 0
@@ -155,47 +138,31 @@ NeverLacks number l = ⊥
 
 -- a read fault is counted, and without one the count stays
 abbrev pub CountsReads : {T : Type 0} → ℕ → ℕ → Result T RunEnd → Type 0
-CountsReads before now (Ok x) = now ≡ before
-CountsReads before now (Err (Refused f)) = now ≡ before
 CountsReads before now (Err ReadFault) = (before ≤ now) × Rose before now
-CountsReads before now (Err Usage) = now ≡ before
-CountsReads before now (Err WriteFault) = now ≡ before
-CountsReads before now (Err NoMemory) = now ≡ before
-CountsReads before now (Err FrontFault) = now ≡ before
-CountsReads before now (Err (NoForm number l)) = now ≡ before
+CountsReads before now _ = now ≡ before
 
 -- a write fault is counted, and without one the count stays; of want of memory nothing is said
 abbrev pub CountsWrites : {T : Type 0} → ℕ → ℕ → Result T RunEnd → Type 0
-CountsWrites before now (Ok x) = now ≡ before
-CountsWrites before now (Err (Refused f)) = now ≡ before
-CountsWrites before now (Err ReadFault) = now ≡ before
-CountsWrites before now (Err Usage) = now ≡ before
 CountsWrites before now (Err WriteFault) = (before ≤ now) × Rose before now
 CountsWrites before now (Err NoMemory) = Unit {0}
-CountsWrites before now (Err FrontFault) = now ≡ before
-CountsWrites before now (Err (NoForm number l)) = now ≡ before
+CountsWrites before now _ = now ≡ before
 
 -- an end that the reading of an input has
 abbrev pub IsReadEnd : {T : Type 0} → Result T RunEnd → Type 0
-IsReadEnd (Ok x) = Unit {0}
-IsReadEnd (Err (Refused f)) = Unit {0}
-IsReadEnd (Err ReadFault) = Unit {0}
 IsReadEnd (Err Usage) = ⊥
 IsReadEnd (Err WriteFault) = ⊥
-IsReadEnd (Err NoMemory) = Unit {0}
 IsReadEnd (Err FrontFault) = ⊥
 IsReadEnd (Err (NoForm number l)) = ⊥
+IsReadEnd _ = Unit {0}
 
 -- an end that the making of an output has
 abbrev pub IsOutputEnd : {T : Type 0} → Command → Result T RunEnd → Type 0
 IsOutputEnd c (Ok x) = Unit {0}
 IsOutputEnd c (Err (Refused f)) = TakesInput c
 IsOutputEnd c (Err ReadFault) = TakesInput c
-IsOutputEnd c (Err Usage) = ⊥
-IsOutputEnd c (Err WriteFault) = ⊥
 IsOutputEnd c (Err NoMemory) = Unit {0}
-IsOutputEnd c (Err FrontFault) = ⊥
 IsOutputEnd c (Err (NoForm number l)) = MayLack c
+IsOutputEnd c _ = ⊥
 
 -- what comes of an input comes only of a command that has one
 abbrev pub IsReading : {T : Type 0} → Command → Result T RunEnd → Type 0
@@ -205,14 +172,11 @@ IsReading c _ = Unit {0}
 
 -- nothing was asked of the output, but where it may have been written to
 abbrev pub IsUntouched : {S T : Type 0} → S → S → Result T RunEnd → Type 0
-IsUntouched before now (Ok x) = Unit {0}
 IsUntouched before now (Err (Refused f)) = now ≡ before
 IsUntouched before now (Err ReadFault) = now ≡ before
 IsUntouched before now (Err Usage) = now ≡ before
-IsUntouched before now (Err WriteFault) = Unit {0}
-IsUntouched before now (Err NoMemory) = Unit {0}
-IsUntouched before now (Err FrontFault) = Unit {0}
 IsUntouched before now (Err (NoForm number l)) = now ≡ before
+IsUntouched before now _ = Unit {0}
 
 -- the output was written whole
 pub record WritesAll (c : Command) (input rest : List ℕ) (told : Type 0) (held now : List ℕ) : Type 0 where
@@ -235,11 +199,10 @@ abbrev pub RunsTo : {T : Type 0} → Command → List ℕ → List ℕ → Type 
 RunsTo c input rest told held now (Ok x) = WritesAll c input rest told held now
 RunsTo c input rest told held now (Err (Refused f)) = IsRefusedAs (input_of c) input f.reason f.at
 RunsTo c input rest told held now (Err ReadFault) = IsHidden (input_of c) input rest
-RunsTo c input rest told held now (Err Usage) = Unit {0}
 RunsTo c input rest told held now (Err WriteFault) = WritesSome c input rest told held now
-RunsTo c input rest told held now (Err NoMemory) = Unit {0}
 RunsTo c input rest told held now (Err FrontFault) = ⊥
 RunsTo c input rest told held now (Err (NoForm number l)) = Lacks c input number l × (rest ≡ [])
+RunsTo c input rest told held now _ = Unit {0}
 
 -- the error line names the verdict
 pub record IsRefusedWith (c : Command) (input : List ℕ) (told : Type 0) (held now : List ℕ) : Type 0 where

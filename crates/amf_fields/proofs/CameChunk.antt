@@ -1,5 +1,5 @@
 -- So many bytes of a kind that came, by their layout.
-use Rattle.std.proofs.Common.{◌≡◌, ℕ, zero, suc, ◌+◌, ◌<◌, List, [], ◌∷◌, length, Some, None, sym, ap, ◌∙◌, subst, arith, length-append}
+use Rattle.std.proofs.Common.{◌≡◌, ℕ, zero, suc, ◌+◌, ◌<◌, List, [], ◌∷◌, length, Some, None, refl, sym, ap, ◌∙◌, subst, arith, length-append}
 use Rattle.amf_wire.specs.Text.{IsText}
 use Rattle.amf_wire.proofs.TextTest.{is_text-is}
 use Rattle.amf_io.specs.Field.{Kind, Field, fixed, text_kind, flat, whole}
