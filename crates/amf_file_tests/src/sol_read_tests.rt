@@ -9,17 +9,16 @@ use std::process::Abort;
 use std::test::Fail;
 
 /// What is read of these bytes within a limit, in pieces of so many bytes and cut at a place, where the reads of these
-/// numbers fail. A limit above 1000 counts as 1000.
+/// numbers fail.
 fn read_of(
     alloc: Global,
     bytes: &[u8],
-    limit: u32,
+    limit: u16,
     pieces: (usize, usize),
     failing: &[u64],
 ) -> Result<Result<SharedObject, ReadEnd>, Fail> {
-    let limit = limit.min(1000);
     let mut source = MemorySource::new(alloc, bytes, pieces.0, pieces.1, failing)?;
-    let mut cursor = Cursor::new(alloc, &mut source, limit)?;
+    let mut cursor = Cursor::new(alloc, &mut source, limit as u32)?;
     Ok(read_sol(alloc, &mut cursor))
 }
 
@@ -49,7 +48,7 @@ fn members(read: Result<SharedObject, ReadEnd>) -> Result<usize, ReadEnd> {
 fn told(
     alloc: Global,
     bytes: &[u8],
-    limit: u32,
+    limit: u16,
     most: usize,
     failing: &[u64],
 ) -> Result<String, Fail> {
@@ -147,8 +146,9 @@ static ENDS: Table = Table {
 /// How the reading of the file of a row ends.
 fn end_in(alloc: Global, row: Row<'_>, bytes: &[u8]) -> Result<String, Fail> {
     let failing = row.numbers(alloc, 5)?;
+    let limit = u16::try_from(row.number(3)?)?;
     let most = row.number(4)? as usize;
-    told(alloc, bytes, row.number(3)?, most, &failing)
+    told(alloc, bytes, limit, most, &failing)
 }
 
 fn ends_as(rt: &impl Abort, alloc: Global, row: Row<'_>) -> Result<(), Fail> {

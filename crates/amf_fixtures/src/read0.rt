@@ -22,9 +22,10 @@ pub(crate) fn read_into0(
     ensures { IfOk result (λ read. Names builder.new read.value) }
 {
     let mut source = MemorySource::new(alloc, bytes, reading.most, reading.cut, reading.failing)?;
-    let mut cursor = Cursor::new(alloc, &mut source, reading.limit.min(3_000_000))?;
+    let mut cursor = Cursor::new(alloc, &mut source, reading.bound())?;
     let mut tables = Tables0::new(alloc)?;
-    read0(alloc, &mut cursor, builder, &mut tables)
+    let read = read0(alloc, &mut cursor, builder, &mut tables)?;
+    Ok(read)
 }
 
 /// What is read of these bytes in AMF 0: a value with what it holds, and its form; or why there is none.

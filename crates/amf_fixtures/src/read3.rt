@@ -22,9 +22,10 @@ pub(crate) fn read_into3(
     ensures { IfOk result (Names builder.new) }
 {
     let mut source = MemorySource::new(alloc, bytes, reading.most, reading.cut, reading.failing)?;
-    let mut cursor = Cursor::new(alloc, &mut source, reading.limit.min(3_000_000))?;
+    let mut cursor = Cursor::new(alloc, &mut source, reading.bound())?;
     let mut tables = Tables3::new(alloc)?;
-    read3(alloc, &mut cursor, builder, &mut tables)
+    let value = read3(alloc, &mut cursor, builder, &mut tables)?;
+    Ok(value)
 }
 
 /// What is read of these bytes in AMF 3: a value with what it holds, or why there is none.

@@ -1,3 +1,5 @@
+ghost use Rattle.std.specs.Prelude.{◌≤◌};
+
 /// How bytes are given: how many at most, how many at most in a piece, the offset past which no piece goes on, and the
 /// numbers of the reads that fail.
 #[derive(Clone, Copy, Debug)]
@@ -27,6 +29,19 @@ impl Reading<'static> {
             most: 65536,
             cut,
             failing: &[],
+        }
+    }
+}
+
+impl Reading<'_> {
+    /// The limit that counts.
+    pub(crate) fn bound(&self) -> u32
+        ensures { result ≤ 3000000 }
+    {
+        if self.limit <= 3_000_000 {
+            self.limit
+        } else {
+            3_000_000
         }
     }
 }
