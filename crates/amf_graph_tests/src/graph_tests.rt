@@ -40,8 +40,7 @@ fn graph_of(alloc: Global, root: Value) -> Result<Rooted, Fail> {
     if !stands_alone(&root) {
         return Err("no such value")?;
     }
-    let builder = Builder::new(alloc)?;
-    Ok(builder.finish(root).ok().ok_or("an open node")?)
+    finished(Builder::new(alloc)?, root)
 }
 
 fn keeps_its_root(rt: &impl Abort, alloc: Global, root: Value) -> Result<(), Fail> {
@@ -93,7 +92,7 @@ fn graph_of_texts(alloc: Global) -> Result<Rooted, Fail> {
     for (_, bytes, _) in TEXTS.iter() {
         keep_text(&mut builder, bytes)?;
     }
-    Ok(builder.finish(Value::Null).ok().ok_or("an open node")?)
+    finished(builder, Value::Null)
 }
 
 /// Compares a text with each.
@@ -123,36 +122,54 @@ fn an_open_array(alloc: Global) -> Result<Builder, Fail>
     Ok(builder)
 }
 
-/// An array that holds itself, and null under the name `a`.
-fn an_array(alloc: Global) -> Result<Rooted, Fail> {
-    let mut builder = an_open_array(alloc)?;
+/// The graph with this root.
+fn finished(builder: Builder, root: Value) -> Result<Rooted, Fail>
+    requires { Names builder root }
+{
+    match builder.finish(root) {
+        Ok(graph) => Ok(graph),
+        Err(_) => Err("an open node")?,
+    }
+}
+
+/// Puts the array itself into an open array, and null under the name `a`, and closes it.
+fn fill_array(builder: &mut Builder) -> Result<Value, Fail>
+    requires { builder.old ≡ kept_node (kept_text no_arena (codes "a")) (begun array) }
+    ensures { IfOk result (Names builder.new) }
+{
     let array = NodeId(0);
     builder.put(array, Part::Named(TextId(0), Value::Null))?;
     builder.put(array, Part::Item(Value::Node(array)))?;
     builder.close_node(array);
-    Ok(
-        builder
-            .finish(Value::Node(array))
-            .ok()
-            .ok_or("an open node")?,
-    )
+    Ok(Value::Node(array))
 }
 
-/// An object of a class `a` with a sealed member of that name, which is true, and a dynamic one, which is null.
-fn an_object(alloc: Global) -> Result<Rooted, Fail> {
-    let mut builder = Builder::new(alloc)?;
-    let name = keep_text(&mut builder, b"a")?;
+/// An array that holds itself, and null under the name `a`.
+fn an_array(alloc: Global) -> Result<Rooted, Fail> {
+    let mut builder = an_open_array(alloc)?;
+    let root = fill_array(&mut builder)?;
+    finished(builder, root)
+}
+
+/// Adds an object of a class `a` with a sealed member of that name, which is true, and a dynamic one, which is null.
+fn add_object(builder: &mut Builder) -> Result<Value, Fail>
+    requires { builder.old ≡ no_arena }
+    ensures { IfOk result (Names builder.new) }
+{
+    let name = keep_text(builder, b"a")?;
     let traits = builder.traits(name, true, &[name])?;
     let object = builder.open_node(Shape::Object(traits))?;
     builder.put(object, Part::Named(name, Value::Null))?;
     builder.put(object, Part::Item(Value::Bool(true)))?;
     builder.close_node(object);
-    Ok(
-        builder
-            .finish(Value::Node(object))
-            .ok()
-            .ok_or("an open node")?,
-    )
+    Ok(Value::Node(object))
+}
+
+/// The object alone.
+fn an_object(alloc: Global) -> Result<Rooted, Fail> {
+    let mut builder = Builder::new(alloc)?;
+    let root = add_object(&mut builder)?;
+    finished(builder, root)
 }
 
 /// What node 0 holds, if it is there.
