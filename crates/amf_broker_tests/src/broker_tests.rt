@@ -9,8 +9,8 @@ use std::test::Fail;
 
 /// Calls with their answers: `open` and the destinations makes a new broker, and `queued` asks how many deliveries wait.
 /// Where the first field has two numbers, the call is made for each from the one to the other, and `#` stands for it.
-static CALLS: Table = Table {
-    rows: 88,
+static IN_ORDER: Table = Table {
+    rows: 56,
     fields: 4,
     text: r"
 # for     | moment  | call                   | answer
@@ -80,6 +80,15 @@ static CALLS: Table = Table {
           | 0       | unsubscribe 1 2        | unsubscribed 2
           | 0       | poll 1                 | batch 2:1:a 1:2:b 2:3:c
           | 0       | queued                 | queued 0
+",
+};
+
+/// Queues, clients and subscriptions at their limits.
+static LIMITS: Table = Table {
+    rows: 26,
+    fields: 4,
+    text: r"
+# for     | moment  | call                   | answer
 
 # A full queue ends its subscription.
           | 0       | open chat              | open
@@ -112,8 +121,16 @@ static CALLS: Table = Table {
           | 0       | subscribe 2 chat/x*256 | too long 255
           | 0       | publish 2 chat x*32769 | too long 32768
           | 0       | publish 2 chat x*32768 | published 1
+",
+};
 
-# As many clients as may be, each with a full queue of the longest messages.
+/// As many clients as may be, each with a full queue of the longest messages.
+static FULL: Table = Table {
+    rows: 6,
+    fields: 4,
+    text: r"
+# for     | moment  | call                   | answer
+
           | 0       | open chat              | open
 1 1024    | 0       | connect                | client #
 1 1024    | 0       | subscribe # chat       | subscribed #
@@ -210,15 +227,33 @@ fn ask(rt: &impl Abort, alloc: Global, broker: &mut Broker, row: Row<'_>) -> Res
     Ok(count)
 }
 
-/// All that follow one another at one broker, until the next is opened.
-#[test]
-fn answers_as_told(rt: HostRuntime) -> Result<(), Fail> {
-    let alloc = rt.alloc();
+/// Makes the calls of a table, and tells how many they are.
+fn ask_all(rt: &impl Abort, alloc: Global, table: &Table) -> Result<u64, Fail> {
     let mut broker = Broker::new(alloc, Vec::new(alloc))?;
     let mut count = 0u64;
-    for row in CALLS.rows(alloc)? {
-        count = count.wrapping_add(ask(&rt, alloc, &mut broker, row)?);
+    for row in table.rows(alloc)? {
+        count = count.wrapping_add(ask(rt, alloc, &mut broker, row)?);
     }
-    holds(&rt, count == 4_511, "how many calls were made");
+    Ok(count)
+}
+
+#[test]
+fn answers_in_order(rt: HostRuntime) -> Result<(), Fail> {
+    let count = ask_all(&rt, rt.alloc(), &IN_ORDER)?;
+    holds(&rt, count == 56, "calls");
+    Ok(())
+}
+
+#[test]
+fn keeps_to_its_limits(rt: HostRuntime) -> Result<(), Fail> {
+    let count = ask_all(&rt, rt.alloc(), &LIMITS)?;
+    holds(&rt, count == 1253, "calls");
+    Ok(())
+}
+
+#[test]
+fn fills_every_queue(rt: HostRuntime) -> Result<(), Fail> {
+    let count = ask_all(&rt, rt.alloc(), &FULL)?;
+    holds(&rt, count == 3202, "calls");
     Ok(())
 }

@@ -637,7 +637,7 @@ enum Play {
 }
 
 /// Plays at a desk, and gives what it should tell when it is closed.
-fn play<R: Threads + Wait + Abort + Sync>(
+fn play_at<R: Threads + Wait + Abort + Sync>(
     rt: &R,
     alloc: Global,
     desk: &Desk,
@@ -663,7 +663,7 @@ fn at_desk<R: Threads + Wait + Abort + Sync>(
     what: Play,
 ) -> Result<(), Fail> {
     let (desk, mut first) = Desk::open(alloc, chat(alloc)?)?;
-    let want = play(rt, alloc, &desk, &mut first, what)?;
+    let want = play_at(rt, alloc, &desk, &mut first, what)?;
     if first.budget() == 0 {
         return Err("no budget".into());
     }

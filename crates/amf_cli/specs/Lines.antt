@@ -5,7 +5,7 @@ use Rattle.amf_io.specs.declared.ends.Refusal.{Refusal}
 use Rattle.amf_io.specs.declared.ends.ReadEnd.{ReadEnd}
 use Rattle.amf_io.specs.declared.ends.ReadEnd.TheVariants as reader
 use Rattle.amf_io.specs.declared.reason.Reason.{Reason}
-use Rattle.amf_io.specs.declared.reason.Reason.TheVariants.{Truncated, BadMarker, BadReference, BadTraits, BadTextIndex, BadText, WrongKind, UnknownExternal, TooLarge, Trailing, BadVersion, BadSignature, BadLength, BadPadding}
+use Rattle.amf_io.specs.declared.reason.Reason.TheVariants.{Truncated, BadMarker, BadReference, BadTraits, BadTextIndex, BadText, WrongKind, UnknownExternal, TooLarge, Trailing, BadVersion, BadSignature, BadLength, BadPadding, BadChunk, BadChunkSize}
 use Rattle.amf_graph.specs.declared.lack.Lack.{Lack}
 use Rattle.amf_graph.specs.declared.lack.LackKind.{LackKind}
 use Rattle.amf_graph.specs.declared.lack.LackKind.TheVariants as lacking
@@ -35,6 +35,8 @@ reason_name BadVersion = codes "BadVersion"
 reason_name BadSignature = codes "BadSignature"
 reason_name BadLength = codes "BadLength"
 reason_name BadPadding = codes "BadPadding"
+reason_name BadChunk = codes "BadChunk"
+reason_name BadChunkSize = codes "BadChunkSize"
 
 -- and so is a kind of lack
 abbrev pub kind_name : LackKind → List ℕ

@@ -99,5 +99,7 @@ fn name_of(reason: Reason) -> &'static [u8]
         Reason::BadSignature => b"BadSignature",
         Reason::BadLength => b"BadLength",
         Reason::BadPadding => b"BadPadding",
+        Reason::BadChunk => b"BadChunk",
+        Reason::BadChunkSize => b"BadChunkSize",
     }
 }

@@ -1,6 +1,6 @@
 -- From what a link gave next to what comes next of it.
 use Rattle.std.proofs.Common.{◌≡◌, ◌∙◌, ℕ, ◌+◌, ◌<◌, ◌||◌, Bool, List, [], ◌∷◌, ◌++◌, length, Option, Some, None, Result, Ok, Err, refl, sym, ap, subst, arith, inl, inr, append_assoc, append-nil}
-use Rattle.amf_http.specs.Answers.{Gave}
+use Rattle.http_link.specs.Passing.{Gave}
 use Rattle.amf_http.specs.Request.{BeginsWithRequest, IsRefused, IsOpen}
 use Rattle.amf_service.specs.Registry.{Entry}
 use Rattle.amf_gateway.specs.declared.links.Answer.{Answer}

@@ -3,7 +3,7 @@ use Rattle.std.proofs.Common.{◌≡◌, ℕ, ◌+◌, ◌<◌, Bool, List, [], 
 use Rattle.amf_broker.specs.declared.call.Call.{Call}
 use Rattle.amf_graph.specs.Graph.{Graph}
 use Rattle.amf_graph.specs.Isomorphic.{Isomorphic}
-use Rattle.amf_http.specs.Head.{IsHead}
+use Rattle.http_link.specs.Head.{IsHead}
 use Rattle.amf_http.specs.Request.{IsRefused, too_long, bad_head, BeginsWithRequest}
 use Rattle.amf_packet.specs.Packet.{Packet}
 use Rattle.amf_gateway.specs.Alike.{PacketsMatch}

@@ -3,7 +3,8 @@ use Rattle.std.proofs.Common.{◌≡◌, ◌∙◌, ℕ, Bool, true, false, List
 use Rattle.std.proofs.lemmas.List.{take-append-drop}
 use Rattle.amf_http.specs.declared.ends.AnswerEnd.{AnswerEnd}
 use Rattle.amf_http.specs.declared.ends.AnswerEnd.TheVariants as unwritten_by
-use Rattle.amf_http.specs.Response.{response, AddsFront, Writes}
+use Rattle.amf_http.specs.Response.{response, Writes}
+use Rattle.http_link.specs.Sent.{AddsFront}
 use Rattle.amf_service.specs.Registry.{Entry}
 use Rattle.amf_gateway.specs.declared.links.Answer.{Answer}
 use Rattle.amf_gateway.specs.declared.links.Answer.TheVariants.{Packet, Status}
