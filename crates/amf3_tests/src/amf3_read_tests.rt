@@ -1,167 +1,73 @@
-use amf_graph::{Builder, NodeId, NodeView, Rooted, TextId, Value};
-use amf_io::{
-    Cursor, MemorySource, ReadEnd, Reason, Refusal, faults_are_first, next_kind_is_fixed,
-    one_verdict, reading_decides, reading_waits,
-};
-use amf_tables::Tables3;
-use amf_wire::Pattern;
-use amf3_read::{Values3, pairs_have_one_verdict, read3, read3_text, texts_have_one_verdict};
+use crate::checks::{holds, is};
+use amf_fixtures::{Reading, graph3, told_texts3, told3};
+use amf_graph::{NodeId, NodeView, Rooted, Value};
+use amf_io::{faults_are_first, next_kind_is_fixed, one_verdict, reading_decides, reading_waits};
+use amf_rows::{Row, Table};
+use amf3_read::{Values3, pairs_have_one_verdict, texts_have_one_verdict};
 use std::alloc::Global;
 use std::process::Abort;
 use std::test::Fail;
 
-/// How a source gives its bytes: the most in a piece, and the offset past which no piece goes on.
-#[derive(Clone, Copy, Debug)]
-struct Pieces {
-    most: usize,
-    cut: usize,
-}
-
-/// What is read of these bytes within a limit of at most 3,000,000, where the reads of these numbers fail.
-fn read_of(
-    alloc: Global,
-    bytes: &[u8],
-    limit: u32,
-    pieces: Pieces,
-    failing: &[u64],
-) -> Result<Result<Value, ReadEnd>, Fail> {
-    if limit > 3_000_000 {
-        return Err(Fail::from("a limit"));
-    }
-    let mut source = MemorySource::new(alloc, bytes, pieces.most, pieces.cut, failing)?;
-    let mut cursor = Cursor::new(alloc, &mut source, limit)?;
-    let mut builder = Builder::new(alloc)?;
-    let mut tables = Tables3::new(alloc)?;
-    Ok(read3(alloc, &mut cursor, &mut builder, &mut tables))
-}
-
-/// The graph that these bytes are.
-fn graph_of(alloc: Global, bytes: &[u8]) -> Result<Rooted, Fail> {
-    let mut source = MemorySource::new(alloc, bytes, 1, 0, &[])?;
-    let mut cursor = Cursor::new(alloc, &mut source, 1000)?;
-    let mut builder = Builder::new(alloc)?;
-    let mut tables = Tables3::new(alloc)?;
-    let Ok(root) = read3(alloc, &mut cursor, &mut builder, &mut tables) else {
-        return Err(Fail::from("a value"));
-    };
-    let graph = builder.finish(root).ok().ok_or("no open node")?;
-    Ok(graph)
-}
-
-/// What two texts are read as, one after the other.
-fn texts_of(alloc: Global, bytes: &[u8]) -> Result<(TextId, Result<TextId, ReadEnd>), Fail> {
-    let mut source = MemorySource::new(alloc, bytes, 1, 0, &[])?;
-    let mut cursor = Cursor::new(alloc, &mut source, 1000)?;
-    let mut builder = Builder::new(alloc)?;
-    let mut tables = Tables3::new(alloc)?;
-    let read = read3_text(alloc, &mut cursor, &mut builder, &mut tables);
-    let first = read.ok().ok_or("a text")?;
-    let second = read3_text(alloc, &mut cursor, &mut builder, &mut tables);
-    Ok((first, second))
-}
-
-/// A byte at a time.
-const ALONE: Pieces = Pieces { most: 1, cut: 0 };
-
-/// In pieces that are as long as they may be.
-const LONG: Pieces = Pieces {
-    most: 65536,
-    cut: 0,
+/// Bytes, and the value that they are, or the reason and the place for which they are refused.
+static READ: Table = Table {
+    rows: 23,
+    fields: 2,
+    text: "
+00 | Undefined
+03 | Bool true
+04 C0808000 | Integer -268435456
+05 4014000000000000 | Double 4014000000000000
+06 8001 | Text 0
+09 03 01 09 00 | Node 0
+11 03 00 04 01 06 03'a' | Node 0
+0D 03 01 FFFFFFFE | Node 0
+# Nodes of the table can be named more than once.
+09 05 01 0C 01 09 07 01 0C 02 0C 02 09 00 | Node 0
+09 03 01 09 03 01 09 01 01 | Node 0
+09 03 01 09 03 01 0C 01 | Node 0
+# Refused.
+ | Truncated 0
+12 | BadMarker 0
+09 00 | BadReference 1
+09 03 01 09 02 | BadReference 4
+09 03 01 0A 00 | WrongKind 4
+0A 01 | BadTraits 1
+06 02 | BadTextIndex 1
+06 03 FF | BadText 2
+06 07 66 | Truncated 2
+0A 07 07 66 | UnknownExternal 2
+04 80 | Truncated 1
+0D 03 01 FF | Truncated 3
+",
 };
 
-/// Reads bytes within a limit of 20, and compares what is read.
+/// Compares what is read of the bytes of a row with what it says.
 fn is_read_as(
     rt: &impl Abort,
     alloc: Global,
+    row: Row<'_>,
     bytes: &[u8],
-    pieces: Pieces,
-    want: &Result<Value, ReadEnd>,
+    reading: &Reading<'_>,
 ) -> Result<(), Fail> {
-    let got = read_of(alloc, bytes, 20, pieces, &[])?;
-    assert_eq!(rt; got, *want, "{pieces:?}: {bytes:?}");
+    let told = told3(alloc, bytes, reading)?;
+    is(rt, row, &told, row.field(1)?);
     Ok(())
 }
 
 /// Reads bytes a byte at a time, and in two pieces that meet at each place.
-fn is_read_in_any_pieces(
-    rt: &impl Abort,
-    alloc: Global,
-    bytes: &[u8],
-    want: &Result<Value, ReadEnd>,
-) -> Result<(), Fail> {
-    is_read_as(rt, alloc, bytes, ALONE, want)?;
+fn is_read_in_any_pieces(rt: &impl Abort, alloc: Global, row: Row<'_>) -> Result<(), Fail> {
+    let bytes = row.bytes(alloc, 0)?;
+    is_read_as(rt, alloc, row, &bytes, &Reading::by_bytes(20))?;
     for cut in 0..=bytes.len() {
-        is_read_as(rt, alloc, bytes, Pieces { most: 65536, cut }, want)?;
+        is_read_as(rt, alloc, row, &bytes, &Reading::cut_at(20, cut))?;
     }
     Ok(())
 }
 
-const NODE: Value = Value::Node(NodeId(0));
-
-/// Bytes with the value that they are.
-static VALUES: [(&[u8], Value); 11] = [
-    (&[0x00], Value::Undefined),
-    (&[0x03], Value::Bool(true)),
-    (
-        &[0x04, 0xC0, 0x80, 0x80, 0x00],
-        Value::Integer(-268_435_456),
-    ),
-    (
-        &[0x05, 0x40, 0x14, 0, 0, 0, 0, 0, 0],
-        Value::Double(Pattern(0x4014_0000_0000_0000)),
-    ),
-    (&[0x06, 0x80, 0x01], Value::Text(TextId(0))),
-    (&[0x09, 0x03, 0x01, 0x09, 0x00], NODE),
-    (&[0x11, 0x03, 0x00, 0x04, 0x01, 0x06, 0x03, 0x61], NODE),
-    (&[0x0D, 0x03, 0x01, 0xFF, 0xFF, 0xFF, 0xFE], NODE),
-    // Nodes of the table can be named more than once.
-    (
-        &[
-            0x09, 0x05, 0x01, 0x0C, 0x01, 0x09, 0x07, 0x01, 0x0C, 0x02, 0x0C, 0x02, 0x09, 0x00,
-        ],
-        NODE,
-    ),
-    (
-        &[0x09, 0x03, 0x01, 0x09, 0x03, 0x01, 0x09, 0x01, 0x01],
-        NODE,
-    ),
-    (&[0x09, 0x03, 0x01, 0x09, 0x03, 0x01, 0x0C, 0x01], NODE),
-];
-
 #[test]
-fn reads_values_in_any_pieces(rt: HostRuntime) -> Result<(), Fail> {
-    for (bytes, value) in VALUES.iter() {
-        is_read_in_any_pieces(&rt, rt.alloc(), bytes, &Ok(*value))?;
-    }
-    Ok(())
-}
-
-/// Bytes that are refused, for a reason at a place.
-static REFUSED: [(&[u8], Reason, u32); 12] = [
-    (&[], Reason::Truncated, 0),
-    (&[0x12], Reason::BadMarker, 0),
-    (&[0x09, 0x00], Reason::BadReference, 1),
-    (&[0x09, 0x03, 0x01, 0x09, 0x02], Reason::BadReference, 4),
-    (&[0x09, 0x03, 0x01, 0x0A, 0x00], Reason::WrongKind, 4),
-    (&[0x0A, 0x01], Reason::BadTraits, 1),
-    (&[0x06, 0x02], Reason::BadTextIndex, 1),
-    (&[0x06, 0x03, 0xFF], Reason::BadText, 2),
-    (&[0x06, 0x07, 0x66], Reason::Truncated, 2),
-    (&[0x0A, 0x07, 0x07, 0x66], Reason::UnknownExternal, 2),
-    (&[0x04, 0x80], Reason::Truncated, 1),
-    (&[0x0D, 0x03, 0x01, 0xFF], Reason::Truncated, 3),
-];
-
-/// The end for a reason at a place.
-fn refused(reason: Reason, at: u32) -> ReadEnd {
-    ReadEnd::Refused(Refusal { reason, at })
-}
-
-#[test]
-fn refuses_in_any_pieces(rt: HostRuntime) -> Result<(), Fail> {
-    for (bytes, reason, at) in REFUSED.iter() {
-        let want = Err(refused(*reason, *at));
-        is_read_in_any_pieces(&rt, rt.alloc(), bytes, &want)?;
+fn reads_or_refuses_in_any_pieces(rt: HostRuntime) -> Result<(), Fail> {
+    for row in READ.rows(rt.alloc())?.iter() {
+        is_read_in_any_pieces(&rt, rt.alloc(), *row)?;
     }
     Ok(())
 }
@@ -176,88 +82,99 @@ fn nested(alloc: Global, count: u32, inside: &[u8]) -> Result<Vec<u8>, Fail> {
     Ok(bytes)
 }
 
-/// Reads 500,000 arrays within one another, and then these bytes.
-fn is_read_within(
-    rt: &impl Abort,
-    alloc: Global,
-    inside: &[u8],
-    want: Result<Value, ReadEnd>,
-) -> Result<(), Fail> {
-    let bytes = nested(alloc, 500_000, inside)?;
-    let got = read_of(alloc, &bytes, 2_000_000, LONG, &[])?;
-    assert_eq!(rt; got, want);
+/// What stands within 500,000 arrays, and what is read of all.
+static WITHIN: Table = Table {
+    rows: 3,
+    fields: 2,
+    text: "
+01 | Node 0
+ | Truncated 1500000
+12 | BadMarker 1500000
+",
+};
+
+/// More nodes within one another than a stack of calls has room for.
+fn is_read_within(rt: &impl Abort, alloc: Global, row: Row<'_>) -> Result<(), Fail> {
+    let inside = row.bytes(alloc, 0)?;
+    let bytes = nested(alloc, 500_000, &inside)?;
+    is_read_as(rt, alloc, row, &bytes, &Reading::cut_at(2_000_000, 0))
+}
+
+#[test]
+fn reads_very_many_nodes_within_nodes(rt: HostRuntime) -> Result<(), Fail> {
+    for row in WITHIN.rows(rt.alloc())?.iter() {
+        is_read_within(&rt, rt.alloc(), *row)?;
+    }
     Ok(())
 }
 
-/// More nodes within one another than a stack of calls has room for.
-#[test]
-fn reads_very_many_nodes_within_nodes(rt: HostRuntime) -> Result<(), Fail> {
-    let alloc = rt.alloc();
-    is_read_within(&rt, alloc, &[0x01], Ok(NODE))?;
-    let ended = Err(refused(Reason::Truncated, 1_500_000));
-    is_read_within(&rt, alloc, &[], ended)?;
-    let wrong = Err(refused(Reason::BadMarker, 1_500_000));
-    is_read_within(&rt, alloc, &[0x12], wrong)
+/// Bytes with what is read of them a byte at a time, the limit, and the reads that fail.
+static ENDS: Table = Table {
+    rows: 3,
+    fields: 4,
+    text: "
+06 05 'aa' | ReadFault | 20 | 3
+06 05 'aa' | TooLarge 2 | 3 |
+# A fault is no end of the input.
+09 | ReadFault | 1000 | 1
+",
+};
+
+fn ends_as(rt: &impl Abort, alloc: Global, row: Row<'_>) -> Result<(), Fail> {
+    let bytes = row.bytes(alloc, 0)?;
+    let failing = row.numbers(alloc, 3)?;
+    let reading = Reading {
+        limit: row.number(2)?,
+        most: 1,
+        cut: 0,
+        failing: &failing,
+    };
+    is_read_as(rt, alloc, row, &bytes, &reading)
 }
 
 #[test]
 fn ends_by_fault_and_limit(rt: HostRuntime) -> Result<(), Fail> {
-    let alloc = rt.alloc();
-    let fault = Err(ReadEnd::ReadFault);
-    let text: &[u8] = &[0x06, 0x05, 0x61, 0x61];
-    assert_eq!(rt; read_of(alloc, text, 20, ALONE, &[3])?, fault);
-    let large = Err(refused(Reason::TooLarge, 2));
-    assert_eq!(rt; read_of(alloc, text, 3, ALONE, &[])?, large);
-    // A fault is no end of the input.
-    assert_eq!(rt; read_of(alloc, &[0x09], 1000, ALONE, &[1])?, fault);
+    for row in ENDS.rows(rt.alloc())?.iter() {
+        ends_as(&rt, rt.alloc(), *row)?;
+    }
     Ok(())
 }
 
-/// Bytes of two texts, of which the first is text 0, with the second.
-static TEXTS: [(&[u8], TextId); 3] = [
-    // By its index, and inline again.
-    (&[0x05, 0x61, 0x62, 0x00], TextId(0)),
-    (&[0x05, 0x61, 0x62, 0x05, 0x61, 0x62], TextId(1)),
-    // The empty text enters no table.
-    (&[0x01, 0x03, 0x61], TextId(1)),
-];
+/// Bytes of two texts, and which they are, or why there is no second.
+static TEXTS: Table = Table {
+    rows: 7,
+    fields: 2,
+    text: "
+# By its index, and inline again.
+05'ab' 00 | Text 0, Text 0
+05'ab' 05'ab' | Text 0, Text 1
+# The empty text enters no table.
+01 03'a' | Text 0, Text 1
+# Refused.
+03'a' 02 | Text 0, BadTextIndex 2
+01 00 | Text 0, BadTextIndex 1
+03'a' 03 FF | Text 0, BadText 3
+03'a' 05'a' | Text 0, Truncated 3
+",
+};
 
-/// Bytes of a text and of one that is refused, for a reason at a place.
-static REFUSED_TEXTS: [(&[u8], Reason, u32); 4] = [
-    (&[0x03, 0x61, 0x02], Reason::BadTextIndex, 2),
-    (&[0x01, 0x00], Reason::BadTextIndex, 1),
-    (&[0x03, 0x61, 0x03, 0xFF], Reason::BadText, 3),
-    (&[0x03, 0x61, 0x05, 0x61], Reason::Truncated, 3),
-];
-
-/// Reads two texts, of which the first is text 0, and compares the second.
-fn is_second(
-    rt: &impl Abort,
-    alloc: Global,
-    bytes: &[u8],
-    want: Result<TextId, ReadEnd>,
-) -> Result<(), Fail> {
-    let (first, second) = texts_of(alloc, bytes)?;
-    assert_eq!(rt; first, TextId(0), "{bytes:?}");
-    assert_eq!(rt; second, want, "{bytes:?}");
+fn are_texts(rt: &impl Abort, alloc: Global, row: Row<'_>) -> Result<(), Fail> {
+    let bytes = row.bytes(alloc, 0)?;
+    let told = told_texts3(alloc, &bytes)?;
+    is(rt, row, &told, row.field(1)?);
     Ok(())
 }
 
 #[test]
 fn reads_texts_alone(rt: HostRuntime) -> Result<(), Fail> {
-    for (bytes, text) in TEXTS.iter() {
-        is_second(&rt, rt.alloc(), bytes, Ok(*text))?;
-    }
-    for (bytes, reason, at) in REFUSED_TEXTS.iter() {
-        is_second(&rt, rt.alloc(), bytes, Err(refused(*reason, *at)))?;
+    for row in TEXTS.rows(rt.alloc())?.iter() {
+        are_texts(&rt, rt.alloc(), *row)?;
     }
     Ok(())
 }
 
 /// An object of class C, with the sealed name a and the member b, which is the object itself.
-const AN_OBJECT: &[u8] = &[
-    0x0A, 0x1B, 0x03, 0x43, 0x03, 0x61, 0x04, 0x05, 0x03, 0x62, 0x0A, 0x00, 0x01,
-];
+const AN_OBJECT: &[u8] = b"\x0A\x1B\x03C\x03a\x04\x05\x03b\x0A\x00\x01";
 
 /// The sealed values of the root, and its member with its name, if it is an object with one.
 fn parts_of(graph: &Rooted) -> Option<(&[Value], &[u8], Value)> {
@@ -288,25 +205,29 @@ fn class_of(graph: &Rooted) -> Option<(&[u8], bool, usize)> {
     Some((graph.text(view.class), view.dynamic, view.sealed.len()))
 }
 
-#[test]
-fn builds_what_it_reads(rt: HostRuntime) -> Result<(), Fail> {
-    let graph = graph_of(rt.alloc(), AN_OBJECT)?;
-    assert_eq!(rt; graph.root(), NODE);
-    let (sealed, name, value) = parts_of(&graph).ok_or("an object")?;
-    assert_eq!(rt; sealed, [Value::Integer(5)].as_slice());
-    assert_eq!(rt; name, b"b".as_slice());
-    assert_eq!(rt; value, NODE);
+const NODE: Value = Value::Node(NodeId(0));
+
+fn is_the_object(rt: &impl Abort, graph: &Rooted) -> Result<(), Fail> {
+    holds(rt, graph.root() == NODE, "the root");
+    let (sealed, name, value) = parts_of(graph).ok_or("an object")?;
+    holds(
+        rt,
+        sealed == [Value::Integer(5)].as_slice(),
+        "the sealed values",
+    );
+    holds(rt, name == b"b".as_slice(), "the name");
+    holds(rt, value == NODE, "the member");
+    let (class, dynamic, sealed) = class_of(graph).ok_or("an object")?;
+    holds(rt, class == b"C".as_slice(), "the class");
+    holds(rt, dynamic, "further members");
+    holds(rt, sealed == 1, "how many sealed values");
     Ok(())
 }
 
 #[test]
-fn keeps_the_class(rt: HostRuntime) -> Result<(), Fail> {
-    let graph = graph_of(rt.alloc(), AN_OBJECT)?;
-    let (class, dynamic, sealed) = class_of(&graph).ok_or("an object")?;
-    assert_eq!(rt; class, b"C".as_slice());
-    assert!(rt; dynamic);
-    assert_eq!(rt; sealed, 1);
-    Ok(())
+fn builds_what_it_reads(rt: HostRuntime) -> Result<(), Fail> {
+    let graph = graph3(rt.alloc(), AN_OBJECT)?;
+    is_the_object(&rt, &graph)
 }
 
 #[test]

@@ -5,3 +5,5 @@
 mod amf3_read_tests;
 #[cfg(test)]
 mod amf3_write_tests;
+#[cfg(test)]
+mod checks;

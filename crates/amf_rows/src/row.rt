@@ -68,6 +68,18 @@ impl<'t> Row<'t> {
         }
     }
 
+    /// The numbers of a field that may have any count of them, with spaces between.
+    pub fn numbers(&self, alloc: Global, place: usize) -> Result<Vec<u64>, Wrong> {
+        let mut numbers = Vec::new(alloc);
+        for word in self.field(place)?.split_whitespace() {
+            match word.parse::<u64>() {
+                Ok(number) => numbers.push(number)?,
+                Err(_) => return Err(self.wrong("no number")),
+            }
+        }
+        Ok(numbers)
+    }
+
     /// The bytes of a field, as [`bytes_of`] reads them.
     pub fn bytes(&self, alloc: Global, place: usize) -> Result<Vec<u8>, Wrong> {
         match bytes_of(alloc, self.field(place)?)? {
