@@ -1,18 +1,14 @@
-use crate::amf0_read_tests::graph_of as read_graph;
+use crate::checks::{holds, holds_in, is};
+use amf_fixtures::{graph0, graph3};
 use amf_graph::{Lack, LackKind, Rooted, WriteEnd};
+use amf_rows::{Row, Table};
 use amf_tables::WriterTables;
 use amf_wire::{U29, write_u29};
 use amf0_spelling::graphs_have_one_lowering;
 use amf0_write::{first_lack0, lower, write0, write0_part};
 use std::alloc::Global;
+use std::process::Abort;
 use std::test::Fail;
-
-/// The graph that these bytes of AMF 3 spell, which stand within AMF 0.
-fn graph_of(alloc: Global, bytes: &[u8]) -> Result<Rooted, Fail> {
-    let mut all = vec![in alloc; 0x11]?;
-    all.extend_from_slice(bytes)?;
-    read_graph(alloc, &all)
-}
 
 /// What is written of the lowered graph, behind a byte that was there.
 fn written(alloc: Global, graph: &Rooted) -> Result<Vec<u8>, WriteEnd> {
@@ -22,14 +18,6 @@ fn written(alloc: Global, graph: &Rooted) -> Result<Vec<u8>, WriteEnd> {
     let mut out = vec![in alloc; 0xAA]?;
     write0(alloc, &low, &mut out)?;
     Ok(out)
-}
-
-/// The lack of the lowered graph, if it has one.
-fn lack(alloc: Global, graph: &Rooted) -> Option<Lack> {
-    match written(alloc, graph) {
-        Err(WriteEnd::NoSpelling(lack)) => Some(lack),
-        _ => None,
-    }
 }
 
 /// What is written of the lowered graph's root as two parts, one after the other, behind a byte that was there.
@@ -44,112 +32,99 @@ fn twice(alloc: Global, graph: &Rooted) -> Result<Vec<u8>, WriteEnd> {
     Ok(out)
 }
 
-/// Values in AMF 3, and what is written of them behind a byte.
-static WRITTEN: [(&[u8], &[u8]); 13] = [
-    (b"\x00", b"\xAA\x06"),
-    (b"\x01", b"\xAA\x05"),
-    (b"\x02", b"\xAA\x01\x00"),
-    (b"\x03", b"\xAA\x01\x01"),
-    (b"\x04\x00", b"\xAA\x00\x00\x00\x00\x00\x00\x00\x00\x00"),
-    (b"\x04\x05", b"\xAA\x00\x40\x14\x00\x00\x00\x00\x00\x00"),
-    (
-        b"\x04\xFF\xFF\xFF\xFF",
-        b"\xAA\x00\xBF\xF0\x00\x00\x00\x00\x00\x00",
-    ),
-    (
-        b"\x05\x3F\xF0\x00\x00\x00\x00\x00\x00",
-        b"\xAA\x00\x3F\xF0\x00\x00\x00\x00\x00\x00",
-    ),
-    // An array of a date, an XML document and a text.
-    (
-        b"\x09\x07\x01\x08\x01\x3F\xF0\x00\x00\x00\x00\x00\x00\x07\x03a\x06\x03a",
-        b"\xAA\x0A\x00\x00\x00\x03\x0B\x3F\xF0\x00\x00\x00\x00\x00\x00\x00\x00\x0F\x00\x00\x00\x01a\x02\x00\x01a",
-    ),
-    // An array of one array twice, which holds the first.
-    (
-        b"\x09\x05\x01\x09\x03\x01\x09\x00\x09\x02",
-        b"\xAA\x0A\x00\x00\x00\x02\x0A\x00\x00\x00\x01\x07\x00\x00\x07\x00\x01",
-    ),
-    // Names in order.
-    (
-        b"\x09\x01\x03b\x01\x03a\x03\x00\x00\x01",
-        b"\xAA\x08\x00\x00\x00\x03\x00\x01a\x01\x01\x00\x01b\x05\x00\x01b\x06\x00\x00\x09",
-    ),
-    // An object of class C with the sealed members s and one with no name, and the members s and m, of which the last is
-    // an object without a class whose one member is sealed.
-    (
-        b"\x0A\x2B\x03C\x03s\x01\x04\x05\x01\x03s\x00\x03m\x0A\x13\x01\x03s\x01\x01",
-        b"\xAA\x10\x00\x01C\x00\x00\x05\x00\x01m\x03\x00\x01s\x05\x00\x00\x09\x00\x01s\x00\x40\x14\x00\x00\x00\x00\x00\x00\x00\x01s\x06\x00\x00\x09",
-    ),
-    // Three wrappers over 5, and one that wraps itself.
-    (
-        b"\x09\x05\x01\
-            \x0A\x07\x37flex.messaging.io.ArrayList\
-            \x0A\x07\x3Bflex.messaging.io.ObjectProxy\
-            \x0A\x07\x43flex.messaging.io.ArrayCollection\x04\x05\
-            \x0A\x01\x0A\x08",
-        b"\xAA\x0A\x00\x00\x00\x02\x00\x40\x14\x00\x00\x00\x00\x00\x00\x05",
-    ),
-];
+/// The format of a value and its bytes, and what is written of it behind a byte, or its least lack: `graph` whole, and
+/// `parts` where the root is written as two parts.
+static WRITTEN: Table = Table {
+    rows: 17,
+    fields: 5,
+    text: "
+graph | 3 | 00 | AA 06 |
+graph | 3 | 01 | AA 05 |
+graph | 3 | 02 | AA 01 00 |
+graph | 3 | 03 | AA 01 01 |
+graph | 3 | 04 00 | AA 00 0000000000000000 |
+graph | 3 | 04 05 | AA 00 4014000000000000 |
+graph | 3 | 04 FFFFFFFF | AA 00 BFF0000000000000 |
+graph | 3 | 05 3FF0000000000000 | AA 00 3FF0000000000000 |
+# An array of a date, an XML document and a text.
+graph | 3 | 09 07 01 08 01 3FF0000000000000 07 03'a' 06 03'a' | AA 0A 00000003 0B 3FF0000000000000 0000 0F 00000001'a' 02 0001'a' |
+# An array of one array twice, which holds the first.
+graph | 3 | 09 05 01 09 03 01 09 00 09 02 | AA 0A 00000002 0A 00000001 07 0000 07 0001 |
+# Names in order.
+graph | 3 | 09 01 03'b' 01 03'a' 03 00 00 01 | AA 08 00000003 0001'a' 0101 0001'b' 05 0001'b' 06 0000 09 |
+# An object of class C with the sealed members s and one with no name, and the members s and m, of which the last is an
+# object without a class whose one member is sealed.
+graph | 3 | 0A 2B 03'C' 03's' 01 04 05 01 03's' 00 03'm' 0A 13 01 03's' 01 01 | AA 10 0001'C' 0000 05 0001'm' 03 0001's' 05 0000 09 0001's' 00 4014000000000000 0001's' 06 0000 09 |
+# Three wrappers over 5, and one that wraps itself.
+graph | 3 | 09 05 01 0A 07 37'flex.messaging.io.ArrayList' 0A 07 3B'flex.messaging.io.ObjectProxy' 0A 07 43'flex.messaging.io.ArrayCollection' 04 05 0A 01 0A 08 | AA 0A 00000002 00 4014000000000000 05 |
+# An object of class C with a member that has no name.
+graph | 0 | 10 0001'C' 0000 05 0001'm' 06 0000 09 | AA 10 0001'C' 0000 05 0001'm' 06 0000 09 |
+# An array of a date twice, with XML between.
+graph | 3 | 09 07 01 08 01 3FF0000000000000 0B 03'a' 08 02 | | Shared 1
+parts | 3 | 09 03 01 01 | AA 0A 00000001 05 07 0000 |
+parts | 3 | 08 01 3FF0000000000000 | | Shared 0
+",
+};
+
+/// The value of a row.
+fn graph_in(alloc: Global, row: Row<'_>) -> Result<Rooted, Fail> {
+    let bytes = row.bytes(alloc, 2)?;
+    if row.number(1)? == 0 {
+        Ok(graph0(alloc, &bytes)?)
+    } else {
+        Ok(graph3(alloc, &bytes)?)
+    }
+}
+
+/// A lack, as its kind and its node.
+fn lack_told(alloc: Global, end: WriteEnd) -> Result<String, Fail> {
+    match end {
+        WriteEnd::NoSpelling(lack) => {
+            let Lack { kind, node } = lack;
+            Ok(format!(in alloc; "{kind:?} {node}")?)
+        }
+        WriteEnd::Memory => Err("no memory")?,
+    }
+}
+
+fn is_lacking(rt: &impl Abort, alloc: Global, row: Row<'_>, end: WriteEnd) -> Result<(), Fail> {
+    let told = lack_told(alloc, end)?;
+    is(rt, row, &told, row.field(4)?);
+    Ok(())
+}
+
+fn are_bytes(rt: &impl Abort, alloc: Global, row: Row<'_>, out: &[u8]) -> Result<(), Fail> {
+    let want = row.bytes(alloc, 3)?;
+    holds_in(rt, row, out == want.as_slice(), "what is written");
+    Ok(())
+}
+
+/// Compares what is written of a graph with what its row says.
+fn is_written(rt: &impl Abort, alloc: Global, row: Row<'_>, graph: &Rooted) -> Result<(), Fail> {
+    let written = match row.field(0)? == "parts" {
+        true => twice(alloc, graph),
+        false => written(alloc, graph),
+    };
+    match written {
+        Ok(out) => are_bytes(rt, alloc, row, &out),
+        Err(end) => is_lacking(rt, alloc, row, end),
+    }
+}
 
 #[test]
 fn writes_values(rt: HostRuntime) -> Result<(), Fail> {
-    for (spelled, bytes) in WRITTEN.iter() {
-        let graph = graph_of(rt.alloc(), spelled)?;
-        let out = written(rt.alloc(), &graph)?;
-        assert_eq!(rt; out.as_slice(), *bytes, "{spelled:?}");
+    for row in WRITTEN.rows(rt.alloc())?.iter() {
+        let graph = graph_in(rt.alloc(), *row)?;
+        is_written(&rt, rt.alloc(), *row, &graph)?;
     }
     Ok(())
 }
 
-/// An object of class C with a member that has no name.
 #[test]
-fn writes_what_was_read(rt: HostRuntime) -> Result<(), Fail> {
-    let bytes = b"\x10\x00\x01C\x00\x00\x05\x00\x01m\x06\x00\x00\x09";
-    let graph = read_graph(rt.alloc(), bytes)?;
-    let out = written(rt.alloc(), &graph)?;
-    assert_eq!(rt;
-        out.as_slice(),
-        b"\xAA\x10\x00\x01C\x00\x00\x05\x00\x01m\x06\x00\x00\x09".as_slice()
-    );
-    Ok(())
-}
-
-#[test]
-fn the_least_lack(rt: HostRuntime) -> Result<(), Fail> {
-    // An array of a date twice, with XML between.
-    let graph = graph_of(
-        rt.alloc(),
-        b"\x09\x07\x01\x08\x01\x3F\xF0\x00\x00\x00\x00\x00\x00\x0B\x03a\x08\x02",
-    )?;
-    let shared = Lack {
-        kind: LackKind::Shared,
-        node: 1,
-    };
-    assert_eq!(rt; lack(rt.alloc(), &graph), Some(shared));
-    Ok(())
-}
-
-#[test]
-fn parts_one_after_another(rt: HostRuntime) -> Result<(), Fail> {
-    let graph = graph_of(rt.alloc(), b"\x09\x03\x01\x01")?;
-    let bytes = b"\xAA\x0A\x00\x00\x00\x01\x05\x07\x00\x00".as_slice();
-    assert_eq!(rt; twice(rt.alloc(), &graph)?.as_slice(), bytes);
-    assert_eq!(rt; first_lack0(rt.alloc(), &graph, 1)?, None);
-    Ok(())
-}
-
-#[test]
-fn a_date_of_two_parts(rt: HostRuntime) -> Result<(), Fail> {
-    let graph = graph_of(rt.alloc(), b"\x08\x01\x3F\xF0\x00\x00\x00\x00\x00\x00")?;
-    let shared = Lack {
-        kind: LackKind::Shared,
-        node: 0,
-    };
-    assert_eq!(rt;
-        twice(rt.alloc(), &graph),
-        Err(WriteEnd::NoSpelling(shared))
-    );
+fn an_array_lacks_nothing(rt: HostRuntime) -> Result<(), Fail> {
+    let graph = graph3(rt.alloc(), b"\x09\x03\x01\x01")?;
+    let lack = first_lack0(rt.alloc(), &graph, 1)?;
+    holds(&rt, lack == None, "no lack");
     Ok(())
 }
 
@@ -165,18 +140,31 @@ fn named(alloc: Global, length: u32) -> Result<Rooted, Fail> {
         bytes.push(b'a')?;
     }
     bytes.extend_from_slice(&[0x06, 0x00, 0x01])?;
-    graph_of(alloc, &bytes)
+    Ok(graph3(alloc, &bytes)?)
+}
+
+/// How many bytes are written of such an array, or why none.
+fn size_of_named(alloc: Global, length: u32) -> Result<Result<usize, WriteEnd>, Fail> {
+    let graph = named(alloc, length)?;
+    Ok(match written(alloc, &graph) {
+        Ok(out) => Ok(out.len()),
+        Err(end) => Err(end),
+    })
 }
 
 #[test]
 fn long_names_and_texts(rt: HostRuntime) -> Result<(), Fail> {
-    let alloc = rt.alloc();
-    let out = written(alloc, &named(alloc, 65_535)?)?;
-    assert_eq!(rt; out.len(), 1 + 5 + 2 + 65_535 + 3 + 65_535 + 3);
-    let long_name = Lack {
+    let size = size_of_named(rt.alloc(), 65_535)?;
+    holds(
+        &rt,
+        size == Ok(1 + 5 + 2 + 65_535 + 3 + 65_535 + 3),
+        "the size",
+    );
+    let long_name = WriteEnd::NoSpelling(Lack {
         kind: LackKind::LongName,
         node: 0,
-    };
-    assert_eq!(rt; lack(alloc, &named(alloc, 65_536)?), Some(long_name));
+    });
+    let size = size_of_named(rt.alloc(), 65_536)?;
+    holds(&rt, size == Err(long_name), "a long name");
     Ok(())
 }

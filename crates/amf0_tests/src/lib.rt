@@ -5,3 +5,5 @@
 mod amf0_read_tests;
 #[cfg(test)]
 mod amf0_write_tests;
+#[cfg(test)]
+mod checks;

@@ -4,11 +4,9 @@ ghost use Rattle.amf_graph.specs.Arena.{Names};
 ghost use Rattle.amf_graph.specs.declared.value.Value.TheVariants.{Null};
 ghost use Rattle.flex_msgs.specs.Built.{IsReply};
 
+use amf_fixtures::graph3;
 use amf_graph::{Builder, Rooted, Value};
-use amf_io::{Cursor, MemorySource};
-use amf_tables::Tables3;
 use amf_wire::Name;
-use amf3_read::read3;
 use flex_msgs::{
     Common, FaultText, Member, NotAMessage, Reply, Request, acknowledge, delivered, error,
     invalidate, is_stored, published, sync, view,
@@ -31,18 +29,6 @@ fn finished(builder: Builder, root: Value) -> Result<Rooted, Fail>
 {
     let graph = builder.finish(root).ok().ok_or("an open node")?;
     Ok(graph)
-}
-
-/// The graph that these bytes of AMF 3 spell.
-fn graph_of(alloc: Global, bytes: &[u8]) -> Result<Rooted, Fail> {
-    let mut source = MemorySource::new(alloc, bytes, 1000, 0, &[])?;
-    let mut cursor = Cursor::new(alloc, &mut source, 1000)?;
-    let mut builder = Builder::new(alloc)?;
-    let mut tables = Tables3::new(alloc)?;
-    let Ok(root) = read3(alloc, &mut cursor, &mut builder, &mut tables) else {
-        return Err("no value")?;
-    };
-    Ok(builder.finish(root).ok().ok_or("an open node")?)
 }
 
 /// A piece of bytes of AMF 3.
@@ -85,7 +71,7 @@ fn spelled(alloc: Global, pieces: &[Piece<'_>]) -> Result<Rooted, Fail> {
     for piece in pieces {
         spell_piece(&mut bytes, *piece)?;
     }
-    graph_of(alloc, &bytes)
+    Ok(graph3(alloc, &bytes)?)
 }
 
 /// A message of this class with one member, which is undefined.

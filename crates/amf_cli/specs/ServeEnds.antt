@@ -2,10 +2,10 @@
 use Rattle.std.specs.Prelude.{◌≡◌, ℕ, ◌≤◌, Bool, true, false, List, ◌++◌, Result, Ok, Err, ⊤}
 use Rattle.amf_io.specs.Outside.{Rose}
 use Rattle.amf_workers.specs.declared.answer.ServeAnswer.{ServeAnswer}
-use Rattle.amf_cli.specs.declared.run_end.RunEnd.{RunEnd}
-use Rattle.amf_cli.specs.declared.run_end.RunEnd.TheVariants.{Refused, Usage, ReadFault, WriteFault, NoMemory, FrontFault, NoForm}
+use Rattle.amf_commands.specs.declared.run_end.RunEnd.{RunEnd}
+use Rattle.amf_commands.specs.declared.run_end.RunEnd.TheVariants.{Refused, Usage, ReadFault, WriteFault, NoMemory, FrontFault, NoForm}
 use Rattle.amf_cli.specs.Serving.{was_starved, had_fault, line_after}
-use Rattle.amf_cli.specs.Written.{WritesFront}
+use Rattle.amf_commands.specs.Written.{WritesFront}
 
 abbrev pub End : Type 0
 End = Result (Unit {0}) RunEnd

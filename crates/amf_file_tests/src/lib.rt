@@ -2,7 +2,7 @@
 #![tactic(auto)]
 
 #[cfg(test)]
-mod graphs;
+mod checks;
 #[cfg(test)]
 mod packet_show_tests;
 #[cfg(test)]

@@ -4,12 +4,15 @@ ghost use Rattle.amf_packet.specs.Content.{packet_of};
 ghost use Rattle.amf_packet.specs.Packet.{is_version};
 ghost use Rattle.amf_packet.specs.WrittenPacket.{HasTexts};
 
+use crate::checks::{holds, is};
+use amf_fixtures::end_told;
 use amf_graph::{Builder, Lack, LackKind, Rooted, Value};
-use amf_io::{Cursor, MemorySource, ReadEnd, Reason, Refusal};
+use amf_io::{Cursor, MemorySource, ReadEnd};
 use amf_packet::{
     Body, Headers, Message, Messages, Packet, PacketEnd, packet_rows, packet_verdict_rows,
     packets_have_one_verdict, read_packet, write_packet,
 };
+use amf_rows::{Row, Table};
 use amf_wire::{Name, is_amf_text};
 use std::alloc::Global;
 use std::process::Abort;
@@ -65,67 +68,73 @@ fn written_of(
     Ok((out, end))
 }
 
+/// Reads a packet in pieces of at most so many bytes, and compares what is written of it.
+fn is_written(rt: &impl Abort, alloc: Global, most: usize) -> Result<(), Fail> {
+    let (out, end) = written_of(alloc, ODD, most)?;
+    holds(rt, end == Ok(()), "an end");
+    holds(rt, out.as_slice() == CANONICAL, "what is written");
+    Ok(())
+}
+
 #[test]
 fn keeps_names_flags_and_forms(rt: HostRuntime) -> Result<(), Fail> {
     packet_rows();
     packet_verdict_rows();
     packets_have_one_verdict();
-    for most in [1, 65536] {
-        let (out, end) = written_of(rt.alloc(), ODD, most)?;
-        assert_eq!(rt; end, Ok(()));
-        assert_eq!(rt; out.as_slice(), CANONICAL, "in pieces of {most}");
-    }
-    Ok(())
+    is_written(&rt, rt.alloc(), 1)?;
+    is_written(&rt, rt.alloc(), 65536)
 }
 
 /// Bytes that are refused within a limit of 30, for a reason at a place.
-static REFUSED: [(&[u8], Reason, u32); 10] = [
-    (b"", Reason::Truncated, 0),
-    (b"\x00\x02", Reason::BadVersion, 0),
-    (b"\x00\x00\x00", Reason::Truncated, 2),
-    (b"\x00\x00\x00\x00\x00", Reason::Truncated, 4),
-    (b"\x00\x00\x00\x01\x00\x02h", Reason::Truncated, 6),
-    (b"\x00\x00\x00\x01\x00\x01\xFF", Reason::BadText, 6),
-    (b"\x00\x00\x00\x01\x00\x00\x01\x00", Reason::Truncated, 7),
-    (
-        b"\x00\x00\x00\x01\x00\x00\x01\x00\x00\x00\x00\x04",
-        Reason::BadMarker,
-        11,
-    ),
-    // No value knows the tables of the one before.
-    (
-        b"\x00\x00\x00\x00\x00\x02\
-            \x00\x00\x00\x00\x00\x00\x00\x00\x0A\x00\x00\x00\x00\
-            \x00\x00\x00\x00\x00\x00\x00\x00\x07\x00\x00",
-        Reason::BadReference,
-        27,
-    ),
-    // The limit stands inside the length of the second header.
-    (ODD, Reason::TooLarge, 27),
-];
+static REFUSED: Table = Table {
+    rows: 10,
+    fields: 2,
+    text: "
+ | Truncated 0
+0002 | BadVersion 0
+0000 00 | Truncated 2
+0000 0000 00 | Truncated 4
+0000 0001 0002'h' | Truncated 6
+0000 0001 0001 FF | BadText 6
+0000 0001 0000 01 00 | Truncated 7
+0000 0001 0000 01 00000000 04 | BadMarker 11
+# No value knows the tables of the one before.
+0000 0000 0002 0000 0000 00000000 0A 00000000 0000 0000 00000000 07 0000 | BadReference 27
+# The limit stands inside the length of the second header.
+0003 0002 0001'h' 07 12345678 0A 00000001 0C 00000002'hi' 0000 00 00000000 11 04 8005 0002 0001't' 0002'/1' 00000001 0A 00000001 11 04 05 0000 0001'r' 99999999 0A 00000002 11 01 05 | TooLarge 27
+",
+};
 
-/// Reads bytes within a limit of 30, in pieces of at most so many, and compares why they are refused.
+/// Why bytes are refused within a limit of 30, in pieces of at most so many.
+fn refusal(alloc: Global, bytes: &[u8], most: usize) -> Result<ReadEnd, Fail> {
+    match read_of(alloc, bytes, 30, most)? {
+        Ok(_) => Err("a packet".into()),
+        Err(end) => Ok(end),
+    }
+}
+
 fn is_refused(
     rt: &impl Abort,
     alloc: Global,
+    row: Row<'_>,
     bytes: &[u8],
     most: usize,
-    refusal: Refusal,
 ) -> Result<(), Fail> {
-    let end = read_of(alloc, bytes, 30, most)?.err();
-    assert_eq!(rt; end, Some(ReadEnd::Refused(refusal)), "{bytes:?}");
+    let told = end_told(alloc, refusal(alloc, bytes, most)?)?;
+    is(rt, row, &told, row.field(1)?);
     Ok(())
+}
+
+fn is_refused_in_pieces(rt: &impl Abort, alloc: Global, row: Row<'_>) -> Result<(), Fail> {
+    let bytes = row.bytes(alloc, 0)?;
+    is_refused(rt, alloc, row, &bytes, 1)?;
+    is_refused(rt, alloc, row, &bytes, 65536)
 }
 
 #[test]
 fn refuses_the_first_wrong_field(rt: HostRuntime) -> Result<(), Fail> {
-    for (bytes, reason, at) in REFUSED.iter() {
-        let refusal = Refusal {
-            reason: *reason,
-            at: *at,
-        };
-        is_refused(&rt, rt.alloc(), bytes, 1, refusal)?;
-        is_refused(&rt, rt.alloc(), bytes, 65536, refusal)?;
+    for row in REFUSED.rows(rt.alloc())?.iter() {
+        is_refused_in_pieces(&rt, rt.alloc(), *row)?;
     }
     Ok(())
 }
@@ -176,8 +185,12 @@ fn tells_which_value_is_not_written(rt: HostRuntime) -> Result<(), Fail> {
         node: 1,
     };
     let (out, end) = written_of(rt.alloc(), NAMELESS, 65536)?;
-    assert_eq!(rt; end, Err(PacketEnd::NoSpelling { value: 1, lack }));
-    assert_eq!(rt; out.as_slice(), b"\xAA".as_slice());
+    holds(
+        &rt,
+        end == Err(PacketEnd::NoSpelling { value: 1, lack }),
+        "the lack",
+    );
+    holds(&rt, out.as_slice() == b"\xAA".as_slice(), "nothing written");
     Ok(())
 }
 
@@ -195,8 +208,8 @@ fn writes_no_long_text(rt: HostRuntime) -> Result<(), Fail> {
     let packet = too_long(rt.alloc())?;
     let mut out = vec![in rt.alloc(); 0xAA]?;
     let end = write_packet(rt.alloc(), &packet, &mut out);
-    assert_eq!(rt; end, Err(PacketEnd::LongText(0)));
-    assert_eq!(rt; out.as_slice(), b"\xAA".as_slice());
+    holds(&rt, end == Err(PacketEnd::LongText(0)), "a long text");
+    holds(&rt, out.as_slice() == b"\xAA".as_slice(), "nothing written");
     Ok(())
 }
 
@@ -221,7 +234,7 @@ static ENDS: [(PacketEnd, &str); 4] = [
 fn says_why_nothing_was_written(rt: HostRuntime) -> Result<(), Fail> {
     for (end, words) in ENDS.iter() {
         let said = format!(in rt.alloc(); "{end}")?;
-        assert_eq!(rt; said.as_str(), *words);
+        holds(&rt, said.as_str() == *words, words);
     }
     Ok(())
 }

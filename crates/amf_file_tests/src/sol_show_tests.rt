@@ -1,4 +1,5 @@
-use crate::graphs::graph_of;
+use crate::checks::holds;
+use amf_fixtures::graph0;
 use amf_listings::{file_has_lowering, show_file};
 use amf_sol::{SharedObject, SolVersion};
 use amf_wire::Name;
@@ -22,19 +23,25 @@ const HOLDER: &[u8] = b"\x03\0\x01b\x0A\0\0\0\0\0\0\x05\0\0\x09";
 /// The shared object of this version.
 fn file(alloc: Global, version: SolVersion) -> Result<SharedObject, Fail> {
     let name = Name::from_bytes(alloc, b"\"t")?;
-    let file = SharedObject::new(alloc, name, version, graph_of(alloc, HOLDER)?)
+    let file = SharedObject::new(alloc, name, version, graph0(alloc, HOLDER)?)
         .ok()
         .ok_or("no file")?;
     Ok(file)
 }
 
+/// The listing of a shared object behind a first byte.
+fn listed(alloc: Global, file: &SharedObject) -> Result<Vec<u8>, Fail> {
+    file_has_lowering(file);
+    let mut out = vec![in alloc; b'>']?;
+    show_file(alloc, file, &mut out)?;
+    Ok(out)
+}
+
 /// Compares the listing of a shared object behind a first byte.
 fn shows(rt: &impl Abort, alloc: Global, version: SolVersion, listing: &[u8]) -> Result<(), Fail> {
     let file = file(alloc, version)?;
-    file_has_lowering(&file);
-    let mut out = vec![in alloc; b'>']?;
-    show_file(alloc, &file, &mut out)?;
-    assert_eq!(rt; out.as_slice(), listing);
+    let out = listed(alloc, &file)?;
+    holds(rt, out.as_slice() == listing, "the listing");
     Ok(())
 }
 

@@ -1,30 +1,29 @@
-use crate::graphs::graph_of;
+use crate::checks::{holds, holds_in, is, version_in};
+use amf_fixtures::graph0;
 use amf_graph::{Lack, LackKind, Rooted, WriteEnd};
+use amf_rows::{Row, Table};
 use amf_sol::{SharedObject, SolVersion, files_or_lacks, write_sol};
 use amf_wire::Name;
 use std::alloc::Global;
+use std::process::Abort;
 use std::test::Fail;
 
-/// `{a: true}` in AMF 0.
-const ONE_TRUE: &[u8] =
-    b"\xAA\x00\xBF\x00\x00\x00\x17TCSO\x00\x04\x00\x00\x00\x00\x00\x01t\x00\x00\x00\x00\
-    \x00\x01a\x01\x01\x00";
-
-/// An empty array under `a` and `b`, the text `b` under the empty name, and 5 under `c`, in AMF 0.
-const SHARED0: &[u8] =
-    b"\xAA\x00\xBF\x00\x00\x00\x35TCSO\x00\x04\x00\x00\x00\x00\x00\x01t\x00\x00\x00\x00\
-    \x00\x00\x02\x00\x01b\x00\
-    \x00\x01a\x0A\x00\x00\x00\x00\x00\
-    \x00\x01b\x07\x00\x00\x00\
-    \x00\x01c\x00\x40\x14\x00\x00\x00\x00\x00\x00\x00";
-
-/// The same in AMF 3.
-const SHARED3: &[u8] =
-    b"\xAA\x00\xBF\x00\x00\x00\x25TCSO\x00\x04\x00\x00\x00\x00\x00\x01t\x00\x00\x00\x03\
-    \x01\x06\x03b\x00\
-    \x03a\x09\x01\x01\x00\
-    \x00\x09\x00\x00\
-    \x03c\x04\x05\x00";
+/// Versions and holders in AMF 0, with what is written behind a byte of files with the name t, and how that ends.
+static FILES: Table = Table {
+    rows: 5,
+    fields: 4,
+    text: "
+# `{a: true}`.
+0 | 11 0A 0B 01 03'a' 03 01 | AA 00BF 00000017'TCSO' 0004 00000000 0001't' 00000000 0001'a' 0101 00 | written
+# Pairs in no order, two of them of one array: the empty array under `a` and `b`, the text `b` under the empty name, and 5
+# under `c`.
+0 | 03 0001'c' 11 04 05 0001'b' 0A 00000000 0000 02 0001'b' 0001'a' 07 0001 0000 09 | AA 00BF 00000035'TCSO' 0004 00000000 0001't' 00000000 0000 02 0001'b' 00 0001'a' 0A 00000000 00 0001'b' 07 0000 00 0001'c' 00 4014000000000000 00 | written
+3 | 03 0001'c' 11 04 05 0001'b' 0A 00000000 0000 02 0001'b' 0001'a' 07 0001 0000 09 | AA 00BF 00000025'TCSO' 0004 00000000 0001't' 00000003 01 06 03'b' 00 03'a' 09 01 01 00 00 09 00 00 03'c' 04 05 00 | written
+# Two pairs of one date, and an array with an empty name: the first lack, and nothing written.
+0 | 03 0001'b' 08 00000000 0000 11 08 01 0000000000000000 0000 09 0001'a' 11 08 00 0000 09 | AA | Shared 1
+3 | 03 0001'b' 08 00000000 0000 11 08 01 0000000000000000 0000 09 0001'a' 11 08 00 0000 09 | AA | EmptyName 2
+",
+};
 
 /// What stands behind a byte that was there, and how the writing of a shared object with this holder ended.
 fn written(
@@ -47,49 +46,73 @@ fn one_true(alloc: Global, size: &[u8], name: &[u8]) -> Result<Rooted, Fail> {
     bytes.extend_from_slice(size)?;
     bytes.extend_from_slice(name)?;
     bytes.extend_from_slice(b"\x03\x01")?;
-    graph_of(alloc, &bytes)
+    Ok(graph0(alloc, &bytes)?)
 }
 
-/// A holder whose pairs stand in no order, two of them of one array.
-const SHARED_ARRAY: &[u8] = b"\x03\0\x01c\x11\x04\x05\0\x01b\x0A\0\0\0\0\
-    \0\0\x02\0\x01b\0\x01a\x07\0\x01\0\0\x09";
+/// What is written of the holder of a row, and how that ended.
+fn written_in(alloc: Global, row: Row<'_>) -> Result<(Vec<u8>, Result<(), WriteEnd>), Fail> {
+    let bytes = row.bytes(alloc, 1)?;
+    written(alloc, version_in(row, 0)?, graph0(alloc, &bytes)?)
+}
 
-/// A holder of two pairs of one date, and of an array with an empty name.
-const LACKING: &[u8] = b"\x03\0\x01b\x08\0\0\0\0\0\0\x11\x08\x01\0\0\0\0\0\0\0\0\0\0\x09\
-    \0\x01a\x11\x08\0\0\0\x09";
+/// How a writing ended: a lack by its kind and its node.
+fn end_told(alloc: Global, end: Result<(), WriteEnd>) -> Result<String, Fail> {
+    match end {
+        Ok(()) => Ok(format!(in alloc; "written")?),
+        Err(WriteEnd::NoSpelling(lack)) => {
+            let Lack { kind, node } = lack;
+            Ok(format!(in alloc; "{kind:?} {node}")?)
+        }
+        Err(WriteEnd::Memory) => Err("no memory")?,
+    }
+}
+
+fn ends_as(
+    rt: &impl Abort,
+    alloc: Global,
+    row: Row<'_>,
+    end: Result<(), WriteEnd>,
+) -> Result<(), Fail> {
+    let told = end_told(alloc, end)?;
+    is(rt, row, &told, row.field(3)?);
+    Ok(())
+}
+
+fn are_bytes(rt: &impl Abort, alloc: Global, row: Row<'_>, out: &[u8]) -> Result<(), Fail> {
+    let want = row.bytes(alloc, 2)?;
+    holds_in(rt, row, out == want.as_slice(), "what is written");
+    Ok(())
+}
+
+fn is_written(rt: &impl Abort, alloc: Global, row: Row<'_>) -> Result<(), Fail> {
+    let (out, end) = written_in(alloc, row)?;
+    ends_as(rt, alloc, row, end)?;
+    are_bytes(rt, alloc, row, &out)
+}
 
 #[test]
 fn pairs_by_name_over_one_set_of_tables(rt: HostRuntime) -> Result<(), Fail> {
-    let alloc = rt.alloc();
-    let (out, end) = written(alloc, SolVersion::Amf0, one_true(alloc, b"\x03", b"a")?)?;
-    assert_eq!(rt; end, Ok(()));
-    assert_eq!(rt; out.as_slice(), ONE_TRUE);
-    for (version, bytes) in [(SolVersion::Amf0, SHARED0), (SolVersion::Amf3, SHARED3)] {
-        let (out, end) = written(alloc, version, graph_of(alloc, SHARED_ARRAY)?)?;
-        assert_eq!(rt; end, Ok(()));
-        assert_eq!(rt; out.as_slice(), bytes);
+    files_or_lacks();
+    for row in FILES.rows(rt.alloc())?.iter() {
+        is_written(&rt, rt.alloc(), *row)?;
     }
     Ok(())
 }
 
-#[test]
-fn the_first_lack_and_nothing_written(rt: HostRuntime) -> Result<(), Fail> {
-    files_or_lacks();
-    let alloc = rt.alloc();
-    for (version, kind, node) in [
-        (SolVersion::Amf0, LackKind::Shared, 1),
-        (SolVersion::Amf3, LackKind::EmptyName, 2),
-    ] {
-        let (out, end) = written(alloc, version, graph_of(alloc, LACKING)?)?;
-        assert_eq!(rt; end, Err(WriteEnd::NoSpelling(Lack { kind, node })));
-        assert_eq!(rt; out.as_slice(), b"\xAA".as_slice());
-    }
-    Ok(())
+/// How the writing of a holder with a long name ends.
+fn long_name(
+    alloc: Global,
+    version: SolVersion,
+    length: usize,
+    size: &[u8],
+) -> Result<Result<(), WriteEnd>, Fail> {
+    let name = vec![in alloc; b'a'; length]?;
+    let (_, end) = written(alloc, version, one_true(alloc, size, &name)?)?;
+    Ok(end)
 }
 
 #[test]
 fn long_names_of_pairs(rt: HostRuntime) -> Result<(), Fail> {
-    let alloc = rt.alloc();
     let too_long = WriteEnd::NoSpelling(Lack {
         kind: LackKind::LongName,
         node: 0,
@@ -99,9 +122,8 @@ fn long_names_of_pairs(rt: HostRuntime) -> Result<(), Fail> {
         (SolVersion::Amf0, 65_536, b"\x88\x80\x01", Err(too_long)),
         (SolVersion::Amf3, 65_536, b"\x88\x80\x01", Ok(())),
     ] {
-        let name = vec![in alloc; b'a'; length]?;
-        let (_, end) = written(alloc, version, one_true(alloc, size, &name)?)?;
-        assert_eq!(rt; end, wanted);
+        let end = long_name(rt.alloc(), version, length, size)?;
+        holds(&rt, end == wanted, "a long name");
     }
     Ok(())
 }

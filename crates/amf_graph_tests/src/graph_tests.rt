@@ -2,6 +2,7 @@ ghost use Rattle.std.specs.Prelude.{◌≡◌, true, codes, length, IfOk, OnOk};
 ghost use Rattle.amf_graph.specs.Arena.{Names, array};
 ghost use Rattle.amf_graph.specs.Building.{no_arena, kept_text, kept_node, begun};
 
+use crate::checks::holds;
 use amf_graph::{
     BuildEnd, Builder, Lack, LackKind, Leaf, NodeId, NodeKind, NodeView, Part, Rooted, Shape,
     TextId, TraitsId, TraitsView, Value, WriteEnd, finished_facts, fit_rows, graph_rows,
@@ -43,10 +44,16 @@ fn graph_of(alloc: Global, root: Value) -> Result<Rooted, Fail> {
     Ok(builder.finish(root).ok().ok_or("an open node")?)
 }
 
+fn keeps_its_root(rt: &impl Abort, alloc: Global, root: Value) -> Result<(), Fail> {
+    let graph = graph_of(alloc, root)?;
+    assert!(rt; graph.root() == root, "{root:?}");
+    Ok(())
+}
+
 #[test]
 fn keeps_the_root(rt: HostRuntime) -> Result<(), Fail> {
     for root in ROOTS.iter() {
-        assert_eq!(rt; graph_of(rt.alloc(), *root)?.root(), *root);
+        keeps_its_root(&rt, rt.alloc(), *root)?;
     }
     Ok(())
 }
@@ -93,7 +100,7 @@ fn graph_of_texts(alloc: Global) -> Result<Rooted, Fail> {
 fn compare_text(rt: &impl Abort, graph: &Rooted, x: u32, left: u32) {
     for (y, _, right) in TEXTS.iter() {
         let found = graph.compare_texts(TextId(x), TextId(*y));
-        assert_eq!(rt; found, left.cmp(right), "{x} and {y}");
+        assert!(rt; found == left.cmp(right), "{x} and {y}");
     }
 }
 
@@ -159,51 +166,60 @@ fn shown(graph: &Rooted) -> Option<NodeView<'_>> {
 #[test]
 fn kinds_and_texts(rt: HostRuntime) -> Result<(), Fail> {
     let builder = an_open_array(rt.alloc())?;
-    assert_eq!(rt; builder.text_of(TextId(0)), b"a".as_slice());
-    assert_eq!(rt; builder.kind_of(NodeId(0)), NodeKind::Array);
+    holds(
+        &rt,
+        builder.text_of(TextId(0)) == b"a".as_slice(),
+        "the text",
+    );
+    holds(
+        &rt,
+        builder.kind_of(NodeId(0)) == NodeKind::Array,
+        "the kind",
+    );
     Ok(())
 }
 
 /// Looks at the parts of an array.
 fn is_the_array(rt: &impl Abort, items: &[Value], names: &[(TextId, Value)]) {
-    assert_eq!(rt; items, [Value::Node(NodeId(0))].as_slice());
-    assert_eq!(rt; names, [(TextId(0), Value::Null)].as_slice());
+    holds(
+        rt,
+        items == [Value::Node(NodeId(0))].as_slice(),
+        "the items",
+    );
+    holds(
+        rt,
+        names == [(TextId(0), Value::Null)].as_slice(),
+        "the names",
+    );
 }
 
-#[test]
-fn builds_an_array(rt: HostRuntime) -> Result<(), Fail> {
-    let graph = an_array(rt.alloc())?;
-    assert_eq!(rt; graph.node_count(), 1);
-    match shown(&graph) {
-        Some(NodeView::Array { items, names }) => is_the_array(&rt, items, names),
+fn is_an_array(rt: &impl Abort, graph: &Rooted) -> Result<(), Fail> {
+    holds(rt, graph.node_count() == 1, "how many nodes");
+    match shown(graph) {
+        Some(NodeView::Array { items, names }) => is_the_array(rt, items, names),
         _ => Err("no array")?,
     }
     Ok(())
 }
 
-/// Looks at the parts of an object.
-fn is_the_object(rt: &impl Abort, sealed: &[Value], members: &[(TextId, Value)]) {
-    assert_eq!(rt; sealed, [Value::Bool(true)].as_slice());
-    assert_eq!(rt; members, [(TextId(0), Value::Null)].as_slice());
+#[test]
+fn builds_an_array(rt: HostRuntime) -> Result<(), Fail> {
+    let graph = an_array(rt.alloc())?;
+    is_an_array(&rt, &graph)
 }
 
-#[test]
-fn builds_an_object(rt: HostRuntime) -> Result<(), Fail> {
-    let graph = an_object(rt.alloc())?;
-    match shown(&graph) {
-        Some(
-            NodeView::Object {
-                traits,
-                sealed,
-                members,
-            },
-        ) => {
-            assert_eq!(rt; traits, TraitsId(0));
-            is_the_object(&rt, sealed, members);
-        }
-        _ => Err("no object")?,
-    }
-    Ok(())
+/// Looks at the parts of an object.
+fn is_the_object(rt: &impl Abort, sealed: &[Value], members: &[(TextId, Value)]) {
+    holds(
+        rt,
+        sealed == [Value::Bool(true)].as_slice(),
+        "the sealed values",
+    );
+    holds(
+        rt,
+        members == [(TextId(0), Value::Null)].as_slice(),
+        "the members",
+    );
 }
 
 /// The traits of node 0, if it is an object.
@@ -218,14 +234,40 @@ fn class_of(graph: &Rooted) -> Option<TraitsView<'_>> {
     }
 }
 
-#[test]
-fn shows_traits(rt: HostRuntime) -> Result<(), Fail> {
-    let graph = an_object(rt.alloc())?;
-    let view = class_of(&graph).ok_or("no object")?;
-    assert_eq!(rt; view.class, TextId(0));
-    assert!(rt; view.dynamic);
-    assert_eq!(rt; view.sealed, [TextId(0)].as_slice());
+fn is_an_object(rt: &impl Abort, graph: &Rooted) -> Result<(), Fail> {
+    match shown(graph) {
+        Some(
+            NodeView::Object {
+                traits,
+                sealed,
+                members,
+            },
+        ) => {
+            holds(rt, traits == TraitsId(0), "the traits");
+            is_the_object(rt, sealed, members);
+        }
+        _ => Err("no object")?,
+    }
     Ok(())
+}
+
+fn has_traits(rt: &impl Abort, graph: &Rooted) -> Result<(), Fail> {
+    let view = class_of(graph).ok_or("no object")?;
+    holds(rt, view.class == TextId(0), "the class");
+    holds(rt, view.dynamic, "further members");
+    holds(
+        rt,
+        view.sealed == [TextId(0)].as_slice(),
+        "the sealed names",
+    );
+    Ok(())
+}
+
+#[test]
+fn builds_an_object(rt: HostRuntime) -> Result<(), Fail> {
+    let graph = an_object(rt.alloc())?;
+    is_an_object(&rt, &graph)?;
+    has_traits(&rt, &graph)
 }
 
 /// A builder with a date and two open arrays.
@@ -237,18 +279,25 @@ fn two_open_arrays(alloc: Global) -> Result<Builder, Fail> {
     Ok(builder)
 }
 
+/// The open node for which there is no graph.
+fn open_node(alloc: Global) -> Result<NodeId, Fail> {
+    match two_open_arrays(alloc)?.finish(Value::Null) {
+        Ok(_) => Err("no open node")?,
+        Err(unfinished) => Ok(unfinished.node),
+    }
+}
+
 #[test]
 fn tells_the_open_node(rt: HostRuntime) -> Result<(), Fail> {
-    let builder = two_open_arrays(rt.alloc())?;
-    let unfinished = builder.finish(Value::Null).err().ok_or("no open node")?;
-    assert_eq!(rt; unfinished.node, NodeId(1));
+    let node = open_node(rt.alloc())?;
+    holds(&rt, node == NodeId(1), "the open node");
     Ok(())
 }
 
 /// Looks at how an end is told.
 fn is_told(rt: &impl Abort, alloc: Global, end: &impl Display, words: &str) -> Result<(), Fail> {
     let said = format!(in alloc; "{end}")?;
-    assert_eq!(rt; said.as_str(), words);
+    holds(rt, said.as_str() == words, words);
     Ok(())
 }
 

@@ -2,6 +2,8 @@
 #![tactic(auto)]
 
 #[cfg(test)]
+mod checks;
+#[cfg(test)]
 mod graph_tests;
 #[cfg(test)]
 mod tables_tests;

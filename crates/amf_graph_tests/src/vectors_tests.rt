@@ -1,5 +1,7 @@
+use crate::checks::holds;
 use amf_graph::{NodeId, NodeView, Rooted, Value};
 use amf_vectors::{make, vectors};
+use std::process::Abort;
 use std::test::Fail;
 
 /// The first value among the members of an object.
@@ -14,24 +16,35 @@ fn first_member(graph: &Rooted, place: u32) -> Option<Value> {
     Some(*value)
 }
 
+fn is_made(rt: &impl Abort, graph: &Rooted) {
+    holds(rt, graph.root() == Value::Node(NodeId(0)), "the root");
+    holds(rt, graph.node_count() == 3, "how many nodes");
+    holds(
+        rt,
+        first_member(graph, 1) == Some(Value::Integer(16_838)),
+        "the first",
+    );
+    holds(
+        rt,
+        first_member(graph, 2) == Some(Value::Integer(5_758)),
+        "the second",
+    );
+}
+
 #[test]
 fn an_array_and_two_objects(rt: HostRuntime) -> Result<(), Fail> {
     let graph = make(rt.alloc(), 1, 3)?;
-    assert_eq!(rt; graph.root(), Value::Node(NodeId(0)));
-    assert_eq!(rt; graph.node_count(), 3);
-    assert_eq!(rt; first_member(&graph, 1), Some(Value::Integer(16_838)));
-    assert_eq!(rt; first_member(&graph, 2), Some(Value::Integer(5_758)));
+    is_made(&rt, &graph);
     Ok(())
 }
 
 #[test]
-fn vectors_of_both_kinds(rt: HostRuntime) -> Result<(), Fail> {
+fn vectors_of_both_kinds(rt: HostRuntime) {
     let mut canonical = 0u32;
     for vector in vectors() {
         if vector.input == vector.output {
             canonical = canonical.wrapping_add(1);
         }
     }
-    assert_eq!(rt; canonical, 18);
-    Ok(())
+    holds(&rt, canonical == 18, "how many are canonical");
 }

@@ -1,12 +1,11 @@
 ghost use Rattle.std.specs.Prelude.{◌≡◌, length, IfOk, OnOk};
 ghost use Rattle.amf_graph.specs.Building.{kept_text};
 
+use crate::checks::holds;
+use amf_fixtures::{graph3, rooted_at};
 use amf_graph::{Builder, NodeId, Rooted, TextId, Value};
-use amf_io::{Cursor, MemorySource};
 use amf_iso::{Numbering, are_by_name, by_name, ids_by_name, isomorphic, relabel, values_met};
-use amf_tables::Tables3;
 use amf_wire::is_amf_text;
-use amf3_read::read3;
 use std::alloc::Global;
 use std::process::Abort;
 use std::test::Fail;
@@ -17,43 +16,35 @@ const OUT_OF_ORDER: &[u8] = b"\x09\x03\x03b\x09\x01\x01\x03a\x09\x01\x01\x01\x09
 /// An array that leads to node 1, an array that leads back to itself.
 const TO_A_RING: &[u8] = b"\x09\x03\x01\x09\x03\x01\x09\x02";
 
-/// The graph that these bytes of AMF 3 spell.
-fn graph_of(alloc: Global, bytes: &[u8]) -> Result<Rooted, Fail> {
-    let mut source = MemorySource::new(alloc, bytes, 65536, 0, &[])?;
-    let mut cursor = Cursor::new(alloc, &mut source, 1000)?;
-    let mut builder = Builder::new(alloc)?;
-    let mut tables = Tables3::new(alloc)?;
-    let Ok(root) = read3(alloc, &mut cursor, &mut builder, &mut tables) else {
-        return Err("no value")?;
-    };
-    Ok(builder.finish(root).ok().ok_or("an open node")?)
-}
-
-/// The ring, whose graph has the array that leads to it too.
-fn ring(alloc: Global) -> Result<Rooted, Fail> {
-    let graph = graph_of(alloc, TO_A_RING)?;
-    if graph.node_count() < 2 {
-        return Err("one node")?;
-    }
-    Ok(graph.rooted_at(Value::Node(NodeId(1))))
-}
+/// Numbers, and the nodes that are out of order.
+static NUMBERED: [(u32, NodeId); 4] = [
+    (0, NodeId(0)),
+    (1, NodeId(2)),
+    (2, NodeId(1)),
+    (3, NodeId(3)),
+];
 
 /// Checks which node has a number.
 fn is_numbered(rt: &impl Abort, numbering: &Numbering, number: u32, node: NodeId) {
     assert!(rt; number < numbering.count());
-    assert_eq!(rt; numbering.node_at(number), node);
-    assert_eq!(rt; numbering.number_of(node), Some(number));
+    holds(
+        rt,
+        numbering.node_at(number) == node,
+        "the node at a number",
+    );
+    holds(
+        rt,
+        numbering.number_of(node) == Some(number),
+        "the number of a node",
+    );
 }
 
-#[test]
-fn numbers_names_in_order(rt: HostRuntime) -> Result<(), Fail> {
-    let graph = graph_of(rt.alloc(), OUT_OF_ORDER)?;
-    let numbering = Numbering::of(rt.alloc(), &graph)?;
-    assert_eq!(rt; numbering.count(), 4);
-    is_numbered(&rt, &numbering, 0, NodeId(0));
-    is_numbered(&rt, &numbering, 1, NodeId(2));
-    is_numbered(&rt, &numbering, 2, NodeId(1));
-    is_numbered(&rt, &numbering, 3, NodeId(3));
+fn numbers_in_order(rt: &impl Abort, alloc: Global, graph: &Rooted) -> Result<(), Fail> {
+    let numbering = Numbering::of(alloc, graph)?;
+    holds(rt, numbering.count() == 4, "the count");
+    for (number, node) in NUMBERED.iter() {
+        is_numbered(rt, &numbering, *number, *node);
+    }
     Ok(())
 }
 
@@ -63,33 +54,31 @@ fn relabelled(alloc: Global, graph: &Rooted) -> Result<Rooted, Fail> {
     Ok(relabel(alloc, graph, &numbering)?)
 }
 
-#[test]
-fn relabels_in_order(rt: HostRuntime) -> Result<(), Fail> {
-    let graph = graph_of(rt.alloc(), OUT_OF_ORDER)?;
-    let relabelled = relabelled(rt.alloc(), &graph)?;
-    assert_eq!(rt; relabelled.node_count(), 4);
-    assert_eq!(rt; relabelled.root(), Value::Node(NodeId(0)));
-    assert!(rt; isomorphic(rt.alloc(), &graph, &relabelled)?);
+fn relabels_in_order(rt: &impl Abort, alloc: Global, graph: &Rooted) -> Result<(), Fail> {
+    let other = relabelled(alloc, graph)?;
+    holds(rt, other.node_count() == 4, "as many nodes");
+    holds(rt, other.root() == Value::Node(NodeId(0)), "the root");
+    holds(rt, isomorphic(alloc, graph, &other)?, "alike");
     Ok(())
 }
 
 #[test]
-fn numbers_what_is_reached(rt: HostRuntime) -> Result<(), Fail> {
-    let graph = ring(rt.alloc())?;
-    assert_eq!(rt; graph.node_count(), 2);
-    let numbering = Numbering::of(rt.alloc(), &graph)?;
-    assert_eq!(rt; numbering.count(), 1);
-    assert_eq!(rt; numbering.number_of(NodeId(1)), Some(0));
-    assert_eq!(rt; numbering.number_of(NodeId(0)), None);
-    assert_eq!(rt; numbering.number_of(NodeId(2)), None);
-    Ok(())
+fn names_go_in_order(rt: HostRuntime) -> Result<(), Fail> {
+    let graph = graph3(rt.alloc(), OUT_OF_ORDER)?;
+    numbers_in_order(&rt, rt.alloc(), &graph)?;
+    relabels_in_order(&rt, rt.alloc(), &graph)
 }
 
-#[test]
-fn tells_other_graphs_apart(rt: HostRuntime) -> Result<(), Fail> {
-    let graph = ring(rt.alloc())?;
-    let other = graph_of(rt.alloc(), OUT_OF_ORDER)?;
-    assert!(rt; !isomorphic(rt.alloc(), &graph, &other)?);
+fn numbers_what_is_reached(rt: &impl Abort, alloc: Global, ring: &Rooted) -> Result<(), Fail> {
+    let numbering = Numbering::of(alloc, ring)?;
+    holds(rt, numbering.count() == 1, "the count");
+    for (node, number) in [(1, Some(0)), (0, None), (2, None)] {
+        holds(
+            rt,
+            numbering.number_of(NodeId(node)) == number,
+            "the number of a node",
+        );
+    }
     Ok(())
 }
 
@@ -101,12 +90,30 @@ fn met_at_first(alloc: Global, graph: &Rooted) -> Result<Vec<Value>, Fail> {
     Ok(values_met(alloc, NodeId(0), graph)?)
 }
 
-#[test]
-fn meets_the_values_of_a_node(rt: HostRuntime) -> Result<(), Fail> {
-    let graph = ring(rt.alloc())?;
-    let met = met_at_first(rt.alloc(), &graph)?;
-    assert_eq!(rt; met.as_slice(), [Value::Node(NodeId(1))].as_slice());
+fn meets_the_values_of_a_node(rt: &impl Abort, alloc: Global, ring: &Rooted) -> Result<(), Fail> {
+    let met = met_at_first(alloc, ring)?;
+    holds(
+        rt,
+        met.as_slice() == [Value::Node(NodeId(1))].as_slice(),
+        "the values",
+    );
     Ok(())
+}
+
+fn is_not_the_array(rt: &impl Abort, alloc: Global, ring: &Rooted) -> Result<(), Fail> {
+    let other = graph3(alloc, OUT_OF_ORDER)?;
+    holds(rt, !isomorphic(alloc, ring, &other)?, "another graph");
+    Ok(())
+}
+
+/// The ring, whose graph has the array that leads to it too.
+#[test]
+fn a_ring_is_reached_alone(rt: HostRuntime) -> Result<(), Fail> {
+    let ring = rooted_at(graph3(rt.alloc(), TO_A_RING)?, 1)?;
+    holds(&rt, ring.node_count() == 2, "two nodes");
+    numbers_what_is_reached(&rt, rt.alloc(), &ring)?;
+    meets_the_values_of_a_node(&rt, rt.alloc(), &ring)?;
+    is_not_the_array(&rt, rt.alloc(), &ring)
 }
 
 /// Keeps a text.
@@ -133,26 +140,29 @@ fn two_texts(alloc: Global) -> Result<Rooted, Fail>
 /// The texts, each with null.
 const PAIRS: [(TextId, Value); 2] = [(TextId(0), Value::Null), (TextId(1), Value::Null)];
 
-#[test]
-fn sorts_pairs_by_name(rt: HostRuntime) -> Result<(), Fail> {
-    let graph = two_texts(rt.alloc())?;
-    let sorted = by_name(rt.alloc(), &PAIRS, &graph)?;
-    assert_eq!(rt;
-        sorted.as_slice(),
-        [(b"a".as_slice(), Value::Null), (b"b", Value::Null)].as_slice()
-    );
+fn sorts_pairs_by_name(rt: &impl Abort, alloc: Global, graph: &Rooted) -> Result<(), Fail>
+    requires { length graph.now.arena.texts ≡ 2 }
+{
+    let sorted = by_name(alloc, &PAIRS, graph)?;
+    let wanted = [(b"a".as_slice(), Value::Null), (b"b", Value::Null)];
+    holds(rt, sorted.as_slice() == wanted.as_slice(), "pairs by name");
+    Ok(())
+}
+
+fn sorts_ids_by_name(rt: &impl Abort, alloc: Global, graph: &Rooted) -> Result<(), Fail>
+    requires { length graph.now.arena.texts ≡ 2 }
+{
+    holds(rt, !are_by_name(&PAIRS, graph), "not in order");
+    let ids = ids_by_name(alloc, &PAIRS, graph)?;
+    let wanted = [(TextId(1), Value::Null), (TextId(0), Value::Null)];
+    holds(rt, ids.as_slice() == wanted.as_slice(), "texts by name");
+    holds(rt, are_by_name(&ids, graph), "in order");
     Ok(())
 }
 
 #[test]
-fn sorts_ids_by_name(rt: HostRuntime) -> Result<(), Fail> {
+fn sorts_by_name(rt: HostRuntime) -> Result<(), Fail> {
     let graph = two_texts(rt.alloc())?;
-    assert!(rt; !are_by_name(&PAIRS, &graph));
-    let ids = ids_by_name(rt.alloc(), &PAIRS, &graph)?;
-    assert_eq!(rt;
-        ids.as_slice(),
-        [(TextId(1), Value::Null), (TextId(0), Value::Null)].as_slice()
-    );
-    assert!(rt; are_by_name(&ids, &graph));
-    Ok(())
+    sorts_pairs_by_name(&rt, rt.alloc(), &graph)?;
+    sorts_ids_by_name(&rt, rt.alloc(), &graph)
 }
