@@ -1,5 +1,5 @@
 use crate::answers::told;
-use crate::calls::{Asked, call_of};
+use crate::calls::{Asked, call_of, name_of};
 use crate::checks::{holds, is_answered};
 use amf_broker::Broker;
 use amf_rows::{Row, Table, Wrong};
@@ -146,15 +146,12 @@ fn sendable<T: Send>(value: T) -> T {
 }
 
 /// A broker of the destinations that follow the first word.
-fn opened(alloc: Global, asked: Asked<'_>) -> Result<Broker, Wrong> {
+fn opened(alloc: Global, asked: &Asked<'_>) -> Option<Broker> {
     let mut destinations = Vec::new(alloc);
     for word in asked.text.split_whitespace().skip(1) {
-        destinations.push(asked.name(alloc, word)?)?;
+        destinations.push(name_of(alloc, word)?).ok()?;
     }
-    match Broker::new(alloc, destinations) {
-        Ok(broker) => Ok(sendable(broker)),
-        Err(_) => Err(asked.wrong("no memory")),
-    }
+    Some(sendable(Broker::new(alloc, destinations).ok()?))
 }
 
 /// What a broker answers to a call.
@@ -163,14 +160,12 @@ fn answer(
     alloc: Global,
     broker: &mut Broker,
     moment: u64,
-    asked: Asked<'_>,
-) -> Result<String, Wrong> {
+    asked: &Asked<'_>,
+) -> Option<String> {
     let call = call_of(alloc, asked)?;
     assert!(rt; broker.calls() < 1 << 62);
-    match broker.step(alloc, moment, call) {
-        Ok(answer) => Ok(told(alloc, &answer)?),
-        Err(_) => Err(asked.wrong("no memory")),
-    }
+    let answer = broker.step(alloc, moment, call).ok()?;
+    told(alloc, &answer).ok()
 }
 
 /// What comes of a call, which may be one for a new broker.
@@ -179,16 +174,16 @@ fn answered(
     alloc: Global,
     broker: &mut Broker,
     moment: u64,
-    asked: Asked<'_>,
-) -> Result<String, Wrong> {
+    asked: &Asked<'_>,
+) -> Option<String> {
     match asked.word(0) {
         "open" => {
             *broker = opened(alloc, asked)?;
-            Ok(String::from_str(alloc, "open")?)
+            String::from_str(alloc, "open").ok()
         }
         "queued" => {
             let count = broker.queued();
-            Ok(format!(in alloc; "queued {count}")?)
+            format!(in alloc; "queued {count}").ok()
         }
         _ => answer(rt, alloc, broker, moment, asked),
     }
@@ -205,9 +200,13 @@ fn numbers(row: Row<'_>) -> Result<(u64, u64), Wrong> {
         text: field,
         number: 0,
     };
-    Ok((asked.number(0)?, asked.number(1)?))
+    match (asked.number(0), asked.number(1)) {
+        (Some(first), Some(last)) => Ok((first, last)),
+        _ => Err(asked.wrong("no numbers")),
+    }
 }
 
+/// Makes the calls of a row, and tells how many they are.
 fn ask(rt: &impl Abort, alloc: Global, broker: &mut Broker, row: Row<'_>) -> Result<u64, Wrong> {
     let (first, last) = numbers(row)?;
     let moment = u64::from(row.number(1)?);
@@ -218,7 +217,9 @@ fn ask(rt: &impl Abort, alloc: Global, broker: &mut Broker, row: Row<'_>) -> Res
             text: row.field(2)?,
             number,
         };
-        let got = answered(rt, alloc, broker, moment, asked)?;
+        let Some(got) = answered(rt, alloc, broker, moment, &asked) else {
+            return Err(asked.wrong("no call, or no memory"));
+        };
         let digits = format!(in alloc; "{number}")?;
         let want = row.field(3)?.replace(alloc, '#', &digits)?;
         is_answered(rt, row, &got, &want);

@@ -1,6 +1,6 @@
 use amf_broker::{Call, ClientId, SubId, Topic};
 use amf_rows::Wrong;
-use amf_wire::{Memory, Name};
+use amf_wire::Name;
 use std::alloc::Global;
 
 /// A call as words, the line that it stands in, and the number that `#` stands for.
@@ -24,83 +24,69 @@ impl<'t> Asked<'t> {
         self.text.split_whitespace().nth(place).unwrap_or("")
     }
 
-    pub(crate) fn number(&self, place: usize) -> Result<u64, Wrong> {
+    pub(crate) fn number(&self, place: usize) -> Option<u64> {
         let word = self.word(place);
         if word == "#" {
-            return Ok(self.number);
+            return Some(self.number);
         }
-        match word.parse::<u64>() {
-            Ok(number) => Ok(number),
-            Err(_) => Err(self.wrong("no number")),
-        }
+        word.parse::<u64>().ok()
     }
 
-    fn client(&self) -> Result<ClientId, Wrong> {
-        Ok(ClientId(self.number(1)?))
+    fn client(&self) -> Option<ClientId> {
+        Some(ClientId(self.number(1)?))
     }
 
-    fn sub(&self) -> Result<SubId, Wrong> {
-        Ok(SubId(self.number(2)?))
-    }
-
-    /// A name. `x*100` stands for a hundred times `x`.
-    pub(crate) fn name(&self, alloc: Global, word: &str) -> Result<Name, Wrong> {
-        match name_of(alloc, word) {
-            Ok(Some(name)) => Ok(name),
-            Ok(None) => Err(self.wrong("no number of times")),
-            Err(_) => Err(self.wrong("no memory")),
-        }
+    fn sub(&self) -> Option<SubId> {
+        Some(SubId(self.number(2)?))
     }
 
     /// A destination, which its subtopic follows behind a `/`.
-    fn topic(&self, alloc: Global) -> Result<Topic, Wrong> {
+    fn topic(&self, alloc: Global) -> Option<Topic> {
         let word = self.word(2);
         let (destination, subtopic) = word.split_once('/').unwrap_or((word, ""));
-        Ok(Topic {
-            destination: self.name(alloc, destination)?,
-            subtopic: self.name(alloc, subtopic)?,
+        Some(Topic {
+            destination: name_of(alloc, destination)?,
+            subtopic: name_of(alloc, subtopic)?,
         })
     }
 }
 
-fn name_of(alloc: Global, word: &str) -> Result<Option<Name>, Memory> {
+/// A name. `x*100` stands for a hundred times `x`.
+pub(crate) fn name_of(alloc: Global, word: &str) -> Option<Name> {
     let Some((part, times)) = word.split_once('*') else {
-        return Ok(Some(Name::of_bytes(alloc, word.as_bytes())?));
+        return Name::of_bytes(alloc, word.as_bytes()).ok();
     };
-    let Ok(times) = times.parse::<usize>() else {
-        return Ok(None);
-    };
-    let text = part.repeat(alloc, times)?;
-    Ok(Some(Name::of_bytes(alloc, text.as_bytes())?))
+    let text = part.repeat(alloc, times.parse::<usize>().ok()?).ok()?;
+    Name::of_bytes(alloc, text.as_bytes()).ok()
 }
 
-/// The call that these words say.
-pub(crate) fn call_of(alloc: Global, asked: Asked<'_>) -> Result<Call, Wrong> {
+/// The call that these words say, if they say one and there is memory for it.
+pub(crate) fn call_of(alloc: Global, asked: &Asked<'_>) -> Option<Call> {
     match (asked.word(0), asked.text.split_whitespace().count()) {
-        ("connect", 1) => Ok(Call::Connect),
-        ("subscribe", 3) => Ok(Call::Subscribe {
+        ("connect", 1) => Some(Call::Connect),
+        ("subscribe", 3) => Some(Call::Subscribe {
             client: asked.client()?,
             topic: asked.topic(alloc)?,
         }),
-        ("unsubscribe", 3) => Ok(Call::Unsubscribe {
+        ("unsubscribe", 3) => Some(Call::Unsubscribe {
             client: asked.client()?,
             sub: asked.sub()?,
         }),
-        ("publish", 4) => Ok(Call::Publish {
+        ("publish", 4) => Some(Call::Publish {
             client: asked.client()?,
             topic: asked.topic(alloc)?,
-            message: asked.name(alloc, asked.word(3))?,
+            message: name_of(alloc, asked.word(3))?,
         }),
-        ("poll", 2) => Ok(Call::Poll {
+        ("poll", 2) => Some(Call::Poll {
             client: asked.client()?,
         }),
-        ("poll", 3) => Ok(Call::PollNumbered {
+        ("poll", 3) => Some(Call::PollNumbered {
             client: asked.client()?,
             number: asked.number(2)?,
         }),
-        ("disconnect", 2) => Ok(Call::Disconnect {
+        ("disconnect", 2) => Some(Call::Disconnect {
             client: asked.client()?,
         }),
-        _ => Err(asked.wrong("no call")),
+        _ => None,
     }
 }

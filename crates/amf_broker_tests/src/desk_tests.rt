@@ -405,12 +405,14 @@ fn answered<R: Wait>(
     desk: &Desk,
     pass: &mut Pass,
     moment: u64,
-    asked: Asked<'_>,
+    asked: &Asked<'_>,
 ) -> Result<String, Wrong>
     requires { pass.old.desk ≡ desk.now }
     ensures { (pass.new.desk ≡ pass.old.desk) × (pass.new.number ≡ pass.old.number) }
 {
-    let call = call_of(alloc, asked)?;
+    let Some(call) = call_of(alloc, asked) else {
+        return Err(asked.wrong("no call, or no memory"));
+    };
     match desk.call(rt, alloc, pass, moment, call) {
         Ok(answer) => Ok(told(alloc, &answer)?),
         Err(_) => Err(asked.wrong("no answer")),
@@ -434,7 +436,7 @@ fn ask_row<R: Wait + Abort>(
         text: row.field(2)?,
         number: 0,
     };
-    let got = answered(rt, alloc, desk, pass, moment, asked)?;
+    let got = answered(rt, alloc, desk, pass, moment, &asked)?;
     is_answered(rt, row, &got, row.field(3)?);
     Ok(())
 }
@@ -535,7 +537,7 @@ impl TurnTaker {
             text: row.field(1)?,
             number: 0,
         };
-        let got = answered(rt, alloc, desk, &mut self.pass, 0, asked)?;
+        let got = answered(rt, alloc, desk, &mut self.pass, 0, &asked)?;
         Ok(got.as_str() == row.field(2)?)
     }
 

@@ -144,26 +144,38 @@ fn ask_faults(
     Ok(())
 }
 
-#[test]
-fn the_first_of_two_faults_decides(rt: HostRuntime) -> Result<(), Fail> {
-    let alloc = rt.alloc();
+/// Asks each pair of faults in the order with this number.
+fn ask_order(rt: &impl Abort, alloc: Global, number: usize) -> Result<usize, Wrong> {
     let faults = FAULTS.rows(alloc)?;
-    let orders = ORDERS.rows(alloc)?;
-    for (number, earlier) in faults.iter().enumerate() {
-        for later in faults.iter().skip(number) {
-            for order in orders.iter() {
-                ask_faults(&rt, alloc, *order, *earlier, *later)?;
+    let mut count = 0usize;
+    for order in ORDERS.rows(alloc)?.iter().skip(number).take(1) {
+        for (first, earlier) in faults.iter().enumerate() {
+            for later in faults.iter().skip(first) {
+                ask_faults(rt, alloc, *order, *earlier, *later)?;
+                count = count.wrapping_add(1);
             }
         }
     }
+    Ok(count)
+}
+
+#[test]
+fn the_first_of_two_faults_decides(rt: HostRuntime) -> Result<(), Fail> {
+    let count = ask_order(&rt, rt.alloc(), 0)?;
+    holds(&rt, count == 55, "pairs");
+    Ok(())
+}
+
+#[test]
+fn it_decides_in_the_other_order(rt: HostRuntime) -> Result<(), Fail> {
+    let count = ask_order(&rt, rt.alloc(), 1)?;
+    holds(&rt, count == 55, "pairs");
     Ok(())
 }
 
 /// Appends so many of a byte.
 fn put_filled(out: &mut Vec<u8>, byte: u8, count: usize) -> Result<(), AllocError> {
-    for _ in 0..count {
-        out.push(byte)?;
-    }
+    out.resize(out.len().saturating_add(count), byte)?;
     Ok(())
 }
 
