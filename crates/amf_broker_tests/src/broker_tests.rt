@@ -1,639 +1,260 @@
-use amf_broker::{
-    Answer, Broker, Call, ClientId, ClientIds, Deliveries, Reply, SubId, SubIds, Topic,
-};
-use amf_wire::Name;
+use crate::answers::told;
+use crate::calls::{Asked, call_of, name_of};
+use crate::checks::{holds, is_answered};
+use amf_broker::Broker;
+use amf_rows::{Row, Table, Wrong};
 use std::alloc::Global;
 use std::process::Abort;
 use std::test::Fail;
 
-/// A call in a table.
-#[derive(Clone, Copy)]
-enum Request<'a> {
-    Connect,
-    Subscribe(u64, &'a str, &'a str),
-    Unsubscribe(u64, u64),
-    Publish(u64, &'a str, &'a str, &'a str),
-    Poll(u64),
-    PollNumbered(u64, u64),
-    Disconnect(u64),
-}
+/// Calls with their answers: `open` and the destinations makes a new broker, and `queued` asks how many deliveries wait.
+/// Where the first field has two numbers, the call is made for each from the one to the other, and `#` stands for it.
+static IN_ORDER: Table = Table {
+    rows: 56,
+    fields: 4,
+    text: r"
+# for     | moment  | call                   | answer
 
-/// A reply in a table. A delivery is its subscription, its number and its message.
-#[derive(Clone, Copy)]
-enum Want<'a> {
-    Client(u64),
-    Subscribed(u64),
-    Unsubscribed(u64),
-    Published(u64, &'a [u64]),
-    Batch(&'a [(u64, u64, &'a str)], &'a [u64]),
-    Numbered(u64, &'a [(u64, u64, &'a str)], &'a [u64]),
-    Again(u64, &'a [(u64, u64, &'a str)], &'a [u64]),
-    Bye,
-    Full(u32),
-    NoClient(u64),
-    NoTopic(&'a str),
-    TooLong(u32),
-    TooManySubs(u32),
-    NoSub(u64),
-    BadNumber(u64),
-}
+# In order.
+          | 0       | open chat              | open
+          | 0       | connect                | client 1
+          | 0       | connect                | client 2
+          | 0       | subscribe 1 chat       | subscribed 1
+          | 0       | subscribe 1 chat       | subscribed 2
+          | 0       | subscribe 2 chat       | subscribed 3
+          | 0       | publish 2 chat a       | published 1
+          | 0       | poll 1                 | batch 1:1:a 2:1:a
+          | 0       | publish 2 chat b       | published 2
+          | 0       | unsubscribe 1 1        | unsubscribed 1
+          | 0       | publish 2 chat c       | published 3
+          | 0       | poll 1                 | batch 1:2:b 2:2:b 2:3:c
+          | 0       | poll 1                 | batch
+          | 0       | poll 2                 | batch 3:1:a 3:2:b 3:3:c
+          | 0       | unsubscribe 1 1        | no subscription 1
+          | 0       | poll 9                 | no client 9
+          | 0       | subscribe 1 nowhere    | no topic nowhere
+          | 0       | disconnect 2           | bye
+          | 0       | poll 2                 | no client 2
+          | 0       | queued                 | queued 0
 
-fn name_of(alloc: Global, text: &str) -> Result<Name, Fail> {
-    Ok(Name::of_bytes(alloc, text.as_bytes())?)
-}
+# A subscription to a subtopic gets no message without one.
+          | 0       | open chat              | open
+          | 0       | connect                | client 1
+          | 0       | subscribe 1 chat/x     | subscribed 1
+          | 0       | publish 1 chat m       | published 1
+          | 0       | queued                 | queued 0
 
-fn topic_of(alloc: Global, destination: &str, subtopic: &str) -> Result<Topic, Fail> {
-    Ok(Topic {
-        destination: name_of(alloc, destination)?,
-        subtopic: name_of(alloc, subtopic)?,
-    })
-}
+# Clients that no call names expire.
+          | 0       | open chat              | open
+          | 0       | connect                | client 1
+          | 0       | subscribe 1 chat       | subscribed 1
+          | 1000    | connect                | client 2
+          | 600000  | publish 2 chat a       | published 1 expired 1
+          | 600000  | poll 1                 | no client 1
+          | 599000  | poll 2                 | batch
+          | 1200000 | poll 2                 | no client 2 expired 2
+          | 0       | queued                 | queued 0
 
-fn call_of(alloc: Global, ask: &Request) -> Result<Call, Fail> {
-    Ok(match ask {
-        Request::Connect => Call::Connect,
-        Request::Subscribe(client, destination, subtopic) => Call::Subscribe {
-            client: ClientId(*client),
-            topic: topic_of(alloc, destination, subtopic)?,
-        },
-        Request::Unsubscribe(client, sub) => Call::Unsubscribe {
-            client: ClientId(*client),
-            sub: SubId(*sub),
-        },
-        Request::Publish(client, destination, subtopic, message) => Call::Publish {
-            client: ClientId(*client),
-            topic: topic_of(alloc, destination, subtopic)?,
-            message: name_of(alloc, message)?,
-        },
-        Request::Poll(client) => Call::Poll {
-            client: ClientId(*client),
-        },
-        Request::PollNumbered(client, number) => Call::PollNumbered {
-            client: ClientId(*client),
-            number: *number,
-        },
-        Request::Disconnect(client) => Call::Disconnect {
-            client: ClientId(*client),
-        },
-    })
-}
+# Numbered polls.
+          | 0       | open chat              | open
+          | 0       | connect                | client 1
+          | 0       | subscribe 1 chat       | subscribed 1
+          | 0       | publish 1 chat a       | published 1
+          | 0       | poll 1 1               | numbered 1 1:1:a
+          | 0       | publish 1 chat b       | published 2
+          | 0       | poll 1 1               | again 1 1:1:a
+          | 0       | poll 1 2               | numbered 2 1:2:b
+          | 0       | poll 1 1               | bad number 2
+          | 0       | poll 1 0               | bad number 2
+          | 0       | poll 1                 | batch
+          | 0       | queued                 | queued 0
 
-fn are_ended(ended: &SubIds, want: &[u64]) -> bool {
-    let ended = ended.as_slice();
-    ended.len() == want.len() && ended.iter().zip(want).all(|(sub, number)| sub.0 == *number)
-}
+# Two destinations.
+          | 0       | open chat news         | open
+          | 0       | connect                | client 1
+          | 0       | subscribe 1 chat       | subscribed 1
+          | 0       | subscribe 1 news       | subscribed 2
+          | 0       | publish 1 news a       | published 1
+          | 0       | publish 1 chat b       | published 2
+          | 0       | publish 1 news c       | published 3
+          | 0       | unsubscribe 1 2        | unsubscribed 2
+          | 0       | poll 1                 | batch 2:1:a 1:2:b 2:3:c
+          | 0       | queued                 | queued 0
+",
+};
 
-fn are_delivered(deliveries: &Deliveries, want: &[(u64, u64, &str)]) -> bool {
-    let deliveries = deliveries.as_slice();
-    deliveries.len() == want.len()
-        && deliveries.iter().zip(want).all(|(delivery, row)| {
-            delivery.sub.0 == row.0
-                && delivery.number == row.1
-                && delivery.message.as_bytes() == row.2.as_bytes()
-        })
-}
+/// Queues, clients and subscriptions at their limits.
+static LIMITS: Table = Table {
+    rows: 26,
+    fields: 4,
+    text: r"
+# for     | moment  | call                   | answer
 
-fn is_wanted(reply: &Reply, want: &Want) -> bool {
-    match (reply, want) {
-        (Reply::Client(client), Want::Client(number)) => client.0 == *number,
-        (Reply::Subscribed(sub), Want::Subscribed(number)) => sub.0 == *number,
-        (Reply::Unsubscribed(sub), Want::Unsubscribed(number)) => sub.0 == *number,
-        (Reply::Published { number, ended }, Want::Published(n, subs)) => {
-            *number == *n && are_ended(ended, subs)
-        }
-        (Reply::Batch { deliveries, ended }, Want::Batch(rows, subs)) => {
-            are_delivered(deliveries, rows) && are_ended(ended, subs)
-        }
-        (
-            Reply::Numbered {
-                number,
-                deliveries,
-                ended,
-            },
-            Want::Numbered(n, rows, subs),
-        ) => *number == *n && are_delivered(deliveries, rows) && are_ended(ended, subs),
-        (
-            Reply::Again {
-                number,
-                deliveries,
-                ended,
-            },
-            Want::Again(n, rows, subs),
-        ) => *number == *n && are_delivered(deliveries, rows) && are_ended(ended, subs),
-        (Reply::Bye, Want::Bye) => true,
-        (Reply::Full(n), Want::Full(m)) => *n == *m,
-        (Reply::NoClient(client), Want::NoClient(number)) => client.0 == *number,
-        (Reply::NoTopic(name), Want::NoTopic(text)) => name.as_bytes() == text.as_bytes(),
-        (Reply::TooLong(n), Want::TooLong(m)) => *n == *m,
-        (Reply::TooManySubs(n), Want::TooManySubs(m)) => *n == *m,
-        (Reply::NoSub(sub), Want::NoSub(number)) => sub.0 == *number,
-        (Reply::BadNumber(last), Want::BadNumber(number)) => *last == *number,
-        _ => false,
-    }
-}
+# A full queue ends its subscription.
+          | 0       | open chat              | open
+          | 0       | connect                | client 1
+          | 0       | subscribe 1 chat       | subscribed 1
+1 128     | 0       | publish 1 chat m       | published #
+          | 0       | queued                 | queued 128
+          | 0       | publish 1 chat m       | published 129 ended 1
+          | 0       | poll 1                 | batch 128 from 1:1 ended 1
+          | 0       | publish 1 chat m       | published 130
+          | 0       | poll 1                 | batch
+
+# Ends are told in their order.
+          | 0       | open chat              | open
+          | 0       | connect                | client 1
+          | 0       | subscribe 1 chat       | subscribed 1
+          | 0       | publish 1 chat m       | published 1
+          | 0       | subscribe 1 chat       | subscribed 2
+2 64      | 0       | publish 1 chat m       | published #
+          | 0       | publish 1 chat m       | published 65 ended 2
+          | 0       | publish 1 chat m       | published 66 ended 1
+          | 0       | poll 1                 | batch 128 ended 2 ended 1
+
+# Limits.
+          | 0       | open chat              | open
+1 1024    | 0       | connect                | client #
+1 16      | 0       | subscribe 1 chat       | subscribed #
+          | 0       | connect                | full 1024
+          | 0       | subscribe 1 chat       | too many 16
+          | 0       | subscribe 2 chat/x*256 | too long 255
+          | 0       | publish 2 chat x*32769 | too long 32768
+          | 0       | publish 2 chat x*32768 | published 1
+",
+};
+
+/// As many clients as may be, each with a full queue of the longest messages.
+static FULL: Table = Table {
+    rows: 6,
+    fields: 4,
+    text: r"
+# for     | moment  | call                   | answer
+
+          | 0       | open chat              | open
+1 1024    | 0       | connect                | client #
+1 1024    | 0       | subscribe # chat       | subscribed #
+1 128     | 0       | publish 1 chat x*32768 | published #
+          | 0       | queued                 | queued 131072
+1 1024    | 0       | poll #                 | batch 128 from #:1
+",
+};
 
 /// What may go to another thread.
 fn sendable<T: Send>(value: T) -> T {
     value
 }
 
-fn names_of(alloc: Global, texts: &[&str]) -> Result<Vec<Name>, Fail> {
-    let mut names = Vec::new(alloc);
-    for text in texts {
-        names.push(name_of(alloc, text)?)?;
+/// A broker of the destinations that follow the first word.
+fn opened(alloc: Global, asked: &Asked<'_>) -> Option<Broker> {
+    let mut destinations = Vec::new(alloc);
+    for word in asked.text.split_whitespace().skip(1) {
+        destinations.push(name_of(alloc, word)?).ok()?;
     }
-    Ok(names)
+    Some(sendable(Broker::new(alloc, destinations).ok()?))
 }
 
-/// A broker of these destinations.
-fn broker_of(alloc: Global, destinations: &[&str]) -> Result<Broker, Fail> {
-    let destinations = names_of(alloc, destinations)?;
-    Ok(sendable(Broker::new(alloc, destinations)?))
-}
-
+/// What a broker answers to a call.
 fn answer(
     rt: &impl Abort,
     alloc: Global,
     broker: &mut Broker,
     moment: u64,
-    call: Call,
-) -> Result<Answer, Fail> {
+    asked: &Asked<'_>,
+) -> Option<String> {
+    let call = call_of(alloc, asked)?;
     assert!(rt; broker.calls() < 1 << 62);
-    Ok(broker.step(alloc, moment, call)?)
+    let answer = broker.step(alloc, moment, call).ok()?;
+    told(alloc, &answer).ok()
 }
 
-fn are_expired(expired: &ClientIds, want: &[u64]) -> bool {
-    let expired = expired.as_slice();
-    expired.len() == want.len()
-        && expired
-            .iter()
-            .zip(want)
-            .all(|(client, number)| client.0 == *number)
-}
-
-/// A moment, the call that is made then, its reply, and the clients that expire.
-type Row = (u64, Request<'static>, Want<'static>, &'static [u64]);
-
-static IN_ORDER: [Row; 18] = [
-    (0, Request::Connect, Want::Client(1), &[]),
-    (0, Request::Connect, Want::Client(2), &[]),
-    (
-        0,
-        Request::Subscribe(1, "chat", ""),
-        Want::Subscribed(1),
-        &[],
-    ),
-    (
-        0,
-        Request::Subscribe(1, "chat", ""),
-        Want::Subscribed(2),
-        &[],
-    ),
-    (
-        0,
-        Request::Subscribe(2, "chat", ""),
-        Want::Subscribed(3),
-        &[],
-    ),
-    (
-        0,
-        Request::Publish(2, "chat", "", "a"),
-        Want::Published(1, &[]),
-        &[],
-    ),
-    (
-        0,
-        Request::Poll(1),
-        Want::Batch(&[(1, 1, "a"), (2, 1, "a")], &[]),
-        &[],
-    ),
-    (
-        0,
-        Request::Publish(2, "chat", "", "b"),
-        Want::Published(2, &[]),
-        &[],
-    ),
-    (0, Request::Unsubscribe(1, 1), Want::Unsubscribed(1), &[]),
-    (
-        0,
-        Request::Publish(2, "chat", "", "c"),
-        Want::Published(3, &[]),
-        &[],
-    ),
-    (
-        0,
-        Request::Poll(1),
-        Want::Batch(&[(1, 2, "b"), (2, 2, "b"), (2, 3, "c")], &[]),
-        &[],
-    ),
-    (0, Request::Poll(1), Want::Batch(&[], &[]), &[]),
-    (
-        0,
-        Request::Poll(2),
-        Want::Batch(&[(3, 1, "a"), (3, 2, "b"), (3, 3, "c")], &[]),
-        &[],
-    ),
-    (0, Request::Unsubscribe(1, 1), Want::NoSub(1), &[]),
-    (0, Request::Poll(9), Want::NoClient(9), &[]),
-    (
-        0,
-        Request::Subscribe(1, "nowhere", ""),
-        Want::NoTopic("nowhere"),
-        &[],
-    ),
-    (0, Request::Disconnect(2), Want::Bye, &[]),
-    (0, Request::Poll(2), Want::NoClient(2), &[]),
-];
-
-static SUBTOPICS: [Row; 3] = [
-    (0, Request::Connect, Want::Client(1), &[]),
-    (
-        0,
-        Request::Subscribe(1, "chat", "x"),
-        Want::Subscribed(1),
-        &[],
-    ),
-    (
-        0,
-        Request::Publish(1, "chat", "", "m"),
-        Want::Published(1, &[]),
-        &[],
-    ),
-];
-
-static IDLE_CLIENTS: [Row; 7] = [
-    (0, Request::Connect, Want::Client(1), &[]),
-    (
-        0,
-        Request::Subscribe(1, "chat", ""),
-        Want::Subscribed(1),
-        &[],
-    ),
-    (1_000, Request::Connect, Want::Client(2), &[]),
-    (
-        600_000,
-        Request::Publish(2, "chat", "", "a"),
-        Want::Published(1, &[]),
-        &[1],
-    ),
-    (600_000, Request::Poll(1), Want::NoClient(1), &[]),
-    (599_000, Request::Poll(2), Want::Batch(&[], &[]), &[]),
-    (1_200_000, Request::Poll(2), Want::NoClient(2), &[2]),
-];
-
-static NUMBERED_POLLS: [Row; 10] = [
-    (0, Request::Connect, Want::Client(1), &[]),
-    (
-        0,
-        Request::Subscribe(1, "chat", ""),
-        Want::Subscribed(1),
-        &[],
-    ),
-    (
-        0,
-        Request::Publish(1, "chat", "", "a"),
-        Want::Published(1, &[]),
-        &[],
-    ),
-    (
-        0,
-        Request::PollNumbered(1, 1),
-        Want::Numbered(1, &[(1, 1, "a")], &[]),
-        &[],
-    ),
-    (
-        0,
-        Request::Publish(1, "chat", "", "b"),
-        Want::Published(2, &[]),
-        &[],
-    ),
-    (
-        0,
-        Request::PollNumbered(1, 1),
-        Want::Again(1, &[(1, 1, "a")], &[]),
-        &[],
-    ),
-    (
-        0,
-        Request::PollNumbered(1, 2),
-        Want::Numbered(2, &[(1, 2, "b")], &[]),
-        &[],
-    ),
-    (0, Request::PollNumbered(1, 1), Want::BadNumber(2), &[]),
-    (0, Request::PollNumbered(1, 0), Want::BadNumber(2), &[]),
-    (0, Request::Poll(1), Want::Batch(&[], &[]), &[]),
-];
-
-static TOPICS: [Row; 8] = [
-    (0, Request::Connect, Want::Client(1), &[]),
-    (
-        0,
-        Request::Subscribe(1, "chat", ""),
-        Want::Subscribed(1),
-        &[],
-    ),
-    (
-        0,
-        Request::Subscribe(1, "news", ""),
-        Want::Subscribed(2),
-        &[],
-    ),
-    (
-        0,
-        Request::Publish(1, "news", "", "a"),
-        Want::Published(1, &[]),
-        &[],
-    ),
-    (
-        0,
-        Request::Publish(1, "chat", "", "b"),
-        Want::Published(2, &[]),
-        &[],
-    ),
-    (
-        0,
-        Request::Publish(1, "news", "", "c"),
-        Want::Published(3, &[]),
-        &[],
-    ),
-    (0, Request::Unsubscribe(1, 2), Want::Unsubscribed(2), &[]),
-    (
-        0,
-        Request::Poll(1),
-        Want::Batch(&[(2, 1, "a"), (1, 2, "b"), (2, 3, "c")], &[]),
-        &[],
-    ),
-];
-
-/// A client whose one subscription is live.
-static LISTENER: [Row; 2] = [
-    (0, Request::Connect, Want::Client(1), &[]),
-    (
-        0,
-        Request::Subscribe(1, "chat", ""),
-        Want::Subscribed(1),
-        &[],
-    ),
-];
-
-/// What follows when a full queue was polled.
-static FULL_QUEUE: [Row; 2] = [
-    (
-        0,
-        Request::Publish(1, "chat", "", "m"),
-        Want::Published(130, &[]),
-        &[],
-    ),
-    (0, Request::Poll(1), Want::Batch(&[], &[]), &[]),
-];
-
-static TWO_ENDS: [Row; 2] = [
-    (
-        0,
-        Request::Publish(1, "chat", "", "m"),
-        Want::Published(65, &[2]),
-        &[],
-    ),
-    (
-        0,
-        Request::Publish(1, "chat", "", "m"),
-        Want::Published(66, &[1]),
-        &[],
-    ),
-];
-
-static PAST_THE_LIMITS: [Row; 2] = [
-    (0, Request::Connect, Want::Full(1024), &[]),
-    (
-        0,
-        Request::Subscribe(1, "chat", ""),
-        Want::TooManySubs(16),
-        &[],
-    ),
-];
-
-static ONE_END: [Row; 1] = [(
-    0,
-    Request::Publish(1, "chat", "", "m"),
-    Want::Published(129, &[1]),
-    &[],
-)];
-
-static SECOND: [Row; 1] = [(
-    0,
-    Request::Subscribe(1, "chat", ""),
-    Want::Subscribed(2),
-    &[],
-)];
-
-/// Asks a call and compares its answer.
-fn ask(
+/// What comes of a call, which may be one for a new broker.
+fn answered(
     rt: &impl Abort,
     alloc: Global,
     broker: &mut Broker,
     moment: u64,
-    asked: &Request,
-    want: &Want,
-    expired: &[u64],
-) -> Result<(), Fail> {
-    let answer = answer(rt, alloc, broker, moment, call_of(alloc, asked)?)?;
-    let number = broker.calls();
-    assert!(rt;
-        is_wanted(&answer.reply, want) && are_expired(&answer.expired, expired),
-        "call {number}: {answer:?}"
-    );
-    Ok(())
-}
-
-/// Asks a call at moment 0, at which nobody expires, and compares its reply.
-fn ask_now(
-    rt: &impl Abort,
-    alloc: Global,
-    broker: &mut Broker,
-    asked: &Request,
-    want: &Want,
-) -> Result<(), Fail> {
-    ask(rt, alloc, broker, 0, asked, want, &[])
-}
-
-fn ask_rows(rt: &impl Abort, alloc: Global, broker: &mut Broker, rows: &[Row]) -> Result<(), Fail> {
-    for (moment, asked, want, expired) in rows {
-        ask(rt, alloc, broker, *moment, asked, want, expired)?;
+    asked: &Asked<'_>,
+) -> Option<String> {
+    match asked.word(0) {
+        "open" => {
+            *broker = opened(alloc, asked)?;
+            String::from_str(alloc, "open").ok()
+        }
+        "queued" => {
+            let count = broker.queued();
+            format!(in alloc; "queued {count}").ok()
+        }
+        _ => answer(rt, alloc, broker, moment, asked),
     }
-    Ok(())
 }
 
-/// Asks a broker of these destinations, in whose queues nothing is left.
-fn ask_broker_of(
-    rt: &impl Abort,
-    alloc: Global,
-    destinations: &[&str],
-    rows: &[Row],
-) -> Result<(), Fail> {
-    let mut broker = broker_of(alloc, destinations)?;
-    ask_rows(rt, alloc, &mut broker, rows)?;
-    assert_eq!(rt; broker.queued(), 0);
-    Ok(())
-}
-
-/// A broker of `chat`, which was asked this.
-fn chat(rt: &impl Abort, alloc: Global, rows: &[Row]) -> Result<Broker, Fail> {
-    let mut broker = broker_of(alloc, &["chat"])?;
-    ask_rows(rt, alloc, &mut broker, rows)?;
-    Ok(broker)
-}
-
-/// Publishes a message so many times, from this number on, to subscriptions none of which ends.
-fn publish(
-    rt: &impl Abort,
-    alloc: Global,
-    broker: &mut Broker,
-    message: &str,
-    first: u64,
-    count: u64,
-) -> Result<(), Fail> {
-    for n in 0..count {
-        let asked = Request::Publish(1, "chat", "", message);
-        let want = Want::Published(first.wrapping_add(n), &[]);
-        ask_now(rt, alloc, broker, &asked, &want)?;
+/// The first and the last number for which the call of a row is made.
+fn numbers(row: Row<'_>) -> Result<(u64, u64), Wrong> {
+    let field = row.field(0)?;
+    if field.is_empty() {
+        return Ok((0, 0));
     }
-    Ok(())
-}
-
-/// What a client gets when it polls.
-fn batch_of(
-    rt: &impl Abort,
-    alloc: Global,
-    broker: &mut Broker,
-    client: u64,
-) -> Result<(Deliveries, SubIds), Fail> {
-    let call = Call::Poll {
-        client: ClientId(client),
+    let asked = Asked {
+        line: row.line(),
+        text: field,
+        number: 0,
     };
-    let Answer { reply, expired: _ } = answer(rt, alloc, broker, 0, call)?;
-    match reply {
-        Reply::Batch { deliveries, ended } => Ok((deliveries, ended)),
-        reply => panic!(rt; "no batch: {reply:?}"),
+    match (asked.number(0), asked.number(1)) {
+        (Some(first), Some(last)) => Ok((first, last)),
+        _ => Err(asked.wrong("no numbers")),
     }
 }
 
-/// Polls client 1, which gets 128 deliveries and is told of these ends.
-fn poll_full(
-    rt: &impl Abort,
-    alloc: Global,
-    broker: &mut Broker,
-    want: &[u64],
-) -> Result<(), Fail> {
-    let (deliveries, ended) = batch_of(rt, alloc, broker, 1)?;
-    assert_eq!(rt; deliveries.as_slice().len(), 128);
-    assert!(rt; are_ended(&ended, want));
-    Ok(())
+/// Makes the calls of a row, and tells how many they are.
+fn ask(rt: &impl Abort, alloc: Global, broker: &mut Broker, row: Row<'_>) -> Result<u64, Wrong> {
+    let (first, last) = numbers(row)?;
+    let moment = u64::from(row.number(1)?);
+    let mut count = 0u64;
+    for number in first..=last {
+        let asked = Asked {
+            line: row.line(),
+            text: row.field(2)?,
+            number,
+        };
+        let Some(got) = answered(rt, alloc, broker, moment, &asked) else {
+            return Err(asked.wrong("no call, or no memory"));
+        };
+        let digits = format!(in alloc; "{number}")?;
+        let want = row.field(3)?.replace(alloc, '#', &digits)?;
+        is_answered(rt, row, &got, &want);
+        count = count.wrapping_add(1);
+    }
+    Ok(count)
+}
+
+/// Makes the calls of a table, and tells how many they are.
+fn ask_all(rt: &impl Abort, alloc: Global, table: &Table) -> Result<u64, Fail> {
+    let mut broker = Broker::new(alloc, Vec::new(alloc))?;
+    let mut count = 0u64;
+    for row in table.rows(alloc)? {
+        count = count.wrapping_add(ask(rt, alloc, &mut broker, row)?);
+    }
+    Ok(count)
 }
 
 #[test]
 fn answers_in_order(rt: HostRuntime) -> Result<(), Fail> {
-    let alloc = rt.alloc();
-    ask_broker_of(&rt, alloc, &["chat"], &IN_ORDER)?;
-    ask_broker_of(&rt, alloc, &["chat"], &SUBTOPICS)?;
-    ask_broker_of(&rt, alloc, &["chat"], &IDLE_CLIENTS)?;
-    ask_broker_of(&rt, alloc, &["chat"], &NUMBERED_POLLS)?;
-    ask_broker_of(&rt, alloc, &["chat", "news"], &TOPICS)
-}
-
-#[test]
-fn ends_at_a_full_queue(rt: HostRuntime) -> Result<(), Fail> {
-    let alloc = rt.alloc();
-    let mut broker = chat(&rt, alloc, &LISTENER)?;
-    publish(&rt, alloc, &mut broker, "m", 1, 128)?;
-    assert_eq!(rt; broker.queued(), 128);
-    ask_rows(&rt, alloc, &mut broker, &ONE_END)?;
-    poll_full(&rt, alloc, &mut broker, &[1])?;
-    ask_rows(&rt, alloc, &mut broker, &FULL_QUEUE)
-}
-
-#[test]
-fn tells_ends_in_order(rt: HostRuntime) -> Result<(), Fail> {
-    let alloc = rt.alloc();
-    let mut broker = chat(&rt, alloc, &LISTENER)?;
-    publish(&rt, alloc, &mut broker, "m", 1, 1)?;
-    ask_rows(&rt, alloc, &mut broker, &SECOND)?;
-    publish(&rt, alloc, &mut broker, "m", 2, 63)?;
-    ask_rows(&rt, alloc, &mut broker, &TWO_ENDS)?;
-    poll_full(&rt, alloc, &mut broker, &[2, 1])
-}
-
-/// Connects clients 1 to `count`.
-fn connect(rt: &impl Abort, alloc: Global, broker: &mut Broker, count: u64) -> Result<(), Fail> {
-    for n in 1..=count {
-        ask_now(rt, alloc, broker, &Request::Connect, &Want::Client(n))?;
-    }
+    let count = ask_all(&rt, rt.alloc(), &IN_ORDER)?;
+    holds(&rt, count == 56, "calls");
     Ok(())
-}
-
-/// Subscribes a client to `chat`.
-fn subscribe(
-    rt: &impl Abort,
-    alloc: Global,
-    broker: &mut Broker,
-    client: u64,
-    sub: u64,
-) -> Result<(), Fail> {
-    let asked = Request::Subscribe(client, "chat", "");
-    ask_now(rt, alloc, broker, &asked, &Want::Subscribed(sub))
-}
-
-/// Asks with a subtopic and with messages at their limits and past them.
-fn ask_at_the_limits(rt: &impl Abort, alloc: Global, broker: &mut Broker) -> Result<(), Fail> {
-    let subtopic = "x".repeat(alloc, 256)?;
-    let asked = Request::Subscribe(2, "chat", subtopic.as_str());
-    ask_now(rt, alloc, broker, &asked, &Want::TooLong(255))?;
-    let message = "x".repeat(alloc, 32_769)?;
-    let asked = Request::Publish(2, "chat", "", message.as_str());
-    ask_now(rt, alloc, broker, &asked, &Want::TooLong(32_768))?;
-    let message = "x".repeat(alloc, 32_768)?;
-    let asked = Request::Publish(2, "chat", "", message.as_str());
-    ask_now(rt, alloc, broker, &asked, &Want::Published(1, &[]))
 }
 
 #[test]
 fn keeps_to_its_limits(rt: HostRuntime) -> Result<(), Fail> {
-    let alloc = rt.alloc();
-    let mut broker = chat(&rt, alloc, &[])?;
-    connect(&rt, alloc, &mut broker, 1024)?;
-    for n in 1..=16 {
-        subscribe(&rt, alloc, &mut broker, 1, n)?;
-    }
-    ask_rows(&rt, alloc, &mut broker, &PAST_THE_LIMITS)?;
-    ask_at_the_limits(&rt, alloc, &mut broker)
+    let count = ask_all(&rt, rt.alloc(), &LIMITS)?;
+    holds(&rt, count == 1253, "calls");
+    Ok(())
 }
 
-/// Whether these are 128 deliveries to this subscription, numbered from 1.
-fn are_all(deliveries: &Deliveries, sub: u64) -> bool {
-    let mut number = 0u64;
-    for delivery in deliveries.as_slice() {
-        number = number.wrapping_add(1);
-        if delivery.number != number || delivery.sub.0 != sub {
-            return false;
-        }
-    }
-    number == 128
-}
-
-/// As many clients as may be, each with a full queue of the longest messages.
 #[test]
 fn fills_every_queue(rt: HostRuntime) -> Result<(), Fail> {
-    let alloc = rt.alloc();
-    let mut broker = chat(&rt, alloc, &[])?;
-    connect(&rt, alloc, &mut broker, 1024)?;
-    for n in 1..=1024 {
-        subscribe(&rt, alloc, &mut broker, n, n)?;
-    }
-    let long = "x".repeat(alloc, 32_768)?;
-    publish(&rt, alloc, &mut broker, long.as_str(), 1, 128)?;
-    assert_eq!(rt; broker.queued(), 131_072);
-    for n in 1..=1024 {
-        let (deliveries, ended) = batch_of(&rt, alloc, &mut broker, n)?;
-        assert!(rt; are_all(&deliveries, n) && are_ended(&ended, &[]));
-    }
+    let count = ask_all(&rt, rt.alloc(), &FULL)?;
+    holds(&rt, count == 3202, "calls");
     Ok(())
 }

@@ -1,9 +1,13 @@
 ghost use Rattle.std.specs.Prelude.{◌≡◌, ◌≢◌, ◌+◌, ◌^◌, ◌≤◌, All, IfOk};
 ghost use Rattle.std.specs.Thread.{IsSync};
 
-use amf_broker::{Call, ClientId, Deliveries, Reply, SubId, Topic};
+use crate::answers::told;
+use crate::calls::{Asked, call_of};
+use crate::checks::{holds, is_answered};
+use amf_broker::{Call, ClientId, Deliveries, Reply, Topic};
 use amf_desk::{Closed, Desk, DeskEnd, Pass};
-use amf_wire::Name;
+use amf_rows::{Row, Table, Wrong};
+use amf_wire::{Memory, Name};
 use std::alloc::Global;
 use std::process::Abort;
 use std::sync::Wait;
@@ -21,15 +25,15 @@ const SHARE: u64 = 1 << 20;
 /// How far the moments of two rounds are apart. A client that calls in no round of 30 expires.
 const STEP: u64 = 20_000;
 
-fn chat(alloc: Global) -> Result<Vec<Name>, Fail> {
+fn chat(alloc: Global) -> Result<Vec<Name>, Memory> {
     let mut destinations = Vec::new(alloc);
-    destinations.push(Name::of_bytes(alloc, "chat".as_bytes())?)?;
+    destinations.push(Name::of_bytes(alloc, b"chat")?)?;
     Ok(destinations)
 }
 
 fn topic(alloc: Global) -> Option<Topic> {
-    let destination = Name::of_bytes(alloc, "chat".as_bytes()).ok()?;
-    let subtopic = Name::of_bytes(alloc, "".as_bytes()).ok()?;
+    let destination = Name::of_bytes(alloc, b"chat").ok()?;
+    let subtopic = Name::of_bytes(alloc, b"").ok()?;
     Some(Topic {
         destination,
         subtopic,
@@ -47,7 +51,7 @@ fn publish(alloc: Global, client: u64) -> Option<Call> {
     Some(Call::Publish {
         client: ClientId(client),
         topic: topic(alloc)?,
-        message: Name::of_bytes(alloc, "m".as_bytes()).ok()?,
+        message: Name::of_bytes(alloc, b"m").ok()?,
     })
 }
 
@@ -316,157 +320,104 @@ fn gather<R: Wait>(
 fn at_once<R: Threads + Wait + Abort + Sync>(
     rt: &R,
     alloc: Global,
+    desk: &Desk,
+    first: &mut Pass,
     count: u64,
-) -> Result<(), Fail> {
-    let Ok((desk, mut first)) = Desk::open(alloc, chat(alloc)?) else {
-        return Err("no memory".into());
-    };
-    let Ok(_sleeper) = desk.call(rt, alloc, &mut first, 0, Call::Connect) else {
-        return Err("no memory".into());
-    };
-    let mut workers = hire(alloc, &desk, &mut first, count)?;
-    work_all(rt, alloc, &desk, workers.as_mut_slice());
-    let sums = gather(rt, alloc, &desk, &mut first, workers);
+) -> Result<Closed, Fail>
+    requires desk { first.old.desk ≡ desk.now }
+    requires number { first.old.number ≡ 0 }
+    ensures { first.new.desk ≡ desk.now }
+{
+    let _sleeper = desk.call(rt, alloc, first, 0, Call::Connect)?;
+    let mut workers = hire(alloc, desk, first, count)?;
+    work_all(rt, alloc, desk, workers.as_mut_slice());
+    let sums = gather(rt, alloc, desk, first, workers);
+    holds(rt, sums.fit && sums.sleeper == 1, "what the workers saw");
+    Ok(Closed {
+        calls: sums.answers.saturating_add(1),
+        published: sums.published,
+        delivered: sums.delivered,
+        queued: 0,
+    })
+}
+
+/// One call of a pass with a budget of 1, which is handed back then.
+fn one_call<R: Wait + Abort>(
+    rt: &R,
+    alloc: Global,
+    desk: &Desk,
+    first: &mut Pass,
+) -> Result<Closed, Fail>
+    requires desk { first.old.desk ≡ desk.now }
+    requires number { first.old.number ≡ 0 }
+    ensures { first.new.desk ≡ desk.now }
+{
     if first.budget() == 0 {
         return Err("no budget".into());
     }
-    let closed = desk.close(rt, first);
-    assert!(rt; sums.fit, "with {count}");
-    assert_eq!(rt; sums.sleeper, 1, "with {count}");
-    assert_eq!(rt;
-        closed.calls,
-        sums.answers.saturating_add(1),
-        "with {count}"
-    );
-    assert_eq!(rt; closed.published, sums.published, "with {count}");
-    assert_eq!(rt; closed.delivered, sums.delivered, "with {count}");
-    assert_eq!(rt; closed.queued, 0, "with {count}");
-    Ok(())
-}
-
-#[test]
-fn two_four_and_eight_workers(rt: HostRuntime) -> Result<(), Fail> {
-    for count in [2, 4, 8] {
-        at_once(&rt, rt.alloc(), count)?;
-    }
-    Ok(())
-}
-
-/// One call of a pass with a budget of 1, and what the desk tells when the pass is handed back.
-fn one_call<R: Wait + Abort>(rt: &R, alloc: Global) -> Result<(), Fail> {
-    let Ok((desk, mut first)) = Desk::open(alloc, chat(alloc)?) else {
-        return Err("no memory".into());
-    };
-    let mut pass = desk.split(&mut first, 1);
-    let Ok(answer) = desk.call(rt, alloc, &mut pass, 0, Call::Connect) else {
-        return Err("no memory".into());
-    };
-    assert!(rt; matches!(answer.reply, Reply::Client(ClientId(1))));
-    assert!(rt; answer.expired.as_slice().is_empty());
+    let mut pass = desk.split(first, 1);
+    let answer = desk.call(rt, alloc, &mut pass, 0, Call::Connect);
     let second = desk.call(rt, alloc, &mut pass, 0, Call::Connect);
-    assert!(rt; matches!(second, Err(DeskEnd::Spent)));
-    desk.join(&mut first, pass);
-    assert!(rt; first.is_first());
-    assert_eq!(rt; first.budget(), (1u64 << 62) - 1);
-    let closed = desk.close(rt, first);
-    let want = Closed {
+    desk.join(first, pass);
+    let left = first.budget();
+    let answer = answer?;
+    holds(
+        rt,
+        matches!(answer.reply, Reply::Client(ClientId(1))) && answer.expired.as_slice().is_empty(),
+        "the first call",
+    );
+    holds(rt, matches!(second, Err(DeskEnd::Spent)), "the second call");
+    holds(rt, first.is_first() && left == (1 << 62) - 1, "the pass");
+    Ok(Closed {
         calls: 1,
         published: 0,
         delivered: 0,
         queued: 0,
+    })
+}
+
+/// Which of two passes calls, the moment, the call and its answer.
+static CALLS: Table = Table {
+    rows: 13,
+    fields: 4,
+    text: r"
+# pass | moment  | call             | answer
+0      | 0       | connect          | client 1
+0      | 0       | subscribe 1 chat | subscribed 1
+1      | 1000    | connect          | client 2
+1      | 1000    | publish 2 chat m | published 1
+0      | 2000    | poll 1           | batch 1:1:m
+1      | 2000    | publish 2 chat m | published 2
+0      | 2000    | poll 1 1         | numbered 1 1:2:m
+0      | 2000    | poll 1 1         | again 1 1:2:m
+1      | 500000  | unsubscribe 2 1  | no subscription 1
+1      | 500000  | publish 2 chat m | published 3
+1      | 602000  | publish 2 chat m | published 4 expired 1
+0      | 0       | poll 1           | no client 1
+0      | 1202000 | connect          | client 3 expired 2
+",
+};
+
+/// What comes of a call by a pass.
+fn answered<R: Wait>(
+    rt: &R,
+    alloc: Global,
+    desk: &Desk,
+    pass: &mut Pass,
+    moment: u64,
+    asked: &Asked<'_>,
+) -> Result<String, Wrong>
+    requires { pass.old.desk ≡ desk.now }
+    ensures { (pass.new.desk ≡ pass.old.desk) × (pass.new.number ≡ pass.old.number) }
+{
+    let Some(call) = call_of(alloc, asked) else {
+        return Err(asked.wrong("no call, or no memory"));
     };
-    assert_eq!(rt; closed, want);
-    Ok(())
-}
-
-#[test]
-fn a_pass_of_one_call(rt: HostRuntime) -> Result<(), Fail> {
-    one_call(&rt, rt.alloc())
-}
-
-/// What is asked in a row.
-#[derive(Clone, Copy)]
-enum Ask {
-    Connect,
-    Subscribe(u64),
-    Publish(u64),
-    Poll(u64),
-    PollNumbered(u64, u64),
-    Unsubscribe(u64, u64),
-}
-
-/// What a row wants. A batch has so many deliveries, and the first message of it this number, or 0.
-#[derive(Clone, Copy)]
-enum Want {
-    Client(u64),
-    Subscribed(u64),
-    Published(u64),
-    Batch(u64, u64),
-    Numbered(u64, u64),
-    Again(u64, u64),
-    NoClient(u64),
-    NoSub(u64),
-}
-
-fn call_of(alloc: Global, ask: Ask) -> Option<Call> {
-    match ask {
-        Ask::Connect => Some(Call::Connect),
-        Ask::Subscribe(client) => subscribe(alloc, client),
-        Ask::Publish(client) => publish(alloc, client),
-        Ask::Poll(client) => Some(Call::Poll {
-            client: ClientId(client),
-        }),
-        Ask::PollNumbered(client, number) => Some(Call::PollNumbered {
-            client: ClientId(client),
-            number,
-        }),
-        Ask::Unsubscribe(client, sub) => Some(Call::Unsubscribe {
-            client: ClientId(client),
-            sub: SubId(sub),
-        }),
+    match desk.call(rt, alloc, pass, moment, call) {
+        Ok(answer) => Ok(told(alloc, &answer)?),
+        Err(_) => Err(asked.wrong("no answer")),
     }
 }
-
-fn has(deliveries: &Deliveries, count: u64, first: u64) -> bool {
-    let deliveries = deliveries.as_slice();
-    let number = deliveries.first().map_or(0, |delivery| delivery.number);
-    deliveries.len() as u64 == count && number == first
-}
-
-fn is_wanted(reply: &Reply, want: Want) -> bool {
-    match (reply, want) {
-        (Reply::Client(client), Want::Client(id)) => client.0 == id,
-        (Reply::Subscribed(sub), Want::Subscribed(id)) => sub.0 == id,
-        (Reply::Published { number, .. }, Want::Published(id)) => *number == id,
-        (Reply::Batch { deliveries, .. }, Want::Batch(count, first))
-        | (Reply::Numbered { deliveries, .. }, Want::Numbered(count, first))
-        | (Reply::Again { deliveries, .. }, Want::Again(count, first)) => {
-            has(deliveries, count, first)
-        }
-        (Reply::NoClient(client), Want::NoClient(id)) => client.0 == id,
-        (Reply::NoSub(sub), Want::NoSub(id)) => sub.0 == id,
-        _ => false,
-    }
-}
-
-/// Which of two passes calls, the moment, the call, the reply, and how many clients expire.
-type Row = (u64, u64, Ask, Want, usize);
-
-const ROWS: [Row; 13] = [
-    (0, 0, Ask::Connect, Want::Client(1), 0),
-    (0, 0, Ask::Subscribe(1), Want::Subscribed(1), 0),
-    (1, 1_000, Ask::Connect, Want::Client(2), 0),
-    (1, 1_000, Ask::Publish(2), Want::Published(1), 0),
-    (0, 2_000, Ask::Poll(1), Want::Batch(1, 1), 0),
-    (1, 2_000, Ask::Publish(2), Want::Published(2), 0),
-    (0, 2_000, Ask::PollNumbered(1, 1), Want::Numbered(1, 2), 0),
-    (0, 2_000, Ask::PollNumbered(1, 1), Want::Again(1, 2), 0),
-    (1, 500_000, Ask::Unsubscribe(2, 1), Want::NoSub(1), 0),
-    (1, 500_000, Ask::Publish(2), Want::Published(3), 0),
-    (1, 602_000, Ask::Publish(2), Want::Published(4), 1),
-    (0, 0, Ask::Poll(1), Want::NoClient(1), 0),
-    (0, 1_202_000, Ask::Connect, Want::Client(3), 1),
-];
 
 /// Makes the call of a row.
 fn ask_row<R: Wait + Abort>(
@@ -474,24 +425,19 @@ fn ask_row<R: Wait + Abort>(
     alloc: Global,
     desk: &Desk,
     pass: &mut Pass,
-    row: Row,
-) -> Result<(), Fail>
+    row: Row<'_>,
+) -> Result<(), Wrong>
     requires { pass.old.desk ≡ desk.now }
     ensures { (pass.new.desk ≡ pass.old.desk) × (pass.new.number ≡ pass.old.number) }
 {
-    let (_, moment, ask, want, expire) = row;
-    let Some(call) = call_of(alloc, ask) else {
-        return Err("no memory".into());
+    let moment = u64::from(row.number(1)?);
+    let asked = Asked {
+        line: row.line(),
+        text: row.field(2)?,
+        number: 0,
     };
-    let Ok(answer) = desk.call(rt, alloc, pass, moment, call) else {
-        return Err("no memory".into());
-    };
-    assert!(rt; is_wanted(&answer.reply, want), "at moment {moment}");
-    assert_eq!(rt;
-        answer.expired.as_slice().len(),
-        expire,
-        "at moment {moment}"
-    );
+    let got = answered(rt, alloc, desk, pass, moment, &asked)?;
+    is_answered(rt, row, &got, row.field(3)?);
     Ok(())
 }
 
@@ -501,52 +447,65 @@ fn ask_rows<R: Wait + Abort>(
     desk: &Desk,
     first: &mut Pass,
     second: &mut Pass,
-) -> Result<(), Fail>
+) -> Result<(), Wrong>
     requires { (first.old.desk ≡ desk.now) × (second.old.desk ≡ desk.now) }
     ensures first { first.new.desk ≡ desk.now }
     ensures second { (second.new.desk ≡ desk.now) × (second.new.number ≡ second.old.number) }
 {
-    for row in ROWS {
-        if row.0 == 0 {
-            ask_row(rt, alloc, desk, first, row)?;
-        } else {
-            ask_row(rt, alloc, desk, second, row)?;
+    for row in CALLS.rows(alloc)? {
+        match row.number(0)? {
+            0 => ask_row(rt, alloc, desk, first, row)?,
+            _ => ask_row(rt, alloc, desk, second, row)?,
         }
     }
     Ok(())
 }
 
-fn two_passes<R: Wait + Abort>(rt: &R, alloc: Global) -> Result<(), Fail> {
-    let Ok((desk, mut first)) = Desk::open(alloc, chat(alloc)?) else {
-        return Err("no memory".into());
-    };
-    let mut second = desk.split(&mut first, SHARE);
-    ask_rows(rt, alloc, &desk, &mut first, &mut second)?;
-    desk.join(&mut first, second);
-    if first.budget() == 0 {
+fn two_passes<R: Wait + Abort>(
+    rt: &R,
+    alloc: Global,
+    desk: &Desk,
+    first: &mut Pass,
+) -> Result<Closed, Fail>
+    requires desk { first.old.desk ≡ desk.now }
+    requires number { first.old.number ≡ 0 }
+    ensures { first.new.desk ≡ desk.now }
+{
+    if first.budget() < SHARE {
         return Err("no budget".into());
     }
-    let closed = desk.close(rt, first);
-    let want = Closed {
+    let mut second = desk.split(first, SHARE);
+    let asked = ask_rows(rt, alloc, desk, first, &mut second);
+    desk.join(first, second);
+    asked?;
+    Ok(Closed {
         calls: 13,
         published: 4,
         delivered: 2,
         queued: 0,
-    };
-    assert_eq!(rt; closed, want);
-    Ok(())
+    })
 }
 
-#[test]
-fn rows_of_two_passes(rt: HostRuntime) -> Result<(), Fail> {
-    two_passes(&rt, rt.alloc())
-}
+/// The calls of two threads that take turns: which of the two, the call and its answer.
+static TURNS: Table = Table {
+    rows: 6,
+    fields: 3,
+    text: r"
+# thread | call             | answer
+0        | connect          | client 1
+1        | connect          | client 2
+1        | subscribe 2 chat | subscribed 1
+0        | publish 1 chat m | published 1
+0        | publish 1 chat m | published 2
+1        | poll 2           | batch 1:1:m 1:2:m
+",
+};
 
-/// A thread's part where two take turns: how many calls of both have to be answered before each of its own.
+/// A thread's part where two take turns: the calls of one of the threads, each when those before it are answered.
 #[derive(Drop)]
 struct TurnTaker {
     pass: Pass,
-    rows: [(u64, Ask, Want); 3],
+    thread: u32,
     fits: bool,
 }
 
@@ -562,28 +521,56 @@ fn wait_for(answered: &AtomicU64, count: u64) -> bool {
 }
 
 impl TurnTaker {
-    fn ask<R: Wait>(&mut self, rt: &R, alloc: Global, desk: &Desk, ask: Ask, want: Want) -> bool
+    /// Makes the call of a row, and says whether its answer is the one that is wanted.
+    fn ask<R: Wait>(
+        &mut self,
+        rt: &R,
+        alloc: Global,
+        desk: &Desk,
+        row: Row<'_>,
+    ) -> Result<bool, Wrong>
         requires { self.old.pass.desk ≡ desk.now }
         ensures { (self.new.pass.desk ≡ self.old.pass.desk) × (self.new.pass.number ≡ self.old.pass.number) }
     {
-        let Some(call) = call_of(alloc, ask) else {
-            return false;
+        let asked = Asked {
+            line: row.line(),
+            text: row.field(1)?,
+            number: 0,
         };
-        match desk.call(rt, alloc, &mut self.pass, 0, call) {
-            Ok(answer) => is_wanted(&answer.reply, want),
-            Err(_) => false,
+        let got = answered(rt, alloc, desk, &mut self.pass, 0, &asked)?;
+        Ok(got.as_str() == row.field(2)?)
+    }
+
+    /// Takes its turns.
+    fn take_turns<R: Wait>(
+        &mut self,
+        rt: &R,
+        alloc: Global,
+        desk: &Desk,
+        answered: &AtomicU64,
+    ) -> Result<(), Wrong>
+        requires { self.old.pass.desk ≡ desk.now }
+        ensures { (self.new.pass.desk ≡ self.old.pass.desk) × (self.new.pass.number ≡ self.old.pass.number) }
+    {
+        let mut count = 0u64;
+        for row in TURNS.rows(alloc)? {
+            if row.number(0)? == self.thread {
+                let came = wait_for(answered, count);
+                let fits = self.ask(rt, alloc, desk, row)?;
+                self.fits = self.fits && came && fits;
+                answered.fetch_add(1, Ordering::SeqCst);
+            }
+            count = count.wrapping_add(1);
         }
+        Ok(())
     }
 
     fn work<R: Wait>(&mut self, rt: &R, alloc: Global, desk: &Desk, answered: &AtomicU64)
         requires { self.old.pass.desk ≡ desk.now }
         ensures { (self.new.pass.desk ≡ self.old.pass.desk) × (self.new.pass.number ≡ self.old.pass.number) }
     {
-        for (count, ask, want) in self.rows {
-            let came = wait_for(answered, count);
-            let fits = self.ask(rt, alloc, desk, ask, want);
-            self.fits = self.fits && came && fits;
-            answered.fetch_add(1, Ordering::SeqCst);
+        if self.take_turns(rt, alloc, desk, answered).is_err() {
+            self.fits = false;
         }
     }
 }
@@ -608,43 +595,104 @@ fn take_turns<R: Threads + Wait + Sync>(
 }
 
 /// Two threads that wait for one another, so that neither can be served before the other begins.
-fn two_at_work<R: Threads + Wait + Abort + Sync>(rt: &R, alloc: Global) -> Result<(), Fail> {
-    let Ok((desk, mut first)) = Desk::open(alloc, chat(alloc)?) else {
-        return Err("no memory".into());
-    };
-    let polls = TurnTaker {
-        pass: desk.split(&mut first, SHARE),
-        rows: [
-            (1, Ask::Connect, Want::Client(2)),
-            (2, Ask::Subscribe(2), Want::Subscribed(1)),
-            (5, Ask::Poll(2), Want::Batch(2, 1)),
-        ],
+fn two_at_work<R: Threads + Wait + Abort + Sync>(
+    rt: &R,
+    alloc: Global,
+    desk: &Desk,
+    first: &mut Pass,
+) -> Result<Closed, Fail>
+    requires desk { first.old.desk ≡ desk.now }
+    requires number { first.old.number ≡ 0 }
+    ensures { first.new.desk ≡ desk.now }
+{
+    if first.budget() < SHARE + SHARE {
+        return Err("no budget".into());
+    }
+    let publishes = TurnTaker {
+        pass: desk.split(first, SHARE),
+        thread: 0,
         fits: true,
     };
-    let publishes = TurnTaker {
-        pass: desk.split(&mut first, SHARE),
-        rows: [
-            (0, Ask::Connect, Want::Client(1)),
-            (3, Ask::Publish(1), Want::Published(1)),
-            (4, Ask::Publish(1), Want::Published(2)),
-        ],
+    let polls = TurnTaker {
+        pass: desk.split(first, SHARE),
+        thread: 1,
         fits: true,
     };
     let mut takers = [polls, publishes];
-    take_turns(rt, alloc, &desk, &mut takers, &AtomicU64::new(0));
-    assert!(rt; takers.iter().all(|taker| taker.fits));
-    let closed = desk.close(rt, first);
-    let want = Closed {
+    take_turns(rt, alloc, desk, &mut takers, &AtomicU64::new(0));
+    holds(rt, takers.iter().all(|taker| taker.fits), "the turns");
+    Ok(Closed {
         calls: 6,
         published: 2,
         delivered: 2,
         queued: 0,
-    };
-    assert_eq!(rt; closed, want);
+    })
+}
+
+/// What is done at a desk.
+#[derive(Clone, Copy)]
+enum Play {
+    AtOnce(u64),
+    OneCall,
+    TwoPasses,
+    TwoAtWork,
+}
+
+/// Plays at a desk, and gives what it should tell when it is closed.
+fn play_at<R: Threads + Wait + Abort + Sync>(
+    rt: &R,
+    alloc: Global,
+    desk: &Desk,
+    first: &mut Pass,
+    play: Play,
+) -> Result<Closed, Fail>
+    requires desk { first.old.desk ≡ desk.now }
+    requires number { first.old.number ≡ 0 }
+    ensures { first.new.desk ≡ desk.now }
+{
+    match play {
+        Play::AtOnce(count) => at_once(rt, alloc, desk, first, count),
+        Play::OneCall => one_call(rt, alloc, desk, first),
+        Play::TwoPasses => two_passes(rt, alloc, desk, first),
+        Play::TwoAtWork => two_at_work(rt, alloc, desk, first),
+    }
+}
+
+/// Plays at a new desk, and compares what it tells when it is closed.
+fn at_desk<R: Threads + Wait + Abort + Sync>(
+    rt: &R,
+    alloc: Global,
+    what: Play,
+) -> Result<(), Fail> {
+    let (desk, mut first) = Desk::open(alloc, chat(alloc)?)?;
+    let want = play_at(rt, alloc, &desk, &mut first, what)?;
+    if first.budget() == 0 {
+        return Err("no budget".into());
+    }
+    let closed = desk.close(rt, first);
+    holds(rt, closed == want, "what the desk tells");
     Ok(())
 }
 
 #[test]
+fn two_four_and_eight_workers(rt: HostRuntime) -> Result<(), Fail> {
+    for count in [2, 4, 8] {
+        at_desk(&rt, rt.alloc(), Play::AtOnce(count))?;
+    }
+    Ok(())
+}
+
+#[test]
+fn a_pass_of_one_call(rt: HostRuntime) -> Result<(), Fail> {
+    at_desk(&rt, rt.alloc(), Play::OneCall)
+}
+
+#[test]
+fn rows_of_two_passes(rt: HostRuntime) -> Result<(), Fail> {
+    at_desk(&rt, rt.alloc(), Play::TwoPasses)
+}
+
+#[test]
 fn two_that_take_turns(rt: HostRuntime) -> Result<(), Fail> {
-    two_at_work(&rt, rt.alloc())
+    at_desk(&rt, rt.alloc(), Play::TwoAtWork)
 }

@@ -2,6 +2,12 @@
 #![tactic(auto)]
 
 #[cfg(test)]
+mod answers;
+#[cfg(test)]
 mod broker_tests;
+#[cfg(test)]
+mod calls;
+#[cfg(test)]
+mod checks;
 #[cfg(test)]
 mod desk_tests;

@@ -1,3 +1,4 @@
+use crate::checks::holds;
 use amf_desk::{Closed, Desk};
 use amf_gateway::{LinkEnd, serve_link};
 use amf_io::{Joined, Link, MemoryHall, MemoryLink, MemorySink, MemorySource, OpenGate};
@@ -97,7 +98,7 @@ pub(crate) fn served<R: Wait + Abort, L: Link>(
         return Err("no calls left".into());
     }
     let closed = desk.close(rt, pass);
-    assert_eq!(rt; calls, closed.calls);
+    holds(rt, calls == closed.calls, "how many calls were made");
     Ok((end, closed))
 }
 

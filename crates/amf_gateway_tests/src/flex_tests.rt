@@ -1,4 +1,5 @@
 use crate::answered::{PLAINLY, Ways, answer_of, count_of, has_in_order};
+use crate::checks::holds;
 use crate::requests::{
     ACKNOWLEDGE, ASYNC, COMMAND, FRESH, HEADERS, NAMES, OPERATION, PING, TIMES, flex_request,
     flex_response, joined, request,
@@ -146,15 +147,19 @@ fn the_first_requests_of_a_client(rt: HostRuntime) -> Result<(), Fail> {
     let wanted = first_answers(alloc)?;
     for pieces in [(usize::MAX, 0), (1, 0), (100, 0)] {
         let got = answer_of(&rt, alloc, &asked, Ways { pieces, ..PLAINLY })?;
-        assert_eq!(rt; got.end, LinkEnd::Closed);
-        assert!(rt; got.written.as_slice() == wanted.as_slice());
+        holds(&rt, got.end == LinkEnd::Closed, "the end");
+        holds(
+            &rt,
+            got.written.as_slice() == wanted.as_slice(),
+            "the answers",
+        );
         let closed = Closed {
             calls: 5,
             published: 1,
             delivered: 1,
             queued: 0,
         };
-        assert_eq!(rt; got.closed, closed);
+        holds(&rt, got.closed == closed, "what the desk tells");
     }
     Ok(())
 }
@@ -251,7 +256,7 @@ fn idle_clients_end(rt: HostRuntime) -> Result<(), Fail> {
         ..PLAINLY
     };
     let got = answer_of(&rt, alloc, &all_asked(alloc, &asks)?, ways)?;
-    assert_eq!(rt; got.end, LinkEnd::Closed);
+    holds(&rt, got.end == LinkEnd::Closed, "the end");
     let wanted: [&[u8]; 11] = [
         b"/0/onResult",
         b"/1/onResult",
@@ -265,15 +270,19 @@ fn idle_clients_end(rt: HostRuntime) -> Result<(), Fail> {
         b"Client.NoClient",
         b"no such client",
     ];
-    assert!(rt; has_in_order(&got.written, &wanted));
-    assert_eq!(rt; count_of(&got.written, b"AsyncMessage"), 0);
+    holds(&rt, has_in_order(&got.written, &wanted), "pieces in order");
+    holds(
+        &rt,
+        count_of(&got.written, b"AsyncMessage") == 0,
+        "how many",
+    );
     let closed = Closed {
         calls: 7,
         published: 1,
         delivered: 0,
         queued: 0,
     };
-    assert_eq!(rt; got.closed, closed);
+    holds(&rt, got.closed == closed, "what the desk tells");
     Ok(())
 }
 
@@ -294,7 +303,7 @@ fn numbered_polls(rt: HostRuntime) -> Result<(), Fail> {
         Ask::Poll(b'1'),
     ];
     let got = answer_of(&rt, alloc, &all_asked(alloc, &asks)?, PLAINLY)?;
-    assert_eq!(rt; got.end, LinkEnd::Closed);
+    holds(&rt, got.end == LinkEnd::Closed, "the end");
     let wanted: [&[u8]; 16] = [
         b"/0/onResult",
         b"/1/onResult",
@@ -313,15 +322,19 @@ fn numbered_polls(rt: HostRuntime) -> Result<(), Fail> {
         b"/9/onResult",
         b"AcknowledgeMessage",
     ];
-    assert!(rt; has_in_order(&got.written, &wanted));
-    assert_eq!(rt; count_of(&got.written, b"AsyncMessage"), 3);
+    holds(&rt, has_in_order(&got.written, &wanted), "pieces in order");
+    holds(
+        &rt,
+        count_of(&got.written, b"AsyncMessage") == 3,
+        "how many",
+    );
     let closed = Closed {
         calls: 10,
         published: 2,
         delivered: 2,
         queued: 0,
     };
-    assert_eq!(rt; got.closed, closed);
+    holds(&rt, got.closed == closed, "what the desk tells");
     Ok(())
 }
 
@@ -352,16 +365,20 @@ fn too_many_clients(rt: HostRuntime) -> Result<(), Fail> {
     let alloc = rt.alloc();
     let asked = request(alloc, &pings(alloc, 1_025)?)?;
     let got = answer_of(&rt, alloc, &asked, PLAINLY)?;
-    assert_eq!(rt; got.end, LinkEnd::Closed);
-    assert_eq!(rt; got.closed.calls, 1_025);
-    assert_eq!(rt; count_of(&got.written, b"/1/onResult"), 1_024);
-    assert_eq!(rt; count_of(&got.written, b"/1/onStatus"), 1);
+    holds(&rt, got.end == LinkEnd::Closed, "the end");
+    holds(&rt, got.closed.calls == 1_025, "calls");
+    holds(
+        &rt,
+        count_of(&got.written, b"/1/onResult") == 1_024,
+        "how many",
+    );
+    holds(&rt, count_of(&got.written, b"/1/onStatus") == 1, "how many");
     let wanted: [&[u8]; 4] = [
         b"\x06\x091024",
         b"/1/onStatus",
         b"Server.Full",
         b"too many clients",
     ];
-    assert!(rt; has_in_order(&got.written, &wanted));
+    holds(&rt, has_in_order(&got.written, &wanted), "pieces in order");
     Ok(())
 }

@@ -4,6 +4,8 @@
 #[cfg(test)]
 mod answered;
 #[cfg(test)]
+mod checks;
+#[cfg(test)]
 mod flex_tests;
 #[cfg(test)]
 mod plain_tests;

@@ -1,8 +1,10 @@
 use crate::answered::{PLAINLY, Ways, answer_of, served};
+use crate::checks::{holds, holds_at, holds_of};
 use crate::requests::{joined, request, response};
 use amf_desk::Closed;
 use amf_gateway::LinkEnd;
 use amf_io::{Failed, Link};
+use amf_rows::{Row, Table};
 use std::alloc::Global;
 use std::process::Abort;
 use std::sync::Wait;
@@ -13,16 +15,16 @@ const ECHO: &[u8] = b"\0\0\0\0\0\x01\0\x09echo.echo\0\x02/1\0\0\0\x0A\x0A\0\0\0\
 
 const ECHOED: &[u8] = b"\0\0\0\0\0\x01\0\x0B/1/onResult\0\x04null\xFF\xFF\xFF\xFF\x02\0\x02hi";
 
-/// A call of another operation, and one of a service that is not there.
-const OTHER: &[u8] = b"\0\0\0\0\0\x01\0\x0Aecho.other\0\x02/1\0\0\0\x0A\x0A\0\0\0\x01\x02\0\x02hi";
-
-const NOBODY: &[u8] = b"\0\0\0\0\0\x01\0\x09nobody.op\0\x02/1\0\0\0\x0A\x0A\0\0\0\x01\x02\0\x02hi";
-
-const NO_OPERATION: &[u8] =
-    b"\0\0\0\0\0\x01\0\x0B/1/onStatus\0\x04null\xFF\xFF\xFF\xFF\x03\0\x04code\x02\0\x12Client.NoOperation\0\x0Bdescription\x02\0\x11no such operation\0\x05level\x02\0\x05error\0\0\x09";
-
-const NO_SERVICE: &[u8] =
-    b"\0\0\0\0\0\x01\0\x0B/1/onStatus\0\x04null\xFF\xFF\xFF\xFF\x03\0\x04code\x02\0\x10Client.NoService\0\x0Bdescription\x02\0\x0Fno such service\0\x05level\x02\0\x05error\0\0\x09";
+/// Packets with a call, and their answers.
+static CALLS: Table = Table {
+    rows: 3,
+    fields: 2,
+    text: r"
+0000 0000 0001 0009 'echo.echo' 0002 '/1' 0000000A 0A 00000001 02 0002 'hi' | 0000 0000 0001 000B '/1/onResult' 0004 'null' FFFFFFFF 02 0002 'hi'
+0000 0000 0001 000A 'echo.other' 0002 '/1' 0000000A 0A 00000001 02 0002 'hi' | 0000 0000 0001 000B '/1/onStatus' 0004 'null' FFFFFFFF 03 0004 'code' 02 0012 'Client.NoOperation' 000B 'description' 02 0011 'no such operation' 0005 'level' 02 0005 'error' 0000 09
+0000 0000 0001 0009 'nobody.op' 0002 '/1' 0000000A 0A 00000001 02 0002 'hi' | 0000 0000 0001 000B '/1/onStatus' 0004 'null' FFFFFFFF 03 0004 'code' 02 0010 'Client.NoService' 000B 'description' 02 000F 'no such service' 0005 'level' 02 0005 'error' 0000 09
+",
+};
 
 /// No call was made.
 const NO_CALLS: Closed = Closed {
@@ -33,14 +35,25 @@ const NO_CALLS: Closed = Closed {
 };
 
 /// One request, and its answer.
+fn ask<R: Wait + Abort>(rt: &R, alloc: Global, row: Row<'_>) -> Result<(), Fail> {
+    let asked = request(alloc, &row.bytes(alloc, 0)?)?;
+    let wanted = response(alloc, &row.bytes(alloc, 1)?)?;
+    let got = answer_of(rt, alloc, &asked, PLAINLY)?;
+    holds_of(rt, row, got.end == LinkEnd::Closed, "the end");
+    holds_of(
+        rt,
+        row,
+        got.written.as_slice() == wanted.as_slice(),
+        "the answer",
+    );
+    holds_of(rt, row, got.closed == NO_CALLS, "calls of the broker");
+    Ok(())
+}
+
 #[test]
 fn calls_of_services(rt: HostRuntime) -> Result<(), Fail> {
-    let alloc = rt.alloc();
-    for (asked, wanted) in [(ECHO, ECHOED), (OTHER, NO_OPERATION), (NOBODY, NO_SERVICE)] {
-        let got = answer_of(&rt, alloc, &request(alloc, asked)?, PLAINLY)?;
-        assert_eq!(rt; got.end, LinkEnd::Closed);
-        assert!(rt; got.written.as_slice() == response(alloc, wanted)?.as_slice());
-        assert_eq!(rt; got.closed, NO_CALLS);
+    for row in CALLS.rows(rt.alloc())? {
+        ask(&rt, rt.alloc(), row)?;
     }
     Ok(())
 }
@@ -59,8 +72,8 @@ fn two_calls_in_any_pieces(rt: HostRuntime) -> Result<(), Fail> {
             ..PLAINLY
         };
         let got = answer_of(&rt, alloc, &two, ways)?;
-        assert_eq!(rt; got.end, LinkEnd::Closed, "cut at {cut}");
-        assert!(rt; got.written.as_slice() == both.as_slice(), "cut at {cut}");
+        let is_whole = got.written.as_slice() == both.as_slice();
+        holds_at(&rt, cut, got.end == LinkEnd::Closed && is_whole);
     }
     Ok(())
 }
@@ -77,9 +90,8 @@ fn a_request_that_is_cut_off(rt: HostRuntime) -> Result<(), Fail> {
         } else {
             LinkEnd::Truncated
         };
-        assert_eq!(rt; got.end, want, "cut at {cut}");
-        assert!(rt; got.written.is_empty(), "cut at {cut}");
-        assert_eq!(rt; got.closed, NO_CALLS);
+        let is_quiet = got.written.is_empty() && got.closed == NO_CALLS;
+        holds_at(&rt, cut, got.end == want && is_quiet);
     }
     Ok(())
 }
@@ -117,7 +129,7 @@ fn a_link_that_fails(rt: HostRuntime) -> Result<(), Fail> {
         }
     }
     // The request comes in 8 reads, and one more finds the end.
-    assert_eq!(rt; ended, 31);
+    holds(&rt, ended == 31, "failed reads");
     ended = 0;
     for failing in 0..40u64 {
         match faulty(&rt, alloc, &[], &[failing])? {
@@ -126,7 +138,7 @@ fn a_link_that_fails(rt: HostRuntime) -> Result<(), Fail> {
             _ => panic!(rt; "write {failing}"),
         }
     }
-    assert!(rt; 0 < ended && ended < 40);
+    holds(&rt, 0 < ended && ended < 40, "failed writes");
     Ok(())
 }
 
@@ -195,8 +207,9 @@ fn answers_before_it_reads_on(rt: HostRuntime) -> Result<(), Fail> {
         failed: 0,
     };
     let (end, _closed) = served(&rt, alloc, &mut link, &[])?;
-    assert_eq!(rt; end, LinkEnd::Closed);
-    assert_eq!(rt; link.failed, 0);
-    assert_eq!(rt; link.taken, answer.len().saturating_mul(2));
+    holds(&rt, end == LinkEnd::Closed, "the end");
+    holds(&rt, link.failed == 0, "no read before an answer");
+    let all = answer.len().saturating_mul(2);
+    holds(&rt, link.taken == all, "two answers");
     Ok(())
 }

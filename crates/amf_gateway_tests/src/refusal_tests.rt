@@ -1,97 +1,73 @@
 use crate::answered::{PLAINLY, answer_of};
+use crate::checks::{holds, holds_of};
 use crate::requests::{joined, request};
 use amf_gateway::LinkEnd;
+use amf_rows::{Row, Table};
 use std::alloc::{AllocError, Global};
+use std::process::Abort;
+use std::sync::Wait;
 use std::test::Fail;
 
-const METHOD_NOT_ALLOWED: &[u8] =
-    b"HTTP/1.1 405 Method Not Allowed\r\nAllow: POST\r\nContent-Length: 0\r\nConnection: close\r\n\r\n";
+/// The lines of a head, each of which ends in `;`, its status, and the lines of the answer but the last two, behind which the link ends.
+static HEADS: Table = Table {
+    rows: 9,
+    fields: 3,
+    text: r"
+POST /amf HTTP/1.1;Host: h;Content-Type: application/x-amf;X: y; | 411 | HTTP/1.1 411 Length Required;
+POST /amf HTTP/1.1;Host: h;Content-Type: application/x-amf;Content-Encoding: gzip; | 415 | HTTP/1.1 415 Unsupported Media Type;
+POST /x HTTP/1.1;Host: h;Content-Type: application/x-amf;Content-Length: 0; | 404 | HTTP/1.1 404 Not Found;
+POST /amf HTTP/1.1;Host: h;Content-Type: application/x-amf;Transfer-Encoding: chunked; | 501 | HTTP/1.1 501 Not Implemented;
+POST /amf HTTP/1.1;Host: h;Content-Type: application/x-amf;Content-Length: 1048577; | 413 | HTTP/1.1 413 Content Too Large;
+POST /amf HTTP/1.1;Content-Type: application/x-amf;Content-Length: 0;X: y; | 400 | HTTP/1.1 400 Bad Request;
+POST /amf HTTP/1.1;Host: h;Content-Type: application/x-amf;Expect: 100-continue; | 417 | HTTP/1.1 417 Expectation Failed;
+POST /amf HTTP/1.1;Host: h;Content-Type: application/x-amf;Content-Length: 0; | 400 | HTTP/1.1 400 Bad Request;
+GET /amf HTTP/1.1;Host: h;Content-Type: application/x-amf;Content-Length: 0; | 405 | HTTP/1.1 405 Method Not Allowed;Allow: POST;
+",
+};
 
-/// The response of a status with this phrase.
-fn refusal(alloc: Global, phrase: &[u8]) -> Result<Vec<u8>, AllocError> {
-    joined(
-        alloc,
-        &[
-            b"HTTP/1.1 ",
-            phrase,
-            b"\r\nContent-Length: 0\r\nConnection: close\r\n\r\n",
-        ],
-    )
-}
-
-/// A whole request, the last of these lines being its last.
-fn head(alloc: Global, lines: &[&[u8]]) -> Result<Vec<u8>, AllocError> {
+/// Lines each of which ends in `;`, then these bytes.
+fn lines(alloc: Global, text: &str, rest: &[u8]) -> Result<Vec<u8>, AllocError> {
     let mut bytes = Vec::new(alloc);
-    for line in lines {
-        bytes.extend_from_slice(line)?;
-        bytes.extend_from_slice(b"\r\n")?;
+    for byte in text.bytes() {
+        if byte == b';' {
+            bytes.extend_from_slice(b"\r\n")?;
+        } else {
+            bytes.push(byte)?;
+        }
     }
-    bytes.extend_from_slice(b"\r\n")?;
+    bytes.extend_from_slice(rest)?;
     Ok(bytes)
 }
 
-const POST: &[u8] = b"POST /amf HTTP/1.1";
+/// An answer that begins with these lines, and behind which the link ends.
+fn refusal(alloc: Global, text: &str) -> Result<Vec<u8>, AllocError> {
+    lines(
+        alloc,
+        text,
+        b"Content-Length: 0\r\nConnection: close\r\n\r\n",
+    )
+}
 
-const HOST: &[u8] = b"Host: h";
+fn ask_head<R: Wait + Abort>(rt: &R, alloc: Global, row: Row<'_>) -> Result<(), Fail> {
+    let asked = lines(alloc, row.field(0)?, b"\r\n")?;
+    let got = answer_of(rt, alloc, &asked, PLAINLY)?;
+    let status = u16::try_from(row.number(1)?)?;
+    let wanted = refusal(alloc, row.field(2)?)?;
+    holds_of(rt, row, got.end == LinkEnd::Refused(status), "the end");
+    holds_of(
+        rt,
+        row,
+        got.written.as_slice() == wanted.as_slice(),
+        "the answer",
+    );
+    Ok(())
+}
 
-const TYPE: &[u8] = b"Content-Type: application/x-amf";
-
-const EMPTY: &[u8] = b"Content-Length: 0";
-
-/// Each head with its status and phrase. The link ends behind the answer.
 #[test]
 fn heads_that_are_refused(rt: HostRuntime) -> Result<(), Fail> {
-    let alloc = rt.alloc();
-    for (lines, status, phrase) in [
-        (
-            [POST, HOST, TYPE, b"X: y".as_slice()],
-            411,
-            b"411 Length Required".as_slice(),
-        ),
-        (
-            [POST, HOST, TYPE, b"Content-Encoding: gzip".as_slice()],
-            415,
-            b"415 Unsupported Media Type",
-        ),
-        (
-            [b"POST /x HTTP/1.1".as_slice(), HOST, TYPE, EMPTY],
-            404,
-            b"404 Not Found",
-        ),
-        (
-            [POST, HOST, TYPE, b"Transfer-Encoding: chunked".as_slice()],
-            501,
-            b"501 Not Implemented",
-        ),
-        (
-            [POST, HOST, TYPE, b"Content-Length: 1048577".as_slice()],
-            413,
-            b"413 Content Too Large",
-        ),
-        (
-            [POST, TYPE, EMPTY, b"X: y".as_slice()],
-            400,
-            b"400 Bad Request",
-        ),
-        (
-            [POST, HOST, TYPE, b"Expect: 100-continue".as_slice()],
-            417,
-            b"417 Expectation Failed",
-        ),
-        ([POST, HOST, TYPE, EMPTY], 400, b"400 Bad Request"),
-    ] {
-        let got = answer_of(&rt, alloc, &head(alloc, &lines)?, PLAINLY)?;
-        assert_eq!(rt; got.end, LinkEnd::Refused(status));
-        assert!(rt; got.written.as_slice() == refusal(alloc, phrase)?.as_slice());
+    for row in HEADS.rows(rt.alloc())? {
+        ask_head(&rt, rt.alloc(), row)?;
     }
-    let got = answer_of(
-        &rt,
-        alloc,
-        &head(alloc, &[b"GET /amf HTTP/1.1".as_slice(), HOST, TYPE, EMPTY])?,
-        PLAINLY,
-    )?;
-    assert_eq!(rt; got.end, LinkEnd::Refused(405));
-    assert!(rt; got.written.as_slice() == METHOD_NOT_ALLOWED);
     Ok(())
 }
 
@@ -102,19 +78,52 @@ fn a_head_without_an_end(rt: HostRuntime) -> Result<(), Fail> {
     let mut endless = Vec::new(alloc);
     endless.resize(8192, b'A')?;
     let got = answer_of(&rt, alloc, &endless, PLAINLY)?;
-    assert_eq!(rt; got.end, LinkEnd::Refused(431));
-    let wanted = refusal(alloc, b"431 Request Header Fields Too Large")?;
-    assert!(rt; got.written.as_slice() == wanted.as_slice());
+    holds(&rt, got.end == LinkEnd::Refused(431), "the end");
+    let wanted = refusal(alloc, "HTTP/1.1 431 Request Header Fields Too Large;")?;
+    holds(
+        &rt,
+        got.written.as_slice() == wanted.as_slice(),
+        "the answer",
+    );
     Ok(())
 }
 
-/// Bodies that are no packet, or one whose answer would have too long a name: 400, and no call.
+/// Bodies that are no packet.
+static BODIES: Table = Table {
+    rows: 3,
+    fields: 1,
+    text: r"
+00 02
+00 00 FF FF
+00 00 00 00 00 00 00
+",
+};
+
+/// A body is refused, and no call is made.
+fn is_refused<R: Wait + Abort>(rt: &R, alloc: Global, packet: &[u8]) -> Result<bool, Fail> {
+    let got = answer_of(rt, alloc, &request(alloc, packet)?, PLAINLY)?;
+    let wanted = refusal(alloc, "HTTP/1.1 400 Bad Request;")?;
+    let is_answered = got.written.as_slice() == wanted.as_slice();
+    Ok(got.end == LinkEnd::Refused(400) && got.closed.calls == 0 && is_answered)
+}
+
 #[test]
 fn bodies_that_are_refused(rt: HostRuntime) -> Result<(), Fail> {
     let alloc = rt.alloc();
+    for row in BODIES.rows(alloc)? {
+        let refused = is_refused(&rt, alloc, &row.bytes(alloc, 0)?)?;
+        holds_of(&rt, row, refused, "refused");
+    }
+    Ok(())
+}
+
+/// A call whose answer would have too long a name.
+#[test]
+fn too_long_a_response_is_refused(rt: HostRuntime) -> Result<(), Fail> {
+    let alloc = rt.alloc();
     let mut long = Vec::new(alloc);
     long.resize(65_527, b'/')?;
-    let long_response = joined(
+    let packet = joined(
         alloc,
         &[
             b"\0\0\0\0\0\x01\0\x09echo.echo\xFF\xF7",
@@ -122,16 +131,6 @@ fn bodies_that_are_refused(rt: HostRuntime) -> Result<(), Fail> {
             b"\0\0\0\x0A\x0A\0\0\0\x01\x02\0\x02hi",
         ],
     )?;
-    for packet in [
-        b"\0\x02".as_slice(),
-        b"\0\0\xFF\xFF",
-        b"\0\0\0\0\0\0\0",
-        long_response.as_slice(),
-    ] {
-        let got = answer_of(&rt, alloc, &request(alloc, packet)?, PLAINLY)?;
-        assert_eq!(rt; got.end, LinkEnd::Refused(400));
-        assert_eq!(rt; got.closed.calls, 0);
-        assert!(rt; got.written.as_slice() == refusal(alloc, b"400 Bad Request")?.as_slice());
-    }
+    holds(&rt, is_refused(&rt, alloc, &packet)?, "refused");
     Ok(())
 }

@@ -1,3 +1,4 @@
+use crate::checks::holds;
 use amf_http::{HttpBuffer, next_request, write_response};
 use amf_io::{Clock, Dice, Front, Hall, TcpFront, TcpHall};
 use std::io::{Read, Write};
@@ -19,7 +20,8 @@ fn serves_over_loopback(rt: HostRuntime) -> Result<(), Fail> {
     let address = listener.local_addr()?;
     let mut hall = TcpHall::new(listener, rt);
     let mut client = TcpStream::connect(&rt, address)?;
-    assert_eq!(rt; client.write(REQUEST)?, REQUEST.len());
+    let sent = client.write(REQUEST)?;
+    holds(&rt, sent == REQUEST.len(), "the request is sent");
     let Ok(Some(link)) = hall.next() else {
         panic!(rt; "no link");
     };
@@ -28,7 +30,7 @@ fn serves_over_loopback(rt: HostRuntime) -> Result<(), Fail> {
     let Some(request) = next_request(alloc, &mut link, &mut buffer)? else {
         panic!(rt; "no request");
     };
-    assert!(rt; request.close);
+    holds(&rt, request.close, "the last request");
     write_response(
         alloc,
         &mut link,
@@ -39,9 +41,9 @@ fn serves_over_loopback(rt: HostRuntime) -> Result<(), Fail> {
     hall.back(link);
     let mut answer = Vec::new(alloc);
     client.read_to_end(&mut answer)?;
-    assert_eq!(rt; answer.as_slice(), ANSWER);
-    assert!(rt; hall.now() > 1_600_000_000_000);
-    assert!(rt; hall.word() != hall.word());
+    holds(&rt, answer.as_slice() == ANSWER, "the answer");
+    holds(&rt, hall.now() > 1_600_000_000_000, "the moment");
+    holds(&rt, hall.word() != hall.word(), "two words");
     Ok(())
 }
 
@@ -51,12 +53,13 @@ fn opens_a_hall_for_each_worker(rt: HostRuntime) -> Result<(), Fail> {
     let listener = TcpListener::bind(&rt, "127.0.0.1:0")?;
     let address = listener.local_addr()?;
     let mut front = TcpFront::new(rt);
-    assert!(rt; front.open(alloc, address.port(), 2).is_err());
+    let early = front.open(alloc, address.port(), 2);
+    holds(&rt, early.is_err(), "the address is taken");
     drop(listener);
     let Ok(halls) = front.open(alloc, address.port(), 2) else {
         panic!(rt; "no halls");
     };
-    assert_eq!(rt; halls.len(), 2);
+    holds(&rt, halls.len() == 2, "two halls");
     for hall in halls {
         front.back(hall);
     }

@@ -1,0 +1,13 @@
+use amf_rows::Row;
+use std::process::Abort;
+
+/// Ends the test unless this holds.
+pub(crate) fn holds(rt: &impl Abort, is: bool, label: &str) {
+    assert!(rt; is, "{label}");
+}
+
+/// Ends the test unless a row is answered as it says.
+pub(crate) fn is_answered(rt: &impl Abort, row: Row<'_>, got: &str, want: &str) {
+    let line = row.line();
+    assert!(rt; got == want, "line {line}: {got}");
+}
