@@ -23,8 +23,8 @@ use Rattle.amf3_read.specs.declared.opening.Parts.{Parts}
 use Rattle.amf3_read.specs.declared.opening.Parts.TheVariants as parts
 use Rattle.amf3_read.specs.declared.fill.Next.TheVariants as next
 use Rattle.amf3_read.specs.Filling.{IsOpened}
-use Rattle.amf3_read.specs.Opened.{KeptText}
-use Rattle.amf3_read.specs.Answer.{left_of}
+use Rattle.amf_fields.specs.KeptText.{KeptText}
+use Rattle.amf_fields.specs.Room.{left_of}
 use Rattle.amf3_read.specs.Frames.{Suits, IsNext}
 use Rattle.amf3_read.proofs.PartPut.{stays, same_head}
 use Rattle.amf3_read.proofs.Stack.{opened_less, opened_grown}

@@ -16,7 +16,7 @@ use Rattle.amf0_spelling.specs.KeptTables0.{KeptTables0}
 use Rattle.amf0_layout.specs.Layout0State.{state0_of}
 use Rattle.amf0_layout.specs.Layout0.{Reader0, behind0, value0_layout}
 use Rattle.amf0_spelling.specs.declared.marker.Marker0.{Marker0}
-use Rattle.amf3_read.specs.Answer.{left_of}
+use Rattle.amf_fields.specs.Room.{left_of}
 use Rattle.amf3_read.specs.Frames.{Fuel, Enough}
 use Rattle.amf0_read.specs.declared.frame.Todo.{Todo}
 use Rattle.amf0_read.specs.declared.frame.Slot.{Slot}

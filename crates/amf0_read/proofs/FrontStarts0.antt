@@ -15,9 +15,9 @@ use Rattle.amf_graph.specs.Arena.{Arena, IsBuilt, array}
 use Rattle.amf0_spelling.specs.KeptTables0.{KeptTables0}
 use Rattle.amf0_layout.specs.Layout0State.{State0, state0_of}
 use Rattle.amf0_layout.specs.Layout0.{Read0, Reader0, with_items, behind0, value0_layout}
-use Rattle.amf3_read.specs.Answer.{left_of}
+use Rattle.amf_fields.specs.Room.{left_of}
 use Rattle.amf3_read.specs.Frames.{Fuel}
-use Rattle.amf3_read.proofs.LayoutBinds.{bind_give, bind_same}
+use Rattle.amf_fields.proofs.LayoutBinds.{bind_give, bind_same}
 use Rattle.amf3_read.proofs.Stack.{opened_less}
 use Rattle.amf0_read.specs.declared.front.Front.{Front}
 use Rattle.amf0_read.specs.declared.frame.Frame.{Frame}

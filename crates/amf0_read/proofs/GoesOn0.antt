@@ -18,9 +18,9 @@ use Rattle.amf0_spelling.specs.KeptTables0.{KeptTables0}
 use Rattle.amf0_spelling.specs.Segments0.{is_empty}
 use Rattle.amf0_layout.specs.Layout0State.{State0, state0_of, changed0}
 use Rattle.amf0_layout.specs.Layout0.{TextRead0, Read0, read0, Reader0, short_layout, items0, pairs0, shut0, behind0, value0_layout}
-use Rattle.amf3_read.specs.Answer.{left_of}
+use Rattle.amf_fields.specs.Room.{left_of}
 use Rattle.amf3_read.specs.Frames.{Fuel, Enough}
-use Rattle.amf3_read.proofs.LayoutBinds.{bind_bind, bind_same}
+use Rattle.amf_fields.proofs.LayoutBinds.{bind_bind, bind_same}
 use Rattle.amf3_read.proofs.Stack.{leads_bound}
 use Rattle.amf0_read.specs.declared.frame.Todo.TheVariants.{Items, Pairs}
 use Rattle.amf0_read.specs.declared.frame.Slot.TheVariants.{Item, Named}

@@ -22,8 +22,8 @@ use Rattle.amf3_spelling.specs.KeptTables.{KeptTables, AreTablesIn}
 use Rattle.amf0_spelling.specs.KeptTables0.{KeptTables0, AreTables0In}
 use Rattle.amf0_layout.specs.Layout0State.{state0_of, switched, with_done0}
 use Rattle.amf0_layout.specs.Layout0.{read0, Reader0, with_pairs, with_items, with_members, whole0}
-use Rattle.amf3_read.specs.Opened.{KeptText}
-use Rattle.amf3_read.specs.Answer.{left_of}
+use Rattle.amf_fields.specs.KeptText.{KeptText}
+use Rattle.amf_fields.specs.Room.{left_of}
 use Rattle.amf3_read.specs.Ready.{Ready, Continues}
 use Rattle.amf3_read.specs.declared.opening.Parts.TheVariants as parts
 use Rattle.amf3_read.proofs.NodeStarts.{shaped_suits}

@@ -16,7 +16,7 @@ use Rattle.amf3_layout.proofs.Reader3Calls.{node_opened}
 use Rattle.amf0_spelling.specs.KeptTables0.{KeptTables0, AreTables0In}
 use Rattle.amf0_spelling.specs.TableParts0.{kept_node0}
 use Rattle.amf3_read.specs.Filling.{IsOpened}
-use Rattle.amf3_read.specs.Answer.{left_of}
+use Rattle.amf_fields.specs.Room.{left_of}
 use Rattle.amf0_read.specs.declared.frame.Todo.{Todo}
 use Rattle.amf0_read.specs.Opens0.{Opens}
 use Rattle.amf0_read.specs.Ready0.{StillReady0}

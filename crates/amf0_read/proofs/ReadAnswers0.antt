@@ -18,8 +18,8 @@ use Rattle.amf0_layout.specs.Layout0State.{state0_of}
 use Rattle.amf0_layout.specs.Layout0.{Read0, read0, value0_layout}
 use Rattle.amf0_layout.proofs.Layout0Format.{reads0, is_layout0}
 use Rattle.amf_io.specs.Stretch.{between}
-use Rattle.amf3_read.specs.Answer.{Raises, left_of}
-use Rattle.amf3_read.proofs.LayoutVerdicts.{answers_taken, answers_ended}
+use Rattle.amf_fields.specs.Room.{Raises, left_of}
+use Rattle.amf_fields.proofs.LayoutVerdicts.{answers_taken, answers_ended}
 use Rattle.std.specs.Result.{IsErrAnd}
 use Rattle.amf0_read.specs.declared.frame.Frame.{Frame}
 use Rattle.amf0_read.specs.declared.frame.Now.{Now}

@@ -26,9 +26,9 @@ use Rattle.amf0_layout.specs.Layout0.{Read0, read0, Reader0, behind0, value0_lay
 use Rattle.amf3_read.specs.declared.opening.Parts.TheVariants as parts
 use Rattle.amf3_read.specs.declared.frame.Slot.TheVariants as slot3
 use Rattle.amf3_read.specs.Filling.{with_more, IsOpened}
-use Rattle.amf3_read.specs.Answer.{left_of}
+use Rattle.amf_fields.specs.Room.{left_of}
 use Rattle.amf3_read.specs.Frames.{Fuel, Enough}
-use Rattle.amf3_read.proofs.LayoutBinds.{bind_bind}
+use Rattle.amf_fields.proofs.LayoutBinds.{bind_bind}
 use Rattle.amf3_read.proofs.PartPut.{part_names, part_values, more_size, stays, same_head, put_node, put_built, put_tables, put_opened, put_head, put_nodes}
 use Rattle.amf3_read.proofs.Stack.{opened_less, opened_grown, suits_more, takes, enough_less, leads_bound}
 use Rattle.amf0_read.specs.declared.frame.Todo.{Todo}

@@ -21,11 +21,11 @@ use Rattle.amf3_layout.specs.Layout3Words.{chunk}
 use Rattle.amf0_spelling.specs.KeptTables0.{KeptTables0, AreTables0In}
 use Rattle.amf0_layout.specs.Layout0.{TextRead0, new_text0}
 use Rattle.amf0_layout.specs.Layout0State.{State0, state0_of}
-use Rattle.amf3_read.specs.Opened.{KeptText}
-use Rattle.amf3_read.proofs.LayoutBinds.{chunk_reads, chunk_ends}
+use Rattle.amf_fields.specs.KeptText.{KeptText}
+use Rattle.amf_fields.proofs.LayoutBinds.{chunk_reads, chunk_ends}
 use Rattle.amf3_read.specs.declared.opening.Parts.TheVariants as parts
 use Rattle.amf3_read.specs.Filling.{IsOpened}
-use Rattle.amf3_read.specs.Answer.{left_of}
+use Rattle.amf_fields.specs.Room.{left_of}
 use Rattle.amf3_read.proofs.TextReads.{new_text_there}
 use Rattle.amf3_read.proofs.PartPut.{stays, same_head}
 use Rattle.amf3_read.proofs.GoesOn.{suits_name}

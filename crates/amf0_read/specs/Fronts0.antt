@@ -11,7 +11,7 @@ use Rattle.amf0_spelling.specs.declared.form.Form.TheVariants as form
 use Rattle.amf0_spelling.specs.Form.{call_front}
 use Rattle.amf0_layout.specs.Layout0State.{State0}
 use Rattle.amf0_layout.specs.Layout0.{Read0, behind0, value0_layout}
-use Rattle.amf3_read.specs.Answer.{left_of}
+use Rattle.amf_fields.specs.Room.{left_of}
 use Rattle.amf3_read.specs.Frames.{Fuel, Enough}
 use Rattle.amf0_read.specs.declared.front.Front.{Front}
 use Rattle.amf0_read.specs.declared.frame.Frame.{Frame}

@@ -7,7 +7,7 @@ ghost use Rattle.amf0_layout.specs.Layout0.{value0_layout};
 ghost use Rattle.amf0_layout.specs.Layout0State.{state0_of};
 ghost use Rattle.amf0_spelling.specs.TableParts0.{shown_tables};
 ghost use Rattle.amf3_read.specs.Filling.{IsOpened};
-ghost use Rattle.amf3_read.specs.Answer.{left_of};
+ghost use Rattle.amf_fields.specs.Room.{left_of};
 ghost use Rattle.amf3_read.specs.Frames.{Fuel, Enough};
 ghost use Rattle.amf0_read.specs.Ready0.{Ready0, StillReady0};
 ghost use Rattle.amf0_read.specs.Frames0.{todo as still, Lacks, GoesOn, StepHolds, StepMoves, owed_at, IsOpenAlone, Fills, FilledMoves};
@@ -16,10 +16,10 @@ use crate::frame::{Slot, Todo};
 use crate::marker::{read_marker, read_marker_or_end};
 use crate::node::{Start, start_value};
 use crate::text::read_short_text;
+use amf_fields::kept;
 use amf_graph::{Builder, NodeId};
 use amf_io::{Cursor, ReadEnd, Source};
 use amf0_spelling::{Marker0, Tables0};
-use amf3_read::kept;
 use std::alloc::Global;
 
 /// How far an open node was filled.

@@ -3,7 +3,7 @@ ghost use Rattle.amf_io.specs.ReadEnds.{Goes};
 ghost use Rattle.amf0_layout.specs.Layout0.{value0_layout};
 ghost use Rattle.amf0_layout.specs.Layout0State.{state0_of};
 ghost use Rattle.amf0_spelling.specs.TableParts0.{shown_tables};
-ghost use Rattle.amf3_read.specs.Answer.{left_of};
+ghost use Rattle.amf_fields.specs.Room.{left_of};
 ghost use Rattle.amf0_read.specs.Ready0.{Ready0, StillReady0};
 ghost use Rattle.amf0_read.specs.Frames0.{Holds, owed};
 ghost use Rattle.amf0_read.specs.Fronts0.{LeadsFront, LeadsItems};

@@ -7,9 +7,9 @@ ghost use Rattle.amf0_spelling.specs.Refusals0.{marker0_refusal};
 ghost use Rattle.amf0_spelling.specs.TableParts0.{shown_tables};
 ghost use Rattle.amf0_read.specs.Markers0.{marker_layout};
 
-use amf_io::{Cursor, ReadEnd, Reason, Source};
+use amf_fields::{FieldSize, read_field};
+use amf_io::{Cursor, ReadEnd, Reason, Source, refused};
 use amf0_spelling::{Marker0, Tables0};
-use amf3_read::{FieldSize, read_field, refused};
 
 /// The marker that ends the pairs of a node, behind an empty name.
 const END: u8 = 0x09;

@@ -4,7 +4,7 @@ ghost use Rattle.amf_io.specs.ReadEnds.{Goes};
 ghost use Rattle.amf_graph.specs.Arena.{HeadNames, IsBuilt, IsTextId, array};
 ghost use Rattle.amf_graph.specs.Bounds.{items_of};
 ghost use Rattle.amf_graph.specs.Building.{leaf_head};
-ghost use Rattle.amf3_read.specs.Answer.{room_end, left_of};
+ghost use Rattle.amf_fields.specs.Room.{room_end, left_of};
 ghost use Rattle.amf0_spelling.specs.declared.marker.Marker0.TheVariants as marker0;
 ghost use Rattle.amf0_layout.specs.Layout0.{Reader0, behind0};
 ghost use Rattle.amf0_layout.specs.Layout0State.{state0_of};
@@ -16,10 +16,11 @@ ghost use Rattle.amf0_read.specs.Frames0.{now_of, StartsBy, StartHolds};
 use crate::frame::{Now, Todo};
 use crate::leaf::{read_count, read_reference, read_time};
 use crate::text::{keep_empty_text, read_long_text, read_short_text};
+use amf_fields::{kept, read_double, read_flag};
 use amf_graph::{Builder, Leaf, NodeId, Shape, TextId, Value};
 use amf_io::{Cursor, ReadEnd, Source};
 use amf0_spelling::{Marker0, Tables0};
-use amf3_read::{kept, read_double, read_flag, read_value};
+use amf3_read::read_value;
 use std::alloc::Global;
 
 /// A value as far as it is read before the first value within it.

@@ -3,17 +3,17 @@ ghost use Rattle.amf_graph.specs.Arena.{IsBuilt, text_at};
 ghost use Rattle.amf_io.specs.ReadEnds.{IsPlaced, Goes};
 ghost use Rattle.amf_io.specs.CursorReads.{Answers};
 ghost use Rattle.amf_io.specs.Cursor.{place};
-ghost use Rattle.amf3_read.specs.Answer.{room_end, left_of};
+ghost use Rattle.amf_fields.specs.Room.{room_end, left_of};
 ghost use Rattle.amf3_spelling.specs.KeptTables.{AreTablesIn};
 ghost use Rattle.amf0_spelling.specs.KeptTables0.{KeptTables0};
 ghost use Rattle.amf0_layout.specs.Layout0.{short_layout, long_layout};
 ghost use Rattle.amf0_layout.specs.Layout0State.{state0_of};
-ghost use Rattle.amf3_read.specs.Opened.{KeptText};
+ghost use Rattle.amf_fields.specs.KeptText.{KeptText};
 ghost use Rattle.amf0_read.specs.Ready0.{text_read};
 
+use amf_fields::{FieldSize, kept, read_field, read_loose_text};
 use amf_graph::{Builder, TextId};
 use amf_io::{Cursor, ReadEnd, Source};
-use amf3_read::{FieldSize, kept, read_field, read_loose_text};
 use std::alloc::Global;
 
 /// Reads a text behind its length of 16 bits, as names are too (AMF 0, 1.3.1). Its ends are those of [`read0`].

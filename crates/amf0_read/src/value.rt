@@ -8,7 +8,7 @@ ghost use Rattle.amf0_layout.specs.Layout0.{read0, value0_layout};
 ghost use Rattle.amf0_layout.specs.Layout0State.{state0_of};
 ghost use Rattle.amf0_spelling.specs.TableParts0.{shown_tables};
 ghost use Rattle.amf_io.specs.Stretch.{between};
-ghost use Rattle.amf3_read.specs.Answer.{HasRoomFor, Raises, left_of};
+ghost use Rattle.amf_fields.specs.Room.{HasRoomFor, Raises, left_of};
 ghost use Rattle.amf3_read.specs.Frames.{Fuel, Enough};
 ghost use Rattle.amf0_read.specs.Answer0.{Answers0};
 ghost use Rattle.amf0_read.specs.Fronts0.{form_of};
@@ -20,10 +20,10 @@ use crate::formed::Read0;
 use crate::frame::{Frame, Now};
 use crate::front::{Front, read_front};
 use crate::node::start_apart;
+use amf_fields::kept;
 use amf_graph::{Builder, Value};
 use amf_io::{Cursor, ReadEnd, Source};
 use amf0_spelling::{Form, Tables0};
-use amf3_read::kept;
 use std::alloc::Global;
 
 /// Reads one value into a builder and its tables (AMF 0 specification, 2.2 to 2.18 and 3.1), however many nodes are within

@@ -32,10 +32,10 @@ use Rattle.amf3_read.specs.declared.fill.Next.{Next}
 use Rattle.amf3_read.specs.declared.fill.Next.TheVariants as next
 use Rattle.amf3_read.specs.declared.fill.Step.TheVariants as step
 use Rattle.amf3_read.specs.Filling.{IsOpened}
-use Rattle.amf3_read.specs.Answer.{left_of}
+use Rattle.amf_fields.specs.Room.{left_of}
 use Rattle.amf3_read.specs.Ready.{Ready, Continues, text_read}
 use Rattle.amf3_read.specs.Frames.{todo, resume, closed_node, LacksItems, Suits, WaitsFor, SlotNames, spare, StillReady, GoesOn, StepHolds, IsNext, IsBehindPairs}
-use Rattle.amf3_read.proofs.LayoutBinds.{bind_bind, bind_same}
+use Rattle.amf_fields.proofs.LayoutBinds.{bind_bind, bind_same}
 use Rattle.amf3_read.proofs.PartPut.{there, stays, same_head}
 
 -- Where a name comes next, pairs stand before what is behind them.

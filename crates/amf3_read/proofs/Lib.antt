@@ -1,12 +1,7 @@
-mod FieldLoop
-pub mod Ahead
-mod Contents3
-mod FieldNumbers
 mod NodeMarks
 mod HeaderRules
 mod MarkerRules
 mod NumbersRead
-pub mod LayoutBinds
 pub mod TextReads
 pub mod PartPut
 pub mod Stack
@@ -22,7 +17,6 @@ mod NodeBegins
 mod OpeningNodes
 mod VectorsRead
 pub mod OpeningReads
-pub mod LayoutVerdicts
 mod TextLayout
 mod TextAnswers
 mod ReadAnswers

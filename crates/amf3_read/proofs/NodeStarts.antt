@@ -33,11 +33,11 @@ use Rattle.amf3_read.specs.declared.node.Start.{Start}
 use Rattle.amf3_read.specs.declared.node.Start.TheVariants as start
 use Rattle.amf3_read.specs.Steps.{marker_layout}
 use Rattle.amf3_read.specs.Filling.{IsEmptyNode}
-use Rattle.amf3_read.specs.Answer.{left_of}
+use Rattle.amf_fields.specs.Room.{left_of}
 use Rattle.amf3_read.specs.Ready.{Ready}
 use Rattle.amf3_read.specs.Begins.{Begins, has_parts, IsShaped, IsBegun}
 use Rattle.amf3_read.specs.Frames.{todo, Suits, StillReady, Starts, StartsBy, StartHolds}
-use Rattle.amf3_read.proofs.LayoutBinds.{bind_give}
+use Rattle.amf_fields.proofs.LayoutBinds.{bind_give}
 use Rattle.amf3_read.proofs.InlineReads.{parts_at, whole_continues, parts_are}
 use Rattle.amf3_read.proofs.TextReads.{odd_test}
 

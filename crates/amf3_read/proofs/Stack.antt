@@ -39,11 +39,11 @@ use Rattle.amf3_read.specs.declared.node.Start.TheVariants as start
 use Rattle.amf3_read.specs.declared.fill.Step.TheVariants as step
 use Rattle.amf3_read.specs.Slots.{IsPart}
 use Rattle.amf3_read.specs.Filling.{with_more, IsOpened}
-use Rattle.amf3_read.specs.Answer.{left_of}
+use Rattle.amf_fields.specs.Room.{left_of}
 use Rattle.amf3_read.specs.Ready.{Ready, Continues}
 use Rattle.amf3_read.specs.Frames.{todo, resume, Fuel, rest, Enough, HaveFuel, LacksItems, Suits, WaitsFor, SlotNames, spare, Waits, Nested, IsAt, StillReady, Starts, StartHolds, GoesOn, StepHolds, StackSo}
 use Rattle.amf3_read.specs.Follows.{Follows, IsWaiting, entry_of}
-use Rattle.amf3_read.proofs.LayoutBinds.{bind_give, bind_bind}
+use Rattle.amf_fields.proofs.LayoutBinds.{bind_give, bind_bind}
 use Rattle.amf3_read.proofs.PartPut.{part_names, part_values, more_size, there, stays, still_open, same_head, put_node, put_built, put_tables, put_opened, put_head, put_nodes}
 
 -- The frames below are left alone.

@@ -16,7 +16,7 @@ use Rattle.amf3_layout.specs.Layout3.{opening, whole_node}
 use Rattle.amf3_read.specs.declared.opening.Parts.{Parts}
 use Rattle.amf3_read.specs.declared.opening.Parts.TheVariants.{Array, Object, Items, Entries}
 use Rattle.amf3_read.specs.declared.node.Entered.{Entered}
-use Rattle.amf3_read.specs.Answer.{left_of}
+use Rattle.amf_fields.specs.Room.{left_of}
 use Rattle.amf3_read.specs.Filling.{IsOpened, IsEmptyNode}
 
 -- the values to come, as the layouts have them

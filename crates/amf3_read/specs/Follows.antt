@@ -16,7 +16,7 @@ use Rattle.amf3_read.specs.Now as now
 use Rattle.amf3_read.specs.declared.frame.Unfinished.{Unfinished}
 use Rattle.amf3_read.specs.declared.frame.Slot.TheVariants as slot
 use Rattle.amf3_read.specs.declared.opening.Parts.{Parts}
-use Rattle.amf3_read.specs.Answer.{left_of}
+use Rattle.amf_fields.specs.Room.{left_of}
 use Rattle.amf3_read.specs.Frames.{Waits, StackSo}
 
 -- a frame that waits, whatever stands below it

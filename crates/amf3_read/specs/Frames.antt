@@ -30,7 +30,7 @@ use Rattle.amf3_read.specs.declared.fill.Next.TheVariants as next
 use Rattle.amf3_read.specs.declared.fill.Step.{Step}
 use Rattle.amf3_read.specs.declared.fill.Step.TheVariants as step
 use Rattle.amf3_read.specs.Filling.{IsOpened}
-use Rattle.amf3_read.specs.Answer.{left_of}
+use Rattle.amf_fields.specs.Room.{left_of}
 use Rattle.amf3_read.specs.Ready.{Ready}
 
 -- Layouts.

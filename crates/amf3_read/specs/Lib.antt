@@ -4,10 +4,9 @@ pub mod TextAnswer
 pub mod Pairs
 pub mod VerdictLaws
 -- Devices of the proofs. Of the public calls only those need them by which a reader of another format reads on in AMF 3
--- (`read_value`, `read_field` and their like).
+-- (`read_value` and its like).
 pub mod Ready
 pub mod Begins
-pub mod FieldSize
 pub mod Filling
 pub mod Slots
 pub mod Now

@@ -6,18 +6,17 @@ ghost use Rattle.amf_io.specs.CursorReads.{Ends};
 ghost use Rattle.amf3_spelling.specs.Markers3.{node_marker};
 ghost use Rattle.amf3_layout.specs.Layout3State.{State3, state_of};
 ghost use Rattle.amf3_layout.specs.Layout3.{ValueRead, node_layout, inline_node, opening};
-ghost use Rattle.amf3_read.specs.Answer.{left_of};
+ghost use Rattle.amf_fields.specs.Room.{left_of};
 ghost use Rattle.amf3_read.specs.Ready.{Ready};
 ghost use Rattle.amf3_read.specs.Opened.{IsOpening};
 ghost use Rattle.amf3_read.specs.Begins.{Begins};
 ghost use Rattle.amf3_read.specs.Frames.{StartsBy, StartHolds, StillReady};
 
-use crate::ends::{kept, refused};
-use crate::field::read_number;
 use crate::header::{Header, judge_header};
 use crate::opening::{Opening, Parts, read_opening};
+use amf_fields::{kept, read_number};
 use amf_graph::{Builder, NodeId, NodeKind, Value};
-use amf_io::{Cursor, ReadEnd, Source};
+use amf_io::{Cursor, ReadEnd, Source, refused};
 use amf_tables::Tables3;
 use std::alloc::Global;
 

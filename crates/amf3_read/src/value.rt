@@ -1,4 +1,4 @@
-ghost use Rattle.std.specs.Prelude.{ℕ, suc, ◌<◌, ◌≤◌, ◌^◌, ◌+◌, ◌-◌, ◌*◌, ◌∷◌, length, OnOk, IfOk};
+ghost use Rattle.std.specs.Prelude.{ℕ, suc, ◌<◌, ◌≤◌, ◌+◌, ◌-◌, ◌*◌, ◌∷◌, length, OnOk, IfOk};
 ghost use Rattle.amf_wire.specs.Integer.{IsInteger, integer_of};
 ghost use Rattle.amf_wire.specs.U29.{u29_value};
 ghost use Rattle.amf_io.specs.Field.{u29_kind, no_refusal};
@@ -7,29 +7,29 @@ ghost use Rattle.amf_io.specs.Cursor.{place};
 ghost use Rattle.amf_io.specs.ReadEnds.{IsPlaced, Goes};
 ghost use Rattle.amf_io.specs.CursorReads.{Answers};
 ghost use Rattle.amf3_layout.specs.Layout3State.{state_of};
-ghost use Rattle.amf3_layout.specs.Layout3.{read, eight_layout, value_layout};
+ghost use Rattle.amf3_layout.specs.Layout3.{read, value_layout};
 ghost use Rattle.amf3_read.specs.Ready.{Ready, Continues};
 ghost use Rattle.amf3_spelling.specs.KeptTables.{AreTablesIn};
 ghost use Rattle.amf_io.specs.Stretch.{between};
-ghost use Rattle.amf3_read.specs.Answer.{HasRoomFor, Answers3, Raises, left_of};
+ghost use Rattle.amf_fields.specs.Room.{HasRoomFor, Raises, left_of};
+ghost use Rattle.amf3_read.specs.Answer.{Answers3};
 ghost use Rattle.amf3_read.specs.Steps.{marker_layout};
 ghost use Rattle.amf3_read.specs.Frames.{Starts, StartHolds, StillReady};
 ghost use Rattle.amf3_read.specs.Follows.{Follows, IsWaiting, entry_of};
 ghost use Rattle.amf3_read.specs.Now as now;
 ghost use Rattle.amf_graph.specs.Arena.{Names};
 
-use crate::ends::{kept, refused};
-use crate::field::{FieldSize, read_field, read_number};
 use crate::fill::{Step, go_on};
 use crate::frame::{Frame, Slot, Unfinished, part_of};
 use crate::frames::Frames;
 use crate::node::{Start, start_node};
 use crate::opening::Parts;
 use crate::text::read_text;
+use amf_fields::{FieldSize, kept, read_double, read_field, read_number};
 use amf_graph::{Builder, NodeId, Part, Value};
-use amf_io::{Cursor, ReadEnd, Reason, Source};
+use amf_io::{Cursor, ReadEnd, Reason, Source, refused};
 use amf_tables::Tables3;
-use amf_wire::{Pattern, sign29};
+use amf_wire::sign29;
 use amf3_spelling::Marker;
 use std::alloc::Global;
 
@@ -267,15 +267,4 @@ fn read_integer<S: Source>(cursor: &mut Cursor<'_, S>) -> Result<i32, ReadEnd>
     ensures placed { OnOk result (IsPlaced cursor.new) }
 {
     Ok(sign29(read_number(cursor)?))
-}
-
-/// Reads a double, by its bits (AMF 3 specification, 3.7). Its ends are those of [`read3`].
-pub fn read_double<S: Source>(cursor: &mut Cursor<'_, S>) -> Result<Pattern, ReadEnd>
-    ensures goes { Goes S.tells S.left S.faults cursor.old cursor.new result }
-    ensures answers { Answers S.tells S.left (λ p. p.0) eight_layout cursor.old cursor.new result }
-    ensures own { IfOk result (λ p. p.0 < 2 ^ 64) }
-    ensures placed { OnOk result (IsPlaced cursor.new) }
-{
-    let field = read_field(cursor, FieldSize::Eight)?;
-    Ok(Pattern(field.eight()))
 }

@@ -1,10 +1,2 @@
-mod Fronts
-mod Asked
-mod Formats
-mod Goes
-mod Spelled
-mod Inputs
-mod Statuses
-mod MadeAgain
-mod RunRows
+mod ServeRows
 mod ServeLaws

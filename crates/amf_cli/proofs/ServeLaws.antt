@@ -10,11 +10,12 @@ use Rattle.amf_workers.specs.OfFront.{OfFront}
 use Rattle.amf_workers.specs.Together.{CountsFaults, Serves}
 use Rattle.amf_workers.specs.declared.answer.ServeAnswer.{ServeAnswer}
 use Rattle.amf_workers.specs.declared.answer.ServeAnswer.TheVariants as answer
-use Rattle.amf_cli.specs.declared.command.ServeOptions.{ServeOptions}
-use Rattle.amf_cli.specs.declared.run_end.RunEnd.{RunEnd}
-use Rattle.amf_cli.specs.declared.run_end.RunEnd.TheVariants.{Refused, Usage, ReadFault, WriteFault, NoMemory, FrontFault, NoForm}
-use Rattle.amf_cli.specs.Lines.{served_line, status_of}
-use Rattle.amf_cli.specs.Run.{CountsReads, CountsWrites, IsUntouched}
+use Rattle.amf_commands.specs.declared.command.ServeOptions.{ServeOptions}
+use Rattle.amf_commands.specs.declared.run_end.RunEnd.{RunEnd}
+use Rattle.amf_commands.specs.declared.run_end.RunEnd.TheVariants.{Refused, Usage, ReadFault, WriteFault, NoMemory, FrontFault, NoForm}
+use Rattle.amf_commands.specs.Lines.{status_of}
+use Rattle.amf_cli.specs.Lines.{served_line}
+use Rattle.amf_commands.specs.Run.{CountsReads, CountsWrites, IsUntouched}
 use Rattle.amf_cli.specs.Serving.{ServeRun, had_fault}
 use Rattle.amf_cli.specs.ServeEnds.{End, first_end, TellsLine, IsServeEnd, EndsServe, ServesTo, CountsFront}
 
@@ -180,36 +181,6 @@ front_rose before now e h c = (subst (λ (x : RunEnd). CountsFront before now (E
 
 pub not_6 : (e : RunEnd) (status : ℕ) → status ≡ status_of e → (Ended e ≡ Err FrontFault → ⊥) → status ≢ 6
 not_6 e status is other six = other (ap Ended (front_end e (sym is ∙ six)))
-
-pub never_0 : (e : RunEnd) → status_of e ≡ 0 → ⊥
-never_0 (Refused f) h = absurd (omega arith)
-never_0 Usage h = absurd (omega arith)
-never_0 ReadFault h = absurd (omega arith)
-never_0 WriteFault h = absurd (omega arith)
-never_0 NoMemory h = absurd (omega arith)
-never_0 FrontFault h = absurd (omega arith)
-never_0 (NoForm v l) h = absurd (omega arith)
-
-pub within_7 : (e : RunEnd) → status_of e ≤ 7
-within_7 (Refused f) = omega arith
-within_7 Usage = omega arith
-within_7 ReadFault = omega arith
-within_7 WriteFault = omega arith
-within_7 NoMemory = omega arith
-within_7 FrontFault = omega arith
-within_7 (NoForm v l) = omega arith
-
-memory_is : (e : RunEnd) → status_of e ≡ 5 → e ≡ NoMemory
-memory_is (Refused f) h = absurd (omega arith)
-memory_is Usage h = absurd (omega arith)
-memory_is ReadFault h = absurd (omega arith)
-memory_is WriteFault h = absurd (omega arith)
-memory_is NoMemory h = refl
-memory_is FrontFault h = absurd (omega arith)
-memory_is (NoForm v l) h = absurd (omega arith)
-
-pub memory_end : (e : RunEnd) → status_of e ≡ 5 → Ended e ≡ Err NoMemory
-memory_end e h = ap Ended (memory_is e h)
 
 -- the same of a status that is this one
 pub run_again : (Came : ServeAnswer → Type 0) (told : Type 0) (held now : List ℕ) (n m : ℕ) → m ≡ n → ServeRun Came told held now n → ServeRun Came told held now m

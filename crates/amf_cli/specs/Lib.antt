@@ -1,14 +1,6 @@
 -- The definitions that contracts cite.
-pub mod Commands
-pub mod Content
-pub mod Formats
-pub mod Input
 pub mod Lines
-pub mod Written
-pub mod Run
 pub mod Serving
-pub mod WorkedRuns
--- Devices of the proofs: no clause of a public call needs them.
-pub mod ReadContent
-pub mod Askable
+pub mod WorkedServe
+-- A device of the proofs: no clause of a public call needs it.
 pub mod ServeEnds

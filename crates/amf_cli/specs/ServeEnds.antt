@@ -2,10 +2,10 @@
 use Rattle.std.specs.Prelude.{◌≡◌, ℕ, ◌≤◌, Bool, true, false, List, ◌++◌, Result, Ok, Err, ⊤}
 use Rattle.amf_io.specs.Outside.{Rose}
 use Rattle.amf_workers.specs.declared.answer.ServeAnswer.{ServeAnswer}
-use Rattle.amf_cli.specs.declared.run_end.RunEnd.{RunEnd}
-use Rattle.amf_cli.specs.declared.run_end.RunEnd.TheVariants.{Refused, Usage, ReadFault, WriteFault, NoMemory, FrontFault, NoForm}
+use Rattle.amf_commands.specs.declared.run_end.RunEnd.{RunEnd}
+use Rattle.amf_commands.specs.declared.run_end.RunEnd.TheVariants.{WriteFault, NoMemory, FrontFault}
 use Rattle.amf_cli.specs.Serving.{was_starved, had_fault, line_after}
-use Rattle.amf_cli.specs.Written.{WritesFront}
+use Rattle.amf_commands.specs.Written.{WritesFront}
 
 abbrev pub End : Type 0
 End = Result (Unit {0}) RunEnd
@@ -27,35 +27,26 @@ TellsLine told held now line (Err e) = ⊥
 -- an end of a run with `serve`
 abbrev pub IsServeEnd : End → Type 0
 IsServeEnd (Ok x) = ⊤
-IsServeEnd (Err (Refused f)) = ⊥
-IsServeEnd (Err Usage) = ⊥
-IsServeEnd (Err ReadFault) = ⊥
 IsServeEnd (Err WriteFault) = ⊤
 IsServeEnd (Err NoMemory) = ⊤
 IsServeEnd (Err FrontFault) = ⊤
-IsServeEnd (Err (NoForm number l)) = ⊥
+IsServeEnd _ = ⊥
 
 -- as it follows from what serving came to
 abbrev pub EndsServe : (told : Type 0) → (held now : List ℕ) → ServeAnswer → End → Type 0
 EndsServe told held now a (Ok x) = (was_starved a ≡ false) × (had_fault a ≡ false) × (told → now ≡ held ++ line_after a)
-EndsServe told held now a (Err (Refused f)) = ⊥
-EndsServe told held now a (Err Usage) = ⊥
-EndsServe told held now a (Err ReadFault) = ⊥
 EndsServe told held now a (Err WriteFault) = (was_starved a ≡ false) × (told → WritesFront held now (line_after a))
 EndsServe told held now a (Err NoMemory) = ⊤
 EndsServe told held now a (Err FrontFault) = (was_starved a ≡ false) × (had_fault a ≡ true) × (told → now ≡ held ++ line_after a)
-EndsServe told held now a (Err (NoForm number l)) = ⊥
+EndsServe told held now a _ = ⊥
 
 -- and what serving came to, but for want of memory
 abbrev pub ServesTo : (Came : ServeAnswer → Type 0) → (told : Type 0) → (held now : List ℕ) → End → Type 0
 ServesTo Came told held now (Ok x) = (a : ServeAnswer) × Came a × EndsServe told held now a (Ok x)
-ServesTo Came told held now (Err (Refused f)) = ⊥
-ServesTo Came told held now (Err Usage) = ⊥
-ServesTo Came told held now (Err ReadFault) = ⊥
 ServesTo Came told held now (Err WriteFault) = (a : ServeAnswer) × Came a × EndsServe told held now a (Err WriteFault)
 ServesTo Came told held now (Err NoMemory) = ⊤
 ServesTo Came told held now (Err FrontFault) = (a : ServeAnswer) × Came a × EndsServe told held now a (Err FrontFault)
-ServesTo Came told held now (Err (NoForm number l)) = ⊥
+ServesTo Came told held now _ = ⊥
 
 -- a fault of the front is counted, and without one the count stays; where memory was wanting or the output failed nothing is said
 abbrev pub CountsFront : (before now : ℕ) → End → Type 0

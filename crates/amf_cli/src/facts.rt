@@ -1,7 +1,6 @@
-ghost use Rattle.amf_cli.specs.WorkedRuns.{RunRows};
+ghost use Rattle.amf_cli.specs.WorkedServe.{ServeRows};
 
-/// Worked facts of runs: what numbers among the words say, verdicts with a small limit and on two values, what fixes no verdict
-/// yet, and the lines of `check`, `gen` and `serve`.
-pub fn run_rows()
-    ensures { RunRows }
+/// A worked fact of `serve`: its line.
+pub fn serve_rows()
+    ensures { ServeRows }
 {}

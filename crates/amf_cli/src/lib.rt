@@ -3,27 +3,12 @@
 #![tactic(auto)]
 
 mod arguments;
-mod command;
-mod content;
 mod facts;
-mod format;
-mod kind;
 mod lines;
-mod making;
-mod number;
-mod output;
-mod reading;
-mod report;
 pub mod run;
-mod run_end;
 mod serving;
-mod spelling;
 pub mod start;
-mod writing;
 
+pub use amf_commands::{Command, Format, RunEnd, ServeOptions, Task, end_with, run_rows};
 pub use arguments::{Arguments, Environment, words_of};
-pub use command::{Command, ServeOptions, Task};
-pub use facts::run_rows;
-pub use format::Format;
-pub use report::end_with;
-pub use run_end::RunEnd;
+pub use facts::serve_rows;

@@ -1,25 +1,22 @@
 ghost use Rattle.std.specs.Prelude.{◌≡◌, ℕ, ◌≢◌, ◌+◌, ◌≤◌, ◌⊎◌, ◌++◌, List, length};
 ghost use Rattle.amf_service.specs.Registry.{Entry};
-ghost use Rattle.amf_gateway.specs.Services.{services_by};
+ghost use Rattle.amf_plan.specs.Services.{services_by};
 ghost use Rattle.amf_workers.specs.Together.{Serves};
 ghost use Rattle.amf_io.specs.Outside.{Rose, Steady};
 ghost use Rattle.amf_io.specs.declared.reason.Reason.{Reason};
-ghost use Rattle.amf_cli.specs.Input.{most, input_of, IsAcceptedAs, IsRefusedAs};
+ghost use Rattle.amf_commands.specs.Input.{most, input_of, IsAcceptedAs, IsRefusedAs};
 ghost use Rattle.amf_graph.specs.declared.lack.Lack.{Lack};
-ghost use Rattle.amf_cli.specs.declared.command.Command.{Command};
-ghost use Rattle.amf_cli.specs.declared.command.ServeOptions.{ServeOptions};
-ghost use Rattle.amf_cli.specs.Commands.{Reads, ReadsServe, IsServing, HasReading};
-ghost use Rattle.amf_cli.specs.Run.{TakesInput, Makes, Lacks, MayLack, IsOutputOf, CountsReads, CountsWrites, IsReading, IsUntouched, RunsTo, WritesAll, WritesSome, IsRefusedWith, IsHidden, HasNoForm, Reports};
+ghost use Rattle.amf_commands.specs.declared.command.Command.{Command};
+ghost use Rattle.amf_commands.specs.declared.command.ServeOptions.{ServeOptions};
+ghost use Rattle.amf_commands.specs.Commands.{Reads, ReadsServe, IsServing, HasReading};
+ghost use Rattle.amf_commands.specs.Run.{TakesInput, Makes, Lacks, MayLack, IsOutputOf, CountsReads, CountsWrites, IsReading, IsUntouched, RunsTo, WritesAll, WritesSome, IsRefusedWith, IsHidden, HasNoForm, Reports};
 ghost use Rattle.amf_cli.specs.Serving.{ServeRun};
 ghost use Rattle.amf_cli.specs.ServeEnds.{IsServeEnd, ServesTo, CountsFront};
-ghost use Rattle.amf_cli.specs.Askable.{IsAskable};
 
-use crate::command::{Command, Task};
-use crate::output::output_of;
-use crate::report::end_with;
-use crate::run_end::RunEnd;
 use crate::serving::serve_links;
-use crate::writing::write_whole;
+pub use amf_commands::LIMIT;
+use amf_commands::perform::perform;
+use amf_commands::{RunEnd, Task, end_with};
 use amf_io::{Front, Gate, Hall, Sink, Source};
 use amf_service::Registry;
 use amf_wire::Name;
@@ -28,9 +25,6 @@ use std::hash::RandomState;
 use std::random::RandomSource;
 use std::sync::Wait;
 use std::thread::Threads;
-
-/// The most bytes of an input: 64 MiB.
-pub const LIMIT: u32 = 67_108_864;
 
 /// Does what the words say, and gives the status of the program.
 ///
@@ -188,34 +182,5 @@ where
         Some(Task::Output(command)) => perform(alloc, keys, command, input, out),
         Some(Task::Serve(options)) => serve_links(rt, alloc, options, out, front, gate, registry),
         None => Err(RunEnd::Usage),
-    }
-}
-
-/// Reads the input of a command, and writes its output.
-fn perform<I: Source, O: Sink>(
-    alloc: Global,
-    keys: Option<RandomState>,
-    command: Command,
-    input: &mut I,
-    out: &mut O,
-) -> Result<(), RunEnd>
-    requires { IsAskable command }
-    ensures no_usage { result ≢ Err RunEnd.Usage }
-    ensures alone { (number : ℕ) (l : Lack) → result ≡ Err (RunEnd.NoForm number l) → MayLack command }
-    ensures reading { IsReading command result }
-    ensures untaken { (TakesInput command → ⊥) → input.new ≡ input.old }
-    ensures tells { O.tells out.new → O.tells out.old }
-    ensures runs { I.tells input.old → RunsTo command (I.left input.old) (I.left input.new) (O.tells out.new) (O.held out.old) (O.held out.new) result }
-    ensures taken { I.tells input.old → length (I.left input.old) ≤ length (I.left input.new) + (most + 1) }
-    ensures untouched { IsUntouched out.old out.new result }
-    ensures unwritten { result ≡ Err RunEnd.NoMemory → out.new ≡ out.old }
-    ensures no_front { result ≢ Err RunEnd.FrontFault }
-    ensures reads { CountsReads (I.faults input.old) (I.faults input.new) result }
-    ensures writes { CountsWrites (O.faults out.old) (O.faults out.new) result }
-{
-    let bytes = output_of(alloc, keys, command, input)?;
-    match write_whole(out, &bytes) {
-        Ok(()) => Ok(()),
-        Err(_) => Err(RunEnd::WriteFault),
     }
 }

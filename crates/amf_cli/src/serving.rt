@@ -1,16 +1,14 @@
 ghost use Rattle.std.specs.Prelude.{◌≡◌, List, IfOk};
 ghost use Rattle.amf_service.specs.Registry.{Entry};
-ghost use Rattle.amf_gateway.specs.Services.{services_by};
+ghost use Rattle.amf_plan.specs.Services.{services_by};
 ghost use Rattle.amf_workers.specs.Together.{Serves};
-ghost use Rattle.amf_cli.specs.Askable.{IsServable};
+ghost use Rattle.amf_commands.specs.Askable.{IsServable};
 ghost use Rattle.amf_cli.specs.Lines.{served_line as line};
-ghost use Rattle.amf_cli.specs.Run.{CountsWrites};
+ghost use Rattle.amf_commands.specs.Run.{CountsWrites};
 ghost use Rattle.amf_cli.specs.ServeEnds.{first_end, TellsLine, IsServeEnd, EndsServe, ServesTo, CountsFront};
 
-use crate::command::ServeOptions;
 use crate::lines::served_line;
-use crate::run_end::RunEnd;
-use crate::writing::write_whole;
+use amf_commands::{RunEnd, ServeOptions, write_whole};
 use amf_desk::Closed;
 use amf_io::{Front, Gate, Hall, Sink};
 use amf_service::Registry;

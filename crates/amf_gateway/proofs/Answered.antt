@@ -8,16 +8,16 @@ use Rattle.amf_packet.specs.Packet.{Packet}
 use Rattle.amf_service.specs.Registry.{Entry}
 use Rattle.amf_gateway.specs.Answered.{packet_bytes, if_packet}
 use Rattle.amf_gateway.specs.Answering.{Next, packet, answer_with, next_by, next, goes_on, one_more}
-use Rattle.amf_gateway.specs.Begun.{Begun}
-use Rattle.amf_gateway.specs.Did.{none_taken, both_taken}
-use Rattle.amf_gateway.specs.Links.{LinkEnd, turn_away, answer_packet, answer_body, answer_request, link_of}
+use Rattle.amf_plan.specs.Begun.{Begun}
+use Rattle.amf_plan.specs.Did.{none_taken, both_taken}
+use Rattle.amf_plan.specs.Links.{LinkEnd, turn_away, answer_packet, answer_body, answer_request, link_of}
 use Rattle.amf_gateway.specs.LinkSteps.{Gives}
-use Rattle.amf_gateway.specs.Packets.{answers_to, has_long}
-use Rattle.amf_gateway.specs.Plan.{Cut, at_end, cut_short, turned_away, request, Plan, gives, takes_moment, takes_word, calls, spells, reads, cuts, unpacks, packs, writes, ◌>>=◌}
-use Rattle.amf_gateway.specs.Respond.{joined}
-use Rattle.amf_gateway.specs.Runs.{Supply, Done, and_answer, Outcome, gave, Runs}
-use Rattle.amf_gateway.specs.Serving.{ServeEnd, ended, read_fault, write_fault, no_memory, spent, LinkBytes, Taken, supply_of, calls_of, did, none_left, more, ServesBy}
-use Rattle.amf_gateway.proofs.Composed.{both, runs_then, runs_more, begun_then}
+use Rattle.amf_plan.specs.Packets.{answers_to, has_long}
+use Rattle.amf_plan.specs.Plan.{Cut, at_end, cut_short, turned_away, request, Plan, gives, takes_moment, takes_word, calls, spells, reads, cuts, unpacks, packs, writes, ◌>>=◌}
+use Rattle.amf_plan.specs.Respond.{joined}
+use Rattle.amf_plan.specs.Runs.{Supply, Done, and_answer, Outcome, gave, Runs}
+use Rattle.amf_plan.specs.Serving.{ServeEnd, ended, read_fault, write_fault, no_memory, spent, LinkBytes, Taken, supply_of, calls_of, did, none_left, more, ServesBy}
+use Rattle.amf_plan.proofs.Composed.{both, runs_then, runs_more, begun_then}
 
 -- The plans.
 

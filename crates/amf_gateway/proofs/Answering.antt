@@ -13,16 +13,16 @@ use Rattle.amf_packet.specs.declared.packet.Packet.{Packet as KeptPacket}
 use Rattle.amf_packet.specs.Content.{body_of, header_of, message_of, packet_of}
 use Rattle.amf_packet.specs.Packet.{Message}
 use Rattle.amf_service.specs.Registry.{Entry}
-use Rattle.amf_gateway.specs.declared.plain_call.MessageAnswer.{MessageAnswer}
-use Rattle.amf_gateway.specs.Alike.{BodiesMatch, HeadersMatch, MessagesMatch}
+use Rattle.amf_plain_calls.specs.declared.plain_call.MessageAnswer.{MessageAnswer}
+use Rattle.amf_plan.specs.Alike.{BodiesMatch, HeadersMatch, MessagesMatch}
 use Rattle.amf_gateway.specs.Answered.{SaysMessage, HasRoom, IsWritable, AreWritable, SaysMessages, SaysPacket}
-use Rattle.amf_gateway.specs.Calls.{LacksNothing, AnswersMessage}
-use Rattle.amf_gateway.specs.Did.{Ran, Stopped}
-use Rattle.amf_gateway.specs.Packets.{null_uri, answer_to, suffix, message_back, messages_back, packet_back, answers_to, is_long}
-use Rattle.amf_gateway.specs.Plan.{Plan, gives, ◌>>=◌}
-use Rattle.amf_gateway.specs.Replies.{Answer}
-use Rattle.amf_gateway.specs.Serving.{Taken}
-use Rattle.amf_gateway.proofs.Doing.{HandsNone, HandsBoth, ran_then, ran_nothing, stopped_first, stopped_then, stopped_between}
+use Rattle.amf_plain_calls.specs.TellsMessage.{LacksNothing, AnswersMessage}
+use Rattle.amf_plan.specs.Did.{Ran, Stopped}
+use Rattle.amf_plan.specs.Packets.{null_uri, answer_to, suffix, message_back, messages_back, packet_back, answers_to, is_long}
+use Rattle.amf_plan.specs.Plan.{Plan, gives, ◌>>=◌}
+use Rattle.amf_plan.specs.Replies.{Answer}
+use Rattle.amf_plan.specs.Serving.{Taken}
+use Rattle.amf_plan.proofs.Doing.{HandsNone, HandsBoth, ran_then, ran_nothing, stopped_first, stopped_then, stopped_between}
 
 -- the message that was made matches the one that is said
 pub back_matches : (response : List ℕ) (x : MessageAnswer) (y : Answer) (m : KeptMessage) → AnswersMessage x y → m.target ≡ response ++ suffix x.well → m.response ≡ null_uri → m.body ≡ x.body → MessagesMatch (message_back response y) (message_of m)

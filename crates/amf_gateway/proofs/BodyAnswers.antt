@@ -6,14 +6,14 @@ use Rattle.amf_packet.specs.declared.packet.Packet.{Packet as KeptPacket}
 use Rattle.amf_packet.specs.Content.{packet_of}
 use Rattle.amf_packet.specs.Packet.{Packet}
 use Rattle.amf_service.specs.Registry.{Entry}
-use Rattle.amf_gateway.specs.Alike.{PacketsMatch}
+use Rattle.amf_plan.specs.Alike.{PacketsMatch}
 use Rattle.amf_gateway.specs.Answered.{SaysPacket, Unpacks, packet_bytes, if_packet, body_bytes}
-use Rattle.amf_gateway.specs.Did.{Ran, Stopped}
-use Rattle.amf_gateway.specs.Packets.{answers_to, has_long}
-use Rattle.amf_gateway.specs.Plan.{Plan, gives, bytes_of, ◌>>=◌}
-use Rattle.amf_gateway.specs.Runs.{IsPacked, IsUnpacked, Finds}
-use Rattle.amf_gateway.specs.Serving.{Taken}
-use Rattle.amf_gateway.proofs.Doing.{HandsNone, HandsBoth, ran_then, ran_nothing, stopped_first, stopped_between}
+use Rattle.amf_plan.specs.Did.{Ran, Stopped}
+use Rattle.amf_plan.specs.Packets.{answers_to, has_long}
+use Rattle.amf_plan.specs.Plan.{Plan, gives, bytes_of, ◌>>=◌}
+use Rattle.amf_plan.specs.Runs.{IsPacked, IsUnpacked, Finds}
+use Rattle.amf_plan.specs.Serving.{Taken}
+use Rattle.amf_plan.proofs.Doing.{HandsNone, HandsBoth, ran_then, ran_nothing, stopped_first, stopped_between}
 
 abbrev written : Packet → Plan (Option (List ℕ))
 written back = ◌>>=◌ (bytes_of back) (λ bytes. gives (Some bytes))

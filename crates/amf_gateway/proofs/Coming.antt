@@ -5,15 +5,15 @@ use Rattle.amf_service.specs.Registry.{Entry}
 use Rattle.amf_gateway.specs.declared.links.LinkEnd.{LinkEnd as Ending}
 use Rattle.amf_gateway.specs.declared.links.LinkEnd.TheVariants.{Memory}
 use Rattle.amf_gateway.specs.Answering.{one_more}
-use Rattle.amf_gateway.specs.Did.{none_taken, both_taken}
-use Rattle.amf_gateway.specs.Links.{LinkEnd, closed, link_of, link, most_requests}
+use Rattle.amf_plan.specs.Did.{none_taken, both_taken}
+use Rattle.amf_plan.specs.Links.{LinkEnd, closed, link_of, link, most_requests}
 use Rattle.amf_gateway.specs.LinkSteps.{end_of, ServedLink, Steps}
-use Rattle.amf_gateway.specs.Plan.{Plan, gives}
-use Rattle.amf_gateway.specs.Respond.{joined}
-use Rattle.amf_gateway.specs.Runs.{gave, Runs}
-use Rattle.amf_gateway.specs.Serving.{ServeEnd, ended, LinkBytes, Taken, supply_of, did, none_left, ServesBy, Serves}
+use Rattle.amf_plan.specs.Plan.{Plan, gives}
+use Rattle.amf_plan.specs.Respond.{joined}
+use Rattle.amf_plan.specs.Runs.{gave, Runs}
+use Rattle.amf_plan.specs.Serving.{ServeEnd, ended, LinkBytes, Taken, supply_of, did, none_left, ServesBy, Serves}
 use Rattle.amf_gateway.proofs.Answered.{Carries, carries_none, carries_step, serves_carried, link_next, written_more}
-use Rattle.amf_gateway.proofs.Composed.{none_begun}
+use Rattle.amf_plan.proofs.Composed.{none_begun}
 
 -- between two states of the outside, what all of a link says was done
 pub record ServedBy {O : Type 0} (handed : O → O → Taken → Type 0) (all : List ℕ → Plan LinkEnd) (old new : O) (tells_left tells_held : Type 0) (b : LinkBytes) (end : ServeEnd) : Type 0 where

@@ -1,50 +1,7 @@
 -- The lemmas that several proofs share.
-pub mod Computed
-pub mod Composed
-pub mod ServedBegins
-pub mod Laws
-pub mod PackedAlike
-pub mod MatchedPlans
-pub mod RunsAlike
-pub mod Carried
-pub mod Wholes
-pub mod RepliesAlike
-pub mod MessagesAlike
-pub mod Fixed
-pub mod CallBodies
-pub mod SamePackets
-pub mod Known
-pub mod WholeTest
-pub mod Speller
-pub mod BytePackets
-pub mod Digits
-pub mod Dots
-pub mod Texts
-pub mod Filled
-pub mod Closed
-pub mod Uses
-pub mod Building
-pub mod Spelling
-pub mod Erring
-pub mod Doing
 pub mod Handing
-pub mod ReadStored
-pub mod Batched
-pub mod Reading
-pub mod Ending
-pub mod Polled
-pub mod ViewedShort
 mod SmallReplies
-mod Fitting
-mod Operations
-pub mod CallsAlike
-pub mod NoLacks
-pub mod InArray
-pub mod Plain
-pub mod Faulty
 pub mod Answering
-pub mod Arguments
-pub mod Remote
 pub mod Writable
 pub mod MessageAnswers
 pub mod Unpacked

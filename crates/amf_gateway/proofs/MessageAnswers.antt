@@ -5,18 +5,19 @@ use Rattle.amf0_spelling.specs.declared.form.Form.TheVariants.{Amf3}
 use Rattle.amf_packet.specs.declared.body.Body.TheVariants as kept
 use Rattle.amf_packet.specs.Packet.{Message}
 use Rattle.amf_service.specs.Registry.{Entry}
-use Rattle.amf_gateway.specs.declared.plain_call.MessageAnswer.{MessageAnswer}
-use Rattle.amf_gateway.specs.declared.replies.FlexAnswer.{FlexAnswer}
+use Rattle.amf_plain_calls.specs.declared.plain_call.MessageAnswer.{MessageAnswer}
+use Rattle.amf_flex_replies.specs.declared.replies.FlexAnswer.{FlexAnswer}
 use Rattle.amf_gateway.specs.Answered.{SaysMessage}
-use Rattle.amf_gateway.specs.Calls.{AnswersMessage, TellsMessage}
-use Rattle.amf_gateway.specs.Did.{AnswersFlex, Stopped, Says}
-use Rattle.amf_gateway.specs.Flex.{flex}
-use Rattle.amf_gateway.specs.Packets.{null_uri, answer_to}
-use Rattle.amf_gateway.specs.Plan.{Plan}
-use Rattle.amf_gateway.specs.PlainCalls.{at_last_dot, plain_call}
-use Rattle.amf_gateway.specs.Replies.{Answer}
-use Rattle.amf_gateway.specs.Serving.{Taken}
-use Rattle.amf_gateway.proofs.Doing.{HandsNone, ran_nothing}
+use Rattle.amf_plain_calls.specs.TellsMessage.{AnswersMessage, TellsMessage}
+use Rattle.amf_flex_replies.specs.Says.{AnswersFlex, Says}
+use Rattle.amf_plan.specs.Did.{Stopped}
+use Rattle.amf_plan.specs.Flex.{flex}
+use Rattle.amf_plan.specs.Packets.{null_uri, answer_to}
+use Rattle.amf_plan.specs.Plan.{Plan}
+use Rattle.amf_plan.specs.PlainCalls.{at_last_dot, plain_call}
+use Rattle.amf_plan.specs.Replies.{Answer}
+use Rattle.amf_plan.specs.Serving.{Taken}
+use Rattle.amf_plan.proofs.Doing.{HandsNone, ran_nothing}
 
 flex_is : (x : FlexAnswer) (y : Answer) → AnswersFlex x y → AnswersMessage (record { well = x.well; body = kept.Amf3 x.graph }) y
 flex_is x y is = record { well = is.well; body = record { form = is.form; graph = is.graph }; spelled = is.spelled }

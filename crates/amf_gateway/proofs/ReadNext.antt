@@ -1,6 +1,6 @@
 -- From what a link gave next to what comes next of it.
 use Rattle.std.proofs.Common.{◌≡◌, ◌∙◌, ℕ, ◌+◌, ◌<◌, ◌||◌, Bool, List, [], ◌∷◌, ◌++◌, length, Option, Some, None, Result, Ok, Err, refl, sym, ap, subst, arith, inl, inr, append_assoc, append-nil}
-use Rattle.amf_http.specs.Answers.{Gave}
+use Rattle.http_link.specs.Passing.{Gave}
 use Rattle.amf_http.specs.Request.{BeginsWithRequest, IsRefused, IsOpen}
 use Rattle.amf_service.specs.Registry.{Entry}
 use Rattle.amf_gateway.specs.declared.links.Answer.{Answer}
@@ -9,14 +9,14 @@ use Rattle.amf_gateway.specs.declared.links.LinkEnd.{LinkEnd as Ending}
 use Rattle.amf_gateway.specs.declared.links.LinkEnd.TheVariants.{Closed, Refused, Truncated, ReadFault, WriteFault, Spent, Memory}
 use Rattle.amf_gateway.specs.Answered.{body_bytes}
 use Rattle.amf_gateway.specs.Answering.{Next, over, status_alone, packet, answer_with, next_by}
-use Rattle.amf_gateway.specs.Begun.{Begun}
-use Rattle.amf_gateway.specs.Did.{none_taken}
-use Rattle.amf_gateway.specs.Links.{LinkEnd, closed, truncated}
+use Rattle.amf_plan.specs.Begun.{Begun}
+use Rattle.amf_plan.specs.Did.{none_taken}
+use Rattle.amf_plan.specs.Links.{LinkEnd, closed, truncated}
 use Rattle.amf_gateway.specs.LinkSteps.{AnswersRequest, Gives, Begins, Comes}
-use Rattle.amf_gateway.specs.Plan.{at_end, cut_short, turned_away, request, Plan, gives}
-use Rattle.amf_gateway.specs.Runs.{Done, nothing, gave, Runs}
-use Rattle.amf_gateway.specs.Serving.{Taken, supply_of, did, none_left}
-use Rattle.amf_gateway.proofs.Composed.{both, runs_then, begun_first}
+use Rattle.amf_plan.specs.Plan.{at_end, cut_short, turned_away, request, Plan, gives}
+use Rattle.amf_plan.specs.Runs.{Done, nothing, gave, Runs}
+use Rattle.amf_plan.specs.Serving.{Taken, supply_of, did, none_left}
+use Rattle.amf_plan.proofs.Composed.{both, runs_then, begun_first}
 
 module _ (services : List Entry) (last : Bool) where
   -- what a request is answered with, once it is cut

@@ -5,7 +5,7 @@ use Rattle.amf_gateway.specs.Handed.{Given, PassGoesOn}
 use Rattle.amf_desk.specs.Passes.{Held}
 use Rattle.amf_service.specs.Registry.{Entry}
 use Rattle.amf_gateway.specs.ServesLink.{CountsLink, Service, IsServed, ServesLink, bytes_of}
-use Rattle.amf_gateway.specs.Serving.{ServeEnd, ended, read_fault, write_fault, no_memory, spent, LinkBytes, Taken, Serves}
+use Rattle.amf_plan.specs.Serving.{ServeEnd, ended, read_fault, write_fault, no_memory, spent, LinkBytes, Taken, Serves}
 use Rattle.amf_gateway.specs.Tells.{OfLink, OfHall}
 use Rattle.amf_gateway.specs.WorkerSteps.{unknown}
 

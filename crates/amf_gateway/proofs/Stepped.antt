@@ -3,22 +3,23 @@ use Rattle.std.proofs.Common.{◌≡◌, ◌∙◌, ℕ, Bool, true, false, List
 use Rattle.std.proofs.lemmas.List.{take-append-drop}
 use Rattle.amf_http.specs.declared.ends.AnswerEnd.{AnswerEnd}
 use Rattle.amf_http.specs.declared.ends.AnswerEnd.TheVariants as unwritten_by
-use Rattle.amf_http.specs.Response.{response, AddsFront, Writes}
+use Rattle.amf_http.specs.Response.{response, Writes}
+use Rattle.http_link.specs.Sent.{AddsFront}
 use Rattle.amf_service.specs.Registry.{Entry}
 use Rattle.amf_gateway.specs.declared.links.Answer.{Answer}
 use Rattle.amf_gateway.specs.declared.links.Answer.TheVariants.{Packet, Status}
 use Rattle.amf_gateway.specs.declared.links.LinkEnd.{LinkEnd as Ending}
 use Rattle.amf_gateway.specs.declared.links.LinkEnd.TheVariants.{Closed, Refused, Truncated, ReadFault, WriteFault, Spent, Memory}
 use Rattle.amf_gateway.specs.Answering.{Next, over, status_alone, packet, next, goes_on, one_more}
-use Rattle.amf_gateway.specs.Begun.{Begun}
-use Rattle.amf_gateway.specs.Links.{LinkEnd, closed, refused, truncated, closed_or}
+use Rattle.amf_plan.specs.Begun.{Begun}
+use Rattle.amf_plan.specs.Links.{LinkEnd, closed, refused, truncated, closed_or}
 use Rattle.amf_gateway.specs.LinkSteps.{AnswersRequest, Gives, Begins, ComesBy, Comes, CountsReads, StepsBy, Steps, written_as, ends_with, end_of, unwritten}
 use Rattle.amf_gateway.specs.ServesLink.{CountsLink}
-use Rattle.amf_gateway.specs.Plan.{Plan}
-use Rattle.amf_gateway.specs.Respond.{joined}
-use Rattle.amf_gateway.specs.Runs.{Done, nothing, and_answer, gave, Runs}
-use Rattle.amf_gateway.specs.Serving.{LinkBytes, Taken, supply_of, did, none_left}
-use Rattle.amf_gateway.proofs.Composed.{both, runs_then, begun_first, begun_then, none_begun, runs_begun}
+use Rattle.amf_plan.specs.Plan.{Plan}
+use Rattle.amf_plan.specs.Respond.{joined}
+use Rattle.amf_plan.specs.Runs.{Done, nothing, and_answer, gave, Runs}
+use Rattle.amf_plan.specs.Serving.{LinkBytes, Taken, supply_of, did, none_left}
+use Rattle.amf_plan.proofs.Composed.{both, runs_then, begun_first, begun_then, none_begun, runs_begun}
 
 module _ (services : List Entry) (last : Bool) (after : List ℕ → Plan LinkEnd) (bytes : List ℕ) (k : Taken) where
   -- the link ended before an answer

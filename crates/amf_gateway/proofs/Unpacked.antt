@@ -26,7 +26,7 @@ use Rattle.amf_packet.specs.PacketAnswer.{body_weight, messages_weight, packet_w
 use Rattle.amf_packet.proofs.PacketVerdicts.{packet_verdicts}
 use Rattle.amf_packet.proofs.Spelled.{has_version}
 use Rattle.amf_gateway.specs.Answered.{IsReadable, Unpacks, most_body}
-use Rattle.amf_gateway.specs.Runs.{IsUnpacked, Finds}
+use Rattle.amf_plan.specs.Runs.{IsUnpacked, Finds}
 
 -- a source in memory never fails
 pub never_fails : (e : CursorEnd) → EndsByFault {T = Bool} (Err e) → Counts {T = Bool} 0 0 (Err e) → ⊥

@@ -8,15 +8,15 @@ use Rattle.amf_packet.specs.Content.{body_of, message_of, packet_of}
 use Rattle.amf_packet.specs.Packet.{Message, Packet, is_version}
 use Rattle.amf_packet.specs.PacketAnswer.{body_weight}
 use Rattle.amf_service.specs.Registry.{Entry}
-use Rattle.amf_gateway.specs.declared.plain_call.MessageAnswer.{MessageAnswer}
-use Rattle.amf_gateway.specs.Alike.{MessagesMatch, PacketsMatch}
-use Rattle.amf_gateway.specs.Calls.{LacksNothing, AnswersMessage}
-use Rattle.amf_gateway.specs.Did.{Ran}
-use Rattle.amf_gateway.specs.Packets.{answers_to, has_long}
-use Rattle.amf_gateway.specs.Plan.{Plan, gives, ◌>>=◌, bytes_of, packet_in}
-use Rattle.amf_gateway.specs.Replies.{Answer}
-use Rattle.amf_gateway.specs.Runs.{IsUnpacked, Finds}
-use Rattle.amf_gateway.specs.Serving.{Taken}
+use Rattle.amf_plain_calls.specs.declared.plain_call.MessageAnswer.{MessageAnswer}
+use Rattle.amf_plan.specs.Alike.{MessagesMatch, PacketsMatch}
+use Rattle.amf_plain_calls.specs.TellsMessage.{LacksNothing, AnswersMessage}
+use Rattle.amf_plan.specs.Did.{Ran}
+use Rattle.amf_plan.specs.Packets.{answers_to, has_long}
+use Rattle.amf_plan.specs.Plan.{Plan, gives, ◌>>=◌, bytes_of, packet_in}
+use Rattle.amf_plan.specs.Replies.{Answer}
+use Rattle.amf_plan.specs.Runs.{IsUnpacked, Finds}
+use Rattle.amf_plan.specs.Serving.{Taken}
 
 -- the most bytes of a body
 abbrev pub most_body : ℕ

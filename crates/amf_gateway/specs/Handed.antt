@@ -3,7 +3,7 @@ use Rattle.std.specs.Prelude.{◌≡◌, ℕ, ◌+◌, List, ◌++◌, length}
 use Rattle.amf_broker.specs.History.{Entry as Event}
 use Rattle.amf_desk.specs.Histories.{own, Begins}
 use Rattle.amf_desk.specs.Passes.{Held, Explains}
-use Rattle.amf_gateway.specs.Serving.{Taken}
+use Rattle.amf_plan.specs.Serving.{Taken}
 
 -- a meaning that grows by what was given, where it is told
 pub record Given (told tells : Type 0) (before now given : List ℕ) : Type 0 where

@@ -4,9 +4,9 @@ use Rattle.amf_io.specs.Outside.{Keeps, SameLinks}
 use Rattle.amf_broker.specs.History.{Entry as Event}
 use Rattle.amf_desk.specs.Histories.{own, Begins}
 use Rattle.amf_desk.specs.Passes.{Held}
-use Rattle.amf_gateway.specs.Did.{none_taken, both_taken}
+use Rattle.amf_plan.specs.Did.{none_taken, both_taken}
 use Rattle.amf_gateway.specs.Handed.{Given, AidGoesOn, PassGoesOn}
-use Rattle.amf_gateway.specs.Serving.{Taken}
+use Rattle.amf_plan.specs.Serving.{Taken}
 
 pub given_self : (told : Type 0) (before : List ℕ) → Given told told before before []
 given_self told before = record { since = λ t. t; same = λ t. sym (append-nil before) }

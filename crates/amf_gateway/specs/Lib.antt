@@ -1,42 +1,11 @@
 -- The definitions that contracts cite.
-pub mod Plan
-pub mod Numbers
-pub mod Causes
-pub mod Replies
-pub mod Batches
-pub mod Remoting
-pub mod Commands
-pub mod Flex
-pub mod PlainCalls
-pub mod Packets
-pub mod Links
-pub mod Alike
-pub mod Runs
-pub mod Begun
-pub mod Respond
-pub mod RespondLaws
-pub mod Serving
-pub mod Services
 pub mod Tells
 pub mod Handed
 pub mod ServesLink
 pub mod Served
-pub mod Tried
-pub mod WorkedTexts
-pub mod WorkedClient
-pub mod WorkedBytes
-pub mod WorkedOrder
-pub mod WorkedPlain
-pub mod WorkedRemoting
-pub mod WorkedLinks
--- Devices of the proofs: no clause of a public call needs them.
-pub mod Did
-pub mod Kept
-pub mod Calls
+-- Devices of the proofs: no clause of a public call of the gateway needs them.
 pub mod Answered
 pub mod HandedLaws
-pub mod Small
 pub mod Answering
 pub mod LinkSteps
 pub mod WorkerSteps
-pub mod Batching

@@ -11,13 +11,13 @@ use Rattle.amf_gateway.specs.declared.links.LinkEnd.{LinkEnd as Ending}
 use Rattle.amf_gateway.specs.declared.links.LinkEnd.TheVariants.{Closed, Refused, Truncated, ReadFault, WriteFault, Spent, Memory}
 use Rattle.amf_gateway.specs.Answered.{body_bytes}
 use Rattle.amf_gateway.specs.Answering.{Next, over, status_alone, packet, next, one_more}
-use Rattle.amf_gateway.specs.Begun.{Begun}
-use Rattle.amf_gateway.specs.Did.{Ran, Stopped}
-use Rattle.amf_gateway.specs.Links.{LinkEnd, closed, refused, truncated}
-use Rattle.amf_gateway.specs.Plan.{Plan}
-use Rattle.amf_gateway.specs.Runs.{gave, Runs}
+use Rattle.amf_plan.specs.Begun.{Begun}
+use Rattle.amf_plan.specs.Did.{Ran, Stopped}
+use Rattle.amf_plan.specs.Links.{LinkEnd, closed, refused, truncated}
+use Rattle.amf_plan.specs.Plan.{Plan}
+use Rattle.amf_plan.specs.Runs.{gave, Runs}
 use Rattle.amf_gateway.specs.ServesLink.{CountsLink}
-use Rattle.amf_gateway.specs.Serving.{ServeEnd, ended, read_fault, write_fault, no_memory, spent, Taken, supply_of, did, none_left, LinkBytes, ServesBy, Serves}
+use Rattle.amf_plan.specs.Serving.{ServeEnd, ended, read_fault, write_fault, no_memory, spent, Taken, supply_of, did, none_left, LinkBytes, ServesBy, Serves}
 
 -- how a link ended
 abbrev pub end_of : Ending → ServeEnd

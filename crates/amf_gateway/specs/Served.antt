@@ -8,7 +8,7 @@ use Rattle.amf_service.specs.Registry.{Entry}
 use Rattle.amf_gateway.specs.declared.worker.WorkerEnd.{WorkerEnd}
 use Rattle.amf_gateway.specs.declared.worker.WorkerEnd.TheVariants.{Done, FrontFault}
 use Rattle.amf_gateway.specs.Handed.{Given, PassGoesOn}
-use Rattle.amf_gateway.specs.Serving.{ServeEnd, ended}
+use Rattle.amf_plan.specs.Serving.{ServeEnd, ended}
 use Rattle.amf_gateway.specs.ServesLink.{Service, IsServed, is_starved}
 use Rattle.amf_gateway.specs.Tells.{OfLink, OfHall}
 

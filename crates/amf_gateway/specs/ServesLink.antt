@@ -4,7 +4,7 @@ use Rattle.amf_io.specs.Outside.{Rose, SameLinks}
 use Rattle.amf_desk.specs.Passes.{Held}
 use Rattle.amf_service.specs.Registry.{Entry}
 use Rattle.amf_gateway.specs.Handed.{Given, PassGoesOn}
-use Rattle.amf_gateway.specs.Serving.{ServeEnd, read_fault, write_fault, no_memory, spent, LinkBytes, Taken, Serves}
+use Rattle.amf_plan.specs.Serving.{ServeEnd, read_fault, write_fault, no_memory, spent, LinkBytes, Taken, Serves}
 use Rattle.amf_gateway.specs.Tells.{OfLink, OfHall}
 
 -- a read fault and a write fault are counted, each on its side, and without one the counts stay

@@ -4,7 +4,7 @@ use Rattle.amf_desk.specs.Passes.{Held}
 use Rattle.amf_service.specs.Registry.{Entry}
 use Rattle.amf_gateway.specs.Handed.{Given, PassGoesOn}
 use Rattle.amf_gateway.specs.ServesLink.{Service, IsServed, is_starved}
-use Rattle.amf_gateway.specs.Serving.{ServeEnd, no_memory, spent}
+use Rattle.amf_plan.specs.Serving.{ServeEnd, no_memory, spent}
 use Rattle.amf_gateway.specs.Tells.{OfLink, OfHall}
 
 -- as long as it is not known why a link was not answered whole, it counts as want of memory

@@ -4,10 +4,10 @@ ghost use Rattle.amf_io.specs.Outside.{SameLinks};
 ghost use Rattle.amf_gateway.specs.Handed.{AidGoesOn, PassGoesOn};
 ghost use Rattle.amf_gateway.specs.HandedLaws.{aid_none, aid_both, links_self, links_then, pass_none, pass_both};
 
-use crate::outside::{Outside, Unanswered};
 use amf_broker::{Call, Reply};
 use amf_desk::{Desk, DeskEnd, Pass};
 use amf_io::{Gate, Hall};
+use amf_plan::outside::{Outside, Unanswered};
 use std::alloc::Global;
 use std::hash::RandomState;
 use std::sync::Wait;

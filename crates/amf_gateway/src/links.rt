@@ -4,15 +4,15 @@ ghost use Rattle.std.specs.Prelude.{◌≡◌, ◌≤◌, ◌++◌, length, ◌=
 ghost use Rattle.amf_io.specs.Outside.{Keeps};
 ghost use Rattle.amf_http.specs.Response.{Writes, CountsWrites};
 ghost use Rattle.amf_service.specs.Registry.{Entry};
-ghost use Rattle.amf_gateway.specs.Services.{services_by};
+ghost use Rattle.amf_plan.specs.Services.{services_by};
 ghost use Rattle.amf_gateway.specs.Answered.{most_body};
 ghost use Rattle.amf_gateway.specs.ServesLink.{CountsLink, is_starved};
 ghost use Rattle.amf_gateway.specs.LinkSteps.{end_of, ServedLink, AnswersRequest, Comes, IsAnswer, written_as, ends_with, Steps, CountsStep, CountsReads};
 
 use crate::bodies::answer_body;
-use crate::outside::{Outside, Unanswered};
 use amf_http::{AnswerEnd, HttpBuffer, HttpEnd, HttpRequest, next_request, write_response};
 use amf_io::Link;
+use amf_plan::outside::{Outside, Unanswered};
 use amf_service::Registry;
 use std::alloc::Global;
 

@@ -2,10 +2,10 @@
 
 ghost use Rattle.std.specs.Prelude.{◌≡◌, List};
 ghost use Rattle.amf_service.specs.Registry.{Entry};
-ghost use Rattle.amf_gateway.specs.Services.{services_by};
+ghost use Rattle.amf_plan.specs.Services.{services_by};
 ghost use Rattle.amf_gateway.specs.LinkSteps.{end_of};
 ghost use Rattle.amf_gateway.specs.ServesLink.{ServesLink};
-ghost use Rattle.amf_gateway.specs.Serving.{Taken, spent};
+ghost use Rattle.amf_plan.specs.Serving.{Taken, spent};
 ghost use Rattle.amf_gateway.specs.WorkerSteps.{unknown};
 
 use crate::caller::Caller;

@@ -2,7 +2,7 @@
 
 ghost use Rattle.std.specs.Prelude.{◌≡◌, ◌||◌, List, None};
 ghost use Rattle.amf_service.specs.Registry.{Entry};
-ghost use Rattle.amf_gateway.specs.Services.{services_by};
+ghost use Rattle.amf_plan.specs.Services.{services_by};
 ghost use Rattle.amf_gateway.specs.Served.{Served};
 ghost use Rattle.amf_gateway.specs.WorkerSteps.{ServedNext};
 

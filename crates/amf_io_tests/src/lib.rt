@@ -8,6 +8,10 @@ mod http_tests;
 #[cfg(test)]
 mod io_cursor_tests;
 #[cfg(test)]
+mod io_dial_tests;
+#[cfg(test)]
+mod io_fields_tests;
+#[cfg(test)]
 mod io_format_tests;
 #[cfg(test)]
 mod io_hall_tests;

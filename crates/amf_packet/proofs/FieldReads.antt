@@ -25,7 +25,7 @@ use Rattle.amf3_layout.proofs.Layout3SoundOpenings.{Chunk, chunk_taken}
 use Rattle.amf3_layout.proofs.Layout3SoundTexts.{taken, texts_are, give_is}
 use Rattle.amf0_spelling.specs.Segments0.{Short}
 use Rattle.amf0_layout.proofs.Layout0SoundParts.{u32_is, empty_text}
-use Rattle.amf3_read.proofs.LayoutBinds.{bind_chunk, chunk_ends}
+use Rattle.amf_fields.proofs.LayoutBinds.{bind_chunk, chunk_ends}
 use Rattle.amf_packet.specs.Packet.{Beside, is_version, version_refusal, VersionBy, CountBy, LengthBy, MustBy}
 use Rattle.amf_packet.specs.LayoutPacket.{done, name_layout, must_layout, length_layout, version_layout}
 use Rattle.amf_packet.specs.ReadParts.{Took, Reads, count_layout}

@@ -25,7 +25,7 @@ use Rattle.amf0_layout.proofs.Layout0Format.{values0_is_layout}
 use Rattle.amf0_read.specs.declared.formed.Read0.{Read0}
 use Rattle.amf0_read.specs.Answer0.{IsReadWith, Answers0}
 use Rattle.amf_io.specs.Stretch.{AnswersOf, between}
-use Rattle.amf3_read.specs.Answer.{Raises, left_of}
+use Rattle.amf_fields.specs.Room.{Raises, left_of}
 use Rattle.amf_packet.specs.declared.body.Body.{Body}
 use Rattle.amf_packet.specs.declared.body.Body.TheVariants.{Call, Amf3, Plain}
 use Rattle.amf_packet.specs.Content.{body_of}

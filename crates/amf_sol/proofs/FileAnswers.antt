@@ -27,7 +27,7 @@ use Rattle.amf_wire.specs.Text.{IsText}
 use Rattle.amf_graph.specs.Bounds.{weight}
 use Rattle.amf_graph.specs.Rooted.{RootedArena, content}
 use Rattle.amf_io.specs.Stretch.{Stretch, between, stretch}
-use Rattle.amf3_read.specs.Answer.{left_of}
+use Rattle.amf_fields.specs.Room.{left_of}
 use Rattle.amf0_layout.specs.Layout0State.{state0_of}
 use Rattle.amf_sol.specs.declared.head.Head.{Head}
 use Rattle.amf_sol.specs.declared.sol_version.SolVersion.{SolVersion}

@@ -16,7 +16,7 @@ use Rattle.amf_io.proofs.Paths.{bind_runs, runs_bind}
 use Rattle.amf_graph.specs.Arena.{Arena}
 use Rattle.amf_graph.specs.Rooted.{RootedArena}
 use Rattle.amf3_layout.proofs.Layout3SoundTexts.{give_is}
-use Rattle.amf3_read.specs.Answer.{left_of}
+use Rattle.amf_fields.specs.Room.{left_of}
 use Rattle.amf3_read.specs.Ready.{Ready}
 use Rattle.amf0_read.specs.Ready0.{Ready0}
 use Rattle.amf3_spelling.specs.KeptTables.{KeptTables, no_kept_tables}

@@ -26,8 +26,8 @@ use Rattle.amf0_spelling.specs.KeptTables0.{KeptTables0}
 use Rattle.amf0_layout.specs.Layout0.{read0, short_layout, value0_layout}
 use Rattle.amf0_layout.specs.Layout0State.{State0, state0_of, in_amf3}
 use Rattle.amf0_layout.proofs.Layout0Format.{reads0}
-use Rattle.amf3_read.specs.Opened.{KeptText}
-use Rattle.amf3_read.specs.Answer.{left_of}
+use Rattle.amf_fields.specs.KeptText.{KeptText}
+use Rattle.amf_fields.specs.Room.{left_of}
 use Rattle.amf3_read.specs.Ready.{Ready, Continues, text_read}
 use Rattle.amf0_read.specs.Ready0 as ready0
 use Rattle.amf0_read.specs.Ready0.{Ready0, StillReady0}

@@ -6,19 +6,20 @@ ghost use Rattle.amf_graph.specs.Building.{no_arena};
 ghost use Rattle.amf0_layout.specs.Layout0State.{state0_of};
 ghost use Rattle.amf0_spelling.specs.TableParts0.{shown_tables};
 ghost use Rattle.amf0_read.specs.Ready0.{Ready0};
-ghost use Rattle.amf3_read.specs.Answer.{room_end, left_of};
+ghost use Rattle.amf_fields.specs.Room.{room_end, left_of};
 ghost use Rattle.amf3_read.specs.Ready.{Ready};
 ghost use Rattle.amf_sol.specs.FileLayout.{file, holder_arena, pair_by};
 ghost use Rattle.amf_sol.specs.FileReading.{tables3, IsOpenHolder, AnswersPairs, AnswersHolder, closed_holder};
 
 use crate::SolVersion;
 use crate::head::read_pair_end;
+use amf_fields::kept;
 use amf_graph::{Builder, NodeId, Part, Rooted, Shape, Value};
 use amf_io::{Cursor, ReadEnd, Source};
 use amf_tables::Tables3;
 use amf0_read::{read_short_text, read_value0};
 use amf0_spelling::Tables0;
-use amf3_read::{kept, read_text, read_value};
+use amf3_read::{read_text, read_value};
 use std::alloc::Global;
 use std::hash::RandomState;
 

@@ -3,14 +3,13 @@ ghost use Rattle.amf_io.specs.Cursor.{place};
 ghost use Rattle.amf_io.specs.ReadEnds.{Goes};
 ghost use Rattle.amf_io.specs.Stretch.{between};
 ghost use Rattle.amf_graph.specs.Bounds.{weight};
-ghost use Rattle.amf3_read.specs.Answer.{room_end, left_of};
+ghost use Rattle.amf_fields.specs.Room.{room_end, left_of};
 ghost use Rattle.amf_sol.specs.FileAnswer.{AnswersFile};
 
 use crate::SharedObject;
 use crate::head::{read_head, read_length};
 use crate::pairs::read_holder;
-use amf_io::{Cursor, ReadEnd, Reason, Source};
-use amf3_read::refused;
+use amf_io::{Cursor, ReadEnd, Reason, Source, refused};
 use std::alloc::Global;
 use std::hash::RandomState;
 

@@ -1,6 +1,6 @@
 ghost use Rattle.std.specs.Prelude.{◌≡◌, List};
 ghost use Rattle.amf_service.specs.Registry.{Entry};
-ghost use Rattle.amf_gateway.specs.Services.{services_by};
+ghost use Rattle.amf_plan.specs.Services.{services_by};
 ghost use Rattle.amf_gateway.specs.Served.{Served};
 
 use amf_desk::Desk;

@@ -1,7 +1,7 @@
 ghost use denote.Param.Send.{IsSend, IsSync};
 ghost use Rattle.std.specs.Prelude.{◌≡◌, List, All};
 ghost use Rattle.amf_service.specs.Registry.{Entry};
-ghost use Rattle.amf_gateway.specs.Services.{services_by};
+ghost use Rattle.amf_plan.specs.Services.{services_by};
 ghost use Rattle.amf_gateway.specs.Served.{Served};
 ghost use Rattle.amf_workers.specs.Posts.{AllServed};
 

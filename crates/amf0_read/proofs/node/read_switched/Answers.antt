@@ -3,7 +3,7 @@ use Rattle.amf_graph.specs.declared.value.Value.{Value as Stored}
 use Rattle.amf3_layout.specs.Layout3State.{state_of}
 use Rattle.amf3_layout.specs.Layout3.{read, value_layout}
 use Rattle.amf_io.specs.Layout.{give}
-use Rattle.amf3_read.specs.Answer.{left_of}
+use Rattle.amf_fields.specs.Room.{left_of}
 use Rattle.amf0_spelling.specs.TableParts0.{shown_tables}
 use Rattle.amf0_layout.specs.Layout0.{read0}
 use Rattle.amf0_layout.specs.Layout0State.{state0_of, switched}

@@ -7,7 +7,7 @@ use Rattle.amf_io.proofs.CursorReads.{field_reads, field_ended}
 use Rattle.amf3_layout.specs.Layout3Words.{chunk}
 use Rattle.amf0_layout.specs.Layout0.{new_text0}
 use Rattle.amf0_layout.specs.Layout0State.{state0_of}
-use Rattle.amf3_read.proofs.LayoutBinds.{passed_on}
+use Rattle.amf_fields.proofs.LayoutBinds.{passed_on}
 use Rattle.amf0_read.specs.Ready0.{text_read}
 use Rattle.amf0_read.proofs.TextReads0.{text_reads}
 use Rattle.amf0_read.proofs.text.read_long_text.Goals as goal

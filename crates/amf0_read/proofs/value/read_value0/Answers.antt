@@ -4,7 +4,7 @@ use Rattle.amf0_layout.specs.Layout0.{read0, value0_layout}
 use Rattle.amf0_layout.specs.Layout0State.{state0_of}
 use Rattle.amf0_spelling.specs.TableParts0.{shown_tables}
 use Rattle.amf_graph.specs.declared.value.Value.{Value}
-use Rattle.amf3_read.proofs.LayoutBinds.{passed_on}
+use Rattle.amf_fields.proofs.LayoutBinds.{passed_on}
 use Rattle.amf0_read.specs.Frames0.{current, rest, owed}
 use Rattle.amf0_read.proofs.ValueReads0.{led_answers, ready_on}
 use Rattle.amf0_read.proofs.value.read_value0.Goals as goal

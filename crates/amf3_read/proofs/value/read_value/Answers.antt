@@ -5,10 +5,10 @@ use Rattle.amf3_layout.specs.Layout3.{value_layout}
 use Rattle.amf3_read.specs.declared.frame.Frame.{Frame}
 use Rattle.amf3_read.specs.declared.frame.Slot.TheVariants as slot
 use Rattle.amf3_read.specs.Now as now
-use Rattle.amf3_read.specs.Answer.{left_of}
+use Rattle.amf_fields.specs.Room.{left_of}
 use Rattle.amf3_read.specs.Frames.{Nested, StackSo}
 use Rattle.amf_io.proofs.CursorReads.{goes_other}
-use Rattle.amf3_read.proofs.LayoutBinds.{passed_on}
+use Rattle.amf_fields.proofs.LayoutBinds.{passed_on}
 use Rattle.amf3_read.proofs.Stack.{so_begin, so_end, so_value, so_open, go_end, go_wait, go_open, go_closed, so_done, so_continues, waits_any, goes_passed}
 use Rattle.amf3_read.proofs.value.read_value.Goals as goal
 

@@ -1,9 +1,9 @@
 use Rattle.std.proofs.Common.{refl, sym, subst}
-use Rattle.amf_cli.specs.declared.command.Command.{Command}
-use Rattle.amf_cli.specs.declared.command.Task.TheVariants.{Output, Serve}
-use Rattle.amf_cli.specs.Commands.{AsksFor}
-use Rattle.amf_cli.specs.Run.{RunsTo, MayLack, IsReading, TakesInput}
-use Rattle.amf_cli.proofs.Asked.{asked_possible, none_asked, not_both, not_serving, one_reading, one_serving, was_asked}
+use Rattle.amf_commands.specs.declared.command.Command.{Command}
+use Rattle.amf_commands.specs.declared.command.Task.TheVariants.{Output, Serve}
+use Rattle.amf_commands.specs.Commands.{AsksFor}
+use Rattle.amf_commands.specs.Run.{RunsTo, MayLack, IsReading, TakesInput}
+use Rattle.amf_commands.proofs.Asked.{asked_possible, none_asked, not_both, not_serving, one_reading, one_serving, was_asked}
 use Rattle.amf_cli.proofs.ServeLaws.{no_front_counts, serve_not_usage, serve_reads, serve_untouched, served_again}
 use Rattle.amf_cli.proofs.run.execute.Goals as goal
 

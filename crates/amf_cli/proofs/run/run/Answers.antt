@@ -1,10 +1,10 @@
 use Rattle.std.proofs.Common.{◌≡◌, ◌≤◌, ◌⊎◌, ◌++◌, inl, inr, sym, ap, subst, ◌∙◌}
 use Rattle.amf_io.specs.Outside.{Steady}
-use Rattle.amf_cli.specs.declared.command.Task.TheVariants.{Output}
-use Rattle.amf_cli.specs.Run.{Reports}
-use Rattle.amf_cli.proofs.Spelled.{made_again, made_not_lacking}
-use Rattle.amf_cli.proofs.Statuses.{refused_says, hidden_says, front_says, no_form_says, accepted_says, not_accepted_says, formed_says, lacking_says, done_not_refused, line_says, usage_status, usage_end, memory_status, form_status, reading_says, reads_steady, writes_steady}
-use Rattle.amf_cli.proofs.ServeLaws.{done_served, served_with, serves_with, front_rose, not_6, never_0, within_7, memory_end}
+use Rattle.amf_commands.specs.declared.command.Task.TheVariants.{Output}
+use Rattle.amf_commands.specs.Run.{Reports}
+use Rattle.amf_commands.proofs.Spelled.{made_again, made_not_lacking}
+use Rattle.amf_commands.proofs.Statuses.{refused_says, hidden_says, front_says, no_form_says, accepted_says, not_accepted_says, formed_says, lacking_says, done_not_refused, line_says, usage_status, usage_end, memory_status, form_status, reading_says, reads_steady, writes_steady, never_0, within_7, memory_end}
+use Rattle.amf_cli.proofs.ServeLaws.{done_served, served_with, serves_with, front_rose, not_6}
 use Rattle.amf_cli.proofs.run.run.Goals as goal
 
 pub returns-in-Ok-clause-done : goal.returns-in-Ok-clause-done

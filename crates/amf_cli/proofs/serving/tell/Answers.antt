@@ -1,5 +1,5 @@
 use Rattle.std.proofs.Common.{◌≡◌, ◌++◌, ◌∙◌, subst}
-use Rattle.amf_cli.specs.Written.{WritesFront}
+use Rattle.amf_commands.specs.Written.{WritesFront}
 use Rattle.amf_cli.proofs.serving.tell.Goals as goal
 
 pub returns-in-Ok-clause-line : goal.returns-in-Ok-clause-line

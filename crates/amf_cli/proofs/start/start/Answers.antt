@@ -1,5 +1,5 @@
 use Rattle.std.proofs.Common.{◌≡◌, ◌⊎◌, ◌∙◌, sym, subst, ℕ, List}
-use Rattle.amf_cli.specs.Commands.{HasReading, IsServing, Reads, ReadsServe}
+use Rattle.amf_commands.specs.Commands.{HasReading, IsServing, Reads, ReadsServe}
 use Rattle.amf_cli.proofs.ServeLaws.{run_again}
 use Rattle.amf_cli.proofs.start.start.Goals as goal
 

@@ -1,7 +1,7 @@
 use Rattle.std.proofs.Common.{◌≡◌}
 use Rattle.amf_packet.specs.Content.{packet_of}
 use Rattle.amf_gateway.proofs.BodyAnswers.{ran_bytes, stopped_bytes, stopped_answers}
-use Rattle.amf_gateway.proofs.Doing.{at_err}
+use Rattle.amf_plan.proofs.Doing.{at_err}
 use Rattle.amf_gateway.proofs.bodies.answer_packet.Goals as goal
 
 pub returns-in_err-back-clause-stopped : goal.returns-in_err-back-clause-stopped

@@ -13,7 +13,7 @@ use Rattle.amf_packet.specs.Packet.{SpellsPacket, IsPacketReading}
 use Rattle.amf_packet.specs.PacketAnswer.{packet_weight}
 use Rattle.amf_gateway.specs.Answered.{Unpacks}
 use Rattle.amf_packet.specs.declared.packet.Packet.{Packet as KeptPacket}
-use Rattle.amf_gateway.proofs.Arguments.{by_test}
+use Rattle.amf_flex_replies.proofs.Arguments.{by_test}
 use Rattle.amf_gateway.proofs.Unpacked.{none_spelled, more_follows, packet_read, no_fault}
 use Rattle.amf_gateway.proofs.bodies.whole_packet.Goals as goal
 

@@ -5,7 +5,7 @@ use Rattle.amf_packet.specs.declared.packet.Message.{Message as KeptMessage}
 use Rattle.amf_packet.specs.PacketAnswer.{body_weight}
 use Rattle.amf_gateway.specs.Answered.{HasRoom, AreWritable, most_body}
 use Rattle.amf_gateway.proofs.Answering.{packet_said, packet_stopped}
-use Rattle.amf_gateway.proofs.Doing.{at_err}
+use Rattle.amf_plan.proofs.Doing.{at_err}
 use Rattle.amf_gateway.proofs.packets.answers_to.Goals as goal
 
 pub messages_back-requires-clause-light : goal.messages_back-requires-clause-light

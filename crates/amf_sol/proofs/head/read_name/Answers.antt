@@ -3,7 +3,7 @@ use Rattle.amf_io.specs.Field.{text_kind}
 use Rattle.amf_io.specs.Layout.{give}
 use Rattle.amf_io.specs.CursorReads.{Answers, Ends}
 use Rattle.amf3_layout.specs.Layout3Words.{chunk}
-use Rattle.amf3_read.proofs.LayoutBinds.{passed_on}
+use Rattle.amf_fields.proofs.LayoutBinds.{passed_on}
 use Rattle.amf_sol.specs.FileReading.{name_layout}
 use Rattle.amf_sol.proofs.HeadReads.{name_reads, name_cut}
 use Rattle.amf_sol.proofs.head.read_name.Goals as goal

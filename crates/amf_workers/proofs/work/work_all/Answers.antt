@@ -2,7 +2,7 @@ use Rattle.std.proofs.Common.{List, subst, rules}
 use Rattle.std.specs.Prelude.{slice_index_or}
 use Rattle.amf_service.specs.Registry.{Entry}
 use Rattle.amf_gateway.specs.Served.{Served}
-use Rattle.amf_gateway.specs.Services.{services_by}
+use Rattle.amf_plan.specs.Services.{services_by}
 use Rattle.amf_gateway.specs.Tells.{OfLink, OfHall}
 use Rattle.amf_workers.specs.declared.post.Post.{Post}
 use Rattle.amf_workers.proofs.work.work_all.Goals as goal

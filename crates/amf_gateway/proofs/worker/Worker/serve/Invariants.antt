@@ -1,5 +1,5 @@
 use Rattle.std.proofs.Common.{◌≡◌}
-use Rattle.amf_gateway.specs.Services.{services_by}
+use Rattle.amf_plan.specs.Services.{services_by}
 use Rattle.amf_gateway.proofs.SoFar.{SoFar}
 use Rattle.amf_gateway.proofs.worker.Worker.serve.Given as goal
 

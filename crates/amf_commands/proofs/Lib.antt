@@ -1,0 +1,9 @@
+mod Fronts
+pub mod Asked
+mod Formats
+mod Goes
+pub mod Spelled
+mod Inputs
+pub mod Statuses
+mod MadeAgain
+mod RunRows

@@ -1,0 +1,19 @@
+use Rattle.std.proofs.Common.{◌≡◌, ◌++◌, Err, refl, ap, ◌∙◌}
+use Rattle.amf_io.specs.Field.{flat}
+use Rattle.amf_graph.specs.declared.write_end.WriteEnd.TheVariants as writer
+use Rattle.amf_graph.specs.Rooted.{content}
+use Rattle.amf_commands.specs.Content.{value}
+use Rattle.amf_commands.proofs.spelling.spell0.Goals as goal
+
+pub write0-requires : goal.write0-requires
+write0-requires c = c.graphs_have_one_lowering.ensures.lowered (content c.args.graph.now) (content c.in-Ok.low) c.in-Ok.ensures
+
+pub returns-in-Ok-write0-clause-written : goal.returns-in-Ok-write0-clause-written
+returns-in-Ok-write0-clause-written c =
+    let w = c.in-Ok-write0.ensures.written in
+    (value (content c.in-Ok.low), c.in-Ok.ensures, (w.0, w.1, w.2 ∙ ap (λ o. o ++ flat w.0) c.new-bytes.ensures.items))
+
+pub returns-clause-lack : goal.returns-clause-lack
+returns-clause-lack c = λ l is.
+    let e : c.in-Err-write0.end ≡ writer.NoSpelling l = cc in
+    (value (content c.in-Ok.low), c.in-Ok.ensures, (refl, c.in-Err-write0.ensures.lack l (ap Err e)))

@@ -1,0 +1,80 @@
+ghost use Rattle.std.specs.Prelude.{IfOk, IfSome, IfNone};
+ghost use Rattle.amf_words.specs.Words.{texts};
+ghost use Rattle.amf_commands.specs.declared.command.Task.{Task};
+ghost use Rattle.amf_commands.specs.Commands.{Asks, AsksFor, HasReading};
+
+use crate::format::Format;
+use crate::kind::Kind;
+use amf_wire::{Memory, Name};
+use amf_words::options_of;
+use std::alloc::{AllocError, Global};
+use std::str;
+
+/// A command that writes an output, which is made of the input or of numbers.
+#[derive(Clone, Copy, Debug, PartialEq, Eq)]
+pub enum Command {
+    /// `canon`: the canonical spelling of one value, in the same format or another, of one packet, or of one file.
+    Canon { from: Format, to: Format },
+    /// `check`: how many nodes the root of one value leads to, added over the values of a packet,
+    /// or that of a file's pairs.
+    Check { from: Format },
+    /// `show`: the listing of one value, of one packet, or of one file.
+    Show { from: Format },
+    /// `same`: whether two values of AMF 3, one after the other, are the same graph.
+    Same,
+    /// `gen`: the nodes, the number of bytes and the sum of the bytes of the graph that is made of a seed, of 1 to 1,000,000 nodes.
+    Gen { seed: u32, size: u32 },
+}
+
+/// Where `serve` serves links, by how many workers, and how many links each.
+#[derive(Clone, Copy, Debug, PartialEq, Eq)]
+pub struct ServeOptions {
+    pub port: u16,
+    /// From 1 to 64.
+    pub workers: u32,
+    /// From 1 to 1,000,000.
+    pub each: u32,
+}
+
+/// What the words of a command line ask for.
+#[derive(Clone, Copy, Debug, PartialEq, Eq)]
+pub enum Task {
+    /// A command that writes an output.
+    Output(Command),
+    /// `serve`: links are served, and a line tells how many calls, messages and deliveries there were.
+    Serve(ServeOptions),
+}
+
+impl Task {
+    /// What the words ask for, if they have a reading: each has to be UTF-8.
+    pub fn of(alloc: Global, words: &[Name]) -> Result<Option<Task>, Memory>
+        ensures reads { IfOk result (λ r. IfSome r (AsksFor words.now)) }
+        ensures none { IfOk result (λ r. IfNone r (HasReading words.now → ⊥)) }
+    {
+        let mut seen = Vec::new(alloc);
+        for word in words {
+            match str::from_utf8(word.as_bytes()) {
+                Ok(text) => seen.push(text)?,
+                Err(_) => return Ok(None),
+            }
+        }
+        Ok(asked(alloc, seen.as_slice())?)
+    }
+}
+
+/// What the words ask for, if anything.
+fn asked<'a>(alloc: Global, words: &'a [&'a str]) -> Result<Option<Task>, AllocError>
+    ensures reads { IfOk result (λ r. IfSome r (λ t. Asks (texts words.now) t)) }
+    ensures none { IfOk result (λ r. IfNone r ((t : Task) → Asks (texts words.now) t → ⊥)) }
+{
+    let Some((name, rest)) = words.split_first() else {
+        return Ok(None);
+    };
+    let Some(kind) = Kind::of(name) else {
+        return Ok(None);
+    };
+    match options_of(alloc, name, kind.options(), rest)? {
+        Some(matches) => Ok(kind.task(&matches)),
+        None => Ok(None),
+    }
+}

@@ -1,0 +1,46 @@
+ghost use Rattle.std.specs.Prelude.{IfOk};
+ghost use Rattle.amf_commands.specs.Content.{content_of, HasNodes, IsListed};
+
+use amf_graph::Rooted;
+use amf_listings::{count_packet_nodes, show_file, show_packet};
+use amf_packet::Packet;
+use amf_show::{count_nodes, show};
+use amf_sol::SharedObject;
+use amf_wire::Memory;
+use std::alloc::Global;
+
+/// What an input is.
+#[derive(Drop)]
+pub enum Content {
+    /// One value, in AMF 3 or AMF 0.
+    Value(Rooted),
+    /// One packet.
+    Packet(Packet),
+    /// One shared object file.
+    File(SharedObject),
+}
+
+/// How many nodes the root of a value leads to, added over the values of a packet; of a file those of the graph whose root
+/// holds the pairs.
+pub fn node_count(alloc: Global, content: &Content) -> Result<u128, Memory>
+    ensures { IfOk result (λ nodes. HasNodes (content_of content.now) nodes) }
+{
+    match content {
+        Content::Value(graph) => Ok(u128::from(count_nodes(alloc, graph)?)),
+        Content::Packet(packet) => count_packet_nodes(alloc, packet),
+        Content::File(file) => Ok(u128::from(count_nodes(alloc, file.holder())?)),
+    }
+}
+
+/// The listing of a value, of a packet or of a file.
+pub fn listing(alloc: Global, content: &Content) -> Result<Vec<u8>, Memory>
+    ensures { IfOk result (λ bytes. IsListed (content_of content.now) bytes.items) }
+{
+    let mut bytes = Vec::new(alloc);
+    match content {
+        Content::Value(graph) => show(alloc, graph, &mut bytes)?,
+        Content::Packet(packet) => show_packet(alloc, packet, &mut bytes)?,
+        Content::File(file) => show_file(alloc, file, &mut bytes)?,
+    }
+    Ok(bytes)
+}

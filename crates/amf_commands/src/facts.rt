@@ -1,0 +1,7 @@
+ghost use Rattle.amf_commands.specs.WorkedRuns.{RunRows};
+
+/// Worked facts of runs: what numbers among the words say, verdicts with a small limit and on two values, what fixes no verdict
+/// yet, and the lines of `check` and `gen`.
+pub fn run_rows()
+    ensures { RunRows }
+{}

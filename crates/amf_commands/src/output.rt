@@ -1,0 +1,120 @@
+ghost use Rattle.std.specs.Prelude.{◌≡◌, ◌+◌, ◌≤◌, length, true};
+ghost use Rattle.amf_commands.specs.declared.command.Command.TheVariants.{Canon};
+ghost use Rattle.amf_commands.specs.Commands.{goes_to};
+ghost use Rattle.amf_commands.specs.Input.{most, one, two};
+ghost use Rattle.amf_commands.specs.Run.{TakesInput, Makes, IsConverted, IsUnconverted, IsChecked, IsShown, IsCompared, ReadsInput, NeverLacks, OutputEnds, CountsReads, IsReadEnd, IsOutputEnd};
+ghost use Rattle.amf_commands.specs.Askable.{IsAskable};
+
+use crate::command::Command;
+use crate::content::{listing, node_count};
+use crate::format::Format;
+use crate::lines::count_line;
+use crate::making::measurement;
+use crate::reading::{read_content, read_graphs};
+use crate::run_end::RunEnd;
+use crate::spelling::{SpellEnd, spell};
+use amf_io::Source;
+use amf_iso::isomorphic;
+use std::alloc::Global;
+use std::hash::RandomState;
+
+/// The output of a command.
+pub fn output_of<I: Source>(
+    alloc: Global,
+    keys: Option<RandomState>,
+    command: Command,
+    input: &mut I,
+) -> Result<Vec<u8>, RunEnd>
+    requires { IsAskable command }
+    ensures reads { I.tells input.old → OutputEnds command (λ bytes. Makes command (I.left input.old) bytes.items) (I.left input.old) (I.left input.new) result }
+    ensures taken { I.tells input.old → length (I.left input.old) ≤ length (I.left input.new) + (most + 1) }
+    ensures counts { CountsReads (I.faults input.old) (I.faults input.new) result }
+    ensures ends { IsOutputEnd command result }
+    ensures untaken { (TakesInput command → ⊥) → input.new ≡ input.old }
+{
+    match command {
+        Command::Canon { from, to } => converted(alloc, keys, from, to, input),
+        Command::Check { from } => checked(alloc, keys, from, input),
+        Command::Show { from } => shown(alloc, keys, from, input),
+        Command::Same => comparison(alloc, keys, input),
+        Command::Gen { seed, size } => Ok(measurement(alloc, keys, seed, size)?),
+    }
+}
+
+/// The canonical spelling, in one format, of what the input is in another.
+fn converted<I: Source>(
+    alloc: Global,
+    keys: Option<RandomState>,
+    from: Format,
+    to: Format,
+    input: &mut I,
+) -> Result<Vec<u8>, RunEnd>
+    requires { goes_to from to ≡ true }
+    ensures reads { I.tells input.old → ReadsInput (one from) (IsUnconverted from to (I.left input.old)) (λ bytes. IsConverted from to (I.left input.old) bytes.items) (I.left input.old) (I.left input.new) result }
+    ensures taken { I.tells input.old → length (I.left input.old) ≤ length (I.left input.new) + (most + 1) }
+    ensures counts { CountsReads (I.faults input.old) (I.faults input.new) result }
+    ensures ends { IsOutputEnd (Canon from to) result }
+{
+    let content = match read_content(alloc, keys, from, input) {
+        Ok(content) => content,
+        Err(end) => return Err(end),
+    };
+    match spell(alloc, keys, to, &content) {
+        Ok(bytes) => Ok(bytes),
+        Err(SpellEnd::NoForm { value, lack }) => Err(RunEnd::NoForm { value, lack }),
+        Err(SpellEnd::Memory) => Err(RunEnd::NoMemory),
+    }
+}
+
+/// The line that says whether the two values that the input is are the same graph.
+fn comparison<I: Source>(
+    alloc: Global,
+    keys: Option<RandomState>,
+    input: &mut I,
+) -> Result<Vec<u8>, RunEnd>
+    ensures reads { I.tells input.old → ReadsInput two NeverLacks (λ line. IsCompared (I.left input.old) line.items) (I.left input.old) (I.left input.new) result }
+    ensures taken { I.tells input.old → length (I.left input.old) ≤ length (I.left input.new) + (most + 1) }
+    ensures counts { CountsReads (I.faults input.old) (I.faults input.new) result }
+    ensures ends { IsReadEnd result }
+{
+    let (left, right) = read_graphs(alloc, keys, input)?;
+    let line = if isomorphic(alloc, &left, &right)? {
+        b"same\n".as_slice()
+    } else {
+        b"different\n"
+    };
+    Ok(line.to_vec(alloc)?)
+}
+
+/// The line that says how many nodes the input has.
+fn checked<I: Source>(
+    alloc: Global,
+    keys: Option<RandomState>,
+    from: Format,
+    input: &mut I,
+) -> Result<Vec<u8>, RunEnd>
+    ensures reads { I.tells input.old → ReadsInput (one from) NeverLacks (λ line. IsChecked from (I.left input.old) line.items) (I.left input.old) (I.left input.new) result }
+    ensures taken { I.tells input.old → length (I.left input.old) ≤ length (I.left input.new) + (most + 1) }
+    ensures counts { CountsReads (I.faults input.old) (I.faults input.new) result }
+    ensures ends { IsReadEnd result }
+{
+    let content = read_content(alloc, keys, from, input)?;
+    let nodes = node_count(alloc, &content)?;
+    Ok(count_line(alloc, nodes)?)
+}
+
+/// The listing of what the input is.
+fn shown<I: Source>(
+    alloc: Global,
+    keys: Option<RandomState>,
+    from: Format,
+    input: &mut I,
+) -> Result<Vec<u8>, RunEnd>
+    ensures reads { I.tells input.old → ReadsInput (one from) NeverLacks (λ bytes. IsShown from (I.left input.old) bytes.items) (I.left input.old) (I.left input.new) result }
+    ensures taken { I.tells input.old → length (I.left input.old) ≤ length (I.left input.new) + (most + 1) }
+    ensures counts { CountsReads (I.faults input.old) (I.faults input.new) result }
+    ensures ends { IsReadEnd result }
+{
+    let content = read_content(alloc, keys, from, input)?;
+    Ok(listing(alloc, &content)?)
+}

@@ -1,0 +1,26 @@
+use Rattle.std.proofs.Common.{◌≡◌, ◌∙◌, ap, subst, None}
+use Rattle.flex_msgs.specs.declared.reply.FaultText.{FaultText}
+use Rattle.amf_plan.specs.Commands.{publish_spelled}
+use Rattle.amf_plan.specs.Did.{Stopped}
+use Rattle.amf_flex_replies.specs.Says.{Says}
+use Rattle.amf_plan.specs.Kept.{names_told}
+use Rattle.amf_plan.specs.Plan.{Plan}
+use Rattle.amf_plan.specs.Replies.{Context, context_of, Answer, error}
+use Rattle.amf_plan.proofs.Doing.{at_err, not_begun}
+use Rattle.amf_flex_replies.proofs.publishing.publish_nothing.Goals as goal
+
+pub returns-in_err-context-clause-stopped : goal.returns-in_err-context-clause-stopped
+returns-in_err-context-clause-stopped g c = at_err c.from_residual.result (not_begun g.O.Outside.handed g.met.O.Outside.hands_none (publish_spelled (names_told c.args.common.now) c.args.moment None) c.args.outside.now)
+
+pub returns-in_err-fault-clause-stopped : goal.returns-in_err-fault-clause-stopped
+returns-in_err-fault-clause-stopped g c = at_err c.from_residual-in_err-fault.result (not_begun g.O.Outside.handed g.met.O.Outside.hands_none (publish_spelled (names_told c.args.common.now) c.args.moment None) c.args.outside.now)
+
+pub returns-in_err-error-clause-stopped : goal.returns-in_err-error-clause-stopped
+returns-in_err-error-clause-stopped g c =
+    let same = ap (λ (k : Context). error k c.in_ok-fault.fault) c.in_ok-context.ensures.context ∙ ap (λ (f : FaultText). error (context_of (names_told c.args.common.now)) f) c.in_ok-fault.ensures.cause in
+    at_err c.from_residual-in_err-error.result (subst (λ (p : Plan Answer). Stopped g.O.Outside.handed p c.args.outside.now c.error.new.outside) same c.in_err-error.ensures.stopped)
+
+pub returns-clause-says : goal.returns-clause-says
+returns-clause-says g c =
+    let same = ap (λ (k : Context). error k c.in_ok-fault.fault) c.in_ok-context.ensures.context ∙ ap (λ (f : FaultText). error (context_of (names_told c.args.common.now)) f) c.in_ok-fault.ensures.cause in
+    subst (λ (p : Plan Answer). Says g.O.Outside.handed p c.args.outside.now c.error.new.outside c.in_ok-error.field-0) same c.in_ok-error.ensures.says

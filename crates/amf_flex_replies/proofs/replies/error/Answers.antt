@@ -1,0 +1,14 @@
+use Rattle.std.proofs.Common.{◌≡◌, IfOk}
+use Rattle.std.proofs.lemmas.Result.{IfOk-weaker}
+use Rattle.amf_plan.specs.Kept.{context_in}
+use Rattle.amf_plan.specs.Replies.{error}
+use Rattle.amf_plan.proofs.Doing.{at_err, not_begun}
+use Rattle.amf_flex_replies.proofs.Erring.{error_says}
+use Rattle.amf_flex_replies.proofs.replies.error.Goals as goal
+
+pub returns-in_err-empty-clause-stopped : goal.returns-in_err-empty-clause-stopped
+returns-in_err-empty-clause-stopped g c = at_err c.from_residual.result (not_begun g.O.Outside.handed g.met.O.Outside.hands_none (error (context_in c.args.context.now) c.args.fault.now) c.args.outside.now)
+
+pub returns-clause-says : goal.returns-clause-says
+returns-clause-says g c =
+    IfOk-weaker c.failed.result _ _ (λ x a. error_says g.O.Outside.handed g.met.O.Outside.hands_none g.met.O.Outside.hands_both (context_in c.args.context.now) c.args.fault.now c.in_ok-empty.empty _ _ c.in_ok-reply.reply x c.in_ok-empty.ensures c.in_ok-reply.ensures.ran a) c.failed.ensures

@@ -1,0 +1,70 @@
+//! How a CommandMessage is answered, by its operation.
+
+ghost use Rattle.std.specs.Prelude.{◌≤◌, IfOk, OnErr};
+ghost use Rattle.amf_graph.specs.Bounds.{weight};
+ghost use Rattle.amf_graph.specs.Rooted.{content};
+ghost use Rattle.flex_msgs.specs.Asked.{IsCommon, told};
+ghost use Rattle.amf_plan.specs.Causes.{not_served as not_served_cause};
+ghost use Rattle.amf_plan.specs.Commands.{command as command_plan};
+ghost use Rattle.amf_plan.specs.Did.{Stopped};
+ghost use Rattle.amf_flex_replies.specs.Says.{Says};
+ghost use Rattle.amf_plan.specs.Kept.{CommonFits, names_told};
+ghost use Rattle.amf_plan.specs.Replies.{context_of, error as error_plan};
+
+use crate::commands::{disconnect, ping, subscribe, unsubscribe};
+use crate::polls::poll;
+use crate::replies::{FlexAnswer, error};
+use amf_graph::Rooted;
+use amf_plan::causes::not_served;
+use amf_plan::context::Context;
+use amf_plan::outside::{Outside, Unanswered};
+use flex_msgs::Common;
+use std::alloc::Global;
+
+/// Answers an operation that is not served.
+fn other<O: Outside>(
+    alloc: Global,
+    outside: &mut O,
+    common: &Common,
+) -> Result<FlexAnswer, Unanswered>
+    requires { CommonFits common.now }
+    ensures says { IfOk result (λ a. Says O.handed (error_plan (context_of (names_told common.now)) not_served_cause) outside.old outside.new a) }
+    ensures stopped { OnErr result (Stopped O.handed (error_plan (context_of (names_told common.now)) not_served_cause) outside.old outside.new) }
+{
+    let context = Context::of(alloc, common)?;
+    let fault = not_served(alloc)?;
+    Ok(error(alloc, outside, &context, &fault)?)
+}
+
+/// Answers a command by its operation.
+pub fn command<O: Outside>(
+    alloc: Global,
+    outside: &mut O,
+    graph: &Rooted,
+    common: &Common,
+    operation: i64,
+) -> Result<FlexAnswer, Unanswered>
+    requires common { IsCommon graph.now.arena common.now }
+    requires fits { CommonFits common.now }
+    requires light { weight graph.now.arena ≤ 1048576 }
+    requires ready { O.may_call outside.old }
+    ensures says { IfOk result (λ a. Says O.handed (command_plan (content graph.now) (told graph.now.arena common.now) operation) outside.old outside.new a) }
+    ensures stopped { OnErr result (Stopped O.handed (command_plan (content graph.now) (told graph.now.arena common.now) operation) outside.old outside.new) }
+{
+    if operation == 0 {
+        return subscribe(alloc, outside, common);
+    }
+    if operation == 1 {
+        return unsubscribe(alloc, outside, common);
+    }
+    if operation == 2 {
+        return poll(alloc, outside, graph, common);
+    }
+    if operation == 5 {
+        return ping(alloc, outside, common);
+    }
+    if operation == 12 {
+        return disconnect(alloc, outside, common);
+    }
+    other(alloc, outside, common)
+}

@@ -1,0 +1,142 @@
+//! How replies to Flex requests are written.
+
+ghost use Rattle.std.specs.Prelude.{◌≡◌, IfOk, OnErr};
+ghost use Rattle.amf_graph.specs.Graph.{Graph};
+ghost use Rattle.amf_graph.specs.Isomorphic.{Isomorphic};
+ghost use Rattle.amf_graph.specs.Rooted.{content};
+ghost use Rattle.amf_graph.specs.declared.value.Value.TheVariants.{Null};
+ghost use Rattle.flex_msgs.specs.Built.{IsReply, IsShortReply};
+ghost use Rattle.amf_plan.specs.Did.{Ran, Stopped};
+ghost use Rattle.amf_flex_replies.specs.Says.{AnswersFlex, Tells, Says};
+ghost use Rattle.amf_plan.specs.Kept.{context_in, Fits, ContextFits, FaultFits};
+ghost use Rattle.amf_plan.specs.Replies.{reply_with, fresh as fresh_plan, failed as failed_answer, answered as answered_plan, error as error_plan, acknowledge_null as acknowledge_null_plan};
+
+use amf_graph::{Rooted, Value, WriteEnd};
+use amf_plan::causes::no_form;
+use amf_plan::context::Context;
+use amf_plan::messages::{acknowledge_of, error_of};
+use amf_plan::numbers::identifier;
+use amf_plan::outside::Outside;
+use amf_wire::{Memory, Name};
+use amf3_write::write3_keyed;
+use flex_msgs::{FaultText, Reply};
+use std::alloc::Global;
+use std::hash::RandomState;
+
+/// What a Flex request is answered: a result or a status, and the graph of the message.
+#[derive(Drop)]
+pub struct FlexAnswer {
+    pub well: bool,
+    pub graph: Rooted,
+}
+
+/// A reply of these words and this moment. It gives up where there is no memory.
+fn reply_of(
+    alloc: Global,
+    context: &Context,
+    client: &Name,
+    high: u64,
+    low: u64,
+    moment: u64,
+) -> Result<Reply, Memory>
+    ensures { IfOk result (λ r. r ≡ reply_with (context_in context.now) client.now high low moment) }
+{
+    Ok(Reply {
+        body: Value::Null,
+        client: client.copy(alloc)?,
+        destination: context.destination.copy(alloc)?,
+        ds_id: context.ds_id.copy(alloc)?,
+        message: identifier(alloc, high, low)?,
+        moment,
+        correlation: context.correlation.copy(alloc)?,
+    })
+}
+
+/// A reply of fresh words and of the moment now. It gives up where there is no memory.
+pub fn fresh<O: Outside>(
+    alloc: Global,
+    outside: &mut O,
+    context: &Context,
+    client: &Name,
+) -> Result<Reply, Memory>
+    requires context { ContextFits (context_in context.now) }
+    requires client { Fits client.now }
+    ensures ran { IfOk result (λ r. Ran O.handed (fresh_plan (context_in context.now) client.now) outside.old outside.new r) }
+    ensures texts { IfOk result (λ r. IsReply r) }
+    ensures short { IfOk result (λ r. IsShortReply r) }
+    ensures body { IfOk result (λ r. r.body ≡ Null) }
+    ensures stopped { OnErr result (Stopped O.handed (fresh_plan (context_in context.now) client.now) outside.old outside.new) }
+{
+    let high = outside.word();
+    let low = outside.word();
+    let moment = outside.moment();
+    reply_of(alloc, context, client, high, low, moment)
+}
+
+/// The error with this cause in the place of a reply. It gives up where there is no memory.
+pub fn failed(alloc: Global, mut reply: Reply, fault: &FaultText) -> Result<FlexAnswer, Memory>
+    requires texts { IsReply reply }
+    requires short { IsShortReply reply }
+    requires fault { FaultFits fault.now }
+    ensures { IfOk result (λ a. AnswersFlex a (failed_answer reply fault.now)) }
+{
+    reply.client = Name::of_bytes(alloc, b"")?;
+    Ok(FlexAnswer {
+        well: false,
+        graph: error_of(alloc, &reply, fault)?,
+    })
+}
+
+/// The answer with this graph, or where it has no spelling the error that says so. It gives up where there is no memory.
+pub fn answered(
+    alloc: Global,
+    keys: Option<RandomState>,
+    reply: Reply,
+    graph: Rooted,
+) -> Result<FlexAnswer, Memory>
+    requires texts { IsReply reply }
+    requires short { IsShortReply reply }
+    ensures { IfOk result (λ a. (g : Graph) → Isomorphic g (content graph) → Tells (answered_plan reply g) a) }
+{
+    let mut bytes = Vec::new(alloc);
+    match write3_keyed(alloc, keys, &graph, &mut bytes) {
+        Ok(()) => Ok(FlexAnswer { well: true, graph }),
+        Err(WriteEnd::NoSpelling(_)) => failed(alloc, reply, &no_form(alloc)?),
+        Err(WriteEnd::Memory) => Err(Memory),
+    }
+}
+
+/// An error with a fresh reply's words and moment. It gives up where there is no memory.
+pub fn error<O: Outside>(
+    alloc: Global,
+    outside: &mut O,
+    context: &Context,
+    fault: &FaultText,
+) -> Result<FlexAnswer, Memory>
+    requires context { ContextFits (context_in context.now) }
+    requires fault { FaultFits fault.now }
+    ensures says { IfOk result (λ a. Says O.handed (error_plan (context_in context.now) fault.now) outside.old outside.new a) }
+    ensures stopped { OnErr result (Stopped O.handed (error_plan (context_in context.now) fault.now) outside.old outside.new) }
+{
+    let empty = Name::of_bytes(alloc, b"")?;
+    let reply = fresh(alloc, outside, context, &empty)?;
+    failed(alloc, reply, fault)
+}
+
+/// An acknowledge whose body is null. It gives up where there is no memory.
+pub fn acknowledge_null<O: Outside>(
+    alloc: Global,
+    outside: &mut O,
+    context: &Context,
+    client: &Name,
+) -> Result<FlexAnswer, Memory>
+    requires context { ContextFits (context_in context.now) }
+    requires client { Fits client.now }
+    ensures says { IfOk result (λ a. Says O.handed (acknowledge_null_plan (context_in context.now) client.now) outside.old outside.new a) }
+    ensures stopped { OnErr result (Stopped O.handed (acknowledge_null_plan (context_in context.now) client.now) outside.old outside.new) }
+{
+    let keys = outside.keys();
+    let reply = fresh(alloc, outside, context, client)?;
+    let graph = acknowledge_of(alloc, &reply)?;
+    answered(alloc, keys, reply, graph)
+}

@@ -1,6 +1,0 @@
-use Rattle.std.proofs.Common.{drop}
-use Rattle.amf_gateway.proofs.Reading.{AddedSo}
-use Rattle.amf_gateway.proofs.sync_messages.add_all.Given as goal
-
-abbrev pub invariant-loop-delivery : goal.invariant-loop-delivery
-invariant-loop-delivery l = AddedSo l.deliveries (drop l.delivery-index l.deliveries) l.all_stored l.batch l.delivery-index

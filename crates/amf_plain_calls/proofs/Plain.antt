@@ -1,0 +1,121 @@
+-- How plain calls are answered, by what is known of their parts.
+use Rattle.std.proofs.Common.{◌≡◌, true, false, List, Option, Some, None, refl, sym, subst}
+use Rattle.amf_graph.specs.Graph.{Graph}
+use Rattle.amf_graph.specs.Isomorphic.{Isomorphic}
+use Rattle.amf0_spelling.specs.declared.form.Form.{Form}
+use Rattle.amf0_spelling.specs.declared.form.Form.TheVariants.{Call, Amf3, Plain}
+use Rattle.amf_packet.specs.declared.body.Body.{Body as KeptBody}
+use Rattle.amf_packet.specs.Content.{body_of}
+use Rattle.amf_packet.specs.Packet.{Body}
+use Rattle.flex_msgs.specs.declared.reply.FaultText.{FaultText}
+use Rattle.amf_service.specs.Meaning.{Called, no_service, no_operation, given, result, fault}
+use Rattle.amf_service.specs.Registry.{Entry}
+use Rattle.amf_plain_calls.specs.declared.plain_call.MessageAnswer.{MessageAnswer}
+use Rattle.amf_plan.specs.Alike.{BodiesMatch}
+use Rattle.amf_plan.specs.Calls.{cause_of}
+use Rattle.amf_plain_calls.specs.TellsMessage.{TellsSpelled, LacksNothing, AnswersMessage, TellsMessage}
+use Rattle.amf_plan.specs.Causes as causes
+use Rattle.amf_plan.specs.Plan.{Plan, whole, lowered, gives}
+use Rattle.amf_plan.specs.PlainCalls.{Target, form_in_amf3, form_for, if_formed, if_array, answer_in, reply_form, failed, succeeded, outcome, arguments, call, plain_call, fault_graph}
+use Rattle.amf_plan.specs.Replies.{Answer}
+use Rattle.amf_plan.specs.Runs.{nothing, gave, Runs}
+use Rattle.amf_plan.specs.Serving.{none_left}
+use Rattle.amf_plan.proofs.Composed.{runs_then}
+use Rattle.amf_plain_calls.proofs.NoLacks.{fault_same, fault_lacks0, fault_lacks3}
+
+abbrev pub body_with : Form → Graph → Body
+body_with form g = record { form = form; graph = g }
+
+-- The form of a value.
+
+pub amf3_well : (g : Graph) → TellsSpelled whole g true → Runs (form_in_amf3 g) none_left nothing (gave (Some Amf3) none_left)
+amf3_well g t = (Some t.0, t.1, (refl, refl))
+
+pub amf3_badly : (g : Graph) → TellsSpelled whole g false → Runs (form_in_amf3 g) none_left nothing (gave None none_left)
+amf3_badly g t = (None, t, (refl, refl))
+
+pub plain_well : (g : Graph) → TellsSpelled lowered g true → Runs (form_for Plain g) none_left nothing (gave (Some Plain) none_left)
+plain_well g t = (Some t.0, t.1, (refl, refl))
+
+pub plain_badly : (g : Graph) (found : Option Form) → TellsSpelled lowered g false → Runs (form_in_amf3 g) none_left nothing (gave found none_left) → Runs (form_for Plain g) none_left nothing (gave found none_left)
+plain_badly g found t r = (None, t, r)
+
+-- Answers.
+
+-- an answer that is given at once
+pub told_at_once : (x : MessageAnswer) (y : Answer) → AnswersMessage x y → TellsMessage (gives y) x
+told_at_once x y is = record { answer = y; is = is; runs = (refl, refl) }
+
+fault_lacks : (form : Form) (f : FaultText) → LacksNothing (body_with (reply_form form) (fault_graph f))
+fault_lacks Call f = fault_lacks3 f
+fault_lacks Amf3 f = fault_lacks3 f
+fault_lacks Plain f = fault_lacks0 f
+
+-- the object of a fault in its form
+pub fault_is : (form : Form) (f : FaultText) (x : KeptBody) → body_of x ≡ body_with (reply_form form) (fault_graph f) → AnswersMessage (record { well = false; body = x }) (failed form f)
+fault_is form f x e = record {
+  well = refl;
+  body = subst (λ (z : Body). BodiesMatch (body_with (reply_form form) (fault_graph f)) z) (sym e) (record { form = refl; graph = fault_same f });
+  spelled = subst LacksNothing (sym e) (fault_lacks form f);
+}
+
+-- a result in the form that was found
+pub result_is : (found : Form) (g h : Graph) (x : KeptBody) → Isomorphic g h → LacksNothing (body_with found h) → body_of x ≡ body_with found h → AnswersMessage (record { well = true; body = x }) (answer_in true found g)
+result_is found g h x i lacks e = record {
+  well = refl;
+  body = subst (λ (z : Body). BodiesMatch (body_with found g) z) (sym e) (record { form = refl; graph = i });
+  spelled = subst LacksNothing (sym e) lacks;
+}
+
+pub told_formed : (form : Form) (g : Graph) (found : Option Form) (x : MessageAnswer) → Runs (form_for form g) none_left nothing (gave found none_left) → AnswersMessage x (if_formed form g found) → TellsMessage (succeeded form g) x
+told_formed form g found x runs is = record {
+  answer = if_formed form g found;
+  is = is;
+  runs = runs_then (form_for form g) (λ y. gives (if_formed form g y)) none_left none_left nothing nothing found (gave (if_formed form g found) none_left) runs (refl, refl);
+}
+
+same_cause : (a b : FaultText) → Some a ≡ Some b → b ≡ a
+same_cause a b e = cc
+
+told_cause : (form : Form) (f g : FaultText) (x : MessageAnswer) → Some g ≡ Some f → AnswersMessage x (failed form f) → TellsMessage (gives (failed form g)) x
+told_cause form f g x e is = told_at_once x (failed form g) (subst (λ (z : FaultText). AnswersMessage x (failed form z)) (same_cause g f e) is)
+
+-- a fault is answered, whatever it is of
+pub told_fault : (form : Form) (c : Called) (f : FaultText) (x : MessageAnswer) → cause_of c ≡ Some f → AnswersMessage x (failed form f) → TellsMessage (outcome form c) x
+told_fault form no_service f x e is = told_cause form f causes.no_service x e is
+told_fault form no_operation f x e is = told_cause form f causes.no_operation x e is
+told_fault form (given (fault y)) f x e is = told_cause form f (causes.service_fault y) x e is
+told_fault form (given (result g)) f x e is = absurd cc
+
+-- a result, whatever it is of
+pub told_result : (form : Form) (c : Called) (g : Graph) (x : MessageAnswer) → c ≡ given (result g) → TellsMessage (succeeded form g) x → TellsMessage (outcome form c) x
+told_result form c g x e t = subst (λ (z : Called). TellsMessage (outcome form z) x) (sym e) t
+
+-- Arguments.
+
+pub with_items : {X : Type 0} (services : List Entry) (form : Form) (t : Target) (g : Graph) (o : Option X) (y : X) (x : MessageAnswer) → o ≡ Some y → TellsMessage (call services form t (Some g)) x → TellsMessage (call services form t (if_array g o)) x
+with_items services form t g o y x e told = subst (λ z. TellsMessage (call services form t (if_array g z)) x) (sym e) told
+
+pub without_items : {X : Type 0} (services : List Entry) (form : Form) (t : Target) (g : Graph) (o : Option X) (x : MessageAnswer) → o ≡ None → AnswersMessage x (failed form causes.bad_message) → TellsMessage (call services form t (if_array g o)) x
+without_items services form t g o x e is = subst (λ z. TellsMessage (call services form t (if_array g z)) x) (sym e) (told_at_once x (failed form causes.bad_message) is)
+
+abbrev pub of_body : List Entry → Target → KeptBody → Plan Answer
+of_body services t b = call services (body_of b).form t (arguments (body_of b).form (body_of b).graph)
+
+pub with_body : (services : List Entry) (t : Target) (b d : KeptBody) (x : MessageAnswer) → b ≡ d → TellsMessage (of_body services t d) x → TellsMessage (of_body services t b) x
+with_body services t b d x e told = subst (λ (z : KeptBody). TellsMessage (of_body services t z) x) (sym e) told
+
+-- Targets.
+
+pub with_target : (services : List Entry) (b : Body) (o : Option Target) (t : Target) (x : MessageAnswer) → o ≡ Some t → TellsMessage (plain_call services b (Some t)) x → TellsMessage (plain_call services b o) x
+with_target services b o t x e told = subst (λ (z : Option Target). TellsMessage (plain_call services b z) x) (sym e) told
+
+pub without_target : (services : List Entry) (b : Body) (o : Option Target) (x : MessageAnswer) → o ≡ None → AnswersMessage x (failed b.form causes.no_service) → TellsMessage (plain_call services b o) x
+without_target services b o x e is = subst (λ (z : Option Target). TellsMessage (plain_call services b z) x) (sym e) (told_at_once x (failed b.form causes.no_service) is)
+
+-- what is found is the very form
+pub in_some : {X : Type 0} (P : X → Type 0) (x y : X) → Some x ≡ Some y → P x → P y
+in_some P x y e p = let same : x ≡ y = cc in subst P same p
+
+abbrev pub RunsAs : Form → Graph → Option Form → Type 0
+RunsAs f x found = (g : Graph) → Isomorphic g x → Runs (form_for f g) none_left nothing (gave found none_left)

@@ -1,0 +1,13 @@
+use Rattle.std.proofs.Common.{◌≡◌, IfOk, subst}
+use Rattle.std.proofs.lemmas.Result.{IfOk-weaker}
+use Rattle.amf_service.specs.Meaning.{Called}
+use Rattle.amf_plan.specs.declared.calling.CallAnswer.{CallAnswer}
+use Rattle.amf_plan.specs.Calls.{ComesTo}
+use Rattle.amf_plain_calls.proofs.Plain.{told_fault, told_result}
+use Rattle.amf_plain_calls.proofs.plain_call.outcome.Goals as goal
+
+pub returns-in-Gave : goal.returns-in-Gave
+returns-in-Gave c = IfOk-weaker c.succeeded.result _ _ (λ x h (d : Called) k. let r = subst (λ (z : CallAnswer). ComesTo d z) c.in-Gave.is k in told_result c.args.form d r.0 x r.1 (h r.0 r.2)) c.succeeded.ensures
+
+pub returns-in-Failed : goal.returns-in-Failed
+returns-in-Failed c = IfOk-weaker c.failed.result _ _ (λ x h (d : Called) k. told_fault c.args.form d c.in-Failed.fault x (subst (λ (z : CallAnswer). ComesTo d z) c.in-Failed.is k) h) c.failed.ensures
