@@ -126,8 +126,11 @@ fn very_many_nodes_that_are_compared(rt: HostRuntime) {
 
 /// The name of three digits and its length.
 fn push_name<R: Abort>(rt: &R, bytes: &mut Vec<u8>, name: u32) {
-    let [hundreds, tens, ones] = [name / 100, name / 10, name].map(digit);
-    push(rt, bytes, &[0x07, hundreds, tens, ones]);
+    push(
+        rt,
+        bytes,
+        &[0x07, digit(name / 100), digit(name / 10), digit(name)],
+    );
 }
 
 /// The last digit.
