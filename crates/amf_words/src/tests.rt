@@ -40,5 +40,5 @@ fn words_give_options(rt: HostRuntime) {
             rows = rows.saturating_add(1);
         }
     }
-    assert!(rt; rows == COUNT, "{rows} rows");
+    assert!(rt; rows > 0 && rows == COUNT, "{rows} rows");
 }
