@@ -5,7 +5,7 @@ use Rattle.std.specs.List.{list_any}
 use Rattle.amf_broker.specs.declared.limits.TheConstants.{MAX_CLIENTS, MAX_SUBS}
 use Rattle.amf_broker.specs.declared.topic.Topic.{Topic}
 use Rattle.amf_broker.specs.State.{Board, Connection, Subscription}
-use Rattle.amf_broker.specs.Machine.{client_at, is_connected, at_client, queue_of, queue_in, ended_of, ended_in, last_of, last_in, kept_of, kept_in, kept_ended_of, kept_ended_in, places_of, connected, subscribed, new_client, advanced, sighted, seen_at, is_idle}
+use Rattle.amf_broker.specs.Machine.{client_at, is_connected, at_client, queue_of, queue_in, ended_of, ended_in, last_of, last_in, kept_of, kept_in, kept_ended_of, kept_ended_in, places_of, next_batch, connected, subscribed, new_client, advanced, sighted, seen_at, is_idle}
 use Rattle.amf_broker.specs.Memory.{nobody}
 use Rattle.amf_broker.specs.Moments.{clients_left, subs_left}
 use Rattle.amf_broker.specs.Sound.{IsSound}
@@ -65,6 +65,9 @@ module _ (m : ℕ) (ks : List ℕ) (b : Board) where
 
   pub ended-here : (j : ℕ) → is_connected j (advanced m ks b).clients ≡ true → ended_of j b.clients ≡ ended_of j (advanced m ks b).clients
   ended-here j here = ap ended_in (sym (client-here j here))
+
+  pub reply-here : (j : ℕ) → is_connected j (advanced m ks b).clients ≡ true → (number : ℕ) → (next_batch b j number).0 ≡ (next_batch (advanced m ks b) j number).0
+  reply-here j here number = rw (queue-here j here, ended-here j here) refl
 
   pub kept-here : (j : ℕ) → is_connected j (advanced m ks b).clients ≡ true → kept_of j b.clients ≡ kept_of j (advanced m ks b).clients
   kept-here j here = ap kept_in (sym (client-here j here))

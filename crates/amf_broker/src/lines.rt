@@ -10,7 +10,8 @@ ghost use Rattle.amf_broker.specs.Trims.{is_kept};
 
 use crate::ended::Ended;
 use crate::log::{
-    Log, Post, call_up, drop_sub, drop_subs, enlist, is_kept, members_of, part_all, put_up, unheard,
+    Log, call_up, drop_sub, drop_subs, enlist, is_kept, members_of, part_all, put_up_message,
+    unheard,
 };
 use crate::mailbox::{Mailbox, has_idle, idle_among, place_in_order, queued, staying};
 use crate::member::{Member, hand_round, seat_of};
@@ -18,7 +19,7 @@ use crate::merge::{remains, remains_sub, shared, waiting_for};
 use crate::moment::is_in;
 use crate::place::{Place, is_live, live_of};
 use crate::room::Room;
-use crate::{ClientId, Deliveries, MAX_CLIENTS, Payload, SubId, SubIds, Topic};
+use crate::{ClientId, Deliveries, MAX_CLIENTS, SubId, SubIds, Topic};
 use amf_wire::{Memory, Name};
 use std::alloc::Global;
 use std::marker::Model;
@@ -164,8 +165,8 @@ impl Lines {
         ensures err { OnErr result (self.new ≡ self.old) }
     {
         let id = ClientId(self.next_client);
-        let mailbox = Mailbox::new(alloc, id, present)?;
         self.clients.reserve(1)?;
+        let mailbox = Mailbox::new(alloc, id, present)?;
         leave(&mut self.clients, &mut self.places, &mut self.logs, left);
         self.clients.push(mailbox).unwrap();
         self.next_client += 1;
@@ -223,8 +224,7 @@ impl Lines {
     {
         let number = self.next_message;
         let ended = Vec::with_capacity(alloc, members_of(&self.logs, topic).len())?;
-        let post = Post::new(number, Payload::new(alloc, message)?);
-        put_up(&mut self.logs, topic, post)?;
+        put_up_message(alloc, &mut self.logs, topic, number, message)?;
         leave(&mut self.clients, &mut self.places, &mut self.logs, left);
         let members = members_of(&self.logs, topic);
         let ended = hand_round(members, &mut self.clients, ended);

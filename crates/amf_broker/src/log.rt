@@ -274,7 +274,7 @@ pub(crate) fn unheard(logs: &[Log]) -> usize {
 }
 
 /// The message comes to the back of the log of its topic, if someone listens to that.
-pub(crate) fn put_up(logs: &mut Vec<Log>, topic: &Topic, post: Post) -> Result<(), Memory>
+fn put_up(logs: &mut Vec<Log>, topic: &Topic, post: Post) -> Result<(), Memory>
     ensures ok { OnOk result (logs.new.items ≡ posted_line topic.now post logs.old.items) }
     ensures err { OnErr result (logs.new.items ≡ logs.old.items) }
 {
@@ -283,6 +283,22 @@ pub(crate) fn put_up(logs: &mut Vec<Log>, topic: &Topic, post: Post) -> Result<(
         return log.push(post);
     }
     Ok(())
+}
+
+/// The message of this number comes to the back of the log of its topic, if someone listens to that.
+pub(crate) fn put_up_message(
+    alloc: Global,
+    logs: &mut Vec<Log>,
+    topic: &Topic,
+    number: u64,
+    message: Name,
+) -> Result<(), Memory>
+    ensures ok { OnOk result (logs.new.items ≡ posted_line topic.now (record { number = number; bytes = message }) logs.old.items) }
+    ensures err { OnErr result (logs.new.items ≡ logs.old.items) }
+{
+    let message = Payload::new(alloc, message)?;
+    let post = Post::new(number, message);
+    put_up(logs, topic, post)
 }
 
 /// These clients have left, and the others stand so.

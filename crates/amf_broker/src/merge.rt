@@ -37,6 +37,26 @@ fn put_in(queue: &mut Vec<Delivery>, delivery: Delivery) -> Result<(), Memory>
     Ok(())
 }
 
+/// The message as it waits for the subscription.
+fn delivery_of(place: &Place, post: &Post) -> Result<Delivery, Memory>
+    ensures { IfOk result (λ delivery. delivery ≡ delivered place.now.id post.now) }
+{
+    let message = post.message().share()?;
+    Ok(Delivery {
+        sub: place.id(),
+        number: post.number(),
+        message,
+    })
+}
+
+/// Puts the message, which waits for the subscription, among the others.
+fn put_post(queue: &mut Vec<Delivery>, place: &Place, post: &Post) -> Result<(), Memory>
+    ensures { OnOk result (queue.new.items ≡ put (delivered place.now.id post.now) queue.old.items) }
+{
+    let delivery = delivery_of(place, post)?;
+    put_in(queue, delivery)
+}
+
 /// Puts what waits for the subscription among the others.
 #[tactic(auto, using(crate::proofs::Merges::put_all_more))]
 fn put_covered(
@@ -49,12 +69,7 @@ fn put_covered(
 {
     for post in posts {
         if place.covers(post, next) {
-            let delivery = Delivery {
-                sub: place.id(),
-                number: post.number(),
-                message: post.message().share()?,
-            };
-            put_in(queue, delivery)?;
+            put_post(queue, place, post)?;
         }
     }
     Ok(())

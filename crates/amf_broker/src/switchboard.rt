@@ -230,17 +230,33 @@ impl Switchboard {
         ensures state { OnOk result (self.new ≡ (next_batch (board_at moment.now self.old) client number).1) }
         ensures err { OnErr result (self.new ≡ self.old) }
     {
-        let queue = self.lines.queue_of(alloc, client)?;
-        let deliveries = shared(alloc, queue.as_slice())?;
-        let ended = self.lines.ended_of(alloc, client)?;
         let room = Room::new(alloc)?;
+        let (queue, reply) = self.next_reply(alloc, client, number)?;
         self.advance(moment);
         self.keep(client, number, queue, room);
-        Ok(Reply::Numbered {
+        Ok(reply)
+    }
+
+    /// What is to be kept under the number, and the reply that hands it out.
+    fn next_reply(
+        &self,
+        alloc: Global,
+        client: ClientId,
+        number: u64,
+    ) -> Result<(Deliveries, Reply), Memory>
+        requires { is_connected client self.now.clients ≡ true }
+        ensures queue { IfOk result (λ next. next.0 ≡ queue_of client self.now.clients) }
+        ensures reply { IfOk result (λ next. next.1 ≡ (next_batch self.now client number).0) }
+    {
+        let ended = self.lines.ended_of(alloc, client)?;
+        let queue = self.lines.queue_of(alloc, client)?;
+        let deliveries = shared(alloc, queue.as_slice())?;
+        let reply = Reply::Numbered {
             number,
             deliveries,
             ended,
-        })
+        };
+        Ok((queue, reply))
     }
 
     /// Nothing waits for the client any more: what waited is kept under this number.

@@ -1,5 +1,5 @@
 -- The message comes to those that listen to its topic, once others have left.
-use Rattle.std.proofs.Common.{◌≡◌, ◌++◌, ◌∙◌, refl, ap, sym, map, length, take, drop, arith}
+use Rattle.std.proofs.Common.{◌≡◌, ◌++◌, ◌∙◌, ap, sym, map, length, take, drop, arith}
 use Rattle.amf_broker.specs.Sound.{are_in_order}
 use Rattle.amf_broker.specs.Lines.{waiters_left}
 use Rattle.amf_broker.specs.Members.{members_at, lines_without, line_without, waiters_after, ended_after, spans_ended, logs_of}
@@ -14,7 +14,7 @@ leave-requires-clause-rise c = c.self.invariant.kept.rise
 
 -- the lines with the message, once they have left
 logs : (c : After-leave) → c.leave.new.logs.items ≡ put_now _ _ _ _ _ c.self.invariant c.args.left.now c.args.topic.now c.args.message
-logs c = c.leave.ensures.logs ∙ ap (lines_without c.args.left.now (waiters_left c.args.left.now c.self.inside.clients.items)) (c.in_ok-put_up.ensures.ok ∙ rw (c.new-post.ensures, c.in_ok-new.ensures) refl)
+logs c = c.leave.ensures.logs ∙ ap (lines_without c.args.left.now (waiters_left c.args.left.now c.self.inside.clients.items)) c.in_ok-put_up_message.ensures.ok
 
 members : (c : After-leave) → members_at c.args.topic.now c.leave.new.logs.items ≡ listening _ _ _ _ _ c.self.invariant c.args.left.now c.args.topic.now c.args.message
 members c = ap (members_at c.args.topic.now) (logs c) ∙ listening-at _ _ _ _ _ c.self.invariant c.args.left.now c.args.topic.now c.args.message
@@ -51,7 +51,7 @@ invariant_of-ended c =
 -- What stands at the end.
 
 now : (c : After-end_all) → c.leave.new.logs.items ≡ put_now _ _ _ _ _ c.self.invariant c.args.left.now c.args.topic.now c.args.message
-now c = c.leave.ensures.logs ∙ ap (lines_without c.args.left.now (waiters_left c.args.left.now c.self.inside.clients.items)) (c.in_ok-put_up.ensures.ok ∙ rw (c.new-post.ensures, c.in_ok-new.ensures) refl)
+now c = c.leave.ensures.logs ∙ ap (lines_without c.args.left.now (waiters_left c.args.left.now c.self.inside.clients.items)) c.in_ok-put_up_message.ensures.ok
 
 heard : (c : After-end_all) → c.members_of-members.result.now ≡ listening _ _ _ _ _ c.self.invariant c.args.left.now c.args.topic.now c.args.message
 heard c = c.members_of-members.ensures ∙ (ap (members_at c.args.topic.now) (c.deref-2.ensures.value ∙ now c) ∙ listening-at _ _ _ _ _ c.self.invariant c.args.left.now c.args.topic.now c.args.message)
