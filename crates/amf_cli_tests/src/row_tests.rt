@@ -13,6 +13,22 @@ fn values_of_amf_3(rt: HostRuntime) {
 }
 
 #[test]
+fn nodes_of_amf_3(rt: HostRuntime) {
+    check_table(&rt, rt.alloc(), Trial::Ways, amf3::NODES, amf3::NODES_COUNT);
+}
+
+#[test]
+fn objects_of_amf_3(rt: HostRuntime) {
+    check_table(
+        &rt,
+        rt.alloc(),
+        Trial::Ways,
+        amf3::OBJECTS,
+        amf3::OBJECTS_COUNT,
+    );
+}
+
+#[test]
 fn pairs_of_amf_3(rt: HostRuntime) {
     check_table(&rt, rt.alloc(), Trial::Ways, amf3::PAIRS, amf3::PAIRS_COUNT);
 }

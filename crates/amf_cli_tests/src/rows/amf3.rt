@@ -1,8 +1,8 @@
 //! Values of AMF 3: their canonical spellings, and pairs of them that are compared.
 
-pub(crate) const VALUES_COUNT: usize = 44;
+pub(crate) const VALUES_COUNT: usize = 22;
 
-/// Single values, and words that say the same as `canon` alone.
+/// Values without nodes, and words that say the same as `canon` alone.
 pub(crate) static VALUES: &str = r"
 # Values without nodes.
 canon | 00 | 0 | 00 |
@@ -25,7 +25,16 @@ canon | 06 02 | 1 | | amf: refused BadTextIndex at 1
 canon | 06 07 66 | 1 | | amf: refused Truncated at 2
 canon | 06 03 FF | 1 | | amf: refused BadText at 2
 
-# Arrays and other nodes.
+# Words that say the same as the one word canon.
+canon | 01 | 0 | 01 |
+canon --from amf3 | 01 | 0 | 01 |
+canon --to=amf3 --from=amf3 | 01 | 0 | 01 |
+";
+
+pub(crate) const NODES_COUNT: usize = 13;
+
+/// Arrays and other nodes.
+pub(crate) static NODES: &str = r"
 canon | 09 01 01 | 0 | 09 01 01 |
 canon | 09 03 01 09 00 | 0 | 09 03 01 09 00 |
 canon | 09 05 01 09 01 01 09 02 | 0 | 09 05 01 09 01 01 09 02 |
@@ -39,8 +48,12 @@ canon | 11 03 00 04 01 06 03 'a' | 0 | 11 03 00 04 01 06 03 'a' |
 canon | 09 00 | 1 | | amf: refused BadReference at 1
 canon | 09 03 01 09 02 | 1 | | amf: refused BadReference at 4
 canon | 09 03 01 0A 00 | 1 | | amf: refused WrongKind at 4
+";
 
-# Objects.
+pub(crate) const OBJECTS_COUNT: usize = 9;
+
+/// Objects.
+pub(crate) static OBJECTS: &str = r"
 canon | 0A 0B 01 03 'b' 04 01 03 'a' 04 02 01 | 0 | 0A 0B 01 03 'a' 04 02 03 'b' 04 01 01 |
 canon | 0A 0B 01 03 'b' 09 01 01 03 'a' 09 02 01 | 0 | 0A 0B 01 03 'a' 09 01 01 03 'b' 09 02 01 |
 canon | 0A 03 03 'C' | 0 | 0A 03 03 'C' |
@@ -50,11 +63,6 @@ canon | 0A 0F 43 'flex.messaging.io.ArrayCollection' 09 01 01 | 0 | 0A 07 43 'fl
 canon | 0A 01 | 1 | | amf: refused BadTraits at 1
 canon | 0A 07 07 'foo' | 1 | | amf: refused UnknownExternal at 2
 canon | 0A 07 37 'aaaaaaaaaaaaaaaaaaaaaaaaaaa' | 1 | | amf: refused UnknownExternal at 3
-
-# Words that say the same as the one word canon.
-canon | 01 | 0 | 01 |
-canon --from amf3 | 01 | 0 | 01 |
-canon --to=amf3 --from=amf3 | 01 | 0 | 01 |
 ";
 
 pub(crate) const PAIRS_COUNT: usize = 20;
