@@ -46,6 +46,7 @@ fn started<R: RandomSource + Threads + Wait + Abort + Sync>(
     arguments: &Given,
     input: &[u8],
     status: u8,
+    number: usize,
 ) -> Ran {
     let mut source = MemorySource::new(alloc, input, 9, 0, &[]).expect(rt, "a source");
     let mut output = MemorySink::new(alloc, 9, &[]).expect(rt, "a sink");
@@ -63,7 +64,7 @@ fn started<R: RandomSource + Threads + Wait + Abort + Sync>(
         &OpenGate,
         &registry,
     );
-    holds(rt, exit == ExitCode::from(status), "an exit code");
+    holds_at(rt, exit == ExitCode::from(status), number, "an exit code");
     Ran {
         status,
         output,
@@ -85,7 +86,7 @@ pub(crate) fn check_started<R: RandomSource + Threads + Wait + Abort + Sync>(
         words: names_of(rt, alloc, words, number),
     };
     let input = bytes_of(rt, alloc, input, number);
-    let ran = started(rt, alloc, &arguments, &input, want.status);
+    let ran = started(rt, alloc, &arguments, &input, want.status, number);
     compare(rt, alloc, &ran, &want, number);
 }
 
