@@ -10,14 +10,16 @@ mod hostile_tests;
 #[cfg(test)]
 mod large_tests;
 #[cfg(test)]
-mod packet_tests;
+mod program;
 #[cfg(test)]
-mod real_tests;
+mod row_tests;
+#[cfg(test)]
+mod rows;
+#[cfg(test)]
+mod runs;
 #[cfg(test)]
 mod serve_tests;
 #[cfg(test)]
-mod sol_tests;
-#[cfg(test)]
 mod start_tests;
 #[cfg(test)]
-mod tests;
+mod table;

@@ -1,55 +1,44 @@
+mod rows;
+
 use crate::options::options_of;
-use std::alloc::Global;
-use std::test::Fail;
+use rows::{COUNT, ROWS};
+use std::alloc::{AllocError, Global};
+use std::process::Abort;
 
 static OPTIONS: [&str; 2] = ["from", "to"];
 
-/// What the words give `--from`, where they give options at all.
-fn from_of<'a>(alloc: Global, words: &'a [&'a str]) -> Result<Option<Option<&'a str>>, Fail> {
+/// The words of a row, of which `%` stands for the empty one.
+fn words_of<'a>(alloc: Global, text: &'a str) -> Result<Vec<&'a str>, AllocError> {
+    let mut words = Vec::new(alloc);
+    for word in text.split_whitespace() {
+        words.push(if word == "%" { "" } else { word })?;
+    }
+    Ok(words)
+}
+
+/// What the words give `--from`, as a row says it.
+fn from_of<'a>(alloc: Global, words: &'a [&'a str]) -> Result<&'a str, AllocError> {
     match options_of(alloc, "canon", OPTIONS.as_slice(), words)? {
-        Some(matches) => Ok(Some(matches.get_str("from"))),
-        None => Ok(None),
+        Some(matches) => Ok(matches.get_str("from").unwrap_or("no value")),
+        None => Ok("no options"),
     }
 }
 
+fn check_row<R: Abort>(rt: &R, alloc: Global, line: &str, number: usize) {
+    let (text, want) = line.split_once('|').expect(rt, "a bar");
+    let words = words_of(alloc, text).expect(rt, "room for words");
+    let given = from_of(alloc, &words).expect(rt, "room for options");
+    assert!(rt; given == want.trim(), "row at line {number}: {given}");
+}
+
 #[test]
-fn words_give_options(rt: HostRuntime) -> Result<(), Fail> {
-    let alloc = rt.alloc();
-    for words in [
-        ["--from", "a", "--to", "b"].as_slice(),
-        &["--to=b", "--from=a"],
-        &["--to", "b", "--from=a"],
-        &["--from=a"],
-    ] {
-        assert!(rt; from_of(alloc, words)? == Some(Some("a")));
+fn words_give_options(rt: HostRuntime) {
+    let mut rows = 0usize;
+    for (number, line) in ROWS.lines().enumerate() {
+        if !line.is_empty() && !line.starts_with('#') {
+            check_row(&rt, rt.alloc(), line, number);
+            rows = rows.saturating_add(1);
+        }
     }
-    for words in [[].as_slice(), &["--to="], &["--to", ""], &["--to=--from"]] {
-        assert!(rt; from_of(alloc, words)? == Some(None));
-    }
-    for words in [
-        [""].as_slice(),
-        &["-"],
-        &["--"],
-        &["x"],
-        &["help"],
-        &["--help"],
-        &["-h"],
-        &["-V"],
-        &["--from"],
-        &["--from", "-"],
-        &["--from", "--"],
-        &["--from", "-1"],
-        &["--from", "--to=b"],
-        &["--from", "a", "--from=a"],
-        &["--from=a", "--from", "a"],
-        &["--from", "a", "a"],
-        &["--from", "a", "--"],
-        &["--fro", "a"],
-        &["--From", "a"],
-        &["-from", "a"],
-        &["--=a"],
-    ] {
-        assert!(rt; from_of(alloc, words)?.is_none());
-    }
-    Ok(())
+    assert!(rt; rows > 0 && rows == COUNT, "{rows} rows");
 }
