@@ -1,4 +1,3 @@
-use crate::checks::holds;
 use amf_http::{HttpBuffer, next_request, write_response};
 use amf_io::{Clock, Dice, Front, Hall, TcpFront, TcpHall};
 use std::io::{Read, Write};
@@ -20,8 +19,7 @@ fn serves_over_loopback(rt: HostRuntime) -> Result<(), Fail> {
     let address = listener.local_addr()?;
     let mut hall = TcpHall::new(listener, rt);
     let mut client = TcpStream::connect(&rt, address)?;
-    let sent = client.write(REQUEST)?;
-    holds(&rt, sent == REQUEST.len(), "the request is sent");
+    assert_eq!(rt; client.write(REQUEST)?, REQUEST.len());
     let Ok(Some(link)) = hall.next() else {
         panic!(rt; "no link");
     };
@@ -30,7 +28,7 @@ fn serves_over_loopback(rt: HostRuntime) -> Result<(), Fail> {
     let Some(request) = next_request(alloc, &mut link, &mut buffer)? else {
         panic!(rt; "no request");
     };
-    holds(&rt, request.close, "the last request");
+    assert!(rt; request.close);
     write_response(
         alloc,
         &mut link,
@@ -41,9 +39,9 @@ fn serves_over_loopback(rt: HostRuntime) -> Result<(), Fail> {
     hall.back(link);
     let mut answer = Vec::new(alloc);
     client.read_to_end(&mut answer)?;
-    holds(&rt, answer.as_slice() == ANSWER, "the answer");
-    holds(&rt, hall.now() > 1_600_000_000_000, "the moment");
-    holds(&rt, hall.word() != hall.word(), "two words");
+    assert_eq!(rt; answer.as_slice(), ANSWER);
+    assert!(rt; hall.now() > 1_600_000_000_000);
+    assert!(rt; hall.word() != hall.word());
     Ok(())
 }
 
@@ -53,13 +51,12 @@ fn opens_a_hall_for_each_worker(rt: HostRuntime) -> Result<(), Fail> {
     let listener = TcpListener::bind(&rt, "127.0.0.1:0")?;
     let address = listener.local_addr()?;
     let mut front = TcpFront::new(rt);
-    let early = front.open(alloc, address.port(), 2);
-    holds(&rt, early.is_err(), "the address is taken");
+    assert!(rt; front.open(alloc, address.port(), 2).is_err());
     drop(listener);
     let Ok(halls) = front.open(alloc, address.port(), 2) else {
         panic!(rt; "no halls");
     };
-    holds(&rt, halls.len() == 2, "two halls");
+    assert_eq!(rt; halls.len(), 2);
     for hall in halls {
         front.back(hall);
     }

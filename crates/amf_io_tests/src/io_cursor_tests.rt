@@ -1,12 +1,8 @@
 ghost use Rattle.amf_io.specs.Cursor.{Counts};
 
-use crate::checks::{holds, holds_of};
-use crate::fields::{pieces, wrong};
 use amf_io::{Cursor, CursorEnd, FaultlessSource, MemorySource, Source, Window};
-use amf_rows::{Row, Table, Wrong};
 use std::alloc::Global;
 use std::process::Abort;
-use std::test::Fail;
 
 /// The first byte, with a cursor that is gone then. Where there is no memory for it, the source
 /// stays as it was.
@@ -42,67 +38,55 @@ fn parts<S: Source>(
 
 const BYTES: [u8; 6] = [7, 1, 2, 3, 4, 5];
 
-/// In which pieces the bytes come.
-const PIECES: &str = "65536 1 2 65536@1 65536@2 65536@3 65536@4 65536@5";
+/// In which pieces the bytes come: the most in one, and where one ends.
+static PIECES: [(usize, usize); 8] = [
+    (65536, 0),
+    (1, 0),
+    (2, 0),
+    (65536, 1),
+    (65536, 2),
+    (65536, 3),
+    (65536, 4),
+    (65536, 5),
+];
 
 /// A limit, how many bytes are taken behind the first, and how many there are and whether they are the last, or the end.
-static PARTS: Table = Table {
-    rows: 8,
-    fields: 3,
-    text: r"
-6 | 5 | 5 last
-9 | 5 | 5 last
-6 | 4 | 4 more
-5 | 4 | 4 more
-5 | 5 | too large
-0 | 0 | too large
-6 | 6 | ended
-7 | 6 | ended
-",
-};
-
-type Rest = Result<(usize, bool), CursorEnd>;
-
-fn rest_of(row: Row<'_>) -> Result<Rest, Wrong> {
-    match row.field(2)? {
-        "5 last" => Ok(Ok((5, true))),
-        "4 more" => Ok(Ok((4, false))),
-        "too large" => Ok(Err(CursorEnd::TooLarge)),
-        "ended" => Ok(Err(CursorEnd::Ended)),
-        _ => Err(wrong(row, "no rest")),
-    }
-}
+static PARTS: [(u32, u32, Result<(usize, bool), CursorEnd>); 8] = [
+    (6, 5, Ok((5, true))),
+    (9, 5, Ok((5, true))),
+    (6, 4, Ok((4, false))),
+    (5, 4, Ok((4, false))),
+    (5, 5, Err(CursorEnd::TooLarge)),
+    (0, 0, Err(CursorEnd::TooLarge)),
+    (6, 6, Err(CursorEnd::Ended)),
+    (7, 6, Err(CursorEnd::Ended)),
+];
 
 /// The bytes behind the first, and whether they are the last.
-fn rest(rt: &impl Abort, alloc: Global, pieces: (usize, usize), limit: u32, n: u32) -> Rest {
+fn rest(
+    rt: &impl Abort,
+    alloc: Global,
+    pieces: (usize, usize),
+    limit: u32,
+    n: u32,
+) -> Result<(usize, bool), CursorEnd> {
     let made = FaultlessSource::new(alloc, &BYTES, pieces.0, pieces.1);
     let mut source = made.expect(rt, "a source");
     let (byte, out, ended, at) = parts(alloc, &mut source, limit, n)?;
-    holds(rt, byte == 7, "the first byte");
-    holds(rt, at as usize == out.len().wrapping_add(1), "the place");
-    holds(rt, BYTES[1..].starts_with(&out), "the bytes behind");
+    assert_eq!(rt; byte, 7);
+    assert_eq!(rt; at as usize, out.len().wrapping_add(1));
+    assert!(rt; BYTES[1..].starts_with(&out));
     Ok((out.len(), ended))
 }
 
-fn ask_rest(rt: &impl Abort, alloc: Global, row: Row<'_>) -> Result<usize, Wrong> {
-    let want = rest_of(row)?;
-    let mut count = 0usize;
-    for word in PIECES.split_whitespace() {
-        let (most, cut) = pieces(word)?;
-        let got = rest(rt, alloc, (most, cut), row.number(0)?, row.number(1)?);
-        holds_of(rt, row, cut, got == want);
-        count = count.wrapping_add(1);
-    }
-    Ok(count)
-}
-
 #[test]
-fn gives_the_same_in_any_pieces(rt: HostRuntime) -> Result<(), Fail> {
-    for row in PARTS.rows(rt.alloc())? {
-        let count = ask_rest(&rt, rt.alloc(), row)?;
-        holds(&rt, count == 8, "pieces");
+fn gives_the_same_in_any_pieces(rt: HostRuntime) {
+    for pieces in PIECES.iter() {
+        for (limit, n, want) in PARTS.iter() {
+            let got = rest(&rt, rt.alloc(), *pieces, *limit, *n);
+            assert_eq!(rt; got, *want, "{pieces:?}, limit {limit}, {n} bytes");
+        }
     }
-    Ok(())
 }
 
 /// The first byte where a read fails, and how many faults there were then.
@@ -116,9 +100,8 @@ fn first_where(rt: &impl Abort, alloc: Global, failing: u64) -> (Result<u8, Curs
 #[test]
 fn tells_faults(rt: HostRuntime) {
     let alloc = rt.alloc();
-    let failed = first_where(&rt, alloc, 0);
-    holds(&rt, failed == (Err(CursorEnd::ReadFault), 1), "a fault");
-    holds(&rt, first_where(&rt, alloc, 1) == (Ok(7), 0), "no fault");
+    assert_eq!(rt; first_where(&rt, alloc, 0), (Err(CursorEnd::ReadFault), 1));
+    assert_eq!(rt; first_where(&rt, alloc, 1), (Ok(7), 0));
 }
 
 #[test]
@@ -126,13 +109,9 @@ fn loses_nothing_at_a_failed_read(rt: HostRuntime) {
     let alloc = rt.alloc();
     let made = MemorySource::new(alloc, &[7, 8, 9], 1, 0, &[0, 2]);
     let mut source = made.expect(&rt, "a source");
-    for want in [
-        Err(CursorEnd::ReadFault),
-        Ok(7),
-        Err(CursorEnd::ReadFault),
-        Ok(8),
-    ] {
-        holds(&rt, first(alloc, &mut source) == want, "a read");
-    }
-    holds(&rt, source.faults() == 2, "the faults");
+    assert_eq!(rt; first(alloc, &mut source), Err(CursorEnd::ReadFault));
+    assert_eq!(rt; first(alloc, &mut source), Ok(7));
+    assert_eq!(rt; first(alloc, &mut source), Err(CursorEnd::ReadFault));
+    assert_eq!(rt; first(alloc, &mut source), Ok(8));
+    assert_eq!(rt; source.faults(), 2);
 }

@@ -2,7 +2,6 @@ ghost use Rattle.std.specs.Prelude.{All, IfOk};
 ghost use Rattle.amf_io.specs.Dial.{IsFresh};
 ghost use Rattle.amf_io.specs.InMemory.{failures, sink_failures};
 
-use crate::checks::holds;
 use amf_io::{
     Dial, FaultlessDial, FaultlessLink, FaultlessSink, FaultlessSource, Joined, Link, MemoryDial,
     MemoryLink, MemorySink, MemorySource, OpenEnd, TcpDial,
@@ -13,6 +12,10 @@ use std::io::{Read, Write};
 use std::net::TcpListener;
 use std::process::Abort;
 use std::test::Fail;
+
+fn holds(rt: &impl Abort, right: bool, label: &str) {
+    assert!(rt; right, "{label}");
+}
 
 /// A link that gives one byte, and whose second read fails.
 fn link(alloc: Global, byte: u8) -> Result<MemoryLink, Memory>

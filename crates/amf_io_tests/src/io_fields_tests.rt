@@ -1,3 +1,6 @@
+ghost use Rattle.std.specs.Prelude.{◌≤◌};
+ghost use Rattle.amf_io.specs.Cursor.{bound};
+
 use amf_io::{
     Cursor, CursorEnd, MemorySource, ReadEnd, Reason, Source, append_basic, append_exactly,
     append_field, append_raw, read_end, refused,
@@ -86,7 +89,9 @@ fn raised(alloc: Global) -> Result<(u8, u8, bool, u8, bool), ReadEnd> {
 }
 
 /// Two bytes, whether a third is too much, that byte once the limit is raised, and whether it was the last.
-fn read_past<S: Source>(cursor: &mut Cursor<'_, S>) -> Result<(u8, u8, bool, u8, bool), CursorEnd> {
+fn read_past<S: Source>(cursor: &mut Cursor<'_, S>) -> Result<(u8, u8, bool, u8, bool), CursorEnd>
+    requires { bound cursor.old ≤ 3 }
+{
     let first = cursor.byte()?;
     let second = cursor.byte()?;
     let past = cursor.byte() == Err(CursorEnd::TooLarge);

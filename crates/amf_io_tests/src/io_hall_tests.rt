@@ -1,6 +1,5 @@
 ghost use Rattle.std.specs.Prelude.{◌≡◌, length, IfOk};
 
-use crate::checks::holds;
 use amf_io::{
     Clock, Dice, Failed, FaultlessFront, FaultlessHall, FaultlessLink, FaultlessSink,
     FaultlessSource, Front, Gate, Hall, Joined, Link, MemoryFront, MemoryHall, MemoryLink,
@@ -44,47 +43,45 @@ fn faultless_hall(alloc: Global) -> Result<FaultlessHall<FaultlessLink>, Memory>
 fn a_link_fails_on_each_side_by_itself(rt: HostRuntime) {
     let mut link = link(rt.alloc(), 7).expect(&rt, "a link");
     let mut room = [0u8; 2];
-    holds(&rt, link.read(&mut room) == Ok(1), "one byte");
-    holds(&rt, room[0] == 7, "the byte");
-    holds(&rt, link.write(b"ab") == Ok(1), "one is taken");
-    holds(&rt, link.read(&mut room) == Err(Failed), "a failed read");
-    holds(&rt, link.flush() == Err(Failed), "a failed flush");
-    holds(&rt, link.read(&mut room) == Ok(0), "the end");
-    holds(&rt, link.flush() == Ok(()), "a flush");
-    holds(&rt, link.source.faults() == 1, "faults of reads");
-    holds(&rt, link.sink.faults() == 1, "faults of writes");
-    holds(
-        &rt,
-        link.sink.as_bytes() == b"a".as_slice(),
-        "what was taken",
-    );
+    assert_eq!(rt; link.read(&mut room), Ok(1));
+    assert_eq!(rt; room[0], 7);
+    assert_eq!(rt; link.write(b"ab"), Ok(1));
+    assert_eq!(rt; link.read(&mut room), Err(Failed));
+    assert_eq!(rt; link.flush(), Err(Failed));
+    assert_eq!(rt; link.read(&mut room), Ok(0));
+    assert_eq!(rt; link.flush(), Ok(()));
+    assert_eq!(rt; link.source.faults(), 1);
+    assert_eq!(rt; link.sink.faults(), 1);
+    assert_eq!(rt; link.sink.as_bytes(), b"a".as_slice());
 }
 
 #[test]
 fn a_hall_gives_its_links_in_order(rt: HostRuntime) {
     let mut hall = hall(rt.alloc()).expect(&rt, "a hall");
-    let told = [hall.now(), hall.word(), hall.now(), hall.word()];
-    holds(&rt, told == [5, 6, 0, 0], "moments and words");
+    assert_eq!(rt;
+        [hall.now(), hall.word(), hall.now(), hall.word()],
+        [5, 6, 0, 0]
+    );
     let mut room = [0u8; 1];
     for byte in [7u8, 8] {
         let mut next = hall.next();
         if byte == 8 {
-            holds(&rt, next.is_err(), "a failed call");
+            assert!(rt; next.is_err());
             next = hall.next();
         }
         let Ok(Some(link)) = next else {
             panic!(rt; "no link");
         };
         let mut link = link;
-        holds(&rt, link.read(&mut room) == Ok(1), "one byte");
-        holds(&rt, room[0] == byte, "the byte of the link");
+        assert_eq!(rt; link.read(&mut room), Ok(1));
+        assert_eq!(rt; room[0], byte);
         hall.back(link);
     }
-    holds(&rt, matches!(hall.next(), Ok(None)), "no more links");
-    holds(&rt, hall.served().len() == 2, "two links");
-    holds(&rt, hall.faults() == 1, "one fault");
+    assert!(rt; matches!(hall.next(), Ok(None)));
+    assert_eq!(rt; hall.served().len(), 2);
+    assert_eq!(rt; hall.faults(), 1);
     hall.back(link(rt.alloc(), 9).expect(&rt, "a link"));
-    holds(&rt, hall.served().len() == 2, "still two links");
+    assert_eq!(rt; hall.served().len(), 2);
 }
 
 /// A front of three halls, whose first call fails.
@@ -116,9 +113,9 @@ fn a_front_gives_a_hall_for_each_worker(rt: HostRuntime) {
                 let count = halls.len();
                 for hall in halls {
                     let mut hall = hall;
-                    holds(&rt, matches!(hall.next(), Ok(Some(_))), "a link");
+                    assert!(rt; matches!(hall.next(), Ok(Some(_))));
                     if workers == 2 {
-                        holds(&rt, hall.next().is_err(), "a failed call");
+                        assert!(rt; hall.next().is_err());
                     }
                     front.back(hall);
                 }
@@ -126,35 +123,38 @@ fn a_front_gives_a_hall_for_each_worker(rt: HostRuntime) {
             }
             Err(end) => Err(end),
         };
-        holds(&rt, got == want, "how many halls");
+        assert_eq!(rt; got, want);
     }
-    let asked = [(8080u16, 1u32), (8080, 2), (8080, 2), (8080, 1)];
-    holds(&rt, front.asked() == asked.as_slice(), "what was asked");
-    holds(&rt, front.returned().len() == 3, "what came back");
-    holds(&rt, front.faults() == 4, "the faults");
+    assert_eq!(rt;
+        front.asked(),
+        [(8080u16, 1u32), (8080, 2), (8080, 2), (8080, 1)].as_slice()
+    );
+    assert_eq!(rt; front.returned().len(), 3);
+    assert_eq!(rt; front.faults(), 4);
 }
 
 #[test]
 fn a_front_without_faults_serves_with_what_it_has(rt: HostRuntime) {
     let alloc = rt.alloc();
     let mut front = faultless_front(alloc).expect(&rt, "a front");
-    let two = front.open(alloc, 80, 2);
-    holds(&rt, matches!(two, Err(OpenEnd::Memory)), "no two halls");
+    assert!(rt; matches!(front.open(alloc, 80, 2), Err(OpenEnd::Memory)));
     let mut halls = front.open(alloc, 80, 1).expect(&rt, "a hall");
     let Some(hall) = halls.pop() else {
         panic!(rt; "no hall");
     };
     let mut hall = hall;
-    let told = [hall.now(), hall.word(), hall.now(), hall.word()];
-    holds(&rt, told == [5, 6, 0, 0], "moments and words");
+    assert_eq!(rt;
+        [hall.now(), hall.word(), hall.now(), hall.word()],
+        [5, 6, 0, 0]
+    );
     let Ok(Some(link)) = hall.next() else {
         panic!(rt; "no link");
     };
     hall.back(link);
-    holds(&rt, matches!(hall.next(), Ok(None)), "no more links");
-    holds(&rt, hall.served().len() == 1, "one link");
+    assert!(rt; matches!(hall.next(), Ok(None)));
+    assert_eq!(rt; hall.served().len(), 1);
     front.back(hall);
-    holds(&rt, front.returned().len() == 1, "one hall");
+    assert_eq!(rt; front.returned().len(), 1);
     OpenGate.before(0, 1);
     OpenGate.after(0, 1);
 }

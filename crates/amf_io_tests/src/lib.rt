@@ -2,17 +2,9 @@
 #![tactic(auto)]
 
 #[cfg(test)]
-mod checks;
-#[cfg(test)]
-mod fields;
-#[cfg(test)]
-mod http_firsts;
-#[cfg(test)]
-mod http_head_tests;
-#[cfg(test)]
-mod http_link_tests;
-#[cfg(test)]
 mod http_loopback_tests;
+#[cfg(test)]
+mod http_tests;
 #[cfg(test)]
 mod io_cursor_tests;
 #[cfg(test)]
