@@ -4,19 +4,18 @@ ghost use Rattle.amf_graph.specs.Arena.{Names};
 ghost use Rattle.amf_graph.specs.declared.value.Value.TheVariants.{Null};
 ghost use Rattle.flex_msgs.specs.Built.{IsReply};
 
-use crate::checks::{holds, is};
-use amf_fixtures::graph3;
 use amf_graph::{Builder, Rooted, Value};
-use amf_rows::{Row, Table};
+use amf_io::{Cursor, MemorySource};
+use amf_tables::Tables3;
 use amf_wire::Name;
+use amf3_read::read3;
 use flex_msgs::{
     Common, FaultText, Member, NotAMessage, Reply, Request, acknowledge, delivered, error,
     invalidate, is_stored, published, sync, view,
 };
-use std::alloc::{AllocError, Global};
+use std::alloc::Global;
 use std::fmt::Display;
 use std::process::Abort;
-use std::str;
 use std::test::Fail;
 
 /// A name of these characters.
@@ -32,6 +31,104 @@ fn finished(builder: Builder, root: Value) -> Result<Rooted, Fail>
 {
     let graph = builder.finish(root).ok().ok_or("an open node")?;
     Ok(graph)
+}
+
+/// The graph that these bytes of AMF 3 spell.
+fn graph_of(alloc: Global, bytes: &[u8]) -> Result<Rooted, Fail> {
+    let mut source = MemorySource::new(alloc, bytes, 1000, 0, &[])?;
+    let mut cursor = Cursor::new(alloc, &mut source, 1000)?;
+    let mut builder = Builder::new(alloc)?;
+    let mut tables = Tables3::new(alloc)?;
+    let Ok(root) = read3(alloc, &mut cursor, &mut builder, &mut tables) else {
+        return Err("no value")?;
+    };
+    Ok(builder.finish(root).ok().ok_or("an open node")?)
+}
+
+/// A piece of bytes of AMF 3.
+#[derive(Clone, Copy)]
+enum Piece<'a> {
+    Bytes(&'a [u8]),
+    /// A text, as names are spelled.
+    Name(&'a str),
+    /// A text that is a value.
+    Text(&'a str),
+}
+
+/// Spells a name of fewer than 64 bytes.
+fn spell(out: &mut Vec<u8>, text: &str) -> Result<(), Fail> {
+    if text.len() >= 64 {
+        return Err("a long text")?;
+    }
+    out.push(text.len() as u8 * 2 + 1)?;
+    out.extend_from_slice(text.as_bytes())?;
+    Ok(())
+}
+
+fn spell_piece(out: &mut Vec<u8>, piece: Piece<'_>) -> Result<(), Fail> {
+    match piece {
+        Piece::Bytes(bytes) => {
+            out.extend_from_slice(bytes)?;
+            Ok(())
+        }
+        Piece::Name(text) => spell(out, text),
+        Piece::Text(text) => {
+            out.push(0x06)?;
+            spell(out, text)
+        }
+    }
+}
+
+/// The graph that these pieces spell.
+fn spelled(alloc: Global, pieces: &[Piece<'_>]) -> Result<Rooted, Fail> {
+    let mut bytes = Vec::new(alloc);
+    for piece in pieces {
+        spell_piece(&mut bytes, *piece)?;
+    }
+    graph_of(alloc, &bytes)
+}
+
+/// A message of this class with one member, which is undefined.
+fn with_member<'t>(alloc: Global, class: &'t str, member: &'t str) -> Result<Rooted, Fail> {
+    spelled(
+        alloc,
+        &[
+            Piece::Bytes(&[0x0A, 0x0B]),
+            Piece::Name(class),
+            Piece::Name(member),
+            Piece::Bytes(&[0x00, 0x01]),
+        ],
+    )
+}
+
+/// A CommandMessage whose operation is 5 among the sealed members and 2 among the others.
+fn with_two_operations(alloc: Global) -> Result<Rooted, Fail> {
+    spelled(
+        alloc,
+        &[
+            Piece::Bytes(&[0x0A, 0x1B]),
+            Piece::Name("flex.messaging.messages.CommandMessage"),
+            Piece::Name("operation"),
+            Piece::Bytes(&[0x04, 5]),
+            Piece::Name("operation"),
+            Piece::Bytes(&[0x04, 2, 0x01]),
+        ],
+    )
+}
+
+/// An AsyncMessage with headers that are an array of one name, which is undefined.
+fn with_header(alloc: Global, header: &str) -> Result<Rooted, Fail> {
+    spelled(
+        alloc,
+        &[
+            Piece::Bytes(&[0x0A, 0x0B]),
+            Piece::Name("flex.messaging.messages.AsyncMessage"),
+            Piece::Name("headers"),
+            Piece::Bytes(&[0x09, 0x01]),
+            Piece::Name(header),
+            Piece::Bytes(&[0x00, 0x01, 0x01]),
+        ],
+    )
 }
 
 /// What a message is told: its client, destination, DSId and identifier.
@@ -50,74 +147,140 @@ fn told(alloc: Global, texts: [&str; 4]) -> Result<Reply, Fail>
     })
 }
 
-/// Messages in AMF 3, and what they say, or why they are none.
-static MESSAGES: Table = Table {
-    rows: 16,
-    fields: 2,
-    text: r"
-# A member that is undefined.
-0A 0B 49 'flex.messaging.messages.AsyncMessage' 0F 'headers' 00 01 | headers is of another kind
-0A 0B 49 'flex.messaging.messages.AsyncMessage' 17 'destination' 00 01 | destination is of another kind
-0A 0B 49 'flex.messaging.messages.AsyncMessage' 13 'messageId' 00 01 | messageId is of another kind
-0A 0B 49 'flex.messaging.messages.AsyncMessage' 11 'clientId' 00 01 | clientId is of another kind
-0A 0B 49 'flex.messaging.messages.AsyncMessage' 1B 'correlationId' 00 01 | correlationId is of another kind
-0A 0B 49 'flex.messaging.messages.AsyncMessage' 13 'operation' 00 01 | async
-0A 0B 4D 'flex.messaging.messages.CommandMessage' 13 'operation' 00 01 | operation is of another kind
-0A 0B 4F 'flex.messaging.messages.RemotingMessage' 13 'operation' 00 01 | operation is of another kind
-# A header that is undefined.
-0A 0B 49 'flex.messaging.messages.AsyncMessage' 0F 'headers' 09 01 09 'DSId' 00 01 01 | DSId is of another kind
-0A 0B 49 'flex.messaging.messages.AsyncMessage' 0F 'headers' 09 01 15 'DSSubtopic' 00 01 01 | DSSubtopic is of another kind
-0A 0B 49 'flex.messaging.messages.AsyncMessage' 0F 'headers' 09 01 0B 'other' 00 01 01 | async
-# Commands.
-0A 8113 4D 'flex.messaging.messages.CommandMessage' 09 'body' 11 'clientId' 17 'destination' 0F 'headers' 13 'messageId' 15 'timeToLive' 13 'timestamp' 1B 'correlationId' 13 'operation' 01 01 06 01 0A 0B 01 09 'DSId' 06 07 'nil' 01 06 05 'm1' 04 00 05 0000000000000000 06 03 'c' 04 05 | command 5 of () to () by (nil) as (m1)
-0A 8113 4D 'flex.messaging.messages.CommandMessage' 09 'body' 11 'clientId' 17 'destination' 0F 'headers' 13 'messageId' 15 'timeToLive' 13 'timestamp' 1B 'correlationId' 13 'operation' 01 01 06 09 'chat' 0A 0B 01 09 'DSId' 06 03 '1' 01 06 05 'm2' 04 00 05 0000000000000000 06 03 'c' 04 00 | command 0 of () to (chat) by (1) as (m2)
-0A 8113 4D 'flex.messaging.messages.CommandMessage' 09 'body' 11 'clientId' 17 'destination' 0F 'headers' 13 'messageId' 15 'timeToLive' 13 'timestamp' 1B 'correlationId' 13 'operation' 01 01 06 01 0A 0B 01 09 'DSId' 06 03 '1' 01 06 05 'm4' 04 00 05 0000000000000000 06 03 'c' 04 02 | command 2 of () to () by (1) as (m4)
-# The operation is 5 among the sealed members and 2 among the others.
-0A 1B 4D 'flex.messaging.messages.CommandMessage' 13 'operation' 04 05 13 'operation' 04 02 01 | command 2 of () to () by () as ()
-# An array.
-09 01 01 | no object
-",
-};
+/// An object of nine sealed members, with the class and the names of a CommandMessage.
+const COMMAND: &[u8] = b"\x0A\x81\x13\x4Dflex.messaging.messages.CommandMessage\
+    \x09body\x11clientId\x17destination\x0Fheaders\x13messageId\
+    \x15timeToLive\x13timestamp\x1BcorrelationId\x13operation";
 
-/// The characters of a name.
-fn characters(name: &Name) -> &str {
-    str::from_utf8(name.as_bytes()).unwrap_or("?")
+/// A text that is a value, or null for the empty one.
+fn text_or_null(text: &str) -> Piece<'_> {
+    if text.is_empty() {
+        Piece::Bytes(&[0x01])
+    } else {
+        Piece::Text(text)
+    }
 }
 
-fn command_said(alloc: Global, operation: i64, common: &Common) -> Result<String, AllocError> {
-    let client = characters(&common.client);
-    let destination = characters(&common.destination);
-    let ds_id = characters(&common.ds_id);
-    let message = characters(&common.message);
-    format!(in alloc;
-        "command {operation} of ({client}) to ({destination}) by ({ds_id}) as ({message})"
+/// A CommandMessage.
+fn command(alloc: Global, operation: u8, texts: [&str; 4]) -> Result<Rooted, Fail> {
+    spelled(
+        alloc,
+        &[
+            Piece::Bytes(COMMAND),
+            Piece::Bytes(&[0x01]),
+            text_or_null(texts[0]),
+            Piece::Text(texts[1]),
+            Piece::Bytes(b"\x0A\x0B\x01\x09DSId"),
+            Piece::Text(texts[2]),
+            Piece::Bytes(&[0x01]),
+            Piece::Text(texts[3]),
+            Piece::Bytes(&[0x04, 0x00, 0x05, 0, 0, 0, 0, 0, 0, 0, 0]),
+            Piece::Text("c"),
+            Piece::Bytes(&[0x04, operation]),
+        ],
     )
 }
 
-/// What a graph says as a message, or why it is none.
-fn said(alloc: Global, graph: &Rooted) -> Result<String, AllocError> {
-    match view(alloc, graph) {
-        Ok(Request::Command { common, operation }) => command_said(alloc, operation, &common),
-        Ok(Request::Async { .. }) => String::from_str(alloc, "async"),
-        Ok(_) => String::from_str(alloc, "another request"),
-        Err(end) => format!(in alloc; "{end}"),
-    }
+/// Checks why a graph is no message, or that it is one.
+fn is_wrong(rt: &impl Abort, alloc: Global, graph: &Rooted, wrong: Option<Member>) {
+    let end = view(alloc, graph).err();
+    assert_eq!(rt; end, wrong.map(NotAMessage::WrongKind));
 }
 
-/// What the bytes of a row say.
-fn said_of(alloc: Global, row: Row<'_>) -> Result<String, Fail> {
-    let bytes = row.bytes(alloc, 0)?;
-    let graph = graph3(alloc, &bytes)?;
-    Ok(said(alloc, &graph)?)
+const ASYNC: &str = "flex.messaging.messages.AsyncMessage";
+
+/// Classes, each with a member that is undefined, and the member that is wrong.
+static MEMBERS: [(&str, &str, Option<Member>); 8] = [
+    (ASYNC, "headers", Some(Member::Headers)),
+    (ASYNC, "destination", Some(Member::Destination)),
+    (ASYNC, "messageId", Some(Member::MessageId)),
+    (ASYNC, "clientId", Some(Member::ClientId)),
+    (ASYNC, "correlationId", Some(Member::CorrelationId)),
+    (ASYNC, "operation", None),
+    (
+        "flex.messaging.messages.CommandMessage",
+        "operation",
+        Some(Member::Operation),
+    ),
+    (
+        "flex.messaging.messages.RemotingMessage",
+        "operation",
+        Some(Member::Operation),
+    ),
+];
+
+#[test]
+fn names_the_first_wrong_member(rt: HostRuntime) -> Result<(), Fail> {
+    for (class, member, wrong) in MEMBERS.iter() {
+        let graph = with_member(rt.alloc(), class, member)?;
+        is_wrong(&rt, rt.alloc(), &graph, *wrong);
+    }
+    Ok(())
+}
+
+/// Headers that are undefined, and the member that is wrong.
+static HEADERS: [(&str, Option<Member>); 3] = [
+    ("DSId", Some(Member::DsId)),
+    ("DSSubtopic", Some(Member::DsSubtopic)),
+    ("other", None),
+];
+
+#[test]
+fn names_the_first_wrong_header(rt: HostRuntime) -> Result<(), Fail> {
+    for (header, wrong) in HEADERS.iter() {
+        let graph = with_header(rt.alloc(), header)?;
+        is_wrong(&rt, rt.alloc(), &graph, *wrong);
+    }
+    Ok(())
+}
+
+/// Checks the texts of a message.
+fn has_texts(rt: &impl Abort, common: &Common, texts: [&str; 4]) {
+    assert_eq!(rt; common.client.as_bytes(), texts[0].as_bytes());
+    assert_eq!(rt; common.destination.as_bytes(), texts[1].as_bytes());
+    assert_eq!(rt; common.ds_id.as_bytes(), texts[2].as_bytes());
+    assert_eq!(rt; common.message.as_bytes(), texts[3].as_bytes());
+}
+
+/// Checks what a CommandMessage says.
+fn shows_command(
+    rt: &impl Abort,
+    alloc: Global,
+    graph: &Rooted,
+    operation: u8,
+    texts: [&str; 4],
+) -> Result<(), Fail> {
+    let Request::Command {
+        common,
+        operation: shown,
+    } = view(alloc, graph)?
+    else {
+        return Err("no command")?;
+    };
+    assert_eq!(rt; shown, i64::from(operation));
+    has_texts(rt, &common, texts);
+    Ok(())
+}
+
+static COMMANDS: [(u8, [&str; 4]); 3] = [
+    (5, ["", "", "nil", "m1"]),
+    (0, ["", "chat", "1", "m2"]),
+    (2, ["", "", "1", "m4"]),
+];
+
+#[test]
+fn views_commands(rt: HostRuntime) -> Result<(), Fail> {
+    for (operation, texts) in COMMANDS.iter() {
+        let graph = command(rt.alloc(), *operation, *texts)?;
+        shows_command(&rt, rt.alloc(), &graph, *operation, *texts)?;
+    }
+    Ok(())
 }
 
 #[test]
-fn views_messages(rt: HostRuntime) -> Result<(), Fail> {
-    for row in MESSAGES.rows(rt.alloc())? {
-        let got = said_of(rt.alloc(), row)?;
-        is(&rt, row, &got, row.field(1)?);
-    }
-    Ok(())
+fn views_the_last_operation(rt: HostRuntime) -> Result<(), Fail> {
+    let graph = with_two_operations(rt.alloc())?;
+    shows_command(&rt, rt.alloc(), &graph, 2, ["", "", "", ""])
 }
 
 /// A sync without messages.
@@ -155,36 +318,24 @@ fn failed(alloc: Global, texts: [&str; 4]) -> Result<Rooted, Fail> {
 
 const TEXTS: [&str; 4] = ["7", "chat", "1", "m"];
 
-/// Ends the test where a graph says something else.
-fn says(rt: &impl Abort, alloc: Global, graph: &Rooted, want: &str) -> Result<(), Fail> {
-    let got = said(alloc, graph)?;
-    holds(rt, got.as_str() == want, want);
-    Ok(())
-}
-
 #[test]
 fn syncs_are_messages(rt: HostRuntime) -> Result<(), Fail> {
     let graph = synced(rt.alloc(), TEXTS)?;
-    says(
-        &rt,
-        rt.alloc(),
-        &graph,
-        "command 4 of (7) to (chat) by (1) as (m)",
-    )?;
+    shows_command(&rt, rt.alloc(), &graph, 4, TEXTS)?;
     let graph = invalidated(rt.alloc(), TEXTS)?;
-    says(
-        &rt,
-        rt.alloc(),
-        &graph,
-        "command 10 of (7) to (chat) by (1) as (m)",
-    )
+    shows_command(&rt, rt.alloc(), &graph, 10, TEXTS)
+}
+
+/// Checks that a graph is a message that clients alone are sent.
+fn is_not_served(rt: &impl Abort, alloc: Global, graph: &Rooted) {
+    assert_eq!(rt; view(alloc, graph).err(), Some(NotAMessage::NotServed));
 }
 
 #[test]
 fn other_answers_are_not_served(rt: HostRuntime) -> Result<(), Fail> {
-    let want = "a class that is not served";
-    says(&rt, rt.alloc(), &acknowledged(rt.alloc(), TEXTS)?, want)?;
-    says(&rt, rt.alloc(), &failed(rt.alloc(), TEXTS)?, want)
+    is_not_served(&rt, rt.alloc(), &acknowledged(rt.alloc(), TEXTS)?);
+    is_not_served(&rt, rt.alloc(), &failed(rt.alloc(), TEXTS)?);
+    Ok(())
 }
 
 /// The message that is stored of an AsyncMessage.
@@ -233,42 +384,43 @@ fn client_of(alloc: Global, graph: &Rooted) -> Result<Name, Fail> {
     }
 }
 
-/// An AsyncMessage with headers that are an array.
-const PLAIN: &[u8] =
-    b"\x0A\x0B\x49flex.messaging.messages.AsyncMessage\x0Fheaders\x09\x01\x0Bother\x00\x01\x01";
-
-/// The stored message of an AsyncMessage, which is none itself.
-fn stored_message(rt: &impl Abort, alloc: Global) -> Result<Rooted, Fail> {
-    let graph = graph3(alloc, PLAIN)?;
-    holds(rt, !is_stored(&graph), "no stored message");
-    stored_of(alloc, &graph)
+/// The stored message of an AsyncMessage.
+fn stored_message(alloc: Global) -> Result<Rooted, Fail> {
+    stored_of(alloc, &with_header(alloc, "other")?)
 }
 
 #[test]
 fn stored_messages_are_delivered(rt: HostRuntime) -> Result<(), Fail> {
-    let stored = stored_message(&rt, rt.alloc())?;
+    let stored = stored_message(rt.alloc())?;
     let delivered = delivered_to(rt.alloc(), &stored, "9")?;
     let client = client_of(rt.alloc(), &delivered)?;
-    holds(&rt, client.as_bytes() == b"9".as_slice(), "the client");
+    assert_eq!(rt; client.as_bytes(), b"9".as_slice());
     Ok(())
 }
 
 #[test]
 fn syncs_have_stored_messages(rt: HostRuntime) -> Result<(), Fail> {
-    let stored = stored_message(&rt, rt.alloc())?;
+    let stored = stored_message(rt.alloc())?;
     let graph = synced_with(rt.alloc(), &stored, TEXTS)?;
-    says(
-        &rt,
-        rt.alloc(),
-        &graph,
-        "command 4 of (7) to (chat) by (1) as (m)",
-    )
+    shows_command(&rt, rt.alloc(), &graph, 4, TEXTS)
+}
+
+#[test]
+fn other_graphs_are_no_messages(rt: HostRuntime) -> Result<(), Fail> {
+    let graph = with_header(rt.alloc(), "other")?;
+    assert!(rt; !is_stored(&graph));
+    let graph = spelled(rt.alloc(), &[Piece::Bytes(&[0x09, 0x01, 0x01])])?;
+    assert_eq!(rt;
+        view(rt.alloc(), &graph).err(),
+        Some(NotAMessage::NotObject)
+    );
+    Ok(())
 }
 
 /// Looks at how an end or a member is told.
 fn is_told(rt: &impl Abort, alloc: Global, it: &impl Display, words: &str) -> Result<(), Fail> {
     let said = format!(in alloc; "{it}")?;
-    holds(rt, said.as_str() == words, words);
+    assert_eq!(rt; said.as_str(), words);
     Ok(())
 }
 

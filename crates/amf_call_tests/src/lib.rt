@@ -2,8 +2,6 @@
 #![tactic(auto)]
 
 #[cfg(test)]
-mod checks;
-#[cfg(test)]
 mod flex_tests;
 #[cfg(test)]
 mod service_tests;
