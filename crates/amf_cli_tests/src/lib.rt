@@ -10,16 +10,14 @@ mod hostile_tests;
 #[cfg(test)]
 mod large_tests;
 #[cfg(test)]
-mod program;
+mod packet_tests;
 #[cfg(test)]
-mod row_tests;
-#[cfg(test)]
-mod rows;
-#[cfg(test)]
-mod runs;
+mod real_tests;
 #[cfg(test)]
 mod serve_tests;
 #[cfg(test)]
+mod sol_tests;
+#[cfg(test)]
 mod start_tests;
 #[cfg(test)]
-mod table;
+mod tests;

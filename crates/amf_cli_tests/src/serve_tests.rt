@@ -1,20 +1,26 @@
-ghost use Rattle.std.specs.Prelude.{◌≡◌, length};
+ghost use Rattle.std.specs.Prelude.{◌≡◌, length, IfOk, All};
 
-use crate::program::run;
-use crate::runs::{Ran, compare};
-use crate::table::{Want, cut, holds, names_of, numbers_of, want_of};
+use amf_cli::run::run;
 use amf_io::{
     Gate, Joined, MemoryFront, MemoryHall, MemoryLink, MemorySink, MemorySource, OpenGate,
 };
 use amf_service::Registry;
+use amf_wire::{Memory, Name};
 use itoa::Buffer;
-use std::alloc::Global;
+use std::alloc::{AllocError, Global};
 use std::process::Abort;
 use std::random::RandomSource;
 use std::sync::Wait;
 use std::sync::atomic::{AtomicBool, AtomicU64, Ordering};
+use std::test::Fail;
 use std::thread;
 use std::thread::Threads;
+
+static ONE: [&str; 7] = ["serve", "--port", "0", "--workers", "1", "--each", "1"];
+
+static TWO_LINKS: [&str; 4] = ["serve", "--port=0", "--workers=1", "--each=2"];
+
+static TWO_WORKERS: [&str; 4] = ["serve", "--each=1", "--workers=2", "--port=0"];
 
 /// The front of a packet with one message of a Flex client, up to the body of its CommandMessage.
 const COMMAND: &[u8] =
@@ -36,52 +42,40 @@ enum Ask {
     Poll(u8),
 }
 
-/// Pushes the packet of a request.
-fn push_packet<R: Abort>(rt: &R, packet: &mut Vec<u8>, ask: Ask) {
+/// A request of a client.
+fn request(alloc: Global, ask: Ask) -> Result<Vec<u8>, AllocError> {
     let (front, client, operation) = match ask {
-        Ask::Connect => (COMMAND, None, b"\x04\x05".as_slice()),
-        Ask::Subscribe(client) => (COMMAND, Some(client), b"\x04\0".as_slice()),
-        Ask::Publish(client) => (PUBLISH, Some(client), b"".as_slice()),
-        Ask::Poll(client) => (COMMAND, Some(client), b"\x04\x02".as_slice()),
+        Ask::Connect => (COMMAND, b"\x07nil".to_vec(alloc)?, b"\x04\x05".as_slice()),
+        Ask::Subscribe(client) => (COMMAND, [3, client].to_vec(alloc)?, b"\x04\0".as_slice()),
+        Ask::Publish(client) => (PUBLISH, [3, client].to_vec(alloc)?, b"".as_slice()),
+        Ask::Poll(client) => (COMMAND, [3, client].to_vec(alloc)?, b"\x04\x02".as_slice()),
     };
-    push(rt, packet, front);
-    match client {
-        Some(client) => push(rt, packet, &[3, client]),
-        None => push(rt, packet, b"\x07nil"),
-    }
-    push(rt, packet, BACK);
-    push(rt, packet, operation);
-}
-
-fn push<R: Abort>(rt: &R, bytes: &mut Vec<u8>, more: &[u8]) {
-    bytes.extend_from_slice(more).expect(rt, "room for bytes");
-}
-
-/// Pushes a request of a client.
-fn push_request<R: Abort>(rt: &R, alloc: Global, bytes: &mut Vec<u8>, ask: Ask) {
-    let mut packet = Vec::new(alloc);
-    push_packet(rt, &mut packet, ask);
+    let mut packet = front.to_vec(alloc)?;
+    packet.extend_from_slice(&client)?;
+    packet.extend_from_slice(BACK)?;
+    packet.extend_from_slice(operation)?;
     let mut digits = Buffer::new();
-    push(
-        rt,
-        bytes,
+    let mut bytes = Vec::new(alloc);
+    bytes.extend_from_slice(
         b"POST /amf HTTP/1.1\r\nHost: h\r\nContent-Type: application/x-amf\r\nContent-Length: ",
-    );
-    push(rt, bytes, digits.format(packet.len()).as_bytes());
-    push(rt, bytes, b"\r\n\r\n");
-    push(rt, bytes, &packet);
+    )?;
+    bytes.extend_from_slice(digits.format(packet.len()).as_bytes())?;
+    bytes.extend_from_slice(b"\r\n\r\n")?;
+    bytes.extend_from_slice(&packet)?;
+    Ok(bytes)
 }
 
 /// A link with these requests.
-fn link<R: Abort>(rt: &R, alloc: Global, asks: &[Ask]) -> MemoryLink {
+fn link(alloc: Global, asks: &[Ask]) -> Result<MemoryLink, Memory> {
     let mut bytes = Vec::new(alloc);
     for ask in asks {
-        push_request(rt, alloc, &mut bytes, *ask);
+        let one = request(alloc, *ask)?;
+        bytes.extend_from_slice(&one)?;
     }
-    Joined {
-        source: MemorySource::new(alloc, &bytes, usize::MAX, 0, &[]).expect(rt, "a source"),
-        sink: MemorySink::new(alloc, usize::MAX, &[]).expect(rt, "a sink"),
-    }
+    Ok(Joined {
+        source: MemorySource::new(alloc, &bytes, usize::MAX, 0, &[])?,
+        sink: MemorySink::new(alloc, usize::MAX, &[])?,
+    })
 }
 
 /// The first four requests of a client.
@@ -93,51 +87,53 @@ static FIRST: [Ask; 4] = [
 ];
 
 /// A hall of links with these requests, whose calls of `next` with these numbers fail.
-fn hall<R: Abort>(
-    rt: &R,
-    alloc: Global,
-    links: &[&[Ask]],
-    failing: &[u64],
-) -> MemoryHall<MemoryLink>
-    ensures whole { result.failed ≡ 0 }
-    ensures fresh { length result.links.served.items ≡ 0 }
+fn hall(alloc: Global, links: &[&[Ask]], failing: &[u64]) -> Result<MemoryHall<MemoryLink>, Memory>
+    ensures whole { IfOk result (λ h. h.failed ≡ 0) }
+    ensures fresh { IfOk result (λ h. length h.links.served.items ≡ 0) }
 {
     let mut coming = Vec::new(alloc);
     for asks in links {
-        coming
-            .push(link(rt, alloc, asks))
-            .expect(rt, "room for a link");
+        coming.push(link(alloc, asks)?)?;
     }
-    MemoryHall::new(alloc, coming, &[], &[], failing).expect(rt, "a hall")
+    MemoryHall::new(alloc, coming, &[], &[], failing)
 }
 
 /// A front of one hall.
-fn front_of_one<R: Abort>(
-    rt: &R,
+fn front_of_one(
     alloc: Global,
     links: &[&[Ask]],
     failing: &[u64],
     failing_opens: &[u64],
-) -> MemoryFront<MemoryLink> {
-    let only = hall(rt, alloc, links, failing);
-    let halls = vec![in alloc; only].expect(rt, "room for a hall");
-    MemoryFront::new(alloc, halls, failing_opens).expect(rt, "a front")
+) -> Result<MemoryFront<MemoryLink>, Memory> {
+    let only = hall(alloc, links, failing)?;
+    MemoryFront::new(alloc, vec![in alloc; only]?, failing_opens)
 }
 
-/// Runs with `serve`, without services. No byte of the input is asked for.
+/// What a run gave.
+#[derive(Drop)]
+struct Ran {
+    status: u8,
+    output: MemorySink,
+    line: MemorySink,
+}
+
+/// Runs with `serve`, without services.
 fn serve<R: RandomSource + Threads + Wait + Abort + Sync, G: Gate>(
     rt: &R,
     alloc: Global,
-    words: &str,
+    words: &[&str],
     front: &mut MemoryFront<MemoryLink>,
     gate: &G,
     failing_writes: &[u64],
-) -> Ran {
-    let names = names_of(rt, alloc, words, 0);
+) -> Result<Ran, Fail> {
+    let mut names = Vec::new(alloc);
+    for word in words {
+        names.push(Name::from_bytes(alloc, word.as_bytes()).expect(rt, "a name"))?;
+    }
     let registry = Registry::new(alloc, Vec::new(alloc)).expect(rt, "a registry");
-    let mut input = MemorySource::new(alloc, b"", 1, 0, &[0]).expect(rt, "a source");
-    let mut output = MemorySink::new(alloc, 100, failing_writes).expect(rt, "a sink");
-    let mut line = MemorySink::new(alloc, 100, &[]).expect(rt, "a sink");
+    let mut input = MemorySource::new(alloc, b"", 1, 0, &[0])?;
+    let mut output = MemorySink::new(alloc, 100, failing_writes)?;
+    let mut line = MemorySink::new(alloc, 100, &[])?;
     let status = run(
         rt,
         alloc,
@@ -149,69 +145,84 @@ fn serve<R: RandomSource + Threads + Wait + Abort + Sync, G: Gate>(
         gate,
         &registry,
     );
-    Ran {
+    Ok(Ran {
         status,
         output,
         line,
-    }
-}
-
-/// What a run without an error gives.
-fn counted(output: &str) -> Want<'_> {
-    Want {
-        status: 0,
-        output,
-        line: "",
-    }
+    })
 }
 
 /// One worker, one link, and the input is not asked for a byte.
 #[test]
-fn serves_one_link(rt: HostRuntime) {
-    let mut front = front_of_one(&rt, rt.alloc(), &[&FIRST], &[], &[]);
-    let words = "serve --port 0 --workers 1 --each 1";
-    let ran = serve(&rt, rt.alloc(), words, &mut front, &OpenGate, &[]);
-    let want = counted("'calls 4 published 1 delivered 1 queued 0' 0A");
-    compare(&rt, rt.alloc(), &ran, &want, 0);
-    holds(
-        &rt,
-        front.asked() == [(0u16, 1u32)].as_slice(),
-        "asked of the front",
+fn serves_one_link(rt: HostRuntime) -> Result<(), Fail> {
+    let alloc = rt.alloc();
+    let mut front = front_of_one(alloc, &[&FIRST], &[], &[])?;
+    let ran = serve(&rt, alloc, ONE.as_slice(), &mut front, &OpenGate, &[])?;
+    assert_eq!(rt; ran.status, 0);
+    assert_eq!(rt;
+        ran.output.as_bytes(),
+        b"calls 4 published 1 delivered 1 queued 0\n".as_slice()
     );
-    holds(
-        &rt,
-        front.returned().len() == 1,
-        "halls that are given back",
-    );
+    assert_eq!(rt; ran.line.as_bytes(), b"".as_slice());
+    assert_eq!(rt; front.asked(), [(0u16, 1u32)].as_slice());
+    assert_eq!(rt; front.returned().len(), 1);
+    Ok(())
 }
 
-/// Two links of the same requests, with the faults of a row.
-pub(crate) fn check_served<R: RandomSource + Threads + Wait + Abort + Sync>(
-    rt: &R,
-    alloc: Global,
-    row: &str,
-    number: usize,
-) {
-    let (nexts, rest) = cut(rt, row, number);
-    let (opens, rest) = cut(rt, rest, number);
-    let (writes, rest) = cut(rt, rest, number);
-    let want = want_of(rt, rest, number);
-    let mut front = front_of_one(
-        rt,
-        alloc,
-        &[&FIRST, &FIRST],
-        &numbers_of(rt, alloc, nexts, number),
-        &numbers_of(rt, alloc, opens, number),
-    );
-    let ran = serve(
-        rt,
-        alloc,
-        "serve --port=0 --workers=1 --each=2",
-        &mut front,
-        &OpenGate,
-        &numbers_of(rt, alloc, writes, number),
-    );
-    compare(rt, alloc, &ran, &want, number);
+/// Fronts, halls and outputs that fail, as the failing calls of `next`, of `open` and of the output.
+#[test]
+fn serves_with_faults(rt: HostRuntime) -> Result<(), Fail> {
+    let alloc = rt.alloc();
+    for (next, open, write, status, output, line) in [
+        (
+            [].as_slice(),
+            [0u64].as_slice(),
+            [].as_slice(),
+            6,
+            b"".as_slice(),
+            b"amf: front fault\n".as_slice(),
+        ),
+        (
+            &[0],
+            &[],
+            &[],
+            6,
+            b"calls 0 published 0 delivered 0 queued 0\n",
+            b"amf: front fault\n",
+        ),
+        (
+            &[1],
+            &[],
+            &[],
+            6,
+            b"calls 4 published 1 delivered 1 queued 0\n",
+            b"amf: front fault\n",
+        ),
+        (
+            &[2],
+            &[],
+            &[],
+            0,
+            b"calls 8 published 2 delivered 3 queued 0\n",
+            b"",
+        ),
+        (&[], &[], &[0], 4, b"", b"amf: write fault\n"),
+        (&[1], &[], &[0], 4, b"", b"amf: write fault\n"),
+    ] {
+        let mut front = front_of_one(alloc, &[&FIRST, &FIRST], next, open)?;
+        let ran = serve(
+            &rt,
+            alloc,
+            TWO_LINKS.as_slice(),
+            &mut front,
+            &OpenGate,
+            write,
+        )?;
+        assert_eq!(rt; ran.status, status);
+        assert_eq!(rt; ran.output.as_bytes(), output);
+        assert_eq!(rt; ran.line.as_bytes(), line);
+    }
+    Ok(())
 }
 
 /// Holds calls until others are answered, so that two workers are at work at once. It gives up after 50,000,000 looks.
@@ -256,35 +267,36 @@ impl Gate for Turns {
 }
 
 /// A front of two halls, each of one link: client 2 subscribes and polls, and client 1 publishes.
-fn front_of_two<R: Abort>(rt: &R, alloc: Global) -> MemoryFront<MemoryLink> {
-    let listening = [Ask::Connect, Ask::Subscribe(b'2'), Ask::Poll(b'2')];
-    let publishing = [Ask::Connect, Ask::Publish(b'1'), Ask::Publish(b'1')];
-    let listens = hall(rt, alloc, &[&listening], &[]);
-    let publishes = hall(rt, alloc, &[&publishing], &[]);
-    let halls = vec![in alloc; listens, publishes].expect(rt, "room for halls");
-    MemoryFront::new(alloc, halls, &[]).expect(rt, "a front")
+fn front_of_two(alloc: Global) -> Result<MemoryFront<MemoryLink>, Memory> {
+    let listens = hall(
+        alloc,
+        &[&[Ask::Connect, Ask::Subscribe(b'2'), Ask::Poll(b'2')]],
+        &[],
+    )?;
+    let publishes = hall(
+        alloc,
+        &[&[Ask::Connect, Ask::Publish(b'1'), Ask::Publish(b'1')]],
+        &[],
+    )?;
+    MemoryFront::new(alloc, vec![in alloc; listens, publishes]?, &[])
 }
 
 #[test]
-fn two_workers_at_once(rt: HostRuntime) {
+fn two_workers_at_once(rt: HostRuntime) -> Result<(), Fail> {
+    let alloc = rt.alloc();
+    let mut front = front_of_two(alloc)?;
     let turns = Turns {
         first: AtomicU64::new(0),
         second: AtomicU64::new(0),
         gave_up: AtomicBool::new(false),
     };
-    let mut front = front_of_two(&rt, rt.alloc());
-    let words = "serve --each=1 --workers=2 --port=0";
-    let ran = serve(&rt, rt.alloc(), words, &mut front, &turns, &[]);
-    let want = counted("'calls 6 published 2 delivered 2 queued 0' 0A");
-    holds(
-        &rt,
-        !turns.gave_up.load(Ordering::SeqCst),
-        "calls that are awaited",
+    let ran = serve(&rt, alloc, TWO_WORKERS.as_slice(), &mut front, &turns, &[])?;
+    assert!(rt; !turns.gave_up.load(Ordering::SeqCst));
+    assert_eq!(rt; ran.status, 0);
+    assert_eq!(rt;
+        ran.output.as_bytes(),
+        b"calls 6 published 2 delivered 2 queued 0\n".as_slice()
     );
-    compare(&rt, rt.alloc(), &ran, &want, 0);
-    holds(
-        &rt,
-        front.returned().len() == 2,
-        "halls that are given back",
-    );
+    assert_eq!(rt; front.returned().len(), 2);
+    Ok(())
 }

@@ -1,6 +1,5 @@
-use crate::program::{Arguments, Environment, start, words_of};
-use crate::runs::{Ran, compare};
-use crate::table::{bytes_of, cut, holds, holds_at, names_of, want_of};
+use amf_cli::start::start;
+use amf_cli::{Arguments, Environment, words_of};
 use amf_io::{
     FaultlessFront, FaultlessLink, MemorySink, MemorySource, OpenGate, StandardError,
     StandardInput, StandardOutput,
@@ -9,16 +8,24 @@ use amf_service::Registry;
 use amf_wire::{Memory, Name};
 use std::alloc::Global;
 use std::env::FillError;
-use std::process::{Abort, ExitCode};
-use std::random::RandomSource;
+use std::process::ExitCode;
 use std::rt::Env;
-use std::sync::Wait;
-use std::thread::Threads;
+use std::test::Fail;
 
 /// Words in memory.
 #[derive(Drop)]
 struct Given {
     words: Vec<Name>,
+}
+
+impl Given {
+    fn new(alloc: Global, words: &[&[u8]]) -> Result<Given, Fail> {
+        let mut names = Vec::new(alloc);
+        for word in words {
+            names.push(Name::of_bytes(alloc, word)?)?;
+        }
+        Ok(Given { words: names })
+    }
 }
 
 impl Arguments for Given {
@@ -34,74 +41,66 @@ impl Arguments for Given {
     }
 }
 
-/// A front without halls.
-fn no_front<R: Abort>(rt: &R, alloc: Global) -> FaultlessFront<FaultlessLink> {
-    FaultlessFront::new(alloc, Vec::new(alloc)).expect(rt, "a front")
-}
-
-/// What `start` gives over streams in memory, where it gives this exit code.
-fn started<R: RandomSource + Threads + Wait + Abort + Sync>(
-    rt: &R,
-    alloc: Global,
-    arguments: &Given,
-    input: &[u8],
-    status: u8,
-    number: usize,
-) -> Ran {
-    let mut source = MemorySource::new(alloc, input, 9, 0, &[]).expect(rt, "a source");
-    let mut output = MemorySink::new(alloc, 9, &[]).expect(rt, "a sink");
-    let mut line = MemorySink::new(alloc, 100, &[]).expect(rt, "a sink");
-    let mut front = no_front(rt, alloc);
-    let registry = Registry::new(alloc, Vec::new(alloc)).expect(rt, "a registry");
-    let exit = start(
-        rt,
-        alloc,
-        arguments,
-        &mut source,
-        &mut output,
-        &mut line,
-        &mut front,
-        &OpenGate,
-        &registry,
-    );
-    holds_at(rt, exit == ExitCode::from(status), number, "an exit code");
-    Ran {
-        status,
-        output,
-        line,
+/// The exit code, the output and the error line, over streams in memory.
+#[test]
+fn starts_over_streams_in_memory(rt: HostRuntime) -> Result<(), Fail> {
+    let alloc = rt.alloc();
+    for (words, input, code, output, line) in [
+        (
+            [b"canon".as_slice(), b"--to=amf3"].as_slice(),
+            b"\x04\x80\x05".as_slice(),
+            0,
+            b"\x04\x05".as_slice(),
+            b"".as_slice(),
+        ),
+        (
+            &[b"canon"],
+            b"\x12",
+            1,
+            b"",
+            b"amf: refused BadMarker at 0\n",
+        ),
+        (&[b"same", b"canon"], b"\x01", 2, b"", b"amf: usage\n"),
+        (&[b"same", b"\xFF"], b"\x01", 2, b"", b"amf: usage\n"),
+        (&[], b"\x01", 2, b"", b"amf: usage\n"),
+    ] {
+        let arguments = Given::new(alloc, words)?;
+        let mut source = MemorySource::new(alloc, input, 9, 0, &[])?;
+        let mut sink = MemorySink::new(alloc, 9, &[])?;
+        let mut error = MemorySink::new(alloc, 100, &[])?;
+        let mut front: FaultlessFront<FaultlessLink> = FaultlessFront::new(alloc, Vec::new(alloc))?;
+        let registry = Registry::new(alloc, Vec::new(alloc)).expect(&rt, "a registry");
+        let exit = start(
+            &rt,
+            alloc,
+            &arguments,
+            &mut source,
+            &mut sink,
+            &mut error,
+            &mut front,
+            &OpenGate,
+            &registry,
+        );
+        assert_eq!(rt; exit, ExitCode::from(code));
+        assert_eq!(rt; sink.as_bytes(), output);
+        assert_eq!(rt; error.as_bytes(), line);
     }
-}
-
-/// The exit code, the output and the error line of a row, over streams in memory.
-pub(crate) fn check_started<R: RandomSource + Threads + Wait + Abort + Sync>(
-    rt: &R,
-    alloc: Global,
-    row: &str,
-    number: usize,
-) {
-    let (words, rest) = cut(rt, row, number);
-    let (input, rest) = cut(rt, rest, number);
-    let want = want_of(rt, rest, number);
-    let arguments = Given {
-        words: names_of(rt, alloc, words, number),
-    };
-    let input = bytes_of(rt, alloc, input, number);
-    let ran = started(rt, alloc, &arguments, &input, want.status, number);
-    compare(rt, alloc, &ran, &want, number);
+    Ok(())
 }
 
 /// The exit code over the real streams, of which the input is empty.
 #[test]
-fn starts_over_the_real_streams(rt: HostRuntime) {
-    let mut front = no_front(&rt, rt.alloc());
+fn starts_over_the_real_streams(rt: HostRuntime) -> Result<(), Fail> {
+    let mut front: FaultlessFront<FaultlessLink> = FaultlessFront::new(
+        rt.alloc(),
+        Vec::new(rt.alloc()),
+    )?;
     let registry = Registry::new(rt.alloc(), Vec::new(rt.alloc())).expect(&rt, "a registry");
-    for (word, code) in [("canon", 1), ("cannon", 2)] {
+    for (word, code) in [(b"canon".as_slice(), 1), (b"cannon", 2)] {
         let exit = start(
             &rt,
             rt.alloc(),
-            &Given {
-                words: names_of(&rt, rt.alloc(), word, 0),
-            },
+            &Given::new(rt.alloc(), &[word])?,
             &mut StandardInput::new(rt.stdin()),
             &mut StandardOutput::new(rt.stdout()),
             &mut StandardError::new(rt.stderr()),
@@ -109,8 +108,9 @@ fn starts_over_the_real_streams(rt: HostRuntime) {
             &OpenGate,
             &registry,
         );
-        holds(&rt, exit == ExitCode::from(code), word);
+        assert_eq!(rt; exit, ExitCode::from(code));
     }
+    Ok(())
 }
 
 /// An environment with these words, the program's name among them.
@@ -145,26 +145,16 @@ static WORDS: [&[u8]; 4] = [b"\xFF\xFE", b"canon", b"\xFF", &[120; 700]];
 
 /// The words behind a program's name that is not UTF-8.
 #[test]
-fn takes_words_from_an_environment(rt: HostRuntime) {
+fn takes_words_from_an_environment(rt: HostRuntime) -> Result<(), Fail> {
     for count in 0..5usize {
-        let words = WORDS.get(..count).unwrap_or(WORDS.as_slice());
-        let machine = Machine { words };
-        holds_at(
-            &rt,
-            is_taken(&rt, rt.alloc(), &machine),
-            count,
-            "words of an environment",
-        );
+        let machine = Machine {
+            words: &WORDS[..count.min(4)],
+        };
+        let words = words_of(rt.alloc(), &Environment::new(&machine))?;
+        assert_eq!(rt; words.len(), count.min(4).saturating_sub(1));
+        for (word, want) in words.iter().zip(WORDS.iter().skip(1)) {
+            assert!(rt; word.as_bytes() == *want);
+        }
     }
-}
-
-/// Whether the words of this environment are those behind the name.
-fn is_taken<R: Abort>(rt: &R, alloc: Global, machine: &Machine) -> bool {
-    let words = words_of(alloc, &Environment::new(machine)).expect(rt, "room for words");
-    let wanted = machine.words.get(1..).unwrap_or(&[]);
-    words.len() == wanted.len()
-        && words
-            .iter()
-            .zip(wanted.iter())
-            .all(|(word, want)| word.as_bytes() == *want)
+    Ok(())
 }
