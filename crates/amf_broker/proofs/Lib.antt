@@ -1,8 +1,8 @@
-mod Clients
+pub mod Clients
 mod Spreads
-mod Refusals
-mod Steps
-mod Leavers
+pub mod Refusals
+pub mod Steps
+pub mod Leavers
 pub mod Law
 mod Places
 mod Orders

@@ -3,6 +3,7 @@
 
 mod broker;
 mod call;
+mod crosses;
 mod ended;
 mod ids;
 mod laws;

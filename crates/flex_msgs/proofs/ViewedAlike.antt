@@ -97,7 +97,7 @@ module _ (P : ℕ → ℕ → Type 0) where
   sealed_match (x ∷ xs) (v ∷ vs) [] m = elim m [ ]
   sealed_match (x ∷ xs) (v ∷ vs) (w ∷ ws) m = ((refl, m.0), sealed_match xs vs ws m.1)
 
-  members_alike : (t : Traits) (a b : Node) → NodesMatch P a b → Alike (members_of t a) (members_of t b)
+  pub members_alike : (t : Traits) (a b : Node) → NodesMatch P a b → Alike (members_of t a) (members_of t b)
   members_alike t a b m x v w n =
       let s = zip_alike (sealed_pairs t.sealed a.values) (sealed_pairs t.sealed b.values) (sealed_match t.sealed a.values b.values m.values) x v w n in
       let r = names_alike a.names b.names m.names x (last_or v x (sealed_pairs t.sealed a.values)) (last_or w x (sealed_pairs t.sealed b.values)) s in
