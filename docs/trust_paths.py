@@ -1,0 +1,331 @@
+#!/usr/bin/env python3
+"""Writes docs/TRUST.md out of the definitions in crates/*/specs.
+
+    docs/trust_paths.py [--check]
+
+For each of four promises it follows the definitions that the contract of `run` (crates/amf_cli/src/run.rt) cites, from name to name by the
+imports of each file, and lists them in an order in which they can be read. Sentences are the first line of each file. With --check
+nothing is written, and the status is 1 where the page is not what would be written.
+"""
+import re
+import sys
+from pathlib import Path
+
+ROOT = Path(__file__).resolve().parent.parent
+PAGE = ROOT / "docs/TRUST.md"
+RUN = ROOT / "crates/amf_cli/src/run.rt"
+
+FRONT = """# What a reader has to trust
+
+A proof says that the code meets its contract. What the contract means is said in small files of definitions, and a wrong one would make
+every proof above it worthless. So these files, with the contracts on the functions in `crates/NAME/src`, are what has to be read to know
+what is promised. The toolchain, and what else is trusted, are named in [PROMISES.md](PROMISES.md#what-it-stands-on).
+
+Nobody has to read all of them. Each of the four paths below lists what one promise rests on, in an order in which it can be read: each file
+with the definitions of it that count, and how many lines these have. A path ends with the words of the program's contract, which stands on
+`run` in `crates/amf_cli/src/run.rt`; much of a later path is known from an earlier one. Behind each path stand the laws and worked facts
+about its definitions: theorems, and bytes and graphs worked out by hand. They are proved *about* the definitions, and are where to look
+first when one is in doubt. The appendix lists all files.
+
+This page is written by `docs/trust_paths.py`, which follows the imports; a sentence about a file is the file's own first line.
+
+## Devices
+
+Apart from the definitions there are devices of the proofs. They are listed at the end of each `specs/Lib.antt`, and each says so in its
+first line. A wrong one can make a proof fail, and cannot make a promise false that does not speak of it. Laws about layouts speak of
+devices, the trait `Format` does, and so do the calls of `amf_fields`, `amf3_read` and `amf0_read` by which a reader of another format reads
+on. Of the other promises these do, and who goes by one has to read as much of the device:
+
+| Promise | Device |
+|---|---|
+| what a reader does to its cursor however it ends: `goes` of `read3`, `read3_text`, `read0` and `read_packet` | `Goes` in `amf_io/specs/CursorReads` |
+| a fault of reading is counted: `cause` of `next_request` | `Counts` in `amf_http/specs/Answers` |
+| nothing has failed yet: `Reading::new`, `Writing::new` | `reads_failed`, `writes_failed` in `amf_io/specs/Standard` |
+| a fault with a text: `fault` | `FaultsWith` in `amf_service/specs/Made` |
+| spellings of a height by bytes: `more_height_spells` | `Spells` in `amf3_spelling/specs/ByteSpelling` |
+| one walk finds the first lack: `met_again_is_twice` | `amf0_spelling/specs/LacksMet` |
+| what the tables of a writer are, seen as lists | `Spelled` in `amf_tables/specs/SpelledNodes` |
+| what a command that words ask for does: `perform` | `IsAskable` in `amf_commands/specs/Askable` |
+
+No promise about a run of the program or about a message speaks of one.
+
+"""
+
+# Each crate with definitions, in reading order.
+TITLES = {
+    "amf_wire": "Numbers, texts and doubles",
+    "amf_io": "The outside, fields and the verdict",
+    "amf_graph": "Graphs",
+    "amf3_spelling": "AMF 3",
+    "amf3_layout": "The verdict on AMF 3",
+    "amf_tables": "Reference tables",
+    "amf0_spelling": "AMF 0",
+    "amf0_layout": "The verdict on AMF 0",
+    "amf_iso": "The order of the nodes",
+    "amf_fields": "Reading fields",
+    "amf3_read": "Reading AMF 3",
+    "amf3_write": "Writing AMF 3",
+    "amf0_read": "Reading AMF 0",
+    "amf0_write": "Writing AMF 0",
+    "amf_packet": "Packets",
+    "amf_sol": "Shared object files",
+    "amf_show": "The listing of a graph",
+    "amf_listings": "The listings of packets and of shared object files, and their laws",
+    "amf_vectors": "Values that are made",
+    "amf_words": "The options of a command line",
+    "amf_commands": "The commands of data",
+    "flex_msgs": "Flex messages",
+    "amf_service": "Services",
+    "amf_broker": "The broker",
+    "amf_desk": "The desk",
+    "http_link": "Both ends of HTTP",
+    "amf_http": "The HTTP front",
+    "amf_plan": "What a link is answered",
+    "amf_plan_laws": "The laws of what a link is answered",
+    "amf_flex_replies": "Replies to Flex clients",
+    "amf_plain_calls": "Plain calls",
+    "amf_gateway": "The gateway",
+    "amf_workers": "Workers at one desk",
+    "amf_cli": "The program",
+}
+
+# Files that say what is proved about the definitions: theorems, and bytes and graphs worked by hand.
+ABOUT = re.compile(r"Worked|Laws|Facts$|^Agreement|^OneShortest$|^GraftKeeps$|^Tried$")
+
+# What only `serve` cites of the contract of `run`.
+OF_SERVE = ["amf_service.", "amf_plan.", "amf_workers.", "amf_cli.", "amf_commands.Commands.ReadsServe", "amf_commands.Commands.IsServing"]
+OF_DATA = ["amf_commands.Run.", "amf_commands.Input.", "amf_commands.Commands.Reads", "amf_graph.", "amf_cli.ServeEnds"]
+
+# For each promise: its words, what is cited for other commands alone, and the crates or files that speak of other commands and formats.
+PATHS = [
+    ("canon", "To trust `canon` on values", "That the output of `amf canon` is the one canonical encoding of the value in the input, from and to AMF 3 "
+     "and AMF 0, that a refusal names the first invalid field, and that status 7 names the first node without an encoding.",
+     OF_SERVE, ["amf_packet", "amf_sol", "amf_show", "amf_listings", "amf_vectors"]),
+    ("same", "To trust `same`", "That `amf same` says `same` exactly where two values of AMF 3 are the same graph.",
+     OF_SERVE, ["amf_packet", "amf_sol", "amf_show", "amf_listings", "amf_vectors", "amf0_spelling",
+                "amf3_spelling.Lacks3", "amf_graph.Lacks", "amf_graph.Order"]),
+    ("sol", "To trust a `.sol`", "That `amf show`, `check` and `canon` with `--from sol` say what stands in a shared object file, or where it is damaged.",
+     OF_SERVE, ["amf_packet", "amf_vectors", "amf_listings.SamePacket", "amf_listings.PacketListing", "amf_listings.PacketNodes",
+                "amf_listings.PacketLaws"]),
+    ("serve", "To trust `serve`", "That each connection is answered as the definition says, and that all connections have one legal history of the broker.",
+     OF_DATA, ["amf_sol", "amf_show", "amf_listings", "amf_vectors"]),
+]
+
+DEFINITION = re.compile(r"^(?:unfoldable |abbrev )*(?:pub )(?:record |data |abbrev )?(?!mod )(\S+)")
+USE = re.compile(r"^(?:ghost )?use Rattle\.(\w+)\.specs\.([\w.]+?)(?:\.\{(.*)\}|(?: as (\w+)))?;?$")
+WORD = re.compile(r"[A-Za-z_][\w']*(?:\.[A-Za-z_][\w']*)*")
+
+
+class Specs:
+    """A file of definitions: its first line, its imports, and the text of each definition."""
+
+    def __init__(self, crate, name, is_device):
+        self.crate, self.name, self.is_device = crate, name, is_device
+        self.lines = (ROOT / f"crates/{crate}/specs/{name}.antt").read_text().splitlines()
+        self.says = self.lines[0].removeprefix("-- ")
+        self.imports, self.aliases = imports_of(self.lines)
+        self.blocks, self.parts = {}, {}
+        self.gather()
+
+    def gather(self):
+        """Parts the file into definitions. The comment above a definition is its own, and a constructor stands for its data."""
+        now, above = None, []
+        for line in self.lines[1:]:
+            found = DEFINITION.match(line)
+            if found:
+                now = self.blocks.setdefault(found[1], [])
+                name = found[1]
+                now += above
+                above = []
+            if line.startswith("-- "):
+                above.append(line)
+                continue
+            if not line.strip() or line.startswith("use "):
+                above = []
+            elif now is not None:
+                now.append(line)
+                part = re.match(r"^  (?:pub )?([a-z]\w*) :", line)
+                if part:
+                    self.parts.setdefault(part[1], name)
+
+    def key(self):
+        return f"{self.crate}.{self.name}"
+
+
+def imports_of(lines):
+    """The names that a file imports with where they stand, and the files that it imports under a name of its own."""
+    names, aliases = {}, {}
+    for line in lines:
+        use = USE.match(line)
+        if not use:
+            continue
+        crate, module, listed, alias = use.groups()
+        if alias:
+            aliases[alias] = (crate, module)
+        for item in (listed or "").split(","):
+            told, _, own = item.strip().partition(" as ")
+            if told:
+                names[own or told] = (crate, module, told)
+    return names, aliases
+
+
+def load():
+    """All files of definitions, in the order of the crates and of each Lib."""
+    files = {}
+    for crate in TITLES:
+        is_device = False
+        for line in (ROOT / f"crates/{crate}/specs/Lib.antt").read_text().splitlines():
+            is_device = is_device or bool(re.match(r"-- (A d|D)evice", line))
+            found = re.match(r"pub mod (\w+)", line)
+            if found:
+                specs = Specs(crate, found[1], is_device)
+                files[specs.key()] = specs
+    return files
+
+
+def cited(files, left_out):
+    """What the contract of `run` cites, but what is left out and what are devices."""
+    names, _ = imports_of(RUN.read_text().splitlines())
+    found = []
+    for crate, module, name in names.values():
+        specs = files.get(f"{crate}.{module}")
+        if specs and not specs.is_device and not any(f"{crate}.{module}.{name}".startswith(start) for start in left_out):
+            found.append((specs.key(), name))
+    return found
+
+
+def used(files, specs, name):
+    """What one definition names: definitions of this project, and types of its code."""
+    for word in WORD.findall("\n".join(line for line in specs.blocks[name] if not line.startswith("--"))):
+        first, _, rest = word.partition(".")
+        if first in specs.imports:
+            yield specs.imports[first]
+        elif first in specs.aliases and rest:
+            yield (*specs.aliases[first], rest.split(".")[0])
+        elif first in specs.blocks or first in specs.parts:
+            yield (specs.crate, specs.name, first)
+
+
+def closure(files, roots, stops):
+    """The definitions to which the roots lead, by file; types of the code by their file; and what was stopped at."""
+    needed, types, stopped = {}, {}, set()
+    waiting = list(roots)
+    while waiting:
+        key, name = waiting.pop()
+        specs = files[key]
+        name = specs.parts.get(name, name) if name not in specs.blocks else name
+        if name not in specs.blocks or name in needed.setdefault(key, set()):
+            continue
+        needed[key].add(name)
+        for crate, module, told in used(files, specs, name):
+            if module.startswith("declared."):
+                parts = module.split(".")
+                types.setdefault(f"{crate}/src/{'/'.join(parts[1:-1] if parts[-1] != 'TheVariants' else parts[1:-2])}.rt", set()).add(
+                    parts[-2] if parts[-1] == "TheVariants" else parts[-1])
+            elif f"{crate}.{module}" not in files:
+                continue
+            elif crate in stops or f"{crate}.{module}" in stops:
+                stopped.add(f"{crate}.{module}")
+            else:
+                waiting.append((f"{crate}.{module}", told))
+    return needed, types, stopped
+
+
+def in_order(files, needed):
+    """The files, each behind those that it imports, and else in the order of the crates."""
+    order, done = [], set()
+
+    def visit(key):
+        stack = [(key, False)]
+        while stack:
+            now, is_ready = stack.pop()
+            if is_ready:
+                order.append(now)
+            elif now not in done:
+                done.add(now)
+                stack.append((now, True))
+                below = [f"{c}.{m}" for c, m, _ in files[now].imports.values()] + [f"{c}.{m}" for c, m in files[now].aliases.values()]
+                stack += [(one, False) for one in reversed(below) if one in needed]
+
+    for key in files:
+        if key in needed:
+            visit(key)
+    return order
+
+
+def about(files, needed):
+    """The laws and worked facts that speak of these definitions and of one another alone."""
+    known = set(needed)
+    found = []
+    for key, specs in files.items():
+        if ABOUT.search(specs.name) and not specs.is_device and key not in known:
+            below = {f"{c}.{m}" for c, m, _ in specs.imports.values()} | {f"{c}.{m}" for c, m in specs.aliases.values()}
+            below &= set(files)
+            if below and below <= known | set(found):
+                found.append(key)
+    return found
+
+
+def link(specs):
+    return f"[`{specs.crate}/{specs.name}`](../crates/{specs.crate}/specs/{specs.name}.antt)"
+
+
+def path_of(files, word, title, promise, left_out, stops):
+    needed, types, stopped = closure(files, cited(files, left_out), stops)
+    order = in_order(files, needed)
+    out, total = [], 0
+    for place, key in enumerate(order, 1):
+        specs = files[key]
+        names = [name for name in specs.blocks if name in needed[key]]
+        lines = sum(len(specs.blocks[name]) for name in names)
+        total += lines
+        out.append(f"| {place} | {link(specs)} | {lines} | {specs.says} | {', '.join(f'`{name}`' for name in names)} |")
+    head = [f"## {title}", "", promise, "", f"{len(order)} files, of which {total} lines count:", "",
+            "| | File | Lines | What it says | Definitions |", "|---|---|---|---|---|"]
+    tail = [""]
+    if types:
+        named = "; ".join(f"{', '.join(f'`{name}`' for name in sorted(names))} in `{file}`" for file, names in sorted(types.items()))
+        tail += [f"Types of the code that these name: {named}.", ""]
+    laws = about(files, needed)
+    if laws:
+        tail += ["Laws and worked facts about them, which nobody has to trust, since they are proved:", "", "| File | Lines | What it says |", "|---|---|---|"]
+        tail += [f"| {link(files[key])} | {len(files[key].lines)} | {files[key].says} |" for key in laws] + [""]
+    if stopped:
+        tail += [f"Left out, since other commands or formats alone lead there: {', '.join(f'`{key}`' for key in sorted(stopped))}.", ""]
+    return head + out + tail
+
+
+def inventory(files):
+    out, definitions, devices = ["## Appendix: all files", ""], 0, 0
+    for crate, title in TITLES.items():
+        own = [specs for specs in files.values() if specs.crate == crate]
+        shown = [specs for specs in own if not specs.is_device]
+        hidden = [specs for specs in own if specs.is_device]
+        definitions += sum(len(specs.lines) for specs in shown)
+        devices += sum(len(specs.lines) for specs in hidden)
+        out += [f"### {title}: `{crate}`", ""]
+        if shown:
+            out += ["| File | Lines | What it says |", "|---|---|---|"]
+            out += [f"| `{specs.name}` | {len(specs.lines)} | {specs.says} |" for specs in shown] + [""]
+        if hidden:
+            out += [f"Devices: {', '.join(f'`{specs.name}`' for specs in hidden)}.", ""]
+    return out + [f"Together {definitions} lines of definitions, and {devices} of devices."]
+
+
+def page():
+    files = load()
+    out = FRONT.splitlines()
+    for path in PATHS:
+        out += path_of(files, *path)
+    return "\n".join(out + inventory(files)) + "\n"
+
+
+def main():
+    made = page()
+    if "--check" in sys.argv[1:]:
+        sys.exit(PAGE.read_text() != made)
+    PAGE.write_text(made)
+
+
+if __name__ == "__main__":
+    main()
