@@ -71,6 +71,8 @@ TITLES = {
     "amf_sol": "Shared object files",
     "amf_show": "The listing of a graph",
     "amf_listings": "The listings of packets and of shared object files, and their laws",
+    "flv_meta": "FLV script data",
+    "rtmp_chunks": "RTMP chunk streams",
     "amf_vectors": "Values that are made",
     "amf_words": "The options of a command line",
     "amf_commands": "The commands of data",
@@ -80,6 +82,8 @@ TITLES = {
     "amf_desk": "The desk",
     "http_link": "Both ends of HTTP",
     "amf_http": "The HTTP front",
+    "amf_once": "Polls that survive losses",
+    "amf_client": "The calling end",
     "amf_plan": "What a link is answered",
     "amf_plan_laws": "The laws of what a link is answered",
     "amf_flex_replies": "Replies to Flex clients",
@@ -172,9 +176,13 @@ def imports_of(lines):
 def load():
     """All files of definitions, in the order of the crates and of each Lib."""
     files = {}
-    for crate in TITLES:
+    libs = {lib.parent.parent.name: lib for lib in ROOT.glob("crates/*/specs/Lib.antt")}
+    untitled = sorted(crate for crate, lib in libs.items() if crate not in TITLES and "pub mod" in lib.read_text())
+    if untitled:
+        sys.exit(f"docs/trust_paths.py: TITLES has no line for {', '.join(untitled)}")
+    for crate in (crate for crate in TITLES if crate in libs):
         is_device = False
-        for line in (ROOT / f"crates/{crate}/specs/Lib.antt").read_text().splitlines():
+        for line in libs[crate].read_text().splitlines():
             is_device = is_device or bool(re.match(r"-- (A d|D)evice", line))
             found = re.match(r"pub mod (\w+)", line)
             if found:
@@ -195,8 +203,13 @@ def cited(files, left_out):
 
 
 def used(files, specs, name):
-    """What one definition names: definitions of this project, and types of its code."""
-    for word in WORD.findall("\n".join(line for line in specs.blocks[name] if not line.startswith("--"))):
+    """What one definition names: definitions of this project, and types of its code. An operator is named by its signs, and
+    the one that joins steps by the arrows of `do`."""
+    text = "\n".join(line for line in specs.blocks[name] if not line.startswith("--"))
+    for sign in [*specs.imports, *specs.blocks]:
+        if "◌" in sign and (all(f" {part} " in text for part in sign.split("◌") if part) or sign == "◌>>=◌" and " ← " in text):
+            yield specs.imports.get(sign, (specs.crate, specs.name, sign))
+    for word in WORD.findall(text):
         first, _, rest = word.partition(".")
         if first in specs.imports:
             yield specs.imports[first]
@@ -299,6 +312,8 @@ def inventory(files):
     out, definitions, devices = ["## Appendix: all files", ""], 0, 0
     for crate, title in TITLES.items():
         own = [specs for specs in files.values() if specs.crate == crate]
+        if not own:
+            continue
         shown = [specs for specs in own if not specs.is_device]
         hidden = [specs for specs in own if specs.is_device]
         definitions += sum(len(specs.lines) for specs in shown)
