@@ -100,19 +100,22 @@ ABOUT = re.compile(r"Worked|Laws|Facts$|^Agreement|^OneShortest$|^GraftKeeps$|^T
 OF_SERVE = ["amf_service.", "amf_plan.", "amf_workers.", "amf_cli.", "amf_commands.Commands.ReadsServe", "amf_commands.Commands.IsServing"]
 OF_DATA = ["amf_commands.Run.", "amf_commands.Input.", "amf_commands.Commands.Reads", "amf_graph.", "amf_cli.ServeEnds"]
 
+# What serves none of the four promises.
+OTHERS = ["amf_vectors", "amf_once", "amf_client", "flv_meta", "rtmp_chunks"]
+
 # For each promise: its words, what is cited for other commands alone, and the crates or files that speak of other commands and formats.
 PATHS = [
     ("canon", "To trust `canon` on values", "That the output of `amf canon` is the one canonical encoding of the value in the input, from and to AMF 3 "
      "and AMF 0, that a refusal names the first invalid field, and that status 7 names the first node without an encoding.",
-     OF_SERVE, ["amf_packet", "amf_sol", "amf_show", "amf_listings", "amf_vectors"]),
+     OF_SERVE, ["amf_packet", "amf_sol", "amf_show", "amf_listings", *OTHERS]),
     ("same", "To trust `same`", "That `amf same` says `same` exactly where two values of AMF 3 are the same graph.",
-     OF_SERVE, ["amf_packet", "amf_sol", "amf_show", "amf_listings", "amf_vectors", "amf0_spelling",
+     OF_SERVE, ["amf_packet", "amf_sol", "amf_show", "amf_listings", *OTHERS, "amf0_spelling",
                 "amf3_spelling.Lacks3", "amf_graph.Lacks", "amf_graph.Order"]),
     ("sol", "To trust a `.sol`", "That `amf show`, `check` and `canon` with `--from sol` say what stands in a shared object file, or where it is damaged.",
-     OF_SERVE, ["amf_packet", "amf_vectors", "amf_listings.SamePacket", "amf_listings.PacketListing", "amf_listings.PacketNodes",
+     OF_SERVE, ["amf_packet", *OTHERS, "amf_listings.SamePacket", "amf_listings.PacketListing", "amf_listings.PacketNodes",
                 "amf_listings.PacketLaws"]),
     ("serve", "To trust `serve`", "That each connection is answered as the definition says, and that all connections have one legal history of the broker.",
-     OF_DATA, ["amf_sol", "amf_show", "amf_listings", "amf_vectors"]),
+     OF_DATA, ["amf_sol", "amf_show", "amf_listings", *OTHERS]),
 ]
 
 DEFINITION = re.compile(r"^(?:unfoldable |abbrev )*(?:pub )(?:record |data |abbrev )?(?!mod )(\S+)")
