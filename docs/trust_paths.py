@@ -96,25 +96,25 @@ TITLES = {
 # Files that say what is proved about the definitions: theorems, and bytes and graphs worked by hand.
 ABOUT = re.compile(r"Worked|Laws|Facts$|^Agreement|^OneShortest$|^GraftKeeps$|^Tried$")
 
-# What only `serve` cites of the contract of `run`.
+# What the contract of `run` cites for `serve` alone, and for the other commands alone.
 OF_SERVE = ["amf_service.", "amf_plan.", "amf_workers.", "amf_cli.", "amf_commands.Commands.ReadsServe", "amf_commands.Commands.IsServing"]
-OF_DATA = ["amf_commands.Run.", "amf_commands.Input.", "amf_commands.Commands.Reads", "amf_graph.", "amf_cli.ServeEnds"]
+OF_DATA = ["amf_commands.Run.", "amf_commands.Input.", "amf_commands.Commands.Reads", "amf_graph."]
 
 # What serves none of the four promises.
 OTHERS = ["amf_vectors", "amf_once", "amf_client", "flv_meta", "rtmp_chunks"]
 
 # For each promise: its words, what is cited for other commands alone, and the crates or files that speak of other commands and formats.
 PATHS = [
-    ("canon", "To trust `canon` on values", "That the output of `amf canon` is the one canonical encoding of the value in the input, from and to AMF 3 "
+    ("To trust `canon` on values", "That the output of `amf canon` is the one canonical encoding of the value in the input, from and to AMF 3 "
      "and AMF 0, that a refusal names the first invalid field, and that status 7 names the first node without an encoding.",
      OF_SERVE, ["amf_packet", "amf_sol", "amf_show", "amf_listings", *OTHERS]),
-    ("same", "To trust `same`", "That `amf same` says `same` exactly where two values of AMF 3 are the same graph.",
+    ("To trust `same`", "That `amf same` says `same` exactly where two values of AMF 3 are the same graph.",
      OF_SERVE, ["amf_packet", "amf_sol", "amf_show", "amf_listings", *OTHERS, "amf0_spelling",
                 "amf3_spelling.Lacks3", "amf_graph.Lacks", "amf_graph.Order"]),
-    ("sol", "To trust a `.sol`", "That `amf show`, `check` and `canon` with `--from sol` say what stands in a shared object file, or where it is damaged.",
+    ("To trust a `.sol`", "That `amf show`, `check` and `canon` with `--from sol` say what stands in a shared object file, or where it is damaged.",
      OF_SERVE, ["amf_packet", *OTHERS, "amf_listings.SamePacket", "amf_listings.PacketListing", "amf_listings.PacketNodes",
                 "amf_listings.PacketLaws"]),
-    ("serve", "To trust `serve`", "That each connection is answered as the definition says, and that all connections have one legal history of the broker.",
+    ("To trust `serve`", "That each connection is answered as the definition says, and that all connections have one legal history of the broker.",
      OF_DATA, ["amf_sol", "amf_show", "amf_listings", *OTHERS]),
 ]
 
@@ -195,12 +195,13 @@ def load():
 
 
 def cited(files, left_out):
-    """What the contract of `run` cites, but what is left out and what are devices."""
+    """What the contract of `run` cites, but what is left out, by its name or by a beginning that ends in a dot, and what are devices."""
     names, _ = imports_of(RUN.read_text().splitlines())
     found = []
     for crate, module, name in names.values():
-        specs = files.get(f"{crate}.{module}")
-        if specs and not specs.is_device and not any(f"{crate}.{module}.{name}".startswith(start) for start in left_out):
+        specs, told = files.get(f"{crate}.{module}"), f"{crate}.{module}.{name}"
+        is_left_out = any(told.startswith(one) if one.endswith(".") else told == one for one in left_out)
+        if specs and not specs.is_device and not is_left_out:
             found.append((specs.key(), name))
     return found
 
@@ -286,17 +287,21 @@ def link(specs):
     return f"[`{specs.crate}/{specs.name}`](../crates/{specs.crate}/specs/{specs.name}.antt)"
 
 
-def path_of(files, word, title, promise, left_out, stops):
+def path_of(files, known, title, promise, left_out, stops):
+    """The section on one promise. What is known from the sections above is counted apart, and what is new becomes known."""
     needed, types, stopped = closure(files, cited(files, left_out), stops)
     order = in_order(files, needed)
-    out, total = [], 0
+    out, total, fresh = [], 0, 0
     for place, key in enumerate(order, 1):
         specs = files[key]
         names = [name for name in specs.blocks if name in needed[key]]
         lines = sum(len(specs.blocks[name]) for name in names)
         total += lines
+        fresh += sum(len(specs.blocks[name]) for name in names if (key, name) not in known)
         out.append(f"| {place} | {link(specs)} | {lines} | {specs.says} | {', '.join(f'`{name}`' for name in names)} |")
-    head = [f"## {title}", "", promise, "", f"{len(order)} files, of which {total} lines count:", "",
+    above = f", {fresh} of them not in a path above" if known else ""
+    known |= {(key, name) for key in needed for name in needed[key]}
+    head = [f"## {title}", "", promise, "", f"{len(order)} files, of which {total} lines count{above}:", "",
             "| | File | Lines | What it says | Definitions |", "|---|---|---|---|---|"]
     tail = [""]
     if types:
@@ -333,8 +338,9 @@ def inventory(files):
 def page():
     files = load()
     out = FRONT.splitlines()
+    known = set()
     for path in PATHS:
-        out += path_of(files, *path)
+        out += path_of(files, known, *path)
     return "\n".join(out + inventory(files)) + "\n"
 
 
