@@ -224,8 +224,8 @@ def used(files, specs, name):
 
 
 def closure(files, roots, stops):
-    """The definitions to which the roots lead, by file; types of the code by their file; and what was stopped at."""
-    needed, types, stopped = {}, {}, set()
+    """The definitions to which the roots lead, by file; types of the code by their file; what is of other crates; and what was stopped at."""
+    needed, types, others, stopped = {}, {}, {}, set()
     waiting = list(roots)
     while waiting:
         key, name = waiting.pop()
@@ -235,7 +235,9 @@ def closure(files, roots, stops):
             continue
         needed[key].add(name)
         for crate, module, told in used(files, specs, name):
-            if module.startswith("declared."):
+            if crate not in TITLES:
+                others.setdefault(crate, set()).add(told)
+            elif module.startswith("declared."):
                 parts = module.split(".")
                 types.setdefault(f"{crate}/src/{'/'.join(parts[1:-1] if parts[-1] != 'TheVariants' else parts[1:-2])}.rt", set()).add(
                     parts[-2] if parts[-1] == "TheVariants" else parts[-1])
@@ -245,7 +247,7 @@ def closure(files, roots, stops):
                 stopped.add(f"{crate}.{module}")
             else:
                 waiting.append((f"{crate}.{module}", told))
-    return needed, types, stopped
+    return needed, types, others, stopped
 
 
 def in_order(files, needed):
@@ -289,7 +291,7 @@ def link(specs):
 
 def path_of(files, known, title, promise, left_out, stops):
     """The section on one promise. What is known from the sections above is counted apart, and what is new becomes known."""
-    needed, types, stopped = closure(files, cited(files, left_out), stops)
+    needed, types, others, stopped = closure(files, cited(files, left_out), stops)
     order = in_order(files, needed)
     out, total, fresh = [], 0, 0
     for place, key in enumerate(order, 1):
@@ -307,6 +309,10 @@ def path_of(files, known, title, promise, left_out, stops):
     if types:
         named = "; ".join(f"{', '.join(f'`{name}`' for name in sorted(names))} in `{file}`" for file, names in sorted(types.items()))
         tail += [f"Types of the code that these name: {named}.", ""]
+    others.pop("std", None)
+    if others:
+        named = "; ".join(f"{', '.join(f'`{name}`' for name in sorted(names))} of `{crate}`" for crate, names in sorted(others.items()))
+        tail += [f"Definitions of the toolchain's crates that these name, beside those of its standard library: {named}.", ""]
     laws = about(files, needed)
     if laws:
         tail += ["Laws and worked facts about them, which nobody has to trust, since they are proved:", "", "| File | Lines | What it says |", "|---|---|---|"]
