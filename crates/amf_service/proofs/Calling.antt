@@ -1,6 +1,7 @@
 -- The entry of a name answers, and where there is none nobody does.
 use Rattle.std.proofs.Common.{◌≡◌, ℕ, Bool, true, false, cond, if◌then◌else◌, List, [], ◌∷◌, map, Option, Some, None, refl, sym, ap, ◌∙◌, subst}
 use Rattle.std.specs.Prelude.{bytes_eq}
+use Rattle.std.specs.List.{AllByRecursion}
 use Rattle.std.specs.Map.{lookup}
 use Rattle.std.proofs.lemmas.Option.{same_Some}
 use Rattle.amf_graph.specs.Graph.{Graph}
@@ -39,3 +40,8 @@ module _ {K B : Type 0} (name : K → List ℕ) (meant : B → Meanings) where
   alike_none test s same es e o g h x y i =
       subst (λ z. CalledMatch z (called (map entry es) s o h)) (sym (called_none test s o g same es e))
       (subst (λ z. CalledMatch no_service z) (sym (called_none test s o h same es e)) refl)
+
+  -- what is meant is lawful where each service is
+  pub all_meant : (es : List (K × B)) → AllByRecursion (λ b. IsLawful (meant b).gives) (map (λ e. e.1) es) → AllByRecursion (λ e. IsLawful e.means.gives) (map entry es)
+  all_meant [] a = tt
+  all_meant (e ∷ es) a = (a.0, all_meant es a.1)

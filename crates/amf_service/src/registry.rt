@@ -1,4 +1,5 @@
 ghost use Rattle.std.specs.Prelude.{◌≡◌, ◌≤◌, map, List, ℕ, IfOk, OnOk, IsErrOf};
+ghost use Rattle.std.specs.List.{AllByRecursion};
 ghost use Rattle.amf_graph.specs.Bounds.{weight};
 ghost use Rattle.amf_graph.specs.Rooted.{content};
 ghost use Rattle.amf_service.specs.Meaning.{IsLawful, asked, heaviest_arguments, heaviest_result};
@@ -121,6 +122,15 @@ impl Registry {
         match self.services.get(service.as_bytes()) {
             Some(found) => answered(alloc, found, operation, args),
             None => Err(CallEnd::NoService),
+        }
+    }
+
+    /// The law of every service here: whole isomorphic arguments give isomorphic results and equal faults. It changes nothing.
+    pub fn are_lawful(&self)
+        ensures { let means : List Entry = map (λ e. record { name = e.0.items; means = record { knows = knows e.1; gives = gives e.1 } }) self.now.services.entries in AllByRecursion (λ e. IsLawful e.means.gives) means }
+    {
+        for service in self.services.values() {
+            obeys_the_law(service);
         }
     }
 
