@@ -1,0 +1,34 @@
+-- Calls of the reader of messages, one after another.
+use Rattle.std.specs.Prelude.{ℕ, List, [], ◌∷◌, Option, Some, None, Result, Ok, Err}
+use Rattle.amf_io.specs.declared.ends.Refusal.{Refusal}
+use Rattle.amf_io.specs.declared.ends.ReadEnd.{ReadEnd}
+use Rattle.amf_io.specs.declared.ends.ReadEnd.TheVariants.{Refused, ReadFault}
+use Rattle.amf_io.specs.LayoutAnswer.{DoneBy}
+use Rattle.amf_io.specs.Stretch.{Stretch, stretch, IsInterrupted}
+use Rattle.amf_io.specs.Verdict.{IsRefused}
+use Rattle.rtmp_chunks.specs.Chunk.{Message}
+use Rattle.rtmp_chunks.specs.Stream.{IsChunkStream}
+use Rattle.rtmp_chunks.specs.Machine.{State, start, handshake_layout, unfinished}
+use Rattle.rtmp_chunks.specs.Laws.{IsStreamFields}
+use Rattle.rtmp_chunks.specs.Reader.{AnswersNext}
+
+-- what a reader holds behind a call: the message that it gave is the caller's
+abbrev pub settled : State → State
+settled s = record { size = s.size; slots = s.slots; messages = [] }
+
+-- calls from one state to another gave these messages, each where the one before had stopped, and then one call more answered this
+abbrev pub Calls : Result (Option Message) ReadEnd → List Message → State → State → Stretch → Type 0
+Calls r [] s t x = AnswersNext (λ m. m) s t x r
+Calls r (m ∷ ms) s t x = (u : State) × (mid : List ℕ) × (between : ℕ) × AnswersNext (λ m. m) s u (stretch x.told x.input mid x.at between x.limit) (Ok (Some m)) × Calls r ms (settled u) t (stretch x.told mid x.rest between x.place x.limit)
+
+-- behind a handshake that was read, from a source that tells what it gives
+pub record CallsTell : Type 0 where
+  -- calls until one gives none give exactly the messages of the stream, and what is held then are its unfinished ones
+  pub tells : (limit between place : ℕ) (handshake input mid rest : List ℕ) (ms : List Message) (t : State) → DoneBy (Unit {0}) handshake_layout handshake input mid 0 between limit
+      → Calls (Ok None) ms start t (stretch (Unit {0}) mid rest between place limit) → IsChunkStream input ms (unfinished t.slots)
+  -- a refusal is the verdict on the whole input
+  pub refuses : (limit between place : ℕ) (handshake input mid rest : List ℕ) (ms : List Message) (t : State) (f : Refusal) → DoneBy (Unit {0}) handshake_layout handshake input mid 0 between limit
+      → Calls (Err (Refused f)) ms start t (stretch (Unit {0}) mid rest between place limit) → IsRefused IsStreamFields 0 limit input f.reason f.at
+  -- and what came before a read failed ends inside a field
+  pub waits : (limit between place : ℕ) (handshake input mid rest : List ℕ) (ms : List Message) (t : State) → DoneBy (Unit {0}) handshake_layout handshake input mid 0 between limit
+      → Calls (Err ReadFault) ms start t (stretch (Unit {0}) mid rest between place limit) → IsInterrupted IsStreamFields input rest 0 limit

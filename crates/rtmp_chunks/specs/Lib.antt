@@ -1,0 +1,10 @@
+pub mod Chunk
+pub mod Stream
+pub mod Machine
+pub mod Push
+pub mod Worked
+pub mod Laws
+pub mod Reader
+pub mod Calls
+pub mod Rechunk
+pub mod Table
