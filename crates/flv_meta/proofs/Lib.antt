@@ -1,0 +1,10 @@
+pub mod Tags
+pub mod TagLayouts
+pub mod FileRepeats
+pub mod FileVerdicts
+pub mod DropAndSet
+pub mod WorkedRows
+pub mod Answered
+pub mod TagParts
+pub mod ValueReads
+pub mod MetadataReads

@@ -1,0 +1,9 @@
+//! Tests of the heads, tags and metadata of FLV files, and nothing else.
+#![tactic(auto)]
+
+#[cfg(test)]
+mod checks;
+#[cfg(test)]
+mod file_tests;
+#[cfg(test)]
+mod walk;
