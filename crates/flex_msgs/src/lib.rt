@@ -17,7 +17,7 @@ pub use facts::{
     acknowledge_law, answers_alike, batch_law, delivered_law, error_law, flex_rows, invalidate_law,
     join_law, published_law, sync_law, view_law,
 };
-pub use lookup::header;
+pub use lookup::{header, member};
 pub use not_a_message::NotAMessage;
 pub use replies::{acknowledge, error, invalidate, sync};
 pub use reply::{FaultText, Reply};

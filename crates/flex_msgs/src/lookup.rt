@@ -77,6 +77,19 @@ pub(crate) fn pairs_of(
     }
 }
 
+/// The value of the last member of this name of an object, or of the last such name of an array. It is null where there is
+/// none, and of any other value. It gives up where there is no memory.
+pub fn member(alloc: Global, graph: &Rooted, value: Value, name: &[u8]) -> Result<Value, Memory>
+    requires { Names graph.now.arena value }
+    ensures value { IfOk result (λ found. value_content graph.now.arena found ≡ named_in name.now (pairs_of (content graph.now) (value_content graph.now.arena value))) }
+    ensures names { IfOk result (λ found. Names graph.now.arena found) }
+{
+    match pairs_of(alloc, graph, value)? {
+        Some(pairs) => Ok(value_named(graph, &pairs, name)),
+        None => Ok(Value::Null),
+    }
+}
+
 /// The value of the last header of this name, or null where there is none. It gives up where there is no memory.
 ///
 /// The values of the request are the graph's.
@@ -85,8 +98,5 @@ pub fn header(alloc: Global, graph: &Rooted, common: &Common, name: &[u8]) -> Re
     ensures value { IfOk result (λ value. value_content graph.now.arena value ≡ named_in name.now (pairs_of (content graph.now) (value_content graph.now.arena common.now.headers))) }
     ensures names { IfOk result (λ value. Names graph.now.arena value) }
 {
-    match pairs_of(alloc, graph, common.headers)? {
-        Some(pairs) => Ok(value_named(graph, &pairs, name)),
-        None => Ok(Value::Null),
-    }
+    member(alloc, graph, common.headers, name)
 }

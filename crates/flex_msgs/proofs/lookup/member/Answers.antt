@@ -8,7 +8,7 @@ use Rattle.amf_graph.specs.declared.value.TextId.{TextId}
 use Rattle.amf_graph.specs.Views.{named}
 use Rattle.flex_msgs.specs.Lookup.{named_in, value_named}
 use Rattle.flex_msgs.specs.KeptPairs.{pairs_content, IsPairIn}
-use Rattle.flex_msgs.proofs.lookup.header.Goals as goal
+use Rattle.flex_msgs.proofs.lookup.member.Goals as goal
 
 pub returns-in-Some-clause-value : goal.returns-in-Some-clause-value
 returns-in-Some-clause-value c =
