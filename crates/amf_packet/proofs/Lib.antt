@@ -20,3 +20,5 @@ pub mod WriteTexts
 pub mod WriteTold
 pub mod WritePackets
 pub mod Spelled
+pub mod SamePackets
+pub mod WholeReads

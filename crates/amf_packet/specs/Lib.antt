@@ -2,6 +2,8 @@
 pub mod Packet
 pub mod PacketLacks
 pub mod Content
+pub mod Alike
+pub mod Unpacked
 pub mod PacketAnswer
 pub mod WrittenPacket
 pub mod WorkedPackets

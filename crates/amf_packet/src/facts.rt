@@ -1,3 +1,4 @@
+ghost use Rattle.amf_packet.specs.Alike.{SamePackets};
 ghost use Rattle.amf_packet.specs.VerdictLaws.{PacketVerdicts};
 ghost use Rattle.amf_packet.specs.WorkedPackets.{Packets};
 ghost use Rattle.amf_packet.specs.WorkedVerdicts.{Verdicts};
@@ -16,4 +17,9 @@ pub fn packet_verdict_rows()
 /// that of the first field that is wrong.
 pub fn packets_have_one_verdict()
     ensures { PacketVerdicts }
+{}
+
+/// Two packets that the same bytes spell are the same but for the numbers of their nodes.
+pub fn packets_are_same()
+    ensures { SamePackets }
 {}

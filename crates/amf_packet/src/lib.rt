@@ -8,14 +8,16 @@ mod packet_end;
 mod read;
 mod read_body;
 mod read_field;
+mod unpacked;
 mod write;
 mod write_body;
 mod write_parts;
 mod write_texts;
 
 pub use body::Body;
-pub use facts::{packet_rows, packet_verdict_rows, packets_have_one_verdict};
+pub use facts::{packet_rows, packet_verdict_rows, packets_are_same, packets_have_one_verdict};
 pub use packet::{Header, Headers, Message, Messages, Packet};
 pub use packet_end::PacketEnd;
 pub use read::{read_packet, read_packet_keyed};
+pub use unpacked::packet_in;
 pub use write::{write_packet, write_packet_keyed};
