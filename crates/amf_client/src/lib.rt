@@ -1,0 +1,17 @@
+//! The calling end of a gateway: a call is written to a link, and what answers it is read.
+#![tactic(auto)]
+
+mod call;
+mod ends;
+mod judge;
+mod laws;
+mod meaning;
+mod result;
+
+pub use call::write_call;
+pub use ends::{AnswerFault, AskEnd};
+pub use laws::{an_answer_stands, one_answer, worked_rows};
+pub use result::read_result;
+
+/// The bytes that were read from a link and belong to no reply yet. A contract sees them as a list.
+pub type ReplyBuffer = http_link::LinkBuffer;
