@@ -4,11 +4,12 @@
     docs/trust_paths.py [--check]
 
 For each of four promises it follows the definitions that the contract of `run` (crates/amf_cli/src/run.rt) cites, from name to name by the
-imports of each file, and lists them in an order in which they can be read. Sentences are the first line of each file. With --check
-nothing is written, and the status is 1 where the page is not what would be written.
+imports of each file, and lists them in an order in which they can be read. What a file says is its own first line. With --check nothing is
+written, and the status is 1 where the page is not what would be written.
 """
 import re
 import sys
+import textwrap
 from pathlib import Path
 
 ROOT = Path(__file__).resolve().parent.parent
@@ -22,32 +23,36 @@ every proof above it worthless. So these files, with the contracts on the functi
 what is promised. The toolchain, and what else is trusted, are named in [PROMISES.md](PROMISES.md#what-it-stands-on).
 
 Nobody has to read all of them. Each of the four paths below lists what one promise rests on, in an order in which it can be read: each file
-with the definitions of it that count, and how many lines these have. A path ends with the words of the program's contract, which stands on
-`run` in `crates/amf_cli/src/run.rt`; much of a later path is known from an earlier one. Behind each path stand the laws and worked facts
-about its definitions: theorems, and bytes and graphs worked out by hand. They are proved *about* the definitions, and are where to look
-first when one is in doubt. The appendix lists all files.
+with those of its definitions that the promise needs, and how many lines these have. A path ends with the definitions that the program's
+contract itself names; that contract stands on `run` in `crates/amf_cli/src/run.rt`. Much of a later path is known from an earlier one. Behind
+each path stand the laws and worked facts about its definitions: theorems, and bytes and graphs worked out by hand. They are proved *about*
+the definitions, and are where to look first when one is in doubt. The appendix lists all files.
 
-This page is written by `docs/trust_paths.py`, which follows the imports; a sentence about a file is the file's own first line.
+This page is written by `docs/trust_paths.py`, which follows the imports; what it says of a file is the file's own first line.
 
 ## Devices
 
 Apart from the definitions there are devices of the proofs. They are listed at the end of each `specs/Lib.antt`, and each says so in its
-first line. A wrong one can make a proof fail, and cannot make a promise false that does not speak of it. Laws about layouts speak of
-devices, the trait `Format` does, and so do the calls of `amf_fields`, `amf3_read` and `amf0_read` by which a reader of another format reads
-on. Of the other promises these do, and who goes by one has to read as much of the device:
+first line. A wrong one can make a proof fail, and cannot make a promise false that does not speak of it. No promise about a run of the
+program or about a message speaks of one. These do:
+
+- laws about layouts, and the trait `Format`;
+- the calls by which a reader of another format reads on: those of `amf_fields`, `append_field`, `append_raw`, `append_exactly` and
+  `append_basic` of `amf_io`, `read_text` and `read_value` of `amf3_read`, and `read_short_text` and `read_value0` of `amf0_read`;
+- the readers and laws of `rtmp_chunks`, which speak of the layout of a chunk stream (`Machine`) and of those of `amf_io`;
+- the steps that the gateway's crates share: `amf_plan`, `amf_flex_replies` and `amf_plain_calls`.
+
+Of the other promises these do, and who goes by one has to read as much of the device:
 
 | Promise | Device |
 |---|---|
-| what a reader does to its cursor however it ends: `goes` of `read3`, `read3_text`, `read0` and `read_packet` | `Goes` in `amf_io/specs/CursorReads` |
-| a fault of reading is counted: `cause` of `next_request` | `Counts` in `amf_http/specs/Answers` |
-| nothing has failed yet: `Reading::new`, `Writing::new` | `reads_failed`, `writes_failed` in `amf_io/specs/Standard` |
-| a fault with a text: `fault` | `FaultsWith` in `amf_service/specs/Made` |
 | spellings of a height by bytes: `more_height_spells` | `Spells` in `amf3_spelling/specs/ByteSpelling` |
 | one walk finds the first lack: `met_again_is_twice` | `amf0_spelling/specs/LacksMet` |
 | what the tables of a writer are, seen as lists | `Spelled` in `amf_tables/specs/SpelledNodes` |
 | what a command that words ask for does: `perform` | `IsAskable` in `amf_commands/specs/Askable` |
-
-No promise about a run of the program or about a message speaks of one.
+| how a link ended: `serve_link`, `serve_link_keyed` | `end_of` in `amf_gateway/specs/LinkSteps` |
+| each message is taken in order: `each_is_taken_once`, `replay` | `rises_by` in `amf_broker/specs/Sound` |
+| an FLV file or a chunk stream has one verdict: `files_have_one_verdict` of `flv_meta`, `one_verdict` of `rtmp_chunks` | `IsJudgedToEnd` and `IsJudgedOnceToEnd` in `amf_io/specs/Repeated` |
 
 """
 
@@ -285,6 +290,11 @@ def about(files, needed):
     return found
 
 
+def wrapped(paragraph):
+    """The lines of a paragraph, none of them too long."""
+    return textwrap.wrap(paragraph, width=140, break_long_words=False, break_on_hyphens=False)
+
+
 def link(specs):
     return f"[`{specs.crate}/{specs.name}`](../crates/{specs.crate}/specs/{specs.name}.antt)"
 
@@ -303,22 +313,22 @@ def path_of(files, known, title, promise, left_out, stops):
         out.append(f"| {place} | {link(specs)} | {lines} | {specs.says} | {', '.join(f'`{name}`' for name in names)} |")
     above = f", {fresh} of them not in a path above" if known else ""
     known |= {(key, name) for key in needed for name in needed[key]}
-    head = [f"## {title}", "", promise, "", f"{len(order)} files, of which {total} lines count{above}:", "",
+    head = [f"## {title}", "", *wrapped(promise), "", f"{len(order)} files, of which {total} lines count{above}:", "",
             "| | File | Lines | What it says | Definitions |", "|---|---|---|---|---|"]
     tail = [""]
     if types:
         named = "; ".join(f"{', '.join(f'`{name}`' for name in sorted(names))} in `{file}`" for file, names in sorted(types.items()))
-        tail += [f"Types of the code that these name: {named}.", ""]
+        tail += [*wrapped(f"Types of the code that these name: {named}."), ""]
     others.pop("std", None)
     if others:
         named = "; ".join(f"{', '.join(f'`{name}`' for name in sorted(names))} of `{crate}`" for crate, names in sorted(others.items()))
-        tail += [f"Definitions of the toolchain's crates that these name, beside those of its standard library: {named}.", ""]
+        tail += [*wrapped(f"Definitions of the toolchain's crates that these name, beside those of its standard library: {named}."), ""]
     laws = about(files, needed)
     if laws:
         tail += ["Laws and worked facts about them, which nobody has to trust, since they are proved:", "", "| File | Lines | What it says |", "|---|---|---|"]
         tail += [f"| {link(files[key])} | {len(files[key].lines)} | {files[key].says} |" for key in laws] + [""]
     if stopped:
-        tail += [f"Left out, since other commands or formats alone lead there: {', '.join(f'`{key}`' for key in sorted(stopped))}.", ""]
+        tail += [*wrapped(f"Left out, since other commands or formats alone lead there: {', '.join(f'`{key}`' for key in sorted(stopped))}."), ""]
     return head + out + tail
 
 
@@ -337,7 +347,7 @@ def inventory(files):
             out += ["| File | Lines | What it says |", "|---|---|---|"]
             out += [f"| `{specs.name}` | {len(specs.lines)} | {specs.says} |" for specs in shown] + [""]
         if hidden:
-            out += [f"Devices: {', '.join(f'`{specs.name}`' for specs in hidden)}.", ""]
+            out += [*wrapped(f"Devices: {', '.join(f'`{specs.name}`' for specs in hidden)}."), ""]
     return out + [f"Together {definitions} lines of definitions, and {devices} of devices."]
 
 
