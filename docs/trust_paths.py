@@ -88,7 +88,7 @@ TITLES = {
     "http_link": "Both ends of HTTP",
     "amf_http": "The HTTP front",
     "amf_once": "Polls that survive losses",
-    "amf_client": "The calling end",
+    "amf_client": "Calling the gateway",
     "amf_plan": "What a link is answered",
     "amf_plan_laws": "The laws of what a link is answered",
     "amf_flex_replies": "Replies to Flex clients",
