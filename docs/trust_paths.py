@@ -39,7 +39,9 @@ program or about a message speaks of one. These do:
 - laws about layouts, and the trait `Format`;
 - the calls by which a reader of another format reads on: those of `amf_fields`, `append_field`, `append_raw`, `append_exactly` and
   `append_basic` of `amf_io`, `read_text` and `read_value` of `amf3_read`, and `read_short_text` and `read_value0` of `amf0_read`;
-- the readers and laws of `rtmp_chunks`, which speak of the layout of a chunk stream (`Machine`) and of those of `amf_io`;
+- the readers and laws of `rtmp_chunks`, which speak of the layout of a chunk stream (`Machine`) and of those of `amf_io`. The fields of a chunk
+  stream, what is refused in each and so every offset of a refusal are said by `Machine` alone, although its first line calls it a device: who
+  goes by the verdict has to read it against the table in FORMATS;
 - the steps that the gateway's crates share: `amf_plan`, `amf_flex_replies` and `amf_plain_calls`.
 
 Of the other promises these do, and who goes by one has to read as much of the device:
