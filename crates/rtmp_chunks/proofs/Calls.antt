@@ -20,6 +20,7 @@ use Rattle.rtmp_chunks.specs.Calls.{settled, Calls, CallsTell}
 use Rattle.rtmp_chunks.proofs.ChunkReads.{part_law}
 use Rattle.rtmp_chunks.proofs.ReadingStreams.{reads_streams}
 use Rattle.rtmp_chunks.proofs.Nexts.{EndsBehind, gives_done, gives_message, stream_refused, stream_waits}
+use Rattle.rtmp_chunks.proofs.LongestFronts.{before_refusal, before_fault}
 
 -- Messages that came before change nothing of what is read.
 
@@ -139,7 +140,11 @@ pub calls_tell : CallsTell
 calls_tell = record {
   tells = λ limit between place handshake input mid rest ms t h c. whole_stream input mid rest between place limit ms t (head_done (Unit {0}) handshake input mid between limit h) (run_of (Unit {0}) ms start t mid rest between place limit refl c);
   refuses = λ limit between place handshake input mid rest ms t f h c.
-      stream_refused (Unit {0}) ms input mid rest between limit (head_done (Unit {0}) handshake input mid between limit h) f (end_of (Unit {0}) ms start t (Refused f) mid rest between place limit refl c) tt;
+      let d = head_done (Unit {0}) handshake input mid between limit h in
+      let e = end_of (Unit {0}) ms start t (Refused f) mid rest between place limit refl c in
+      (stream_refused (Unit {0}) ms input mid rest between limit d f e tt, before_refusal ms input mid rest between limit d f e);
   waits = λ limit between place handshake input mid rest ms t h c.
-      stream_waits (Unit {0}) ms input mid rest between limit (head_done (Unit {0}) handshake input mid between limit h) (end_of (Unit {0}) ms start t ReadFault mid rest between place limit refl c) tt;
+      let d = head_done (Unit {0}) handshake input mid between limit h in
+      let e = end_of (Unit {0}) ms start t ReadFault mid rest between place limit refl c in
+      (stream_waits (Unit {0}) ms input mid rest between limit d e tt, before_fault ms input mid rest between limit d e);
 }

@@ -17,5 +17,6 @@ pub mod LaterChunks
 pub mod Tables
 pub mod ChunkReads
 pub mod NextReads
+pub mod LongestFronts
 pub mod Calls
 pub mod Rechunking

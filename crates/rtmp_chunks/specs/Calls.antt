@@ -1,12 +1,12 @@
 -- Calls of the reader of messages, one after another.
-use Rattle.std.specs.Prelude.{ℕ, List, [], ◌∷◌, Option, Some, None, Result, Ok, Err}
+use Rattle.std.specs.Prelude.{◌≡◌, ◌≤◌, ℕ, List, [], ◌∷◌, ◌++◌, length, Option, Some, None, Result, Ok, Err}
 use Rattle.amf_io.specs.declared.ends.Refusal.{Refusal}
 use Rattle.amf_io.specs.declared.ends.ReadEnd.{ReadEnd}
 use Rattle.amf_io.specs.declared.ends.ReadEnd.TheVariants.{Refused, ReadFault}
 use Rattle.amf_io.specs.LayoutAnswer.{DoneBy}
 use Rattle.amf_io.specs.Stretch.{Stretch, stretch, IsInterrupted}
 use Rattle.amf_io.specs.Verdict.{IsRefused}
-use Rattle.rtmp_chunks.specs.Chunk.{Message}
+use Rattle.rtmp_chunks.specs.Chunk.{Message, Unfinished}
 use Rattle.rtmp_chunks.specs.Stream.{IsChunkStream}
 use Rattle.rtmp_chunks.specs.Machine.{State, start, handshake_layout, unfinished}
 use Rattle.rtmp_chunks.specs.Laws.{IsStreamFields}
@@ -21,14 +21,25 @@ abbrev pub Calls : Result (Option Message) ReadEnd → List Message → State �
 Calls r [] s t x = AnswersNext (λ m. m) s t x r
 Calls r (m ∷ ms) s t x = (u : State) × (mid : List ℕ) × (between : ℕ) × AnswersNext (λ m. m) s u (stretch x.told x.input mid x.at between x.limit) (Ok (Some m)) × Calls r ms (settled u) t (stretch x.told mid x.rest between x.place x.limit)
 
+-- of the fronts of an input that are chunk streams, and have no more bytes than this, the longest has these messages
+pub record FrontSays (input : List ℕ) (most : ℕ) (messages : List Message) : Type 0 where
+  pub front : List ℕ
+  pub left : List ℕ
+  pub opens : List Unfinished
+  pub parts : input ≡ front ++ left
+  pub within : length front ≤ most
+  pub says : IsChunkStream front messages opens
+  pub longest : (other more : List ℕ) (ms : List Message) (us : List Unfinished) → input ≡ other ++ more → length other ≤ most → IsChunkStream other ms us → length other ≤ length front
+
 -- behind a handshake that was read, from a source that tells what it gives
 pub record CallsTell : Type 0 where
   -- calls until one gives none give exactly the messages of the stream, and what is held then are its unfinished ones
   pub tells : (limit between place : ℕ) (handshake input mid rest : List ℕ) (ms : List Message) (t : State) → DoneBy (Unit {0}) handshake_layout handshake input mid 0 between limit
       → Calls (Ok None) ms start t (stretch (Unit {0}) mid rest between place limit) → IsChunkStream input ms (unfinished t.slots)
-  -- a refusal is the verdict on the whole input
+  -- a refusal is the verdict on the whole input; and the messages before are all those of the front that ends no later
   pub refuses : (limit between place : ℕ) (handshake input mid rest : List ℕ) (ms : List Message) (t : State) (f : Refusal) → DoneBy (Unit {0}) handshake_layout handshake input mid 0 between limit
-      → Calls (Err (Refused f)) ms start t (stretch (Unit {0}) mid rest between place limit) → IsRefused IsStreamFields 0 limit input f.reason f.at
-  -- and what came before a read failed ends inside a field
+      → Calls (Err (Refused f)) ms start t (stretch (Unit {0}) mid rest between place limit) → IsRefused IsStreamFields 0 limit input f.reason f.at × FrontSays input f.at ms
+  -- what came before a read failed ends inside a field; and the messages are all those of its front
   pub waits : (limit between place : ℕ) (handshake input mid rest : List ℕ) (ms : List Message) (t : State) → DoneBy (Unit {0}) handshake_layout handshake input mid 0 between limit
-      → Calls (Err ReadFault) ms start t (stretch (Unit {0}) mid rest between place limit) → IsInterrupted IsStreamFields input rest 0 limit
+      → Calls (Err ReadFault) ms start t (stretch (Unit {0}) mid rest between place limit)
+      → IsInterrupted IsStreamFields input rest 0 limit × ((given : List ℕ) → input ≡ given ++ rest → FrontSays given (length given) ms)
