@@ -21,6 +21,7 @@ use Rattle.rtmp_chunks.proofs.ChunkReads.{part_law}
 use Rattle.rtmp_chunks.proofs.ReadingStreams.{reads_streams}
 use Rattle.rtmp_chunks.proofs.Nexts.{EndsBehind, gives_done, gives_message, stream_refused, stream_waits}
 use Rattle.rtmp_chunks.proofs.LongestFronts.{before_refusal, before_fault}
+use Rattle.rtmp_chunks.proofs.HeadVerdicts.{head_refused, head_waits, refused_no_front, waits_no_front}
 
 -- Messages that came before change nothing of what is read.
 
@@ -138,6 +139,8 @@ whole_stream input mid rest between place limit ms t h a =
 
 pub calls_tell : CallsTell
 calls_tell = record {
+  begins_refused = λ limit input f r. (head_refused limit input f r, refused_no_front limit input f r);
+  begins_waits = λ limit input rest w. (head_waits limit input rest w, waits_no_front limit input rest w);
   tells = λ limit between place handshake input mid rest ms t h c. whole_stream input mid rest between place limit ms t (head_done (Unit {0}) handshake input mid between limit h) (run_of (Unit {0}) ms start t mid rest between place limit refl c);
   refuses = λ limit between place handshake input mid rest ms t f h c.
       let d = head_done (Unit {0}) handshake input mid between limit h in

@@ -18,5 +18,6 @@ pub mod Tables
 pub mod ChunkReads
 pub mod NextReads
 pub mod LongestFronts
+pub mod HeadVerdicts
 pub mod Calls
 pub mod Rechunking

@@ -3,7 +3,7 @@ use Rattle.std.specs.Prelude.{◌≡◌, ◌≤◌, ℕ, List, [], ◌∷◌, �
 use Rattle.amf_io.specs.declared.ends.Refusal.{Refusal}
 use Rattle.amf_io.specs.declared.ends.ReadEnd.{ReadEnd}
 use Rattle.amf_io.specs.declared.ends.ReadEnd.TheVariants.{Refused, ReadFault}
-use Rattle.amf_io.specs.LayoutAnswer.{DoneBy}
+use Rattle.amf_io.specs.LayoutAnswer.{DoneBy, RefusedBy, WaitsBy}
 use Rattle.amf_io.specs.Stretch.{Stretch, stretch, IsInterrupted}
 use Rattle.amf_io.specs.Verdict.{IsRefused}
 use Rattle.rtmp_chunks.specs.Chunk.{Message, Unfinished}
@@ -31,9 +31,17 @@ pub record FrontSays (input : List ℕ) (most : ℕ) (messages : List Message) :
   pub says : IsChunkStream front messages opens
   pub longest : (other more : List ℕ) (ms : List Message) (us : List Unfinished) → input ≡ other ++ more → length other ≤ most → IsChunkStream other ms us → length other ≤ length front
 
--- behind a handshake that was read, from a source that tells what it gives
+-- no front of an input that has no more bytes than this is a chunk stream
+abbrev pub NoFront : List ℕ → ℕ → Type 0
+NoFront input most = (front left : List ℕ) (ms : List Message) (us : List Unfinished) → input ≡ front ++ left → length front ≤ most → IsChunkStream front ms us → ⊥
+
+-- from a source that tells what it gives
 pub record CallsTell : Type 0 where
-  -- calls until one gives none give exactly the messages of the stream, and what is held then are its unfinished ones
+  -- a refusal of the handshake is the verdict on the whole input; and no message came before it
+  pub begins_refused : (limit : ℕ) (input : List ℕ) (f : Refusal) → RefusedBy handshake_layout input 0 limit f → IsRefused IsStreamFields 0 limit input f.reason f.at × NoFront input f.at
+  -- what came of it before a read failed ends inside a field
+  pub begins_waits : (limit : ℕ) (input rest : List ℕ) → WaitsBy handshake_layout input rest 0 limit → IsInterrupted IsStreamFields input rest 0 limit × ((given : List ℕ) → input ≡ given ++ rest → NoFront given (length given))
+  -- behind a handshake that was read, calls until one gives none give exactly the messages of the stream, and what is held then are its unfinished ones
   pub tells : (limit between place : ℕ) (handshake input mid rest : List ℕ) (ms : List Message) (t : State) → DoneBy (Unit {0}) handshake_layout handshake input mid 0 between limit
       → Calls (Ok None) ms start t (stretch (Unit {0}) mid rest between place limit) → IsChunkStream input ms (unfinished t.slots)
   -- a refusal is the verdict on the whole input; and the messages before are all those of the front that ends no later

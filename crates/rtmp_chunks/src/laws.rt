@@ -27,7 +27,8 @@ pub fn one_verdict()
 
 /// Calls of [`crate::Chunks::next`] behind [`crate::read_handshake`], until one gives none, give exactly the messages of the chunk
 /// stream that the input is, and [`crate::Chunks::open`] lists its unfinished ones. Where one is refused, that is the verdict on
-/// the whole input; and behind a refusal or a read that failed the messages are all those of the front before it.
+/// the whole input; and behind a refusal or a read that failed the messages are all those of the front before it. The same is said
+/// of a handshake that is refused, or whose reading fails: no message is before it.
 pub fn calls_tell()
     ensures calls { CallsTell }
 {}
