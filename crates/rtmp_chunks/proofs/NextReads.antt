@@ -12,9 +12,17 @@ use Rattle.amf_io.specs.ReadEnds.{Goes, IsPlaced}
 use Rattle.amf_io.specs.CursorReads.{Ends}
 use Rattle.amf_io.specs.Stretch.{between}
 use Rattle.rtmp_chunks.specs.Chunk.{Message}
-use Rattle.rtmp_chunks.specs.Machine.{State, chunk_layout}
+use Rattle.rtmp_chunks.specs.declared.parts.Slot.{Slot as HeldSlot}
+use Rattle.rtmp_chunks.specs.Machine.{State, start, chunk_layout}
+use Rattle.rtmp_chunks.specs.Table.{state_seen}
 use Rattle.rtmp_chunks.specs.Reader.{LeadsOn, Gives, EndsIn, AnswersNext}
+use Rattle.rtmp_chunks.proofs.ChunkReads.{same_state}
+use Rattle.rtmp_chunks.proofs.Tables.{past}
 use Rattle.rtmp_chunks.proofs.Nexts.{leads_further, gives_one, ends_inside}
+
+-- the first state is held
+pub no_chunks : (size : ℕ) (slots : List HeldSlot) → size ≡ 128 → slots ≡ [] → state_seen size slots [] ≡ start
+no_chunks size slots p q = same_state (state_seen size slots []) start p (λ j. past slots j (omega (arith, ap length q))) refl
 
 -- no chunk yet
 pub leads_none : {S : Type 0} (tells : S → Type 0) (left : S → List ℕ) (c : Cursor S Window) (s : State) → IsPlaced c → (n : ℕ) × LeadsOn n s s (between tells left c c)

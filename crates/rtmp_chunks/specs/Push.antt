@@ -2,6 +2,7 @@
 use Rattle.std.specs.Prelude.{Bool, ◌≡◌, ℕ, zero, suc, ◌+◌, ◌*◌, ◌-◌, ◌/◌, ◌%◌, ◌<◌, ◌≤◌, List, [], ◌∷◌, ◌++◌, length, take, drop, nat_le, nat_lt, not, ◌==◌, ◌&&◌, ◌||◌, if◌then◌else◌, Option, Some, None}
 use Rattle.std.specs.Int.{to_be_bytes, to_le_bytes, w32}
 use Rattle.amf_io.specs.Field.{AreBytes}
+use Rattle.rtmp_chunks.specs.declared.parts.Chunker.{Chunker}
 use Rattle.rtmp_chunks.specs.declared.chunker.ChunkEnd.{ChunkEnd}
 use Rattle.rtmp_chunks.specs.declared.chunker.ChunkEnd.TheVariants.{BadId, LongData, BadSize}
 use Rattle.rtmp_chunks.specs.Chunk.{lesser, Message, number_of}
@@ -35,6 +36,10 @@ size_then size m = if m.type == 1 then number_of m.bytes else size
 abbrev pub pushed_all : ℕ → List Message → List ℕ
 pushed_all size [] = []
 pushed_all size (m ∷ ms) = pushed size m ++ pushed_all (size_then size m) ms
+
+-- the chunk size that a writer holds
+abbrev pub size_of : Chunker → ℕ
+size_of c = c.size
 
 -- a message that is written
 pub record IsPushed (m : Message) : Type 0 where

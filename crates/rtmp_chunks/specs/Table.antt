@@ -7,6 +7,7 @@ use Rattle.rtmp_chunks.specs.declared.parts.Slot.TheVariants.{Fresh as NoHead, I
 use Rattle.rtmp_chunks.specs.declared.parts.Part.{Part}
 use Rattle.rtmp_chunks.specs.declared.parts.Message.{Message as HeldMessage}
 use Rattle.rtmp_chunks.specs.declared.parts.Open.{Open}
+use Rattle.rtmp_chunks.specs.declared.parts.Chunks.{Chunks}
 use Rattle.rtmp_chunks.specs.Chunk.{lesser, header_kind, data_kind, stamp_in, Head, filled, Message, Unfinished}
 use Rattle.rtmp_chunks.specs.Stream.{header_before, by_id}
 use Rattle.rtmp_chunks.specs.Machine.{Slot, Fresh, Idle, Busy, State, stamp_layout, passed, unfinished_in}
@@ -24,7 +25,7 @@ abbrev pub slots_seen : List HeldSlot → ℕ → Slot
 slots_seen slots i = slot_seen (slice_index_or slots i NoHead)
 
 abbrev pub message_seen : HeldMessage → Message
-message_seen m = record { id = m.id; type = m.kind; stream = m.stream; time = m.time; bytes = m.bytes.items }
+message_seen m = record { id = m.id; type = m.kind; stream = m.stream; time = m.time; bytes = m.bytes }
 
 abbrev pub made : Option HeldMessage → List Message
 made None = []
@@ -75,6 +76,16 @@ ListsUnfinished slots list = (n : ℕ) → n ≡ 65600 → list ≡ by_id n 0 (�
 -- the state that a reader holds, with messages
 abbrev pub state_seen : ℕ → List HeldSlot → List Message → State
 state_seen size slots messages = record { size = size; slots = slots_seen slots; messages = messages }
+
+abbrev pub held : Chunks → List Message → State
+held c messages = state_seen c.size c.slots.items messages
+
+-- what it lists as unfinished, and that these are the unfinished ones
+abbrev pub listed : Chunks → List Unfinished
+listed c = opens_seen c.unfinished.items
+
+abbrev pub ListsAll : Chunks → Type 0
+ListsAll c = ListsUnfinished (slots_seen c.slots.items) (listed c)
 
 abbrev pub made_by : {E : Type 0} → Result (Option HeldMessage) E → List Message
 made_by (Ok m) = made m

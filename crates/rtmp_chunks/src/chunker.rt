@@ -3,11 +3,11 @@ ghost use Rattle.amf_io.specs.Field.{AreBytes};
 ghost use Rattle.rtmp_chunks.specs.declared.chunker.ChunkEnd.{ChunkEnd as End};
 ghost use Rattle.rtmp_chunks.specs.declared.chunker.ChunkEnd.TheVariants.{Memory};
 ghost use Rattle.rtmp_chunks.specs.Chunk.{lesser};
-ghost use Rattle.rtmp_chunks.specs.Push.{basic_header, three_bytes, extended_field, message_header, later_chunks, pushed, size_then, IsPushed, sets_no_size, refusal_of};
+ghost use Rattle.rtmp_chunks.specs.Push.{basic_header, three_bytes, extended_field, message_header, later_chunks, pushed, size_then, size_of, IsPushed, sets_no_size, refusal_of};
 ghost use Rattle.rtmp_chunks.specs.Table.{message_seen};
 
 use crate::headers::number_in;
-use crate::parts::Message;
+use crate::parts::{Chunker, Message};
 use std::alloc::{AllocError, Global};
 
 /// Appends the shortest basic header.
@@ -58,11 +58,11 @@ fn short_time(time: u32) -> u32
 
 /// Appends the message header of format 0.
 fn push_header(m: &Message, out: &mut Vec<u8>) -> Result<(), AllocError>
-    requires { length m.now.bytes.items ≤ 16777215 }
+    requires { length m.now.bytes ≤ 16777215 }
     ensures { OnOk result (out.new.items ≡ out.old.items ++ message_header (message_seen m.now)) }
 {
     push_three(short_time(m.time), out)?;
-    push_three(m.bytes.len() as u32, out)?;
+    push_three(m.bytes.as_slice().len() as u32, out)?;
     out.push(m.kind)?;
     out.extend_from_slice(&m.stream.to_le_bytes())
 }
@@ -80,7 +80,7 @@ fn push_later(id: u32, time: u32, piece: &[u8], out: &mut Vec<u8>) -> Result<(),
 /// Appends the first chunk, of format 0.
 fn push_first(m: &Message, piece: &[u8], out: &mut Vec<u8>) -> Result<(), AllocError>
     requires id { m.now.id ≤ 65599 }
-    requires short { length m.now.bytes.items ≤ 16777215 }
+    requires short { length m.now.bytes ≤ 16777215 }
     ensures { OnOk result (out.new.items ≡ out.old.items ++ (basic_header 0 m.now.id ++ (message_header (message_seen m.now) ++ (extended_field m.now.time ++ piece.now)))) }
 {
     push_basic(0, m.id, out)?;
@@ -121,10 +121,10 @@ fn push_rest(size: u32, m: &Message, rest: &[u8], out: &mut Vec<u8>) -> Result<(
 fn write(size: u32, m: &Message, out: &mut Vec<u8>) -> Result<(), AllocError>
     requires size { 0 < size }
     requires id { m.now.id ≤ 65599 }
-    requires short { length m.now.bytes.items ≤ 16777215 }
+    requires short { length m.now.bytes ≤ 16777215 }
     ensures { OnOk result (out.new.items ≡ out.old.items ++ pushed size (message_seen m.now)) }
 {
-    let (piece, rest) = cut(&m.bytes, size);
+    let (piece, rest) = cut(m.bytes.as_slice(), size);
     push_first(m, piece, out)?;
     push_rest(size, m, rest, out)?;
     Ok(())
@@ -143,19 +143,12 @@ pub enum ChunkEnd {
     Memory,
 }
 
-/// Writes messages as chunks of one size, until a message sets another.
-#[derive(Drop)]
-pub struct Chunker {
-    size: u32,
-    ghost some: { 0 < size },
-}
-
 /// Whether a message of type 1 sets no chunk size.
 fn is_bad_size(m: &Message) -> bool
     ensures { result ≡ sets_no_size (message_seen m.now) }
 {
-    m.kind == 1
-        && (m.bytes.len() != 4 || number_in(&m.bytes) == 0 || 0x8000_0000 <= number_in(&m.bytes))
+    let bytes = m.bytes.as_slice();
+    m.kind == 1 && (bytes.len() != 4 || number_in(bytes) == 0 || 0x8000_0000 <= number_in(bytes))
 }
 
 /// Why a message cannot be written.
@@ -165,7 +158,7 @@ fn refusal(m: &Message) -> Option<ChunkEnd>
     if m.id < 2 || 65_599 < m.id {
         return Some(ChunkEnd::BadId);
     }
-    if 16_777_215 < m.bytes.len() {
+    if 16_777_215 < m.bytes.as_slice().len() {
         return Some(ChunkEnd::LongData);
     }
     if is_bad_size(m) {
@@ -196,13 +189,13 @@ fn is_pushed(m: &Message)
     ensures { IsPushed (message_seen m.now) }
 {
     are_in_range(m.kind, m.stream, m.time);
-    are_bytes(&m.bytes);
+    are_bytes(m.bytes.as_slice());
 }
 
 impl Chunker {
     /// Chunks have 128 bytes until a message sets another size (5.4.1).
     pub fn new() -> Chunker
-        ensures { result.size ≡ 128 }
+        ensures { size_of result ≡ 128 }
     {
         Chunker { size: 128 }
     }
@@ -212,12 +205,12 @@ impl Chunker {
     /// chunks behind it. A message is refused with `BadId`, `LongData` or `BadSize`, in this order, exactly where it is one of
     /// these; `Memory` is the one other end. After an end both are as before.
     pub fn push(&mut self, alloc: Global, m: &Message, out: &mut Vec<u8>) -> Result<(), ChunkEnd>
-        ensures pushed { OnOk result (out.new.items ≡ out.old.items ++ pushed self.old.size (message_seen m.now)) }
-        ensures size { OnOk result (self.new.size ≡ size_then self.old.size (message_seen m.now)) }
+        ensures pushed { OnOk result (out.new.items ≡ out.old.items ++ pushed (size_of self.old) (message_seen m.now)) }
+        ensures size { OnOk result (size_of self.new ≡ size_then (size_of self.old) (message_seen m.now)) }
         ensures accepted { OnOk result (IsPushed (message_seen m.now)) }
         ensures refused { (end : End) → refusal_of (message_seen m.now) ≡ Some end → result ≡ Err end }
         ensures ends { IfErr result (λ end. (refusal_of (message_seen m.now) ≡ Some end) ⊎ (end ≡ Memory)) }
-        ensures kept { OnErr result (self.new.size ≡ self.old.size) }
+        ensures kept { OnErr result (size_of self.new ≡ size_of self.old) }
         ensures untouched { OnErr result (out.new.items ≡ out.old.items) }
     {
         if let Some(end) = refusal(m) {
@@ -232,7 +225,7 @@ impl Chunker {
             return Err(ChunkEnd::Memory);
         }
         if m.kind == 1 {
-            self.size = number_in(&m.bytes);
+            self.size = number_in(m.bytes.as_slice());
         }
         Ok(())
     }

@@ -1,4 +1,4 @@
-ghost use Rattle.std.specs.Prelude.{◌≡◌, ◌<◌, ◌≤◌, ◌↔◌, ℕ, [], ◌∷◌, length, IsTrue, OnOk, IfOk, IfErr, None};
+ghost use Rattle.std.specs.Prelude.{◌≡◌, ◌<◌, ◌≤◌, ◌↔◌, ℕ, [], ◌∷◌, length, IsTrue, OnOk, IfOk, IfErr, IfSome, None};
 ghost use Rattle.amf_io.specs.Cursor.{source_of, place, unread};
 ghost use Rattle.amf_io.specs.ReadEnds.{IsPlaced, Goes};
 ghost use Rattle.amf_io.specs.CursorReads.{Answers};
@@ -6,25 +6,16 @@ ghost use Rattle.amf_io.specs.Stretch.{between};
 ghost use Rattle.rtmp_chunks.specs.Chunk.{size_behind, whole_message};
 ghost use Rattle.rtmp_chunks.specs.Machine.{start, put, slot_of, dropped_by, chunk_layout};
 ghost use Rattle.rtmp_chunks.specs.Reader.{AnswersNext};
-ghost use Rattle.rtmp_chunks.specs.Table.{head_seen, slots_seen, message_seen, made, made_by, opens_seen, state_seen, ListsUnfinished};
+ghost use Rattle.rtmp_chunks.specs.Table.{head_seen, slots_seen, message_seen, made, made_by, opens_seen, state_seen, held, listed, ListsAll};
 
 use crate::data::{read_part, refuses};
 use crate::fields::{format_in, id_in, read_basic};
 use crate::headers::number_in;
-use crate::parts::{Message, Open, Part, Slot};
+use crate::parts::{Chunks, Message, MessageBytes, Open, Part, Slot};
 use crate::table::{drop_unfinished, list_unfinished, make_room, take_slot};
 use amf_io::{Cursor, ReadEnd, Reason, Source, refused};
+use amf_wire::Memory;
 use std::alloc::Global;
-
-/// The chunk streams of one direction of a connection, as far as they were read (Adobe's RTMP specification 1.0, 5.3). It holds the
-/// bytes of unfinished messages as far as they came, and a table up to the greatest id that came, of at most 65,600.
-#[derive(Drop)]
-pub struct Chunks {
-    size: u32,
-    slots: Vec<Slot>,
-    open: Vec<Open>,
-    ghost few: { length slots.items ≤ 65600 },
-}
 
 /// Whether no byte follows.
 fn is_over<S: Source>(cursor: &mut Cursor<'_, S>) -> Result<bool, ReadEnd>
@@ -45,36 +36,36 @@ fn is_over<S: Source>(cursor: &mut Cursor<'_, S>) -> Result<bool, ReadEnd>
 
 impl Chunks {
     /// No chunk was read: chunks have 128 bytes.
-    pub fn new(alloc: Global) -> Chunks
-        ensures size { result.size ≡ 128 }
-        ensures slots { result.slots.items ≡ [] }
-        ensures open { result.open.items ≡ [] }
+    pub fn new(alloc: Global) -> Result<Chunks, Memory>
+        ensures start { IfOk result (λ chunks. held chunks [] ≡ start) }
+        ensures none { IfOk result (λ chunks. listed chunks ≡ []) }
     {
-        Chunks {
+        Ok(Chunks {
             size: 128,
             slots: Vec::new(alloc),
-            open: Vec::new(alloc),
-        }
+            unfinished: Vec::new(alloc),
+        })
     }
 
-    /// The unfinished messages by id, once [`Chunks::next`] gave none.
+    /// The unfinished messages by id, as they were when [`Chunks::next`] last gave none.
     pub fn open(&self) -> &[Open]
-        ensures { result.now ≡ self.now.open.items }
+        ensures { opens_seen result.now ≡ listed self.now }
     {
-        &self.open
+        &self.unfinished
     }
 
     /// What a whole message does: it sets the chunk size, or drops an unfinished one.
     fn obey(&mut self, message: &Message)
-        requires { message.now.kind ≡ 1 → length message.now.bytes.items ≡ 4 }
+        requires { message.now.kind ≡ 1 → length message.now.bytes ≡ 4 }
         ensures size { self.new.size ≡ size_behind self.old.size (message_seen message.now ∷ []) }
         ensures slots { (j : ℕ) → slots_seen self.new.slots.items j ≡ dropped_by j (message_seen message.now ∷ []) (slots_seen self.old.slots.items j) }
+        ensures listed { self.new.unfinished.items ≡ self.old.unfinished.items }
     {
         if message.kind == 1 {
-            self.size = number_in(&message.bytes);
+            self.size = number_in(message.bytes.as_slice());
         }
-        if message.kind == 2 && message.bytes.len() == 4 {
-            drop_unfinished(&mut self.slots, number_in(&message.bytes));
+        if message.kind == 2 && message.bytes.as_slice().len() == 4 {
+            drop_unfinished(&mut self.slots, number_in(message.bytes.as_slice()));
         }
     }
 
@@ -84,6 +75,7 @@ impl Chunks {
         ensures made { made result ≡ whole_message id (head_seen part.head) part.bytes.items }
         ensures size { self.new.size ≡ size_behind self.old.size (made result) }
         ensures slots { (j : ℕ) → slots_seen self.new.slots.items j ≡ dropped_by j (made result) (put id (slot_of (head_seen part.head) part.bytes.items) (slots_seen self.old.slots.items) j) }
+        ensures listed { self.new.unfinished.items ≡ self.old.unfinished.items }
     {
         let place = id as usize;
         let head = part.head;
@@ -97,7 +89,7 @@ impl Chunks {
             kind: head.kind,
             stream: head.stream,
             time: head.time,
-            bytes: part.bytes,
+            bytes: MessageBytes::of_vec(part.bytes),
         };
         self.obey(&message);
         Some(message)
@@ -113,6 +105,7 @@ impl Chunks {
         ensures answers { Answers S.tells S.left (λ it. state_seen self.new.size self.new.slots.items (made it)) (chunk_layout (state_seen self.old.size self.old.slots.items [])) cursor.old cursor.new result }
         ensures placed { OnOk result (IsPlaced cursor.new) }
         ensures moves { OnOk result (place cursor.old < place cursor.new) }
+        ensures listed { OnOk result (self.new.unfinished.items ≡ self.old.unfinished.items) }
     {
         let start = cursor.at();
         let basic = read_basic(alloc, cursor)?;
@@ -127,9 +120,10 @@ impl Chunks {
         Ok(self.came(id, part))
     }
 
-    /// Reads to the end of the next message. There is none exactly where the input ends between chunks before another message is
-    /// whole. `BadChunk` and `BadChunkSize` stand at the field that is refused: a format that cannot stand (5.3.1.2), a message of
-    /// type 1 whose length is not 4, or whose number is 0 or above 2^31-1 (5.4.1). Its memory grows only as bytes come. After an end
+    /// Reads to the end of the next message, and no further. There is none exactly where the input ends between chunks before
+    /// another message is whole. `BadChunk` and `BadChunkSize` stand at the field that is refused: a format that cannot stand
+    /// (5.3.1.2), a message of type 1 whose length is not 4, or whose number is 0 or above 2^31-1 (5.4.1). A refusal or a read that
+    /// fails comes only once each message before it was given. Its memory grows only as bytes come, but for the table. After an end
     /// the `Chunks` and the cursor are only to be dropped.
     pub fn next<S: Source>(
         &mut self,
@@ -137,8 +131,9 @@ impl Chunks {
         cursor: &mut Cursor<'_, S>,
     ) -> Result<Option<Message>, ReadEnd>
         ensures goes { Goes S.tells S.left S.faults cursor.old cursor.new result }
-        ensures answers { AnswersNext message_seen (state_seen self.old.size self.old.slots.items []) (state_seen self.new.size self.new.slots.items (made_by result)) (between S.tells S.left cursor.old cursor.new) result }
-        ensures open { IfOk result (λ it. it ≡ None → ListsUnfinished (slots_seen self.new.slots.items) (opens_seen self.new.open.items)) }
+        ensures answers { AnswersNext message_seen (held self.old []) (held self.new (made_by result)) (between S.tells S.left cursor.old cursor.new) result }
+        ensures open { IfOk result (λ it. it ≡ None → ListsAll self.new) }
+        ensures kept { IfOk result (λ it. IfSome it (λ message. listed self.new ≡ listed self.old)) }
     {
         // What is true of every cursor.
         let _start = cursor.at();
@@ -147,7 +142,7 @@ impl Chunks {
                 return Ok(Some(message));
             }
         }
-        self.open = list_unfinished(alloc, &self.slots)?;
+        self.unfinished = list_unfinished(alloc, &self.slots)?;
         Ok(None)
     }
 }

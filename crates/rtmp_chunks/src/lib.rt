@@ -11,10 +11,9 @@ mod laws;
 mod parts;
 mod table;
 
-pub use chunker::{ChunkEnd, Chunker};
-pub use chunks::Chunks;
+pub use chunker::ChunkEnd;
 pub use handshake::read_handshake;
 pub use laws::{
     calls_tell, one_meaning, one_verdict, pushed_reads, reading_tells, rechunked, worked_rows,
 };
-pub use parts::{Message, Open};
+pub use parts::{Chunker, Chunks, Message, MessageBytes, Open};

@@ -1,4 +1,6 @@
-ghost use Rattle.std.specs.Prelude.{◌≡◌, ◌≤◌, length};
+ghost use Rattle.std.specs.Prelude.{◌≡◌, ◌<◌, ◌≤◌, length};
+
+use std::marker::Model;
 
 /// A message header, filled in from the one before.
 #[derive(Clone, Copy, Debug, PartialEq, Eq, Drop)]
@@ -43,6 +45,36 @@ pub(crate) enum Slot {
     Busy(Part),
 }
 
+/// The data of a message, without its headers.
+#[derive(Debug, Drop)]
+pub struct MessageBytes {
+    bytes: Vec<u8>,
+}
+
+impl Model for MessageBytes {
+    ghost use Rattle.std.specs.Prelude.{ℕ, List};
+
+    ghost Value = { List ℕ };
+
+    ghost view = { λ m. m.bytes.items };
+}
+
+impl MessageBytes {
+    /// These bytes.
+    pub fn of_vec(bytes: Vec<u8>) -> MessageBytes
+        ensures { result ≡ bytes.items }
+    {
+        MessageBytes { bytes }
+    }
+
+    /// The bytes, in order.
+    pub fn as_slice(&self) -> &[u8]
+        ensures { result.now ≡ self.now }
+    {
+        self.bytes.as_slice()
+    }
+}
+
 /// A message (Adobe's RTMP specification 1.0, 5.3.1.2).
 #[derive(Drop)]
 pub struct Message {
@@ -55,7 +87,7 @@ pub struct Message {
     /// Its time in milliseconds, modulo 2^32.
     pub time: u32,
     /// Its data: at most 16,777,215 bytes where it was read.
-    pub bytes: Vec<u8>,
+    pub bytes: MessageBytes,
 }
 
 /// An unfinished message.
@@ -67,4 +99,21 @@ pub struct Open {
     pub got: u32,
     /// How many it has.
     pub of: u32,
+}
+
+/// The chunk streams of one direction of a connection, as far as they were read (Adobe's RTMP specification 1.0, 5.3). It holds the
+/// bytes of unfinished messages as far as they came, and a table up to the greatest id that came, of at most 65,600.
+#[derive(Drop)]
+pub struct Chunks {
+    pub(crate) size: u32,
+    pub(crate) slots: Vec<Slot>,
+    pub(crate) unfinished: Vec<Open>,
+    ghost few: { length slots.items ≤ 65600 },
+}
+
+/// Writes messages as chunks of one size, until a message sets another.
+#[derive(Drop)]
+pub struct Chunker {
+    pub(crate) size: u32,
+    ghost some: { 0 < size },
 }

@@ -9,11 +9,11 @@ pub returns : goal.returns
 returns c =
     let m = message_seen c.args.m.now in
     let n = c.args.size in
-    let bytes = c.args.m.now.bytes.items in
+    let bytes = c.args.m.now.bytes in
     let B = basic_header 3 m.id in
     let E = extended_field m.time in
-    let r : c.cut.result.1.now ≡ drop n bytes = c.cut.ensures.rest ∙ ap (λ l. drop n l) c.deref.ensures.value in
-    let p : c.cut.result.0.now ≡ take n bytes = c.cut.ensures.front ∙ ap (λ l. take n l) c.deref.ensures.value in
+    let r : c.cut.result.1.now ≡ drop n bytes = c.cut.ensures.rest ∙ ap (λ l. drop n l) c.as_slice.ensures in
+    let p : c.cut.result.0.now ≡ take n bytes = c.cut.ensures.front ∙ ap (λ l. take n l) c.as_slice.ensures in
     let le : length c.cut.result.1.now ≤ length bytes = omega (arith, ap length r, length-drop n bytes) in
     c.in_ok-push_rest.ensures (length bytes) le
     ∙ ap (λ l. c.push_first.new.out.items ++ later_chunks (length bytes) n B E l) r

@@ -1,12 +1,12 @@
 -- From chunk to chunk: one gives a message, or none, or it ends there.
-use Rattle.std.proofs.Common.{[], ap, sym, subst, Ok, ◌<◌, length, ℕ}
+use Rattle.std.proofs.Common.{[], ap, sym, ◌∙◌, subst, Ok, ◌<◌, length, ℕ}
 use Rattle.amf_io.specs.Cursor.{unread}
 use Rattle.amf_io.proofs.CursorReads.{goes_then, goes_other}
 use Rattle.amf_io.specs.Stretch.{between}
 use Rattle.rtmp_chunks.specs.Reader.{LeadsOn, Gives}
-use Rattle.rtmp_chunks.specs.Table.{state_seen, message_seen, made, made_by}
+use Rattle.rtmp_chunks.specs.Table.{state_seen, message_seen, made, made_by, opens_seen}
 use Rattle.rtmp_chunks.proofs.NextReads.{looked, look_failed, chunk_failed, message_came, chunk_passed, some_left}
-use Rattle.rtmp_chunks.proofs.chunks.Chunks.next.Goals as goal
+use Rattle.rtmp_chunks.proofs.parts.Chunks.next.Goals as goal
 
 pub returns-in_err-is_over-clause-answers : goal.returns-in_err-is_over-clause-answers
 returns-in_err-is_over-clause-answers g c =
@@ -55,6 +55,9 @@ returns-in-Some-clause-answers g c =
     subst (λ v. (j : ℕ) × Gives j (state_seen o.size o.slots.items []) (state_seen n.size n.slots.items (made v)) (message_seen c.in-Some.message) (between S.tells S.left k f)) c.in-Some.is
     (message_came S.tells S.left S.faults message_seen (state_seen o.size o.slots.items []) (state_seen m.size m.slots.items []) k e i.leads.0 l b w f (state_seen n.size n.slots.items (made it)) (message_seen c.in-Some.message) a.answers (ap made c.in-Some.is))
 
+pub returns-in-Some-clause-kept : goal.returns-in-Some-clause-kept
+returns-in-Some-clause-kept g c = ap opens_seen (c.in_ok-message.ensures.listed ∙ c.loop-self.invariant.listed)
+
 pub loop-self-preserved : goal.loop-self-preserved
 loop-self-preserved g c =
     let S = g.S.Source in
@@ -77,4 +80,5 @@ loop-self-preserved g c =
           (chunk_passed S.tells S.left S.faults message_seen (state_seen o.size o.slots.items []) (state_seen m.size m.slots.items []) k e i.leads.0 l b w f (state_seen n.size n.slots.items (made it)) a.answers (ap made c.in_default.is));
       goes = goes_other S.tells S.left S.faults k f it tt (goes_then S.tells S.left S.faults k e f b (Ok it) w a.goes);
       placed = a.placed;
+      listed = a.listed ∙ i.listed;
     }

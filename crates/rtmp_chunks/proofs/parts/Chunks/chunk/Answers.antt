@@ -4,7 +4,7 @@ use Rattle.rtmp_chunks.specs.Chunk.{format_of, id_of, size_behind, whole_message
 use Rattle.rtmp_chunks.specs.Machine.{State, Slot, slot_of, put, dropped_by, came_to}
 use Rattle.rtmp_chunks.specs.Table.{state_seen, head_seen, slot_seen, slots_seen, made, part_seen}
 use Rattle.rtmp_chunks.proofs.ChunkReads.{basic_ended, basic_refused, part_ended, part_came, same_state}
-use Rattle.rtmp_chunks.proofs.chunks.Chunks.chunk.Goals as goal
+use Rattle.rtmp_chunks.proofs.parts.Chunks.chunk.Goals as goal
 
 pub returns-in_err-basic-clause-answers : goal.returns-in_err-basic-clause-answers
 returns-in_err-basic-clause-answers g c =
