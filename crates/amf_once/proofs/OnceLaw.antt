@@ -21,7 +21,7 @@ use Rattle.amf_once.specs.Hearing.{Below}
 use Rattle.amf_once.specs.Owners.{polls, OnlyPolls}
 use Rattle.amf_once.specs.Course.{Course, entry_of, start, asked, arrived, took, heard, answered, is_barred, called, step, run, fresh_or, pending}
 use Rattle.amf_once.proofs.Held.{Held, held, Keeps, Polled, polled-fact, others-fact, next-fact, held-first, next-first}
-use Rattle.amf_once.proofs.Answers.{at_most_more, at_most_suc, at_most_item, all_more, all_item, all_weaken, fresh_behind, none_fresh, fresh_stays, others_before, others_last}
+use Rattle.amf_once.proofs.Answering.{at_most_more, at_most_suc, at_most_item, all_more, all_item, all_weaken, fresh_behind, none_fresh, fresh_stays, others_before, others_last}
 use Rattle.amf_once.proofs.Stands.{HoldsNumber, HoldsBatch, Near, Level, Waits, Stands, keeps_number, keeps_batch, number_held, batch_held}
 
 judged_new : (asks n : ℕ) → n ≡ asks → judged asks n ≡ New

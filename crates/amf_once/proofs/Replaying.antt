@@ -16,7 +16,7 @@ use Rattle.amf_once.specs.Taking.{judged, Said, fresh, repeated, other, says}
 use Rattle.amf_once.specs.Hearing.{Below, AllSay}
 use Rattle.amf_once.specs.Course.{Course, start, took, heard, answered, arrived, called, is_barred, step, run}
 use Rattle.amf_once.specs.Shown.{Shows}
-use Rattle.amf_once.proofs.Answers.{all_weaken}
+use Rattle.amf_once.proofs.Answering.{all_weaken}
 use Rattle.amf_once.proofs.Stands.{Near, Level, Waits}
 use Rattle.amf_once.proofs.OnceLaw.{stands, few_asked}
 

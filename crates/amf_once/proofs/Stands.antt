@@ -9,7 +9,7 @@ use Rattle.amf_once.specs.Hearing.{Below, AllSay}
 use Rattle.amf_once.specs.Owners.{OnlyPolls}
 use Rattle.amf_once.specs.Course.{Course, fresh_of}
 use Rattle.amf_once.proofs.Held.{Held, held, Keeps}
-use Rattle.amf_once.proofs.Answers.{AtMost}
+use Rattle.amf_once.proofs.Answering.{AtMost}
 
 -- what is held is of this number, and of this batch; or the client is gone
 abbrev pub HoldsNumber : ℕ → Option Held → Type 0

@@ -5,8 +5,8 @@ ghost use Rattle.amf_once.specs.Course.{Course, start, asked, arrived, answered,
 ghost use Rattle.amf_once.specs.Shown.{Shows};
 ghost use Rattle.amf_once.specs.Worlds.{IsWorldOf};
 
-use crate::{Event, Taken, Taker, World};
-use amf_broker::{Answer, Broker, Call, ClientId, Delivery, Reply};
+use crate::{Answers, Event, Taken, Taker, World};
+use amf_broker::{Answer, Broker, Call, ClientId, Deliveries, Delivery, Reply};
 use amf_wire::{Memory, Name};
 use std::alloc::Global;
 
@@ -56,8 +56,8 @@ impl Bench {
     {
         World {
             taker: self.taker,
-            taken: self.taken,
-            answers: self.answers,
+            taken: Deliveries::of_vec(self.taken),
+            answers: Answers::of_vec(self.answers),
         }
     }
 

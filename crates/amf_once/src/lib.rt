@@ -15,8 +15,9 @@ mod playing;
 mod taker;
 mod world;
 
+pub use amf_broker::Deliveries;
 pub use event::Event;
 pub use laws::{each_is_taken_once, handed_to_owner, one_course};
 pub use playing::replay;
 pub use taker::{Taken, Taker};
-pub use world::World;
+pub use world::{Answers, World};

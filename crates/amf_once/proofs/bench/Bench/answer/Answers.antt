@@ -7,7 +7,7 @@ use Rattle.amf_broker.specs.declared.reply.Answer.{Answer as Told}
 use Rattle.amf_once.specs.Hearing.{Below}
 use Rattle.amf_once.specs.Course.{answered}
 use Rattle.amf_once.specs.Shown.{Shows}
-use Rattle.amf_once.proofs.Answers.{all_item}
+use Rattle.amf_once.proofs.Answering.{all_item}
 use Rattle.amf_once.proofs.Heard.{on_ok, heard_shown}
 use Rattle.amf_once.proofs.bench.Bench.answer.Goals as goal
 
