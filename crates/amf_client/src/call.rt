@@ -24,12 +24,38 @@ use std::hash::RandomState;
 
 /// Writes a call to the gateway at this port of 127.0.0.1: a POST (RFC 9112, section 3) of a packet (AMF 0, 4.1) whose one
 /// message names the operation by the target, and asks to be answered to `/1`, with the canonical spelling of the arguments.
-/// Texts are looked up by these keys, or by fixed ones. The target is a text of at most 65,535 bytes.
+/// The target is a text of at most 65,535 bytes.
 ///
 /// `NotArgs` comes exactly where the arguments are no array without names, and `NoSpelling` exactly where they are one, have no
 /// canonical spelling and there is memory; it tells their first lack. With these and with `Memory` nothing is written.
 /// `WriteFault` comes only where the count of the link's write faults rose, and a front of the call was written then.
+///
+/// Texts are looked up by fixed keys, so whoever knows them can make arguments that take long: `write_call_keyed` is passed others.
 pub fn write_call<L: Link>(
+    alloc: Global,
+    link: &mut L,
+    port: u16,
+    target: &Name,
+    args: &Rooted,
+) -> Result<(), AskEnd>
+    requires text { IsText target.now }
+    requires short { length target.now < 2 ^ 16 }
+    ensures tells { L.tells_held link.new → L.tells_held link.old }
+    ensures writes { L.tells_held link.new → Writes (IsAsk port target.now (content args.now)) (L.held link.old) (L.held link.new) result }
+    ensures asked { HasBytes (IsAsk port target.now (content args.now)) result }
+    ensures arguments { IsErrOf result AskEnd.NotArgs ↔ (arguments_are (content args.now) ≡ false) }
+    ensures lack { (l : Lack) → IsErrOf result (AskEnd.NoSpelling l) → IsLack3 (content args.now) l.node l.kind }
+    ensures nothing { Spares link.old link.new result }
+    ensures cause { CountsWrites (L.write_faults link.old) (L.write_faults link.new) result }
+    ensures other_side { Keeps (L.tells_left link.old) (L.tells_left link.new) (L.left link.old) (L.left link.new) }
+    ensures other_count { L.read_faults link.new ≡ L.read_faults link.old }
+{
+    write_call_keyed(alloc, None, link, port, target, args)
+}
+
+/// Does what `write_call` does, with texts that are looked up by these keys, or by fixed ones where there are none. What is
+/// written is the same for all keys.
+pub fn write_call_keyed<L: Link>(
     alloc: Global,
     keys: Option<RandomState>,
     link: &mut L,

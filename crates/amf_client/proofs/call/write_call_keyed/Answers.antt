@@ -1,7 +1,7 @@
 use Rattle.std.proofs.Common.{◌∙◌, ap, ◌++◌}
 use Rattle.std.proofs.lemmas.Result.{err_from_is_err_and}
 use Rattle.amf_client.specs.Asking.{request}
-use Rattle.amf_client.proofs.call.write_call.Goals as goal
+use Rattle.amf_client.proofs.call.write_call_keyed.Goals as goal
 
 pub returns-in_err-send-clause-writes : goal.returns-in_err-send-clause-writes
 returns-in_err-send-clause-writes g c = λ told.
