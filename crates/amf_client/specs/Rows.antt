@@ -1,4 +1,4 @@
--- Worked heads, messages, faults and requests.
+-- Worked heads, messages, faults and requests. Whole replies, byte for byte, are rows of tests.
 use Rattle.std.specs.Prelude.{◌≡◌, ℕ, true, false, List, [], ◌∷◌, ◌++◌, length, Some, None, codes, pos}
 use Rattle.httparse.specs.Grammar.{ResponseHead, Field, crlf, status_code}
 use Rattle.http_link.specs.Fields.{body_size}
@@ -6,10 +6,11 @@ use Rattle.amf_graph.specs.Graph.{Value, leaf, node, text, null, integer, array,
 use Rattle.amf_packet.specs.Packet.{Message}
 use Rattle.amf0_spelling.specs.declared.form.Form.TheVariants.{Amf3}
 use Rattle.amf_client.specs.declared.meaning.Kind.TheVariants as kind
-use Rattle.amf_client.specs.Asking.{head_with, packet_with, are_arguments}
+use Rattle.amf_client.specs.Asking.{head_with, packet_with, IsAsk, are_arguments}
 use Rattle.amf_client.specs.Faults.{fault_texts}
-use Rattle.amf_client.specs.Meant.{kind_of, MessagesMean, GraphMeans}
-use Rattle.amf_client.specs.Outcomes.{bad, fault}
+use Rattle.amf_client.specs.Meant.{kind_of, MessagesMean, GraphMeans, Means}
+use Rattle.amf_client.specs.Outcomes.{bad, fault, result, IsResult}
+use Rattle.amf_client.specs.Reply.{IsRefused}
 use Rattle.amf_client.specs.Table.{refusal, fields_of}
 
 -- a field, its value behind a space
@@ -48,7 +49,29 @@ alone v = record { nodes = []; root = v }
 abbrev pub array_with : List (List ℕ × Value) → List Value → Graph
 array_with names items = record { nodes = record { head = array; names = names; values = items } ∷ []; root = node 0 }
 
+-- an array with one member of an empty name, and an object with a sealed one
+abbrev pub nameless : Graph
+nameless = array_with (([], leaf null) ∷ []) []
+
+abbrev pub sealed_nameless : Graph
+sealed_nameless = one_object [] ([] ∷ []) (leaf null ∷ []) []
+
+abbrev pub two_and_three : Graph
+two_and_three = array_with [] (leaf (integer (pos 2)) ∷ leaf (integer (pos 3)) ∷ [])
+
+-- the call of `sum.sum` with these arguments on port 1
+abbrev pub sum_call : List ℕ
+sum_call =
+    codes "POST /amf HTTP/1.1" ++ 13 ∷ 10 ∷ codes "Host: 127.0.0.1:1" ++ 13 ∷ 10
+    ∷ codes "Content-Type: application/x-amf" ++ 13 ∷ 10 ∷ codes "Content-Length: 31" ++ 13 ∷ 10 ∷ 13 ∷ 10
+    ∷ 0 ∷ 3 ∷ 0 ∷ 0 ∷ 0 ∷ 1 ∷ 0 ∷ 7 ∷ codes "sum.sum" ++ 0 ∷ 2 ∷ codes "/1" ++ 255 ∷ 255 ∷ 255 ∷ 255
+    ∷ 17 ∷ 9 ∷ 5 ∷ 1 ∷ 4 ∷ 2 ∷ 4 ∷ 3 ∷ []
+
 pub record WorkedRows : Type 0 where
+  -- number 7 of no bytes, number 1 of an empty line alone, and number 4 of an empty body
+  pub no_bytes : IsResult Means [] (bad 7) []
+  pub bare_line : IsRefused (13 ∷ 10 ∷ 13 ∷ 10 ∷ []) 1
+  pub no_body : Means [] (bad 4)
   -- numbers 2 and 3
   pub good : refusal (reply_with (size (codes "35") ∷ [])) ≡ None
   pub good_size : body_size (fields_of (reply_with (size (codes "35") ∷ []))) ≡ 35
@@ -74,6 +97,9 @@ pub record WorkedRows : Type 0 where
   pub no_message : MessagesMean GraphMeans [] (bad 5)
   pub two_messages : MessagesMean GraphMeans (message (codes "/1/onResult") (alone (leaf null)) ∷ message (codes "/1/onResult") (alone (leaf null)) ∷ []) (bad 5)
   pub other_target : MessagesMean GraphMeans (message (codes "/1/onresult") (alone (leaf null)) ∷ []) (bad 5)
+  -- number 6: a result with an empty name, which a sealed one is not
+  pub empty_name : MessagesMean GraphMeans (message (codes "/1/onResult") nameless ∷ []) (bad 6)
+  pub empty_sealed_name : MessagesMean GraphMeans (message (codes "/1/onResult") sealed_nameless ∷ []) (result sealed_nameless)
   -- the two texts of a fault
   pub fault_of : MessagesMean GraphMeans (message (codes "/1/onStatus") no_service ∷ []) (fault (codes "Client.NoService") (codes "no such service"))
   -- sealed members count too, and the last one of a name does
@@ -91,6 +117,8 @@ pub record WorkedRows : Type 0 where
   pub named : are_arguments (array_with ((codes "a", leaf null) ∷ []) []) ≡ false
   pub object_arguments : are_arguments no_service ≡ false
   pub null_arguments : are_arguments (alone (leaf null)) ≡ false
-  -- the packet of `sum.sum` with the two integers 2 and 3, and the head before it
+  -- a call, byte for byte
+  pub asked : IsAsk 1 (codes "sum.sum") two_and_three sum_call
+  -- its packet, and the head before it
   pub packet_length : length (packet_with (0 ∷ 7 ∷ []) (codes "sum.sum") (9 ∷ 5 ∷ 1 ∷ 4 ∷ 2 ∷ 4 ∷ 3 ∷ [])) ≡ 31
   pub request_head : head_with (codes "1") (codes "31") ≡ codes "POST /amf HTTP/1.1" ++ 13 ∷ 10 ∷ codes "Host: 127.0.0.1:1" ++ 13 ∷ 10 ∷ codes "Content-Type: application/x-amf" ++ 13 ∷ 10 ∷ codes "Content-Length: 31" ++ 13 ∷ 10 ∷ 13 ∷ 10 ∷ []
