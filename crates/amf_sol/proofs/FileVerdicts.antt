@@ -9,11 +9,12 @@ use Rattle.amf_io.specs.Field.{Field, Kind}
 use Rattle.amf_io.specs.Verdict.{Follows, Opens, IsFault, IsCutOff, IsRefused, faulty, truncated, too_large, IsAccepted}
 use Rattle.amf_io.proofs.Inputs.{fault_is_first}
 use Rattle.amf_sol.specs.SharedObject.{IsFileReading}
-use Rattle.amf_sol.specs.FileLaws.{FilesJudged, FilesJudgedOnce, FilesFixNext, FileFaultsAreFirst}
+use Rattle.amf_sol.specs.FileLaws.{FilesJudged, FilesJudgedOnce, FilesFixFields, FilesFixNext, FileFaultsAreFirst}
 use Rattle.amf_sol.specs.FileLayout.{head_layout, pair_layout, HasPairs}
 use Rattle.amf_sol.specs.FileVerdict.{HasItsLength, IsWholeFile, IsFileAccepted, IsFileRefused, refused, bad_length}
 use Rattle.amf_io.specs.Repeated.{AnyNumber, IsAcceptedToEnd, IsJudgedToEnd}
 use Rattle.amf_sol.proofs.FileRepeats.{files_repeat, some_pairs, any_pairs}
+use Rattle.amf_sol.proofs.OneCutToEnd.{one_cut_to_end}
 use Rattle.amf_io.proofs.RepeatedVerdicts as repeated
 
 -- two formats that accept the same lists have the same verdicts
@@ -80,6 +81,9 @@ one_refusal base limit input r q k j (bad_length why at b n) (bad_length how pla
 
 pub files_judged_once : FilesJudgedOnce
 files_judged_once base limit input = record { not_both = λ a r k x. not_refused base limit k input r a x; one_refusal = λ r q k j x y. one_refusal base limit input r q k j x y }
+
+pub files_fix_fields : FilesFixFields
+files_fix_fields fs gs p q e = one_cut_to_end (λ n. head_layout) pair_layout HasPairs files_repeat fs gs (some_pairs fs p) (some_pairs gs q) e
 
 pub files_fix_next : FilesFixNext
 files_fix_next start other kind also e a b =

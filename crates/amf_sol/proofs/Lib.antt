@@ -5,6 +5,7 @@ pub mod FileAble
 pub mod FileFound
 pub mod FileSound
 pub mod FileRepeats
+pub mod OneCutToEnd
 pub mod FileVerdicts
 pub mod Unheld
 pub mod ExactReads

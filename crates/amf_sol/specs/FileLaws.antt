@@ -21,6 +21,10 @@ pub record FileJudgedOnce (base limit : ℕ) (input : List ℕ) : Type 0 where
 abbrev pub FilesJudgedOnce : Type 0
 FilesJudgedOnce = (base limit : ℕ) (input : List ℕ) → FileJudgedOnce base limit input
 
+-- the same bytes have one cut into fields
+abbrev pub FilesFixFields : Type 0
+FilesFixFields = (fs gs : List Field) → IsFileReading fs → IsFileReading gs → flat fs ≡ flat gs → fs ≡ gs
+
 -- the kind of the next field follows from the bytes before it
 abbrev pub FilesFixNext : Type 0
 FilesFixNext = FixesNext IsFileReading

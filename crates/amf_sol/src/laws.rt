@@ -1,12 +1,17 @@
 //! Laws of the verdict on a shared object file, and of what a shared object is written as.
 
-ghost use Rattle.amf_sol.specs.FileLaws.{FilesJudged, FilesJudgedOnce, FilesFixNext, FileFaultsAreFirst, FilesHaveHolders, FilesOrLacks};
+ghost use Rattle.amf_sol.specs.FileLaws.{FilesJudged, FilesJudgedOnce, FilesFixFields, FilesFixNext, FileFaultsAreFirst, FilesHaveHolders, FilesOrLacks};
 
 /// An input of bytes has a verdict, and no input has two: it is a shared object file of the length that it gives, or it is
 /// refused for one reason at one offset.
 pub fn files_have_one_verdict()
     ensures judged { FilesJudged }
     ensures once { FilesJudgedOnce }
+{}
+
+/// The same bytes have one cut into the fields of a file. A file ends where its bytes do, so it may be the front of another.
+pub fn files_fix_fields()
+    ensures { FilesFixFields }
 {}
 
 /// What kind of field of a file comes next follows from the bytes before it.

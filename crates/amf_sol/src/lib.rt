@@ -18,8 +18,8 @@ mod write_pairs;
 
 pub use facts::worked_files;
 pub use laws::{
-    file_faults_are_first, files_fix_next_kind, files_have_holders, files_have_one_verdict,
-    files_or_lacks,
+    file_faults_are_first, files_fix_fields, files_fix_next_kind, files_have_holders,
+    files_have_one_verdict, files_or_lacks,
 };
 pub use read::{read_sol, read_sol_keyed};
 pub use shared_object::SharedObject;
