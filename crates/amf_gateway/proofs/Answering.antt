@@ -1,5 +1,5 @@
 -- Messages answered one after another.
-use Rattle.std.proofs.Common.{◌≡◌, ◌∙◌, ℕ, zero, suc, ◌+◌, ◌<◌, ◌≤◌, Bool, true, false, List, [], ◌∷◌, ◌++◌, length, map, take, drop, get_or, add-one, refl, sym, ap, subst, arith, length-append, append_assoc}
+use Rattle.std.proofs.Common.{◌≡◌, ◌∙◌, ℕ, zero, suc, ◌+◌, ◌<◌, ◌≤◌, Bool, true, false, List, [], ◌∷◌, ◌++◌, length, map, drop, get_or, add-one, refl, sym, ap, subst, arith, length-append, append_assoc}
 use Rattle.std.specs.Prelude.{codes, ◌||◌}
 use Rattle.std.specs.List.{AllByRecursion, AllZip, concat, list_any}
 use Rattle.std.proofs.lemmas.Bool.{ltb-false}
@@ -14,7 +14,7 @@ use Rattle.amf_packet.specs.Content.{body_of, header_of, message_of, packet_of}
 use Rattle.amf_packet.specs.Packet.{Message}
 use Rattle.amf_service.specs.Registry.{Entry}
 use Rattle.amf_plain_calls.specs.declared.plain_call.MessageAnswer.{MessageAnswer}
-use Rattle.amf_plan.specs.Alike.{BodiesMatch, HeadersMatch, MessagesMatch}
+use Rattle.amf_packet.specs.Alike.{BodiesMatch, HeadersMatch, MessagesMatch}
 use Rattle.amf_gateway.specs.Answered.{SaysMessage, HasRoom, IsWritable, AreWritable, SaysMessages, SaysPacket}
 use Rattle.amf_plain_calls.specs.TellsMessage.{LacksNothing, AnswersMessage}
 use Rattle.amf_plan.specs.Did.{Ran, Stopped}
@@ -189,16 +189,3 @@ pub at_item : {X : Type 0} (Q : X → Type 0) (xs : List X) (k : ℕ) (x : X) �
 at_item Q [] k x h l e = absurd (omega (arith, l))
 at_item Q (y ∷ xs) zero x h l e = subst Q (sym e) h.0
 at_item Q (y ∷ xs) (suc k) x h l e = at_item Q xs k x h.1 (omega (arith, l)) e
-
-next_suc : {X : Type 0} (P : X → Type 0) (xs : List X) (k : ℕ) (x : X) → AllByRecursion P (take k xs) → k < length xs → x ≡ get_or xs k x → P x → AllByRecursion P (take (suc k) xs)
-next_suc P [] k x h l e p = absurd (omega (arith, l))
-next_suc P (y ∷ xs) zero x h l e p = (subst P e p, tt)
-next_suc P (y ∷ xs) (suc k) x h l e p = (h.0, next_suc P xs k x h.1 (omega (arith, l)) e p)
-
-pub all_next : {X : Type 0} (P : X → Type 0) (xs : List X) (k : ℕ) (x : X) → AllByRecursion P (take k xs) → k < length xs → x ≡ get_or xs k x → P x → AllByRecursion P (take (k + 1) xs)
-all_next P xs k x h l e p = subst (λ n. AllByRecursion P (take n xs)) (sym (add-one k)) (next_suc P xs k x h l e p)
-
-pub all_taken : {X : Type 0} (P : X → Type 0) (xs : List X) (k : ℕ) → length xs ≤ k → AllByRecursion P (take k xs) → AllByRecursion P xs
-all_taken P [] k l h = tt
-all_taken P (y ∷ xs) zero l h = absurd (omega (arith, l))
-all_taken P (y ∷ xs) (suc k) l h = (h.0, all_taken P xs k (omega (arith, l)) h.1)

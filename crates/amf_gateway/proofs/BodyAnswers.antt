@@ -6,7 +6,7 @@ use Rattle.amf_packet.specs.declared.packet.Packet.{Packet as KeptPacket}
 use Rattle.amf_packet.specs.Content.{packet_of}
 use Rattle.amf_packet.specs.Packet.{Packet}
 use Rattle.amf_service.specs.Registry.{Entry}
-use Rattle.amf_plan.specs.Alike.{PacketsMatch}
+use Rattle.amf_packet.specs.Alike.{PacketsMatch}
 use Rattle.amf_gateway.specs.Answered.{SaysPacket, Unpacks, packet_bytes, if_packet, body_bytes}
 use Rattle.amf_plan.specs.Did.{Ran, Stopped}
 use Rattle.amf_plan.specs.Packets.{answers_to, has_long}

@@ -13,7 +13,7 @@ use Rattle.amf_packet.specs.Content.{header_of, message_of, packet_of}
 use Rattle.amf_packet.specs.Packet.{Packet}
 use Rattle.amf_packet.specs.PacketLacks.{bodies, texts_by_value, IsTooMany, AreShort, IsLongText, IsPacketLack}
 use Rattle.amf_packet.specs.WrittenPacket.{HasTexts, AppendsPacket}
-use Rattle.amf_plan.specs.Alike.{PacketsMatch}
+use Rattle.amf_packet.specs.Alike.{PacketsMatch}
 use Rattle.amf_gateway.specs.Answered.{AreWritable, IsWritablePacket}
 use Rattle.amf_plain_calls.specs.TellsMessage.{LacksNothing}
 use Rattle.amf_plan.specs.Runs.{IsPacked}

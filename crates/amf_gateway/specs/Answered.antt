@@ -9,7 +9,7 @@ use Rattle.amf_packet.specs.Packet.{Message, Packet, is_version}
 use Rattle.amf_packet.specs.PacketAnswer.{body_weight}
 use Rattle.amf_service.specs.Registry.{Entry}
 use Rattle.amf_plain_calls.specs.declared.plain_call.MessageAnswer.{MessageAnswer}
-use Rattle.amf_plan.specs.Alike.{MessagesMatch, PacketsMatch}
+use Rattle.amf_packet.specs.Alike.{MessagesMatch, PacketsMatch}
 use Rattle.amf_plain_calls.specs.TellsMessage.{LacksNothing, AnswersMessage}
 use Rattle.amf_plan.specs.Did.{Ran}
 use Rattle.amf_plan.specs.Packets.{answers_to, has_long}

@@ -1,33 +1,23 @@
 //! How the body of a request is answered: by the bytes of a packet, where it is one.
 
-ghost use Rattle.std.specs.Prelude.{◌≡◌, ◌↔◌, ◌≤◌, true, List, [], length, Some, IfOk, OnErr};
-ghost use Rattle.std.specs.List.{AllByRecursion};
+ghost use Rattle.std.specs.Prelude.{◌≤◌, List, length, Some, IfOk, OnErr};
 ghost use Rattle.std.specs.Option.{option_map};
-ghost use Rattle.amf_io.specs.Cursor.{place, bound, unread};
-ghost use Rattle.amf_io.specs.InMemory.{faultless_left};
-ghost use Rattle.amf_graph.specs.Reached.{IsWhole};
-ghost use Rattle.amf_graph.specs.Rooted.{content};
-ghost use Rattle.amf_packet.specs.Content.{body_of, packet_of};
+ghost use Rattle.amf_packet.specs.Alike.{PacketsMatch};
+ghost use Rattle.amf_packet.specs.Content.{packet_of};
 ghost use Rattle.amf_packet.specs.Packet.{Packet as PacketContent};
 ghost use Rattle.amf_service.specs.Registry.{Entry};
-ghost use Rattle.amf_plan.specs.Alike.{PacketsMatch};
-ghost use Rattle.amf_gateway.specs.Answered.{IsWritablePacket, IsReadable, IsAnswerable, Unpacks, packet_bytes, if_packet, body_bytes, most_body};
+ghost use Rattle.amf_gateway.specs.Answered.{IsWritablePacket, IsReadable, IsAnswerable, packet_bytes, if_packet, body_bytes, most_body};
 ghost use Rattle.amf_plan.specs.Services.{services_by};
 ghost use Rattle.amf_plan.specs.Did.{Ran, Stopped};
 ghost use Rattle.amf_plan.specs.Runs.{IsPacked};
 
 use crate::packets::{answers_to, has_long_uri};
-use amf_graph::Rooted;
-use amf_io::{Cursor, FaultlessSource, ReadEnd, Window};
-use amf_packet::{Body, Message, Packet, PacketEnd, read_packet_keyed, write_packet_keyed};
+use amf_packet::{Packet, PacketEnd, packet_in, write_packet_keyed};
 use amf_plan::outside::{Outside, Unanswered};
 use amf_service::Registry;
 use amf_wire::Memory;
 use std::alloc::Global;
 use std::hash::RandomState;
-
-/// The most bytes of a body.
-const MOST_BODY: u32 = 1_048_576;
 
 /// The bytes of a packet. It gives up where there is no memory.
 fn bytes_of(alloc: Global, keys: Option<RandomState>, packet: &Packet) -> Result<Vec<u8>, Memory>
@@ -48,81 +38,6 @@ fn bytes_of(alloc: Global, keys: Option<RandomState>, packet: &Packet) -> Result
             },
         ) => unreachable!(),
     }
-}
-
-/// The graph of a body.
-fn graph(body: &Body) -> &Rooted
-    ensures { content result.now ≡ (body_of body.now).graph }
-{
-    match body {
-        Body::Call(graph) => graph,
-        Body::Amf3(graph) => graph,
-        Body::Plain(graph) => graph,
-    }
-}
-
-/// What is true of every body. It does nothing.
-fn is_whole(body: &Body)
-    ensures { IsWhole (body_of body.now).graph }
-{
-    let graph = graph(body);
-    graph.is_finished();
-}
-
-/// What is true of all messages. It changes nothing.
-fn are_whole(messages: &[Message])
-    ensures { AllByRecursion (λ m. IsWhole (body_of m.body).graph) messages.now }
-{
-    for message in messages {
-        is_whole(&message.body);
-    }
-}
-
-/// Whether nothing follows.
-fn is_at_end(cursor: &mut Cursor<'_, FaultlessSource>) -> bool
-    ensures { result ≡ true ↔ (unread faultless_left cursor.old ≡ []) }
-{
-    match cursor.at_end() {
-        Ok(ended) => ended,
-        Err(_) => unreachable!(),
-    }
-}
-
-/// The packet that is the whole of what a cursor is to give, if that is one. It gives up where there is no memory.
-fn whole_packet(
-    alloc: Global,
-    keys: Option<RandomState>,
-    cursor: &mut Cursor<'_, FaultlessSource>,
-) -> Result<Option<Packet>, Memory>
-    requires start { place cursor.old ≡ 0 }
-    requires limit { bound cursor.old ≡ most_body }
-    requires short { length (unread faultless_left cursor.old) ≤ most_body }
-    ensures { IfOk result (λ packet. Unpacks (unread faultless_left cursor.old) packet) }
-{
-    match read_packet_keyed(alloc, keys, cursor) {
-        Ok(packet) => {
-            are_whole(packet.messages.as_slice());
-            Ok(is_at_end(cursor).then_some(packet))
-        }
-        Err(ReadEnd::Refused(_)) => Ok(None),
-        Err(ReadEnd::ReadFault) => unreachable!(),
-        Err(ReadEnd::Memory) => Err(Memory),
-    }
-}
-
-/// The packet that is the whole of these bytes, if they are one. It gives up where there is no memory.
-fn packet_in(
-    alloc: Global,
-    keys: Option<RandomState>,
-    bytes: &[u8],
-) -> Result<Option<Packet>, Memory>
-    requires { length bytes.now ≤ most_body }
-    ensures { IfOk result (λ packet. Unpacks bytes.now packet) }
-{
-    let mut source = FaultlessSource::new(alloc, bytes, bytes.len(), 0)?;
-    let window = Window::new(alloc, MOST_BODY)?;
-    let mut cursor = Cursor::over(&mut source, window);
-    whole_packet(alloc, keys, &mut cursor)
 }
 
 /// Answers a packet by the bytes of one.

@@ -11,7 +11,7 @@ use Rattle.flex_msgs.specs.declared.reply.FaultText.{FaultText}
 use Rattle.amf_service.specs.Meaning.{Called, no_service, no_operation, given, result, fault}
 use Rattle.amf_service.specs.Registry.{Entry}
 use Rattle.amf_plain_calls.specs.declared.plain_call.MessageAnswer.{MessageAnswer}
-use Rattle.amf_plan.specs.Alike.{BodiesMatch}
+use Rattle.amf_packet.specs.Alike.{BodiesMatch}
 use Rattle.amf_plan.specs.Calls.{cause_of}
 use Rattle.amf_plain_calls.specs.TellsMessage.{TellsSpelled, LacksNothing, AnswersMessage, TellsMessage}
 use Rattle.amf_plan.specs.Causes as causes

@@ -11,7 +11,7 @@ use Rattle.amf_packet.specs.PacketLacks.{IsBodyLack}
 use Rattle.flex_msgs.specs.declared.reply.FaultText.{FaultText}
 use Rattle.amf_service.specs.Meaning.{fault}
 use Rattle.amf_plain_calls.specs.declared.plain_call.MessageAnswer.{MessageAnswer}
-use Rattle.amf_plan.specs.Alike.{BodiesMatch}
+use Rattle.amf_packet.specs.Alike.{BodiesMatch}
 use Rattle.amf_plan.specs.Plan.{Spelling, Plan}
 use Rattle.amf_plan.specs.Replies.{Answer}
 use Rattle.amf_plan.specs.Runs.{IsSpelling, Finds, nothing, gave, Runs}

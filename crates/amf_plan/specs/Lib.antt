@@ -10,7 +10,6 @@ pub mod Flex
 pub mod PlainCalls
 pub mod Packets
 pub mod Links
-pub mod Alike
 pub mod Runs
 pub mod Begun
 pub mod Respond

@@ -1,11 +1,8 @@
 -- What a link is answered is a function of its arguments, and what was done of it so far is a beginning of that.
 use Rattle.std.specs.Prelude.{◌≡◌, ℕ, List, ◌++◌}
 use Rattle.std.specs.List.{AllByRecursion}
-use Rattle.amf_wire.specs.Style.{free}
-use Rattle.amf_packet.specs.Packet.{Packet, SpelledPacket}
 use Rattle.amf_service.specs.Meaning.{IsLawful}
 use Rattle.amf_service.specs.Registry.{Entry}
-use Rattle.amf_plan.specs.Alike.{PacketsMatch}
 use Rattle.amf_plan.specs.Begun.{Begun}
 use Rattle.amf_plan.specs.Links.{link}
 use Rattle.amf_plan.specs.Respond.{Told, Responds}
@@ -28,7 +25,3 @@ abbrev pub BegunIsBeginning : Type 0
 BegunIsBeginning =
     (services : List Entry) → AreLawful services → (bytes : List ℕ) (s : Supply) (d : Done) (t : Told) → Begun (link services bytes) s d → Responds services bytes s t →
     IsBeginning d.calls t.calls × IsBeginning d.answers t.answers
-
--- two packets that the same bytes spell are the same but for the numbers of their nodes
-abbrev pub SamePackets : Type 0
-SamePackets = (p q : Packet) (bytes : List ℕ) → SpelledPacket free p bytes → SpelledPacket free q bytes → PacketsMatch p q

@@ -13,7 +13,7 @@ use Rattle.amf0_spelling.specs.Spells0.{Spelled0}
 use Rattle.amf_http.specs.Request.{BeginsWithRequest, IsRefused, IsOpen}
 use Rattle.amf_packet.specs.Packet.{Packet, SpelledPacket}
 use Rattle.flex_msgs.specs.Classes.{async_traits}
-use Rattle.amf_plan.specs.Alike.{PacketsMatch}
+use Rattle.amf_packet.specs.Alike.{PacketsMatch}
 use Rattle.amf_plan.specs.Plan.{Spelling, lowered, whole, Cut, at_end, cut_short, turned_away, request, Plan, gives, takes_moment, takes_word, calls, spells, reads, cuts, unpacks, packs, writes}
 
 -- What the steps ask.

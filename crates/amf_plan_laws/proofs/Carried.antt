@@ -4,7 +4,7 @@ use Rattle.amf_graph.specs.Graph.{Graph}
 use Rattle.amf_graph.specs.Isomorphic.{Isomorphic}
 use Rattle.amf_packet.specs.Packet.{Packet}
 use Rattle.amf_broker.specs.declared.call.Call.{Call}
-use Rattle.amf_plan.specs.Alike.{PacketsMatch}
+use Rattle.amf_packet.specs.Alike.{PacketsMatch}
 use Rattle.amf_plan.specs.Begun.{Begun}
 use Rattle.amf_plan.specs.Plan.{Spelling, Plan, gives, takes_moment, takes_word, calls, spells, reads, cuts, unpacks, packs, writes}
 use Rattle.amf_plan.specs.Runs.{IsSpelling, IsUnpacked, IsPacked, IsStored, IsCut, Finds, Supply, Done, nothing, and_call, and_answer, Outcome, gave, ran_out, Takes, Runs}

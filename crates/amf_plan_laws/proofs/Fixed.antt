@@ -6,7 +6,7 @@ use Rattle.amf_graph.specs.Reached.{IsWhole}
 use Rattle.amf_http.specs.Response.{response}
 use Rattle.amf_packet.specs.Packet.{Message, Packet}
 use Rattle.amf_service.specs.Registry.{Entry}
-use Rattle.amf_plan.specs.Alike.{MessagesMatch, PacketsMatch}
+use Rattle.amf_packet.specs.Alike.{MessagesMatch, PacketsMatch}
 use Rattle.amf_plan.specs.Links.{LinkEnd, closed, turn_away, closed_or, answer_packet, answer_body, answer_request, link_of, link, most_requests}
 use Rattle.amf_plan.specs.Packets.{answer_to, suffix, message_back, messages_back, packet_back, answers_to, is_long, has_long}
 use Rattle.amf_plan.specs.Plan.{Cut, at_end, cut_short, turned_away, request, Plan, gives, writes, ◌>>=◌, bytes_of}

@@ -9,7 +9,7 @@ use Rattle.flex_msgs.proofs.ViewedAlike.{view_law}
 use Rattle.amf_service.proofs.Lawful.{lawful}
 use Rattle.amf_plan_laws.proofs.CallBodies.{headers_named, body_reached}
 use Rattle.amf_plan_laws.proofs.Laws.{Laws}
-use Rattle.amf_plan_laws.proofs.SamePackets.{same_packets}
+use Rattle.amf_packet.proofs.SamePackets.{same_packets}
 
 pub known : Laws
 known = record {

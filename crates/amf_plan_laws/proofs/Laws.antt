@@ -13,7 +13,7 @@ use Rattle.flex_msgs.specs.Lookup.{pairs_of}
 use Rattle.flex_msgs.specs.Viewing.{value_view}
 use Rattle.amf_service.specs.ServiceLaws.{ServiceLaws}
 use Rattle.amf_plan.specs.Commands.{named_in}
-use Rattle.amf_plan.specs.RespondLaws.{SamePackets}
+use Rattle.amf_packet.specs.Alike.{SamePackets}
 
 -- what a header's name is looked up to is the same in two graphs that are
 abbrev pub HeadersAlike : Type 0

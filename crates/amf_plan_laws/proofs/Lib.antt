@@ -10,7 +10,6 @@ pub mod RepliesAlike
 pub mod MessagesAlike
 pub mod Fixed
 pub mod CallBodies
-pub mod SamePackets
 pub mod Known
 pub mod WholeTest
 pub mod Speller

@@ -4,7 +4,7 @@ use Rattle.amf_broker.specs.declared.reply.Reply.{Reply}
 use Rattle.amf_graph.specs.Graph.{Graph}
 use Rattle.amf_graph.specs.Isomorphic.{Isomorphic}
 use Rattle.amf_packet.specs.Packet.{Packet}
-use Rattle.amf_plan.specs.Alike.{PacketsMatch}
+use Rattle.amf_packet.specs.Alike.{PacketsMatch}
 use Rattle.amf_plan.specs.Plan.{Cut, Plan, gives, takes_moment, takes_word, calls, spells, reads, cuts, unpacks, packs, writes, ◌>>=◌}
 use Rattle.amf_plan.specs.Runs.{IsWholePacket}
 

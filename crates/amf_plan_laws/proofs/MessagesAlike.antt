@@ -25,7 +25,7 @@ use Rattle.amf_service.specs.Meaning.{result, fault, Called, no_service, no_oper
 use Rattle.amf_service.specs.Registry.{Entry, called}
 use Rattle.amf_service.specs.ServiceLaws.{CalledMatch}
 use Rattle.amf_service.specs.Shipped.{unnamed, items_by_kind, items_at, items_of, one_of}
-use Rattle.amf_plan.specs.Alike.{MessagesMatch}
+use Rattle.amf_packet.specs.Alike.{MessagesMatch}
 use Rattle.amf_plan.specs.Causes as causes
 use Rattle.amf_plan.specs.Causes.{bad_message, service_fault, no_form}
 use Rattle.amf_plan.specs.Commands as commands

@@ -14,7 +14,7 @@ use Rattle.amf0_spelling.specs.declared.form.Form.TheVariants.{Call, Amf3, Plain
 use Rattle.amf0_spelling.specs.Segments0.{Short, marker0_field}
 use Rattle.amf0_spelling.specs.Tables0.{no_tables0}
 use Rattle.amf_packet.specs.Packet.{Body, Header, Message, Packet, Beside, Each, BodyBy, LengthBy, MustBy, SizedBy, HeaderBy, MessageBy, VersionBy, CountBy, ListBy, SpellsPacket, call_fields, version_refusal}
-use Rattle.amf_plan.specs.Alike.{BodiesMatch, HeadersMatch, MessagesMatch, PacketsMatch}
+use Rattle.amf_packet.specs.Alike.{BodiesMatch, HeadersMatch, MessagesMatch, PacketsMatch}
 use Rattle.amf_plan.specs.Runs.{IsPacked}
 use Rattle.amf_plan_laws.proofs.Laws.{Laws}
 

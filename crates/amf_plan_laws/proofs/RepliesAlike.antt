@@ -13,7 +13,7 @@ use Rattle.flex_msgs.specs.declared.reply.Reply.{Reply}
 use Rattle.flex_msgs.specs.declared.reply.FaultText.{FaultText}
 use Rattle.flex_msgs.specs.Messages.{client_value, error_nodes, invalidate_nodes, null_value}
 use Rattle.flex_msgs.specs.Answers.{acknowledge_graph, error_graph, delivered_graph, invalidate_graph, sync_graph}
-use Rattle.amf_plan.specs.Alike.{BodiesMatch}
+use Rattle.amf_packet.specs.Alike.{BodiesMatch}
 use Rattle.amf_plan.specs.Batches.{about_poll, invalidates, in_front, delivered, deliveries, synced, sync, batch}
 use Rattle.amf_plan.specs.Causes.{no_form, refusal}
 use Rattle.amf_plan.specs.Commands.{ask, acknowledge_or, acknowledged, say_subscribed, say_batch, say_connected}

@@ -6,7 +6,7 @@ use Rattle.amf_graph.specs.Isomorphic.{Isomorphic}
 use Rattle.http_link.specs.Head.{IsHead}
 use Rattle.amf_http.specs.Request.{IsRefused, too_long, bad_head, BeginsWithRequest}
 use Rattle.amf_packet.specs.Packet.{Packet}
-use Rattle.amf_plan.specs.Alike.{PacketsMatch}
+use Rattle.amf_packet.specs.Alike.{PacketsMatch}
 use Rattle.amf_plan.specs.Plan.{Spelling, lowered, whole, Cut, at_end, cut_short, turned_away, request, Plan, gives, takes_moment, takes_word, calls, spells, reads, cuts, unpacks, packs, writes}
 use Rattle.amf_plan.specs.Begun.{Begun}
 use Rattle.amf_plan.specs.RespondLaws.{IsBeginning}

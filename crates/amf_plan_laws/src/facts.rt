@@ -1,4 +1,4 @@
-ghost use Rattle.amf_plan.specs.RespondLaws.{AnswersAreFixed, BegunIsBeginning, SamePackets};
+ghost use Rattle.amf_plan.specs.RespondLaws.{AnswersAreFixed, BegunIsBeginning};
 ghost use Rattle.amf_plan.specs.Serving.{ServedIsBeginning};
 ghost use Rattle.amf_plan_laws.specs.Tried.{TriedIsRun};
 ghost use Rattle.amf_plan_laws.specs.WorkedBytes.{ByteRows};
@@ -62,11 +62,6 @@ pub fn link_rows()
 /// What is computed of a plan is what comes of it, where each step on the way gets what is right.
 pub fn tried_is_run()
     ensures { TriedIsRun }
-{}
-
-/// Two packets that the same bytes spell are the same but for the numbers of their nodes.
-pub fn packets_are_same()
-    ensures { SamePackets }
 {}
 
 /// What a link is answered is a function of the bytes, the services, the moments, the words and the replies; and what was
