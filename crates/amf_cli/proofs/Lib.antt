@@ -1,2 +1,6 @@
 mod ServeRows
 mod ServeLaws
+mod EndsLaws
+mod FrontLaws
+mod GenLaws
+mod ServiceLaws

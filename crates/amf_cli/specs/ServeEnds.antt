@@ -2,9 +2,11 @@
 use Rattle.std.specs.Prelude.{◌≡◌, ℕ, ◌≤◌, Bool, true, false, List, ◌++◌, Result, Ok, Err, ⊤}
 use Rattle.amf_io.specs.Outside.{Rose}
 use Rattle.amf_workers.specs.declared.answer.ServeAnswer.{ServeAnswer}
+use Rattle.amf_workers.specs.declared.answer.ServeAnswer.TheVariants.{Memory}
 use Rattle.amf_commands.specs.declared.run_end.RunEnd.{RunEnd}
 use Rattle.amf_commands.specs.declared.run_end.RunEnd.TheVariants.{WriteFault, NoMemory, FrontFault}
-use Rattle.amf_cli.specs.Serving.{was_starved, had_fault, line_after}
+use Rattle.amf_commands.specs.Lines.{status_of, line_of}
+use Rattle.amf_cli.specs.Serving.{was_starved, had_fault, line_after, TellsOrFails}
 use Rattle.amf_commands.specs.Written.{WritesFront}
 
 abbrev pub End : Type 0
@@ -21,7 +23,6 @@ first_end false (Ok x) false = Ok x
 abbrev pub TellsLine : (told : Type 0) → (held now line : List ℕ) → End → Type 0
 TellsLine told held now line (Ok x) = told → now ≡ held ++ line
 TellsLine told held now line (Err WriteFault) = told → WritesFront held now line
-TellsLine told held now line (Err NoMemory) = ⊤
 TellsLine told held now line (Err e) = ⊥
 
 -- an end of a run with `serve`
@@ -33,23 +34,33 @@ IsServeEnd (Err FrontFault) = ⊤
 IsServeEnd _ = ⊥
 
 -- as it follows from what serving came to
-abbrev pub EndsServe : (told : Type 0) → (held now : List ℕ) → ServeAnswer → End → Type 0
-EndsServe told held now a (Ok x) = (was_starved a ≡ false) × (had_fault a ≡ false) × (told → now ≡ held ++ line_after a)
-EndsServe told held now a (Err WriteFault) = (was_starved a ≡ false) × (told → WritesFront held now (line_after a))
-EndsServe told held now a (Err NoMemory) = ⊤
-EndsServe told held now a (Err FrontFault) = (was_starved a ≡ false) × (had_fault a ≡ true) × (told → now ≡ held ++ line_after a)
-EndsServe told held now a _ = ⊥
+abbrev pub EndsServe : (kept told : Type 0) → (held now : List ℕ) → (before after : ℕ) → ServeAnswer → End → Type 0
+EndsServe kept told held now before after a (Ok x) = (was_starved a ≡ false) × (had_fault a ≡ false) × (told → now ≡ held ++ line_after a)
+EndsServe kept told held now before after a (Err WriteFault) = (was_starved a ≡ false) × (told → WritesFront held now (line_after a))
+EndsServe kept told held now before after a (Err NoMemory) = (was_starved a ≡ true) × (a ≡ Memory → kept) × TellsOrFails told held now before after (line_after a)
+EndsServe kept told held now before after a (Err FrontFault) = (was_starved a ≡ false) × (had_fault a ≡ true) × (told → now ≡ held ++ line_after a)
+EndsServe kept told held now before after a _ = ⊥
 
--- and what serving came to, but for want of memory
-abbrev pub ServesTo : (Came : ServeAnswer → Type 0) → (told : Type 0) → (held now : List ℕ) → End → Type 0
-ServesTo Came told held now (Ok x) = (a : ServeAnswer) × Came a × EndsServe told held now a (Ok x)
-ServesTo Came told held now (Err WriteFault) = (a : ServeAnswer) × Came a × EndsServe told held now a (Err WriteFault)
-ServesTo Came told held now (Err NoMemory) = ⊤
-ServesTo Came told held now (Err FrontFault) = (a : ServeAnswer) × Came a × EndsServe told held now a (Err FrontFault)
-ServesTo Came told held now _ = ⊥
+-- and what serving came to
+abbrev pub ServesTo : (Came : ServeAnswer → Type 0) → (kept told : Type 0) → (held now : List ℕ) → (before after : ℕ) → End → Type 0
+ServesTo Came kept told held now before after (Ok x) = (a : ServeAnswer) × Came a × EndsServe kept told held now before after a (Ok x)
+ServesTo Came kept told held now before after (Err WriteFault) = (a : ServeAnswer) × Came a × EndsServe kept told held now before after a (Err WriteFault)
+ServesTo Came kept told held now before after (Err NoMemory) = (a : ServeAnswer) × Came a × EndsServe kept told held now before after a (Err NoMemory)
+ServesTo Came kept told held now before after (Err FrontFault) = (a : ServeAnswer) × Came a × EndsServe kept told held now before after a (Err FrontFault)
+ServesTo Came kept told held now before after _ = ⊥
 
 -- a fault of the front is counted, and without one the count stays; where memory was wanting or the output failed nothing is said
 abbrev pub CountsFront : (before now : ℕ) → End → Type 0
 CountsFront before now (Ok x) = now ≡ before
 CountsFront before now (Err FrontFault) = (before ≤ now) × Rose before now
 CountsFront before now (Err e) = ⊤
+
+-- the status of an end
+abbrev pub status_for : End → ℕ
+status_for (Ok x) = 0
+status_for (Err e) = status_of e
+
+-- its error line was written, where it has one
+abbrev pub ReportsEnd : End → (held now : List ℕ) → Type 0
+ReportsEnd (Ok x) held now = now ≡ held
+ReportsEnd (Err e) held now = now ≡ held ++ line_of e

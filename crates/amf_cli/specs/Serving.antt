@@ -1,5 +1,6 @@
 -- What a run with `serve` came to.
-use Rattle.std.specs.Prelude.{◌≡◌, ◌≢◌, ℕ, Bool, true, false, List, [], ◌++◌}
+use Rattle.std.specs.Prelude.{◌≡◌, ◌≢◌, ◌⊎◌, ℕ, Bool, true, false, List, [], ◌++◌}
+use Rattle.amf_io.specs.Outside.{Rose}
 use Rattle.amf_workers.specs.declared.answer.ServeAnswer.{ServeAnswer}
 use Rattle.amf_workers.specs.declared.answer.ServeAnswer.TheVariants.{Memory, NotOpened, Closed}
 use Rattle.amf_cli.specs.Lines.{served_line}
@@ -32,3 +33,15 @@ pub record ServeRun (Came : ServeAnswer → Type 0) (told : Type 0) (held now : 
   pub faulty : status ≡ 6 → had_fault answer ≡ true
   pub whole : status ≢ 4 → told → now ≡ held ++ line_after answer
   pub front : status ≡ 4 → told → WritesFront held now (line_after answer)
+
+-- the line was written whole, or the output failed, which its count shows, and holds a front of the line
+abbrev pub TellsOrFails : (told : Type 0) → (held now : List ℕ) → (before after : ℕ) → (line : List ℕ) → Type 0
+TellsOrFails told held now before after line = (told → now ≡ held ++ line) ⊎ (Rose before after × (told → WritesFront held now line))
+
+-- What serving came to, where the status is 5: memory was wanting before a link was served, and nothing was asked of the output; or a link ended for want of it, and the line was still written where it could be.
+pub record ServeStarved (Came : ServeAnswer → Type 0) (kept told : Type 0) (held now : List ℕ) (before after : ℕ) : Type 0 where
+  pub answer : ServeAnswer
+  pub came : Came answer
+  pub starved : was_starved answer ≡ true
+  pub nothing : answer ≡ Memory → kept
+  pub written : TellsOrFails told held now before after (line_after answer)

@@ -3,12 +3,17 @@
 #![tactic(auto)]
 
 mod arguments;
+pub mod data;
+mod ending;
 mod facts;
 mod lines;
+mod no_input;
 pub mod run;
+mod services;
 mod serving;
 pub mod start;
 
 pub use amf_commands::{Command, Format, RunEnd, ServeOptions, Task, end_with, run_rows};
 pub use arguments::{Arguments, Environment, words_of};
 pub use facts::serve_rows;
+pub use services::start_with_services;

@@ -1,24 +1,28 @@
-ghost use Rattle.std.specs.Prelude.{◌≡◌, IfOk};
+ghost use Rattle.std.specs.Prelude.{◌≡◌};
 ghost use Rattle.amf_cli.specs.Lines as line;
 
 use amf_desk::Closed;
+use arrayvec::ArrayString;
 use itoa::Buffer;
-use std::alloc::{AllocError, Global};
+
+/// Room for the words of the line and four numbers of at most 20 digits.
+const ROOM: usize = 117;
 
 /// The line that says how many calls a desk answered, how many messages were published and delivered, and how many deliveries
-/// are still queued.
-pub fn served_line(alloc: Global, closed: &Closed) -> Result<Vec<u8>, AllocError>
-    ensures { IfOk result (λ bytes. bytes.items ≡ line.served_line closed.now) }
+/// are still queued. It takes no memory.
+pub fn served_line(closed: &Closed) -> ArrayString<ROOM>
+    ensures { result.bytes ≡ line.served_line closed.now }
 {
     let mut digits = Buffer::new();
-    let mut bytes = Vec::from_slice(alloc, b"calls ")?;
-    bytes.extend_from_slice(digits.format(closed.calls).as_bytes())?;
-    bytes.extend_from_slice(b" published ")?;
-    bytes.extend_from_slice(digits.format(closed.published).as_bytes())?;
-    bytes.extend_from_slice(b" delivered ")?;
-    bytes.extend_from_slice(digits.format(closed.delivered).as_bytes())?;
-    bytes.extend_from_slice(b" queued ")?;
-    bytes.extend_from_slice(digits.format(closed.queued).as_bytes())?;
-    bytes.extend_from_slice(b"\n")?;
-    Ok(bytes)
+    let mut text = ArrayString::new();
+    text.push_str("calls ");
+    text.push_str(digits.format(closed.calls));
+    text.push_str(" published ");
+    text.push_str(digits.format(closed.published));
+    text.push_str(" delivered ");
+    text.push_str(digits.format(closed.delivered));
+    text.push_str(" queued ");
+    text.push_str(digits.format(closed.queued));
+    text.push_str("\n");
+    text
 }

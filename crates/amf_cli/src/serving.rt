@@ -1,10 +1,12 @@
 ghost use Rattle.std.specs.Prelude.{◌≡◌, List, IfOk};
 ghost use Rattle.amf_service.specs.Registry.{Entry};
+ghost use Rattle.amf_plan.specs.RespondLaws.{AreLawful};
 ghost use Rattle.amf_plan.specs.Services.{services_by};
 ghost use Rattle.amf_workers.specs.Together.{Serves};
 ghost use Rattle.amf_commands.specs.Askable.{IsServable};
 ghost use Rattle.amf_cli.specs.Lines.{served_line as line};
 ghost use Rattle.amf_commands.specs.Run.{CountsWrites};
+ghost use Rattle.amf_cli.specs.Outside.{of_front, of_hall, of_link};
 ghost use Rattle.amf_cli.specs.ServeEnds.{first_end, TellsLine, IsServeEnd, EndsServe, ServesTo, CountsFront};
 
 use crate::lines::served_line;
@@ -31,12 +33,17 @@ pub fn serve_links<R: RandomSource + Threads + Wait + Sync, O: Sink, F: Front, G
 where
     <F::Hall as Hall>::Link: Send,
     requires { IsServable options }
-    ensures served { let services : List Entry = services_by registry.now.services.entries (λ x. x.items) (λ s. knows (s.vtable, s.value)) (λ s. gives (s.vtable, s.value)) in ServesTo (Serves (record { tells = F.tells; asked = F.asked; to_open = F.to_open; halls = F.halls; faults = F.faults }) (record { tells_links = F.Hall.tells_links; coming = F.Hall.coming; served = F.Hall.served; faults = F.Hall.faults; tells_moments = F.Hall.tells_moments; moments = F.Hall.moments; tells_words = F.Hall.tells_words; words = F.Hall.words }) (record { tells_left = F.Hall.Link.tells_left; left = F.Hall.Link.left; tells_held = F.Hall.Link.tells_held; held = F.Hall.Link.held; read_faults = F.Hall.Link.read_faults; write_faults = F.Hall.Link.write_faults }) services options.port options.workers options.each front.old front.new) (O.tells out.new) (O.held out.old) (O.held out.new) result }
+    ensures served { let services : List Entry = services_by registry.now.services.entries (λ x. x.items) (λ s. knows (s.vtable, s.value)) (λ s. gives (s.vtable, s.value)) in
+        ServesTo (Serves (of_front F.Front) (of_hall F.Hall.Hall.own F.Hall.Clock F.Hall.Dice) (of_link F.Hall.Link.Link) services
+        options.port options.workers options.each front.old front.new) (out.new ≡ out.old) (O.tells out.new) (O.held out.old) (O.held out.new) (O.faults out.old) (O.faults out.new) result }
+    ensures lawful { let services : List Entry = services_by registry.now.services.entries (λ x. x.items) (λ s. knows (s.vtable, s.value)) (λ s. gives (s.vtable, s.value)) in
+        AreLawful services }
     ensures ends { IsServeEnd result }
     ensures tells { O.tells out.new → O.tells out.old }
     ensures writes { CountsWrites (O.faults out.old) (O.faults out.new) result }
     ensures faults { CountsFront (F.faults front.old) (F.faults front.new) result }
 {
+    registry.are_lawful();
     let answer = serve(
         rt,
         alloc,
@@ -47,12 +54,12 @@ where
         options.workers,
         u64::from(options.each),
     );
-    conclude(alloc, answer, out)
+    conclude(answer, out)
 }
 
 /// Writes the line, where the front was opened, and says how the run ends.
-fn conclude<O: Sink>(alloc: Global, answer: ServeAnswer, out: &mut O) -> Result<(), RunEnd>
-    ensures ends { EndsServe (O.tells out.new) (O.held out.old) (O.held out.new) answer result }
+fn conclude<O: Sink>(answer: ServeAnswer, out: &mut O) -> Result<(), RunEnd>
+    ensures ends { EndsServe (out.new ≡ out.old) (O.tells out.new) (O.held out.old) (O.held out.new) (O.faults out.old) (O.faults out.new) answer result }
     ensures tells { O.tells out.new → O.tells out.old }
     ensures writes { CountsWrites (O.faults out.old) (O.faults out.new) result }
 {
@@ -64,20 +71,20 @@ fn conclude<O: Sink>(alloc: Global, answer: ServeAnswer, out: &mut O) -> Result<
             starved,
             faulty,
         } => {
-            let told = tell(alloc, &counts, out);
+            let told = tell(&counts, out);
             first_of(starved, told, faulty)
         }
     }
 }
 
-/// Writes the line of what a closed desk tells.
-fn tell<O: Sink>(alloc: Global, closed: &Closed, out: &mut O) -> Result<(), RunEnd>
+/// Writes the line of what a closed desk tells. It takes no memory.
+fn tell<O: Sink>(closed: &Closed, out: &mut O) -> Result<(), RunEnd>
     ensures line { TellsLine (O.tells out.new) (O.held out.old) (O.held out.new) (line closed.now) result }
     ensures tells { O.tells out.new → O.tells out.old }
     ensures writes { CountsWrites (O.faults out.old) (O.faults out.new) result }
 {
-    let bytes = served_line(alloc, closed)?;
-    match write_whole(out, &bytes) {
+    let text = served_line(closed);
+    match write_whole(out, text.as_str().as_bytes()) {
         Ok(()) => Ok(()),
         Err(_) => Err(RunEnd::WriteFault),
     }

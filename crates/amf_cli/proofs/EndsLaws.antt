@@ -1,0 +1,360 @@
+-- How a run ends, and what it promises then of its streams.
+use Rattle.std.proofs.Common.{◌≡◌, ◌≢◌, ◌⊎◌, inl, inr, ℕ, ◌+◌, ◌≤◌, List, ◌++◌, length, IfOk, Result, Ok, Err, refl, sym, ap, ◌∙◌, subst, arith}
+use Rattle.amf_io.specs.Outside.{Rose, Steady}
+use Rattle.amf_io.specs.declared.source.Source.{Ghosts as SourceMembers}
+use Rattle.amf_io.specs.declared.sink.Sink.{Ghosts as SinkMembers}
+use Rattle.amf_graph.specs.declared.lack.Lack.{Lack}
+use Rattle.amf_commands.specs.declared.command.Command.{Command}
+use Rattle.amf_commands.specs.declared.command.ServeOptions.{ServeOptions}
+use Rattle.amf_commands.specs.declared.command.Task.{Task}
+use Rattle.amf_commands.specs.declared.command.Task.TheVariants.{Output, Serve}
+use Rattle.amf_commands.specs.declared.run_end.RunEnd.{RunEnd}
+use Rattle.amf_commands.specs.declared.run_end.RunEnd.TheVariants.{Refused, Usage, ReadFault, WriteFault, NoMemory, FrontFault, NoForm}
+use Rattle.amf_commands.specs.Commands.{AsksFor, HasReading, IsServing, Reads, ReadsServe}
+use Rattle.amf_commands.specs.Input.{most}
+use Rattle.amf_commands.specs.Lines.{status_of, line_of}
+use Rattle.amf_commands.specs.Run.{TakesInput, MayLack, CountsReads, CountsWrites, IsReading, IsUntouched, RunsTo}
+use Rattle.amf_commands.proofs.Asked.{not_both, not_serving, one_reading}
+use Rattle.amf_commands.proofs.Spelled.{made_again, made_not_lacking}
+use Rattle.amf_commands.proofs.Statuses.{refused_says, hidden_says, front_says, no_form_says, accepted_says, not_accepted_says, formed_says, lacking_says, done_not_refused, line_says, usage_end, form_status, reading_says, reads_steady, writes_steady, never_0, within_7, memory_end}
+use Rattle.amf_cli.specs.Ends.{Ends}
+use Rattle.amf_cli.specs.ServeEnds.{End, IsServeEnd, status_for, ReportsEnd}
+
+abbrev Ended : RunEnd → End
+Ended x = Err x
+
+abbrev Whole : Unit {0} → End
+Whole x = Ok x
+
+-- What a status says of an end.
+
+reads_rose : (x : RunEnd) (before now : ℕ) → status_of x ≡ 3 → CountsReads before now (Ended x) → Rose before now
+reads_rose (Refused f) before now h c = absurd (omega arith)
+reads_rose Usage before now h c = absurd (omega arith)
+reads_rose ReadFault before now h c = c.1
+reads_rose WriteFault before now h c = absurd (omega arith)
+reads_rose NoMemory before now h c = absurd (omega arith)
+reads_rose FrontFault before now h c = absurd (omega arith)
+reads_rose (NoForm v l) before now h c = absurd (omega arith)
+
+writes_rose : (x : RunEnd) (before now : ℕ) → status_of x ≡ 4 → CountsWrites before now (Ended x) → Rose before now
+writes_rose (Refused f) before now h c = absurd (omega arith)
+writes_rose Usage before now h c = absurd (omega arith)
+writes_rose ReadFault before now h c = absurd (omega arith)
+writes_rose WriteFault before now h c = c.1
+writes_rose NoMemory before now h c = absurd (omega arith)
+writes_rose FrontFault before now h c = absurd (omega arith)
+writes_rose (NoForm v l) before now h c = absurd (omega arith)
+
+none_of : (n : ℕ) → n ≢ 1 → n ≢ 2 → n ≢ 3 → n ≢ 7 → (n ≡ 1) ⊎ (n ≡ 2) ⊎ (n ≡ 3) ⊎ (n ≡ 7) → ⊥
+none_of n a b c d h = elim h [ inl x ↦ a x | inr x ↦ elim x [ inl y ↦ b y | inr y ↦ elim y [ inl z ↦ c z | inr z ↦ d z ] ] ]
+
+neither : (n : ℕ) → n ≢ 1 → n ≢ 3 → (n ≡ 1) ⊎ (n ≡ 3) → ⊥
+neither n a b h = elim h [ inl x ↦ a x | inr x ↦ b x ]
+
+kept_with : {S : Type 0} (a b : S) (x : RunEnd) → (status_of x ≡ 1) ⊎ (status_of x ≡ 2) ⊎ (status_of x ≡ 3) ⊎ (status_of x ≡ 7) → IsUntouched a b (Ended x) → b ≡ a
+kept_with a b (Refused f) h u = u
+kept_with a b Usage h u = u
+kept_with a b ReadFault h u = u
+kept_with a b WriteFault h u = absurd (none_of 4 (λ z. absurd (omega arith)) (λ z. absurd (omega arith)) (λ z. absurd (omega arith)) (λ z. absurd (omega arith)) h)
+kept_with a b NoMemory h u = absurd (none_of 5 (λ z. absurd (omega arith)) (λ z. absurd (omega arith)) (λ z. absurd (omega arith)) (λ z. absurd (omega arith)) h)
+kept_with a b FrontFault h u = absurd (none_of 6 (λ z. absurd (omega arith)) (λ z. absurd (omega arith)) (λ z. absurd (omega arith)) (λ z. absurd (omega arith)) h)
+kept_with a b (NoForm v l) h u = u
+
+serve_not_usage : (x : RunEnd) → IsServeEnd (Ended x) → status_of x ≡ 2 → ⊥
+serve_not_usage (Refused f) s h = s
+serve_not_usage Usage s h = s
+serve_not_usage ReadFault s h = s
+serve_not_usage WriteFault s h = omega arith
+serve_not_usage NoMemory s h = omega arith
+serve_not_usage FrontFault s h = omega arith
+serve_not_usage (NoForm v l) s h = s
+
+serve_not_read : (x : RunEnd) → IsServeEnd (Ended x) → status_of x ≡ 3 → ⊥
+serve_not_read (Refused f) s h = s
+serve_not_read Usage s h = s
+serve_not_read ReadFault s h = s
+serve_not_read WriteFault s h = omega arith
+serve_not_read NoMemory s h = omega arith
+serve_not_read FrontFault s h = omega arith
+serve_not_read (NoForm v l) s h = s
+
+serve_writes : (x : RunEnd) → IsServeEnd (Ended x) → (status_of x ≡ 1) ⊎ (status_of x ≡ 2) ⊎ (status_of x ≡ 3) ⊎ (status_of x ≡ 7) → ⊥
+serve_writes (Refused f) s h = s
+serve_writes Usage s h = s
+serve_writes ReadFault s h = s
+serve_writes WriteFault s h = none_of 4 (λ z. absurd (omega arith)) (λ z. absurd (omega arith)) (λ z. absurd (omega arith)) (λ z. absurd (omega arith)) h
+serve_writes NoMemory s h = none_of 5 (λ z. absurd (omega arith)) (λ z. absurd (omega arith)) (λ z. absurd (omega arith)) (λ z. absurd (omega arith)) h
+serve_writes FrontFault s h = none_of 6 (λ z. absurd (omega arith)) (λ z. absurd (omega arith)) (λ z. absurd (omega arith)) (λ z. absurd (omega arith)) h
+serve_writes (NoForm v l) s h = s
+
+within_limit : (n : ℕ) → n ≤ n + (most + 1)
+within_limit n = omega arith
+
+-- By the streams before and now.
+module _ {I O E : Type 0} (i : SourceMembers I) (o : SinkMembers O) (e : SinkMembers E) (words : List (List ℕ)) (input rest : I) (out wrote : O) (err told : E) where
+  abbrev Promises : ℕ → Type 0
+  Promises status = Ends i o e words status input rest out wrote err told
+
+  same_taken : rest ≡ input → length (i.left input) ≤ length (i.left rest) + (most + 1)
+  same_taken same = subst (λ (r : I). length (i.left input) ≤ length (i.left r) + (most + 1)) (sym same) (within_limit (length (i.left input)))
+
+  -- the words have no reading
+  usage_ends : (HasReading words → ⊥) → rest ≡ input → wrote ≡ out → e.faults err ≤ e.faults told → (e.tells told → Steady (e.faults err) (e.faults told) → e.held told ≡ e.held err ++ line_of Usage) → Promises 2
+  usage_ends none same kept counted line = record {
+    statuses = omega arith;
+    usage = λ two. none;
+    no_reading = λ n. inl refl;
+    read = λ two five. absurd (two refl);
+    unread = λ n. same;
+    done = λ c w zero t. absurd (none (Output c, w));
+    again = λ c w zero t u own. absurd (none (Output c, w));
+    no_read_fault = λ n. ap i.faults same;
+    no_write_fault = λ n m. ap o.faults kept;
+    counted = counted;
+    refused = λ c w one t. absurd (none (Output c, w));
+    read_fault = λ h. absurd (omega arith);
+    hidden = λ c w three t. absurd (none (Output c, w));
+    write_fault = λ h. absurd (omega arith);
+    front = λ c w four t. absurd (none (Output c, w));
+    accepted = λ c w t a. absurd (none (Output c, w));
+    not_accepted = λ c w t reason at q. absurd (none (Output c, w));
+    no_form = λ c w seven t. absurd (none (Output c, w));
+    alone = λ c w seven. absurd (none (Output c, w));
+    formed = λ c w t bytes m. absurd (none (Output c, w));
+    lacking = λ c w t number l k. absurd (none (Output c, w));
+    untaken = λ c w n. same;
+    reading = λ c w h. absurd (none (Output c, w));
+    links = λ s. same;
+    untouched = λ h. kept;
+    unwritten = λ five n. kept;
+    taken = λ t. same_taken same;
+    line = λ t s. line_says Usage _ _ (line t s);
+  }
+
+  -- memory was wanting before anything was asked of a stream
+  pub memory_ends : rest ≡ input → wrote ≡ out → e.faults err ≤ e.faults told → (e.tells told → Steady (e.faults err) (e.faults told) → e.held told ≡ e.held err ++ line_of NoMemory) → Promises 5
+  memory_ends same kept counted line = record {
+    statuses = omega arith;
+    usage = λ two. absurd (omega arith);
+    no_reading = λ n. inr refl;
+    read = λ two five. absurd (five refl);
+    unread = λ n. same;
+    done = λ c w zero t. absurd (omega arith);
+    again = λ c w zero t u own. absurd (omega arith);
+    no_read_fault = λ n. ap i.faults same;
+    no_write_fault = λ n m. ap o.faults kept;
+    counted = counted;
+    refused = λ c w one t. absurd (omega arith);
+    read_fault = λ h. absurd (omega arith);
+    hidden = λ c w three t. absurd (omega arith);
+    write_fault = λ h. absurd (omega arith);
+    front = λ c w four t. absurd (omega arith);
+    accepted = λ c w t a. inr (inr (inr (inl refl)));
+    not_accepted = λ c w t reason at q. inr (inr refl);
+    no_form = λ c w seven t. absurd (omega arith);
+    alone = λ c w seven. absurd (omega arith);
+    formed = λ c w t bytes m. inr (inr (inr refl));
+    lacking = λ c w t number l k. inr (inl refl);
+    untaken = λ c w n. same;
+    reading = λ c w h. absurd (neither 5 (λ z. absurd (omega arith)) (λ z. absurd (omega arith)) h);
+    links = λ s. same;
+    untouched = λ h. kept;
+    unwritten = λ five n. kept;
+    taken = λ t. same_taken same;
+    line = λ t s. line_says NoMemory _ _ (line t s);
+  }
+
+  -- A command was done.
+  module _ (c : Command) (w : Reads words c) where
+    abbrev Runs : End → Type 0
+    Runs r = (TakesInput c → i.tells input) → RunsTo c (i.left input) (i.left rest) (o.tells wrote) (o.held out) (o.held wrote) r
+
+    runs_of : (r : End) → Runs r → (d : Command) → Reads words d → (TakesInput d → i.tells input) → RunsTo d (i.left input) (i.left rest) (o.tells wrote) (o.held out) (o.held wrote) r
+    runs_of r runs d v = subst (λ (k : Command). (TakesInput k → i.tells input) → RunsTo k (i.left input) (i.left rest) (o.tells wrote) (o.held out) (o.held wrote) r) (one_reading words c d w v) runs
+
+    untaken_of : ((TakesInput c → ⊥) → rest ≡ input) → (d : Command) → Reads words d → (TakesInput d → ⊥) → rest ≡ input
+    untaken_of untaken d v none = untaken (subst (λ (k : Command). TakesInput k → ⊥) (sym (one_reading words c d w v)) none)
+
+    whole_ends : (x : Unit {0}) → Runs (Ok x) → ((TakesInput c → ⊥) → rest ≡ input) → (i.tells input → length (i.left input) ≤ length (i.left rest) + (most + 1)) → CountsReads (i.faults input) (i.faults rest) (Whole x) → CountsWrites (o.faults out) (o.faults wrote) (Whole x) → e.faults err ≤ e.faults told → (e.tells told → Steady (e.faults err) (e.faults told) → e.held told ≡ e.held err) → Promises 0
+    whole_ends x runs untaken taken reads writes counted line = record {
+      statuses = omega arith;
+      usage = λ two. absurd (omega arith);
+      no_reading = λ none. absurd (none (Output c, w));
+      read = λ two five. (Output c, w);
+      unread = λ none. absurd (none (Output c, w));
+      done = λ d v zero t. runs_of (Ok x) runs d v t;
+      again = λ d v zero t u own. let r = runs_of (Ok x) runs d v t in r.written u ∙ ap (λ b. o.held out ++ b) (made_again d (i.left input) r.bytes r.made own);
+      no_read_fault = λ n. reads;
+      no_write_fault = λ n m. writes;
+      counted = counted;
+      refused = λ d v one t. absurd (omega arith);
+      read_fault = λ h. absurd (omega arith);
+      hidden = λ d v three t. absurd (omega arith);
+      write_fault = λ h. absurd (omega arith);
+      front = λ d v four t. absurd (omega arith);
+      accepted = λ d v t a. inl refl;
+      not_accepted = λ d v t reason at q. absurd (done_not_refused d _ _ _ _ _ (runs_of (Ok x) runs d v t) reason at q);
+      no_form = λ d v seven t. absurd (omega arith);
+      alone = λ d v seven. absurd (omega arith);
+      formed = λ d v t bytes m. inl refl;
+      lacking = λ d v t number l k. let r = runs_of (Ok x) runs d v t in absurd (made_not_lacking d _ r.bytes number l r.made k);
+      untaken = untaken_of untaken;
+      reading = λ d v h. absurd (neither 0 (λ z. absurd (omega arith)) (λ z. absurd (omega arith)) h);
+      links = λ s. absurd (not_serving words c w s);
+      untouched = λ h. absurd (none_of 0 (λ z. absurd (omega arith)) (λ z. absurd (omega arith)) (λ z. absurd (omega arith)) (λ z. absurd (omega arith)) h);
+      unwritten = λ five n. absurd (omega arith);
+      taken = taken;
+      line = λ t s. line t s;
+    }
+
+    failed_ends : (x : RunEnd) → Ended x ≢ Err Usage → ((number : ℕ) (l : Lack) → Ended x ≡ Err (NoForm number l) → MayLack c) → IsReading c (Ended x) → ((TakesInput c → ⊥) → rest ≡ input) → Runs (Ended x) → (i.tells input → length (i.left input) ≤ length (i.left rest) + (most + 1)) → IsUntouched out wrote (Ended x) → (Ended x ≡ Err NoMemory → wrote ≡ out) → CountsReads (i.faults input) (i.faults rest) (Ended x) → CountsWrites (o.faults out) (o.faults wrote) (Ended x) → e.faults err ≤ e.faults told → (e.tells told → Steady (e.faults err) (e.faults told) → e.held told ≡ e.held err ++ line_of x) → Promises (status_of x)
+    failed_ends x usage alone reading untaken runs taken untouched unwritten reads writes counted line = record {
+      statuses = within_7 x;
+      usage = λ two. absurd (usage (usage_end x two));
+      no_reading = λ none. absurd (none (Output c, w));
+      read = λ two five. (Output c, w);
+      unread = λ none. absurd (none (Output c, w));
+      done = λ d v zero t. absurd (never_0 x zero);
+      again = λ d v zero t u own. absurd (never_0 x zero);
+      no_read_fault = λ n. reads_steady x _ _ reads n;
+      no_write_fault = λ n m. writes_steady x _ _ writes n m;
+      counted = counted;
+      refused = λ d v one t. refused_says d x (i.left input) (i.left rest) (o.tells wrote) (e.tells told × Steady (e.faults err) (e.faults told)) (o.held out) (o.held wrote) (e.held err) (e.held told) one (runs_of (Ended x) runs d v t) (λ s. line s.0 s.1);
+      read_fault = λ h. reads_rose x _ _ h reads;
+      hidden = λ d v three t. hidden_says d x _ _ _ _ _ three (runs_of (Ended x) runs d v t);
+      write_fault = λ h. writes_rose x _ _ h writes;
+      front = λ d v four t. front_says d x _ _ _ _ _ four (runs_of (Ended x) runs d v t);
+      accepted = λ d v t a. accepted_says d x _ _ _ _ _ usage (runs_of (Ended x) runs d v t) a;
+      not_accepted = λ d v t reason at q. not_accepted_says d x _ _ _ _ _ usage (runs_of (Ended x) runs d v t) reason at q;
+      no_form = λ d v seven t. no_form_says d x (i.left input) (i.left rest) (o.tells wrote) (e.tells told × Steady (e.faults err) (e.faults told)) (o.held out) (o.held wrote) (e.held err) (e.held told) seven (runs_of (Ended x) runs d v t) (λ s. line s.0 s.1);
+      alone = λ d v seven. let f = form_status x seven in subst MayLack (one_reading words c d w v) (alone f.0 f.1 f.2);
+      formed = λ d v t bytes m. formed_says d x _ _ _ _ _ bytes usage (runs_of (Ended x) runs d v t) m;
+      lacking = λ d v t number l k. lacking_says d x _ _ _ _ _ number l usage (runs_of (Ended x) runs d v t) k;
+      untaken = untaken_of untaken;
+      reading = λ d v h. reading_says d x h (subst (λ (k : Command). IsReading k (Ended x)) (one_reading words c d w v) reading);
+      links = λ s. absurd (not_serving words c w s);
+      untouched = λ h. kept_with out wrote x h untouched;
+      unwritten = λ five n. unwritten (memory_end x five);
+      taken = taken;
+      line = λ t s. line_says x _ _ (line t s);
+    }
+
+    -- a command was done, and ended so
+    by_end : (r : End) → r ≢ Err Usage → ((number : ℕ) (l : Lack) → r ≡ Err (NoForm number l) → MayLack c) → IsReading c r → ((TakesInput c → ⊥) → rest ≡ input) → Runs r → (i.tells input → length (i.left input) ≤ length (i.left rest) + (most + 1)) → IsUntouched out wrote r → (r ≡ Err NoMemory → wrote ≡ out) → CountsReads (i.faults input) (i.faults rest) r → CountsWrites (o.faults out) (o.faults wrote) r → e.faults err ≤ e.faults told → (e.tells told → Steady (e.faults err) (e.faults told) → ReportsEnd r (e.held err) (e.held told)) → Promises (status_for r)
+    by_end (Ok x) usage alone reading untaken runs taken untouched unwritten reads writes counted line = whole_ends x runs untaken taken reads writes counted line
+    by_end (Err x) usage alone reading untaken runs taken untouched unwritten reads writes counted line = failed_ends x usage alone reading untaken runs taken untouched unwritten reads writes counted line
+
+  -- links were served, or not
+  served_ends : (s : ServeOptions) (w : ReadsServe words s) (r : End) → IsServeEnd r → rest ≡ input → CountsWrites (o.faults out) (o.faults wrote) r → e.faults err ≤ e.faults told → (e.tells told → Steady (e.faults err) (e.faults told) → ReportsEnd r (e.held err) (e.held told)) → Promises (status_for r)
+  served_ends s w (Ok x) ends same writes counted line = record {
+    statuses = omega arith;
+    usage = λ two. absurd (omega arith);
+    no_reading = λ none. absurd (none (Serve s, w));
+    read = λ two five. (Serve s, w);
+    unread = λ none. same;
+    done = λ c v zero t. absurd (not_both words c s v w);
+    again = λ c v zero t u own. absurd (not_both words c s v w);
+    no_read_fault = λ n. ap i.faults same;
+    no_write_fault = λ n m. writes;
+    counted = counted;
+    refused = λ c v one t. absurd (not_both words c s v w);
+    read_fault = λ h. absurd (omega arith);
+    hidden = λ c v three t. absurd (not_both words c s v w);
+    write_fault = λ h. absurd (omega arith);
+    front = λ c v four t. absurd (not_both words c s v w);
+    accepted = λ c v t a. absurd (not_both words c s v w);
+    not_accepted = λ c v t reason at q. absurd (not_both words c s v w);
+    no_form = λ c v seven t. absurd (not_both words c s v w);
+    alone = λ c v seven. absurd (not_both words c s v w);
+    formed = λ c v t bytes m. absurd (not_both words c s v w);
+    lacking = λ c v t number l k. absurd (not_both words c s v w);
+    untaken = λ c v n. same;
+    reading = λ c v h. absurd (not_both words c s v w);
+    links = λ z. same;
+    untouched = λ h. absurd (none_of 0 (λ z. absurd (omega arith)) (λ z. absurd (omega arith)) (λ z. absurd (omega arith)) (λ z. absurd (omega arith)) h);
+    unwritten = λ five n. absurd (n (s, w));
+    taken = λ t. same_taken same;
+    line = λ t z. line t z;
+  }
+  served_ends s w (Err x) ends same writes counted line = record {
+    statuses = within_7 x;
+    usage = λ two. absurd (serve_not_usage x ends two);
+    no_reading = λ none. absurd (none (Serve s, w));
+    read = λ two five. (Serve s, w);
+    unread = λ none. same;
+    done = λ c v zero t. absurd (not_both words c s v w);
+    again = λ c v zero t u own. absurd (not_both words c s v w);
+    no_read_fault = λ n. ap i.faults same;
+    no_write_fault = λ n m. writes_steady x _ _ writes n m;
+    counted = counted;
+    refused = λ c v one t. absurd (not_both words c s v w);
+    read_fault = λ h. absurd (serve_not_read x ends h);
+    hidden = λ c v three t. absurd (not_both words c s v w);
+    write_fault = λ h. writes_rose x _ _ h writes;
+    front = λ c v four t. absurd (not_both words c s v w);
+    accepted = λ c v t a. absurd (not_both words c s v w);
+    not_accepted = λ c v t reason at q. absurd (not_both words c s v w);
+    no_form = λ c v seven t. absurd (not_both words c s v w);
+    alone = λ c v seven. absurd (not_both words c s v w);
+    formed = λ c v t bytes m. absurd (not_both words c s v w);
+    lacking = λ c v t number l k. absurd (not_both words c s v w);
+    untaken = λ c v n. same;
+    reading = λ c v h. absurd (not_both words c s v w);
+    links = λ z. same;
+    untouched = λ h. absurd (serve_writes x ends h);
+    unwritten = λ five n. absurd (n (s, w));
+    taken = λ t. same_taken same;
+    line = λ t z. line_says x _ _ (line t z);
+  }
+
+  -- The same of a status that is that of the end.
+
+  pub no_memory_ends : (status : ℕ) → status ≡ status_for (Err NoMemory) → rest ≡ input → wrote ≡ out → e.faults err ≤ e.faults told → (e.tells told → Steady (e.faults err) (e.faults told) → ReportsEnd (Err NoMemory) (e.held err) (e.held told)) → Promises status
+  no_memory_ends status is same kept counted line = subst Promises (sym is) (memory_ends same kept counted line)
+
+  pub command_ends : (c : Command) (w : Reads words c) (r : End) (status : ℕ) → status ≡ status_for r → r ≢ Err Usage → ((number : ℕ) (l : Lack) → r ≡ Err (NoForm number l) → MayLack c) → IsReading c r → ((TakesInput c → ⊥) → rest ≡ input) → ((TakesInput c → i.tells input) → RunsTo c (i.left input) (i.left rest) (o.tells wrote) (o.held out) (o.held wrote) r) → (i.tells input → length (i.left input) ≤ length (i.left rest) + (most + 1)) → IsUntouched out wrote r → (r ≡ Err NoMemory → wrote ≡ out) → CountsReads (i.faults input) (i.faults rest) r → CountsWrites (o.faults out) (o.faults wrote) r → e.faults err ≤ e.faults told → (e.tells told → Steady (e.faults err) (e.faults told) → ReportsEnd r (e.held err) (e.held told)) → Promises status
+  command_ends c w r status is usage alone reading untaken runs taken untouched unwritten reads writes counted line = subst Promises (sym is) (by_end c w r usage alone reading untaken runs taken untouched unwritten reads writes counted line)
+
+  pub serving_ends : (s : ServeOptions) (w : ReadsServe words s) (r : End) (status : ℕ) → status ≡ status_for r → IsServeEnd r → rest ≡ input → CountsWrites (o.faults out) (o.faults wrote) r → e.faults err ≤ e.faults told → (e.tells told → Steady (e.faults err) (e.faults told) → ReportsEnd r (e.held err) (e.held told)) → Promises status
+  serving_ends s w r status is ends same writes counted line = subst Promises (sym is) (served_ends s w r ends same writes counted line)
+
+  -- the words ask for nothing, or it was not found out what
+  pub no_task_ends : (x : RunEnd) (status : ℕ) → ((x ≡ Usage) × (HasReading words → ⊥)) ⊎ (x ≡ NoMemory) → status ≡ status_of x → rest ≡ input → wrote ≡ out → e.faults err ≤ e.faults told → (e.tells told → Steady (e.faults err) (e.faults told) → e.held told ≡ e.held err ++ line_of x) → Promises status
+  no_task_ends x status why is same kept counted line = elim why [
+    | inl u ↦ subst Promises (sym (is ∙ ap status_of u.0)) (usage_ends u.1 same kept counted (λ t s. line t s ∙ ap (λ y. e.held err ++ line_of y) u.0))
+    | inr m ↦ subst Promises (sym (is ∙ ap status_of m)) (memory_ends same kept counted (λ t s. line t s ∙ ap (λ y. e.held err ++ line_of y) m))
+  ]
+
+-- no command of data fails for the front
+
+pub not_front_fault : (r : End) (status : ℕ) → r ≢ Err FrontFault → status ≡ status_for r → status ≢ 6
+not_front_fault (Ok x) status other is six = absurd (omega (arith, is, six))
+not_front_fault (Err (Refused f)) status other is six = absurd (omega (arith, is, six))
+not_front_fault (Err Usage) status other is six = absurd (omega (arith, is, six))
+not_front_fault (Err ReadFault) status other is six = absurd (omega (arith, is, six))
+not_front_fault (Err WriteFault) status other is six = absurd (omega (arith, is, six))
+not_front_fault (Err NoMemory) status other is six = absurd (omega (arith, is, six))
+not_front_fault (Err FrontFault) status other is six = absurd (other refl)
+not_front_fault (Err (NoForm v l)) status other is six = absurd (omega (arith, is, six))
+
+-- where nothing was found out, links may have been asked for only where memory was wanting
+pub serving_is_5 : (words : List (List ℕ)) (x : RunEnd) (status : ℕ) → ((x ≡ Usage) × (HasReading words → ⊥)) ⊎ (x ≡ NoMemory) → status ≡ status_of x → IsServing words → status ≡ 5
+serving_is_5 words x status why is s = elim why [ inl u ↦ absurd (u.1 (Serve s.0, s.1)) | inr m ↦ is ∙ ap status_of m ]
+
+pub task_not_6 : (words : List (List ℕ)) (x : RunEnd) (status : ℕ) → ((x ≡ Usage) × (HasReading words → ⊥)) ⊎ (x ≡ NoMemory) → status ≡ status_of x → status ≢ 6
+task_not_6 words x status why is six = elim why [
+  | inl u ↦ absurd (not_front_fault (Err Usage) status (λ z. cc) (is ∙ ap status_of u.0) six)
+  | inr m ↦ absurd (not_front_fault (Err NoMemory) status (λ z. cc) (is ∙ ap status_of m) six)
+]
+
+-- what was asked for
+pub was_asked_for : (words : List (List ℕ)) (r : Result Task RunEnd) (t u : Task) → r ≡ Ok t → t ≡ u → IfOk r (AsksFor words) → AsksFor words u
+was_asked_for words r t u e f h = subst (AsksFor words) f (subst (λ (x : Result Task RunEnd). IfOk x (AsksFor words)) e h)
+
+-- memory was wanting before anything was asked
+pub memory_ends_with : {I O E : Type 0} (i : SourceMembers I) (o : SinkMembers O) (e : SinkMembers E) (words : List (List ℕ)) (input : I) (out : O) (err told : E) (status : ℕ) → status ≡ status_of NoMemory → e.faults err ≤ e.faults told → (e.tells told → Steady (e.faults err) (e.faults told) → e.held told ≡ e.held err ++ line_of NoMemory) → Ends i o e words status input input out out err told
+memory_ends_with i o e words input out err told status is counted line = no_task_ends i o e words input input out out err told NoMemory status (inr refl) is refl refl counted line
+
+pub five_not_six : (status : ℕ) → status ≡ 5 → status ≡ 6 → ⊥
+five_not_six status five six = omega (arith, five, six)

@@ -1,0 +1,38 @@
+-- What the words ask for was done, or there is nothing that they ask for, or memory was wanting.
+use Rattle.std.proofs.Common.{◌≡◌, refl, subst}
+use Rattle.amf_commands.specs.declared.command.Task.TheVariants.{Output, Serve}
+use Rattle.amf_commands.specs.Commands.{AsksFor}
+use Rattle.amf_commands.proofs.Asked.{asked_possible, not_serving}
+use Rattle.amf_cli.proofs.EndsLaws.{command_ends, no_task_ends, not_front_fault, serving_is_5, task_not_6, was_asked_for}
+use Rattle.amf_cli.proofs.data.run_data.Goals as goal
+
+pub carry_out-end-requires : goal.carry_out-end-requires
+carry_out-end-requires g c = asked_possible c.args.words.now (Output c.in-Ok-Output.command) (was_asked_for c.args.words.now _ _ _ c.in-Ok-Output.is c.in-Ok-Output.field-0-is c.task_of.ensures.asked)
+
+pub returns-in-Ok-Output-clause-ends : goal.returns-in-Ok-Output-clause-ends
+returns-in-Ok-Output-clause-ends g c =
+    let w : AsksFor c.args.words.now (Output c.in-Ok-Output.command) = was_asked_for c.args.words.now _ _ _ c.in-Ok-Output.is c.in-Ok-Output.field-0-is c.task_of.ensures.asked in
+    command_ends g.I.Source g.O.Sink g.E.Sink c.args.words.now c.args.input.now c.carry_out-end.new.input c.args.out.now c.carry_out-end.new.out c.args.err.now c.status_with.new.err
+    c.in-Ok-Output.command w c.carry_out-end.result _ c.status_with.ensures.status c.carry_out-end.ensures.no_usage c.carry_out-end.ensures.alone c.carry_out-end.ensures.reading c.carry_out-end.ensures.untaken
+    c.carry_out-end.ensures.runs c.carry_out-end.ensures.taken c.carry_out-end.ensures.untouched c.carry_out-end.ensures.unwritten c.carry_out-end.ensures.reads c.carry_out-end.ensures.writes
+    c.status_with.ensures.counted c.status_with.ensures.line
+
+pub returns-in-Ok-Output-clause-data : goal.returns-in-Ok-Output-clause-data
+returns-in-Ok-Output-clause-data g c =
+    let w : AsksFor c.args.words.now (Output c.in-Ok-Output.command) = was_asked_for c.args.words.now _ _ _ c.in-Ok-Output.is c.in-Ok-Output.field-0-is c.task_of.ensures.asked in
+    (λ s. absurd (not_serving c.args.words.now c.in-Ok-Output.command w s), not_front_fault c.carry_out-end.result _ c.carry_out-end.ensures.no_front c.status_with.ensures.status)
+
+pub returns-in-Ok-Serve-clause-serves : goal.returns-in-Ok-Serve-clause-serves
+returns-in-Ok-Serve-clause-serves g c =
+    let w : AsksFor c.args.words.now (Serve c.in-Ok-Serve.options) = was_asked_for c.args.words.now _ _ _ c.in-Ok-Serve.is c.in-Ok-Serve.field-0-is c.task_of.ensures.asked in
+    λ options same. let is : c.in-Ok-Serve.options ≡ options = cc in subst (λ o. AsksFor c.args.words.now (Serve o)) is w
+
+pub returns-in-Err-clause-ends : goal.returns-in-Err-clause-ends
+returns-in-Err-clause-ends g c =
+    no_task_ends g.I.Source g.O.Sink g.E.Sink c.args.words.now c.args.input.now c.args.input.now c.args.out.now c.args.out.now c.args.err.now c.status_with-in-Err.new.err
+    c.in-Err.end _ (c.task_of.ensures.none c.in-Err.end c.in-Err.is) c.status_with-in-Err.ensures.status refl refl c.status_with-in-Err.ensures.counted c.status_with-in-Err.ensures.line
+
+pub returns-in-Err-clause-data : goal.returns-in-Err-clause-data
+returns-in-Err-clause-data g c =
+    let why = c.task_of.ensures.none c.in-Err.end c.in-Err.is in
+    ((λ s. (serving_is_5 c.args.words.now c.in-Err.end _ why c.status_with-in-Err.ensures.status s, refl)), task_not_6 c.args.words.now c.in-Err.end _ why c.status_with-in-Err.ensures.status)

@@ -1,0 +1,21 @@
+-- The services are those that are shipped.
+use Rattle.std.proofs.Common.{refl, ◌∙◌}
+use Rattle.amf_cli.proofs.EndsLaws.{memory_ends_with}
+use Rattle.amf_cli.proofs.FrontLaws.{ends_again, ends_from, kept_serves}
+use Rattle.amf_cli.proofs.services.start_with_services.Goals as goal
+
+pub returns-in-Ok : goal.returns-in-Ok
+returns-in-Ok g c = c.in-Ok.ensures.runs
+
+pub returns-in-Err : goal.returns-in-Err
+returns-in-Err g c =
+    let same = c.in-Err.ensures.untouched in
+    let input = c.start_shipped.new.input in
+    let out = c.start_shipped.new.out in
+    let err = c.start_shipped.new.err in
+    let ended = memory_ends_with g.I.Source g.O.Sink g.E.Sink (g.A.Arguments.words c.args.arguments.now) input out err c.end_with.new.err _ c.end_with.ensures.status c.end_with.ensures.counted c.end_with.ensures.line in (
+      g.A.Arguments.words c.args.arguments.now,
+      (λ told. refl),
+      ends_again _ _ _ _ _ _ _ _ _ _ _ _ c.from.ensures (ends_from g.I.Source g.O.Sink g.E.Sink _ _ c.args.input.now input input c.args.out.now out out c.args.err.now err c.end_with.new.err same.0 same.1 same.2 ended),
+      kept_serves _ _ _ _ _ _ _ _ _ _ _ same.3 same.1 (c.from.ensures ∙ c.end_with.ensures.status),
+    )

@@ -1,0 +1,58 @@
+-- What a run of the program promises of its words, its input, its output and its error line, by its status.
+use Rattle.std.specs.Prelude.{◌≡◌, ◌≢◌, ℕ, ◌+◌, ◌≤◌, ◌⊎◌, List, ◌++◌, length}
+use Rattle.amf_io.specs.Outside.{Rose, Steady}
+use Rattle.amf_io.specs.declared.reason.Reason.{Reason}
+use Rattle.amf_io.specs.declared.source.Source.{Ghosts as SourceMembers}
+use Rattle.amf_io.specs.declared.sink.Sink.{Ghosts as SinkMembers}
+use Rattle.amf_graph.specs.declared.lack.Lack.{Lack}
+use Rattle.amf_commands.specs.declared.command.Command.{Command}
+use Rattle.amf_commands.specs.Commands.{Reads, IsServing, HasReading}
+use Rattle.amf_commands.specs.Input.{most, input_of, IsAcceptedAs, IsRefusedAs}
+use Rattle.amf_commands.specs.Run.{TakesInput, Makes, Lacks, MayLack, IsOutputOf, WritesAll, WritesSome, IsRefusedWith, IsHidden, HasNoForm, Reports}
+
+-- By the meanings of the three streams, the words and the status. Of each stream there is what it was before and what it is now. What is said of bytes holds where the input tells them, or the command takes none.
+pub record Ends {I O E : Type 0} (i : SourceMembers I) (o : SinkMembers O) (e : SinkMembers E) (words : List (List ℕ)) (status : ℕ) (input rest : I) (out wrote : O) (err told : E) : Type 0 where
+  pub statuses : status ≤ 7
+  -- 2 comes exactly where the words have no reading, but for want of memory; and where they have none, nothing is asked of the input
+  pub usage : status ≡ 2 → HasReading words → ⊥
+  pub no_reading : (HasReading words → ⊥) → (status ≡ 2) ⊎ (status ≡ 5)
+  pub read : status ≢ 2 → status ≢ 5 → HasReading words
+  pub unread : (HasReading words → ⊥) → rest ≡ input
+  -- 0: the input, where there is one, was read to its end, the output was written whole, and it holds of whatever the input spells
+  pub done : (c : Command) → Reads words c → status ≡ 0 → (TakesInput c → i.tells input) → WritesAll c (i.left input) (i.left rest) (o.tells wrote) (o.held out) (o.held wrote)
+  -- output that is read again gives itself
+  pub again : (c : Command) → Reads words c → status ≡ 0 → (TakesInput c → i.tells input) → o.tells wrote → IsOutputOf c (i.left input) → o.held wrote ≡ o.held out ++ i.left input
+  -- but for 3 the count of the input stays, and but for 4 and 5 that of the output; that of the error line never falls
+  pub no_read_fault : status ≢ 3 → i.faults rest ≡ i.faults input
+  pub no_write_fault : status ≢ 4 → status ≢ 5 → o.faults wrote ≡ o.faults out
+  pub counted : e.faults err ≤ e.faults told
+  -- 1: the verdict, with its reason and place on the error line
+  pub refused : (c : Command) → Reads words c → status ≡ 1 → (TakesInput c → i.tells input) → IsRefusedWith c (i.left input) (e.tells told × Steady (e.faults err) (e.faults told)) (e.held err) (e.held told)
+  -- 3 and 4 come only where a count rose, and 3 only where what came before fixes no verdict
+  pub read_fault : status ≡ 3 → Rose (i.faults input) (i.faults rest)
+  pub hidden : (c : Command) → Reads words c → status ≡ 3 → (TakesInput c → i.tells input) → IsHidden (input_of c) (i.left input) (i.left rest)
+  pub write_fault : status ≡ 4 → Rose (o.faults out) (o.faults wrote)
+  pub front : (c : Command) → Reads words c → status ≡ 4 → (TakesInput c → i.tells input) → WritesSome c (i.left input) (i.left rest) (o.tells wrote) (o.held out) (o.held wrote)
+  -- what is accepted is not refused, and what is refused is not accepted
+  pub accepted : (c : Command) → Reads words c → (TakesInput c → i.tells input) → IsAcceptedAs (input_of c) (i.left input)
+      → (status ≡ 0) ⊎ (status ≡ 3) ⊎ (status ≡ 4) ⊎ (status ≡ 5) ⊎ (status ≡ 7)
+  pub not_accepted : (c : Command) → Reads words c → (TakesInput c → i.tells input) → (reason : Reason) (at : ℕ) → IsRefusedAs (input_of c) (i.left input) reason at
+      → (status ≡ 1) ⊎ (status ≡ 3) ⊎ (status ≡ 5)
+  -- 7: the input is accepted, and whatever it spells has this first value without a spelling, with this first lack; it comes only of commands that may lack an output, and where the input has one, or a lack, the status is that of this
+  pub no_form : (c : Command) → Reads words c → status ≡ 7 → (TakesInput c → i.tells input) → HasNoForm c (i.left input) (i.left rest) (e.tells told × Steady (e.faults err) (e.faults told)) (e.held err) (e.held told)
+  pub alone : (c : Command) → Reads words c → status ≡ 7 → MayLack c
+  pub formed : (c : Command) → Reads words c → (TakesInput c → i.tells input) → (bytes : List ℕ) → Makes c (i.left input) bytes
+      → (status ≡ 0) ⊎ (status ≡ 3) ⊎ (status ≡ 4) ⊎ (status ≡ 5)
+  pub lacking : (c : Command) → Reads words c → (TakesInput c → i.tells input) → (number : ℕ) (l : Lack) → Lacks c (i.left input) number l
+      → (status ≡ 3) ⊎ (status ≡ 5) ⊎ (status ≡ 7)
+  -- a command without an input leaves it as it is, and has no status that comes of one; and so does `serve`
+  pub untaken : (c : Command) → Reads words c → (TakesInput c → ⊥) → rest ≡ input
+  pub reading : (c : Command) → Reads words c → (status ≡ 1) ⊎ (status ≡ 3) → TakesInput c
+  pub links : IsServing words → rest ≡ input
+  -- with 1, 2, 3 and 7 nothing is asked of the output, and but for `serve` not with 5 either
+  pub untouched : (status ≡ 1) ⊎ (status ≡ 2) ⊎ (status ≡ 3) ⊎ (status ≡ 7) → wrote ≡ out
+  pub unwritten : status ≡ 5 → (IsServing words → ⊥) → wrote ≡ out
+  -- no byte of the input past the most is taken but the one that shows that there is more
+  pub taken : i.tells input → length (i.left input) ≤ length (i.left rest) + (most + 1)
+  -- the error line is that of the status
+  pub line : e.tells told → Steady (e.faults err) (e.faults told) → Reports status (e.held err) (e.held told)

@@ -1,0 +1,85 @@
+ghost use Rattle.std.specs.Prelude.{◌≡◌, ◌≢◌, ◌⊎◌, ℕ, ◌+◌, ◌≤◌, length, IfOk, OnErr};
+ghost use Rattle.amf_graph.specs.declared.lack.Lack.{Lack};
+ghost use Rattle.amf_commands.specs.declared.command.ServeOptions.{ServeOptions};
+ghost use Rattle.amf_commands.specs.Askable.{IsAskable};
+ghost use Rattle.amf_commands.specs.Commands.{AsksFor, HasReading, ReadsServe, IsServing};
+ghost use Rattle.amf_commands.specs.Input.{most};
+ghost use Rattle.amf_commands.specs.Run.{TakesInput, MayLack, CountsReads, CountsWrites, IsReading, IsUntouched, RunsTo};
+ghost use Rattle.amf_commands.specs.declared.run_end.RunEnd.{RunEnd};
+ghost use Rattle.amf_commands.specs.declared.run_end.RunEnd.TheVariants.{Usage, NoMemory};
+ghost use Rattle.amf_cli.specs.Ends.{Ends};
+
+use crate::ending::status_with;
+use crate::no_input::NoInput;
+use amf_commands::perform::perform;
+use amf_commands::{Command, RunEnd, ServeOptions, Task};
+use amf_io::{Sink, Source};
+use amf_wire::Name;
+use std::alloc::Global;
+use std::hash::RandomState;
+
+/// Does what the words say as `run` does it, and gives the status of the program; but where they ask for links to be served it does
+/// nothing, and the answer has the options.
+///
+/// It has no runtime. So it returns, unless a stream waits. The keys are those by which readers and writers look texts up.
+pub fn run_data<I: Source, O: Sink, E: Sink>(
+    alloc: Global,
+    keys: Option<RandomState>,
+    words: &[Name],
+    input: &mut I,
+    out: &mut O,
+    err: &mut E,
+) -> Result<u8, ServeOptions>
+    ensures ends { IfOk result (λ status. Ends I.Source O.Sink E.Sink words.now status input.old input.new out.old out.new err.old err.new) }
+    ensures data { IfOk result (λ status. (IsServing words.now → (status ≡ 5) × (out.new ≡ out.old)) × (status ≢ 6)) }
+    ensures serves { (options : ServeOptions) → result ≡ Err options → ReadsServe words.now options }
+    ensures untouched { OnErr result ((input.new ≡ input.old) × (out.new ≡ out.old) × (err.new ≡ err.old)) }
+{
+    match task_of(alloc, words) {
+        Ok(Task::Output(command)) => {
+            let end = carry_out(alloc, keys, command, input, out);
+            Ok(status_with(end, err))
+        }
+        Ok(Task::Serve(options)) => Err(options),
+        Err(end) => Ok(status_with(Err(end), err)),
+    }
+}
+
+/// What the words ask for.
+fn task_of(alloc: Global, words: &[Name]) -> Result<Task, RunEnd>
+    ensures asked { IfOk result (AsksFor words.now) }
+    ensures none { (end : RunEnd) → result ≡ Err end → ((end ≡ Usage) × (HasReading words.now → ⊥)) ⊎ (end ≡ NoMemory) }
+{
+    match Task::of(alloc, words)? {
+        Some(task) => Ok(task),
+        None => Err(RunEnd::Usage),
+    }
+}
+
+/// Reads the input of a command, where it has one, and writes its output.
+fn carry_out<I: Source, O: Sink>(
+    alloc: Global,
+    keys: Option<RandomState>,
+    command: Command,
+    input: &mut I,
+    out: &mut O,
+) -> Result<(), RunEnd>
+    requires { IsAskable command }
+    ensures no_usage { result ≢ Err RunEnd.Usage }
+    ensures alone { (number : ℕ) (l : Lack) → result ≡ Err (RunEnd.NoForm number l) → MayLack command }
+    ensures reading { IsReading command result }
+    ensures untaken { (TakesInput command → ⊥) → input.new ≡ input.old }
+    ensures runs { (TakesInput command → I.tells input.old) → RunsTo command (I.left input.old) (I.left input.new) (O.tells out.new) (O.held out.old) (O.held out.new) result }
+    ensures taken { I.tells input.old → length (I.left input.old) ≤ length (I.left input.new) + (most + 1) }
+    ensures untouched { IsUntouched out.old out.new result }
+    ensures unwritten { result ≡ Err RunEnd.NoMemory → out.new ≡ out.old }
+    ensures no_front { result ≢ Err RunEnd.FrontFault }
+    ensures reads { CountsReads (I.faults input.old) (I.faults input.new) result }
+    ensures writes { CountsWrites (O.faults out.old) (O.faults out.new) result }
+{
+    match command {
+        // It reads nothing, so the input is not touched.
+        Command::Gen { .. } => perform(alloc, keys, command, &mut NoInput, out),
+        _ => perform(alloc, keys, command, input, out),
+    }
+}

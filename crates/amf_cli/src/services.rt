@@ -1,0 +1,86 @@
+ghost use Rattle.std.specs.Prelude.{◌≡◌, ℕ, List, IfOk, OnErr};
+ghost use Rattle.std.specs.Process.{exit_status};
+ghost use Rattle.amf_service.specs.Shipped.{shipped as shipped_services};
+ghost use Rattle.amf_cli.specs.Ends.{Ends};
+ghost use Rattle.amf_cli.specs.Outside.{of_front, of_hall, of_link};
+ghost use Rattle.amf_cli.specs.ServesWords.{ServesWords};
+
+use crate::arguments::Arguments;
+use crate::start::start;
+use amf_commands::{RunEnd, end_with};
+use amf_io::{Front, Hall, OpenGate, Sink, Source};
+use amf_service::{Echo, Names, Registry, Service, Sum};
+use amf_wire::{Memory, Name};
+use std::alloc::Global;
+use std::process::ExitCode;
+use std::random::RandomSource;
+use std::sync::Wait;
+use std::thread::Threads;
+
+/// Does what the words of the arguments say, as `start` does it, with the services that are shipped. Where there is no memory for
+/// them, nothing is asked of anything, and the code is 5.
+pub fn start_with_services<
+    R: RandomSource + Threads + Wait + Sync,
+    A: Arguments,
+    I: Source,
+    O: Sink,
+    E: Sink,
+    F: Front,
+>(
+    rt: &R,
+    alloc: Global,
+    arguments: &A,
+    input: &mut I,
+    out: &mut O,
+    err: &mut E,
+    front: &mut F,
+) -> ExitCode
+where
+    <F::Hall as Hall>::Link: Send,
+    ensures { (words : List (List ℕ)) × (A.tells arguments.now → words ≡ A.words arguments.now)
+        × Ends I.Source O.Sink E.Sink words (exit_status result) input.old input.new out.old out.new err.old err.new
+        × ServesWords (of_front F.Front) (of_hall F.Hall.Hall.own F.Hall.Clock F.Hall.Dice) (of_link F.Hall.Link.Link) O.Sink shipped_services
+        words (exit_status result) front.old front.new out.old out.new }
+{
+    match start_shipped(rt, alloc, arguments, input, out, err, front) {
+        Ok(code) => code,
+        Err(_) => ExitCode::from(end_with(RunEnd::NoMemory, err)),
+    }
+}
+
+/// The same, but for want of memory for the services, and then nothing is asked of anything. Each service has the name of its operation.
+fn start_shipped<
+    R: RandomSource + Threads + Wait + Sync,
+    A: Arguments,
+    I: Source,
+    O: Sink,
+    E: Sink,
+    F: Front,
+>(
+    rt: &R,
+    alloc: Global,
+    arguments: &A,
+    input: &mut I,
+    out: &mut O,
+    err: &mut E,
+    front: &mut F,
+) -> Result<ExitCode, Memory>
+where
+    <F::Hall as Hall>::Link: Send,
+    ensures runs { IfOk result (λ code. (words : List (List ℕ)) × (A.tells arguments.now → words ≡ A.words arguments.now)
+        × Ends I.Source O.Sink E.Sink words (exit_status code) input.old input.new out.old out.new err.old err.new
+        × ServesWords (of_front F.Front) (of_hall F.Hall.Hall.own F.Hall.Clock F.Hall.Dice) (of_link F.Hall.Link.Link) O.Sink shipped_services
+        words (exit_status code) front.old front.new out.old out.new) }
+    ensures untouched { OnErr result ((input.new ≡ input.old) × (out.new ≡ out.old) × (err.new ≡ err.old) × (front.new ≡ front.old)) }
+{
+    let mut entries: Vec<(Name, Box<dyn Service>)> = Vec::new(alloc);
+    entries.push((Name::of_bytes(alloc, b"echo")?, Box::new(alloc, Echo)?))?;
+    entries.push((Name::of_bytes(alloc, b"sum")?, Box::new(alloc, Sum)?))?;
+    entries.push((Name::of_bytes(alloc, b"names")?, Box::new(alloc, Names)?))?;
+    let Ok(registry) = Registry::new(alloc, entries) else {
+        return Err(Memory);
+    };
+    Ok(start(
+        rt, alloc, arguments, input, out, err, front, &OpenGate, &registry,
+    ))
+}
