@@ -3,6 +3,7 @@
 
 mod bodies;
 mod caller;
+mod crosses;
 mod links;
 mod packets;
 mod serve;
