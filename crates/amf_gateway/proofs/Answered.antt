@@ -1,5 +1,5 @@
 -- Answering a link one request at a time comes to what the link is answered.
-use Rattle.std.proofs.Common.{◌≡◌, ◌∙◌, ℕ, suc, Bool, true, false, ◌==◌, ◌||◌, if◌then◌else◌, List, [], ◌∷◌, ◌++◌, map, Option, Some, None, refl, sym, ap, subst, inr, append_assoc}
+use Rattle.std.proofs.Common.{◌≡◌, ◌∙◌, ℕ, suc, Bool, true, false, ◌==◌, ◌||◌, if◌then◌else◌, List, [], ◌∷◌, ◌++◌, map, Option, Some, None, refl, sym, ap, subst, inr, append_assoc, append-nil}
 use Rattle.std.proofs.lemmas.List.{map-append}
 use Rattle.amf_broker.specs.declared.call.Call.{Call}
 use Rattle.amf_broker.specs.declared.reply.Reply.{Reply as Replied}
@@ -15,9 +15,11 @@ use Rattle.amf_gateway.specs.LinkSteps.{Gives}
 use Rattle.amf_plan.specs.Packets.{answers_to, has_long}
 use Rattle.amf_plan.specs.Plan.{Cut, at_end, cut_short, turned_away, request, Plan, gives, takes_moment, takes_word, calls, spells, reads, cuts, unpacks, packs, writes, ◌>>=◌}
 use Rattle.amf_plan.specs.Respond.{joined}
-use Rattle.amf_plan.specs.Runs.{Supply, Done, and_answer, Outcome, gave, Runs}
+use Rattle.amf_gateway.specs.Stands.{Stands, AtWriting, AtBytes, StopsBy}
+use Rattle.amf_plan.specs.Runs.{Supply, Done, nothing, and_answer, Outcome, gave, Runs}
 use Rattle.amf_plan.specs.Serving.{ServeEnd, ended, read_fault, write_fault, no_memory, spent, LinkBytes, Taken, supply_of, calls_of, did, none_left, more, ServesBy}
 use Rattle.amf_plan.proofs.Composed.{both, runs_then, runs_more, begun_then}
+use Rattle.amf_gateway.proofs.Standing.{at_none, stands_then, stands_on}
 
 -- The plans.
 
@@ -85,15 +87,22 @@ runs_as {X = X} p q s t d e o f g h r = subst (λ (z : Plan X). Runs z t e o) f 
 begun_as : {X : Type 0} (p q : Plan X) (s t : Supply) (d e : Done) → p ≡ q → s ≡ t → d ≡ e → Begun p s d → Begun q t e
 begun_as {X = X} p q s t d e f g h r = subst (λ (z : Plan X). Begun z t e) f (subst (λ (z : Supply). Begun p z e) g (subst (λ (z : Done). Begun p s z) h r))
 
+stands_as : {X : Type 0} (At : Plan X → Type 0) (p q : Plan X) (s t : Supply) (d e : Done) → p ≡ q → s ≡ t → d ≡ e → Stands At p s d → Stands At q t e
+stands_as {X = X} At p q s t d e f g h r = subst (λ (z : Plan X). Stands At z t e) f (subst (λ (z : Supply). Stands At p z e) g (subst (λ (z : Done). Stands At p s z) h r))
+
+both_none : (d : Done) → both d nothing ≡ d
+both_none d = λ i. record { calls = append-nil d.calls i; answers = append-nil d.answers i }
+
 -- What the rest of a link comes to, carried over to the whole of it: these bytes were used, with what was taken and these answers.
 -- Both are any plans for bytes, since the whole link is a deep term.
 
 pub record Carries (all rest : List ℕ → Plan LinkEnd) (used : List ℕ) (k : Taken) (answers : List (List ℕ)) : Type 0 where
   pub runs : (x : List ℕ) (s : Supply) (d : Done) (o : Outcome LinkEnd) → Runs (rest x) s d o → Runs (all (used ++ x)) (more (supply_of k) s) (both (did k answers) d) o
   pub begun : (x : List ℕ) (s : Supply) (d : Done) → Begun (rest x) s d → Begun (all (used ++ x)) (more (supply_of k) s) (both (did k answers) d)
+  pub stands : (x : List ℕ) → Stands (λ q. q ≡ rest x) (all (used ++ x)) (supply_of k) (did k answers)
 
 pub carries_none : (all : List ℕ → Plan LinkEnd) → Carries all all [] none_taken []
-carries_none all = record { runs = λ x s d o r. r; begun = λ x s d b. b }
+carries_none all = record { runs = λ x s d o r. r; begun = λ x s d b. b; stands = λ x. at_none (λ q. q ≡ all x) (all x) refl }
 
 module _ (services : List Entry) (last : Bool) (after : List ℕ → Plan LinkEnd) where
   -- what a step comes to
@@ -108,6 +117,11 @@ module _ (services : List Entry) (last : Bool) (after : List ℕ → Plan LinkEn
   step_begun bytes x answer j g s d b =
       begun_then (next services last bytes) (goes_on after) (more (supply_of j) s) s (did j []) (and_answer (response 200 answer false) d) (packet answer false x)
       (runs_more (next services last bytes) (supply_of j) none_left s (did j []) (packet answer false x) g) (inr (d, b, refl))
+
+  step_stands : (bytes x answer : List ℕ) (j : Taken) → Gives services last bytes j (packet answer false x) → Stands (λ q. q ≡ after x) (one_more services last after bytes) (supply_of j) (both (did j []) (and_answer (response 200 answer false) nothing))
+  step_stands bytes x answer j g =
+      stands_then (λ q. q ≡ after x) (next services last bytes) (goes_on after) (supply_of j) none_left (did j []) (and_answer (response 200 answer false) nothing) (packet answer false x)
+      g (inr (nothing, at_none (λ q. q ≡ after x) (after x) refl, refl))
 
   step_done : (k j : Taken) (answers : List (List ℕ)) (answer : List ℕ) (d : Done) → both (did k answers) (both (did j []) (and_answer answer d)) ≡ both (did (both_taken k j) (answers ++ answer ∷ [])) d
   step_done k j answers answer d =
@@ -133,6 +147,13 @@ module _ (services : List Entry) (last : Bool) (after : List ℕ → Plan LinkEn
         begun_as (all (used ++ (more_used ++ x))) (all ((used ++ more_used) ++ x)) (more (supply_of k) (more (supply_of j) s)) (more (supply_of (both_taken k j)) s) (both (did k answers) written) (both (did (both_taken k j) (answers ++ response 200 answer false ∷ [])) d)
         (ap all (sym (append_assoc used more_used x))) (step_supply k j s) (step_done k j answers (response 200 answer false) d)
         (c.begun (more_used ++ x) (more (supply_of j) s) written here);
+    stands = λ x.
+        let written : Done = both (did j []) (and_answer (response 200 answer false) nothing) in
+        let one = step_stands (more_used ++ x) x answer j (a x) in
+        let here : Stands (λ q. q ≡ after x) (rest (more_used ++ x)) (supply_of j) written = subst (λ (p : List ℕ → Plan LinkEnd). Stands (λ q. q ≡ after x) (p (more_used ++ x)) (supply_of j) written) (sym e) one in
+        stands_as (λ q. q ≡ after x) (all (used ++ (more_used ++ x))) (all ((used ++ more_used) ++ x)) (more (supply_of k) (supply_of j)) (supply_of (both_taken k j)) (both (did k answers) written) (did (both_taken k j) (answers ++ response 200 answer false ∷ []))
+        (ap all (sym (append_assoc used more_used x))) (same_supply k j) (step_done k j answers (response 200 answer false) nothing ∙ both_none (did (both_taken k j) (answers ++ response 200 answer false ∷ [])))
+        (stands_on (λ q. q ≡ after x) (rest (more_used ++ x)) (all (used ++ (more_used ++ x))) (supply_of k) (supply_of j) (did k answers) written (c.stands (more_used ++ x)) here);
   }
 
 joined_both : (xs ys : List (List ℕ)) → joined (xs ++ ys) ≡ joined xs ++ joined ys
@@ -158,6 +179,10 @@ module _ (all rest : List ℕ → Plan LinkEnd) (used : List ℕ) (k j : Taken) 
   rest_begun x others b = begun_as (all (used ++ x)) (all (used ++ x)) (more (supply_of k) (supply_of j)) (supply_of (both_taken k j)) (both (did k answers) (did j others)) (did (both_taken k j) (answers ++ others))
       refl (same_supply k j) (same_did k j answers others) (c.begun x (supply_of j) (did j others) b)
 
+  rest_stands : (At : Plan LinkEnd → Type 0) (x : List ℕ) (others : List (List ℕ)) → Stands At (rest x) (supply_of j) (did j others) → Stands At (all (used ++ x)) (supply_of (both_taken k j)) (did (both_taken k j) (answers ++ others))
+  rest_stands At x others s = stands_as At (all (used ++ x)) (all (used ++ x)) (more (supply_of k) (supply_of j)) (supply_of (both_taken k j)) (both (did k answers) (did j others)) (did (both_taken k j) (answers ++ others))
+      refl (same_supply k j) (same_did k j answers others) (stands_on At (rest x) (all (used ++ x)) (supply_of k) (supply_of j) (did k answers) (did j others) (c.stands x) s)
+
   -- the rest was served so, and with what was before it all was
   pub serves_carried : (start : List ℕ) (b : LinkBytes) (end : ServeEnd) → b.held ≡ start ++ joined answers → ServesBy rest b j end → ServesBy all (record { left = used ++ b.left; leaves = b.leaves; held = start; now = b.now }) (both_taken k j) end
   serves_carried start b (ended end) e (others, whole, w) = (answers ++ others, rest_runs b.left others (gave end none_left) whole, written_more start b.held b.now answers others e w)
@@ -167,3 +192,19 @@ module _ (all rest : List ℕ → Plan LinkEnd) (used : List ℕ) (k j : Taken) 
       (answers ++ others, front, back, subst (λ (z : List (List ℕ)). Begun (all (used ++ b.left)) (supply_of (both_taken k j)) (did (both_taken k j) z)) (sym (append_assoc answers others ((front ++ back) ∷ []))) (rest_begun b.left (others ++ (front ++ back) ∷ []) part), written_both start b.held b.now answers others front e w)
   serves_carried start b no_memory e (others, part, w) = (answers ++ others, rest_begun b.left others part, written_more start b.held b.now answers others e w)
   serves_carried start b spent e (others, part, w) = (answers ++ others, rest_begun b.left others part, written_more start b.held b.now answers others e w)
+
+  -- and it stopped there
+  pub stops_carried : (start : List ℕ) (b : LinkBytes) (end : ServeEnd) → b.held ≡ start ++ joined answers → StopsBy rest b j end → StopsBy all (record { left = used ++ b.left; leaves = b.leaves; held = start; now = b.now }) (both_taken k j) end
+  stops_carried start b (ended end) e s = tt
+  stops_carried start b read_fault e (others, more_used, came, split, undecided, stands, w) = (
+    answers ++ others,
+    used ++ more_used,
+    came,
+    ap (λ z. used ++ z) split ∙ sym (append_assoc used more_used (came ++ b.leaves)),
+    undecided,
+    λ x. subst (λ (z : List ℕ). Stands (AtBytes x) (all z) (supply_of (both_taken k j)) (did (both_taken k j) (answers ++ others))) (sym (append_assoc used more_used x)) (rest_stands (AtBytes x) (more_used ++ x) others (stands x)),
+    written_more start b.held b.now answers others e w,
+  )
+  stops_carried start b write_fault e (others, front, back, stands, w) = (answers ++ others, front, back, rest_stands (AtWriting (front ++ back)) b.left others stands, written_both start b.held b.now answers others front e w)
+  stops_carried start b no_memory e s = tt
+  stops_carried start b spent e s = tt

@@ -12,7 +12,8 @@ use Rattle.amf_plan.specs.Plan.{Plan, gives}
 use Rattle.amf_plan.specs.Respond.{joined}
 use Rattle.amf_plan.specs.Runs.{gave, Runs}
 use Rattle.amf_plan.specs.Serving.{ServeEnd, ended, LinkBytes, Taken, supply_of, did, none_left, ServesBy, Serves}
-use Rattle.amf_gateway.proofs.Answered.{Carries, carries_none, carries_step, serves_carried, link_next, written_more}
+use Rattle.amf_gateway.specs.Stands.{StopsBy, Stops}
+use Rattle.amf_gateway.proofs.Answered.{Carries, carries_none, carries_step, serves_carried, stops_carried, link_next, written_more}
 use Rattle.amf_plan.proofs.Composed.{none_begun}
 
 -- between two states of the outside, what all of a link says was done
@@ -20,6 +21,7 @@ pub record ServedBy {O : Type 0} (handed : O → O → Taken → Type 0) (all : 
   pub took : Taken
   pub was_handed : handed old new took
   pub serves : tells_left → tells_held → ServesBy all b took end
+  pub stops : tells_left → tells_held → StopsBy all b took end
 
 -- of all of a link this rest is left, from the bytes that are pending on, and so many bytes were written
 pub record Come {O : Type 0} (handed : O → O → Taken → Type 0) (all rest : List ℕ → Plan LinkEnd) (old now : O) (tells_left tells_held : Type 0) (start pending held holds : List ℕ) : Type 0 where
@@ -60,10 +62,16 @@ module _ {O : Type 0} (handed : O → O → Taken → Type 0) (none : (a : O) �
       was_handed = both old now new c.took s.took c.was_handed s.was_handed;
       serves = λ t h.
           let before = c.comes t (back h) in
-          let step : ServesBy (one_more services last after) Bytes s.took (end_of end) = s.steps (told t) h after in
+          let step : ServesBy (one_more services last after) Bytes s.took (end_of end) = (s.steps (told t) h after).0 in
           let here : ServesBy rest Bytes s.took (end_of end) = subst (λ (p : List ℕ → Plan LinkEnd). ServesBy p Bytes s.took (end_of end)) (sym e) step in
           subst (λ (z : List ℕ). ServesBy all (record { left = z; leaves = leaves; held = held; now = written }) (both_taken c.took s.took) (end_of end)) (sym before.3)
           (serves_carried all rest before.0 c.took s.took before.1 before.2 held Bytes (end_of end) before.4 here);
+      stops = λ t h.
+          let before = c.comes t (back h) in
+          let step : StopsBy (one_more services last after) Bytes s.took (end_of end) = (s.steps (told t) h after).1 in
+          let here : StopsBy rest Bytes s.took (end_of end) = subst (λ (p : List ℕ → Plan LinkEnd). StopsBy p Bytes s.took (end_of end)) (sym e) step in
+          subst (λ (z : List ℕ). StopsBy all (record { left = z; leaves = leaves; held = held; now = written }) (both_taken c.took s.took) (end_of end)) (sym before.3)
+          (stops_carried all rest before.0 c.took s.took before.1 before.2 held Bytes (end_of end) before.4 here);
     }
 
   -- no request is left
@@ -78,6 +86,7 @@ module _ {O : Type 0} (handed : O → O → Taken → Type 0) (none : (a : O) �
         let none_left_to_do : Runs (rest pending) (supply_of none_taken) (did none_taken []) (gave closed none_left) = subst (λ (p : Plan LinkEnd). Runs p (supply_of none_taken) (did none_taken []) (gave closed none_left)) (sym (e pending)) (refl, refl) in
         subst (λ (z : List ℕ). ServesBy all (record { left = z; leaves = leaves; held = held; now = holds }) (both_taken c.took none_taken) (ended closed)) (sym before.3)
         (serves_carried all rest before.0 c.took none_taken before.1 before.2 held b (ended closed) before.4 ([], none_left_to_do, sym (append-nil holds)));
+    stops = λ t h. tt;
   }
 
 -- What so many requests more say. It stays folded, since the plan of a whole link is deep.
@@ -103,8 +112,12 @@ whole_serves : (services : List Entry) (b : LinkBytes) (k : Taken) (end : ServeE
 unfolding rest_of
 whole_serves services b k end s = s
 
+whole_stops : (services : List Entry) (b : LinkBytes) (k : Taken) (end : ServeEnd) → StopsBy (rest_of most_requests services) b k end → Stops services b k end
+unfolding rest_of
+whole_stops services b k end s = s
+
 pub served_link : {O : Type 0} (handed : O → O → Taken → Type 0) (services : List Entry) (old new : O) (tells_left tells_held : Type 0) (b : LinkBytes) (end : Ending) → ServedBy handed (rest_of most_requests services) old new tells_left tells_held b (end_of end) → ServedLink handed services old new tells_left tells_held b end
-served_link handed services old new tells_left tells_held b end s = record { took = s.took; was_handed = s.was_handed; serves = λ t h. whole_serves services b s.took (end_of end) (s.serves t h) }
+served_link handed services old new tells_left tells_held b end s = record { took = s.took; was_handed = s.was_handed; serves = λ t h. whole_serves services b s.took (end_of end) (s.serves t h); stops = λ t h. whole_stops services b s.took (end_of end) (s.stops t h) }
 
 -- nothing was served, for want of memory
 pub nothing_served : {O : Type 0} (handed : O → O → Taken → Type 0) (none : (a : O) → handed a a none_taken) (services : List Entry) (a : O) (tells_left tells_held : Type 0) (left leaves held now : List ℕ) → now ≡ held → ServedLink handed services a a tells_left tells_held (record { left = left; leaves = leaves; held = held; now = now }) Memory
@@ -112,4 +125,5 @@ nothing_served handed none services a tells_left tells_held left leaves held now
   took = none_taken;
   was_handed = none a;
   serves = λ t h. ([], none_begun (link services left) _ _ refl, e ∙ sym (append-nil held));
+  stops = λ t h. tt;
 }

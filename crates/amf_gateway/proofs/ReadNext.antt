@@ -87,5 +87,5 @@ module _ {O : Type 0} (handed : O → O → Taken → Type 0) (services : List E
     was_handed = none a;
     comes = λ t.
         let o = open_gives services last (kept ++ (g t).given) (g t).holds in
-        (kept ++ (g t).given, o.0, ap (λ z. kept ++ z) (g t).gave ∙ sym (append_assoc kept (g t).given leaves), o.1, inl refl);
+        (kept ++ (g t).given, o.0, ap (λ z. kept ++ z) (g t).gave ∙ sym (append_assoc kept (g t).given leaves), o.1, inl refl, (g t).holds, refl);
   }

@@ -4,6 +4,7 @@ use Rattle.amf_io.specs.Outside.{SameLinks}
 use Rattle.amf_gateway.specs.Handed.{Given, PassGoesOn}
 use Rattle.amf_desk.specs.Passes.{Held}
 use Rattle.amf_service.specs.Registry.{Entry}
+use Rattle.amf_gateway.specs.Stands.{Stops}
 use Rattle.amf_gateway.specs.ServesLink.{CountsLink, Service, IsServed, ServesLink, bytes_of}
 use Rattle.amf_plan.specs.Serving.{ServeEnd, ended, read_fault, write_fault, no_memory, spent, LinkBytes, Taken, Serves}
 use Rattle.amf_gateway.specs.Tells.{OfLink, OfHall}
@@ -15,6 +16,13 @@ serves_known services b k read_fault s = s
 serves_known services b k write_fault s = s
 serves_known services b k no_memory s = s
 serves_known services b k spent s = s
+
+stops_known : (services : List Entry) (b : LinkBytes) (k : Taken) (end : ServeEnd) → Stops services b k (unknown end) → Stops services b k end
+stops_known services b k (ended end) s = s
+stops_known services b k read_fault s = s
+stops_known services b k write_fault s = s
+stops_known services b k no_memory s = s
+stops_known services b k spent s = s
 
 counts_known : (reads reads_now writes writes_now : ℕ) (end : ServeEnd) → CountsLink reads reads_now writes writes_now (unknown end) → CountsLink reads reads_now writes writes_now end
 counts_known reads reads_now writes writes_now (ended end) c = c
@@ -32,6 +40,7 @@ module _ {L A K : Type 0} (link : OfLink L) (aid : OfHall A K) (services : List 
       let v : IsServed link services (Ends (unknown end)) = subst (λ (e : ServeEnd). IsServed link services (Ends e)) (sym same) s.is_served in record {
         is_served = record {
           serves = λ t h. serves_known services (bytes_of link (Ends end)) k end (v.serves t h);
+          stops = λ t h. stops_known services (bytes_of link (Ends end)) k end (v.stops t h);
           counts = counts_known (link.read_faults came) (link.read_faults left) (link.write_faults came) (link.write_faults left) end v.counts;
         };
         moments = s.moments;
@@ -47,6 +56,13 @@ known_serves services b k read_fault s = s
 known_serves services b k write_fault s = s
 known_serves services b k no_memory s = s
 known_serves services b k spent s = s
+
+known_stops : (services : List Entry) (b : LinkBytes) (k : Taken) (end : ServeEnd) → Stops services b k end → Stops services b k (unknown end)
+known_stops services b k (ended end) s = s
+known_stops services b k read_fault s = s
+known_stops services b k write_fault s = s
+known_stops services b k no_memory s = s
+known_stops services b k spent s = s
 
 known_counts : (reads reads_now writes writes_now : ℕ) (end : ServeEnd) → CountsLink reads reads_now writes writes_now end → CountsLink reads reads_now writes writes_now (unknown end)
 known_counts reads reads_now writes writes_now (ended end) c = c
@@ -65,14 +81,16 @@ not_spent spent e = cc
 -- as the aid and the pass are given back
 pub at_desk : {L A K : Type 0} (link : OfLink L) (aid : OfHall A K) (services : List Entry) (p q q' : Held) (a b b' : A) (came left : L) (k : Taken) (end : ServeEnd) → q' ≡ q → b' ≡ b
     → (link.tells_left came → link.tells_held left → Serves services (record { left = link.left came; leaves = link.left left; held = link.held came; now = link.held left }) k end)
+    → (link.tells_left came → link.tells_held left → Stops services (record { left = link.left came; leaves = link.left left; held = link.held came; now = link.held left }) k end)
     → CountsLink (link.read_faults came) (link.read_faults left) (link.write_faults came) (link.write_faults left) end
     → Given (aid.tells_moments a) (aid.tells_moments b) (aid.moments a) (aid.moments b) k.moments → Given (aid.tells_words a) (aid.tells_words b) (aid.words a) (aid.words b) k.words → PassGoesOn p q k.entries
     → SameLinks (aid.tells_links a) (aid.tells_links b) (aid.coming a) (aid.coming b) (aid.served a) (aid.served b) (aid.faults a) (aid.faults b)
     → ServesLink link aid services p q' a b' (record { came = came; left = left; took = k; end = unknown end })
-at_desk {L = L} {A = A} link aid services p q q' a b b' came left k end same_pass same_aid s c m w g l =
+at_desk {L = L} {A = A} link aid services p q q' a b b' came left k end same_pass same_aid s st c m w g l =
     let done : ServesLink link aid services p q a b (record { came = came; left = left; took = k; end = unknown end }) = record {
       is_served = record {
         serves = λ t h. known_serves services (record { left = link.left came; leaves = link.left left; held = link.held came; now = link.held left }) k end (s t h);
+        stops = λ t h. known_stops services (record { left = link.left came; leaves = link.left left; held = link.held came; now = link.held left }) k end (st t h);
         counts = known_counts (link.read_faults came) (link.read_faults left) (link.write_faults came) (link.write_faults left) end c;
       };
       moments = m;

@@ -15,11 +15,14 @@ use Rattle.amf_plan.specs.Begun.{Begun}
 use Rattle.amf_plan.specs.Links.{LinkEnd, closed, refused, truncated, closed_or}
 use Rattle.amf_gateway.specs.LinkSteps.{AnswersRequest, Gives, Begins, ComesBy, Comes, CountsReads, StepsBy, Steps, written_as, ends_with, end_of, unwritten}
 use Rattle.amf_gateway.specs.ServesLink.{CountsLink}
+use Rattle.amf_gateway.specs.Stands.{Stands, AtWriting, AtBytes, StopsBy}
 use Rattle.amf_plan.specs.Plan.{Plan}
 use Rattle.amf_plan.specs.Respond.{joined}
 use Rattle.amf_plan.specs.Runs.{Done, nothing, and_answer, gave, Runs}
 use Rattle.amf_plan.specs.Serving.{LinkBytes, Taken, supply_of, did, none_left}
+use Rattle.amf_plan.specs.Did.{none_taken}
 use Rattle.amf_plan.proofs.Composed.{both, runs_then, begun_first, begun_then, none_begun, runs_begun}
+use Rattle.amf_gateway.proofs.Standing.{at_none, stands_then}
 
 module _ (services : List Entry) (last : Bool) (after : List ℕ → Plan LinkEnd) (bytes : List ℕ) (k : Taken) where
   -- the link ended before an answer
@@ -45,16 +48,28 @@ module _ (services : List Entry) (last : Bool) (after : List ℕ → Plan LinkEn
   written_runs n answer end g r = subst (λ (d : Done). Runs (one_more services last after bytes) (supply_of k) d (gave end none_left)) (answer_done answer)
       (runs_then (next services last bytes) (goes_on after) (supply_of k) none_left (did k []) (and_answer answer nothing) n (gave end none_left) g r)
 
+  -- an answer was made, and the plan stands where what comes of it does
+  next_stands : (At : Plan LinkEnd → Type 0) (n : Next) → Gives services last bytes k n → Stands At (goes_on after n) none_left nothing → Stands At (one_more services last after bytes) (supply_of k) (did k [])
+  next_stands At n g b = subst (λ (d : Done). Stands At (one_more services last after bytes) (supply_of k) d) (λ i. record { calls = append-nil (did k []).calls i; answers = [] })
+      (stands_then At (next services last bytes) (goes_on after) (supply_of k) none_left (did k []) nothing n g b)
+
+  -- nothing was taken, and what follows is looked at
+  none_stands : k ≡ none_taken → Stands (AtBytes bytes) (one_more services last after bytes) (supply_of k) (did k [])
+  none_stands same = subst (λ (j : Taken). Stands (AtBytes bytes) (one_more services last after bytes) (supply_of j) (did j [])) (sym same) (at_none (AtBytes bytes) (one_more services last after bytes) refl)
+
 held_still : (held now : List ℕ) → now ≡ held → now ≡ held ++ []
 held_still held now e = e ∙ sym (append-nil held)
 
 -- the link ended before an answer, or the answer could not be made
 pub unanswered_steps : (services : List Entry) (last : Bool) (b : LinkBytes) (rest : List ℕ) (k : Taken) (end : Ending) → ComesBy services last b.left rest b.leaves k (Err end) → b.now ≡ b.held → StepsBy services last b rest k (Err end)
-unanswered_steps services last b rest k Closed c e after = ([], over_runs services last after b.left k closed c, held_still b.held b.now e)
-unanswered_steps services last b rest k Truncated c e after = ([], over_runs services last after b.left k truncated c, held_still b.held b.now e)
-unanswered_steps services last b rest k ReadFault (came, end, split, g, p) e after = ([], came, end, split, over_runs services last after came k end g, begins_more services last after b.left k p, held_still b.held b.now e)
-unanswered_steps services last b rest k Spent c e after = ([], begins_more services last after b.left k c, held_still b.held b.now e)
-unanswered_steps services last b rest k Memory c e after = ([], begins_more services last after b.left k c, held_still b.held b.now e)
+unanswered_steps services last b rest k Closed c e after = (([], over_runs services last after b.left k closed c, held_still b.held b.now e), tt)
+unanswered_steps services last b rest k Truncated c e after = (([], over_runs services last after b.left k truncated c, held_still b.held b.now e), tt)
+unanswered_steps services last b rest k ReadFault (came, end, split, g, p, undecided, none) e after = (
+  ([], came, end, split, over_runs services last after came k end g, begins_more services last after b.left k p, held_still b.held b.now e),
+  ([], [], came, split, undecided, λ x. none_stands services last after x k none, held_still b.held b.now e),
+)
+unanswered_steps services last b rest k Spent c e after = (([], begins_more services last after b.left k c, held_still b.held b.now e), tt)
+unanswered_steps services last b rest k Memory c e after = (([], begins_more services last after b.left k c, held_still b.held b.now e), tt)
 unanswered_steps services last b rest k (Refused status) c e after = absurd c
 unanswered_steps services last b rest k WriteFault c e after = absurd c
 
@@ -64,28 +79,50 @@ one_answer answer = append-nil answer
 -- the answer that was made, as the plan has it
 pub unwritten_steps : (services : List Entry) (last : Bool) (b : LinkBytes) (rest : List ℕ) (k : Taken) (a : Answer) → ComesBy services last b.left rest b.leaves k (Ok a) → b.now ≡ b.held → StepsBy services last b rest k (Err Memory)
 unwritten_steps services last b rest k (Packet bytes close) (used, split, g) e after =
-    ([], unwritten_begun services last after b.left k (packet bytes.items close rest) (subst (λ (z : List ℕ). Gives services last z k (packet bytes.items close rest)) (sym split) (g rest)), held_still b.held b.now e)
-unwritten_steps services last b rest k (Status status) c e after = ([], unwritten_begun services last after b.left k (status_alone status) c, held_still b.held b.now e)
+    (([], unwritten_begun services last after b.left k (packet bytes.items close rest) (subst (λ (z : List ℕ). Gives services last z k (packet bytes.items close rest)) (sym split) (g rest)), held_still b.held b.now e), tt)
+unwritten_steps services last b rest k (Status status) c e after = (([], unwritten_begun services last after b.left k (status_alone status) c, held_still b.held b.now e), tt)
 
 pub faulty_steps : (services : List Entry) (last : Bool) (b : LinkBytes) (rest : List ℕ) (k : Taken) (a : Answer) → ComesBy services last b.left rest b.leaves k (Ok a) → AddsFront b.held b.now (written_as a) → StepsBy services last b rest k (Err WriteFault)
 faulty_steps services last b rest k (Packet bytes close) (used, split, g) f after =
     let answer = response 200 bytes.items close in
-    let here = subst (λ (z : List ℕ). Gives services last z k (packet bytes.items close rest)) (sym split) (g rest) in (
-      [],
-      take f.count answer,
-      drop f.count answer,
-      subst (λ (z : List ℕ). Begun (one_more services last after b.left) (supply_of k) (did k (z ∷ []))) (sym (take-append-drop f.count answer))
-          (written_begun services last after b.left k (packet bytes.items close rest) answer here (inr (nothing, none_begun (closed_or close (after rest)) none_left nothing refl, refl))),
-      f.added,
+    let here = subst (λ (z : List ℕ). Gives services last z k (packet bytes.items close rest)) (sym split) (g rest) in
+    let whole = take-append-drop f.count answer in (
+      (
+        [],
+        take f.count answer,
+        drop f.count answer,
+        subst (λ (z : List ℕ). Begun (one_more services last after b.left) (supply_of k) (did k (z ∷ []))) (sym whole)
+            (written_begun services last after b.left k (packet bytes.items close rest) answer here (inr (nothing, none_begun (closed_or close (after rest)) none_left nothing refl, refl))),
+        f.added,
+      ),
+      (
+        [],
+        take f.count answer,
+        drop f.count answer,
+        next_stands services last after b.left k (AtWriting (take f.count answer ++ drop f.count answer)) (packet bytes.items close rest) here
+            (at_none (AtWriting (take f.count answer ++ drop f.count answer)) (goes_on after (packet bytes.items close rest)) (sym whole)),
+        f.added,
+      ),
     )
 faulty_steps services last b rest k (Status status) c f after =
-    let answer = response status [] true in (
-      [],
-      take f.count answer,
-      drop f.count answer,
-      subst (λ (z : List ℕ). Begun (one_more services last after b.left) (supply_of k) (did k (z ∷ []))) (sym (take-append-drop f.count answer))
-          (written_begun services last after b.left k (status_alone status) answer c (inr (nothing, refl, refl))),
-      f.added,
+    let answer = response status [] true in
+    let whole = take-append-drop f.count answer in (
+      (
+        [],
+        take f.count answer,
+        drop f.count answer,
+        subst (λ (z : List ℕ). Begun (one_more services last after b.left) (supply_of k) (did k (z ∷ []))) (sym whole)
+            (written_begun services last after b.left k (status_alone status) answer c (inr (nothing, refl, refl))),
+        f.added,
+      ),
+      (
+        [],
+        take f.count answer,
+        drop f.count answer,
+        next_stands services last after b.left k (AtWriting (take f.count answer ++ drop f.count answer)) (status_alone status) c
+            (at_none (AtWriting (take f.count answer ++ drop f.count answer)) (goes_on after (status_alone status)) (sym whole)),
+        f.added,
+      ),
     )
 
 pub answered_steps : (services : List Entry) (last : Bool) (b : LinkBytes) (rest : List ℕ) (k : Taken) (a : Answer) → ComesBy services last b.left rest b.leaves k (Ok a) → b.now ≡ b.held ++ written_as a → StepsBy services last b rest k (ends_with a)
@@ -93,10 +130,10 @@ answered_steps services last b rest k (Packet bytes false) (used, split, g) e = 
 answered_steps services last b rest k (Packet bytes true) (used, split, g) e = λ after.
     let answer = response 200 bytes.items true in
     let here = subst (λ (z : List ℕ). Gives services last z k (packet bytes.items true rest)) (sym split) (g rest) in
-    (answer ∷ [], written_runs services last after b.left k (packet bytes.items true rest) answer closed here (nothing, (refl, refl), refl), e ∙ ap (λ (z : List ℕ). b.held ++ z) (sym (one_answer answer)))
+    ((answer ∷ [], written_runs services last after b.left k (packet bytes.items true rest) answer closed here (nothing, (refl, refl), refl), e ∙ ap (λ (z : List ℕ). b.held ++ z) (sym (one_answer answer))), tt)
 answered_steps services last b rest k (Status status) c e = λ after.
     let answer = response status [] true in
-    (answer ∷ [], written_runs services last after b.left k (status_alone status) answer (refused status) c (nothing, (refl, refl), refl), e ∙ ap (λ (z : List ℕ). b.held ++ z) (sym (one_answer answer)))
+    ((answer ∷ [], written_runs services last after b.left k (status_alone status) answer (refused status) c (nothing, (refl, refl), refl), e ∙ ap (λ (z : List ℕ). b.held ++ z) (sym (one_answer answer))), tt)
 
 -- With what was handed over. Writing leaves what the link has left as it was.
 

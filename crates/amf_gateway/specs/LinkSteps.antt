@@ -3,6 +3,7 @@ use Rattle.std.specs.Prelude.{◌≡◌, ℕ, ◌≤◌, Bool, true, false, if�
 use Rattle.amf_io.specs.Outside.{Rose}
 use Rattle.amf_http.specs.declared.ends.AnswerEnd.{AnswerEnd}
 use Rattle.amf_http.specs.declared.ends.AnswerEnd.TheVariants as unwritten_by
+use Rattle.amf_http.specs.Request.{IsOpen}
 use Rattle.amf_http.specs.Response.{response, is_status}
 use Rattle.amf_service.specs.Registry.{Entry}
 use Rattle.amf_gateway.specs.declared.links.Answer.{Answer}
@@ -12,11 +13,12 @@ use Rattle.amf_gateway.specs.declared.links.LinkEnd.TheVariants.{Closed, Refused
 use Rattle.amf_gateway.specs.Answered.{body_bytes}
 use Rattle.amf_gateway.specs.Answering.{Next, over, status_alone, packet, next, one_more}
 use Rattle.amf_plan.specs.Begun.{Begun}
-use Rattle.amf_plan.specs.Did.{Ran, Stopped}
+use Rattle.amf_plan.specs.Did.{Ran, Stopped, none_taken}
 use Rattle.amf_plan.specs.Links.{LinkEnd, closed, refused, truncated}
 use Rattle.amf_plan.specs.Plan.{Plan}
 use Rattle.amf_plan.specs.Runs.{gave, Runs}
 use Rattle.amf_gateway.specs.ServesLink.{CountsLink}
+use Rattle.amf_gateway.specs.Stands.{StopsBy, Stops}
 use Rattle.amf_plan.specs.Serving.{ServeEnd, ended, read_fault, write_fault, no_memory, spent, Taken, supply_of, did, none_left, LinkBytes, ServesBy, Serves}
 
 -- how a link ended
@@ -34,6 +36,7 @@ pub record ServedLink {O : Type 0} (handed : O → O → Taken → Type 0) (serv
   pub took : Taken
   pub was_handed : handed old new took
   pub serves : tells_left → tells_held → Serves services b took (end_of end)
+  pub stops : tells_left → tells_held → Stops services b took (end_of end)
 
 -- a request is answered with the bytes of a packet, or with a bad request
 abbrev pub AnswersRequest : {O : Type 0} (handed : O → O → Taken → Type 0) → List Entry → (body : List ℕ) → (close : Bool) → (old new : O) → Result Answer Ending → Type 0
@@ -51,13 +54,13 @@ Gives services last bytes k n = Runs (next services last bytes) (supply_of k) (d
 abbrev pub Begins : List Entry → (last : Bool) → (bytes : List ℕ) → Taken → Type 0
 Begins services last bytes k = Begun (next services last bytes) (supply_of k) (did k [])
 
--- What was read. A packet answers the bytes that were used, whatever follows them. Where a read failed, the bytes that came end the link.
+-- What was read. A packet answers the bytes that were used, whatever follows them. Where a read failed, the bytes that came would end the link, and are open, and nothing was taken.
 abbrev pub ComesBy : List Entry → (last : Bool) → (bytes rest leaves : List ℕ) → Taken → Result Answer Ending → Type 0
 ComesBy services last bytes rest leaves k (Ok (Packet answer close)) = (used : List ℕ) × (bytes ≡ used ++ rest) × ((x : List ℕ) → Gives services last (used ++ x) k (packet answer.items close x))
 ComesBy services last bytes rest leaves k (Ok (Status status)) = Gives services last bytes k (status_alone status)
 ComesBy services last bytes rest leaves k (Err Closed) = Gives services last bytes k (over closed)
 ComesBy services last bytes rest leaves k (Err Truncated) = Gives services last bytes k (over truncated)
-ComesBy services last bytes rest leaves k (Err ReadFault) = (came : List ℕ) × (end : LinkEnd) × (bytes ≡ came ++ leaves) × Gives services last came k (over end) × Begins services last bytes k
+ComesBy services last bytes rest leaves k (Err ReadFault) = (came : List ℕ) × (end : LinkEnd) × (bytes ≡ came ++ leaves) × Gives services last came k (over end) × Begins services last bytes k × IsOpen came × (k ≡ none_taken)
 ComesBy services last bytes rest leaves k (Err Spent) = Begins services last bytes k
 ComesBy services last bytes rest leaves k (Err Memory) = Begins services last bytes k
 ComesBy services last bytes rest leaves k (Err _) = ⊥
@@ -90,7 +93,7 @@ unwritten unwritten_by.Memory = Memory
 -- One request was answered, and the link goes on; or it ended.
 abbrev pub StepsBy : List Entry → (last : Bool) → LinkBytes → (rest : List ℕ) → Taken → Result (Unit {0}) Ending → Type 0
 StepsBy services last b rest k (Ok done) = (used bytes : List ℕ) × (b.left ≡ used ++ rest) × ((x : List ℕ) → Gives services last (used ++ x) k (packet bytes false x)) × (b.now ≡ b.held ++ response 200 bytes false)
-StepsBy services last b rest k (Err end) = (after : List ℕ → Plan LinkEnd) → ServesBy (one_more services last after) b k (end_of end)
+StepsBy services last b rest k (Err end) = (after : List ℕ → Plan LinkEnd) → ServesBy (one_more services last after) b k (end_of end) × StopsBy (one_more services last after) b k (end_of end)
 
 pub record Steps {O : Type 0} (handed : O → O → Taken → Type 0) (services : List Entry) (last : Bool) (old new : O) (tells_left tells_held : Type 0) (b : LinkBytes) (rest : List ℕ) (r : Result (Unit {0}) Ending) : Type 0 where
   pub took : Taken

@@ -4,6 +4,7 @@ use Rattle.amf_io.specs.Outside.{Rose, SameLinks}
 use Rattle.amf_desk.specs.Passes.{Held}
 use Rattle.amf_service.specs.Registry.{Entry}
 use Rattle.amf_gateway.specs.Handed.{Given, PassGoesOn}
+use Rattle.amf_gateway.specs.Stands.{Stops}
 use Rattle.amf_plan.specs.Serving.{ServeEnd, read_fault, write_fault, no_memory, spent, LinkBytes, Taken, Serves}
 use Rattle.amf_gateway.specs.Tells.{OfLink, OfHall}
 
@@ -29,9 +30,10 @@ pub record Service (L : Type 0) : Type 0 where
 abbrev pub bytes_of : {L : Type 0} → OfLink L → Service L → LinkBytes
 bytes_of m s = record { left = m.left s.came; leaves = m.left s.left; held = m.held s.came; now = m.held s.left }
 
--- it was served by what was taken, where it tells what it had left and what it holds; and its faults are counted
+-- it was served by what was taken, and stopped at once where it failed, if it tells what it had left and what it holds; and its faults are counted
 pub record IsServed {L : Type 0} (m : OfLink L) (services : List Entry) (s : Service L) : Type 0 where
   pub serves : m.tells_left s.came → m.tells_held s.left → Serves services (bytes_of m s) s.took s.end
+  pub stops : m.tells_left s.came → m.tells_held s.left → Stops services (bytes_of m s) s.took s.end
   pub counts : CountsLink (m.read_faults s.came) (m.read_faults s.left) (m.write_faults s.came) (m.write_faults s.left) s.end
 
 -- What was taken is what the aid gave, where it tells, and the pass's new entries. No calls are left where the link ended so.

@@ -7,4 +7,4 @@ pub returns : goal.returns
 returns g c =
     let s = c.answer_link.ensures.served in
     let h = s.was_handed in
-    (s.took, at_desk _ _ _ _ _ _ _ _ _ _ _ s.took (end_of c.answer_link.result) (search rules) (search rules) s.serves c.answer_link.ensures.cause h.0.moments_given h.0.words_given h.1 h.0.same)
+    (s.took, at_desk _ _ _ _ _ _ _ _ _ _ _ s.took (end_of c.answer_link.result) (search rules) (search rules) s.serves s.stops c.answer_link.ensures.cause h.0.moments_given h.0.words_given h.1 h.0.same)
