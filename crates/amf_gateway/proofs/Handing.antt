@@ -1,5 +1,5 @@
 -- What was given, step by step.
-use Rattle.std.proofs.Common.{◌≡◌, ◌∙◌, ℕ, ◌+◌, List, [], ◌∷◌, ◌++◌, sym, subst, arith, append-nil}
+use Rattle.std.proofs.Common.{◌≡◌, ◌∙◌, ℕ, ◌+◌, ◌-◌, ◌^◌, min, Option, Some, None, List, [], ◌∷◌, ◌++◌, sym, ap, subst, arith, append-nil}
 use Rattle.amf_io.specs.Outside.{Keeps}
 use Rattle.amf_broker.specs.declared.call.Call.{Call}
 use Rattle.amf_broker.specs.declared.reply.Answer.{Answer}
@@ -11,7 +11,10 @@ use Rattle.amf_desk.specs.Ends.{Ended}
 use Rattle.amf_desk.specs.Passes.{Held, Explains, Called, Looked}
 use Rattle.amf_desk.proofs.Own.{called_own, looked_own, called_begins, looked_begins}
 use Rattle.amf_plan.specs.Did.{moment_taken, word_taken, entry_taken}
-use Rattle.amf_gateway.specs.Handed.{Given, AidGoesOn, PassGoesOn}
+use Rattle.amf_plan.specs.declared.outside.Unanswered.{Unanswered}
+use Rattle.amf_plan.specs.declared.outside.Unanswered.TheVariants as unanswered_by
+use Rattle.amf_gateway.specs.WorkerSteps.{reason_of}
+use Rattle.amf_gateway.specs.Handed.{Given, AidGoesOn, PassGoesOn, CallsGoOn}
 use Rattle.amf_gateway.specs.HandedLaws.{given_self, pass_none}
 use Rattle.amf_plan.specs.Serving.{Taken}
 use Rattle.amf_plan.specs.Small.{IsSmall}
@@ -67,3 +70,24 @@ pass_looked p q l = record {
 pub pass_ended : (p q : Held) (moment : ℕ) (call : Call) (e : DeskEnd) → Ended p moment call q e → PassGoesOn p q []
 pass_ended p q moment call Spent e = subst (λ (z : Held). PassGoesOn p z []) (sym e.1) (pass_none p)
 pass_ended p q moment call Memory e = pass_looked p q e.1
+
+-- a call that had an answer
+pub calls_called : (p q : Held) (moment : ℕ) (call : Call) (answer : Answer) (u : Option Unanswered) (before now : ℕ) → Called p moment call answer q → now ≡ min (before + 1) (2 ^ 64 - 1) → CallsGoOn p q u u before now 1
+calls_called p q moment call answer u before now c e = record {
+  counted = λ l. omega (arith, e);
+  still = omega arith;
+  spent = λ b f. let none = b f in let one = c.budget in omega arith;
+}
+
+-- only another reason than want of calls
+none_left_so : (p q : Held) (moment : ℕ) (call : Call) (e : DeskEnd) → Ended p moment call q e → Some (reason_of e) ≡ Some unanswered_by.Spent → q.budget ≡ 0
+none_left_so p q moment call Spent e f = ap (λ (z : Held). z.budget) e.1 ∙ e.0
+none_left_so p q moment call Memory e f = absurd cc
+
+-- a call that had none
+pub calls_ended : (p q : Held) (moment : ℕ) (call : Call) (why : DeskEnd) (before now : ℕ) → Ended p moment call q why → now ≡ min (before + 1) (2 ^ 64 - 1) → CallsGoOn p q None (Some (reason_of why)) before now 0
+calls_ended p q moment call why before now e f = record {
+  counted = λ l. omega (arith, f);
+  still = omega arith;
+  spent = λ b g. none_left_so p q moment call why e g;
+}

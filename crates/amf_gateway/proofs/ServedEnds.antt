@@ -1,7 +1,10 @@
 -- Once it is known why a link was not answered whole.
-use Rattle.std.proofs.Common.{◌≡◌, ℕ, List, sym, subst}
+use Rattle.std.proofs.Common.{◌≡◌, ℕ, ◌+◌, ◌-◌, ◌^◌, ◌<◌, ◌≤◌, min, Option, Some, None, List, length, sym, ap, subst, arith}
 use Rattle.amf_io.specs.Outside.{SameLinks}
-use Rattle.amf_gateway.specs.Handed.{Given, PassGoesOn}
+use Rattle.amf_broker.specs.History.{Entry as Event}
+use Rattle.amf_plan.specs.declared.outside.Unanswered.{Unanswered}
+use Rattle.amf_plan.specs.declared.outside.Unanswered.TheVariants.{Spent}
+use Rattle.amf_gateway.specs.Handed.{Given, PassGoesOn, CountsCalls, unanswered_in, CallsGoOn}
 use Rattle.amf_desk.specs.Passes.{Held}
 use Rattle.amf_service.specs.Registry.{Entry}
 use Rattle.amf_gateway.specs.Stands.{Stops}
@@ -101,3 +104,22 @@ at_desk {L = L} {A = A} link aid services p q q' a b b' came left k end same_pas
     } in
     subst (λ (r : Held). ServesLink link aid services p r a b' (record { came = came; left = left; took = k; end = unknown end })) (sym same_pass)
     (subst (λ (d : A). ServesLink link aid services p q a d (record { came = came; left = left; took = k; end = unknown end })) (sym same_aid) done)
+
+-- The calls that a link made.
+
+at_most_one : (u : Option Unanswered) → unanswered_in u ≤ 1
+at_most_one None = omega arith
+at_most_one (Some why) = omega arith
+
+none_is_some : None ≡ Some Spent → ⊥
+none_is_some e = cc
+
+module _ (p q : Held) (left : ℕ) (u : Option Unanswered) (before now after : ℕ) (es : List Event) (same_left : left ≡ q.budget) (same_calls : after ≡ now) (l : before < 2 ^ 64) (g : PassGoesOn p q es) (c : CallsGoOn p q None u before now (length es)) where
+  pub calls_counted : CountsCalls 1 before after (p.budget - left)
+  calls_counted = record { unanswered = unanswered_in u; few = at_most_one u; counted = omega (arith, same_calls, same_left, c.counted l, g.budget) }
+
+  pub none_left_then : u ≡ Some Spent → left ≡ 0
+  none_left_then e = let none = c.spent (λ f. absurd (none_is_some f)) e in omega (arith, same_left, none)
+
+  pub one_more_asked : u ≡ Some Spent → after ≡ min (before + (p.budget + 1)) (2 ^ 64 - 1)
+  one_more_asked e = let one : unanswered_in u ≡ 1 = ap unanswered_in e in let none = none_left_then e in omega (arith, one, same_calls, same_left, c.counted l, g.budget, none)

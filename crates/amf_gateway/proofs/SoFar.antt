@@ -1,5 +1,5 @@
 -- What a worker has done so far with the links of its hall.
-use Rattle.std.proofs.Common.{◌≡◌, ◌∙◌, ℕ, ◌+◌, ◌-◌, ◌<◌, ◌≤◌, ◌||◌, Bool, true, false, List, [], ◌∷◌, ◌++◌, length, map, refl, sym, ap, subst, arith, inl, inr, append_assoc, append-nil, length-append}
+use Rattle.std.proofs.Common.{◌≡◌, ◌∙◌, ℕ, ◌+◌, ◌-◌, ◌^◌, ◌<◌, ◌≤◌, ◌||◌, Bool, true, false, List, [], ◌∷◌, ◌++◌, length, map, refl, sym, ap, subst, arith, inl, inr, append_assoc, append-nil, length-append}
 use Rattle.std.proofs.lemmas.List.{map-append}
 use Rattle.std.proofs.lemmas.List.Folds.{list_any-append}
 use Rattle.std.specs.List.{AllByRecursion, list_any}
@@ -8,8 +8,8 @@ use Rattle.amf_broker.specs.History.{Entry as Event}
 use Rattle.amf_desk.specs.Passes.{Held}
 use Rattle.amf_service.specs.Registry.{Entry}
 use Rattle.amf_gateway.specs.declared.worker.WorkerEnd.TheVariants.{Done, FrontFault}
-use Rattle.amf_gateway.specs.Handed.{Given, PassGoesOn}
-use Rattle.amf_gateway.specs.Served.{moments_of, words_of, entries_of, IsWhole, IsWholeUnlessFault, Served}
+use Rattle.amf_gateway.specs.Handed.{Given, PassGoesOn, CountsCalls}
+use Rattle.amf_gateway.specs.Served.{moments_of, words_of, entries_of, IsWhole, IsWholeUnlessFault, AreSpent, Served}
 use Rattle.amf_gateway.specs.ServesLink.{CountsLink, Service, IsServed, ServesLink, is_starved}
 use Rattle.amf_plan.specs.Serving.{ServeEnd, ended, read_fault, write_fault, no_memory, spent}
 use Rattle.amf_gateway.specs.Tells.{OfLink, OfHall}
@@ -33,6 +33,11 @@ words_snoc (z ∷ ss) s = ap (λ l. z.took.words ++ l) (words_snoc ss s) ∙ sym
 entries_snoc : {L : Type 0} (ss : List (Service L)) (s : Service L) → entries_of (ss ++ s ∷ []) ≡ entries_of ss ++ s.took.entries
 entries_snoc [] s = append-nil s.took.entries
 entries_snoc (z ∷ ss) s = ap (λ l. z.took.entries ++ l) (entries_snoc ss s) ∙ sym (append_assoc z.took.entries (entries_of ss) s.took.entries)
+
+-- one link more, with the calls that are left for it
+spent_snoc : {L : Type 0} (budget rest : ℕ) (ss : List (Service L)) (s : Service L) → AreSpent budget ss → budget ≡ rest + length (entries_of ss) → (s.end ≡ spent → length s.took.entries ≡ rest) → AreSpent budget (ss ++ s ∷ [])
+spent_snoc budget rest [] s a e g = (λ f. let n = g f in omega arith, tt)
+spent_snoc budget rest (z ∷ ss) s a e g = let all = length-append z.took.entries (entries_of ss) in (a.0, spent_snoc (budget - length z.took.entries) rest ss s a.1 (omega (arith, e, all)) g)
 
 -- What was given, one after the other.
 
@@ -81,6 +86,7 @@ module _ {H L : Type 0} (hall : OfHall H L) (link : OfLink L) (services : List E
     pub moments : Given (hall.tells_moments a) (hall.tells_moments b) (hall.moments a) (hall.moments b) (moments_of links)
     pub words : Given (hall.tells_words a) (hall.tells_words b) (hall.words a) (hall.words b) (words_of links)
     pub pass : PassGoesOn p q (entries_of links)
+    pub all_made : AreSpent p.budget links
     pub starved_is : starved ≡ list_any (λ s. is_starved s.end) links
     pub whole : starved ≡ false → 0 < q.budget → AllByRecursion (IsWholeUnlessFault link) links
 
@@ -96,6 +102,7 @@ module _ {H L : Type 0} (hall : OfHall H L) (link : OfLink L) (services : List E
     moments = given_nothing (hall.tells_moments a) (hall.moments a);
     words = given_nothing (hall.tells_words a) (hall.words a);
     pass = pass_none p;
+    all_made = tt;
     starved_is = refl;
     whole = λ e more. tt;
   }
@@ -153,6 +160,7 @@ module _ {H L : Type 0} (hall : OfHall H L) (link : OfLink L) (services : List E
     words = given_more (hall.tells_words a) (hall.tells_words c) (hall.tells_words d) (hall.words a) (hall.words c) (hall.words d) (words_of f.links) s.service.took.words (words_of (f.links ++ s.service ∷ [])) (words_snoc f.links s.service)
         (given_stays (hall.tells_words a) (hall.tells_words b) (hall.tells_words c) (hall.words a) (hall.words b) (hall.words c) (words_of f.links) f.words asked.words) s.words;
     pass = subst (λ (es : List Event). PassGoesOn p r es) (sym (entries_snoc f.links s.service)) (pass_both p q r (entries_of f.links) s.service.took.entries f.pass s.pass);
+    all_made = spent_snoc p.budget q.budget f.links s.service f.all_made (let before = f.pass.budget in omega arith) (λ e. let none = s.budget e in let falls = s.pass.budget in omega arith);
     starved_is = (λ i. f.starved_is i || s.starved_is i) ∙ starved_more f.links s.service;
     whole = λ e more.
         let none = either_false starved hungry e in
@@ -175,6 +183,7 @@ module _ {H L : Type 0} (hall : OfHall H L) (link : OfLink L) (services : List E
     moments = f.moments;
     words = f.words;
     pass = f.pass;
+    all_made = f.all_made;
     starved = f.starved_is;
     whole = f.whole;
   }
@@ -199,6 +208,7 @@ module _ {H L : Type 0} (hall : OfHall H L) (link : OfLink L) (services : List E
       moments = after_moments;
       words = after_words;
       pass = f.pass;
+      all_made = f.all_made;
       starved = f.starved_is;
       whole = f.whole;
     }
@@ -216,6 +226,21 @@ module _ {H L : Type 0} (hall : OfHall H L) (link : OfLink L) (services : List E
       moments = after_moments;
       words = after_words;
       pass = f.pass;
+      all_made = f.all_made;
       starved = f.starved_is;
       whole = f.whole;
     }
+
+-- The calls that were counted: one link more.
+pub counts_more : (n before now later : ℕ) (p q r : Held) (es fs : List Event) → PassGoesOn p q es → PassGoesOn q r fs → CountsCalls n before now (p.budget - q.budget) → CountsCalls 1 now later (q.budget - r.budget) → CountsCalls (n + 1) before later (p.budget - r.budget)
+counts_more n before now later p q r es fs g h c d = record {
+  unanswered = c.unanswered + d.unanswered;
+  few = omega (arith, c.few, d.few);
+  counted = omega (arith, c.counted, d.counted, g.budget, h.budget);
+}
+
+pub counts_none : (before budget : ℕ) → before < 2 ^ 64 → CountsCalls 0 before before (budget - budget)
+counts_none before budget l = record { unanswered = 0; few = omega arith; counted = omega (arith, l) }
+
+pub counts_few : (n each before now answered : ℕ) → n ≤ each → CountsCalls n before now answered → CountsCalls each before now answered
+counts_few n each before now answered l c = record { unanswered = c.unanswered; few = omega (arith, l, c.few); counted = c.counted }

@@ -1,8 +1,10 @@
 -- What a caller of the desk was given between two of its states.
-use Rattle.std.specs.Prelude.{◌≡◌, ℕ, ◌+◌, List, ◌++◌, length}
+use Rattle.std.specs.Prelude.{◌≡◌, ℕ, ◌+◌, ◌-◌, ◌^◌, ◌<◌, ◌≤◌, min, List, ◌++◌, length, Option, Some, None}
 use Rattle.amf_broker.specs.History.{Entry as Event}
 use Rattle.amf_desk.specs.Histories.{own, Begins}
 use Rattle.amf_desk.specs.Passes.{Held, Explains}
+use Rattle.amf_plan.specs.declared.outside.Unanswered.{Unanswered}
+use Rattle.amf_plan.specs.declared.outside.Unanswered.TheVariants.{Spent}
 use Rattle.amf_plan.specs.Serving.{Taken}
 
 -- a meaning that grows by what was given, where it is told
@@ -26,3 +28,20 @@ pub record PassGoesOn (p q : Held) (entries : List Event) : Type 0 where
   pub begins : Begins p.seen q.seen
   pub budget : q.budget + length entries ≡ p.budget
   pub explained : Explains p.destinations p.seen → Explains q.destinations q.seen
+
+-- Of a count of calls: as many more as had an answer, and at most so many that had none. It stays at 2^64 - 1 once it is there.
+pub record CountsCalls (most before now answered : ℕ) : Type 0 where
+  pub unanswered : ℕ
+  pub few : unanswered ≤ most
+  pub counted : now ≡ min (before + (answered + unanswered)) (2 ^ 64 - 1)
+
+-- one call had no answer, or none
+abbrev pub unanswered_in : Option Unanswered → ℕ
+unanswered_in None = 0
+unanswered_in (Some why) = 1
+
+-- Of the calls that a caller makes with a pass, by why one had no answer: after it none is made, and it was for want of calls only where none are left.
+pub record CallsGoOn (p q : Held) (was is : Option Unanswered) (before now answered : ℕ) : Type 0 where
+  pub counted : before < 2 ^ 64 → now ≡ min (before + (answered + (unanswered_in is - unanswered_in was))) (2 ^ 64 - 1)
+  pub still : unanswered_in was ≤ unanswered_in is
+  pub spent : (was ≡ Some Spent → p.budget ≡ 0) → is ≡ Some Spent → q.budget ≡ 0

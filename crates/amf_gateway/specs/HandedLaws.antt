@@ -1,11 +1,12 @@
 -- A device of proofs: where nothing happens nothing is given; and one thing is given after another.
-use Rattle.std.proofs.Common.{◌≡◌, ◌∙◌, ℕ, ◌+◌, List, [], ◌++◌, length, refl, sym, ap, subst, arith, append_assoc, append-nil, length-append}
+use Rattle.std.proofs.Common.{◌≡◌, ◌∙◌, ℕ, ◌+◌, ◌^◌, ◌<◌, Option, List, [], ◌++◌, length, refl, sym, ap, subst, arith, append_assoc, append-nil, length-append}
 use Rattle.amf_io.specs.Outside.{Keeps, SameLinks}
 use Rattle.amf_broker.specs.History.{Entry as Event}
 use Rattle.amf_desk.specs.Histories.{own, Begins}
 use Rattle.amf_desk.specs.Passes.{Held}
 use Rattle.amf_plan.specs.Did.{none_taken, both_taken}
-use Rattle.amf_gateway.specs.Handed.{Given, AidGoesOn, PassGoesOn}
+use Rattle.amf_plan.specs.declared.outside.Unanswered.{Unanswered}
+use Rattle.amf_gateway.specs.Handed.{Given, AidGoesOn, PassGoesOn, CallsGoOn}
 use Rattle.amf_plan.specs.Serving.{Taken}
 
 pub given_self : (told : Type 0) (before : List ℕ) → Given told told before before []
@@ -76,4 +77,19 @@ pass_both p q r es fs m n = record {
   begins = begins_trans p.seen q.seen r.seen m.begins n.begins;
   budget = omega (arith, m.budget, n.budget, length-append es fs);
   explained = λ e. n.explained (m.explained e);
+}
+
+-- The calls.
+
+pub calls_none : (p : Held) (u : Option Unanswered) (n : ℕ) → CallsGoOn p p u u n n 0
+calls_none p u n = record { counted = λ l. omega (arith, l); still = omega arith; spent = λ b. b }
+
+pub calls_both : (p q r : Held) (u v w : Option Unanswered) (a b c : ℕ) (es fs : List Event) → CallsGoOn p q u v a b (length es) → CallsGoOn q r v w b c (length fs) → CallsGoOn p r u w a c (length (es ++ fs))
+calls_both p q r u v w a b c es fs m n = record {
+  counted = λ l.
+      let first = m.counted l in
+      let below : b < 2 ^ 64 = omega (arith, first) in
+      omega (arith, first, n.counted below, m.still, n.still, length-append es fs);
+  still = omega (arith, m.still, n.still);
+  spent = λ e. n.spent (m.spent e);
 }

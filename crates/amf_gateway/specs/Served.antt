@@ -1,5 +1,5 @@
 -- What a worker did with the links of its hall.
-use Rattle.std.specs.Prelude.{◌≡◌, ℕ, ◌<◌, ◌≤◌, ◌⊎◌, Bool, false, List, [], ◌∷◌, ◌++◌, length, map, ⊤}
+use Rattle.std.specs.Prelude.{◌≡◌, ℕ, ◌-◌, ◌<◌, ◌≤◌, ◌⊎◌, Bool, false, List, [], ◌∷◌, ◌++◌, length, map, ⊤}
 use Rattle.std.specs.List.{AllByRecursion, list_any}
 use Rattle.amf_io.specs.Outside.{Rose, Steady}
 use Rattle.amf_broker.specs.History.{Entry as Event}
@@ -8,7 +8,7 @@ use Rattle.amf_service.specs.Registry.{Entry}
 use Rattle.amf_gateway.specs.declared.worker.WorkerEnd.{WorkerEnd}
 use Rattle.amf_gateway.specs.declared.worker.WorkerEnd.TheVariants.{Done, FrontFault}
 use Rattle.amf_gateway.specs.Handed.{Given, PassGoesOn}
-use Rattle.amf_plan.specs.Serving.{ServeEnd, ended}
+use Rattle.amf_plan.specs.Serving.{ServeEnd, ended, spent}
 use Rattle.amf_gateway.specs.ServesLink.{Service, IsServed, is_starved}
 use Rattle.amf_gateway.specs.Tells.{OfLink, OfHall}
 
@@ -33,6 +33,11 @@ IsWhole _ = ⊥
 -- the link was answered whole, unless a count of it rose
 abbrev pub IsWholeUnlessFault : {L : Type 0} → OfLink L → Service L → Type 0
 IsWholeUnlessFault m s = Steady (m.read_faults s.came) (m.read_faults s.left) → Steady (m.write_faults s.came) (m.write_faults s.left) → IsWhole s.end
+
+-- a link that ended for want of calls had made all that were left then, of so many at first
+abbrev pub AreSpent : {L : Type 0} → (budget : ℕ) → List (Service L) → Type 0
+AreSpent budget [] = ⊤
+AreSpent budget (s ∷ ss) = (s.end ≡ spent → length s.took.entries ≡ budget) × AreSpent (budget - length s.took.entries) ss
 
 -- whether a link of the worker ended for want of memory, as it answers
 abbrev pub starved_in : WorkerEnd → Bool
@@ -65,6 +70,7 @@ pub record Served {H L : Type 0} (hall : OfHall H L) (link : OfLink L) (services
   pub moments : Given (hall.tells_moments a) (hall.tells_moments b) (hall.moments a) (hall.moments b) (moments_of links)
   pub words : Given (hall.tells_words a) (hall.tells_words b) (hall.words a) (hall.words b) (words_of links)
   pub pass : PassGoesOn p q (entries_of links)
+  pub all_made : AreSpent p.budget links
   -- starved exactly where a link ended for want of memory; where none did and calls are left, each link was answered whole unless it had a fault
   pub starved : starved_in end ≡ list_any (λ s. is_starved s.end) links
   pub whole : starved_in end ≡ false → 0 < q.budget → AllByRecursion (IsWholeUnlessFault link) links

@@ -1,6 +1,10 @@
 -- A device of proofs: what the steps of a worker come to.
 use Rattle.std.specs.Prelude.{◌≡◌, Bool, List, [], ◌∷◌, ◌++◌}
+use Rattle.amf_desk.specs.declared.closed.DeskEnd.{DeskEnd}
+use Rattle.amf_desk.specs.declared.closed.DeskEnd.TheVariants as desk_end
 use Rattle.amf_desk.specs.Passes.{Held}
+use Rattle.amf_plan.specs.declared.outside.Unanswered.{Unanswered}
+use Rattle.amf_plan.specs.declared.outside.Unanswered.TheVariants as unanswered_by
 use Rattle.amf_service.specs.Registry.{Entry}
 use Rattle.amf_gateway.specs.Handed.{Given, PassGoesOn}
 use Rattle.amf_gateway.specs.ServesLink.{Service, IsServed, is_starved}
@@ -11,6 +15,11 @@ use Rattle.amf_gateway.specs.Tells.{OfLink, OfHall}
 abbrev pub unknown : ServeEnd → ServeEnd
 unknown spent = no_memory
 unknown end = end
+
+-- why a call of the desk has no answer
+abbrev pub reason_of : DeskEnd → Unanswered
+reason_of desk_end.Spent = unanswered_by.Spent
+reason_of desk_end.Memory = unanswered_by.Memory
 
 -- a link of the hall was served and given back
 pub record ServedNext {H L : Type 0} (hall : OfHall H L) (link : OfLink L) (services : List Entry) (p q : Held) (a b : H) (came : L) (starved : Bool) : Type 0 where

@@ -1,8 +1,9 @@
-ghost use Rattle.std.specs.Prelude.{◌≡◌, refl};
+ghost use Rattle.std.specs.Prelude.{◌≡◌, refl, length};
 ghost use Rattle.std.proofs.Common.{◌∙◌, sym};
 ghost use Rattle.amf_io.specs.Outside.{SameLinks};
-ghost use Rattle.amf_gateway.specs.Handed.{AidGoesOn, PassGoesOn};
-ghost use Rattle.amf_gateway.specs.HandedLaws.{aid_none, aid_both, links_self, links_then, pass_none, pass_both};
+ghost use Rattle.amf_gateway.specs.Handed.{AidGoesOn, PassGoesOn, CallsGoOn};
+ghost use Rattle.amf_gateway.specs.WorkerSteps.{reason_of};
+ghost use Rattle.amf_gateway.specs.HandedLaws.{aid_none, aid_both, links_self, links_then, pass_none, pass_both, calls_none, calls_both};
 
 use amf_broker::{Call, Reply};
 use amf_desk::{Desk, DeskEnd, Pass};
@@ -25,13 +26,26 @@ pub struct Caller<'a, R: Wait, A: Hall, G: Gate> {
     pub(crate) desk: &'a Desk,
     pub(crate) gate: &'a G,
     pub(crate) worker: u32,
+    /// Why a call of the desk had no answer. After it none is made.
+    pub(crate) unanswered: Option<Unanswered>,
+}
+
+/// Why a call has no answer.
+fn why(end: DeskEnd) -> Unanswered
+    ensures { result ≡ reason_of end }
+{
+    match end {
+        DeskEnd::Spent => Unanswered::Spent,
+        DeskEnd::Memory => Unanswered::Memory,
+    }
 }
 
 impl<R: Wait, A: Hall, G: Gate> Drop for Caller<'_, R, A, G> {
-    /// The pass and the aid stay as the caller leaves them.
+    /// The pass, the aid and the count of calls stay as the caller leaves them.
     fn drop(self)
         ensures pass { self.exit.0.now ≡ self.entry.pass.now }
         ensures aid { self.exit.1.0.now ≡ self.entry.aid.now }
+        ensures calls { self.exit.1.1.0.now ≡ self.entry.calls.now }
     {
         let Caller {
             pass: _pass,
@@ -43,12 +57,13 @@ impl<R: Wait, A: Hall, G: Gate> Drop for Caller<'_, R, A, G> {
             desk: _desk,
             gate: _gate,
             worker: _worker,
+            unanswered: _unanswered,
         } = self;
     }
 }
 
 impl<R: Wait, A: Hall, G: Gate> Outside for Caller<'_, R, A, G> {
-    ghost handed = { λ c d k. AidGoesOn A.tells_moments A.moments A.tells_words A.words (λ a b. SameLinks (A.tells_links a) (A.tells_links b) (A.coming a) (A.coming b) (A.served a) (A.served b) (A.faults a) (A.faults b)) c.aid.now d.aid.now k × PassGoesOn c.pass.now d.pass.now k.entries × (d.desk.now ≡ c.desk.now) × (d.pass.ghost_name ≡ c.pass.ghost_name) × (d.aid.ghost_name ≡ c.aid.ghost_name) × (d.calls.ghost_name ≡ c.calls.ghost_name) };
+    ghost handed = { λ c d k. AidGoesOn A.tells_moments A.moments A.tells_words A.words (λ a b. SameLinks (A.tells_links a) (A.tells_links b) (A.coming a) (A.coming b) (A.served a) (A.served b) (A.faults a) (A.faults b)) c.aid.now d.aid.now k × PassGoesOn c.pass.now d.pass.now k.entries × (d.desk.now ≡ c.desk.now) × (d.pass.ghost_name ≡ c.pass.ghost_name) × (d.aid.ghost_name ≡ c.aid.ghost_name) × (d.calls.ghost_name ≡ c.calls.ghost_name) × CallsGoOn c.pass.now d.pass.now c.unanswered d.unanswered c.calls.now d.calls.now (length k.entries) };
 
     ghost may_call = { λ c. c.pass.now.desk ≡ c.desk.now };
 
@@ -65,14 +80,20 @@ impl<R: Wait, A: Hall, G: Gate> Outside for Caller<'_, R, A, G> {
     }
 
     fn call(&mut self, moment: u64, call: Call) -> Result<Reply, Unanswered> {
+        if let Some(end) = self.unanswered {
+            return Err(end);
+        }
         *self.calls = self.calls.saturating_add(1);
         self.gate.before(self.worker, *self.calls);
         let answer = self.desk.call(self.rt, self.alloc, self.pass, moment, call);
         self.gate.after(self.worker, *self.calls);
         match answer {
             Ok(answer) => Ok(answer.reply),
-            Err(DeskEnd::Spent) => Err(Unanswered::Spent),
-            Err(DeskEnd::Memory) => Err(Unanswered::Memory),
+            Err(end) => {
+                let end = why(end);
+                self.unanswered = Some(end);
+                Err(end)
+            }
         }
     }
 
@@ -83,6 +104,7 @@ impl<R: Wait, A: Hall, G: Gate> Outside for Caller<'_, R, A, G> {
       refl,
       refl,
       refl,
+      calls_none a.pass.now a.unanswered a.calls.now,
     ) };
 
     ghost hands_both = { λ a b c k l p q. (
@@ -93,6 +115,7 @@ impl<R: Wait, A: Hall, G: Gate> Outside for Caller<'_, R, A, G> {
       q.3 ∙ p.3,
       q.4 ∙ p.4,
       q.5 ∙ p.5,
+      calls_both a.pass.now b.pass.now c.pass.now a.unanswered b.unanswered c.unanswered a.calls.now b.calls.now c.calls.now k.entries l.entries p.6 q.6,
     ) };
 
     ghost may_still = { λ a b k p may. p.1.desk ∙ (may ∙ sym p.2) };

@@ -1,8 +1,8 @@
 use Rattle.std.proofs.Common.{◌≡◌, refl, Ok, Err}
 use Rattle.amf_io.specs.Outside.{SameLinks}
 use Rattle.amf_broker.specs.History.{Entry as Event}
-use Rattle.amf_gateway.specs.HandedLaws.{aid_none, links_self}
-use Rattle.amf_gateway.proofs.Handing.{aid_entry, pass_called, pass_ended, called_small}
+use Rattle.amf_gateway.specs.HandedLaws.{aid_none, links_self, pass_none, calls_none}
+use Rattle.amf_gateway.proofs.Handing.{aid_entry, pass_called, pass_ended, called_small, calls_called, calls_ended}
 use Rattle.amf_gateway.proofs.caller.CallerOutside.call.Goals as goal
 
 pub returns-in-Ok-clause-reply : goal.returns-in-Ok-clause-reply
@@ -18,6 +18,7 @@ returns-in-Ok-clause-reply g c =
         refl,
         refl,
         refl,
+        calls_called p c.call-answer.new.pass c.args.moment c.args.call c.in-Ok.answer c.args.self.now.unanswered c.args.self.now.calls.now _ called c.saturating_add-self.ensures,
       ),
       refl,
       refl,
@@ -27,22 +28,24 @@ returns-in-Ok-clause-reply g c =
 pub returns-in-Ok-clause-small : goal.returns-in-Ok-clause-small
 returns-in-Ok-clause-small g c = called_small c.args.self.now.pass.now c.call-answer.new.pass c.args.moment c.args.call c.in-Ok.answer c.in-Ok.ensures.answer
 
-pub returns-in-Err-Spent-clause-none : goal.returns-in-Err-Spent-clause-none
-returns-in-Err-Spent-clause-none g c = (
+pub returns-in-Err-clause-none : goal.returns-in-Err-clause-none
+returns-in-Err-clause-none g c = (
   aid_none g.A.Clock.tells_moments g.A.Clock.moments g.A.Dice.tells_words g.A.Dice.words (λ x y. SameLinks (g.A.Hall.tells_links x) (g.A.Hall.tells_links y) (g.A.Hall.coming x) (g.A.Hall.coming y) (g.A.Hall.served x) (g.A.Hall.served y) (g.A.Hall.faults x) (g.A.Hall.faults y)) c.args.self.now.aid.now (links_self (g.A.Hall.tells_links c.args.self.now.aid.now) (g.A.Hall.coming c.args.self.now.aid.now) (g.A.Hall.served c.args.self.now.aid.now) (g.A.Hall.faults c.args.self.now.aid.now)),
-  pass_ended c.args.self.now.pass.now c.call-answer.new.pass c.args.moment c.args.call c.in-Err-Spent.field-0 c.in-Err-Spent.ensures-1.end,
+  pass_ended c.args.self.now.pass.now c.call-answer.new.pass c.args.moment c.args.call c.in-Err.end c.in-Err.ensures.end,
   refl,
   refl,
   refl,
   refl,
+  rw (c.in_default.is, c.why-end.ensures) (calls_ended c.args.self.now.pass.now c.call-answer.new.pass c.args.moment c.args.call c.in-Err.end c.args.self.now.calls.now _ c.in-Err.ensures.end c.saturating_add-self.ensures),
 )
 
-pub returns-in-Err-Memory-clause-none : goal.returns-in-Err-Memory-clause-none
-returns-in-Err-Memory-clause-none g c = (
+pub returns-in-Some-clause-none : goal.returns-in-Some-clause-none
+returns-in-Some-clause-none g c = (
   aid_none g.A.Clock.tells_moments g.A.Clock.moments g.A.Dice.tells_words g.A.Dice.words (λ x y. SameLinks (g.A.Hall.tells_links x) (g.A.Hall.tells_links y) (g.A.Hall.coming x) (g.A.Hall.coming y) (g.A.Hall.served x) (g.A.Hall.served y) (g.A.Hall.faults x) (g.A.Hall.faults y)) c.args.self.now.aid.now (links_self (g.A.Hall.tells_links c.args.self.now.aid.now) (g.A.Hall.coming c.args.self.now.aid.now) (g.A.Hall.served c.args.self.now.aid.now) (g.A.Hall.faults c.args.self.now.aid.now)),
-  pass_ended c.args.self.now.pass.now c.call-answer.new.pass c.args.moment c.args.call c.in-Err-Memory.field-0 c.in-Err-Memory.ensures-1.end,
+  pass_none c.args.self.now.pass.now,
   refl,
   refl,
   refl,
   refl,
+  calls_none c.args.self.now.pass.now c.args.self.now.unanswered c.args.self.now.calls.now,
 )

@@ -1,6 +1,6 @@
 use Rattle.std.proofs.Common.{◌≡◌, refl}
 use Rattle.amf_io.specs.Outside.{SameLinks}
-use Rattle.amf_gateway.specs.HandedLaws.{pass_none}
+use Rattle.amf_gateway.specs.HandedLaws.{pass_none, calls_none}
 use Rattle.amf_gateway.proofs.Handing.{aid_word}
 use Rattle.amf_gateway.proofs.caller.CallerOutside.word.Goals as goal
 
@@ -12,4 +12,5 @@ returns g c = (
   refl,
   refl,
   refl,
+  calls_none c.args.self.now.pass.now c.args.self.now.unanswered c.args.self.now.calls.now,
 )

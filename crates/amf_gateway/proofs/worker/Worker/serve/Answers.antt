@@ -1,9 +1,9 @@
 use Rattle.std.proofs.Common.{refl, ◌∙◌, arith}
-use Rattle.amf_gateway.proofs.SoFar.{sofar_none, sofar_next, served_each, served_all, served_until}
+use Rattle.amf_gateway.proofs.SoFar.{sofar_none, sofar_next, served_each, served_all, served_until, counts_none, counts_more, counts_few}
 use Rattle.amf_gateway.proofs.worker.Worker.serve.Goals as goal
 
 pub loop-init : goal.loop-init
-loop-init g c = (sofar_none _ _ _ _ _, refl, refl)
+loop-init g c = (sofar_none _ _ _ _ _, counts_none _ _ (omega arith), refl, refl)
 
 pub returns-in-Ok-None-clause-served : goal.returns-in-Ok-None-clause-served
 returns-in-Ok-None-clause-served g c =
@@ -22,6 +22,16 @@ pub loop-preserved : goal.loop-preserved
 loop-preserved g c =
     let e = c.in-Ok-Some.ensures in (
       rw c.either-starved.ensures (sofar_next _ _ _ _ _ _ _ _ _ _ _ c.in-Ok-Some.link _ _ c.loop.invariant.0 (record { tells = e.tells; served = e.served; moments = e.moments; words = e.words }) (rw c.in-Ok-Some.field-0-is at e.gives) e.cause c.serve_next-hungry.ensures.served),
-      c.serve_next-hungry.ensures.number ∙ c.loop.invariant.1,
-      c.serve_next-hungry.ensures.keys ∙ c.loop.invariant.2,
+      counts_more _ _ _ _ _ _ _ _ _ c.loop.invariant.0.pass c.serve_next-hungry.ensures.served.pass c.loop.invariant.1 c.serve_next-hungry.ensures.calls,
+      c.serve_next-hungry.ensures.number ∙ c.loop.invariant.2,
+      c.serve_next-hungry.ensures.keys ∙ c.loop.invariant.3,
     )
+
+pub returns-in-Ok-None-clause-calls : goal.returns-in-Ok-None-clause-calls
+returns-in-Ok-None-clause-calls g c = counts_few _ _ _ _ _ (omega arith) c.loop.invariant.1
+
+pub returns-in-Err-clause-calls : goal.returns-in-Err-clause-calls
+returns-in-Err-clause-calls g c = counts_few _ _ _ _ _ (omega arith) c.loop.invariant.1
+
+pub returns-clause-calls : goal.returns-clause-calls
+returns-clause-calls g c = counts_few _ _ _ _ _ (omega arith) c.loop.invariant.1

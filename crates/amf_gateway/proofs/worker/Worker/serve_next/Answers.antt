@@ -4,7 +4,7 @@ use Rattle.amf_gateway.proofs.worker.Worker.serve_next.Goals as goal
 
 pub returns-clause-served : goal.returns-clause-served
 returns-clause-served g c =
-    let s = c.serve_link_keyed-end.ensures in
+    let s = c.serve_link_keyed-end.ensures.served in
     let b = c.back.ensures in
     served_next _ _ _ _ _ _ c.serve_link_keyed-end.new.aid _ (record { came = c.args.link; left = c.serve_link_keyed-end.new.link; took = s.0; end = end_of c.serve_link_keyed-end.result }) _ s.1
     (record { tells = b.tells; coming = b.coming; served = b.served; faults = b.faults; moments = b.moments; words = b.words }) c.is_starved.ensures
