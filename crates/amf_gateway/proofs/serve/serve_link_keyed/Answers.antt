@@ -12,7 +12,7 @@ returns-clause-served g c =
       link_known _ _ _ _ _ _ _ _ _ s.took end (end_of c.known.result)
           (at_desk _ _ _ _ _ _ _ _ _ _ _ s.took end (search rules) (search rules) s.serves s.stops c.answer_link-end.ensures.cause h.0.moments_given h.0.words_given h.1 h.0.same)
           c.known.ensures.same
-          (λ e. none_left_then c.args.pass.now c.answer_link-end.new.outside.pass.now _ c.answer_link-end.new.outside.unanswered c.args.calls.now c.answer_link-end.new.outside.calls.now _ _ (search rules) (search rules) (omega arith) h.1 h.6 (c.known.ensures.spent e)),
+          (λ e. none_left_then c.args.pass.now c.answer_link-end.new.outside.pass.now _ c.answer_link-end.new.outside.unanswered c.args.calls.now c.answer_link-end.new.outside.calls.now c.answer_link-end.new.outside.calls.now _ (search rules) refl (omega arith) h.1 h.6 (c.known.ensures.spent e)),
     )
 
 pub returns-clause-calls : goal.returns-clause-calls
