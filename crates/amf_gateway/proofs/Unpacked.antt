@@ -48,4 +48,4 @@ pub body_unpacked : (input : List ℕ) (found : Option KeptPacket) → length in
 body_unpacked input None short none = λ q unpacked. none q unpacked.0
 body_unpacked input (Some p) short is =
     let light = is.light in
-    ((is.spelled, record { messages = all_mapped p p.messages is.whole }), readable p is.spelled.0 is.spelled.1.0 (omega (arith, light, short)))
+    ((is.spelled, record { messages = all_mapped p p.messages is.whole }), readable p is.spelled.0 is.spelled.1 (omega (arith, light, short)))
