@@ -1,0 +1,43 @@
+ghost use Rattle.std.specs.Prelude.{◌≡◌, []};
+ghost use Rattle.amf_calling.specs.Called.{IsNumbered};
+ghost use Rattle.amf_calling.specs.Exchanged.{Exchanged};
+ghost use Rattle.amf_calling.specs.Steps.{answer_of};
+
+use crate::CallAnswer;
+use amf_client::{AnswerFault, ReplyBuffer, read_result_keyed};
+use amf_graph::Rooted;
+use amf_io::Link;
+use http_link::send;
+use std::alloc::Global;
+use std::hash::RandomState;
+
+/// The answer to a call that was read so.
+fn answer_of(read: Result<Rooted, AnswerFault>) -> CallAnswer
+    ensures { result ≡ answer_of read }
+{
+    match read {
+        Ok(graph) => CallAnswer::Graph(graph),
+        Err(AnswerFault::Fault { code, text }) => CallAnswer::Fault { code, text },
+        Err(AnswerFault::BadReply(number)) => CallAnswer::BadReply(number),
+        Err(AnswerFault::ReadFault) => CallAnswer::LinkFault,
+        Err(AnswerFault::Memory) => CallAnswer::Memory,
+    }
+}
+
+/// Writes the bytes of a call to a link, and reads what answers it.
+pub(crate) fn exchange<L: Link>(
+    alloc: Global,
+    keys: Option<RandomState>,
+    link: &mut L,
+    buffer: &mut ReplyBuffer,
+    call: &[u8],
+) -> CallAnswer
+    requires { buffer.old ≡ [] }
+    ensures exchanged { Exchanged (record { tells_left = L.tells_left; left = L.left; tells_held = L.tells_held; held = L.held; read_faults = L.read_faults; write_faults = L.write_faults }) link.old link.new call.now result }
+    ensures numbered { IsNumbered result }
+{
+    let Ok(()) = send(link, call) else {
+        return CallAnswer::LinkFault;
+    };
+    answer_of(read_result_keyed(alloc, keys, link, buffer))
+}
