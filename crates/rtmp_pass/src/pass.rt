@@ -1,0 +1,68 @@
+ghost use Rattle.amf_io.specs.Cursor.{source_of, place, bound, unread};
+ghost use Rattle.std.specs.Prelude.{◌≡◌, []};
+ghost use Rattle.rtmp_pass.specs.Pass.{most, Passes, WroteAll, WroteSome, CountsReads, CountsWrites};
+ghost use Rattle.rtmp_pass.specs.Reads.{PutAll, PutSome, lost};
+
+use crate::handler::Handler;
+use crate::pass_end::PassEnd;
+use crate::reading::read_whole;
+use crate::writing::write_whole;
+use amf_io::{Cursor, Sink, Source, Window};
+use std::alloc::Global;
+
+/// The most bytes of an input.
+const MOST: u32 = 0xFFFF_FFFF;
+
+/// Reads an input to its end, and puts what a handler makes of it.
+fn read_input<H: Handler, I: Source, O: Sink>(
+    alloc: Global,
+    handler: &mut H,
+    input: &mut I,
+    out: &mut O,
+    waiting: &mut Vec<u8>,
+) -> Result<(), PassEnd>
+    requires none { waiting.old.items ≡ [] }
+    ensures tells { O.tells out.new → O.tells out.old }
+    ensures passes { I.tells input.old → Passes (H.begins handler.old) (H.says handler.old) (H.ends handler.old) (I.left input.old) (I.left input.new) (PutAll (O.tells out.new) (O.held out.old) (O.held out.new) waiting.new.items) (PutSome (O.tells out.new) (O.held out.old) (O.held out.new)) result }
+    ensures reads { CountsReads (I.faults input.old) (I.faults input.new) result }
+    ensures writes { CountsWrites (O.faults out.old) (O.faults out.new) result }
+{
+    let window = Window::new(alloc, MOST)?;
+    let mut cursor = Cursor::over(input, window);
+    read_whole(alloc, handler, &mut cursor, out, waiting)
+}
+
+/// Whether the output is lost: a write failed, or there was no memory.
+fn is_lost(ended: &Result<(), PassEnd>) -> bool
+    ensures { result ≡ lost ended.now }
+{
+    matches!(ended, Err(PassEnd::WriteFault | PassEnd::Memory))
+}
+
+/// Reads a chunk stream of at most 4,294,967,295 bytes to its end (Adobe's RTMP specification 1.0, 5.2 and 5.3), and writes what a
+/// handler makes of its handshake, of each message, and of the unfinished ones at the end. It holds the unfinished messages as far
+/// as they came, and what is not yet written: at most 65,536 bytes and what the last message gave.
+///
+/// With `Refused` and `ReadFault` all is written that the messages before give, with `WriteFault` a front of what the handler makes.
+/// Of `Memory` nothing is said.
+pub fn pass_over<H: Handler, I: Source, O: Sink>(
+    alloc: Global,
+    handler: &mut H,
+    input: &mut I,
+    out: &mut O,
+) -> Result<(), PassEnd>
+    ensures tells { O.tells out.new → O.tells out.old }
+    ensures passes { I.tells input.old → Passes (H.begins handler.old) (H.says handler.old) (H.ends handler.old) (I.left input.old) (I.left input.new) (WroteAll (O.tells out.new) (O.held out.old) (O.held out.new)) (WroteSome (O.tells out.new) (O.held out.old) (O.held out.new)) result }
+    ensures reads { CountsReads (I.faults input.old) (I.faults input.new) result }
+    ensures writes { CountsWrites (O.faults out.old) (O.faults out.new) result }
+{
+    let mut waiting = Vec::new(alloc);
+    let ended = read_input(alloc, handler, input, out, &mut waiting);
+    if is_lost(&ended) {
+        return ended;
+    }
+    match write_whole(out, &waiting) {
+        Ok(()) => ended,
+        Err(_) => Err(PassEnd::WriteFault),
+    }
+}

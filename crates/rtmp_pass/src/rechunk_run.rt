@@ -1,0 +1,31 @@
+ghost use Rattle.std.specs.Prelude.{◌<◌};
+ghost use Rattle.rtmp_pass.specs.Pass.{Passes, WroteAll, WroteSome, CountsReads, CountsWrites};
+ghost use Rattle.rtmp_pass.specs.Rechunk.{Restarts, Repeats, EndsSilently};
+
+use crate::pass::pass_over;
+use crate::pass_end::PassEnd;
+use crate::rechunker::Rechunker;
+use amf_io::{Sink, Source};
+use std::alloc::Global;
+
+/// Writes a chunk stream again in chunks of a size from 1 to 2^31-1 bytes: its handshake, together with it the message that sets
+/// the size where that is not 128, and then each message, as soon as it is whole, but for those that set a chunk size. What is
+/// unfinished is dropped.
+///
+/// It ends as [`pass_over`] does.
+pub fn rechunk<I: Source, O: Sink>(
+    alloc: Global,
+    size: u32,
+    input: &mut I,
+    out: &mut O,
+) -> Result<(), PassEnd>
+    requires some { 0 < size }
+    requires most { size < 2147483648 }
+    ensures tells { O.tells out.new → O.tells out.old }
+    ensures passes { I.tells input.old → Passes (Restarts size) (Repeats size) EndsSilently (I.left input.old) (I.left input.new) (WroteAll (O.tells out.new) (O.held out.old) (O.held out.new)) (WroteSome (O.tells out.new) (O.held out.old) (O.held out.new)) result }
+    ensures reads { CountsReads (I.faults input.old) (I.faults input.new) result }
+    ensures writes { CountsWrites (O.faults out.old) (O.faults out.new) result }
+{
+    let mut handler = Rechunker::new(alloc, size)?;
+    pass_over(alloc, &mut handler, input, out)
+}
