@@ -16,8 +16,6 @@ mod real_tests;
 #[cfg(test)]
 mod serve_tests;
 #[cfg(test)]
-mod shipped_tests;
-#[cfg(test)]
 mod sol_tests;
 #[cfg(test)]
 mod start_tests;

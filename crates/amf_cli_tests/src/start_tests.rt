@@ -14,12 +14,12 @@ use std::test::Fail;
 
 /// Words in memory.
 #[derive(Drop)]
-pub(crate) struct Given {
+struct Given {
     words: Vec<Name>,
 }
 
 impl Given {
-    pub(crate) fn new(alloc: Global, words: &[&[u8]]) -> Result<Given, Fail> {
+    fn new(alloc: Global, words: &[&[u8]]) -> Result<Given, Fail> {
         let mut names = Vec::new(alloc);
         for word in words {
             names.push(Name::of_bytes(alloc, word)?)?;
