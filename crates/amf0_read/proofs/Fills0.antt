@@ -52,7 +52,7 @@ module _ {S : Type 0} (tells : S → Type 0) (left : S → List ℕ) (faults : S
   fills_passed b1 u1 e (Ok x) end is h = absurd is
   fills_passed b1 u1 e (Err x) end is h = subst (λ w. CarriesEnd tells left faults i p b u d e w) (sym is) h
 
-  -- want of memory
+  -- out of memory
   pub fills_memory : (e : Cursor S Window) → CarriesEnd tells left faults i p b u d e read_end.Memory
   fills_memory e = record { on = λ old es fs a t c so fuel fuels lt f. tt }
 

@@ -73,7 +73,7 @@ fn lack_of(
 /// 2.18). The value is one of the graph that is reached from its root, and the tables are those of canonical spellings of
 /// this graph: new ones, those that a call before left, or either after `add_done` of arrays or objects that take no place.
 ///
-/// After an end `out` is as before, and the tables are only to be dropped. `NoSpelling` tells the first lack of the nodes that
+/// After an end `out` is as before, and the tables must not be used again. `NoSpelling` tells the first lack of the nodes that
 /// the value meets, by the canonical numbers of the whole graph; `Memory` comes where there is no room for the tables or the
 /// bytes.
 pub fn write0_part(

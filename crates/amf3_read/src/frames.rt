@@ -61,7 +61,7 @@ impl Frames {
         }
     }
 
-    /// Puts a frame on top. After an error the stack is only to be dropped.
+    /// Puts a frame on top. After an error the stack must not be used again.
     #[inline(always)]
     pub fn push(&mut self, frame: Frame) -> Result<(), Memory>
         ensures { OnOk result (self.new ≡ frame ∷ self.old) }

@@ -40,7 +40,7 @@ use std::alloc::Global;
 ///
 /// Where the input is refused, the refusal is the verdict on it: the first field that no value of AMF 3
 /// has there, or where the input or its limit ends. `Memory` comes where there is no room for what is read. After an end
-/// the builder, the tables and the cursor are only to be dropped.
+/// the builder, the tables and the cursor must not be used again.
 pub fn read3<S: Source>(
     alloc: Global,
     cursor: &mut Cursor<'_, S>,

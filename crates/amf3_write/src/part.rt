@@ -31,7 +31,7 @@ fn taken(alloc: Global, tables: &mut WriterTables) -> Result<GraphTables, Memory
 
 /// Appends the canonical case of a text (AMF 3, 1.3.2): by its place in the tables, or inline.
 ///
-/// The text is the graph's. After an end `out` is as before, and the tables are only to be dropped. It gives up where there
+/// The text is the graph's. After an end `out` is as before, and the tables must not be used again. It gives up where there
 /// is no memory.
 pub fn write3_text(
     alloc: Global,
@@ -147,7 +147,7 @@ pub fn write3_part_of(
 /// value is one of the graph that is reached from its root, the nodes of the tables are the graph's, and each that was
 /// spelled has a place, as `are_placed` tells.
 ///
-/// After an end `out` is as before, and the tables are only to be dropped. `NoSpelling` tells the first lack of the nodes to
+/// After an end `out` is as before, and the tables must not be used again. `NoSpelling` tells the first lack of the nodes to
 /// which the value leads beside those of the tables, by the canonical numbers of the whole graph; `Memory` comes where there
 /// is no room for the tables or the bytes.
 ///

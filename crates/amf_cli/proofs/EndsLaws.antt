@@ -99,7 +99,7 @@ module _ {I O E : Type 0} (i : SourceMembers I) (o : SinkMembers O) (e : SinkMem
   same_taken : rest ≡ input → length (i.left input) ≤ length (i.left rest) + (most + 1)
   same_taken same = subst (λ (r : I). length (i.left input) ≤ length (i.left r) + (most + 1)) (sym same) (within_limit (length (i.left input)))
 
-  -- the words have no reading
+  -- the words are invalid
   usage_ends : (HasReading words → ⊥) → rest ≡ input → wrote ≡ out → e.faults err ≤ e.faults told → (e.tells told → Steady (e.faults err) (e.faults told) → e.held told ≡ e.held err ++ line_of Usage) → Promises 2
   usage_ends none same kept counted line = record {
     statuses = omega arith;

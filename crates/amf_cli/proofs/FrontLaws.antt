@@ -63,7 +63,7 @@ module _ {F H L O : Type 0} (f : OfFront F H) (h : OfHall H L) (l : OfLink L) (o
     unasked = λ none. (refl, other);
   }
 
-  -- nothing was asked of either, for want of memory
+  -- nothing was asked of either, because memory ran out
   pub kept_serves : (status : ℕ) (front back : F) (out wrote : O) → back ≡ front → wrote ≡ out → status ≡ 5 → ServesWords f h l o services words status front back out wrote
   kept_serves status front back out wrote same kept five =
       subst (λ (x : F). ServesWords f h l o services words status front x out wrote) (sym same) (data_serves status front out wrote (λ s. (five, kept)) (λ six. absurd (omega (arith, five, six))))

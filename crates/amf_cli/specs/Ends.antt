@@ -13,7 +13,7 @@ use Rattle.amf_commands.specs.Run.{TakesInput, Makes, Lacks, MayLack, IsOutputOf
 -- By the meanings of the three streams, the words and the status. Of each stream there is what it was before and what it is now. What is said of bytes holds where the input tells them, or the command takes none.
 pub record Ends {I O E : Type 0} (i : SourceMembers I) (o : SinkMembers O) (e : SinkMembers E) (words : List (List ℕ)) (status : ℕ) (input rest : I) (out wrote : O) (err told : E) : Type 0 where
   pub statuses : status ≤ 7
-  -- 2 comes exactly where the words have no reading, but for want of memory; and where they have none, nothing is asked of the input
+  -- 2 comes exactly where the words are invalid, unless memory ran out; and where they are invalid, nothing is asked of the input
   pub usage : status ≡ 2 → HasReading words → ⊥
   pub no_reading : (HasReading words → ⊥) → (status ≡ 2) ⊎ (status ≡ 5)
   pub read : status ≢ 2 → status ≢ 5 → HasReading words
@@ -28,7 +28,7 @@ pub record Ends {I O E : Type 0} (i : SourceMembers I) (o : SinkMembers O) (e : 
   pub counted : e.faults err ≤ e.faults told
   -- 1: the verdict, with its reason and place on the error line
   pub refused : (c : Command) → Reads words c → status ≡ 1 → (TakesInput c → i.tells input) → IsRefusedWith c (i.left input) (e.tells told × Steady (e.faults err) (e.faults told)) (e.held err) (e.held told)
-  -- 3 and 4 come only where a count rose, and 3 only where what came before fixes no verdict
+  -- 3 and 4 come only where a count rose, and 3 only where what came before decides nothing
   pub read_fault : status ≡ 3 → Rose (i.faults input) (i.faults rest)
   pub hidden : (c : Command) → Reads words c → status ≡ 3 → (TakesInput c → i.tells input) → IsHidden (input_of c) (i.left input) (i.left rest)
   pub write_fault : status ≡ 4 → Rose (o.faults out) (o.faults wrote)

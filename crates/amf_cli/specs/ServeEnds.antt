@@ -12,7 +12,7 @@ use Rattle.amf_commands.specs.Written.{WritesFront}
 abbrev pub End : Type 0
 End = Result (Unit {0}) RunEnd
 
--- want of memory goes before a fault of the output, and this before one of the front
+-- running out of memory goes before a fault of the output, and this before one of the front
 abbrev pub first_end : (starved : Bool) → End → (faulty : Bool) → End
 first_end true told faulty = Err NoMemory
 first_end false (Err e) faulty = Err e

@@ -24,7 +24,7 @@ line_after Memory = []
 line_after NotOpened = []
 line_after (Closed counts starved faulty) = served_line counts
 
--- What serving came to, where the status is 0, 4 or 6: no link ended for want of memory; with 0 nothing failed, and with 6 the front or a hall of it; and the line was written whole, but with 4 a front of it.
+-- What serving came to, where the status is 0, 4 or 6: no link ended because memory ran out; with 0 nothing failed, and with 6 the front or a hall of it; and the line was written whole, but with 4 a front of it.
 pub record ServeRun (Came : ServeAnswer → Type 0) (told : Type 0) (held now : List ℕ) (status : ℕ) : Type 0 where
   pub answer : ServeAnswer
   pub came : Came answer

@@ -48,7 +48,7 @@ where
     }
 }
 
-/// The same, but for want of memory for the services, and then nothing is asked of anything. Each service has the name of its operation.
+/// The same, unless memory ran out for the services, and then nothing is asked of anything. Each service has the name of its operation.
 fn start_shipped<
     R: RandomSource + Threads + Wait + Sync,
     A: Arguments,

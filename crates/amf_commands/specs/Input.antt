@@ -45,6 +45,6 @@ abbrev pub IsRefusedAs : Input → List ℕ → Reason → ℕ → Type 0
 IsRefusedAs (one Sol) input reason at = IsFileRefused 0 most input reason at
 IsRefusedAs i input reason at = IsInputRefused (Accepts i) most input reason at
 
--- what was given fixes no verdict yet
+-- what was given decides nothing yet
 abbrev pub IsUnsettledAs : Input → List ℕ → Type 0
 IsUnsettledAs i given = IsUnsettled (Accepts i) most given

@@ -112,7 +112,7 @@ abbrev pub IsOutputOf : Command → List ℕ → Type 0
 IsOutputOf (Canon from to) input = (from ≡ to) × (c : Content) × IsWritten to c input
 IsOutputOf _ input = ⊥
 
--- the bytes that came before a read failed fix no verdict
+-- the bytes that came before a read failed decide nothing
 pub record IsHidden (i : Input) (input rest : List ℕ) : Type 0 where
   pub given : List ℕ
   pub parts : input ≡ given ++ rest
@@ -141,7 +141,7 @@ abbrev pub CountsReads : {T : Type 0} → ℕ → ℕ → Result T RunEnd → Ty
 CountsReads before now (Err ReadFault) = (before ≤ now) × Rose before now
 CountsReads before now _ = now ≡ before
 
--- a write fault is counted, and without one the count stays; of want of memory nothing is said
+-- a write fault is counted, and without one the count stays; of running out of memory nothing is said
 abbrev pub CountsWrites : {T : Type 0} → ℕ → ℕ → Result T RunEnd → Type 0
 CountsWrites before now (Err WriteFault) = (before ≤ now) × Rose before now
 CountsWrites before now (Err NoMemory) = Unit {0}

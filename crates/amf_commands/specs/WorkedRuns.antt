@@ -1,4 +1,4 @@
--- Worked facts of runs: what words say, which inputs are accepted and refused, what fixes no verdict yet, and the lines of `check` and `gen`.
+-- Worked facts of runs: what words say, which inputs are accepted and refused, what decides nothing yet, and the lines of `check` and `gen`.
 use Rattle.std.specs.Prelude.{◌≡◌, ℕ, List, [], ◌∷◌, codes, Option, Some, None, if◌then◌else◌}
 use Rattle.std.specs.Str.{bytes_eq}
 use Rattle.amf_io.specs.declared.reason.Reason.{Reason}

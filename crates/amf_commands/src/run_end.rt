@@ -11,7 +11,7 @@ use std::alloc::{AllocError, AllocFailed};
 pub enum RunEnd {
     /// The input is refused: status 1.
     Refused(Refusal),
-    /// The words have no reading: status 2.
+    /// The words are invalid: status 2.
     Usage,
     /// A read of the input failed: status 3.
     ReadFault,

@@ -119,7 +119,7 @@ whole_stops services b k end s = s
 pub served_link : {O : Type 0} (handed : O → O → Taken → Type 0) (services : List Entry) (old new : O) (tells_left tells_held : Type 0) (b : LinkBytes) (end : Ending) → ServedBy handed (rest_of most_requests services) old new tells_left tells_held b (end_of end) → ServedLink handed services old new tells_left tells_held b end
 served_link handed services old new tells_left tells_held b end s = record { took = s.took; was_handed = s.was_handed; serves = λ t h. whole_serves services b s.took (end_of end) (s.serves t h); stops = λ t h. whole_stops services b s.took (end_of end) (s.stops t h) }
 
--- nothing was served, for want of memory
+-- nothing was served, because memory ran out
 pub nothing_served : {O : Type 0} (handed : O → O → Taken → Type 0) (none : (a : O) → handed a a none_taken) (services : List Entry) (a : O) (tells_left tells_held : Type 0) (left leaves held now : List ℕ) → now ≡ held → ServedLink handed services a a tells_left tells_held (record { left = left; leaves = leaves; held = held; now = now }) Memory
 nothing_served handed none services a tells_left tells_held left leaves held now e = record {
   took = none_taken;

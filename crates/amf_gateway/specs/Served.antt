@@ -39,7 +39,7 @@ abbrev pub AreSpent : {L : Type 0} → (budget : ℕ) → List (Service L) → T
 AreSpent budget [] = ⊤
 AreSpent budget (s ∷ ss) = (s.end ≡ spent → length s.took.entries ≡ budget) × AreSpent (budget - length s.took.entries) ss
 
--- whether a link of the worker ended for want of memory, as it answers
+-- whether a link of the worker ended because memory ran out, as it answers
 abbrev pub starved_in : WorkerEnd → Bool
 starved_in (Done starved) = starved
 starved_in (FrontFault starved) = starved
@@ -71,6 +71,6 @@ pub record Served {H L : Type 0} (hall : OfHall H L) (link : OfLink L) (services
   pub words : Given (hall.tells_words a) (hall.tells_words b) (hall.words a) (hall.words b) (words_of links)
   pub pass : PassGoesOn p q (entries_of links)
   pub all_made : AreSpent p.budget links
-  -- starved exactly where a link ended for want of memory; where none did and calls are left, each link was answered whole unless it had a fault
+  -- starved exactly where a link ended because memory ran out; where none did and calls are left, each link was answered whole unless it had a fault
   pub starved : starved_in end ≡ list_any (λ s. is_starved s.end) links
   pub whole : starved_in end ≡ false → 0 < q.budget → AllByRecursion (IsWholeUnlessFault link) links

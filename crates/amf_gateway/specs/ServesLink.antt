@@ -14,7 +14,7 @@ CountsLink reads reads_now writes writes_now read_fault = (reads ≤ reads_now) 
 CountsLink reads reads_now writes writes_now write_fault = (reads_now ≡ reads) × (writes ≤ writes_now) × Rose writes writes_now
 CountsLink reads reads_now writes writes_now _ = (reads_now ≡ reads) × (writes_now ≡ writes)
 
--- the link ended for want of memory
+-- the link ended because memory ran out
 abbrev pub is_starved : ServeEnd → Bool
 is_starved no_memory = true
 is_starved _ = false

@@ -11,7 +11,7 @@ use Rattle.amf_gateway.specs.ServesLink.{Service, IsServed, is_starved}
 use Rattle.amf_plan.specs.Serving.{ServeEnd, no_memory, spent}
 use Rattle.amf_gateway.specs.Tells.{OfLink, OfHall}
 
--- as long as it is not known why a link was not answered whole, it counts as want of memory
+-- as long as it is not known why a link was not answered whole, it counts as out of memory
 abbrev pub unknown : ServeEnd → ServeEnd
 unknown spent = no_memory
 unknown end = end

@@ -36,7 +36,7 @@ pub enum LinkEnd {
 }
 
 impl LinkEnd {
-    /// Whether it ended for want of memory.
+    /// Whether it ended because memory ran out.
     pub(crate) fn is_starved(self) -> bool
         ensures { result ≡ is_starved (end_of self) }
     {

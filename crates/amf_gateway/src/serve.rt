@@ -25,7 +25,7 @@ use std::sync::Wait;
 /// the pass.
 ///
 /// `Closed`, `Refused` and `Truncated` say that all was answered. `ReadFault` and `WriteFault` come only where the link failed on
-/// that side: the link is read only while the bytes so far fix nothing, and nothing is begun behind an answer that was not taken. `Spent`
+/// that side: the link is read only while the bytes so far decide nothing, and nothing is begun behind an answer that was not taken. `Spent`
 /// comes only where a call was asked for and the pass might make no more, and `Memory` where there is no room. After a call without an
 /// answer no other is made.
 ///

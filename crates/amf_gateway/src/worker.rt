@@ -27,7 +27,7 @@ pub struct Worker<H: Hall> {
     pub keys: Option<RandomState>,
 }
 
-/// Why a worker ended, and whether a link of it ended for want of memory.
+/// Why a worker ended, and whether a link of it ended because memory ran out.
 #[derive(Clone, Copy, Debug, PartialEq, Eq)]
 pub enum WorkerEnd {
     /// It has served all links that it was to serve, or the hall has no more.
@@ -36,7 +36,7 @@ pub enum WorkerEnd {
     FrontFault { starved: bool },
 }
 
-/// Whether a link ended for want of memory, before or now.
+/// Whether a link ended because memory ran out, before or now.
 fn either(before: bool, now: bool) -> bool
     ensures { result ≡ (before || now) }
 {
@@ -88,7 +88,7 @@ impl<H: Hall> Worker<H> {
         (pass, hall)
     }
 
-    /// Serves a link and gives it back to the hall. Tells whether it ended for want of memory.
+    /// Serves a link and gives it back to the hall. Tells whether it ended because memory ran out.
     fn serve_next<R: Wait, G: Gate>(
         &mut self,
         rt: &R,

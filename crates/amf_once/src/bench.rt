@@ -36,7 +36,7 @@ impl Bench {
         })
     }
 
-    /// What happens next. After `Memory` it is only dropped.
+    /// What happens next. After `Memory` it must not be used again.
     pub(crate) fn happen(&mut self, alloc: Global, event: Event) -> Result<(), Memory>
         requires calls { self.old.broker.calls < 2 ^ 62 }
         requires answers { AllSay (Below (2 ^ 62)) self.old.answers.items }

@@ -55,7 +55,7 @@ each_next P xs ys x a b c is (fs, p, e) (gs, q, f) =
 pub list_written : {X : Type 0} (P : X → List Field → Type 0) (xs ys : List X) (n : ℕ) (a b c : List ℕ) → n ≡ length xs → ys ≡ xs → Appends (CountBy n) a b → Appends (Each P ys) b c → Appends (ListBy P xs) a c
 list_written P xs ys n a b c is all h k = appends_then (CountBy (length xs)) (Each P xs) a b c (subst (λ m. Appends (CountBy m) a b) is h) (subst (λ zs. Appends (Each P zs) b c) all k)
 
--- an end for want of memory
+-- an end because memory ran out
 pub memory_ended : (P : List Field → Type 0) (L : ℕ → ℕ → LackKind → Type 0) (a b : List ℕ) (r : Result (Unit {0}) PacketEnd) → IsErrAnd r (λ e. e ≡ Memory) → Writes P L a b r
 memory_ended P L a b (Ok u) h = absurd h
 memory_ended P L a b (Err e) h = subst (λ x. Writes P L a b (Err x)) (sym h) tt

@@ -51,7 +51,7 @@ pub record LacksFirst (before : ℕ) (bodies : List Body) (value number : ℕ) (
 abbrev pub LacksHere : Body → ℕ → ℕ → ℕ → LackKind → Type 0
 LacksHere b here value number kind = (value ≡ here) × IsBodyLack b.form b.graph number kind
 
--- fields that are so are appended, or it stops for want of memory or at a lack
+-- fields that are so are appended, or it stops because memory ran out or at a lack
 abbrev pub Writes : (List Field → Type 0) → (ℕ → ℕ → LackKind → Type 0) → List ℕ → List ℕ → Result (Unit {0}) PacketEnd → Type 0
 Writes P L old new (Ok u) = Appends P old new
 Writes P L old new (Err Memory) = Unit {0}

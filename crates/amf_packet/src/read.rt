@@ -20,8 +20,8 @@ use std::hash::RandomState;
 /// Length fields are read and not checked. No more bytes than 2^27 - 1 may be left up to the cursor's limit.
 ///
 /// `Refused` tells the first field that no packet has there, or where the input or its limit ends. `ReadFault` comes only
-/// where the count of the source's faults rose, `Memory` where there is no room for what is read. After an end the cursor is
-/// only to be dropped.
+/// where the count of the source's faults rose, `Memory` where there is no room for what is read. After an end the cursor must
+/// not be used again.
 ///
 /// Texts are looked up by fixed keys, so whoever knows them can make a packet that takes long: `read_packet_keyed` is passed others.
 pub fn read_packet<S: Source>(alloc: Global, cursor: &mut Cursor<'_, S>) -> Result<Packet, ReadEnd>

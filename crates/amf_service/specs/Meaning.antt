@@ -39,14 +39,14 @@ asked m operation args = if m.knows operation then given (m.gives operation args
 abbrev pub IsFault : List ℕ → Type 0
 IsFault x = IsText x × (length x ≤ 65535)
 
--- a service answers what is meant: some graph that is isomorphic to it, or the very fault; only want of memory is free
+-- a service answers what is meant: some graph that is isomorphic to it, or the very fault; only running out of memory is free
 abbrev pub Answers : Called → Result RootedArena ServiceEnd → Type 0
 Answers c (Ok graph) = (g : Graph) × (c ≡ given (result g)) × Isomorphic g (content graph)
 Answers c (Err Unknown) = c ≡ no_operation
 Answers c (Err (Fault x)) = (c ≡ given (fault x)) × IsFault x
 Answers c (Err Memory) = Unit {0}
 
--- the fault with this text, or want of memory
+-- the fault with this text, or out of memory
 abbrev pub FaultsWith : List ℕ → ServiceEnd → Type 0
 FaultsWith x Unknown = ⊥
 FaultsWith x (Fault y) = y ≡ x

@@ -16,7 +16,7 @@ abbrev pub called : List Entry → List ℕ → List ℕ → Graph → Called
 called [] service operation args = no_service
 called (e ∷ es) service operation args = if bytes_eq service e.name then asked e.means operation args else called es service operation args
 
--- a call answers what is meant: some graph that is isomorphic to it, or the very end; only want of memory is free
+-- a call answers what is meant: some graph that is isomorphic to it, or the very end; only running out of memory is free
 abbrev pub AnswersCall : Called → Result RootedArena CallEnd → Type 0
 AnswersCall c (Ok graph) = (g : Graph) × (c ≡ given (result g)) × Isomorphic g (content graph)
 AnswersCall c (Err NoService) = c ≡ no_service

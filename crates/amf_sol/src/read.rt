@@ -23,7 +23,7 @@ const UNCOUNTED: u64 = 6;
 ///
 /// Where the input is refused, the refusal is the verdict on it: the first field that no file has there, or where the input or
 /// its limit ends inside a pair or before the first; `BadLength` where nothing else is wrong, and the length is not the number
-/// of bytes behind it. `Memory` comes where there is no room for what is read. After an end the cursor is only to be dropped.
+/// of bytes behind it. `Memory` comes where there is no room for what is read. After an end the cursor must not be used again.
 ///
 /// Texts are looked up by fixed keys, so whoever knows them can make a file that takes long: `read_sol_keyed` is passed others.
 pub fn read_sol<S: Source>(

@@ -64,7 +64,7 @@ pub record Together {F H L : Type 0} (front : OfFront F H) (hall : OfHall H L) (
   pub destinations_are : closing.destinations ≡ destinations
   pub callers : AllByRecursion (λ e. (1 ≤ e.caller) × (e.caller < 1 + workers)) closed.history
   pub entries : EachFrom 1 (λ i s. (s.before.number ≡ i) × (own i closed.history ≡ entries_of s.served.links)) shifts
-  -- starved exactly where a link ended for want of memory; where none did and a worker has calls left, each link of it was answered whole unless it had a fault
+  -- starved exactly where a link ended because memory ran out; where none did and a worker has calls left, each link of it was answered whole unless it had a fault
   pub starved_is : starved ≡ list_any starved_in (map (λ s. s.end) shifts)
   pub answered : starved ≡ false → AllByRecursion (λ s. 0 < s.after.budget → AllByRecursion (IsWholeUnlessFault link) s.served.links) shifts
   -- a worker of at most a million links has calls left, where the links tell
@@ -89,7 +89,7 @@ pub record GaveUp {F H : Type 0} (front : OfFront F H) (a b : F) : Type 0 where
   pub took_back : front.tells b → front.halls b ≡ front.halls a ++ opened
   pub counts : CountsFaults (front.faults a) (front.faults b) false
 
--- want of memory is the free answer
+-- running out of memory is the free answer
 abbrev pub Serves : {F H L : Type 0} → OfFront F H → OfHall H L → OfLink L → List Entry → (port workers each : ℕ) → (a b : F) → ServeAnswer → Type 0
 Serves front hall link services port workers each a b Memory = GaveUp front a b
 Serves front hall link services port workers each a b NotOpened = Failed front port workers a b

@@ -11,7 +11,7 @@ pub enum ServeAnswer {
     Closed {
         /// What was counted at the desk.
         counts: Closed,
-        /// Whether a link ended for want of memory.
+        /// Whether a link ended because memory ran out.
         starved: bool,
         /// Whether a hall failed, which the front has counted.
         faulty: bool,

@@ -14,7 +14,7 @@ use amf_io::Front;
 /// How workers ended.
 #[derive(Clone, Copy)]
 pub(crate) struct Ends {
-    /// Whether a link of one ended for want of memory.
+    /// Whether a link of one ended because memory ran out.
     pub starved: bool,
     /// Whether the hall of one failed.
     pub faulty: bool,

@@ -76,7 +76,7 @@ pub(crate) fn add_command(
 /// Adds an AcknowledgeMessage and gives it (the AMF profile of Flex messaging: flex.messaging.messages).
 ///
 /// The names are texts, and the values the builder's. `Full` comes only where the builder has no room for what is added or a
-/// name has more than [`MAX_COUNT`] bytes, and `Memory` where there is none. After an end the builder is only dropped.
+/// name has more than [`MAX_COUNT`] bytes, and `Memory` where there is none. After an end the builder must not be used again.
 pub fn acknowledge(alloc: Global, builder: &mut Builder, reply: &Reply) -> Result<Value, BuildEnd>
     requires reply { IsReply reply.now }
     requires body { Names builder.old reply.now.body }
@@ -93,7 +93,7 @@ pub fn acknowledge(alloc: Global, builder: &mut Builder, reply: &Reply) -> Resul
 /// Adds an ErrorMessage and gives it (the AMF profile of Flex messaging: flex.messaging.messages). Its body is null.
 ///
 /// The names are texts, and the values the builder's. `Full` comes only where the builder has no room for what is added or a
-/// name has more than [`MAX_COUNT`] bytes, and `Memory` where there is none. After an end the builder is only dropped.
+/// name has more than [`MAX_COUNT`] bytes, and `Memory` where there is none. After an end the builder must not be used again.
 pub fn error(
     alloc: Global,
     builder: &mut Builder,
@@ -121,7 +121,7 @@ pub fn error(
 /// flex.messaging.messages).
 ///
 /// The names are texts, and the values the builder's. `Full` comes only where the builder has no room for what is added or a
-/// name has more than [`MAX_COUNT`] bytes, and `Memory` where there is none. After an end the builder is only dropped.
+/// name has more than [`MAX_COUNT`] bytes, and `Memory` where there is none. After an end the builder must not be used again.
 pub fn sync(
     alloc: Global,
     builder: &mut Builder,
@@ -144,7 +144,7 @@ pub fn sync(
 /// flex.messaging.messages). Its body is null.
 ///
 /// The names are texts, and the values the builder's. `Full` comes only where the builder has no room for what is added or a
-/// name has more than [`MAX_COUNT`] bytes, and `Memory` where there is none. After an end the builder is only dropped.
+/// name has more than [`MAX_COUNT`] bytes, and `Memory` where there is none. After an end the builder must not be used again.
 pub fn invalidate(alloc: Global, builder: &mut Builder, reply: &Reply) -> Result<Value, BuildEnd>
     requires reply { IsReply reply.now }
     ensures ok { IfOk result (λ v. Invalidates reply.now builder.old builder.new v) }

@@ -22,7 +22,7 @@ use std::alloc::Global;
 /// flex.messaging.messages), and gives it: with copies of the body and of the headers, what they share kept.
 ///
 /// The names are texts, and the values the graph's. `Full` comes only where the builder has no room for what is added or a name has more than [`MAX_COUNT`] bytes, and `Memory`
-/// where there is none. After an end the builder is only dropped.
+/// where there is none. After an end the builder must not be used again.
 pub fn published(
     alloc: Global,
     builder: &mut Builder,
@@ -97,7 +97,7 @@ fn other_members(alloc: Global, stored: &Rooted) -> Result<Vec<Value>, Memory>
 /// Flex messaging: flex.messaging.messages).
 ///
 /// The client is a text. `Full` comes only where the builder has no room for what is added or the client has more than [`MAX_COUNT`] bytes, and `Memory`
-/// where there is none. After an end the builder is only dropped.
+/// where there is none. After an end the builder must not be used again.
 pub fn delivered(
     alloc: Global,
     builder: &mut Builder,

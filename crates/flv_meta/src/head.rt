@@ -23,7 +23,7 @@ const OFFSET: [u8; 4] = [0, 0, 0, 9];
 ///
 /// Where the input is refused, the refusal is the verdict on it: the first field that no head has there, or where the input or
 /// its limit ends inside the head. `Memory` comes where there is no room for the bytes. After an end `out` is as before, and the
-/// cursor is only to be dropped.
+/// cursor must not be used again.
 pub fn read_head<S: Source>(
     alloc: Global,
     cursor: &mut Cursor<'_, S>,

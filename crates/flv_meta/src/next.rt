@@ -30,7 +30,7 @@ fn is_over<S: Source>(cursor: &mut Cursor<'_, S>) -> Result<bool, ReadEnd>
 ///
 /// Nothing in a tag is refused. Where the input or its limit ends inside the tag, the refusal is the verdict on it: the field
 /// that is not whole. `Memory` comes where there is no room for the bytes: they are held once, and the memory grows as they come,
-/// by no size that was read. After an end the cursor is only to be dropped.
+/// by no size that was read. After an end the cursor must not be used again.
 pub fn next_tag<S: Source>(
     alloc: Global,
     cursor: &mut Cursor<'_, S>,

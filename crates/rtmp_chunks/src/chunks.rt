@@ -124,7 +124,7 @@ impl Chunks {
     /// another message is whole. `BadChunk` and `BadChunkSize` stand at the field that is refused: a format that cannot stand
     /// (5.3.1.2), a message of type 1 whose length is not 4, or whose number is 0 or above 2^31-1 (5.4.1). A refusal or a read that
     /// fails comes only once each message before it was given. Its memory grows only as bytes come, but for the table. After an end
-    /// the `Chunks` and the cursor are only to be dropped.
+    /// the `Chunks` and the cursor must not be used again.
     pub fn next<S: Source>(
         &mut self,
         alloc: Global,

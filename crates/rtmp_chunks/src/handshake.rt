@@ -31,7 +31,7 @@ fn read_all<S: Source>(alloc: Global, cursor: &mut Cursor<'_, S>) -> Result<Vec<
 }
 
 /// Reads a handshake (Adobe's RTMP specification 1.0, 5.2), and appends its 3,073 bytes. It is refused with `BadVersion` where its
-/// version is not 3, and as each reader is where it is cut. After an end `out` is as before, and the cursor is only to be dropped.
+/// version is not 3, and as each reader is where it is cut. After an end `out` is as before, and the cursor must not be used again.
 pub fn read_handshake<S: Source>(
     alloc: Global,
     cursor: &mut Cursor<'_, S>,

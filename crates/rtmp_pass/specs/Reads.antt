@@ -58,7 +58,7 @@ PutAll told held now waits bytes = told → Put held now bytes waits
 abbrev pub PutSome : Type 0 → List ℕ → List ℕ → List ℕ → Type 0
 PutSome told held now bytes = told → (rest : List ℕ) × Put held now bytes rest
 
--- nothing more is written behind a write that failed, or for want of memory
+-- nothing more is written behind a write that failed, or because memory ran out
 abbrev pub lost : {T : Type 0} → Result T PassEnd → Bool
 lost (Err WriteFault) = true
 lost (Err Memory) = true

@@ -4,7 +4,7 @@
 pub(super) const COUNT: usize = 29;
 
 /// `words | what they give --from`: the value, `no value` where they give `--to` alone or nothing, and `no options` where they
-/// have no reading. The word `%` stands for the empty one.
+/// are invalid. The word `%` stands for the empty one.
 pub(super) static ROWS: &str = r"
 --from a --to b | a
 --to=b --from=a | a
