@@ -3,8 +3,8 @@
 
     docs/trust_paths.py [--check]
 
-For each of four promises it follows the definitions that the contract of `run` (crates/amf_cli/src/run.rt) cites, from name to name by the
-imports of each file, and lists them in an order in which they can be read. What a file says is its own first line. With --check nothing is
+For each of four promises it follows the definitions that the promises of a run (`Ends`, `ServesWords` in crates/amf_cli/specs, which the
+contract of `run` cites) name, from name to name by the imports of each file, and lists them in an order in which they can be read. What a file says is its own first line. With --check nothing is
 written, and the status is 1 where the page is not what would be written.
 """
 import re
@@ -14,7 +14,7 @@ from pathlib import Path
 
 ROOT = Path(__file__).resolve().parent.parent
 PAGE = ROOT / "docs/TRUST.md"
-RUN = ROOT / "crates/amf_cli/src/run.rt"
+RUN = [ROOT / f"crates/amf_cli/specs/{name}.antt" for name in ("Ends", "ServesWords")]
 
 FRONT = """# What a reader has to trust
 
@@ -24,7 +24,8 @@ what is promised. The toolchain, and what else is trusted, are named in [PROMISE
 
 Nobody has to read all of them. Each of the four paths below lists what one promise rests on, in an order in which it can be read: each file
 with those of its definitions that the promise needs, and how many lines these have. A path ends with the definitions that the program's
-contract itself names; that contract stands on `run` in `crates/amf_cli/src/run.rt`. Much of a later path is known from an earlier one. Behind
+contract itself names; that contract is `Ends` and, for `serve`, `ServesWords` in `crates/amf_cli/specs`, which `run`, `start` and
+`start_with_services` cite. Much of a later path is known from an earlier one. Behind
 each path stand the laws and worked facts about its definitions: theorems, and bytes and graphs worked out by hand. They are proved *about*
 the definitions, and are where to look first when one is in doubt. The appendix lists all files.
 
@@ -80,6 +81,7 @@ TITLES = {
     "amf_listings": "The listings of packets and of shared object files, and their laws",
     "flv_meta": "FLV script data",
     "rtmp_chunks": "RTMP chunk streams",
+    "rtmp_pass": "Chunk streams that are written again",
     "amf_vectors": "Values that are made",
     "amf_words": "The options of a command line",
     "amf_commands": "The commands of data",
@@ -91,6 +93,7 @@ TITLES = {
     "amf_http": "The HTTP front",
     "amf_once": "Polls that survive losses",
     "amf_client": "Calling the gateway",
+    "amf_calling": "One call over a dial",
     "amf_plan": "What a link is answered",
     "amf_plan_laws": "The laws of what a link is answered",
     "amf_flex_replies": "Replies to Flex clients",
@@ -103,12 +106,12 @@ TITLES = {
 # Files that say what is proved about the definitions: theorems, and bytes and graphs worked by hand.
 ABOUT = re.compile(r"Worked|Laws|Facts$|^Agreement|^OneShortest$|^GraftKeeps$|^Tried$")
 
-# What the contract of `run` cites for `serve` alone, and for the other commands alone.
-OF_SERVE = ["amf_service.", "amf_plan.", "amf_workers.", "amf_cli.", "amf_commands.Commands.ReadsServe", "amf_commands.Commands.IsServing"]
+# What the promises of a run name for `serve` alone, and for the other commands alone.
+OF_SERVE = ["amf_service.", "amf_plan.", "amf_gateway.", "amf_workers.", "amf_cli.", "amf_commands.Commands.ReadsServe", "amf_commands.Commands.IsServing"]
 OF_DATA = ["amf_commands.Run.", "amf_commands.Input.", "amf_commands.Commands.Reads", "amf_graph."]
 
 # What serves none of the four promises.
-OTHERS = ["amf_vectors", "amf_once", "amf_client", "flv_meta", "rtmp_chunks"]
+OTHERS = ["amf_vectors", "amf_once", "amf_client", "amf_calling", "flv_meta", "rtmp_chunks", "rtmp_pass"]
 
 # For each promise: its words, what is cited for other commands alone, and the crates or files that speak of other commands and formats.
 PATHS = [
@@ -202,10 +205,10 @@ def load():
 
 
 def cited(files, left_out):
-    """What the contract of `run` cites, but what is left out, by its name or by a beginning that ends in a dot, and what are devices."""
-    names, _ = imports_of(RUN.read_text().splitlines())
+    """What the promises of a run name, but what is left out, by its name or by a beginning that ends in a dot, and what are devices."""
+    names = [told for file in RUN for told in imports_of(file.read_text().splitlines())[0].values()]
     found = []
-    for crate, module, name in names.values():
+    for crate, module, name in dict.fromkeys(names):
         specs, told = files.get(f"{crate}.{module}"), f"{crate}.{module}.{name}"
         is_left_out = any(told.startswith(one) if one.endswith(".") else told == one for one in left_out)
         if specs and not specs.is_device and not is_left_out:
