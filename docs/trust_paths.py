@@ -25,9 +25,9 @@ what is promised. The toolchain, and what else is trusted, are named in [PROMISE
 Nobody has to read all of them. Each of the four paths below lists what one promise rests on, in an order in which it can be read: each file
 with those of its definitions that the promise needs, and how many lines these have. A path ends with the definitions that the program's
 contract itself names; that contract is `Ends` and, for `serve`, `ServesWords` in `crates/amf_cli/specs`, which `run`, `start` and
-`start_with_services` cite. Much of a later path is known from an earlier one. Behind
-each path stand the laws and worked facts about its definitions: theorems, and bytes and graphs worked out by hand. They are proved *about*
-the definitions, and are where to look first when one is in doubt. The appendix lists all files.
+`start_with_services` cite, the last of the services in `shipped` of `crates/amf_service/specs/Shipped.antt`. Much of a later path is known
+from an earlier one. Behind each path stand the laws and worked facts about its definitions: theorems, and bytes and graphs worked out by
+hand. They are proved *about* the definitions, and are where to look first when one is in doubt. The appendix lists all files.
 
 This page is written by `docs/trust_paths.py`, which follows the imports; what it says of a file is the file's own first line.
 
@@ -105,6 +105,9 @@ TITLES = {
 
 # Files that say what is proved about the definitions: theorems, and bytes and graphs worked by hand.
 ABOUT = re.compile(r"Worked|Laws|Facts$|^Agreement|^OneShortest$|^GraftKeeps$|^Tried$")
+
+# What the program's own promise says of its services.
+SHIPPED = ("amf_service", "Shipped", "shipped")
 
 # What the promises of a run name for `serve` alone, and for the other commands alone.
 OF_SERVE = ["amf_service.", "amf_plan.", "amf_gateway.", "amf_workers.", "amf_cli.", "amf_commands.Commands.ReadsServe", "amf_commands.Commands.IsServing"]
@@ -206,7 +209,7 @@ def load():
 
 def cited(files, left_out):
     """What the promises of a run name, but what is left out, by its name or by a beginning that ends in a dot, and what are devices."""
-    names = [told for file in RUN for told in imports_of(file.read_text().splitlines())[0].values()]
+    names = [told for file in RUN for told in imports_of(file.read_text().splitlines())[0].values()] + [SHIPPED]
     found = []
     for crate, module, name in dict.fromkeys(names):
         specs, told = files.get(f"{crate}.{module}"), f"{crate}.{module}.{name}"
@@ -307,6 +310,8 @@ def link(specs):
 def path_of(files, known, title, promise, left_out, stops):
     """The section on one promise. What is known from the sections above is counted apart, and what is new becomes known."""
     needed, types, others, stopped = closure(files, cited(files, left_out), stops)
+    for record in ["ServesWords", "Outside"] if left_out is OF_DATA else ["Ends"]:
+        needed[f"amf_cli.{record}"] = set(files[f"amf_cli.{record}"].blocks)
     order = in_order(files, needed)
     out, total, fresh = [], 0, 0
     for place, key in enumerate(order, 1):
