@@ -3,6 +3,7 @@
 #![tactic(auto)]
 
 mod facts;
+mod flv_job;
 mod head;
 mod laws;
 mod meta_bytes;
@@ -15,6 +16,7 @@ mod tag;
 mod tag_fields;
 
 pub use facts::worked_files;
+pub use flv_job::FlvJob;
 pub use head::read_head;
 pub use laws::{
     file_faults_are_first, files_fix_next_kind, files_have_one_verdict, metadata_laws,
