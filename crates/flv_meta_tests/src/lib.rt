@@ -6,4 +6,8 @@ mod checks;
 #[cfg(test)]
 mod file_tests;
 #[cfg(test)]
+mod meta_tag_tests;
+#[cfg(test)]
+mod metadata_tests;
+#[cfg(test)]
 mod walk;
