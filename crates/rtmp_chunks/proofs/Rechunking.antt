@@ -13,7 +13,7 @@ use Rattle.amf_io.proofs.Paths.{bind_runs, flat-append}
 use Rattle.rtmp_chunks.specs.Chunk.{three, format_of, id_of, stamp_in, is_extended, time_sum, full_head, same_stream, same_size, repeated, filled, Head, Message, message_of, is_whole, whole_message, is_drop, Unfinished}
 use Rattle.rtmp_chunks.specs.Stream.{Chunk, chunk_bytes, IsBasic, stamp_of, header_before, IsChunkStream}
 use Rattle.rtmp_chunks.specs.Machine.{Slot, Fresh, Idle, Busy, State, start, dropped, dropped_by, put, slot_of, head_layout, chunk_layout}
-use Rattle.rtmp_chunks.specs.Push.{IsPushed}
+use Rattle.rtmp_chunks.specs.Push.{IsPushed, IsPushable}
 use Rattle.rtmp_chunks.specs.Rechunk.{others, size_message, size_messages, Rechunked}
 use Rattle.rtmp_chunks.proofs.ChunkFields.{Fits, FitsIn, head_in, came_in, state_behind, chunk_read}
 use Rattle.rtmp_chunks.proofs.Pieces.{GoodSlot, lesser_le}
@@ -79,12 +79,9 @@ FitSlot Fresh = Unit {0}
 FitSlot (Idle h) = FitHead h
 FitSlot (Busy h came) = FitHead h × AreBytes came
 
-abbrev Writes : Message → Type 0
-Writes m = (m.type ≡ 1 → ⊥) → IsPushed m
-
 record IsFit (s : State) : Type 0 where
   slots : (id : ℕ) → FitSlot (s.slots id)
-  messages : AllByRecursion Writes s.messages
+  messages : AllByRecursion IsPushable s.messages
 
 head_fit : (slot : Slot) (c : Chunk) → FitSlot slot → AreBytes c.header → AreBytes c.extended → FitHead (head_in slot c)
 head_fit Fresh c f h e = filled_fit (format_of c.basic) c.header (stamp_of c) (header_before None) none_fit h (stamp_below c h e)
@@ -108,7 +105,7 @@ abbrev IsOne : ℕ → Type 0
 IsOne n = 1 ≡ n
 
 -- the numbers of chunk streams
-id_fits : (b : List ℕ) → IsBasic b → AreBytes b → (2 ≤ id_of b) × (id_of b ≤ 65599)
+pub id_fits : (b : List ℕ) → IsBasic b → AreBytes b → (2 ≤ id_of b) × (id_of b ≤ 65599)
 id_fits [] e h = absurd e
 id_fits (b ∷ []) e h = by (b % 64) (mod-lt b some) (eqb (b % 64) 0) (eqb (b % 64) 1) refl refl e
   where
@@ -144,7 +141,7 @@ both P (m ∷ a) b p q = (p.0, both P a b p.1 q)
 fit_step : (s : State) (c : Chunk) → IsGood s → IsFit s → Fits s c → AreBytes (chunk_bytes c) → IsFit (state_behind s c)
 fit_step s c g f fits b = record {
   slots = λ j. fit_behind j (is_whole head bytes) (message_of id head bytes) (put id (slot_of head bytes) s.slots j) (by_slot j (eqb id j) (is_whole head bytes));
-  messages = both Writes s.messages (whole_message id head bytes) f.messages (by_message (is_whole head bytes));
+  messages = both IsPushable s.messages (whole_message id head bytes) f.messages (by_message (is_whole head bytes));
 }
   where
     id : ℕ
@@ -176,14 +173,14 @@ fit_step s c g f fits b = record {
     by_slot j true false = (fit, are_bytes)
     by_slot j false w = f.slots j
 
-    pushed : Writes (message_of (id_of c.basic) (head_in (s.slots (id_of c.basic)) c) (came_in (s.slots (id_of c.basic)) ++ c.content))
+    pushed : IsPushable (message_of (id_of c.basic) (head_in (s.slots (id_of c.basic)) c) (came_in (s.slots (id_of c.basic)) ++ c.content))
     pushed other =
         let i = id_fits c.basic fits.basic (bytes_front c.basic (c.header ++ (c.extended ++ c.content)) b) in
         let le = no_more (s.slots (id_of c.basic)) s.size c (g.slots (id_of c.basic)) fits.fits in
         let most = fit.size in
         record { least = i.0; most = i.1; short = omega (arith, le, most); type = fit.type; stream = fit.stream; time = fit.time; bytes = are_bytes; four = λ one. absurd (other one); number = λ one. absurd (other one) }
 
-    by_message : (w : Bool) → AllByRecursion Writes (cond w (message_of (id_of c.basic) (head_in (s.slots (id_of c.basic)) c) (came_in (s.slots (id_of c.basic)) ++ c.content) ∷ []) [])
+    by_message : (w : Bool) → AllByRecursion IsPushable (cond w (message_of (id_of c.basic) (head_in (s.slots (id_of c.basic)) c) (came_in (s.slots (id_of c.basic)) ++ c.content) ∷ []) [])
     by_message true = (pushed, tt)
     by_message false = tt
 
@@ -199,15 +196,15 @@ fit_steps (suc m) s t fs g f b r =
 start_fit : IsFit start
 start_fit = record { slots = λ id. tt; messages = tt }
 
-written : (input : List ℕ) (messages : List Message) (open_ones : List Unfinished) → AreBytes input → IsChunkStream input messages open_ones → AllByRecursion Writes messages
+written : (input : List ℕ) (messages : List Message) (open_ones : List Unfinished) → AreBytes input → IsChunkStream input messages open_ones → AllByRecursion IsPushable messages
 written input messages open_ones b stream =
     let x = streams_are_read input messages open_ones stream in
     let a = bind_runs head_layout (λ s. steps chunk_layout x.count s) x.fields x.last x.runs in
     let all : AreBytes (flat a.front ++ flat a.back) = subst AreBytes (sym x.bytes ∙ ap flat a.parts ∙ flat-append a.front a.back) b in
     let begins : a.value ≡ start = (handshake_read a.front a.value a.first).begins in
-    subst (λ l. AllByRecursion Writes l) x.told (fit_steps x.count start x.last a.back start_good start_fit (bytes_back (flat a.front) (flat a.back) all) (subst (λ s. Runs (steps chunk_layout x.count s) a.back x.last) begins a.second)).messages
+    subst (λ l. AllByRecursion IsPushable l) x.told (fit_steps x.count start x.last a.back start_good start_fit (bytes_back (flat a.front) (flat a.back) all) (subst (λ s. Runs (steps chunk_layout x.count s) a.back x.last) begins a.second)).messages
 
-others_pushed : (ms : List Message) → AllByRecursion Writes ms → AllByRecursion IsPushed (others ms)
+others_pushed : (ms : List Message) → AllByRecursion IsPushable ms → AllByRecursion IsPushed (others ms)
 others_pushed [] h = tt
 others_pushed (m ∷ ms) h = by (eqb m.type 1) refl (others_pushed ms h.1)
   where

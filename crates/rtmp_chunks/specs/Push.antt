@@ -53,6 +53,10 @@ pub record IsPushed (m : Message) : Type 0 where
   pub four : m.type ≡ 1 → length m.bytes ≡ 4
   pub number : m.type ≡ 1 → (0 < number_of m.bytes) × (number_of m.bytes < 2147483648)
 
+-- a message that is written, where it sets no chunk size
+abbrev pub IsPushable : Message → Type 0
+IsPushable m = (m.type ≡ 1 → ⊥) → IsPushed m
+
 -- a message of type 1 sets a chunk size from 1 to 2^31-1 (5.4.1)
 abbrev pub sets_no_size : Message → Bool
 sets_no_size m = (m.type == 1) && (not (length m.bytes == 4) || ((number_of m.bytes == 0) || nat_le 2147483648 (number_of m.bytes)))

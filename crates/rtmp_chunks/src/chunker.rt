@@ -3,7 +3,8 @@ ghost use Rattle.amf_io.specs.Field.{AreBytes};
 ghost use Rattle.rtmp_chunks.specs.declared.chunker.ChunkEnd.{ChunkEnd as End};
 ghost use Rattle.rtmp_chunks.specs.declared.chunker.ChunkEnd.TheVariants.{Memory};
 ghost use Rattle.rtmp_chunks.specs.Chunk.{lesser};
-ghost use Rattle.rtmp_chunks.specs.Push.{basic_header, three_bytes, extended_field, message_header, later_chunks, pushed, size_then, size_of, IsPushed, sets_no_size, refusal_of};
+ghost use Rattle.rtmp_chunks.specs.Push.{basic_header, three_bytes, extended_field, message_header, later_chunks, pushed};
+ghost use Rattle.rtmp_chunks.specs.Push.{size_then, size_of, IsPushed, IsPushable, sets_no_size, refusal_of};
 ghost use Rattle.rtmp_chunks.specs.Table.{message_seen};
 
 use crate::headers::number_in;
@@ -81,7 +82,9 @@ fn push_later(id: u32, time: u32, piece: &[u8], out: &mut Vec<u8>) -> Result<(),
 fn push_first(m: &Message, piece: &[u8], out: &mut Vec<u8>) -> Result<(), AllocError>
     requires id { m.now.id ≤ 65599 }
     requires short { length m.now.bytes ≤ 16777215 }
-    ensures { OnOk result (out.new.items ≡ out.old.items ++ (basic_header 0 m.now.id ++ (message_header (message_seen m.now) ++ (extended_field m.now.time ++ piece.now)))) }
+    ensures { OnOk result
+        (out.new.items ≡ out.old.items ++
+        (basic_header 0 m.now.id ++ (message_header (message_seen m.now) ++ (extended_field m.now.time ++ piece.now)))) }
 {
     push_basic(0, m.id, out)?;
     push_header(m, out)?;
@@ -106,7 +109,8 @@ fn cut(bytes: &[u8], size: u32) -> (&[u8], &[u8])
 fn push_rest(size: u32, m: &Message, rest: &[u8], out: &mut Vec<u8>) -> Result<(), AllocError>
     requires id { m.now.id ≤ 65599 }
     requires size { 0 < size }
-    ensures { OnOk result ((fuel : ℕ) → length rest.now ≤ fuel → out.new.items ≡ out.old.items ++ later_chunks fuel size (basic_header 3 m.now.id) (extended_field m.now.time) rest.now) }
+    ensures { OnOk result ((fuel : ℕ) → length rest.now ≤ fuel
+        → out.new.items ≡ out.old.items ++ later_chunks fuel size (basic_header 3 m.now.id) (extended_field m.now.time) rest.now) }
 {
     let mut left = rest;
     while !left.is_empty() {
@@ -128,6 +132,15 @@ fn write(size: u32, m: &Message, out: &mut Vec<u8>) -> Result<(), AllocError>
     push_first(m, piece, out)?;
     push_rest(size, m, rest, out)?;
     Ok(())
+}
+
+/// No fewer bytes than a message takes: 18 at most before its data, and 7 at most before those of each later chunk.
+fn room_for(size: u32, m: &Message) -> usize
+    requires size { 0 < size }
+    requires short { length m.now.bytes ≤ 16777215 }
+{
+    let count = m.bytes.as_slice().len();
+    count + 18 + 7 * (count / size as usize)
 }
 
 /// Why a message is not written (sections of Adobe's RTMP specification 1.0).
@@ -192,6 +205,17 @@ fn is_pushed(m: &Message)
     are_bytes(m.bytes.as_slice());
 }
 
+/// A message that was read is one that can be written, where it sets no chunk size.
+pub(crate) fn is_pushable(m: &Message)
+    requires least { 2 ≤ m.now.id }
+    requires most { m.now.id ≤ 65599 }
+    requires short { length m.now.bytes ≤ 16777215 }
+    ensures { IsPushable (message_seen m.now) }
+{
+    are_in_range(m.kind, m.stream, m.time);
+    are_bytes(m.bytes.as_slice());
+}
+
 impl Chunker {
     /// Chunks have 128 bytes until a message sets another size (5.4.1).
     pub fn new() -> Chunker
@@ -217,7 +241,9 @@ impl Chunker {
             return Err(end);
         }
         is_pushed(m);
-        let mut bytes = Vec::new(alloc);
+        let Ok(mut bytes) = Vec::with_capacity(alloc, room_for(self.size, m)) else {
+            return Err(ChunkEnd::Memory);
+        };
         if write(self.size, m, &mut bytes).is_err() {
             return Err(ChunkEnd::Memory);
         }

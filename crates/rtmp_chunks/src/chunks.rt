@@ -5,14 +5,16 @@ ghost use Rattle.amf_io.specs.CursorReads.{Answers};
 ghost use Rattle.amf_io.specs.Stretch.{between};
 ghost use Rattle.rtmp_chunks.specs.Chunk.{size_behind, whole_message};
 ghost use Rattle.rtmp_chunks.specs.Machine.{start, put, slot_of, dropped_by, chunk_layout};
+ghost use Rattle.rtmp_chunks.specs.Push.{IsPushable};
 ghost use Rattle.rtmp_chunks.specs.Reader.{AnswersNext};
 ghost use Rattle.rtmp_chunks.specs.Table.{head_seen, slots_seen, message_seen, made, made_by, opens_seen, state_seen, held, listed, ListsAll};
 
-use crate::data::{read_part, refuses};
+use crate::chunker::is_pushable;
+use crate::data::read_part;
 use crate::fields::{format_in, id_in, read_basic};
 use crate::headers::number_in;
 use crate::parts::{Chunks, Message, MessageBytes, Open, Part, Slot};
-use crate::table::{drop_unfinished, list_unfinished, make_room, take_slot};
+use crate::table::{drop_unfinished, is_refused, list_unfinished, make_room, take_slot};
 use amf_io::{Cursor, ReadEnd, Reason, Source, refused};
 use amf_wire::Memory;
 use std::alloc::Global;
@@ -71,10 +73,14 @@ impl Chunks {
 
     /// These bytes of a message came: it may be whole.
     fn came(&mut self, id: u32, part: Part) -> Option<Message>
-        requires { id < length self.old.slots.items }
+        requires room { id < length self.old.slots.items }
+        requires least { 2 ≤ id }
         ensures made { made result ≡ whole_message id (head_seen part.head) part.bytes.items }
+        ensures pushable { IfSome result (λ message. IsPushable (message_seen message)) }
         ensures size { self.new.size ≡ size_behind self.old.size (made result) }
-        ensures slots { (j : ℕ) → slots_seen self.new.slots.items j ≡ dropped_by j (made result) (put id (slot_of (head_seen part.head) part.bytes.items) (slots_seen self.old.slots.items) j) }
+        ensures slots { (j : ℕ)
+            → slots_seen self.new.slots.items j ≡ dropped_by j (made result)
+            (put id (slot_of (head_seen part.head) part.bytes.items) (slots_seen self.old.slots.items) j) }
         ensures listed { self.new.unfinished.items ≡ self.old.unfinished.items }
     {
         let place = id as usize;
@@ -91,31 +97,35 @@ impl Chunks {
             time: head.time,
             bytes: MessageBytes::of_vec(part.bytes),
         };
+        is_pushable(&message);
         self.obey(&message);
         Some(message)
     }
 
-    /// Reads a chunk, and gives the message that it makes whole.
+    /// Reads a chunk, and gives the message that it makes whole. Its basic header goes through a buffer.
     fn chunk<S: Source>(
         &mut self,
         alloc: Global,
         cursor: &mut Cursor<'_, S>,
+        header: &mut Vec<u8>,
     ) -> Result<Option<Message>, ReadEnd>
         ensures goes { Goes S.tells S.left S.faults cursor.old cursor.new result }
-        ensures answers { Answers S.tells S.left (λ it. state_seen self.new.size self.new.slots.items (made it)) (chunk_layout (state_seen self.old.size self.old.slots.items [])) cursor.old cursor.new result }
+        ensures answers { Answers S.tells S.left (λ it. state_seen self.new.size self.new.slots.items (made it))
+            (chunk_layout (state_seen self.old.size self.old.slots.items [])) cursor.old cursor.new result }
         ensures placed { OnOk result (IsPlaced cursor.new) }
         ensures moves { OnOk result (place cursor.old < place cursor.new) }
         ensures listed { OnOk result (self.new.unfinished.items ≡ self.old.unfinished.items) }
+        ensures pushable { IfOk result (λ it. IfSome it (λ message. IsPushable (message_seen message))) }
     {
         let start = cursor.at();
-        let basic = read_basic(alloc, cursor)?;
-        let id = id_in(&basic);
-        let format = format_in(&basic);
-        make_room(&mut self.slots, id)?;
-        let slot = take_slot(&mut self.slots, id);
-        if refuses(&slot, format) {
+        read_basic(cursor, header)?;
+        let id = id_in(header);
+        let format = format_in(header);
+        if is_refused(&self.slots, id, format) {
             return Err(refused(Reason::BadChunk, start));
         }
+        make_room(&mut self.slots, id)?;
+        let slot = take_slot(&mut self.slots, id);
         let part = read_part(alloc, cursor, self.size, format, slot)?;
         Ok(self.came(id, part))
     }
@@ -123,7 +133,8 @@ impl Chunks {
     /// Reads to the end of the next message, and no further. There is none exactly where the input ends between chunks before
     /// another message is whole. `BadChunk` and `BadChunkSize` stand at the field that is refused: a format that cannot stand
     /// (5.3.1.2), a message of type 1 whose length is not 4, or whose number is 0 or above 2^31-1 (5.4.1). A refusal or a read that
-    /// fails comes only once each message before it was given. Its memory grows only as bytes come, but for the table. After an end
+    /// fails comes only once each message before it was given. A message that sets no chunk size can be written: [`Chunker::push`]
+    /// refuses none of them. Its memory grows only as bytes come, but for the table. After an end
     /// the `Chunks` and the cursor must not be used again.
     pub fn next<S: Source>(
         &mut self,
@@ -134,11 +145,13 @@ impl Chunks {
         ensures answers { AnswersNext message_seen (held self.old []) (held self.new (made_by result)) (between S.tells S.left cursor.old cursor.new) result }
         ensures open { IfOk result (λ it. it ≡ None → ListsAll self.new) }
         ensures kept { IfOk result (λ it. IfSome it (λ message. listed self.new ≡ listed self.old)) }
+        ensures pushable { IfOk result (λ it. IfSome it (λ message. IsPushable (message_seen message))) }
     {
         // What is true of every cursor.
         let _start = cursor.at();
+        let mut header = Vec::new(alloc);
         while !is_over(cursor)? {
-            if let Some(message) = self.chunk(alloc, cursor)? {
+            if let Some(message) = self.chunk(alloc, cursor, &mut header)? {
                 return Ok(Some(message));
             }
         }

@@ -3,7 +3,6 @@ ghost use Rattle.amf_io.specs.Layout.{bind};
 ghost use Rattle.amf_io.specs.ReadEnds.{IsPlaced, Goes};
 ghost use Rattle.amf_io.specs.CursorReads.{Answers};
 ghost use Rattle.rtmp_chunks.specs.Chunk.{lesser, number_of};
-ghost use Rattle.rtmp_chunks.specs.Machine.{refused_in};
 ghost use Rattle.rtmp_chunks.specs.Table.{head_seen, slot_seen, part_seen, begun, taken_by, part_layout};
 
 use crate::headers::{number_in, pass_extended, read_head};
@@ -64,17 +63,6 @@ fn begin<S: Source>(
     let head = read_head(alloc, cursor, format, before)?;
     let bytes = Vec::new(alloc);
     read_data(cursor, size, Part { head, bytes })
-}
-
-/// Whether a chunk of this format cannot stand here in its chunk stream.
-pub(crate) fn refuses(slot: &Slot, format: u8) -> bool
-    ensures { result ≡ refused_in (slot_seen slot.now) format }
-{
-    match slot {
-        Slot::Fresh => 0 < format,
-        Slot::Idle(_) => false,
-        Slot::Busy(_) => format < 3,
-    }
 }
 
 /// Reads a chunk behind its basic header: its message as far as it came.

@@ -1,4 +1,4 @@
-ghost use Rattle.std.specs.Prelude.{◌≡◌, ◌<◌, length, OnOk, IfOk};
+ghost use Rattle.std.specs.Prelude.{◌≡◌, ◌<◌, ◌≤◌, length, OnOk, IfOk};
 ghost use Rattle.amf_io.specs.Field.{fixed, basic};
 ghost use Rattle.amf_io.specs.ReadEnds.{IsPlaced, Goes};
 ghost use Rattle.amf_io.specs.CursorReads.{AnswersField};
@@ -25,20 +25,20 @@ pub(crate) fn read_field<S: Source>(
     Ok(bytes)
 }
 
-/// Reads a basic header.
+/// Reads a basic header, in place of what the buffer held.
 pub(crate) fn read_basic<S: Source>(
-    alloc: Global,
     cursor: &mut Cursor<'_, S>,
-) -> Result<Vec<u8>, ReadEnd>
+    header: &mut Vec<u8>,
+) -> Result<(), ReadEnd>
     ensures goes { Goes S.tells S.left S.faults cursor.old cursor.new result }
-    ensures field { AnswersField S.tells S.left (λ bytes. bytes.items) basic cursor.old cursor.new result }
-    ensures some { IfOk result (λ bytes. 0 < length bytes.items) }
+    ensures field { AnswersField S.tells S.left (λ done. header.new.items) basic cursor.old cursor.new result }
+    ensures some { OnOk result (0 < length header.new.items) }
+    ensures least { OnOk result (2 ≤ id_of header.new.items) }
     ensures placed { OnOk result (IsPlaced cursor.new) }
     ensures moves { OnOk result (place cursor.old < place cursor.new) }
 {
-    let mut bytes = Vec::new(alloc);
-    append_basic(cursor, &mut bytes)?;
-    Ok(bytes)
+    header.clear();
+    append_basic(cursor, header)
 }
 
 /// The format that a basic header has.

@@ -20,7 +20,8 @@ pub fn one_meaning()
     ensures one { OneMeaning }
 {}
 
-/// An input of bytes has one verdict: it is a chunk stream, or it is refused for one reason at one place.
+/// An input of bytes has one verdict: it is a chunk stream, or it is refused for one reason at one place; and a field that is
+/// refused is the first that is wrong.
 pub fn one_verdict()
     ensures judged { StreamsJudged }
 {}

@@ -12,6 +12,7 @@ pub(crate) struct Head {
     pub(crate) delta: u32,
     pub(crate) extended: bool,
     ghost four: { kind ≡ 1 → size ≡ 4 },
+    ghost small: { size < 16777216 },
 }
 
 impl Head {

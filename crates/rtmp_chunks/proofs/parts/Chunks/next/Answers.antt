@@ -12,20 +12,20 @@ pub returns-in_err-is_over-clause-answers : goal.returns-in_err-is_over-clause-a
 returns-in_err-is_over-clause-answers g c =
     let S = g.S.Source in
     let o = c.args.self.now in
-    let m = c.loop-self.self in
-    let i = c.loop-self.invariant in
+    let m = c.loop-header.self in
+    let i = c.loop-header.invariant in
     let h = c.in_err-is_over.ensures in
-    look_failed S.tells S.left S.faults message_seen (state_seen o.size o.slots.items []) (state_seen m.size m.slots.items []) c.args.cursor.now c.loop-self.cursor i.leads.0 i.leads.1 tt i.goes c.is_over.new.cursor
+    look_failed S.tells S.left S.faults message_seen (state_seen o.size o.slots.items []) (state_seen m.size m.slots.items []) c.args.cursor.now c.loop-header.cursor i.leads.0 i.leads.1 tt i.goes c.is_over.new.cursor
     (state_seen m.size m.slots.items (made_by c.from_residual.result)) c.from_residual.result c.in_err-is_over.field-0.0 c.from_residual.ensures.1 h.err h.same
 
 pub returns-in_err-message-clause-answers : goal.returns-in_err-message-clause-answers
 returns-in_err-message-clause-answers g c =
     let S = g.S.Source in
     let o = c.args.self.now in
-    let m = c.loop-self.self in
-    let i = c.loop-self.invariant in
+    let m = c.loop-header.self in
+    let i = c.loop-header.invariant in
     let k = c.args.cursor.now in
-    let d = c.loop-self.cursor in
+    let d = c.loop-header.cursor in
     let e = c.is_over.new.cursor in
     let h = c.in_ok-is_over.ensures in
     let b = c.in_ok-is_over.field-0 in
@@ -39,10 +39,10 @@ pub returns-in-Some-clause-answers : goal.returns-in-Some-clause-answers
 returns-in-Some-clause-answers g c =
     let S = g.S.Source in
     let o = c.args.self.now in
-    let m = c.loop-self.self in
-    let i = c.loop-self.invariant in
+    let m = c.loop-header.self in
+    let i = c.loop-header.invariant in
     let k = c.args.cursor.now in
-    let d = c.loop-self.cursor in
+    let d = c.loop-header.cursor in
     let e = c.is_over.new.cursor in
     let f = c.chunk.new.cursor in
     let h = c.in_ok-is_over.ensures in
@@ -56,16 +56,16 @@ returns-in-Some-clause-answers g c =
     (message_came S.tells S.left S.faults message_seen (state_seen o.size o.slots.items []) (state_seen m.size m.slots.items []) k e i.leads.0 l b w f (state_seen n.size n.slots.items (made it)) (message_seen c.in-Some.message) a.answers (ap made c.in-Some.is))
 
 pub returns-in-Some-clause-kept : goal.returns-in-Some-clause-kept
-returns-in-Some-clause-kept g c = ap opens_seen (c.in_ok-message.ensures.listed ∙ c.loop-self.invariant.listed)
+returns-in-Some-clause-kept g c = ap opens_seen (c.in_ok-message.ensures.listed ∙ c.loop-header.invariant.listed)
 
-pub loop-self-preserved : goal.loop-self-preserved
-loop-self-preserved g c =
+pub loop-header-preserved : goal.loop-header-preserved
+loop-header-preserved g c =
     let S = g.S.Source in
     let o = c.args.self.now in
-    let m = c.loop-self.self in
-    let i = c.loop-self.invariant in
+    let m = c.loop-header.self in
+    let i = c.loop-header.invariant in
     let k = c.args.cursor.now in
-    let d = c.loop-self.cursor in
+    let d = c.loop-header.cursor in
     let e = c.is_over.new.cursor in
     let f = c.chunk.new.cursor in
     let h = c.in_ok-is_over.ensures in
