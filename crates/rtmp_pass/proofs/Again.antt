@@ -1,12 +1,17 @@
 -- What a rechunker writes.
-use Rattle.std.proofs.Common.{◌≡◌, ℕ, ◌<◌, Bool, true, false, cond, eqb, Result, Ok, Err, OnOk, OnErr, List, [], ◌∷◌, ◌++◌, refl, sym, ap, ◌∙◌, arith, subst, append_assoc, eq-eqb}
+use Rattle.std.proofs.Common.{◌≡◌, ℕ, ◌<◌, ◌⊎◌, inl, inr, Some, Bool, true, false, cond, eqb, Result, Ok, Err, OnOk, OnErr, List, [], ◌∷◌, ◌++◌, refl, sym, ap, ◌∙◌, arith, subst, append_assoc, eq-eqb}
+use Rattle.std.specs.Int.{to_be_bytes, w32}
 use Rattle.std.proofs.lemmas.Bool.{eqb-true}
 use Rattle.std.proofs.lemmas.List.{append-nil}
 use Rattle.std.proofs.lemmas.Nat.{from_be_bytes-to_be_bytes_4}
 use Rattle.rtmp_chunks.specs.Chunk.{Message, number_of}
-use Rattle.rtmp_chunks.specs.Push.{pushed, pushed_all, size_then}
+use Rattle.amf_io.specs.Field.{AreBytes}
+use Rattle.rtmp_chunks.specs.declared.chunker.ChunkEnd.{ChunkEnd}
+use Rattle.rtmp_chunks.specs.declared.chunker.ChunkEnd.TheVariants.{Memory}
+use Rattle.rtmp_chunks.specs.Push.{pushed, pushed_all, size_then, IsPushed, refusal_of}
 use Rattle.rtmp_chunks.specs.Rechunk.{size_message, size_messages, others}
-use Rattle.rtmp_pass.specs.Pass.{AreSaid}
+use Rattle.rtmp_chunks.proofs.Refusals.{pushed_none}
+use Rattle.rtmp_pass.specs.Pass.{Appended, AreSaid}
 use Rattle.rtmp_pass.specs.Rechunk.{Repeats, RechunkedBytes}
 
 size_again : (size : ℕ) → size < 2147483648 → size_then 128 (size_message size) ≡ size
@@ -57,12 +62,16 @@ rechunked_bytes = λ size handshake ms out some lt g.
 pub repeats_none : (size : ℕ) (m : Message) → m.type ≡ 1 → Repeats size m []
 repeats_none size m e = ap (λ t. cond t [] (pushed size m)) (sym (eq-eqb m.type 1 e))
 
-pub repeats_one : (size old : ℕ) (m : Message) → old ≡ size → (m.type ≡ 1 → ⊥) → Repeats size m (pushed old m)
+repeats_one : (size old : ℕ) (m : Message) → old ≡ size → (m.type ≡ 1 → ⊥) → Repeats size m (pushed old m)
 repeats_one size old m e other = by (eqb m.type 1) refl
   where
     by : (t : Bool) → eqb m.type 1 ≡ t → pushed old m ≡ cond t [] (pushed size m)
     by true k = absurd (other (eqb-true m.type 1 k))
     by false k = ap (λ n. pushed n m) e
+
+pub said_one : {E : Type 0} (r : Result (Unit {0}) E) (size old : ℕ) (m : Message) (before now : List ℕ) → old ≡ size → (m.type ≡ 1 → ⊥) → OnOk r (now ≡ before ++ pushed old m) → OnOk r (Appended (Repeats size m) before now)
+said_one (Ok u) size old m before now e other k = (pushed old m, repeats_one size old m e other, k)
+said_one (Err x) size old m before now e other k = tt
 
 same_size : (old : ℕ) (m : Message) → (m.type ≡ 1 → ⊥) → size_then old m ≡ old
 same_size old m other = by (eqb m.type 1) refl
@@ -74,3 +83,31 @@ same_size old m other = by (eqb m.type 1) refl
 pub kept_size : {E : Type 0} (r : Result (Unit {0}) E) (size old new : ℕ) (m : Message) → old ≡ size → (m.type ≡ 1 → ⊥) → OnOk r (new ≡ size_then old m) → OnErr r (new ≡ old) → new ≡ size
 kept_size (Ok u) size old new m e other k l = k ∙ same_size old m other ∙ e
 kept_size (Err x) size old new m e other k l = l ∙ e
+
+-- What can be written is not refused.
+
+pub size_pushed : (size : ℕ) (m : Message) → 0 < size → size < 2147483648 → m ≡ size_message size → IsPushed m
+size_pushed size m some lt e = subst IsPushed (sym e) is
+  where
+    same : number_of (to_be_bytes w32 size) ≡ size
+    same = from_be_bytes-to_be_bytes_4 size (omega (arith, lt))
+
+    are_bytes : AreBytes (to_be_bytes w32 size)
+    are_bytes = (omega arith, (omega arith, (omega arith, (omega arith, tt))))
+
+    is : IsPushed (size_message size)
+    is = record {
+      least = omega arith;
+      most = omega arith;
+      short = omega arith;
+      type = omega arith;
+      stream = omega arith;
+      time = omega arith;
+      bytes = are_bytes;
+      four = λ one. refl;
+      number = λ one. (subst (λ n. 0 < n) (sym same) some, subst (λ n. n < 2147483648) (sym same) lt);
+    }
+
+pub only_memory : (m : Message) (end : ChunkEnd) → IsPushed m → (refusal_of m ≡ Some end) ⊎ (end ≡ Memory) → end ≡ Memory
+only_memory m end p (inl e) = let none = pushed_none m p in absurd cc
+only_memory m end p (inr e) = e

@@ -1,4 +1,5 @@
 pub mod Fronts
+pub mod Places
 pub mod Turns
 pub mod Streams
 pub mod Rests

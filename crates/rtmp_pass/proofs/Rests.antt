@@ -9,9 +9,10 @@ use Rattle.rtmp_chunks.specs.Chunk.{Message, Unfinished}
 use Rattle.rtmp_pass.specs.Written.{WritesFront}
 use Rattle.rtmp_pass.specs.declared.pass_end.PassEnd.{PassEnd}
 use Rattle.rtmp_pass.specs.declared.pass_end.PassEnd.TheVariants.{Refused, ReadFault, WriteFault, Memory}
-use Rattle.rtmp_pass.specs.Pass.{of_all, of_some, of_front, Passes, WroteAll, WroteSome, CountsReads, CountsWrites}
+use Rattle.rtmp_pass.specs.Pass.{of_all, Passes, WroteAll, WroteSome, CountsReads, CountsWrites}
 use Rattle.rtmp_pass.specs.Ends.{reading}
 use Rattle.rtmp_pass.specs.Reads.{PutAll, PutSome, lost}
+use Rattle.rtmp_pass.proofs.Places.{may_give_front, may_give_before}
 
 none_left : (front rest : List ℕ) → front ++ rest ≡ [] → rest ≡ []
 none_left [] rest e = e
@@ -45,7 +46,7 @@ module _ (Begins : List ℕ → List ℕ → Type 0) (Says : Message → List �
     lost_passes (Err (Refused f)) e k = absurd cc
     lost_passes (Err ReadFault) e k = absurd cc
     lost_passes (Err WriteFault) e (out, m, p) = (out, m, λ t. let q = p t in record { front = q.1.front; rest = q.0; parts = q.1.parts; added = q.1.added })
-    lost_passes (Err Memory) e k = tt
+    lost_passes (Err Memory) e (out, m, p) = (out, m, λ t. let q = p t in record { front = q.1.front; rest = q.0; parts = q.1.parts; added = q.1.added })
 
     module _ (more : Type 0) (go : more → told) (next : List ℕ) where
       wrote_all : (out : List ℕ) → (more → next ≡ now ++ waiting) → PutAll told held now waiting out → WroteAll more held next out
@@ -76,8 +77,8 @@ module _ (Begins : List ℕ → List ℕ → Type 0) (Says : Message → List �
       pub failed_passes : (r : Result (Unit {0}) PassEnd) → lost r ≡ false → (more → WritesFront now next waiting) → Passes Begins Says Ends input rest (PutAll told held now waiting) (PutSome told held now) r
           → Passes {T = Unit {0}} Begins Says Ends input rest (WroteAll more held next) (WroteSome more held next) (Err WriteFault)
       failed_passes (Ok u) l e (out, o, a, n) = (out, of_all o, wrote_some out e a)
-      failed_passes (Err (Refused f)) l e (out, v, g, a) = (out, of_some f.at g, wrote_some out e a)
-      failed_passes (Err ReadFault) l e (out, v, g, a) = (out, of_front rest g, wrote_some out e a)
+      failed_passes (Err (Refused f)) l e (out, v, g, a) = (out, may_give_before Begins Says Ends input out f.reason f.at v g, wrote_some out e a)
+      failed_passes (Err ReadFault) l e (out, v, g, a) = (out, may_give_front Begins Says Ends input rest out v g, wrote_some out e a)
       failed_passes (Err WriteFault) l e k = absurd cc
       failed_passes (Err Memory) l e k = absurd cc
 

@@ -159,11 +159,11 @@ fault_here s input at limit le = (
 
 -- The ends.
 
-pub took_end : (Says : Message → List ℕ → Type 0) (s t : State) (x : Stretch) (All Part : List ℕ → Type 0) (e : ReadEnd) (r : Result (Unit {0}) PassEnd) → IsErrAnd r (λ z. z ≡ end_of e) → Taken Says (Err e) s t x All → Takes Says s t x All Part r
-took_end Says s t x All Part e (Ok u) h k = absurd h
-took_end Says s t x All Part (reader.Refused f) (Err z) h k = subst (λ w. Takes {T = Unit {0}} Says s t x All Part (Err w)) (sym h) k
-took_end Says s t x All Part reader.ReadFault (Err z) h k = subst (λ w. Takes {T = Unit {0}} Says s t x All Part (Err w)) (sym h) k
-took_end Says s t x All Part reader.Memory (Err z) h k = subst (λ w. Takes {T = Unit {0}} Says s t x All Part (Err w)) (sym h) tt
+pub took_end : (Says : Message → List ℕ → Type 0) (s t : State) (x : Stretch) (All Part : List ℕ → Type 0) (e : ReadEnd) (r : Result (Unit {0}) PassEnd) → IsErrAnd r (λ z. z ≡ end_of e) → Taken Says (Err e) s t x All → Takes {T = Unit {0}} Says s t x All Part (Err Memory) → Takes Says s t x All Part r
+took_end Says s t x All Part e (Ok u) h k m = absurd h
+took_end Says s t x All Part (reader.Refused f) (Err z) h k m = subst (λ w. Takes {T = Unit {0}} Says s t x All Part (Err w)) (sym h) k
+took_end Says s t x All Part reader.ReadFault (Err z) h k m = subst (λ w. Takes {T = Unit {0}} Says s t x All Part (Err w)) (sym h) k
+took_end Says s t x All Part reader.Memory (Err z) h k m = subst (λ w. Takes {T = Unit {0}} Says s t x All Part (Err w)) (sym h) m
 
 pub counts_spent : (before now : ℕ) (r : Result (Unit {0}) PassEnd) → IsErrAnd r (λ e. e ≡ Memory) → now ≡ before → CountsWrites before now r
 counts_spent before now (Ok u) h p = absurd h
@@ -196,6 +196,29 @@ module _ (Says : Message → List ℕ → Type 0) (s u v t : State) (input mid r
       let z = taken Says s (settled v) input rest at place limit (PutsSome more held next old) w (Err reader.ReadFault) (settled v) rest place (fault_here (settled v) rest place limit (message_within (λ (m : Message). m) u v (stretch (Unit {0}) mid rest between place limit) m a)) in
       (rest, place, record { messages = z.messages; later = z.later; said = z.said; calls = any_state (Err reader.ReadFault) z.messages s (settled v) t (stretch (Unit {0}) input rest at place limit) tt z.calls; put = z.put })
 
+-- Memory ran out behind the messages that were taken.
+
+pub placed_within : (place bound limit : ℕ) → place ≤ bound → bound ≡ limit → place ≤ limit
+placed_within place bound limit le e = omega arith
+
+pub some_none : (told : Type 0) (held waits : List ℕ) → PutsSome told held held waits []
+some_none told held waits = λ t before all p. (waits, puts_none told held waits t before all p)
+
+module _ (Says : Message → List ℕ → Type 0) (s u t : State) (input mid : List ℕ) (at between limit : ℕ) (told more : Type 0) (go : more → told) (held now next old waiting : List ℕ) (f : SoFar Says s u input mid at between limit (Puts told held now old waiting)) where
+  pub spent_behind : (All : List ℕ → Type 0) (last : List ℕ) (end : ℕ) → between ≤ limit → PutsSome more now next waiting [] → Takes {T = Unit {0}} Says s t (stretch (Unit {0}) input last at end limit) All (PutsSome more held next old) (Err Memory)
+  spent_behind All last end le k =
+      let z = taken Says s u input mid at between limit (Puts told held now old waiting) f (Err reader.ReadFault) u mid between (fault_here u mid between limit le) in (
+        mid,
+        between,
+        record {
+          messages = z.messages;
+          later = z.later;
+          said = z.said;
+          calls = any_state (Err reader.ReadFault) z.messages s u t (stretch (Unit {0}) input mid at between limit) tt z.calls;
+          put = subst (λ l. PutsSome more held next old l) (append-nil z.later) (puts_some told more go held now next old waiting z.later [] z.put k);
+        },
+      )
+
 -- How an end is passed on.
 
 reading_end : (e : ReadEnd) → reading {T = Unit {0}} (Err (end_of e)) ≡ Err e
@@ -225,12 +248,16 @@ module _ {S : Type 0} (tells : S → Type 0) (left : S → List ℕ) (faults : S
   handed_goes Says All Part Memory (Err z) h k g = subst (λ w. Goes {X = Unit {0}} tells left faults c d (reading {T = Unit {0}} (Err w))) (sym h) (goes_spent tells left faults c d tt g)
 
 pub handed_takes : (Says All Part : List ℕ → Type 0) (Each : Message → List ℕ → Type 0) (s t : State) (x : Stretch) (Whole Front : List ℕ → Type 0) (e : PassEnd) (r : Result (Unit {0}) PassEnd) → IsErrAnd r (λ z. z ≡ e) → Hands {T = Unit {0}} Says All Part (Err e)
-    → ((b : List ℕ) → Says b → Part b → Takes {T = Unit {0}} Each s t x Whole Front (Err WriteFault)) → Takes Each s t x Whole Front r
-handed_takes Says All Part Each s t x Whole Front e (Ok u) h k w = absurd h
-handed_takes Says All Part Each s t x Whole Front (Refused f) (Err z) h k w = absurd k
-handed_takes Says All Part Each s t x Whole Front ReadFault (Err z) h k w = absurd k
-handed_takes Says All Part Each s t x Whole Front WriteFault (Err z) h k w = subst (λ y. Takes {T = Unit {0}} Each s t x Whole Front (Err y)) (sym h) (w k.0 k.1 k.2)
-handed_takes Says All Part Each s t x Whole Front Memory (Err z) h k w = subst (λ y. Takes {T = Unit {0}} Each s t x Whole Front (Err y)) (sym h) tt
+    → ((b : List ℕ) → Says b → Part b → Takes {T = Unit {0}} Each s t x Whole Front (Err WriteFault)) → (Part [] → Takes {T = Unit {0}} Each s t x Whole Front (Err Memory)) → Takes Each s t x Whole Front r
+handed_takes Says All Part Each s t x Whole Front e (Ok u) h k w n = absurd h
+handed_takes Says All Part Each s t x Whole Front (Refused f) (Err z) h k w n = absurd k
+handed_takes Says All Part Each s t x Whole Front ReadFault (Err z) h k w n = absurd k
+handed_takes Says All Part Each s t x Whole Front WriteFault (Err z) h k w n = subst (λ y. Takes {T = Unit {0}} Each s t x Whole Front (Err y)) (sym h) (w k.0 k.1 k.2)
+handed_takes Says All Part Each s t x Whole Front Memory (Err z) h k w n = subst (λ y. Takes {T = Unit {0}} Each s t x Whole Front (Err y)) (sym h) (n k)
+
+pub handed_none : (Says All Part : List ℕ → Type 0) (r : Result (Unit {0}) PassEnd) → IsErrAnd r (λ z. z ≡ Memory) → Part [] → Hands Says All Part r
+handed_none Says All Part (Ok u) h p = absurd h
+handed_none Says All Part (Err z) h p = subst (λ w. Hands {T = Unit {0}} Says All Part (Err w)) (sym h) p
 
 pub counts_then : (before mid now : ℕ) (e : PassEnd) (r : Result (Unit {0}) PassEnd) → IsErrAnd r (λ z. z ≡ e) → mid ≡ before → CountsWrites {T = Unit {0}} mid now (Err e) → CountsWrites before now r
 counts_then before mid now e (Ok u) h p k = absurd h

@@ -55,11 +55,10 @@ pub record GivesOfFront (Begins : List ℕ → List ℕ → Type 0) (Says : Mess
   pub parts : input ≡ given ++ rest
   pub gives : GivesBefore Begins Says given (length given) out
 
--- what may be written when a write fails: all; or what is written for the messages before a refusal, or before some place
+-- what may be written when a write fails, or memory runs out: all; or what is written for the messages before some place within the most
 pub data MayGive (Begins : List ℕ → List ℕ → Type 0) (Says : Message → List ℕ → Type 0) (Ends : List Unfinished → List ℕ → Type 0) (input out : List ℕ) : Type 0 where
   of_all : IsOutput Begins Says Ends input out → MayGive Begins Says Ends input out
-  of_some : (place : ℕ) → GivesBefore Begins Says input place out → MayGive Begins Says Ends input out
-  of_front : (rest : List ℕ) → GivesOfFront Begins Says input rest out → MayGive Begins Says Ends input out
+  of_some : (place : ℕ) → place ≤ most → GivesBefore Begins Says input place out → MayGive Begins Says Ends input out
 
 -- how a pass ends, by the bytes of the input and those that it left: All tells of bytes that they were written whole, and Some that a front of them was
 abbrev pub Passes : {T : Type 0} → (List ℕ → List ℕ → Type 0) → (Message → List ℕ → Type 0) → (List Unfinished → List ℕ → Type 0) → List ℕ → List ℕ → (List ℕ → Type 0) → (List ℕ → Type 0) → Result T PassEnd → Type 0
@@ -67,7 +66,7 @@ Passes Begins Says Ends input rest All Some (Ok x) = (out : List ℕ) × IsOutpu
 Passes Begins Says Ends input rest All Some (Err (Refused f)) = (out : List ℕ) × IsRefused IsStreamFields 0 most input f.reason f.at × GivesBefore Begins Says input f.at out × All out
 Passes Begins Says Ends input rest All Some (Err ReadFault) = (out : List ℕ) × IsInterrupted IsStreamFields input rest 0 most × GivesOfFront Begins Says input rest out × All out
 Passes Begins Says Ends input rest All Some (Err WriteFault) = (out : List ℕ) × MayGive Begins Says Ends input out × Some out
-Passes Begins Says Ends input rest All Some (Err Memory) = Unit {0}
+Passes Begins Says Ends input rest All Some (Err Memory) = (out : List ℕ) × MayGive Begins Says Ends input out × Some out
 
 -- what a sink holds, where it tells: these bytes behind what it held; or a front of them
 abbrev pub WroteAll : Type 0 → List ℕ → List ℕ → List ℕ → Type 0

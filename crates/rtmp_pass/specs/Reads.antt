@@ -1,5 +1,5 @@
 -- How the messages of a stream are taken, one after another. A device of the proofs.
-use Rattle.std.specs.Prelude.{ℕ, Bool, true, false, List, ◌++◌, Option, None, Result, Ok, Err}
+use Rattle.std.specs.Prelude.{ℕ, Bool, true, false, List, [], ◌++◌, Option, None, Result, Ok, Err}
 use Rattle.amf_io.specs.declared.ends.ReadEnd.{ReadEnd}
 use Rattle.amf_io.specs.declared.ends.ReadEnd.TheVariants as reader
 use Rattle.amf_io.specs.Stretch.{Stretch, stretch}
@@ -19,13 +19,13 @@ Puts told held now waiting waits bytes = told → (before all : List ℕ) → Pu
 abbrev pub PutsSome : Type 0 → List ℕ → List ℕ → List ℕ → List ℕ → Type 0
 PutsSome told held now waiting bytes = told → (before all : List ℕ) → Put before held all waiting → (rest : List ℕ) × Put before now (all ++ bytes) rest
 
--- a message was handed on
+-- a message was handed on; or a front of what it gives was written, or without memory nothing of it
 abbrev pub Hands : {T : Type 0} → (List ℕ → Type 0) → (List ℕ → Type 0) → (List ℕ → Type 0) → Result T PassEnd → Type 0
 Hands Says All Some (Ok x) = (bytes : List ℕ) × Says bytes × All bytes
 Hands Says All Some (Err (Refused f)) = ⊥
 Hands Says All Some (Err ReadFault) = ⊥
 Hands Says All Some (Err WriteFault) = (bytes : List ℕ) × Says bytes × Some bytes
-Hands Says All Some (Err Memory) = Unit {0}
+Hands Says All Some (Err Memory) = Some []
 
 -- messages were taken one after another, and what they give was put; then the reader answered so
 pub record Taken (Says : Message → List ℕ → Type 0) (r : Result (Option Message) ReadEnd) (s t : State) (x : Stretch) (All : List ℕ → Type 0) : Type 0 where
@@ -35,13 +35,13 @@ pub record Taken (Says : Message → List ℕ → Type 0) (r : Result (Option Me
   pub calls : Calls r messages s t x
   pub put : All later
 
--- all messages were taken; or so many, up to an end; a write failed behind a message as a read might
+-- all messages were taken; or so many, up to an end; a write failed behind a message, or memory ran out, as a read might
 abbrev pub Takes : {T : Type 0} → (Message → List ℕ → Type 0) → State → State → Stretch → (List ℕ → Type 0) → (List ℕ → Type 0) → Result T PassEnd → Type 0
 Takes Says s t x All Some (Ok done) = Taken Says (Ok None) s t x All
 Takes Says s t x All Some (Err (Refused f)) = Taken Says (Err (reader.Refused f)) s t x All
 Takes Says s t x All Some (Err ReadFault) = Taken Says (Err reader.ReadFault) s t x All
 Takes Says s t x All Some (Err WriteFault) = (mid : List ℕ) × (between : ℕ) × Taken Says (Err reader.ReadFault) s t (stretch x.told x.input mid x.at between x.limit) Some
-Takes Says s t x All Some (Err Memory) = Unit {0}
+Takes Says s t x All Some (Err Memory) = (mid : List ℕ) × (between : ℕ) × Taken Says (Err reader.ReadFault) s t (stretch x.told x.input mid x.at between x.limit) Some
 
 -- so far messages were taken, and what follows is taken behind them
 pub record SoFar (Says : Message → List ℕ → Type 0) (s u : State) (input mid : List ℕ) (at between limit : ℕ) (All : List ℕ → Type 0) : Type 0 where

@@ -1,5 +1,6 @@
 ghost use Rattle.std.specs.Prelude.{List, ℕ, OnOk};
 ghost use Rattle.rtmp_chunks.specs.Chunk.{Message as Seen, Unfinished};
+ghost use Rattle.rtmp_chunks.specs.Push.{IsPushable};
 ghost use Rattle.rtmp_chunks.specs.Table.{message_seen, opens_seen};
 ghost use Rattle.rtmp_pass.specs.Pass.{Appended};
 
@@ -22,8 +23,9 @@ pub trait Handler {
     fn begin(&self, alloc: Global, handshake: &[u8], out: &mut Vec<u8>) -> Result<(), Memory>
         ensures { OnOk result (Appended (begins self.now handshake.now) out.old.items out.new.items) };
 
-    /// Appends what it writes for a message. What it writes for others stays as it was.
+    /// Appends what it writes for a message of a chunk stream. What it writes for others stays as it was.
     fn message(&mut self, alloc: Global, message: &Message, out: &mut Vec<u8>) -> Result<(), Memory>
+        requires { IsPushable (message_seen message.now) }
         ensures says { OnOk result (Appended (says self.old (message_seen message.now)) out.old.items out.new.items) }
         ensures still { (m : Seen) (bytes : List ℕ) → says self.new m bytes → says self.old m bytes }
         ensures same_end { (open_ones : List Unfinished) (bytes : List ℕ) → ends self.new open_ones bytes → ends self.old open_ones bytes };

@@ -1,5 +1,5 @@
 ghost use Rattle.amf_io.specs.Cursor.{source_of, place, bound, unread};
-ghost use Rattle.std.specs.Prelude.{◌≡◌, []};
+ghost use Rattle.std.specs.Prelude.{◌≡◌, ◌≤◌, ◌+◌, length, []};
 ghost use Rattle.rtmp_pass.specs.Pass.{most, Passes, WroteAll, WroteSome, CountsReads, CountsWrites};
 ghost use Rattle.rtmp_pass.specs.Reads.{PutAll, PutSome, lost};
 
@@ -23,7 +23,10 @@ fn read_input<H: Handler, I: Source, O: Sink>(
 ) -> Result<(), PassEnd>
     requires none { waiting.old.items ≡ [] }
     ensures tells { O.tells out.new → O.tells out.old }
-    ensures passes { I.tells input.old → Passes (H.begins handler.old) (H.says handler.old) (H.ends handler.old) (I.left input.old) (I.left input.new) (PutAll (O.tells out.new) (O.held out.old) (O.held out.new) waiting.new.items) (PutSome (O.tells out.new) (O.held out.old) (O.held out.new)) result }
+    ensures passes { I.tells input.old → Passes (H.begins handler.old) (H.says handler.old) (H.ends handler.old) (I.left input.old) (I.left input.new)
+        (PutAll (O.tells out.new) (O.held out.old) (O.held out.new) waiting.new.items) (PutSome (O.tells out.new) (O.held out.old) (O.held out.new))
+        result }
+    ensures taken { I.tells input.old → length (I.left input.old) ≤ length (I.left input.new) + (most + 1) }
     ensures reads { CountsReads (I.faults input.old) (I.faults input.new) result }
     ensures writes { CountsWrites (O.faults out.old) (O.faults out.new) result }
 {
@@ -43,8 +46,8 @@ fn is_lost(ended: &Result<(), PassEnd>) -> bool
 /// handler makes of its handshake, of each message, and of the unfinished ones at the end. It holds the unfinished messages as far
 /// as they came, and what is not yet written: at most 65,536 bytes and what the last message gave.
 ///
-/// With `Refused` and `ReadFault` all is written that the messages before give, with `WriteFault` a front of what the handler makes.
-/// Of `Memory` nothing is said.
+/// With `Refused` and `ReadFault` all is written that the messages before give, with `WriteFault` and
+/// `Memory` a front of what the handler makes of some of them. Of a longer input no more than one byte past these is taken, in each end.
 pub fn pass_over<H: Handler, I: Source, O: Sink>(
     alloc: Global,
     handler: &mut H,
@@ -52,7 +55,9 @@ pub fn pass_over<H: Handler, I: Source, O: Sink>(
     out: &mut O,
 ) -> Result<(), PassEnd>
     ensures tells { O.tells out.new → O.tells out.old }
-    ensures passes { I.tells input.old → Passes (H.begins handler.old) (H.says handler.old) (H.ends handler.old) (I.left input.old) (I.left input.new) (WroteAll (O.tells out.new) (O.held out.old) (O.held out.new)) (WroteSome (O.tells out.new) (O.held out.old) (O.held out.new)) result }
+    ensures passes { I.tells input.old → Passes (H.begins handler.old) (H.says handler.old) (H.ends handler.old) (I.left input.old) (I.left input.new)
+        (WroteAll (O.tells out.new) (O.held out.old) (O.held out.new)) (WroteSome (O.tells out.new) (O.held out.old) (O.held out.new)) result }
+    ensures taken { I.tells input.old → length (I.left input.old) ≤ length (I.left input.new) + (most + 1) }
     ensures reads { CountsReads (I.faults input.old) (I.faults input.new) result }
     ensures writes { CountsWrites (O.faults out.old) (O.faults out.new) result }
 {

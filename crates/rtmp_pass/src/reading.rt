@@ -1,8 +1,9 @@
-ghost use Rattle.std.specs.Prelude.{◌≡◌, [], List, ℕ, OnOk};
+ghost use Rattle.std.specs.Prelude.{◌≡◌, ◌≤◌, ◌+◌, length, [], List, ℕ, OnOk};
 ghost use Rattle.amf_io.specs.Cursor.{source_of, place, bound, unread};
 ghost use Rattle.amf_io.specs.ReadEnds.{Goes, IsPlaced};
 ghost use Rattle.amf_io.specs.Stretch.{stretch};
 ghost use Rattle.rtmp_chunks.specs.Chunk.{Message as Seen, Unfinished};
+ghost use Rattle.rtmp_chunks.specs.Push.{IsPushable};
 ghost use Rattle.rtmp_chunks.specs.Table.{message_seen, held, ListsAll};
 ghost use Rattle.rtmp_pass.specs.Pass.{most, Passes, CountsReads, CountsWrites};
 ghost use Rattle.rtmp_pass.specs.Ends.{reading};
@@ -23,8 +24,10 @@ fn hand_on<H: Handler, O: Sink>(
     out: &mut O,
     waiting: &mut Vec<u8>,
 ) -> Result<(), PassEnd>
+    requires { IsPushable (message_seen message.now) }
     ensures tells { O.tells out.new → O.tells out.old }
-    ensures hands { Hands (H.says handler.old (message_seen message.now)) (Puts (O.tells out.new) (O.held out.old) (O.held out.new) waiting.old.items waiting.new.items) (PutsSome (O.tells out.new) (O.held out.old) (O.held out.new) waiting.old.items) result }
+    ensures hands { Hands (H.says handler.old (message_seen message.now)) (Puts (O.tells out.new) (O.held out.old) (O.held out.new) waiting.old.items
+        waiting.new.items) (PutsSome (O.tells out.new) (O.held out.old) (O.held out.new) waiting.old.items) result }
     ensures still { (m : Seen) (bytes : List ℕ) → H.says handler.new m bytes → H.says handler.old m bytes }
     ensures same_end { (open_ones : List Unfinished) (bytes : List ℕ) → H.ends handler.new open_ones bytes → H.ends handler.old open_ones bytes }
     ensures counts { CountsWrites (O.faults out.old) (O.faults out.new) result }
@@ -48,7 +51,11 @@ fn read_messages<H: Handler, S: Source, O: Sink>(
     requires { IsPlaced cursor.old }
     ensures goes { Goes S.tells S.left S.faults cursor.old cursor.new (reading result) }
     ensures tells { O.tells out.new → O.tells out.old }
-    ensures takes { S.tells (source_of cursor.old).now → Takes (H.says handler.old) (held chunks.old []) (held chunks.new []) (stretch (Unit {0}) (unread S.left cursor.old) (unread S.left cursor.new) (place cursor.old) (place cursor.new) (bound cursor.old)) (Puts (O.tells out.new) (O.held out.old) (O.held out.new) waiting.old.items waiting.new.items) (PutsSome (O.tells out.new) (O.held out.old) (O.held out.new) waiting.old.items) result }
+    ensures takes { S.tells (source_of cursor.old).now
+        → Takes (H.says handler.old) (held chunks.old []) (held chunks.new [])
+        (stretch (Unit {0}) (unread S.left cursor.old) (unread S.left cursor.new) (place cursor.old) (place cursor.new) (bound cursor.old))
+        (Puts (O.tells out.new) (O.held out.old) (O.held out.new) waiting.old.items waiting.new.items)
+        (PutsSome (O.tells out.new) (O.held out.old) (O.held out.new) waiting.old.items) result }
     ensures listed { OnOk result (ListsAll chunks.new) }
     ensures same_end { (open_ones : List Unfinished) (bytes : List ℕ) → H.ends handler.new open_ones bytes → H.ends handler.old open_ones bytes }
     ensures counts { CountsWrites (O.faults out.old) (O.faults out.new) result }
@@ -72,7 +79,10 @@ fn read_all<H: Handler, S: Source, O: Sink>(
     requires none { waiting.old.items ≡ [] }
     ensures goes { Goes S.tells S.left S.faults cursor.old cursor.new (reading result) }
     ensures tells { O.tells out.new → O.tells out.old }
-    ensures passes { S.tells (source_of cursor.old).now → Passes (H.begins handler.old) (H.says handler.old) (H.ends handler.old) (unread S.left cursor.old) (unread S.left cursor.new) (PutAll (O.tells out.new) (O.held out.old) (O.held out.new) waiting.new.items) (PutSome (O.tells out.new) (O.held out.old) (O.held out.new)) result }
+    ensures passes { S.tells (source_of cursor.old).now
+        → Passes (H.begins handler.old) (H.says handler.old) (H.ends handler.old) (unread S.left cursor.old) (unread S.left cursor.new)
+        (PutAll (O.tells out.new) (O.held out.old) (O.held out.new) waiting.new.items) (PutSome (O.tells out.new) (O.held out.old) (O.held out.new))
+        result }
     ensures counts { CountsWrites (O.faults out.old) (O.faults out.new) result }
 {
     let mut handshake = Vec::new(alloc);
@@ -95,9 +105,13 @@ pub(crate) fn read_whole<H: Handler, S: Source, O: Sink>(
     requires start { place cursor.old ≡ 0 }
     requires limit { bound cursor.old ≡ most }
     requires none { waiting.old.items ≡ [] }
+    ensures taken { S.tells (source_of cursor.old).now → length (unread S.left cursor.old) ≤ length (S.left (source_of cursor.new).now) + (most + 1) }
     ensures same_reference { (source_of cursor.new).ghost_name ≡ (source_of cursor.old).ghost_name }
     ensures tells { O.tells out.new → O.tells out.old }
-    ensures passes { S.tells (source_of cursor.old).now → Passes (H.begins handler.old) (H.says handler.old) (H.ends handler.old) (unread S.left cursor.old) (S.left (source_of cursor.new).now) (PutAll (O.tells out.new) (O.held out.old) (O.held out.new) waiting.new.items) (PutSome (O.tells out.new) (O.held out.old) (O.held out.new)) result }
+    ensures passes { S.tells (source_of cursor.old).now
+        → Passes (H.begins handler.old) (H.says handler.old) (H.ends handler.old) (unread S.left cursor.old) (S.left (source_of cursor.new).now)
+        (PutAll (O.tells out.new) (O.held out.old) (O.held out.new) waiting.new.items) (PutSome (O.tells out.new) (O.held out.old) (O.held out.new))
+        result }
     ensures reads { CountsReads (S.faults (source_of cursor.old).now) (S.faults (source_of cursor.new).now) result }
     ensures writes { CountsWrites (O.faults out.old) (O.faults out.new) result }
 {

@@ -1,5 +1,5 @@
-ghost use Rattle.std.specs.Prelude.{◌<◌};
-ghost use Rattle.rtmp_pass.specs.Pass.{Passes, WroteAll, WroteSome, CountsReads, CountsWrites};
+ghost use Rattle.std.specs.Prelude.{◌<◌, ◌≤◌, ◌+◌, length};
+ghost use Rattle.rtmp_pass.specs.Pass.{most, Passes, WroteAll, WroteSome, CountsReads, CountsWrites};
 ghost use Rattle.rtmp_pass.specs.Rechunk.{Restarts, Repeats, EndsSilently};
 
 use crate::pass::pass_over;
@@ -9,8 +9,8 @@ use amf_io::{Sink, Source};
 use std::alloc::Global;
 
 /// Writes a chunk stream again in chunks of a size from 1 to 2^31-1 bytes: its handshake, together with it the message that sets
-/// the size where that is not 128, and then each message, as soon as it is whole, but for those that set a chunk size. What is
-/// unfinished is dropped.
+/// the size where that is not 128, and then each message but for those that set a chunk size. What is unfinished is dropped.
+/// Writes are gathered: up to 65,536 bytes wait for one.
 ///
 /// It ends as [`pass_over`] does.
 pub fn rechunk<I: Source, O: Sink>(
@@ -22,7 +22,9 @@ pub fn rechunk<I: Source, O: Sink>(
     requires some { 0 < size }
     requires most { size < 2147483648 }
     ensures tells { O.tells out.new → O.tells out.old }
-    ensures passes { I.tells input.old → Passes (Restarts size) (Repeats size) EndsSilently (I.left input.old) (I.left input.new) (WroteAll (O.tells out.new) (O.held out.old) (O.held out.new)) (WroteSome (O.tells out.new) (O.held out.old) (O.held out.new)) result }
+    ensures passes { I.tells input.old → Passes (Restarts size) (Repeats size) EndsSilently (I.left input.old) (I.left input.new)
+        (WroteAll (O.tells out.new) (O.held out.old) (O.held out.new)) (WroteSome (O.tells out.new) (O.held out.old) (O.held out.new)) result }
+    ensures taken { I.tells input.old → length (I.left input.old) ≤ length (I.left input.new) + (most + 1) }
     ensures reads { CountsReads (I.faults input.old) (I.faults input.new) result }
     ensures writes { CountsWrites (O.faults out.old) (O.faults out.new) result }
 {

@@ -1,4 +1,6 @@
-ghost use Rattle.std.specs.Prelude.{◌≡◌, ◌<◌, List, ℕ, IfOk};
+ghost use Rattle.std.specs.Prelude.{◌≡◌, ◌<◌, ◌++◌, List, ℕ, OnOk, OnErr, IfOk};
+ghost use Rattle.rtmp_chunks.specs.declared.chunker.ChunkEnd.TheVariants.{Memory as NoMemory};
+ghost use Rattle.rtmp_chunks.specs.Push.{IsPushed, pushed, size_of, size_then};
 ghost use Rattle.rtmp_chunks.specs.Rechunk.{size_message as setting};
 ghost use Rattle.rtmp_chunks.specs.Table.{message_seen};
 ghost use Rattle.rtmp_pass.specs.Rechunk.{size_in, Restarts, Repeats, EndsSilently, RechunkedBytes};
@@ -7,7 +9,7 @@ ghost use Rattle.rtmp_pass.specs.Worked.{RechunkRows};
 use crate::handler::Handler;
 use crate::rechunker::Rechunker;
 use amf_wire::Memory;
-use rtmp_chunks::{Chunker, Message, MessageBytes, Open};
+use rtmp_chunks::{ChunkEnd, Chunker, Message, MessageBytes, Open};
 use std::alloc::Global;
 
 /// The message that sets a chunk size (Adobe's RTMP specification 1.0, 5.4.1).
@@ -22,6 +24,34 @@ fn size_message(alloc: Global, size: u32) -> Result<Message, Memory>
         time: 0,
         bytes: MessageBytes::of_vec(bytes),
     })
+}
+
+/// The one end of a message that can be written.
+fn memory_of(end: ChunkEnd) -> Memory
+    requires { end ≡ NoMemory }
+{
+    match end {
+        ChunkEnd::Memory => Memory,
+        _ => unreachable!(),
+    }
+}
+
+/// Appends a message that can be written: there is no other end than want of memory.
+fn push_one(
+    alloc: Global,
+    chunker: &mut Chunker,
+    message: &Message,
+    out: &mut Vec<u8>,
+) -> Result<(), Memory>
+    requires { IsPushed (message_seen message.now) }
+    ensures pushed { OnOk result (out.new.items ≡ out.old.items ++ pushed (size_of chunker.old) (message_seen message.now)) }
+    ensures size { OnOk result (size_of chunker.new ≡ size_then (size_of chunker.old) (message_seen message.now)) }
+    ensures kept { OnErr result (size_of chunker.new ≡ size_of chunker.old) }
+{
+    match chunker.push(alloc, message, out) {
+        Ok(()) => Ok(()),
+        Err(end) => Err(memory_of(end)),
+    }
 }
 
 impl Rechunker {
@@ -41,14 +71,12 @@ impl Rechunker {
             });
         }
         let message = size_message(alloc, size)?;
-        match chunker.push(alloc, &message, &mut start) {
-            Ok(()) => Ok(Rechunker {
-                size,
-                chunker,
-                start,
-            }),
-            Err(_) => Err(Memory),
-        }
+        push_one(alloc, &mut chunker, &message, &mut start)?;
+        Ok(Rechunker {
+            size,
+            chunker,
+            start,
+        })
     }
 }
 
@@ -65,7 +93,6 @@ impl Handler for Rechunker {
         Ok(())
     }
 
-    /// The messages of a chunk stream are never refused: what is left is want of memory.
     fn message(
         &mut self,
         alloc: Global,
@@ -75,10 +102,7 @@ impl Handler for Rechunker {
         if message.kind == 1 {
             return Ok(());
         }
-        match self.chunker.push(alloc, message, out) {
-            Ok(()) => Ok(()),
-            Err(_) => Err(Memory),
-        }
+        push_one(alloc, &mut self.chunker, message, out)
     }
 
     fn finish(

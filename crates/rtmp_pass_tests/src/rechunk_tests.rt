@@ -8,25 +8,26 @@ use std::test::Fail;
 /// No read and no write has this number.
 const NEVER: u64 = u64::MAX;
 
-/// The size that is asked for, how many bytes a read gives, and the number of the read that fails; chunks behind a handshake (a
+/// The size that is asked for, how many bytes a read gives, and the number of the read that fails: 2 is behind the end, and does not
+/// come; chunks behind a handshake (a
 /// front, so many times AA, and the rest); how it ends; and what is written behind the handshake, in the same way.
 static AGAIN: Table = Table {
     rows: 12,
     fields: 8,
     text: "
-256 9999 99 | 04 00000A 000081 08 01000000 | 128 | C4 AA | | 02 000000 000004 01 00000000 00000100 04 00000A 000081 08 01000000 | 129 |
-128 9999 99 | 04 00000A 000081 08 01000000 | 128 | C4 AA | | 04 00000A 000081 08 01000000 | 128 | C4 AA
-256 9999 99 | C3 | 0 | | BadChunk 3073 | 02 000000 000004 01 00000000 00000100 | 0 |
-256 9999 99 | 02 000000 000004 01 00000000 00000000 | 0 | | BadChunkSize 3085 | 02 000000 000004 01 00000000 00000100 | 0 |
+256 9999 2 | 04 00000A 000081 08 01000000 | 128 | C4 AA | | 02 000000 000004 01 00000000 00000100 04 00000A 000081 08 01000000 | 129 |
+128 9999 2 | 04 00000A 000081 08 01000000 | 128 | C4 AA | | 04 00000A 000081 08 01000000 | 128 | C4 AA
+256 9999 2 | C3 | 0 | | BadChunk 3073 | 02 000000 000004 01 00000000 00000100 | 0 |
+256 9999 2 | 02 000000 000004 01 00000000 00000000 | 0 | | BadChunkSize 3085 | 02 000000 000004 01 00000000 00000100 | 0 |
 # What is unfinished is dropped.
-256 9999 99 | 04 00000A 000081 08 01000000 | 128 | | | 02 000000 000004 01 00000000 00000100 | 0 |
+256 9999 2 | 04 00000A 000081 08 01000000 | 128 | | | 02 000000 000004 01 00000000 00000100 | 0 |
 # The sizes of the input do not go on.
-1 9999 99 | 03 000000 000002 09 01000000 AABB | 0 | | | 02 000000 000004 01 00000000 00000001 03 000000 000002 09 01000000 AA C3 BB | 0 |
-128 9999 99 | 02 000000 000004 01 00000000 00000001 03 000000 000002 09 01000000 AA C3 BB | 0 | | | 03 000000 000002 09 01000000 AABB | 0 |
-2147483647 9999 99 | | 0 | | | 02 000000 000004 01 00000000 7FFFFFFF | 0 |
+1 9999 2 | 03 000000 000002 09 01000000 AABB | 0 | | | 02 000000 000004 01 00000000 00000001 03 000000 000002 09 01000000 AA C3 BB | 0 |
+128 9999 2 | 02 000000 000004 01 00000000 00000001 03 000000 000002 09 01000000 AA C3 BB | 0 | | | 03 000000 000002 09 01000000 AABB | 0 |
+2147483647 9999 2 | | 0 | | | 02 000000 000004 01 00000000 7FFFFFFF | 0 |
 # What is before a refusal, or before a read that fails, is written.
-128 9999 99 | 03 000000 000000 09 01000000 C4 | 0 | | BadChunk 3085 | 03 000000 000000 09 01000000 | 0 |
-128 9999 99 | 03 000000 000000 09 01000000 43 | 0 | | Truncated 3086 | 03 000000 000000 09 01000000 | 0 |
+128 9999 2 | 03 000000 000000 09 01000000 C4 | 0 | | BadChunk 3085 | 03 000000 000000 09 01000000 | 0 |
+128 9999 2 | 03 000000 000000 09 01000000 43 | 0 | | Truncated 3086 | 03 000000 000000 09 01000000 | 0 |
 128 3085 1 | 03 000000 000000 09 01000000 C4 | 0 | | ReadFault | 03 000000 000000 09 01000000 | 0 |
 128 3087 1 | 03 000000 000000 09 01000000 43 000005 | 0 | | ReadFault | 03 000000 000000 09 01000000 | 0 |
 ",
@@ -106,14 +107,14 @@ fn is_written(
     Ok(())
 }
 
-/// Writes a row as it says; and where no read fails, in other pieces too.
+/// Writes a row as it says; and where no read fails before the end, in other pieces too.
 fn is_row_written(rt: &impl Abort, alloc: Global, row: Row<'_>) -> Result<(), Fail> {
     let numbers = row.numbers(alloc, 0)?;
     let [size, most, fail] = numbers.as_slice() else {
         return Err("no row")?;
     };
     is_written(rt, alloc, row, low(*size), *most as usize, *fail)?;
-    if *fail == 99 {
+    if *fail == 2 {
         is_written(rt, alloc, row, low(*size), 700, NEVER)?;
         is_written(rt, alloc, row, low(*size), 3086, NEVER)?;
     }

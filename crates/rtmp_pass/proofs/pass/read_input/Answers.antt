@@ -1,5 +1,5 @@
 use Rattle.rtmp_pass.specs.Reads.{PutAll, PutSome}
-use Rattle.rtmp_pass.proofs.Streams.{no_memory}
+use Rattle.rtmp_pass.proofs.Streams.{no_memory, some_unwritten}
 use Rattle.rtmp_pass.proofs.Turns.{counts_memory}
 use Rattle.rtmp_pass.proofs.Rests.{none_read}
 use Rattle.rtmp_pass.proofs.pass.read_input.Goals as goal
@@ -11,7 +11,7 @@ returns-in_err-window-clause-passes g c = λ x.
     let O = g.O.Sink in
     let h = c.args.handler.now in
     let o = c.args.out.now in
-    no_memory (H.begins h) (H.says h) (H.ends h) (I.left c.args.input.now) (I.left c.args.input.now) (PutAll (O.tells o) (O.held o) (O.held o) c.args.waiting.now.items) (PutSome (O.tells o) (O.held o) (O.held o)) c.from_residual.result c.from_residual.ensures.1
+    no_memory (H.begins h) (H.says h) (H.ends h) (I.left c.args.input.now) (I.left c.args.input.now) (PutAll (O.tells o) (O.held o) (O.held o) c.args.waiting.now.items) (PutSome (O.tells o) (O.held o) (O.held o)) c.from_residual.result c.from_residual.ensures.1 (some_unwritten (O.tells o) (O.held o))
 
 pub returns-in_err-window-clause-writes : goal.returns-in_err-window-clause-writes
 returns-in_err-window-clause-writes g c = counts_memory (g.O.Sink.faults c.args.out.now) c.from_residual.result c.from_residual.ensures.1

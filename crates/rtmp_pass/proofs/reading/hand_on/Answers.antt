@@ -1,5 +1,15 @@
-use Rattle.rtmp_pass.proofs.Turns.{handed_all, handed_some, counts_memory}
+use Rattle.rtmp_chunks.specs.Table.{message_seen}
+use Rattle.rtmp_pass.specs.Reads.{Puts, PutsSome}
+use Rattle.rtmp_pass.proofs.Turns.{handed_all, handed_some, handed_none, some_none, counts_memory}
 use Rattle.rtmp_pass.proofs.reading.hand_on.Goals as goal
+
+pub returns-in_err-message-clause-hands : goal.returns-in_err-message-clause-hands
+returns-in_err-message-clause-hands g c =
+    let H = g.H.Handler in
+    let O = g.O.Sink in
+    let o = c.args.out.now in
+    let w = c.args.waiting.now.items in
+    handed_none (H.says c.args.handler.now (message_seen c.args.message.now)) (Puts (O.tells o) (O.held o) (O.held o) w c.message.new.out.items) (PutsSome (O.tells o) (O.held o) (O.held o) w) c.from_residual.result c.from_residual.ensures.1 (some_none (O.tells o) (O.held o) w)
 
 pub returns-in_err-message-clause-counts : goal.returns-in_err-message-clause-counts
 returns-in_err-message-clause-counts g c = counts_memory (g.O.Sink.faults c.args.out.now) c.from_residual.result c.from_residual.ensures.1

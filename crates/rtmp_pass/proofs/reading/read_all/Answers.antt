@@ -7,7 +7,7 @@ use Rattle.rtmp_chunks.specs.Table.{held, opens_seen}
 use Rattle.rtmp_pass.specs.Ends.{reading}
 use Rattle.rtmp_pass.specs.Reads.{Puts, PutsSome, PutAll, PutSome}
 use Rattle.rtmp_pass.proofs.Turns.{ended_goes, passed_goes, spent_goes, counts_end, counts_then, counts_memory, counts_spent}
-use Rattle.rtmp_pass.proofs.Streams.{put_first, put_some, put_last, none_begun, no_memory, passed_on, all_passed, first_done, takes_from}
+use Rattle.rtmp_pass.proofs.Streams.{put_first, put_some, put_last, some_unwritten, some_of_all, none_begun, no_memory, passed_on, spent_whole, all_passed, first_done, takes_from}
 use Rattle.rtmp_pass.proofs.reading.read_all.Goals as goal
 
 pub returns-in_err-read_handshake-clause-goes : goal.returns-in_err-read_handshake-clause-goes
@@ -26,7 +26,7 @@ returns-in_err-read_handshake-clause-passes g c = λ x.
     let w = c.args.waiting.now.items in
     none_begun (H.begins c.args.handler.now) (H.says c.args.handler.now) (H.ends c.args.handler.now) (unread S.left k) (unread S.left n) (PutAll (O.tells o) (O.held o) (O.held o) w) (PutSome (O.tells o) (O.held o) (O.held o))
     (S.tells (source_of k).now) (place k) (bound k) c.in_err-read_handshake.field-0.0 c.from_residual.result c.from_residual.ensures.1 c.requires.start c.requires.limit x c.in_err-read_handshake.ensures.answers
-    (λ t. record { front = []; parts = sym c.requires.none; added = sym (append-nil (O.held o)) })
+    (λ t. record { front = []; parts = sym c.requires.none; added = sym (append-nil (O.held o)) }) (some_unwritten (O.tells o) (O.held o))
 
 pub returns-in_err-read_handshake-clause-counts : goal.returns-in_err-read_handshake-clause-counts
 returns-in_err-read_handshake-clause-counts g c = counts_end (g.O.Sink.faults c.args.out.now) (g.O.Sink.faults c.args.out.now) c.in_err-read_handshake.field-0.0 c.from_residual.result c.from_residual.ensures.1 refl
@@ -43,7 +43,7 @@ returns-in_err-begin-clause-passes g c = λ x.
     let O = g.O.Sink in
     let o = c.args.out.now in
     no_memory (H.begins c.args.handler.now) (H.says c.args.handler.now) (H.ends c.args.handler.now) (unread S.left c.args.cursor.now) (unread S.left c.read_handshake.new.cursor) (PutAll (O.tells o) (O.held o) (O.held o) c.begin.new.out.items) (PutSome (O.tells o) (O.held o) (O.held o))
-    c.from_residual-in_err-begin.result c.from_residual-in_err-begin.ensures.1
+    c.from_residual-in_err-begin.result c.from_residual-in_err-begin.ensures.1 (some_unwritten (O.tells o) (O.held o))
 
 pub returns-in_err-begin-clause-counts : goal.returns-in_err-begin-clause-counts
 returns-in_err-begin-clause-counts g c = counts_memory (g.O.Sink.faults c.args.out.now) c.from_residual-in_err-begin.result c.from_residual-in_err-begin.ensures.1
@@ -60,7 +60,7 @@ returns-in_err-chunks-clause-passes g c = λ x.
     let O = g.O.Sink in
     let o = c.args.out.now in
     no_memory (H.begins c.args.handler.now) (H.says c.args.handler.now) (H.ends c.args.handler.now) (unread S.left c.args.cursor.now) (unread S.left c.read_handshake.new.cursor) (PutAll (O.tells o) (O.held o) (O.held o) c.begin.new.out.items) (PutSome (O.tells o) (O.held o) (O.held o))
-    c.from_residual-in_err-chunks.result c.from_residual-in_err-chunks.ensures.1
+    c.from_residual-in_err-chunks.result c.from_residual-in_err-chunks.ensures.1 (some_unwritten (O.tells o) (O.held o))
 
 pub returns-in_err-chunks-clause-counts : goal.returns-in_err-chunks-clause-counts
 returns-in_err-chunks-clause-counts g c = counts_memory (g.O.Sink.faults c.args.out.now) c.from_residual-in_err-chunks.result c.from_residual-in_err-chunks.ensures.1
@@ -122,10 +122,28 @@ returns-in_err-finish-clause-passes g c = λ x.
     let H = g.H.Handler in
     let S = g.S.Source in
     let O = g.O.Sink in
+    let k = c.args.cursor.now in
+    let d = c.read_handshake.new.cursor in
+    let n = c.read_messages.new.cursor in
     let o = c.args.out.now in
     let p = c.read_messages.new.out in
-    no_memory (H.begins c.args.handler.now) (H.says c.args.handler.now) (H.ends c.args.handler.now) (unread S.left c.args.cursor.now) (unread S.left c.read_messages.new.cursor) (PutAll (O.tells p) (O.held o) (O.held p) c.finish.new.out.items) (PutSome (O.tells p) (O.held o) (O.held p))
-    c.from_residual-in_err-finish.result c.from_residual-in_err-finish.ensures.1
+    let q = c.in_ok-read_handshake.ensures.goes in
+    let b = c.read_handshake.new.out.items in
+    let h = c.in_ok-begin.ensures in
+    let r = c.in_ok-read_messages.ensures in
+    let t = held c.read_messages.new.chunks [] in
+    let v = c.begin.new.out.items in
+    let w = c.read_messages.new.waiting.items in
+    let begun = h.2 ∙ ap (λ l. l ++ h.0) c.requires.none in
+    let A = Puts (O.tells p) (O.held o) (O.held p) v w in
+    let P = PutsSome (O.tells p) (O.held o) (O.held p) v in
+    let Says = H.says c.args.handler.now in
+    spent_whole (H.begins c.args.handler.now) Says (H.ends c.args.handler.now) (unread S.left k) (unread S.left d) b h.0 (place d)
+    (first_done (S.tells (source_of k).now) x c.new-handshake.result.items b (unread S.left k) (unread S.left d) (place k) (place d) (bound k) c.new-handshake.ensures.items c.requires.start c.requires.limit c.in_ok-read_handshake.ensures.answers)
+    (subst (λ l. H.begins c.args.handler.now l h.0) c.deref.ensures.value h.1)
+    A P (PutAll (O.tells p) (O.held o) (O.held p) c.finish.new.out.items) (PutSome (O.tells p) (O.held o) (O.held p)) t (unread S.left n) (place n) c.from_residual-in_err-finish.result c.from_residual-in_err-finish.ensures.1
+    (λ l y. some_of_all (O.tells p) (O.held o) (O.held p) w (h.0 ++ l) (put_first (O.tells p) (O.held o) (O.held p) h.0 v w l begun y))
+    (takes_from {T = Unit {0}} Says (held c.in_ok-chunks.chunks []) t (unread S.left d) (unread S.left n) (place d) (place n) (bound d) A P (Ok tt) c.in_ok-chunks.ensures.start (q.same_bound ∙ c.requires.limit) (r.takes (q.told x)))
 
 pub returns-in_err-finish-clause-counts : goal.returns-in_err-finish-clause-counts
 returns-in_err-finish-clause-counts g c = counts_spent (g.O.Sink.faults c.args.out.now) (g.O.Sink.faults c.read_messages.new.out) c.from_residual-in_err-finish.result c.from_residual-in_err-finish.ensures.1 c.in_ok-read_messages.ensures.counts

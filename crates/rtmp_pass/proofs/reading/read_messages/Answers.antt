@@ -1,12 +1,13 @@
 -- From message to message.
-use Rattle.std.proofs.Common.{◌<◌, ◌-◌, ◌≤◌, [], Ok, Err, Some, None, refl, arith, subst, ◌∙◌}
+use Rattle.std.proofs.Common.{◌<◌, ◌-◌, ◌≤◌, [], Ok, Err, Some, None, IfSome, refl, arith, subst, ◌∙◌}
 use Rattle.amf_io.specs.Cursor.{place, bound, unread}
 use Rattle.amf_io.specs.Stretch.{stretch, between}
 use Rattle.amf_io.proofs.CursorReads.{goes_nowhere, goes_then, goes_other}
+use Rattle.rtmp_chunks.specs.Push.{IsPushable}
 use Rattle.rtmp_chunks.specs.Reader.{AnswersNext}
 use Rattle.rtmp_chunks.specs.Table.{held, made, message_seen}
 use Rattle.rtmp_pass.specs.Reads.{Puts, PutsSome}
-use Rattle.rtmp_pass.proofs.Turns.{puts_none, none_so_far, next_some, next_none, next_ends, message_moves, message_within, taken, took_end, behind_message, write_failed, ended_goes, handed_goes, handed_takes, counts_end, counts_then}
+use Rattle.rtmp_pass.proofs.Turns.{puts_none, none_so_far, next_some, next_none, next_ends, message_moves, message_within, taken, took_end, behind_message, write_failed, spent_behind, some_none, placed_within, ended_goes, handed_goes, handed_takes, counts_end, counts_then}
 use Rattle.rtmp_pass.proofs.reading.read_messages.Goals as goal
 
 pub loop-message-init : goal.loop-message-init
@@ -51,9 +52,14 @@ returns-in_err-message-clause-takes g c = λ x.
     took_end (H.says c.args.handler.now) s t (stretch (Unit {0}) (unread S.left k) (unread S.left n) (place k) (place n) (bound k)) All Part e c.from_residual.result c.from_residual.ensures.1
     (taken (H.says c.args.handler.now) s u (unread S.left k) (unread S.left d) (place k) (place d) (bound k) All (i.so_far x) (Err e) t (unread S.left n) (place n)
     (next_ends S.tells S.left S.faults message_seen u t k d n i.goes x e c.in_err-message.ensures.answers))
+    (spent_behind (H.says c.args.handler.now) s u t (unread S.left k) (unread S.left d) (place k) (place d) (bound k) (O.tells c.loop-message.out) (O.tells c.loop-message.out) (λ y. y) (O.held c.args.out.now) (O.held c.loop-message.out) (O.held c.loop-message.out) c.args.waiting.now.items c.loop-message.waiting.items (i.so_far x)
+    All (unread S.left n) (place n) (placed_within (place d) (bound d) (bound k) i.placed.within i.goes.same_bound) (some_none (O.tells c.loop-message.out) (O.held c.loop-message.out) c.loop-message.waiting.items))
 
 pub returns-in_err-message-clause-counts : goal.returns-in_err-message-clause-counts
 returns-in_err-message-clause-counts g c = counts_end (g.O.Sink.faults c.args.out.now) (g.O.Sink.faults c.loop-message.out) c.in_err-message.field-0.0 c.from_residual.result c.from_residual.ensures.1 c.loop-message.invariant.no_fault
+
+pub hand_on-requires : goal.hand_on-requires
+hand_on-requires g c = subst (λ it. IfSome it (λ m. IsPushable (message_seen m))) c.in-Some.is c.in_ok-message.ensures.pushable
 
 pub returns-in_err-hand_on-clause-goes : goal.returns-in_err-hand_on-clause-goes
 returns-in_err-hand_on-clause-goes g c =
@@ -97,6 +103,8 @@ returns-in_err-hand_on-clause-takes g c = λ x.
     c.in_err-hand_on.field-0.0 c.from_residual-in_err-hand_on.result c.from_residual-in_err-hand_on.ensures.1 c.in_err-hand_on.ensures.hands
     (λ b says part. write_failed Says s u v t (unread S.left k) (unread S.left d) (unread S.left n) (place k) (place d) (place n) (bound k) (message_seen m) z (O.tells l.out) (O.tells a.out) c.in_err-hand_on.ensures.tells
     (O.held c.args.out.now) (O.held l.out) (O.held a.out) c.args.waiting.now.items l.waiting.items (i.so_far x) b (i.says (message_seen m) b says) All (unread S.left n) (place n) part)
+    (λ part. spent_behind Says s u t (unread S.left k) (unread S.left d) (place k) (place d) (bound k) (O.tells l.out) (O.tells a.out) c.in_err-hand_on.ensures.tells (O.held c.args.out.now) (O.held l.out) (O.held a.out) c.args.waiting.now.items l.waiting.items (i.so_far x)
+    All (unread S.left n) (place n) (placed_within (place d) (bound d) (bound k) i.placed.within i.goes.same_bound) part)
 
 pub returns-in_err-hand_on-clause-counts : goal.returns-in_err-hand_on-clause-counts
 returns-in_err-hand_on-clause-counts g c =

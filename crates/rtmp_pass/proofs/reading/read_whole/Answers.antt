@@ -1,5 +1,7 @@
 use Rattle.amf_io.specs.Cursor.{source_of, unread}
 use Rattle.rtmp_pass.specs.Reads.{PutAll, PutSome}
+use Rattle.rtmp_pass.specs.Ends.{reading}
+use Rattle.rtmp_pass.proofs.Places.{taken_by}
 use Rattle.rtmp_pass.proofs.Rests.{source_left, counted}
 use Rattle.rtmp_pass.proofs.reading.read_whole.Goals as goal
 
@@ -16,3 +18,8 @@ returns-clause-passes g c = λ x.
 
 pub returns-clause-reads : goal.returns-clause-reads
 returns-clause-reads g c = counted (g.S.Source.faults (source_of c.args.cursor.now).now) (g.S.Source.faults (source_of c.read_all.new.cursor).now) c.read_all.result c.read_all.ensures.goes.cause
+
+pub returns-clause-taken : goal.returns-clause-taken
+returns-clause-taken g c = λ x.
+    let S = g.S.Source in
+    taken_by S.tells S.left S.faults c.args.cursor.now c.read_all.new.cursor (reading c.read_all.result) c.requires.start c.requires.limit c.read_all.ensures.goes x

@@ -1,4 +1,5 @@
-use Rattle.std.proofs.Common.{subst}
+use Rattle.std.proofs.Common.{[], refl, sym, subst}
+use Rattle.std.proofs.lemmas.List.{append-nil}
 use Rattle.rtmp_pass.specs.Pass.{Passes, WroteAll, WroteSome}
 use Rattle.rtmp_pass.specs.Rechunk.{Restarts, Repeats, EndsSilently}
 use Rattle.rtmp_pass.proofs.Streams.{no_memory}
@@ -13,6 +14,7 @@ returns-in_err-handler-clause-passes g c = λ x.
     let o = c.args.out.now in
     let n = c.args.size in
     no_memory (Restarts n) (Repeats n) EndsSilently (I.left c.args.input.now) (I.left c.args.input.now) (WroteAll (O.tells o) (O.held o) (O.held o)) (WroteSome (O.tells o) (O.held o) (O.held o)) c.from_residual.result c.from_residual.ensures.1
+    (λ t. record { front = []; rest = []; parts = refl; added = sym (append-nil (O.held o)) })
 
 pub returns-in_err-handler-clause-reads : goal.returns-in_err-handler-clause-reads
 returns-in_err-handler-clause-reads g c = none_read (g.I.Source.faults c.args.input.now) c.from_residual.result c.from_residual.ensures.1
