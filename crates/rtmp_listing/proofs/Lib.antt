@@ -1,0 +1,3 @@
+pub mod OneRead
+pub mod Listed
+pub mod LinesMade

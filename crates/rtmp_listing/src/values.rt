@@ -1,0 +1,110 @@
+ghost use Rattle.std.specs.Prelude.{◌≡◌, ◌<◌, ◌^◌, ◌+◌, ◌↔◌, [], false, length, IsTrue, OnOk};
+ghost use Rattle.std.specs.List.{AllByRecursion};
+ghost use Rattle.amf_io.specs.Cursor.{place, bound, unread};
+ghost use Rattle.amf_io.specs.InMemory.{faultless_left};
+ghost use Rattle.amf_io.specs.ReadEnds.{Goes};
+ghost use Rattle.amf_graph.specs.Arena.{Names};
+ghost use Rattle.rtmp_pass.specs.Pass.{Appended};
+ghost use Rattle.rtmp_listing.specs.Listing.{ShowsValues};
+ghost use Rattle.rtmp_listing.specs.Values.{AnswersOne, Lists};
+
+use crate::lines::push_bad_line;
+use amf_graph::{Builder, Rooted, Value};
+use amf_io::{Cursor, FaultlessSource, ReadEnd};
+use amf_show::show;
+use amf_wire::Memory;
+use amf0_read::read0;
+use amf0_spelling::Tables0;
+use std::alloc::Global;
+use std::hash::RandomState;
+
+/// In what pieces the bytes of a message are read.
+const PIECE: usize = 65_536;
+
+/// Appends the listing of each AMF 0 value that bytes are, with fresh tables for each; or of those before the first that is none,
+/// and the line that says why. It gives up where there is no memory.
+pub(crate) fn push_values(
+    alloc: Global,
+    keys: Option<RandomState>,
+    bytes: &[u8],
+    out: &mut Vec<u8>,
+) -> Result<(), Memory>
+    requires { length bytes.now < 2 ^ 24 }
+    ensures { OnOk result (Appended (ShowsValues 0 bytes.now) out.old.items out.new.items) }
+{
+    if bytes.is_empty() {
+        return Ok(());
+    }
+    let mut source = FaultlessSource::new(alloc, bytes, PIECE, 0)?;
+    let mut cursor = Cursor::new(alloc, &mut source, bytes.len() as u32)?;
+    match push_each(alloc, keys, &mut cursor, out) {
+        Ok(()) => Ok(()),
+        Err(ReadEnd::Refused(refusal)) => Ok(push_bad_line(refusal, out)?),
+        // No read of bytes in memory fails.
+        Err(ReadEnd::ReadFault) => unreachable!(),
+        Err(ReadEnd::Memory) => Err(Memory),
+    }
+}
+
+/// Appends the listing of each value up to the end.
+fn push_each(
+    alloc: Global,
+    keys: Option<RandomState>,
+    cursor: &mut Cursor<'_, FaultlessSource>,
+    out: &mut Vec<u8>,
+) -> Result<(), ReadEnd>
+    requires end { place cursor.old + length (unread faultless_left cursor.old) ≡ bound cursor.old }
+    requires few { bound cursor.old < 2 ^ 24 }
+    ensures { Lists (place cursor.old) (unread faultless_left cursor.old) out.old.items out.new.items result }
+{
+    while !is_over(cursor) {
+        let graph = read_one(alloc, keys, cursor)?;
+        show(alloc, &graph, out)?;
+    }
+    Ok(())
+}
+
+/// Whether no byte follows.
+fn is_over(cursor: &mut Cursor<'_, FaultlessSource>) -> bool
+    ensures over { IsTrue result ↔ (unread faultless_left cursor.old ≡ []) }
+    ensures same { unread faultless_left cursor.new ≡ unread faultless_left cursor.old }
+    ensures stays { place cursor.new ≡ place cursor.old }
+    ensures same_bound { bound cursor.new ≡ bound cursor.old }
+{
+    match cursor.at_end() {
+        Ok(ended) => ended,
+        // No read of bytes in memory fails.
+        Err(_) => unreachable!(),
+    }
+}
+
+/// The graph that the next bytes of a cursor spell, from empty tables.
+fn read_one(
+    alloc: Global,
+    keys: Option<RandomState>,
+    cursor: &mut Cursor<'_, FaultlessSource>,
+) -> Result<Rooted, ReadEnd>
+    requires { bound cursor.old < 2 ^ 24 }
+    ensures goes { Goes (λ s. Unit {0}) faultless_left (λ s. 0) cursor.old cursor.new result }
+    ensures answers { AnswersOne (unread faultless_left cursor.old) (unread faultless_left cursor.new) (place cursor.old) (place cursor.new)
+        (bound cursor.old) result }
+{
+    // What is true of every cursor.
+    let _start = cursor.at();
+    let mut builder = Builder::keyed(alloc, keys)?;
+    let mut tables = Tables0::new(alloc)?;
+    let read = read0(alloc, cursor, &mut builder, &mut tables)?;
+    Ok(whole(builder, read.value))
+}
+
+/// The graph with this root, of which all nodes are closed.
+fn whole(builder: Builder, root: Value) -> Rooted
+    requires names { Names builder root }
+    requires closed { AllByRecursion (λ n. n.is_open ≡ false) builder.nodes }
+    ensures { result ≡ record { arena = builder; root = root } }
+{
+    match builder.finish(root) {
+        Ok(graph) => graph,
+        Err(_) => unreachable!(),
+    }
+}
