@@ -1,0 +1,12 @@
+pub mod Fronts
+pub mod Puts
+pub mod FlvShows
+pub mod FlvTags
+pub mod FlvMoves
+pub mod FlvFiles
+pub mod FlvWhole
+pub mod SetVerdicts
+pub mod SetReads
+pub mod FlvVerdicts
+pub mod StreamEnds
+pub mod StreamVerdicts
