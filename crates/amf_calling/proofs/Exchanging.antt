@@ -1,16 +1,19 @@
 -- How writing and reading make up an exchange.
 use Rattle.std.proofs.Common.{◌≡◌, ◌∙◌, ℕ, List, [], ◌++◌, subst, Result, Ok, Err, inr}
+use Rattle.std.specs.Prelude.{IfOk}
+use Rattle.amf_io.specs.declared.link.Link.{Ghosts as LinkMembers}
 use Rattle.amf_io.specs.Outside.{Rose, Keeps}
-use Rattle.amf_graph.specs.Rooted.{RootedArena}
+use Rattle.amf_graph.specs.Reached.{IsNamed}
+use Rattle.amf_graph.specs.Rooted.{RootedArena, content}
 use Rattle.amf_client.specs.declared.ends.AnswerFault.{AnswerFault}
 use Rattle.amf_client.specs.declared.ends.AnswerFault.TheVariants as end
 use Rattle.amf_client.specs.Answers.{Answers, Counts}
 use Rattle.amf_client.specs.Reply.{IsOpen}
+use Rattle.amf_calling.specs.Called.{HasNames}
 use Rattle.amf_calling.specs.Exchanged.{Took, HadNoFault, HadToGive, FailedToAnswer, Exchanged}
 use Rattle.amf_calling.specs.Steps.{answer_of}
-use Rattle.amf_calling.specs.Tells.{OfLink}
 
-module _ {L : Type 0} (link : OfLink L) (a m b : L) (call keeps : List ℕ) where
+module _ {L : Type 0} (link : LinkMembers L) (a m b : L) (call keeps : List ℕ) where
   -- the call was sent
   pub record Sent : Type 0 where
     pub told : link.tells_held m → link.tells_held a
@@ -51,3 +54,11 @@ module _ {L : Type 0} (link : OfLink L) (a m b : L) (call keeps : List ℕ) wher
   exchanged (Err (end.BadReply number)) s d = (took _ s d, no_fault _ s d d.cause, gives _ _ s d (λ t. d.answers t))
   exchanged (Err end.ReadFault) s d = inr (took _ s d, fails s d)
   exchanged (Err end.Memory) s d = (took _ s d, no_fault _ s d d.cause)
+
+-- the names of the graph that was read
+pub names_as : (r : Result RootedArena AnswerFault) → IfOk r (λ g. IsNamed (content g)) → HasNames (answer_of r)
+names_as (Ok g) named = named
+names_as (Err (end.Fault code text)) named = tt
+names_as (Err (end.BadReply number)) named = tt
+names_as (Err end.ReadFault) named = tt
+names_as (Err end.Memory) named = tt

@@ -1,1 +1,3 @@
 pub mod Exchanging
+pub mod Lackless
+pub mod Utf8Text

@@ -1,17 +1,20 @@
 -- What a call over a dial came to: at most one dial, one request, one answer.
 use Rattle.std.specs.Prelude.{◌≡◌, ℕ, ◌+◌, ◌≤◌, ◌⊎◌, true, false, List, [], ◌∷◌, ◌++◌, ⊤}
+use Rattle.amf_io.specs.declared.dial.Dial.{Ghosts as DialMembers}
+use Rattle.amf_io.specs.declared.link.Link.{Ghosts as LinkMembers}
 use Rattle.amf_io.specs.Dial.{IsFresh}
 use Rattle.amf_io.specs.Front.{CountsBack}
 use Rattle.amf_io.specs.Outside.{Rose}
 use Rattle.amf_graph.specs.Graph.{Graph}
+use Rattle.amf_graph.specs.Reached.{IsNamed}
+use Rattle.amf_graph.specs.Rooted.{content}
 use Rattle.amf3_spelling.specs.Lacks3.{IsLack3}
 use Rattle.amf_client.specs.Asking.{IsAsk, are_arguments}
 use Rattle.amf_calling.specs.declared.answer.CallAnswer.{CallAnswer}
 use Rattle.amf_calling.specs.declared.answer.CallAnswer.TheVariants.{Graph as Given, Fault, BadReply, LinkFault, NotArgs, NoSpelling, Memory}
 use Rattle.amf_calling.specs.Exchanged.{Exchanged}
-use Rattle.amf_calling.specs.Tells.{OfLink, OfDial}
 
-module _ {D L : Type 0} (dial : OfDial D L) (link : OfLink L) (port : ℕ) (before after : D) where
+module _ {D L : Type 0} (dial : DialMembers D L) (link : LinkMembers L) (port : ℕ) (before after : D) where
   -- it was asked once, at the port, and gave this link, of which no call had failed; it took the link back, whose faults are one of its own
   pub record Used (came went : L) : Type 0 where
     pub told : dial.tells after → dial.tells before
@@ -78,3 +81,8 @@ Counts before now Memory = now ≡ before
 abbrev pub IsNumbered : CallAnswer → Type 0
 IsNumbered (BadReply number) = (1 ≤ number) × (number ≤ 8)
 IsNumbered answer = ⊤
+
+-- a graph has no empty dynamic or associative name, where a link tells what it had to give and where it does not: so it lacks nothing
+abbrev pub HasNames : CallAnswer → Type 0
+HasNames (Given g) = IsNamed (content g)
+HasNames answer = ⊤

@@ -1,5 +1,6 @@
 -- What one call over a link came to, by the link as it was given and as it was left, the bytes of the call, and the answer.
 use Rattle.std.specs.Prelude.{◌≡◌, ℕ, ◌⊎◌, List, ◌++◌}
+use Rattle.amf_io.specs.declared.link.Link.{Ghosts as LinkMembers}
 use Rattle.amf_io.specs.Outside.{Rose, Keeps}
 use Rattle.amf_graph.specs.Graph.{Graph}
 use Rattle.amf_graph.specs.Isomorphic.{Isomorphic}
@@ -10,7 +11,6 @@ use Rattle.amf_client.specs.Outcomes.{Outcome, bad, fault, result, IsResult}
 use Rattle.amf_client.specs.Reply.{IsOpen}
 use Rattle.amf_calling.specs.declared.answer.CallAnswer.{CallAnswer}
 use Rattle.amf_calling.specs.declared.answer.CallAnswer.TheVariants.{Graph as Given, Fault, BadReply, LinkFault, NotArgs, NoSpelling, Memory}
-use Rattle.amf_calling.specs.Tells.{OfLink}
 
 -- the bytes have this result
 abbrev pub HasResult : Outcome Graph → List ℕ → Type 0
@@ -20,7 +20,7 @@ HasResult o bytes = (rest : List ℕ) × IsResult Means bytes o rest
 abbrev pub HasGraph : Graph → List ℕ → Type 0
 HasGraph g bytes = (h : Graph) × HasResult (result h) bytes × Isomorphic h g
 
-module _ {L : Type 0} (link : OfLink L) (came went : L) where
+module _ {L : Type 0} (link : LinkMembers L) (came went : L) where
   -- the link has taken these bytes
   pub record Took (call : List ℕ) : Type 0 where
     pub told : link.tells_held went → link.tells_held came

@@ -1,5 +1,4 @@
 -- The definitions that contracts cite.
-pub mod Tells
 pub mod Exchanged
 pub mod Called
 -- Devices of the proofs: no clause of a public call needs them.

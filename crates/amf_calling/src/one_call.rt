@@ -2,7 +2,7 @@ ghost use Rattle.std.specs.Prelude.{◌≡◌, ◌<◌, ◌⊎◌, ◌^◌, leng
 ghost use Rattle.amf_graph.specs.Rooted.{content};
 ghost use Rattle.amf_wire.specs.Text.{IsText};
 ghost use Rattle.amf_client.specs.Asking.{are_arguments};
-ghost use Rattle.amf_calling.specs.Called.{Dialled, Calls, Counts, IsNumbered};
+ghost use Rattle.amf_calling.specs.Called.{Dialled, Calls, Counts, IsNumbered, HasNames};
 
 use crate::CallAnswer;
 use crate::over_link::exchange;
@@ -22,9 +22,10 @@ fn dialled<D: Dial>(
     port: u16,
     call: &[u8],
 ) -> CallAnswer
-    ensures dialled { Dialled (record { tells = D.tells; asked = D.asked; coming = D.coming; links = D.links; faults = D.faults }) (record { tells_left = D.Link.tells_left; left = D.Link.left; tells_held = D.Link.tells_held; held = D.Link.held; read_faults = D.Link.read_faults; write_faults = D.Link.write_faults }) port dial.old dial.new call.now result }
+    ensures dialled { Dialled D.Dial D.Link.Link port dial.old dial.new call.now result }
     ensures cause { Counts (D.faults dial.old) (D.faults dial.new) result }
     ensures numbered { IsNumbered result }
+    ensures named { HasNames result }
 {
     let Ok(mut buffer) = ReplyBuffer::new(alloc) else {
         return CallAnswer::Memory;
@@ -57,10 +58,11 @@ pub fn call<D: Dial>(
 ) -> CallAnswer
     requires text { IsText target.now }
     requires short { length target.now < 2 ^ 16 }
-    ensures calls { Calls (record { tells = D.tells; asked = D.asked; coming = D.coming; links = D.links; faults = D.faults }) (record { tells_left = D.Link.tells_left; left = D.Link.left; tells_held = D.Link.tells_held; held = D.Link.held; read_faults = D.Link.read_faults; write_faults = D.Link.write_faults }) port dial.old dial.new target.now (content args.now) result }
+    ensures calls { Calls D.Dial D.Link.Link port dial.old dial.new target.now (content args.now) result }
     ensures arguments { are_arguments (content args.now) ≡ false → (result ≡ CallAnswer.NotArgs) ⊎ (result ≡ CallAnswer.Memory) }
     ensures cause { Counts (D.faults dial.old) (D.faults dial.new) result }
     ensures numbered { IsNumbered result }
+    ensures named { HasNames result }
 {
     call_keyed(alloc, None, dial, port, target, args)
 }
@@ -77,10 +79,11 @@ pub fn call_keyed<D: Dial>(
 ) -> CallAnswer
     requires text { IsText target.now }
     requires short { length target.now < 2 ^ 16 }
-    ensures calls { Calls (record { tells = D.tells; asked = D.asked; coming = D.coming; links = D.links; faults = D.faults }) (record { tells_left = D.Link.tells_left; left = D.Link.left; tells_held = D.Link.tells_held; held = D.Link.held; read_faults = D.Link.read_faults; write_faults = D.Link.write_faults }) port dial.old dial.new target.now (content args.now) result }
+    ensures calls { Calls D.Dial D.Link.Link port dial.old dial.new target.now (content args.now) result }
     ensures arguments { are_arguments (content args.now) ≡ false → (result ≡ CallAnswer.NotArgs) ⊎ (result ≡ CallAnswer.Memory) }
     ensures cause { Counts (D.faults dial.old) (D.faults dial.new) result }
     ensures numbered { IsNumbered result }
+    ensures named { HasNames result }
 {
     match request(alloc, keys, port, target, args) {
         Ok(link) => dialled(alloc, keys, dial, port, link.sink.as_bytes()),

@@ -1,5 +1,5 @@
 ghost use Rattle.std.specs.Prelude.{◌≡◌, []};
-ghost use Rattle.amf_calling.specs.Called.{IsNumbered};
+ghost use Rattle.amf_calling.specs.Called.{IsNumbered, HasNames};
 ghost use Rattle.amf_calling.specs.Exchanged.{Exchanged};
 ghost use Rattle.amf_calling.specs.Steps.{answer_of};
 
@@ -33,8 +33,9 @@ pub(crate) fn exchange<L: Link>(
     call: &[u8],
 ) -> CallAnswer
     requires { buffer.old ≡ [] }
-    ensures exchanged { Exchanged (record { tells_left = L.tells_left; left = L.left; tells_held = L.tells_held; held = L.held; read_faults = L.read_faults; write_faults = L.write_faults }) link.old link.new call.now result }
+    ensures exchanged { Exchanged L.Link link.old link.new call.now result }
     ensures numbered { IsNumbered result }
+    ensures named { HasNames result }
 {
     let Ok(()) = send(link, call) else {
         return CallAnswer::LinkFault;
