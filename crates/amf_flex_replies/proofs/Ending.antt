@@ -9,23 +9,22 @@ use Rattle.flex_msgs.specs.Answers.{invalidate_graph}
 use Rattle.amf_flex_replies.specs.declared.replies.FlexAnswer.{FlexAnswer}
 use Rattle.amf_plan.specs.Batches.{about_poll, invalidates, sync, batch}
 use Rattle.amf_flex_replies.specs.Batching.{say_sync}
-use Rattle.amf_plan.specs.Did.{Ran, Stopped}
+use Rattle.amf_plan.specs.Did.{Drawn, Ran, Stopped}
 use Rattle.amf_flex_replies.specs.Says.{Says, Tells}
 use Rattle.amf_plan.specs.Plan.{Plan, gives, ◌>>=◌}
 use Rattle.amf_plan.specs.Replies.{Context, Answer, fresh, acknowledge_null}
-use Rattle.amf_plan.specs.Serving.{Taken}
 use Rattle.amf_plan.proofs.Doing.{HandsNone, HandsBoth, ran_then, ran_nothing, stopped_then, stopped_first, stopped_between}
 use Rattle.amf_flex_replies.proofs.Saying.{says_then, says_told}
 
 -- so far came these, and what the rest of the plan comes to makes what the whole comes to
-pub record Ahead {O : Type 0} (handed : O → O → Taken → Type 0) (whole rest : Plan (List Graph)) (start now : O) (front : List Graph) : Type 0 where
+pub record Ahead {O : Type 0} (handed : O → O → Drawn → Type 0) (whole rest : Plan (List Graph)) (start now : O) (front : List Graph) : Type 0 where
   pub all : (c : O) (gs : List Graph) → Ran handed rest now c gs → Ran handed whole start c (front ++ gs)
   pub part : (c : O) → Stopped handed rest now c → Stopped handed whole start c
 
-pub ahead_none : {O : Type 0} (handed : O → O → Taken → Type 0) (p : Plan (List Graph)) (a : O) → Ahead handed p p a a []
+pub ahead_none : {O : Type 0} (handed : O → O → Drawn → Type 0) (p : Plan (List Graph)) (a : O) → Ahead handed p p a a []
 ahead_none handed p a = record { all = λ c gs r. r; part = λ c s. s }
 
-module _ {O : Type 0} (handed : O → O → Taken → Type 0) (none : HandsNone handed) (both : HandsBoth handed) where
+module _ {O : Type 0} (handed : O → O → Drawn → Type 0) (none : HandsNone handed) (both : HandsBoth handed) where
   -- one invalidate more
   abbrev then_more : Context → List ℕ → Reply → Plan (List Graph)
   then_more k ended r = do

@@ -15,11 +15,10 @@ use Rattle.amf_plan.specs.Calls.{cause_of, ComesTo}
 use Rattle.amf_flex_replies.specs.KeptArguments.{KeepsArguments}
 use Rattle.amf_plan.specs.Causes as causes
 use Rattle.amf_flex_replies.specs.Says.{Says}
-use Rattle.amf_plan.specs.Did.{Stopped}
+use Rattle.amf_plan.specs.Did.{Drawn, Stopped}
 use Rattle.amf_plan.specs.Plan.{Plan}
 use Rattle.amf_plan.specs.Remoting.{outcome, call}
 use Rattle.amf_plan.specs.Replies.{Answer, Context, context_of, error, acknowledge}
-use Rattle.amf_plan.specs.Serving.{Taken}
 
 no_cause : (f : FaultText) → None ≡ Some f → ⊥
 no_cause f e = cc
@@ -38,7 +37,7 @@ cause_plan k (given (result g)) f e = absurd (no_cause f e)
 pub result_plan : (k : Context) (d : Called) (g : Graph) → d ≡ given (result g) → outcome k d ≡ acknowledge k [] g g.root
 result_plan k d g e = ap (λ (z : Called). outcome k z) e
 
-module _ {O : Type 0} (handed : O → O → Taken → Type 0) (k : Context) (d : Called) (answer : CallAnswer) (a b : O) where
+module _ {O : Type 0} (handed : O → O → Drawn → Type 0) (k : Context) (d : Called) (answer : CallAnswer) (a b : O) where
   pub said_result : (x : FlexAnswer) (graph : RootedArena) → answer ≡ Gave graph → ComesTo d answer → ((g : Graph) → Isomorphic g (content graph) → Says handed (acknowledge k [] g g.root) a b x) → Says handed (outcome k d) a b x
   said_result x graph e comes says =
       let c : ComesTo d (Gave graph) = subst (λ (z : CallAnswer). ComesTo d z) e comes in
@@ -61,7 +60,7 @@ module _ {O : Type 0} (handed : O → O → Taken → Type 0) (k : Context) (d :
 
 -- Arguments that are kept are said.
 
-module _ {O : Type 0} (handed : O → O → Taken → Type 0) (services : List Entry) (t : Told) (operation service : List ℕ) (named : t.destination ≡ service) (k : Context) (same : k ≡ context_of t) (a b : O) where
+module _ {O : Type 0} (handed : O → O → Drawn → Type 0) (services : List Entry) (t : Told) (operation service : List ℕ) (named : t.destination ≡ service) (k : Context) (same : k ≡ context_of t) (a b : O) where
   -- the call of these arguments, as it was made
   abbrev Said : Graph → Plan Answer
   Said g = outcome k (called services service operation g)

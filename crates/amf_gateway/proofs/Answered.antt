@@ -1,5 +1,5 @@
 -- Answering a link one request at a time comes to what the link is answered.
-use Rattle.std.proofs.Common.{◌≡◌, ◌∙◌, ℕ, suc, Bool, true, false, ◌==◌, ◌||◌, if◌then◌else◌, List, [], ◌∷◌, ◌++◌, map, Option, Some, None, refl, sym, ap, subst, inr, append_assoc, append-nil}
+use Rattle.std.proofs.Common.{◌≡◌, ◌∙◌, ℕ, suc, Bool, true, false, ◌==◌, ◌||◌, if◌then◌else◌, List, [], ◌∷◌, ◌++◌, Option, Some, None, refl, sym, ap, subst, inr, append_assoc, append-nil}
 use Rattle.std.proofs.lemmas.List.{map-append}
 use Rattle.amf_broker.specs.declared.call.Call.{Call}
 use Rattle.amf_broker.specs.declared.reply.Reply.{Reply as Replied}
@@ -9,17 +9,17 @@ use Rattle.amf_service.specs.Registry.{Entry}
 use Rattle.amf_gateway.specs.Answered.{packet_bytes, if_packet}
 use Rattle.amf_gateway.specs.Answering.{Next, packet, answer_with, next_by, next, goes_on, one_more}
 use Rattle.amf_plan.specs.Begun.{Begun}
-use Rattle.amf_plan.specs.Did.{none_taken, both_taken}
+use Rattle.amf_plan.specs.Did.{taken_none, taken_both}
 use Rattle.amf_plan.specs.Links.{LinkEnd, turn_away, answer_packet, answer_body, answer_request, link_of}
-use Rattle.amf_gateway.specs.LinkSteps.{Gives}
+use Rattle.amf_gateway.specs.LinkSteps.{Gives, HaltsBy}
 use Rattle.amf_plan.specs.Packets.{answers_to, has_long}
 use Rattle.amf_plan.specs.Plan.{Cut, at_end, cut_short, turned_away, request, Plan, gives, takes_moment, takes_word, calls, spells, reads, cuts, unpacks, packs, writes, ◌>>=◌}
 use Rattle.amf_plan.specs.Respond.{joined}
-use Rattle.amf_gateway.specs.Stands.{Stands, AtWriting, AtBytes, StopsBy}
+use Rattle.amf_plan.specs.Stands.{Stands, AtWriting, AtBytes}
 use Rattle.amf_plan.specs.Runs.{Supply, Done, nothing, and_answer, Outcome, gave, Runs}
 use Rattle.amf_plan.specs.Serving.{ServeEnd, ended, read_fault, write_fault, no_memory, spent, LinkBytes, Taken, supply_of, calls_of, did, none_left, more, ServesBy}
 use Rattle.amf_plan.proofs.Composed.{both, runs_then, runs_more, begun_then}
-use Rattle.amf_gateway.proofs.Standing.{at_none, stands_then, stands_on}
+use Rattle.amf_plan.proofs.Standing.{at_none, stands_then, stands_on}
 
 -- The plans.
 
@@ -66,13 +66,13 @@ link_next services n = λ i bytes. cuts bytes (λ c. request_same services (n ==
 
 -- What is taken and done, one after the other.
 
-same_supply : (k l : Taken) → more (supply_of k) (supply_of l) ≡ supply_of (both_taken k l)
+same_supply : (k l : Taken) → more (supply_of k) (supply_of l) ≡ supply_of (taken_both k l)
 same_supply k l = ap (λ (rs : List Replied). record { moments = k.moments ++ l.moments; words = k.words ++ l.words; replies = rs }) (sym (map-append (λ e. e.answer.reply) k.entries l.entries))
 
-same_calls : (k l : Taken) → calls_of k ++ calls_of l ≡ calls_of (both_taken k l)
+same_calls : (k l : Taken) → calls_of k ++ calls_of l ≡ calls_of (taken_both k l)
 same_calls k l = sym (map-append (λ e. (e.moment, e.call)) k.entries l.entries)
 
-same_did : (k l : Taken) (xs ys : List (List ℕ)) → both (did k xs) (did l ys) ≡ did (both_taken k l) (xs ++ ys)
+same_did : (k l : Taken) (xs ys : List (List ℕ)) → both (did k xs) (did l ys) ≡ did (taken_both k l) (xs ++ ys)
 same_did k l xs ys = ap (λ (cs : List (ℕ × Call)). record { calls = cs; answers = xs ++ ys }) (same_calls k l)
 
 more_assoc : (s t u : Supply) → more s (more t u) ≡ more (more s t) u
@@ -101,7 +101,7 @@ pub record Carries (all rest : List ℕ → Plan LinkEnd) (used : List ℕ) (k :
   pub begun : (x : List ℕ) (s : Supply) (d : Done) → Begun (rest x) s d → Begun (all (used ++ x)) (more (supply_of k) s) (both (did k answers) d)
   pub stands : (x : List ℕ) → Stands (λ q. q ≡ rest x) (all (used ++ x)) (supply_of k) (did k answers)
 
-pub carries_none : (all : List ℕ → Plan LinkEnd) → Carries all all [] none_taken []
+pub carries_none : (all : List ℕ → Plan LinkEnd) → Carries all all [] taken_none []
 carries_none all = record { runs = λ x s d o r. r; begun = λ x s d b. b; stands = λ x. at_none (λ q. q ≡ all x) (all x) refl }
 
 module _ (services : List Entry) (last : Bool) (after : List ℕ → Plan LinkEnd) where
@@ -123,36 +123,36 @@ module _ (services : List Entry) (last : Bool) (after : List ℕ → Plan LinkEn
       stands_then (λ q. q ≡ after x) (next services last bytes) (goes_on after) (supply_of j) none_left (did j []) (and_answer (response 200 answer false) nothing) (packet answer false x)
       g (inr (nothing, at_none (λ q. q ≡ after x) (after x) refl, refl))
 
-  step_done : (k j : Taken) (answers : List (List ℕ)) (answer : List ℕ) (d : Done) → both (did k answers) (both (did j []) (and_answer answer d)) ≡ both (did (both_taken k j) (answers ++ answer ∷ [])) d
+  step_done : (k j : Taken) (answers : List (List ℕ)) (answer : List ℕ) (d : Done) → both (did k answers) (both (did j []) (and_answer answer d)) ≡ both (did (taken_both k j) (answers ++ answer ∷ [])) d
   step_done k j answers answer d =
       both_assoc (did k answers) (did j (answer ∷ [])) d ∙ ap (λ (z : Done). both z d) (same_did k j answers (answer ∷ []))
 
-  step_supply : (k j : Taken) (s : Supply) → more (supply_of k) (more (supply_of j) s) ≡ more (supply_of (both_taken k j)) s
+  step_supply : (k j : Taken) (s : Supply) → more (supply_of k) (more (supply_of j) s) ≡ more (supply_of (taken_both k j)) s
   step_supply k j s = more_assoc (supply_of k) (supply_of j) s ∙ ap (λ (z : Supply). more z s) (same_supply k j)
 
   pub carries_step : (all rest : List ℕ → Plan LinkEnd) (used more_used answer : List ℕ) (k j : Taken) (answers : List (List ℕ)) → rest ≡ one_more services last after → Carries all rest used k answers
-      → ((x : List ℕ) → Gives services last (more_used ++ x) j (packet answer false x)) → Carries all after (used ++ more_used) (both_taken k j) (answers ++ response 200 answer false ∷ [])
+      → ((x : List ℕ) → Gives services last (more_used ++ x) j (packet answer false x)) → Carries all after (used ++ more_used) (taken_both k j) (answers ++ response 200 answer false ∷ [])
   carries_step all rest used more_used answer k j answers e c a = record {
     runs = λ x s d o r.
         let written : Done = both (did j []) (and_answer (response 200 answer false) d) in
         let one = step_runs (more_used ++ x) x answer j (a x) s d o r in
         let here : Runs (rest (more_used ++ x)) (more (supply_of j) s) written o = subst (λ (p : List ℕ → Plan LinkEnd). Runs (p (more_used ++ x)) (more (supply_of j) s) written o) (sym e) one in
-        runs_as (all (used ++ (more_used ++ x))) (all ((used ++ more_used) ++ x)) (more (supply_of k) (more (supply_of j) s)) (more (supply_of (both_taken k j)) s) (both (did k answers) written) (both (did (both_taken k j) (answers ++ response 200 answer false ∷ [])) d) o
+        runs_as (all (used ++ (more_used ++ x))) (all ((used ++ more_used) ++ x)) (more (supply_of k) (more (supply_of j) s)) (more (supply_of (taken_both k j)) s) (both (did k answers) written) (both (did (taken_both k j) (answers ++ response 200 answer false ∷ [])) d) o
         (ap all (sym (append_assoc used more_used x))) (step_supply k j s) (step_done k j answers (response 200 answer false) d)
         (c.runs (more_used ++ x) (more (supply_of j) s) written o here);
     begun = λ x s d b.
         let written : Done = both (did j []) (and_answer (response 200 answer false) d) in
         let one = step_begun (more_used ++ x) x answer j (a x) s d b in
         let here : Begun (rest (more_used ++ x)) (more (supply_of j) s) written = subst (λ (p : List ℕ → Plan LinkEnd). Begun (p (more_used ++ x)) (more (supply_of j) s) written) (sym e) one in
-        begun_as (all (used ++ (more_used ++ x))) (all ((used ++ more_used) ++ x)) (more (supply_of k) (more (supply_of j) s)) (more (supply_of (both_taken k j)) s) (both (did k answers) written) (both (did (both_taken k j) (answers ++ response 200 answer false ∷ [])) d)
+        begun_as (all (used ++ (more_used ++ x))) (all ((used ++ more_used) ++ x)) (more (supply_of k) (more (supply_of j) s)) (more (supply_of (taken_both k j)) s) (both (did k answers) written) (both (did (taken_both k j) (answers ++ response 200 answer false ∷ [])) d)
         (ap all (sym (append_assoc used more_used x))) (step_supply k j s) (step_done k j answers (response 200 answer false) d)
         (c.begun (more_used ++ x) (more (supply_of j) s) written here);
     stands = λ x.
         let written : Done = both (did j []) (and_answer (response 200 answer false) nothing) in
         let one = step_stands (more_used ++ x) x answer j (a x) in
         let here : Stands (λ q. q ≡ after x) (rest (more_used ++ x)) (supply_of j) written = subst (λ (p : List ℕ → Plan LinkEnd). Stands (λ q. q ≡ after x) (p (more_used ++ x)) (supply_of j) written) (sym e) one in
-        stands_as (λ q. q ≡ after x) (all (used ++ (more_used ++ x))) (all ((used ++ more_used) ++ x)) (more (supply_of k) (supply_of j)) (supply_of (both_taken k j)) (both (did k answers) written) (did (both_taken k j) (answers ++ response 200 answer false ∷ []))
-        (ap all (sym (append_assoc used more_used x))) (same_supply k j) (step_done k j answers (response 200 answer false) nothing ∙ both_none (did (both_taken k j) (answers ++ response 200 answer false ∷ [])))
+        stands_as (λ q. q ≡ after x) (all (used ++ (more_used ++ x))) (all ((used ++ more_used) ++ x)) (more (supply_of k) (supply_of j)) (supply_of (taken_both k j)) (both (did k answers) written) (did (taken_both k j) (answers ++ response 200 answer false ∷ []))
+        (ap all (sym (append_assoc used more_used x))) (same_supply k j) (step_done k j answers (response 200 answer false) nothing ∙ both_none (did (taken_both k j) (answers ++ response 200 answer false ∷ [])))
         (stands_on (λ q. q ≡ after x) (rest (more_used ++ x)) (all (used ++ (more_used ++ x))) (supply_of k) (supply_of j) (did k answers) written (c.stands (more_used ++ x)) here);
   }
 
@@ -171,40 +171,40 @@ written_more start held now xs ys e f =
     f ∙ ap (λ z. z ++ joined ys) e ∙ append_assoc start (joined xs) (joined ys) ∙ ap (λ z. start ++ z) (sym (joined_both xs ys))
 
 module _ (all rest : List ℕ → Plan LinkEnd) (used : List ℕ) (k j : Taken) (answers : List (List ℕ)) (c : Carries all rest used k answers) where
-  rest_runs : (x : List ℕ) (others : List (List ℕ)) (o : Outcome LinkEnd) → Runs (rest x) (supply_of j) (did j others) o → Runs (all (used ++ x)) (supply_of (both_taken k j)) (did (both_taken k j) (answers ++ others)) o
-  rest_runs x others o r = runs_as (all (used ++ x)) (all (used ++ x)) (more (supply_of k) (supply_of j)) (supply_of (both_taken k j)) (both (did k answers) (did j others)) (did (both_taken k j) (answers ++ others)) o
+  rest_runs : (x : List ℕ) (others : List (List ℕ)) (o : Outcome LinkEnd) → Runs (rest x) (supply_of j) (did j others) o → Runs (all (used ++ x)) (supply_of (taken_both k j)) (did (taken_both k j) (answers ++ others)) o
+  rest_runs x others o r = runs_as (all (used ++ x)) (all (used ++ x)) (more (supply_of k) (supply_of j)) (supply_of (taken_both k j)) (both (did k answers) (did j others)) (did (taken_both k j) (answers ++ others)) o
       refl (same_supply k j) (same_did k j answers others) (c.runs x (supply_of j) (did j others) o r)
 
-  rest_begun : (x : List ℕ) (others : List (List ℕ)) → Begun (rest x) (supply_of j) (did j others) → Begun (all (used ++ x)) (supply_of (both_taken k j)) (did (both_taken k j) (answers ++ others))
-  rest_begun x others b = begun_as (all (used ++ x)) (all (used ++ x)) (more (supply_of k) (supply_of j)) (supply_of (both_taken k j)) (both (did k answers) (did j others)) (did (both_taken k j) (answers ++ others))
+  rest_begun : (x : List ℕ) (others : List (List ℕ)) → Begun (rest x) (supply_of j) (did j others) → Begun (all (used ++ x)) (supply_of (taken_both k j)) (did (taken_both k j) (answers ++ others))
+  rest_begun x others b = begun_as (all (used ++ x)) (all (used ++ x)) (more (supply_of k) (supply_of j)) (supply_of (taken_both k j)) (both (did k answers) (did j others)) (did (taken_both k j) (answers ++ others))
       refl (same_supply k j) (same_did k j answers others) (c.begun x (supply_of j) (did j others) b)
 
-  rest_stands : (At : Plan LinkEnd → Type 0) (x : List ℕ) (others : List (List ℕ)) → Stands At (rest x) (supply_of j) (did j others) → Stands At (all (used ++ x)) (supply_of (both_taken k j)) (did (both_taken k j) (answers ++ others))
-  rest_stands At x others s = stands_as At (all (used ++ x)) (all (used ++ x)) (more (supply_of k) (supply_of j)) (supply_of (both_taken k j)) (both (did k answers) (did j others)) (did (both_taken k j) (answers ++ others))
+  rest_stands : (At : Plan LinkEnd → Type 0) (x : List ℕ) (others : List (List ℕ)) → Stands At (rest x) (supply_of j) (did j others) → Stands At (all (used ++ x)) (supply_of (taken_both k j)) (did (taken_both k j) (answers ++ others))
+  rest_stands At x others s = stands_as At (all (used ++ x)) (all (used ++ x)) (more (supply_of k) (supply_of j)) (supply_of (taken_both k j)) (both (did k answers) (did j others)) (did (taken_both k j) (answers ++ others))
       refl (same_supply k j) (same_did k j answers others) (stands_on At (rest x) (all (used ++ x)) (supply_of k) (supply_of j) (did k answers) (did j others) (c.stands x) s)
 
   -- the rest was served so, and with what was before it all was
-  pub serves_carried : (start : List ℕ) (b : LinkBytes) (end : ServeEnd) → b.held ≡ start ++ joined answers → ServesBy rest b j end → ServesBy all (record { left = used ++ b.left; leaves = b.leaves; held = start; now = b.now }) (both_taken k j) end
+  pub serves_carried : (start : List ℕ) (b : LinkBytes) (end : ServeEnd) → b.held ≡ start ++ joined answers → ServesBy rest b j end → ServesBy all (record { left = used ++ b.left; leaves = b.leaves; held = start; now = b.now }) (taken_both k j) end
   serves_carried start b (ended end) e (others, whole, w) = (answers ++ others, rest_runs b.left others (gave end none_left) whole, written_more start b.held b.now answers others e w)
   serves_carried start b read_fault e (others, came, end, split, whole, part, w) =
       (answers ++ others, used ++ came, end, ap (λ z. used ++ z) split ∙ sym (append_assoc used came b.leaves), rest_runs came others (gave end none_left) whole, rest_begun b.left others part, written_more start b.held b.now answers others e w)
   serves_carried start b write_fault e (others, front, back, part, w) =
-      (answers ++ others, front, back, subst (λ (z : List (List ℕ)). Begun (all (used ++ b.left)) (supply_of (both_taken k j)) (did (both_taken k j) z)) (sym (append_assoc answers others ((front ++ back) ∷ []))) (rest_begun b.left (others ++ (front ++ back) ∷ []) part), written_both start b.held b.now answers others front e w)
+      (answers ++ others, front, back, subst (λ (z : List (List ℕ)). Begun (all (used ++ b.left)) (supply_of (taken_both k j)) (did (taken_both k j) z)) (sym (append_assoc answers others ((front ++ back) ∷ []))) (rest_begun b.left (others ++ (front ++ back) ∷ []) part), written_both start b.held b.now answers others front e w)
   serves_carried start b no_memory e (others, part, w) = (answers ++ others, rest_begun b.left others part, written_more start b.held b.now answers others e w)
   serves_carried start b spent e (others, part, w) = (answers ++ others, rest_begun b.left others part, written_more start b.held b.now answers others e w)
 
   -- and it stopped there
-  pub stops_carried : (start : List ℕ) (b : LinkBytes) (end : ServeEnd) → b.held ≡ start ++ joined answers → StopsBy rest b j end → StopsBy all (record { left = used ++ b.left; leaves = b.leaves; held = start; now = b.now }) (both_taken k j) end
-  stops_carried start b (ended end) e s = tt
-  stops_carried start b read_fault e (others, more_used, came, split, undecided, stands, w) = (
+  pub halts_carried : (At : Plan LinkEnd → Type 0) (start : List ℕ) (b : LinkBytes) (end : ServeEnd) → b.held ≡ start ++ joined answers → HaltsBy At rest b j end → HaltsBy At all (record { left = used ++ b.left; leaves = b.leaves; held = start; now = b.now }) (taken_both k j) end
+  halts_carried At start b (ended end) e s = tt
+  halts_carried At start b read_fault e (others, more_used, came, split, undecided, stands, w) = (
     answers ++ others,
     used ++ more_used,
     came,
     ap (λ z. used ++ z) split ∙ sym (append_assoc used more_used (came ++ b.leaves)),
     undecided,
-    λ x. subst (λ (z : List ℕ). Stands (AtBytes x) (all z) (supply_of (both_taken k j)) (did (both_taken k j) (answers ++ others))) (sym (append_assoc used more_used x)) (rest_stands (AtBytes x) (more_used ++ x) others (stands x)),
+    λ x. subst (λ (z : List ℕ). Stands (AtBytes x) (all z) (supply_of (taken_both k j)) (did (taken_both k j) (answers ++ others))) (sym (append_assoc used more_used x)) (rest_stands (AtBytes x) (more_used ++ x) others (stands x)),
     written_more start b.held b.now answers others e w,
   )
-  stops_carried start b write_fault e (others, front, back, stands, w) = (answers ++ others, front, back, rest_stands (AtWriting (front ++ back)) b.left others stands, written_both start b.held b.now answers others front e w)
-  stops_carried start b no_memory e s = tt
-  stops_carried start b spent e s = tt
+  halts_carried At start b write_fault e (others, front, back, stands, w) = (answers ++ others, front, back, rest_stands (AtWriting (front ++ back)) b.left others stands, written_both start b.held b.now answers others front e w)
+  halts_carried At start b no_memory e (others, stands, w) = (answers ++ others, rest_stands At b.left others stands, written_more start b.held b.now answers others e w)
+  halts_carried At start b spent e (others, stands, w) = (answers ++ others, rest_stands At b.left others stands, written_more start b.held b.now answers others e w)

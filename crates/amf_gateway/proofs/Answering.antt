@@ -17,11 +17,10 @@ use Rattle.amf_plain_calls.specs.declared.plain_call.MessageAnswer.{MessageAnswe
 use Rattle.amf_packet.specs.Alike.{BodiesMatch, HeadersMatch, MessagesMatch}
 use Rattle.amf_gateway.specs.Answered.{SaysMessage, HasRoom, IsWritable, AreWritable, SaysMessages, SaysPacket}
 use Rattle.amf_plain_calls.specs.TellsMessage.{LacksNothing, AnswersMessage}
-use Rattle.amf_plan.specs.Did.{Ran, Stopped}
+use Rattle.amf_plan.specs.Did.{Drawn, Ran, Stopped}
 use Rattle.amf_plan.specs.Packets.{null_uri, answer_to, suffix, message_back, messages_back, packet_back, answers_to, is_long}
 use Rattle.amf_plan.specs.Plan.{Plan, gives, ◌>>=◌}
 use Rattle.amf_plan.specs.Replies.{Answer}
-use Rattle.amf_plan.specs.Serving.{Taken}
 use Rattle.amf_plan.proofs.Doing.{HandsNone, HandsBoth, ran_then, ran_nothing, stopped_first, stopped_then, stopped_between}
 
 -- the message that was made matches the one that is said
@@ -47,7 +46,7 @@ map_push f [] x = refl
 map_push f (y ∷ xs) x = ap (λ z. f y ∷ z) (map_push f xs x)
 
 -- some first messages were answered, and these are still to come
-pub record AnsweredSo {O : Type 0} (handed : O → O → Taken → Type 0) (services : List Entry) (start now : O) (all rest : List Message) (back : List KeptMessage) : Type 0 where
+pub record AnsweredSo {O : Type 0} (handed : O → O → Drawn → Type 0) (services : List Entry) (start now : O) (all rest : List Message) (back : List KeptMessage) : Type 0 where
   pub done : List Message
   pub match : AllZip MessagesMatch done (map message_of back)
   pub goes_on : (c : O) (ys : List Message) → Ran handed (messages_back services rest) now c ys → Ran handed (messages_back services all) start c (done ++ ys)
@@ -55,7 +54,7 @@ pub record AnsweredSo {O : Type 0} (handed : O → O → Taken → Type 0) (serv
   pub writable : AreWritable back
   pub count : length back + length rest ≡ length all
 
-module _ {O : Type 0} (handed : O → O → Taken → Type 0) (none : HandsNone handed) (both : HandsBoth handed) (services : List Entry) where
+module _ {O : Type 0} (handed : O → O → Drawn → Type 0) (none : HandsNone handed) (both : HandsBoth handed) (services : List Entry) where
   -- what follows the answer to a message
   abbrev pub then_rest : Message → List Message → Answer → Plan (List Message)
   then_rest m ms y = ◌>>=◌ (messages_back services ms) (λ back. gives (message_back m.response y ∷ back))
@@ -123,7 +122,7 @@ none_told (x ∷ ms) zero l = absurd (omega (arith, l))
 none_told (x ∷ ms) (suc k) l = none_told ms k (omega (arith, l))
 
 -- the packet of these messages
-pub packet_said : {O : Type 0} (handed : O → O → Taken → Type 0) → HandsNone handed → HandsBoth handed → (services : List Entry) (p : KeptPacket) (a b : O) (back : KeptPacket) (ms made : List KeptMessage) → ms ≡ p.messages → back.messages ≡ made → SaysMessages handed (messages_back services (map message_of ms)) a b made → back.version ≡ p.version → back.headers ≡ [] → SaysPacket handed (answers_to services (packet_of p)) a b back
+pub packet_said : {O : Type 0} (handed : O → O → Drawn → Type 0) → HandsNone handed → HandsBoth handed → (services : List Entry) (p : KeptPacket) (a b : O) (back : KeptPacket) (ms made : List KeptMessage) → ms ≡ p.messages → back.messages ≡ made → SaysMessages handed (messages_back services (map message_of ms)) a b made → back.version ≡ p.version → back.headers ≡ [] → SaysPacket handed (answers_to services (packet_of p)) a b back
 packet_said handed none both services p a b back ms made e f told version headers =
     let said = subst (λ (z : List KeptMessage). SaysMessages handed (messages_back services (map message_of z)) a b made) e told in
     let s : SaysMessages handed (messages_back services (map message_of p.messages)) a b back.messages = subst (λ (z : List KeptMessage). SaysMessages handed (messages_back services (map message_of p.messages)) a b z) (sym f) said in
@@ -138,7 +137,7 @@ packet_said handed none both services p a b back ms made e f told version header
           (ran_nothing handed none (gives (packet_back p.version s.messages)) b (packet_back p.version s.messages) (refl, refl));
     }
 
-pub packet_stopped : {O : Type 0} (handed : O → O → Taken → Type 0) (services : List Entry) (p : KeptPacket) (a b : O) (ms : List KeptMessage) → ms ≡ p.messages → Stopped handed (messages_back services (map message_of ms)) a b → Stopped handed (answers_to services (packet_of p)) a b
+pub packet_stopped : {O : Type 0} (handed : O → O → Drawn → Type 0) (services : List Entry) (p : KeptPacket) (a b : O) (ms : List KeptMessage) → ms ≡ p.messages → Stopped handed (messages_back services (map message_of ms)) a b → Stopped handed (answers_to services (packet_of p)) a b
 packet_stopped handed services p a b ms e s =
     stopped_first handed (messages_back services (map message_of p.messages)) (λ xs. gives (packet_back p.version xs)) a b
     (subst (λ (z : List KeptMessage). Stopped handed (messages_back services (map message_of z)) a b) e s)

@@ -8,17 +8,16 @@ use Rattle.amf_packet.specs.Packet.{Packet}
 use Rattle.amf_service.specs.Registry.{Entry}
 use Rattle.amf_packet.specs.Alike.{PacketsMatch}
 use Rattle.amf_gateway.specs.Answered.{SaysPacket, Unpacks, packet_bytes, if_packet, body_bytes}
-use Rattle.amf_plan.specs.Did.{Ran, Stopped}
+use Rattle.amf_plan.specs.Did.{Drawn, Ran, Stopped}
 use Rattle.amf_plan.specs.Packets.{answers_to, has_long}
 use Rattle.amf_plan.specs.Plan.{Plan, gives, bytes_of, ◌>>=◌}
 use Rattle.amf_plan.specs.Runs.{IsPacked, IsUnpacked, Finds}
-use Rattle.amf_plan.specs.Serving.{Taken}
 use Rattle.amf_plan.proofs.Doing.{HandsNone, HandsBoth, ran_then, ran_nothing, stopped_first, stopped_between}
 
 abbrev written : Packet → Plan (Option (List ℕ))
 written back = ◌>>=◌ (bytes_of back) (λ bytes. gives (Some bytes))
 
-module _ {O : Type 0} (handed : O → O → Taken → Type 0) (services : List Entry) (p : Packet) (a b : O) where
+module _ {O : Type 0} (handed : O → O → Drawn → Type 0) (services : List Entry) (p : Packet) (a b : O) where
   pub ran_bytes : HandsNone handed → HandsBoth handed → (back : KeptPacket) (bytes : List ℕ) → SaysPacket handed (answers_to services p) a b back → ((q : Packet) → PacketsMatch q (packet_of back) → IsPacked q bytes) → Ran handed (packet_bytes services p) a b (Some bytes)
   ran_bytes none both back bytes s packed =
       ran_then handed both (answers_to services p) written a b b s.packet (Some bytes) s.ran
@@ -48,12 +47,12 @@ pub found : (body : List ℕ) (o : Option KeptPacket) → Unpacks body o → Fin
 found body None u = u
 found body (Some p) u = u.0
 
-module _ {O : Type 0} (handed : O → O → Taken → Type 0) (services : List Entry) (body : List ℕ) (o : Option KeptPacket) (u : Unpacks body o) (a b : O) where
+module _ {O : Type 0} (handed : O → O → Drawn → Type 0) (services : List Entry) (body : List ℕ) (o : Option KeptPacket) (u : Unpacks body o) (a b : O) where
   pub ran_body : (y : Option (List ℕ)) → Ran handed (if_packet services (option_map packet_of o)) a b y → Ran handed (body_bytes services body) a b y
-  ran_body y r = record { took = r.took; was_handed = r.was_handed; runs = (option_map packet_of o, found body o u, r.runs) }
+  ran_body y r = record { took = r.took; was_handed = r.was_handed; answered = r.answered; runs = (option_map packet_of o, found body o u, r.runs) }
 
   pub stopped_body : Stopped handed (if_packet services (option_map packet_of o)) a b → Stopped handed (body_bytes services body) a b
-  stopped_body s = record { took = s.took; was_handed = s.was_handed; begun = inr (option_map packet_of o, found body o u, s.begun) }
+  stopped_body s = record { took = s.took; was_handed = s.was_handed; stands = inr (option_map packet_of o, found body o u, s.stands) }
 
-pub ran_none : {O : Type 0} (handed : O → O → Taken → Type 0) → HandsNone handed → (services : List Entry) (a : O) → Ran handed (if_packet services None) a a None
+pub ran_none : {O : Type 0} (handed : O → O → Drawn → Type 0) → HandsNone handed → (services : List Entry) (a : O) → Ran handed (if_packet services None) a a None
 ran_none handed none services a = ran_nothing handed none (gives None) a None (refl, refl)

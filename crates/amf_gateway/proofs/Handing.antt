@@ -27,13 +27,13 @@ module _ {A : Type 0} (tells_moments : A → Type 0) (moments : A → List ℕ) 
   abbrev Goes : A → A → Taken → Type 0
   Goes = AidGoesOn tells_moments moments tells_words words Same
 
-  pub aid_moment : (a b : A) (m : ℕ) → (tells_moments b → tells_moments a) → (tells_moments b → moments b ≡ moments a ++ m ∷ []) → Keeps (tells_words a) (tells_words b) (words a) (words b) → Same a b → Goes a b (moment_taken m)
+  pub aid_moment : (a b : A) (m : ℕ) → (tells_moments b → tells_moments a) → (tells_moments b → moments b ≡ moments a ++ m ∷ []) → Keeps (tells_words a) (tells_words b) (words a) (words b) → Same a b → Goes a b (moment_taken m).taken
   aid_moment a b m since gives k s = record { moments_given = record { since = since; same = gives }; words_given = given_none (tells_words a) (tells_words b) (words a) (words b) k; same = s }
 
-  pub aid_word : (a b : A) (w : ℕ) → (tells_words b → tells_words a) → (tells_words b → words b ≡ words a ++ w ∷ []) → Keeps (tells_moments a) (tells_moments b) (moments a) (moments b) → Same a b → Goes a b (word_taken w)
+  pub aid_word : (a b : A) (w : ℕ) → (tells_words b → tells_words a) → (tells_words b → words b ≡ words a ++ w ∷ []) → Keeps (tells_moments a) (tells_moments b) (moments a) (moments b) → Same a b → Goes a b (word_taken w).taken
   aid_word a b w since gives k s = record { words_given = record { since = since; same = gives }; moments_given = given_none (tells_moments a) (tells_moments b) (moments a) (moments b) k; same = s }
 
-  pub aid_entry : (a : A) (e : Event) → Same a a → Goes a a (entry_taken e)
+  pub aid_entry : (a : A) (e : Event) → Same a a → Goes a a (entry_taken e).taken
   aid_entry a e s = record { moments_given = given_self (tells_moments a) (moments a); words_given = given_self (tells_words a) (words a); same = s }
 
 -- The pass.

@@ -6,7 +6,6 @@ pub mod Writable
 pub mod MessageAnswers
 pub mod Unpacked
 pub mod BodyAnswers
-pub mod Standing
 pub mod Answered
 pub mod Stepped
 pub mod ReadNext

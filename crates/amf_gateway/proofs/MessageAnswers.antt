@@ -1,7 +1,6 @@
 -- One message answered: a Flex request or a plain call.
 use Rattle.std.proofs.Common.{◌≡◌, ◌∙◌, Bool, true, false, List, sym, subst}
 use Rattle.std.specs.Prelude.{bytes_eq, if◌then◌else◌}
-use Rattle.amf0_spelling.specs.declared.form.Form.TheVariants.{Amf3}
 use Rattle.amf_packet.specs.declared.body.Body.TheVariants as kept
 use Rattle.amf_packet.specs.Packet.{Message}
 use Rattle.amf_service.specs.Registry.{Entry}
@@ -10,25 +9,24 @@ use Rattle.amf_flex_replies.specs.declared.replies.FlexAnswer.{FlexAnswer}
 use Rattle.amf_gateway.specs.Answered.{SaysMessage}
 use Rattle.amf_plain_calls.specs.TellsMessage.{AnswersMessage, TellsMessage}
 use Rattle.amf_flex_replies.specs.Says.{AnswersFlex, Says}
-use Rattle.amf_plan.specs.Did.{Stopped}
+use Rattle.amf_plan.specs.Did.{Drawn, Stopped}
 use Rattle.amf_plan.specs.Flex.{flex}
 use Rattle.amf_plan.specs.Packets.{null_uri, answer_to}
 use Rattle.amf_plan.specs.Plan.{Plan}
 use Rattle.amf_plan.specs.PlainCalls.{at_last_dot, plain_call}
 use Rattle.amf_plan.specs.Replies.{Answer}
-use Rattle.amf_plan.specs.Serving.{Taken}
 use Rattle.amf_plan.proofs.Doing.{HandsNone, ran_nothing}
 
 flex_is : (x : FlexAnswer) (y : Answer) → AnswersFlex x y → AnswersMessage (record { well = x.well; body = kept.Amf3 x.graph }) y
 flex_is x y is = record { well = is.well; body = record { form = is.form; graph = is.graph }; spelled = is.spelled }
 
-pub said_flex : {O : Type 0} (handed : O → O → Taken → Type 0) (p : Plan Answer) (a b : O) (x : FlexAnswer) → Says handed p a b x → SaysMessage handed p a b (record { well = x.well; body = kept.Amf3 x.graph })
+pub said_flex : {O : Type 0} (handed : O → O → Drawn → Type 0) (p : Plan Answer) (a b : O) (x : FlexAnswer) → Says handed p a b x → SaysMessage handed p a b (record { well = x.well; body = kept.Amf3 x.graph })
 said_flex handed p a b x s = record { answer = s.answer; is = flex_is x s.answer s.is; ran = s.ran }
 
 abbrev choice : List Entry → Message → Bool → Plan Answer
 choice services m b = if b then flex services m.body else plain_call services m.body (at_last_dot m.target)
 
-module _ {O : Type 0} (handed : O → O → Taken → Type 0) (services : List Entry) (m : Message) (test : Bool) (same : test ≡ bytes_eq m.target null_uri) (a b : O) where
+module _ {O : Type 0} (handed : O → O → Drawn → Type 0) (services : List Entry) (m : Message) (test : Bool) (same : test ≡ bytes_eq m.target null_uri) (a b : O) where
   pub said_request : test ≡ true → (x : MessageAnswer) → SaysMessage handed (flex services m.body) a b x → SaysMessage handed (answer_to services m) a b x
   said_request e x s = subst (λ t. SaysMessage handed (choice services m t) a b x) (sym e ∙ same) s
 

@@ -1,6 +1,6 @@
 -- What a worker has done so far with the links of its hall.
 use Rattle.std.proofs.Common.{◌≡◌, ◌∙◌, ℕ, ◌+◌, ◌-◌, ◌^◌, ◌<◌, ◌≤◌, ◌||◌, Bool, true, false, List, [], ◌∷◌, ◌++◌, length, map, refl, sym, ap, subst, arith, inl, inr, append_assoc, append-nil, length-append}
-use Rattle.std.proofs.lemmas.List.{map-append}
+use Rattle.std.proofs.lemmas.List.{map-append, length-map}
 use Rattle.std.proofs.lemmas.List.Folds.{list_any-append}
 use Rattle.std.specs.List.{AllByRecursion, list_any}
 use Rattle.amf_io.specs.Outside.{Keeps, Steady, Rose}
@@ -230,6 +230,15 @@ module _ {H L : Type 0} (hall : OfHall H L) (link : OfLink L) (services : List E
       starved = f.starved_is;
       whole = f.whole;
     }
+
+  -- the calls that were counted, by the links that the hall tells
+  pub calls_told : (n : ℕ) (p q : Held) (a b c : H) (starved : Bool) (before now answered : ℕ) → SoFar n p q a b starved → (hall.tells_links c → hall.tells_links b) → (hall.tells_links c → hall.served c ≡ hall.served b) → CountsCalls n before now answered
+      → hall.tells_links c → CountsCalls (length (hall.served c) - length (hall.served a)) before now answered
+  calls_told n p q a b c starved before now answered f back same k t =
+      let lefts : List L = map (λ s. s.left) f.links in
+      let more : length (hall.served c) ≡ length (hall.served a) + length lefts = ap length (same t ∙ f.took_back (back t)) ∙ length-append (hall.served a) lefts in
+      let many : length lefts ≡ n = length-map f.links (λ s. s.left) ∙ f.count in
+      record { unanswered = k.unanswered; few = omega (arith, more, many, k.few); counted = k.counted }
 
 -- The calls that were counted: one link more.
 pub counts_more : (n before now later : ℕ) (p q r : Held) (es fs : List Event) → PassGoesOn p q es → PassGoesOn q r fs → CountsCalls n before now (p.budget - q.budget) → CountsCalls 1 now later (q.budget - r.budget) → CountsCalls (n + 1) before later (p.budget - r.budget)

@@ -13,16 +13,16 @@ use Rattle.amf_gateway.specs.declared.links.LinkEnd.TheVariants.{Closed, Refused
 use Rattle.amf_gateway.specs.Answering.{Next, over, status_alone, packet, next, goes_on, one_more}
 use Rattle.amf_plan.specs.Begun.{Begun}
 use Rattle.amf_plan.specs.Links.{LinkEnd, closed, refused, truncated, closed_or}
-use Rattle.amf_gateway.specs.LinkSteps.{AnswersRequest, Gives, Begins, ComesBy, Comes, CountsReads, StepsBy, Steps, written_as, ends_with, end_of, unwritten}
-use Rattle.amf_gateway.specs.ServesLink.{CountsLink}
-use Rattle.amf_gateway.specs.Stands.{Stands, AtWriting, AtBytes, StopsBy}
+use Rattle.amf_gateway.specs.LinkSteps.{AnswersRequest, AnsweredBy, Gives, Begins, Pauses, ComesBy, Comes, CountsReads, StepsBy, Steps, written_as, ends_with, unwritten}
+use Rattle.amf_gateway.specs.ServesLink.{end_of, CountsLink}
+use Rattle.amf_plan.specs.Stands.{Stands, AtWriting, AtBytes}
 use Rattle.amf_plan.specs.Plan.{Plan}
 use Rattle.amf_plan.specs.Respond.{joined}
 use Rattle.amf_plan.specs.Runs.{Done, nothing, and_answer, gave, Runs}
 use Rattle.amf_plan.specs.Serving.{LinkBytes, Taken, supply_of, did, none_left}
-use Rattle.amf_plan.specs.Did.{none_taken}
+use Rattle.amf_plan.specs.Did.{Drawn, taken_none, StopsAt}
 use Rattle.amf_plan.proofs.Composed.{both, runs_then, begun_first, begun_then, none_begun, runs_begun}
-use Rattle.amf_gateway.proofs.Standing.{at_none, stands_then}
+use Rattle.amf_plan.proofs.Standing.{at_none, stands_then, stands_first, stands_begun}
 
 module _ (services : List Entry) (last : Bool) (after : List ℕ → Plan LinkEnd) (bytes : List ℕ) (k : Taken) where
   -- the link ended before an answer
@@ -54,22 +54,30 @@ module _ (services : List Entry) (last : Bool) (after : List ℕ → Plan LinkEn
       (stands_then At (next services last bytes) (goes_on after) (supply_of k) none_left (did k []) nothing n g b)
 
   -- nothing was taken, and what follows is looked at
-  none_stands : k ≡ none_taken → Stands (AtBytes bytes) (one_more services last after bytes) (supply_of k) (did k [])
+  none_stands : k ≡ taken_none → Stands (AtBytes bytes) (one_more services last after bytes) (supply_of k) (did k [])
   none_stands same = subst (λ (j : Taken). Stands (AtBytes bytes) (one_more services last after bytes) (supply_of j) (did j [])) (sym same) (at_none (AtBytes bytes) (one_more services last after bytes) refl)
+
+-- it stopped before an answer
+pauses_more : (services : List Entry) (last : Bool) (after : List ℕ → Plan LinkEnd) (bytes : List ℕ) (k : Drawn) → Pauses services last bytes k → Stands (StopsAt k.unanswered) (one_more services last after bytes) (supply_of k.taken) (did k.taken [])
+pauses_more services last after bytes k p = stands_first k.unanswered (next services last bytes) (goes_on after) (supply_of k.taken) (did k.taken []) p
+
+-- where each call had an answer, a plan may stop anywhere
+stops_anywhere : {X : Type 0} (unanswered : Bool) (p : Plan X) → unanswered ≡ false → StopsAt unanswered p
+stops_anywhere unanswered p e = subst (λ (u : Bool). StopsAt u p) (sym e) tt
 
 held_still : (held now : List ℕ) → now ≡ held → now ≡ held ++ []
 held_still held now e = e ∙ sym (append-nil held)
 
 -- the link ended before an answer, or the answer could not be made
-pub unanswered_steps : (services : List Entry) (last : Bool) (b : LinkBytes) (rest : List ℕ) (k : Taken) (end : Ending) → ComesBy services last b.left rest b.leaves k (Err end) → b.now ≡ b.held → StepsBy services last b rest k (Err end)
-unanswered_steps services last b rest k Closed c e after = (([], over_runs services last after b.left k closed c, held_still b.held b.now e), tt)
-unanswered_steps services last b rest k Truncated c e after = (([], over_runs services last after b.left k truncated c, held_still b.held b.now e), tt)
+pub unanswered_steps : (services : List Entry) (last : Bool) (b : LinkBytes) (rest : List ℕ) (k : Drawn) (end : Ending) → ComesBy services last b.left rest b.leaves k (Err end) → b.now ≡ b.held → StepsBy services last b rest k (Err end)
+unanswered_steps services last b rest k Closed c e after = (([], over_runs services last after b.left k.taken closed c, held_still b.held b.now e), tt)
+unanswered_steps services last b rest k Truncated c e after = (([], over_runs services last after b.left k.taken truncated c, held_still b.held b.now e), tt)
 unanswered_steps services last b rest k ReadFault (came, end, split, g, p, undecided, none) e after = (
-  ([], came, end, split, over_runs services last after came k end g, begins_more services last after b.left k p, held_still b.held b.now e),
-  ([], [], came, split, undecided, λ x. none_stands services last after x k none, held_still b.held b.now e),
+  ([], came, end, split, over_runs services last after came k.taken end g, begins_more services last after b.left k.taken p, held_still b.held b.now e),
+  ([], [], came, split, undecided, λ x. none_stands services last after x k.taken (ap (λ (d : Drawn). d.taken) none), held_still b.held b.now e),
 )
-unanswered_steps services last b rest k Spent c e after = (([], begins_more services last after b.left k c, held_still b.held b.now e), tt)
-unanswered_steps services last b rest k Memory c e after = (([], begins_more services last after b.left k c, held_still b.held b.now e), tt)
+unanswered_steps services last b rest k Spent c e after = let s = pauses_more services last after b.left k c in (([], stands_begun (StopsAt k.unanswered) (one_more services last after b.left) (supply_of k.taken) (did k.taken []) s, held_still b.held b.now e), ([], s, held_still b.held b.now e))
+unanswered_steps services last b rest k Memory c e after = let s = pauses_more services last after b.left k c in (([], stands_begun (StopsAt k.unanswered) (one_more services last after b.left) (supply_of k.taken) (did k.taken []) s, held_still b.held b.now e), ([], s, held_still b.held b.now e))
 unanswered_steps services last b rest k (Refused status) c e after = absurd c
 unanswered_steps services last b rest k WriteFault c e after = absurd c
 
@@ -77,29 +85,37 @@ one_answer : (answer : List ℕ) → joined (answer ∷ []) ≡ answer
 one_answer answer = append-nil answer
 
 -- the answer that was made, as the plan has it
-pub unwritten_steps : (services : List Entry) (last : Bool) (b : LinkBytes) (rest : List ℕ) (k : Taken) (a : Answer) → ComesBy services last b.left rest b.leaves k (Ok a) → b.now ≡ b.held → StepsBy services last b rest k (Err Memory)
-unwritten_steps services last b rest k (Packet bytes close) (used, split, g) e after =
-    (([], unwritten_begun services last after b.left k (packet bytes.items close rest) (subst (λ (z : List ℕ). Gives services last z k (packet bytes.items close rest)) (sym split) (g rest)), held_still b.held b.now e), tt)
-unwritten_steps services last b rest k (Status status) c e after = (([], unwritten_begun services last after b.left k (status_alone status) c, held_still b.held b.now e), tt)
+pub unwritten_steps : (services : List Entry) (last : Bool) (b : LinkBytes) (rest : List ℕ) (k : Drawn) (a : Answer) → k.unanswered ≡ false → ComesBy services last b.left rest b.leaves k (Ok a) → b.now ≡ b.held → StepsBy services last b rest k (Err Memory)
+unwritten_steps services last b rest k (Packet bytes close) all (used, split, g) e after =
+    let n = packet bytes.items close rest in
+    let here = subst (λ (z : List ℕ). Gives services last z k.taken n) (sym split) (g rest) in (
+      ([], unwritten_begun services last after b.left k.taken n here, held_still b.held b.now e),
+      ([], next_stands services last after b.left k.taken (StopsAt k.unanswered) n here (at_none (StopsAt k.unanswered) (goes_on after n) (stops_anywhere k.unanswered (goes_on after n) all)), held_still b.held b.now e),
+    )
+unwritten_steps services last b rest k (Status status) all c e after =
+    let n = status_alone status in (
+      ([], unwritten_begun services last after b.left k.taken n c, held_still b.held b.now e),
+      ([], next_stands services last after b.left k.taken (StopsAt k.unanswered) n c (at_none (StopsAt k.unanswered) (goes_on after n) (stops_anywhere k.unanswered (goes_on after n) all)), held_still b.held b.now e),
+    )
 
-pub faulty_steps : (services : List Entry) (last : Bool) (b : LinkBytes) (rest : List ℕ) (k : Taken) (a : Answer) → ComesBy services last b.left rest b.leaves k (Ok a) → AddsFront b.held b.now (written_as a) → StepsBy services last b rest k (Err WriteFault)
+pub faulty_steps : (services : List Entry) (last : Bool) (b : LinkBytes) (rest : List ℕ) (k : Drawn) (a : Answer) → ComesBy services last b.left rest b.leaves k (Ok a) → AddsFront b.held b.now (written_as a) → StepsBy services last b rest k (Err WriteFault)
 faulty_steps services last b rest k (Packet bytes close) (used, split, g) f after =
     let answer = response 200 bytes.items close in
-    let here = subst (λ (z : List ℕ). Gives services last z k (packet bytes.items close rest)) (sym split) (g rest) in
+    let here = subst (λ (z : List ℕ). Gives services last z k.taken (packet bytes.items close rest)) (sym split) (g rest) in
     let whole = take-append-drop f.count answer in (
       (
         [],
         take f.count answer,
         drop f.count answer,
-        subst (λ (z : List ℕ). Begun (one_more services last after b.left) (supply_of k) (did k (z ∷ []))) (sym whole)
-            (written_begun services last after b.left k (packet bytes.items close rest) answer here (inr (nothing, none_begun (closed_or close (after rest)) none_left nothing refl, refl))),
+        subst (λ (z : List ℕ). Begun (one_more services last after b.left) (supply_of k.taken) (did k.taken (z ∷ []))) (sym whole)
+            (written_begun services last after b.left k.taken (packet bytes.items close rest) answer here (inr (nothing, none_begun (closed_or close (after rest)) none_left nothing refl, refl))),
         f.added,
       ),
       (
         [],
         take f.count answer,
         drop f.count answer,
-        next_stands services last after b.left k (AtWriting (take f.count answer ++ drop f.count answer)) (packet bytes.items close rest) here
+        next_stands services last after b.left k.taken (AtWriting (take f.count answer ++ drop f.count answer)) (packet bytes.items close rest) here
             (at_none (AtWriting (take f.count answer ++ drop f.count answer)) (goes_on after (packet bytes.items close rest)) (sym whole)),
         f.added,
       ),
@@ -111,38 +127,45 @@ faulty_steps services last b rest k (Status status) c f after =
         [],
         take f.count answer,
         drop f.count answer,
-        subst (λ (z : List ℕ). Begun (one_more services last after b.left) (supply_of k) (did k (z ∷ []))) (sym whole)
-            (written_begun services last after b.left k (status_alone status) answer c (inr (nothing, refl, refl))),
+        subst (λ (z : List ℕ). Begun (one_more services last after b.left) (supply_of k.taken) (did k.taken (z ∷ []))) (sym whole)
+            (written_begun services last after b.left k.taken (status_alone status) answer c (inr (nothing, refl, refl))),
         f.added,
       ),
       (
         [],
         take f.count answer,
         drop f.count answer,
-        next_stands services last after b.left k (AtWriting (take f.count answer ++ drop f.count answer)) (status_alone status) c
+        next_stands services last after b.left k.taken (AtWriting (take f.count answer ++ drop f.count answer)) (status_alone status) c
             (at_none (AtWriting (take f.count answer ++ drop f.count answer)) (goes_on after (status_alone status)) (sym whole)),
         f.added,
       ),
     )
 
-pub answered_steps : (services : List Entry) (last : Bool) (b : LinkBytes) (rest : List ℕ) (k : Taken) (a : Answer) → ComesBy services last b.left rest b.leaves k (Ok a) → b.now ≡ b.held ++ written_as a → StepsBy services last b rest k (ends_with a)
+pub answered_steps : (services : List Entry) (last : Bool) (b : LinkBytes) (rest : List ℕ) (k : Drawn) (a : Answer) → ComesBy services last b.left rest b.leaves k (Ok a) → b.now ≡ b.held ++ written_as a → StepsBy services last b rest k (ends_with a)
 answered_steps services last b rest k (Packet bytes false) (used, split, g) e = (used, bytes.items, split, g, e)
 answered_steps services last b rest k (Packet bytes true) (used, split, g) e = λ after.
     let answer = response 200 bytes.items true in
-    let here = subst (λ (z : List ℕ). Gives services last z k (packet bytes.items true rest)) (sym split) (g rest) in
-    ((answer ∷ [], written_runs services last after b.left k (packet bytes.items true rest) answer closed here (nothing, (refl, refl), refl), e ∙ ap (λ (z : List ℕ). b.held ++ z) (sym (one_answer answer))), tt)
+    let here = subst (λ (z : List ℕ). Gives services last z k.taken (packet bytes.items true rest)) (sym split) (g rest) in
+    ((answer ∷ [], written_runs services last after b.left k.taken (packet bytes.items true rest) answer closed here (nothing, (refl, refl), refl), e ∙ ap (λ (z : List ℕ). b.held ++ z) (sym (one_answer answer))), tt)
 answered_steps services last b rest k (Status status) c e = λ after.
     let answer = response status [] true in
-    ((answer ∷ [], written_runs services last after b.left k (status_alone status) answer (refused status) c (nothing, (refl, refl), refl), e ∙ ap (λ (z : List ℕ). b.held ++ z) (sym (one_answer answer))), tt)
+    ((answer ∷ [], written_runs services last after b.left k.taken (status_alone status) answer (refused status) c (nothing, (refl, refl), refl), e ∙ ap (λ (z : List ℕ). b.held ++ z) (sym (one_answer answer))), tt)
+
+-- each call had an answer, whether the link goes on or not
+goes_answered : (a : Answer) (unanswered : Bool) → unanswered ≡ false → AnsweredBy (ends_with a) unanswered
+goes_answered (Packet bytes false) unanswered e = e
+goes_answered (Packet bytes true) unanswered e = e
+goes_answered (Status status) unanswered e = e
 
 -- With what was handed over. Writing leaves what the link has left as it was.
 
-module _ {O : Type 0} (handed : O → O → Taken → Type 0) (services : List Entry) (last : Bool) (old new : O) (tells_left tells_held : Type 0) (bytes keeps leaves held now : List ℕ) where
+module _ {O : Type 0} (handed : O → O → Drawn → Type 0) (services : List Entry) (last : Bool) (old new : O) (tells_left tells_held : Type 0) (bytes keeps leaves held now : List ℕ) where
   pub stepped_none : (end : Ending) → Comes handed services last old new tells_left bytes (keeps ++ leaves) leaves (Err end) → (tells_held → now ≡ held)
       → Steps handed services last old new tells_left tells_held (record { left = bytes; leaves = leaves; held = held; now = now }) (keeps ++ leaves) (Err end)
   stepped_none end c same = record {
     took = c.took;
     was_handed = c.was_handed;
+    answered = c.answered;
     steps = λ t h. unanswered_steps services last (record { left = bytes; leaves = leaves; held = held; now = now }) (keeps ++ leaves) c.took end (c.comes t) (same h);
   }
 
@@ -157,18 +180,21 @@ module _ {O : Type 0} (handed : O → O → Taken → Type 0) (services : List E
     stepped_unwritten unwritten_by.WriteFault w = record {
       took = c.took;
       was_handed = c.was_handed;
+      answered = c.answered;
       steps = λ t h. faulty_steps services last Bytes (keeps ++ leaves) c.took a (answer_comes t) (subst (λ (l : List ℕ). AddsFront l now (written_as a)) (same_held h) (w h));
     }
     stepped_unwritten unwritten_by.Memory w = record {
       took = c.took;
       was_handed = c.was_handed;
-      steps = λ t h. unwritten_steps services last Bytes (keeps ++ leaves) c.took a (answer_comes t) (w h ∙ same_held h);
+      answered = tt;
+      steps = λ t h. unwritten_steps services last Bytes (keeps ++ leaves) c.took a c.answered (answer_comes t) (w h ∙ same_held h);
     }
 
     pub stepped_written : (tells_held → now ≡ read_held ++ written_as a) → Steps handed services last old new tells_left tells_held Bytes (keeps ++ leaves) (ends_with a)
     stepped_written w = record {
       took = c.took;
       was_handed = c.was_handed;
+      answered = goes_answered a c.took.unanswered c.answered;
       steps = λ t h. answered_steps services last Bytes (keeps ++ leaves) c.took a (answer_comes t) (subst (λ (l : List ℕ). now ≡ l ++ written_as a) (same_held h) (w h));
     }
 
@@ -183,7 +209,7 @@ counts_none reads reads_now writes writes_now WriteFault c w = absurd c
 counts_none reads reads_now writes writes_now Spent c w = (c, w)
 counts_none reads reads_now writes writes_now Memory c w = (c, w)
 
-pub counts_request : {O : Type 0} (handed : O → O → Taken → Type 0) (services : List Entry) (body : List ℕ) (close : Bool) (old new : O) (reads reads_now : ℕ) (r : Result Answer Ending) → AnswersRequest handed services body close old new r → reads_now ≡ reads → CountsReads reads reads_now r
+pub counts_request : {O : Type 0} (handed : O → O → Drawn → Type 0) (services : List Entry) (body : List ℕ) (close : Bool) (old new : O) (reads reads_now : ℕ) (r : Result Answer Ending) → AnswersRequest handed services body close old new r → reads_now ≡ reads → CountsReads reads reads_now r
 counts_request handed services body close old new reads reads_now (Ok a) s e = e
 counts_request handed services body close old new reads reads_now (Err Closed) s e = e
 counts_request handed services body close old new reads reads_now (Err (Refused status)) s e = e

@@ -11,19 +11,18 @@ use Rattle.amf_service.specs.Registry.{Entry}
 use Rattle.amf_plain_calls.specs.declared.plain_call.MessageAnswer.{MessageAnswer}
 use Rattle.amf_packet.specs.Alike.{MessagesMatch, PacketsMatch}
 use Rattle.amf_plain_calls.specs.TellsMessage.{LacksNothing, AnswersMessage}
-use Rattle.amf_plan.specs.Did.{Ran}
+use Rattle.amf_plan.specs.Did.{Drawn, Ran}
 use Rattle.amf_plan.specs.Packets.{answers_to, has_long}
 use Rattle.amf_plan.specs.Plan.{Plan, gives, ◌>>=◌, bytes_of, packet_in}
 use Rattle.amf_plan.specs.Replies.{Answer}
 use Rattle.amf_plan.specs.Runs.{IsUnpacked, Finds}
-use Rattle.amf_plan.specs.Serving.{Taken}
 
 -- the most bytes of a body
 abbrev pub most_body : ℕ
 most_body = 1048576
 
 -- the plan was done, and gave this answer
-pub record SaysMessage {O : Type 0} (handed : O → O → Taken → Type 0) (p : Plan Answer) (old new : O) (x : MessageAnswer) : Type 0 where
+pub record SaysMessage {O : Type 0} (handed : O → O → Drawn → Type 0) (p : Plan Answer) (old new : O) (x : MessageAnswer) : Type 0 where
   pub answer : Answer
   pub is : AnswersMessage x answer
   pub ran : Ran handed p old new answer
@@ -40,12 +39,12 @@ abbrev pub AreWritable : List KeptMessage → Type 0
 AreWritable ms = AllByRecursion IsWritable ms
 
 -- the plan was done, and gave these messages, up to the numbers of nodes
-pub record SaysMessages {O : Type 0} (handed : O → O → Taken → Type 0) (p : Plan (List Message)) (old new : O) (back : List KeptMessage) : Type 0 where
+pub record SaysMessages {O : Type 0} (handed : O → O → Drawn → Type 0) (p : Plan (List Message)) (old new : O) (back : List KeptMessage) : Type 0 where
   pub messages : List Message
   pub match : AllZip MessagesMatch messages (map message_of back)
   pub ran : Ran handed p old new messages
 
-pub record SaysPacket {O : Type 0} (handed : O → O → Taken → Type 0) (p : Plan Packet) (old new : O) (back : KeptPacket) : Type 0 where
+pub record SaysPacket {O : Type 0} (handed : O → O → Drawn → Type 0) (p : Plan Packet) (old new : O) (back : KeptPacket) : Type 0 where
   pub packet : Packet
   pub match : PacketsMatch packet (packet_of back)
   pub ran : Ran handed p old new packet

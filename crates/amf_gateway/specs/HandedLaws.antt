@@ -1,10 +1,10 @@
 -- A device of proofs: where nothing happens nothing is given; and one thing is given after another.
-use Rattle.std.proofs.Common.{◌≡◌, ◌∙◌, ℕ, ◌+◌, ◌^◌, ◌<◌, Option, List, [], ◌++◌, length, refl, sym, ap, subst, arith, append_assoc, append-nil, length-append}
+use Rattle.std.proofs.Common.{◌≡◌, ◌∙◌, ℕ, ◌^◌, ◌<◌, ◌||◌, Bool, true, false, Option, List, [], ◌++◌, length, refl, sym, ap, subst, arith, append_assoc, append-nil, length-append}
 use Rattle.amf_io.specs.Outside.{Keeps, SameLinks}
 use Rattle.amf_broker.specs.History.{Entry as Event}
 use Rattle.amf_desk.specs.Histories.{own, Begins}
 use Rattle.amf_desk.specs.Passes.{Held}
-use Rattle.amf_plan.specs.Did.{none_taken, both_taken}
+use Rattle.amf_plan.specs.Did.{taken_none, taken_both}
 use Rattle.amf_plan.specs.declared.outside.Unanswered.{Unanswered}
 use Rattle.amf_gateway.specs.Handed.{Given, AidGoesOn, PassGoesOn, CallsGoOn}
 use Rattle.amf_plan.specs.Serving.{Taken}
@@ -35,10 +35,10 @@ module _ {A : Type 0} (tells_moments : A → Type 0) (moments : A → List ℕ) 
   abbrev Goes : A → A → Taken → Type 0
   Goes = AidGoesOn tells_moments moments tells_words words Same
 
-  pub aid_none : (a : A) → Same a a → Goes a a none_taken
+  pub aid_none : (a : A) → Same a a → Goes a a taken_none
   aid_none a s = record { moments_given = given_self (tells_moments a) (moments a); words_given = given_self (tells_words a) (words a); same = s }
 
-  pub aid_both : (a b c : A) (k l : Taken) → (Same a b → Same b c → Same a c) → Goes a b k → Goes b c l → Goes a c (both_taken k l)
+  pub aid_both : (a b c : A) (k l : Taken) → (Same a b → Same b c → Same a c) → Goes a b k → Goes b c l → Goes a c (taken_both k l)
   aid_both a b c k l trans p q = record {
     moments_given = given_then (tells_moments a) (tells_moments b) (tells_moments c) (moments a) (moments b) (moments c) k.moments l.moments p.moments_given q.moments_given;
     words_given = given_then (tells_words a) (tells_words b) (tells_words c) (words a) (words b) (words c) k.words l.words p.words_given q.words_given;
@@ -78,6 +78,12 @@ pass_both p q r es fs m n = record {
   budget = omega (arith, m.budget, n.budget, length-append es fs);
   explained = λ e. n.explained (m.explained e);
 }
+
+-- Why a call had no answer.
+
+pub unanswered_both : (x y : Bool) (u v w : Option Unanswered) → (x ≡ false → v ≡ u) → (y ≡ false → w ≡ v) → (x || y) ≡ false → w ≡ u
+unanswered_both true y u v w f g e = absurd cc
+unanswered_both false y u v w f g e = g e ∙ f refl
 
 -- The calls.
 

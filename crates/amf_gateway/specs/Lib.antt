@@ -1,7 +1,6 @@
 -- The definitions that contracts cite.
 pub mod Tells
 pub mod Handed
-pub mod Stands
 pub mod ServesLink
 pub mod Served
 -- Devices of the proofs: no clause of a public call of the gateway needs them.

@@ -13,33 +13,44 @@ use Rattle.amf_gateway.specs.declared.links.LinkEnd.TheVariants.{Closed, Refused
 use Rattle.amf_gateway.specs.Answered.{body_bytes}
 use Rattle.amf_gateway.specs.Answering.{Next, over, status_alone, packet, next, one_more}
 use Rattle.amf_plan.specs.Begun.{Begun}
-use Rattle.amf_plan.specs.Did.{Ran, Stopped, none_taken}
-use Rattle.amf_plan.specs.Links.{LinkEnd, closed, refused, truncated}
+use Rattle.amf_plan.specs.Did.{Drawn, none_taken, Ran, StopsAt, Stopped}
+use Rattle.amf_plan.specs.Links.{LinkEnd, closed, truncated, link}
 use Rattle.amf_plan.specs.Plan.{Plan}
+use Rattle.amf_plan.specs.Respond.{joined}
 use Rattle.amf_plan.specs.Runs.{gave, Runs}
-use Rattle.amf_gateway.specs.ServesLink.{CountsLink}
-use Rattle.amf_gateway.specs.Stands.{StopsBy, Stops}
-use Rattle.amf_plan.specs.Serving.{ServeEnd, ended, read_fault, write_fault, no_memory, spent, Taken, supply_of, did, none_left, LinkBytes, ServesBy, Serves}
+use Rattle.amf_gateway.specs.ServesLink.{end_of, CountsLink}
+use Rattle.amf_plan.specs.Stands.{Stands, StopsBy}
+use Rattle.amf_plan.specs.Serving.{ServeEnd, no_memory, spent, Taken, supply_of, did, none_left, LinkBytes, AreWritten, ServesBy, Serves}
 
--- how a link ended
-abbrev pub end_of : Ending → ServeEnd
-end_of Closed = ended closed
-end_of (Refused status) = ended (refused status)
-end_of Truncated = ended truncated
-end_of ReadFault = read_fault
-end_of WriteFault = write_fault
-end_of Spent = spent
-end_of Memory = no_memory
+-- where it stops, as long as it is not known why a link was not answered whole: at such a step where memory or calls ran out
+abbrev pub HaltsBy : (At : Plan LinkEnd → Type 0) → (List ℕ → Plan LinkEnd) → LinkBytes → Taken → ServeEnd → Type 0
+HaltsBy At plan b k no_memory = (answers : List (List ℕ)) × Stands At (plan b.left) (supply_of k) (did k answers) × AreWritten b (joined answers)
+HaltsBy At plan b k spent = (answers : List (List ℕ)) × Stands At (plan b.left) (supply_of k) (did k answers) × AreWritten b (joined answers)
+HaltsBy At plan b k end = StopsBy plan b k end
+
+abbrev pub Halts : List Entry → LinkBytes → Drawn → ServeEnd → Type 0
+Halts services b k end = HaltsBy (StopsAt k.unanswered) (link services) b k.taken end
+
+-- each call had an answer, but where memory or calls ran out
+abbrev pub AllAnswered : ServeEnd → (unanswered : Bool) → Type 0
+AllAnswered no_memory unanswered = ⊤
+AllAnswered spent unanswered = ⊤
+AllAnswered end unanswered = unanswered ≡ false
+
+abbrev pub AnsweredBy : {X : Type 0} → Result X Ending → (unanswered : Bool) → Type 0
+AnsweredBy (Ok x) unanswered = unanswered ≡ false
+AnsweredBy (Err end) unanswered = AllAnswered (end_of end) unanswered
 
 -- between two states of the outside, a link was served with these services, where it tells what it has left and what it holds
-pub record ServedLink {O : Type 0} (handed : O → O → Taken → Type 0) (services : List Entry) (old new : O) (tells_left tells_held : Type 0) (b : LinkBytes) (end : Ending) : Type 0 where
-  pub took : Taken
+pub record ServedLink {O : Type 0} (handed : O → O → Drawn → Type 0) (services : List Entry) (old new : O) (tells_left tells_held : Type 0) (b : LinkBytes) (end : Ending) : Type 0 where
+  pub took : Drawn
   pub was_handed : handed old new took
-  pub serves : tells_left → tells_held → Serves services b took (end_of end)
-  pub stops : tells_left → tells_held → Stops services b took (end_of end)
+  pub answered : AllAnswered (end_of end) took.unanswered
+  pub serves : tells_left → tells_held → Serves services b took.taken (end_of end)
+  pub stops : tells_left → tells_held → Halts services b took (end_of end)
 
 -- a request is answered with the bytes of a packet, or with a bad request
-abbrev pub AnswersRequest : {O : Type 0} (handed : O → O → Taken → Type 0) → List Entry → (body : List ℕ) → (close : Bool) → (old new : O) → Result Answer Ending → Type 0
+abbrev pub AnswersRequest : {O : Type 0} (handed : O → O → Drawn → Type 0) → List Entry → (body : List ℕ) → (close : Bool) → (old new : O) → Result Answer Ending → Type 0
 AnswersRequest handed services body close old new (Ok (Packet bytes closes)) = Ran handed (body_bytes services body) old new (Some bytes.items) × (closes ≡ close)
 AnswersRequest handed services body close old new (Ok (Status status)) = Ran handed (body_bytes services body) old new None × (status ≡ 400)
 AnswersRequest handed services body close old new (Err Spent) = Stopped handed (body_bytes services body) old new
@@ -54,20 +65,25 @@ Gives services last bytes k n = Runs (next services last bytes) (supply_of k) (d
 abbrev pub Begins : List Entry → (last : Bool) → (bytes : List ℕ) → Taken → Type 0
 Begins services last bytes k = Begun (next services last bytes) (supply_of k) (did k [])
 
+-- and here it stopped
+abbrev pub Pauses : List Entry → (last : Bool) → (bytes : List ℕ) → Drawn → Type 0
+Pauses services last bytes k = Stands (StopsAt k.unanswered) (next services last bytes) (supply_of k.taken) (did k.taken [])
+
 -- What was read. A packet answers the bytes that were used, whatever follows them. Where a read failed, the bytes that came would end the link, and are open, and nothing was taken.
-abbrev pub ComesBy : List Entry → (last : Bool) → (bytes rest leaves : List ℕ) → Taken → Result Answer Ending → Type 0
-ComesBy services last bytes rest leaves k (Ok (Packet answer close)) = (used : List ℕ) × (bytes ≡ used ++ rest) × ((x : List ℕ) → Gives services last (used ++ x) k (packet answer.items close x))
-ComesBy services last bytes rest leaves k (Ok (Status status)) = Gives services last bytes k (status_alone status)
-ComesBy services last bytes rest leaves k (Err Closed) = Gives services last bytes k (over closed)
-ComesBy services last bytes rest leaves k (Err Truncated) = Gives services last bytes k (over truncated)
-ComesBy services last bytes rest leaves k (Err ReadFault) = (came : List ℕ) × (end : LinkEnd) × (bytes ≡ came ++ leaves) × Gives services last came k (over end) × Begins services last bytes k × IsOpen came × (k ≡ none_taken)
-ComesBy services last bytes rest leaves k (Err Spent) = Begins services last bytes k
-ComesBy services last bytes rest leaves k (Err Memory) = Begins services last bytes k
+abbrev pub ComesBy : List Entry → (last : Bool) → (bytes rest leaves : List ℕ) → Drawn → Result Answer Ending → Type 0
+ComesBy services last bytes rest leaves k (Ok (Packet answer close)) = (used : List ℕ) × (bytes ≡ used ++ rest) × ((x : List ℕ) → Gives services last (used ++ x) k.taken (packet answer.items close x))
+ComesBy services last bytes rest leaves k (Ok (Status status)) = Gives services last bytes k.taken (status_alone status)
+ComesBy services last bytes rest leaves k (Err Closed) = Gives services last bytes k.taken (over closed)
+ComesBy services last bytes rest leaves k (Err Truncated) = Gives services last bytes k.taken (over truncated)
+ComesBy services last bytes rest leaves k (Err ReadFault) = (came : List ℕ) × (end : LinkEnd) × (bytes ≡ came ++ leaves) × Gives services last came k.taken (over end) × Begins services last bytes k.taken × IsOpen came × (k ≡ none_taken)
+ComesBy services last bytes rest leaves k (Err Spent) = Pauses services last bytes k
+ComesBy services last bytes rest leaves k (Err Memory) = Pauses services last bytes k
 ComesBy services last bytes rest leaves k (Err _) = ⊥
 
-pub record Comes {O : Type 0} (handed : O → O → Taken → Type 0) (services : List Entry) (last : Bool) (old new : O) (tells : Type 0) (bytes rest leaves : List ℕ) (r : Result Answer Ending) : Type 0 where
-  pub took : Taken
+pub record Comes {O : Type 0} (handed : O → O → Drawn → Type 0) (services : List Entry) (last : Bool) (old new : O) (tells : Type 0) (bytes rest leaves : List ℕ) (r : Result Answer Ending) : Type 0 where
+  pub took : Drawn
   pub was_handed : handed old new took
+  pub answered : AnsweredBy r took.unanswered
   pub comes : tells → ComesBy services last bytes rest leaves took r
 
 -- a status that stands alone is one that is written
@@ -91,13 +107,14 @@ unwritten unwritten_by.WriteFault = WriteFault
 unwritten unwritten_by.Memory = Memory
 
 -- One request was answered, and the link goes on; or it ended.
-abbrev pub StepsBy : List Entry → (last : Bool) → LinkBytes → (rest : List ℕ) → Taken → Result (Unit {0}) Ending → Type 0
-StepsBy services last b rest k (Ok done) = (used bytes : List ℕ) × (b.left ≡ used ++ rest) × ((x : List ℕ) → Gives services last (used ++ x) k (packet bytes false x)) × (b.now ≡ b.held ++ response 200 bytes false)
-StepsBy services last b rest k (Err end) = (after : List ℕ → Plan LinkEnd) → ServesBy (one_more services last after) b k (end_of end) × StopsBy (one_more services last after) b k (end_of end)
+abbrev pub StepsBy : List Entry → (last : Bool) → LinkBytes → (rest : List ℕ) → Drawn → Result (Unit {0}) Ending → Type 0
+StepsBy services last b rest k (Ok done) = (used bytes : List ℕ) × (b.left ≡ used ++ rest) × ((x : List ℕ) → Gives services last (used ++ x) k.taken (packet bytes false x)) × (b.now ≡ b.held ++ response 200 bytes false)
+StepsBy services last b rest k (Err end) = (after : List ℕ → Plan LinkEnd) → ServesBy (one_more services last after) b k.taken (end_of end) × HaltsBy (StopsAt k.unanswered) (one_more services last after) b k.taken (end_of end)
 
-pub record Steps {O : Type 0} (handed : O → O → Taken → Type 0) (services : List Entry) (last : Bool) (old new : O) (tells_left tells_held : Type 0) (b : LinkBytes) (rest : List ℕ) (r : Result (Unit {0}) Ending) : Type 0 where
-  pub took : Taken
+pub record Steps {O : Type 0} (handed : O → O → Drawn → Type 0) (services : List Entry) (last : Bool) (old new : O) (tells_left tells_held : Type 0) (b : LinkBytes) (rest : List ℕ) (r : Result (Unit {0}) Ending) : Type 0 where
+  pub took : Drawn
   pub was_handed : handed old new took
+  pub answered : AnsweredBy r took.unanswered
   pub steps : tells_left → tells_held → StepsBy services last b rest took r
 
 abbrev pub CountsStep : (reads reads_now writes writes_now : ℕ) → Result (Unit {0}) Ending → Type 0

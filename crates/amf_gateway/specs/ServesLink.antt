@@ -3,10 +3,23 @@ use Rattle.std.specs.Prelude.{◌≡◌, ℕ, ◌≤◌, Bool, true, false, List
 use Rattle.amf_io.specs.Outside.{Rose, SameLinks}
 use Rattle.amf_desk.specs.Passes.{Held}
 use Rattle.amf_service.specs.Registry.{Entry}
+use Rattle.amf_gateway.specs.declared.links.LinkEnd.{LinkEnd as Ending}
+use Rattle.amf_gateway.specs.declared.links.LinkEnd.TheVariants.{Closed, Refused, Truncated, ReadFault, WriteFault, Spent, Memory}
 use Rattle.amf_gateway.specs.Handed.{Given, PassGoesOn}
-use Rattle.amf_gateway.specs.Stands.{Stops}
-use Rattle.amf_plan.specs.Serving.{ServeEnd, read_fault, write_fault, no_memory, spent, LinkBytes, Taken, Serves}
+use Rattle.amf_plan.specs.Links.{closed, refused, truncated}
+use Rattle.amf_plan.specs.Stands.{Stops}
+use Rattle.amf_plan.specs.Serving.{ServeEnd, ended, read_fault, write_fault, no_memory, spent, LinkBytes, Taken, Serves}
 use Rattle.amf_gateway.specs.Tells.{OfLink, OfHall}
+
+-- how a link ended
+abbrev pub end_of : Ending → ServeEnd
+end_of Closed = ended closed
+end_of (Refused status) = ended (refused status)
+end_of Truncated = ended truncated
+end_of ReadFault = read_fault
+end_of WriteFault = write_fault
+end_of Spent = spent
+end_of Memory = no_memory
 
 -- a read fault and a write fault are counted, each on its side, and without one the counts stay
 abbrev pub CountsLink : (reads reads_now writes writes_now : ℕ) → ServeEnd → Type 0
@@ -18,6 +31,12 @@ CountsLink reads reads_now writes writes_now _ = (reads_now ≡ reads) × (write
 abbrev pub is_starved : ServeEnd → Bool
 is_starved no_memory = true
 is_starved _ = false
+
+-- how many calls of a link may have had no answer: one, where memory or calls ran out
+abbrev pub most_unanswered : ServeEnd → ℕ
+most_unanswered no_memory = 1
+most_unanswered spent = 1
+most_unanswered _ = 0
 
 -- a link as it came and as it was left, what was taken while it was served, and how it ended
 pub record Service (L : Type 0) : Type 0 where
@@ -36,7 +55,7 @@ pub record IsServed {L : Type 0} (m : OfLink L) (services : List Entry) (s : Ser
   pub stops : m.tells_left s.came → m.tells_held s.left → Stops services (bytes_of m s) s.took s.end
   pub counts : CountsLink (m.read_faults s.came) (m.read_faults s.left) (m.write_faults s.came) (m.write_faults s.left) s.end
 
--- What was taken is what the aid gave, where it tells, and the pass's new entries. No calls are left where the link ended so.
+-- What was taken is what the aid gave, where it tells, and the pass's new entries. Where the link ended for want of calls, none are left.
 pub record ServesLink {L A K : Type 0} (link : OfLink L) (aid : OfHall A K) (services : List Entry) (p q : Held) (a b : A) (s : Service L) : Type 0 where
   pub is_served : IsServed link services s
   pub moments : Given (aid.tells_moments a) (aid.tells_moments b) (aid.moments a) (aid.moments b) s.took.moments

@@ -6,8 +6,8 @@ ghost use Rattle.amf_http.specs.Response.{Writes, CountsWrites};
 ghost use Rattle.amf_service.specs.Registry.{Entry};
 ghost use Rattle.amf_plan.specs.Services.{services_by};
 ghost use Rattle.amf_gateway.specs.Answered.{most_body};
-ghost use Rattle.amf_gateway.specs.ServesLink.{CountsLink, is_starved};
-ghost use Rattle.amf_gateway.specs.LinkSteps.{end_of, ServedLink, AnswersRequest, Comes, IsAnswer, written_as, ends_with, Steps, CountsStep, CountsReads};
+ghost use Rattle.amf_gateway.specs.ServesLink.{end_of, CountsLink, is_starved};
+ghost use Rattle.amf_gateway.specs.LinkSteps.{ServedLink, AnswersRequest, Comes, IsAnswer, written_as, ends_with, Steps, CountsStep, CountsReads};
 
 use crate::bodies::answer_body;
 use amf_http::{AnswerEnd, HttpBuffer, HttpEnd, HttpRequest, next_request, write_response};

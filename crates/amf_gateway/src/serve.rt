@@ -4,8 +4,7 @@ ghost use Rattle.std.specs.Prelude.{◌≡◌, ◌+◌, ◌-◌, ◌^◌, min, L
 ghost use Rattle.amf_service.specs.Registry.{Entry};
 ghost use Rattle.amf_plan.specs.Services.{services_by};
 ghost use Rattle.amf_gateway.specs.Handed.{CountsCalls};
-ghost use Rattle.amf_gateway.specs.LinkSteps.{end_of};
-ghost use Rattle.amf_gateway.specs.ServesLink.{ServesLink};
+ghost use Rattle.amf_gateway.specs.ServesLink.{end_of, most_unanswered, ServesLink};
 ghost use Rattle.amf_plan.specs.declared.outside.Unanswered.TheVariants.{Spent};
 ghost use Rattle.amf_plan.specs.Serving.{Taken, spent};
 ghost use Rattle.amf_gateway.specs.WorkerSteps.{unknown};
@@ -27,7 +26,7 @@ use std::sync::Wait;
 /// `Closed`, `Refused` and `Truncated` say that all was answered. `ReadFault` and `WriteFault` come only where the link failed on
 /// that side: the link is read only while the bytes so far decide nothing, and nothing is begun behind an answer that was not taken. `Spent`
 /// comes only where a call was asked for and the pass might make no more, and `Memory` where there is no room. After a call without an
-/// answer no other is made.
+/// answer no other is made, and no moment and no word is taken but those for what was begun.
 ///
 /// Readers and writers look texts up by fixed keys, so whoever knows them can send a request that takes long: `serve_link_keyed` is
 /// passed others.
@@ -45,7 +44,7 @@ pub fn serve_link<R: Wait, L: Link, A: Hall, G: Gate>(
 ) -> LinkEnd
     requires { pass.old.desk ≡ desk.now }
     ensures served { let services : List Entry = services_by registry.now.services.entries (λ x. x.items) (λ s. knows (s.vtable, s.value)) (λ s. gives (s.vtable, s.value)) in (k : Taken) × ServesLink (record { tells_left = L.tells_left; left = L.left; tells_held = L.tells_held; held = L.held; read_faults = L.read_faults; write_faults = L.write_faults }) (record { tells_links = A.tells_links; coming = A.coming; served = A.served; faults = A.faults; tells_moments = A.tells_moments; moments = A.moments; tells_words = A.tells_words; words = A.words }) services pass.old pass.new aid.old aid.new (record { came = link.old; left = link.new; took = k; end = end_of result }) }
-    ensures calls { CountsCalls 1 calls.old calls.new (pass.old.budget - pass.new.budget) }
+    ensures calls { CountsCalls (most_unanswered (end_of result)) calls.old calls.new (pass.old.budget - pass.new.budget) }
     ensures asked { end_of result ≡ spent → calls.new ≡ min (calls.old + (pass.old.budget + 1)) (2 ^ 64 - 1) }
 {
     serve_link_keyed(
@@ -70,7 +69,7 @@ pub fn serve_link_keyed<R: Wait, L: Link, A: Hall, G: Gate>(
 ) -> LinkEnd
     requires { pass.old.desk ≡ desk.now }
     ensures served { let services : List Entry = services_by registry.now.services.entries (λ x. x.items) (λ s. knows (s.vtable, s.value)) (λ s. gives (s.vtable, s.value)) in (k : Taken) × ServesLink (record { tells_left = L.tells_left; left = L.left; tells_held = L.tells_held; held = L.held; read_faults = L.read_faults; write_faults = L.write_faults }) (record { tells_links = A.tells_links; coming = A.coming; served = A.served; faults = A.faults; tells_moments = A.tells_moments; moments = A.moments; tells_words = A.tells_words; words = A.words }) services pass.old pass.new aid.old aid.new (record { came = link.old; left = link.new; took = k; end = end_of result }) }
-    ensures calls { CountsCalls 1 calls.old calls.new (pass.old.budget - pass.new.budget) }
+    ensures calls { CountsCalls (most_unanswered (end_of result)) calls.old calls.new (pass.old.budget - pass.new.budget) }
     ensures asked { end_of result ≡ spent → calls.new ≡ min (calls.old + (pass.old.budget + 1)) (2 ^ 64 - 1) }
 {
     let _before = *calls;

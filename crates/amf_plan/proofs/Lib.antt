@@ -7,5 +7,6 @@ pub mod Closed
 pub mod Uses
 pub mod Building
 pub mod Spelling
+pub mod Standing
 pub mod Doing
 pub mod CallsAlike

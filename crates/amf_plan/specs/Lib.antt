@@ -15,6 +15,7 @@ pub mod Begun
 pub mod Respond
 pub mod RespondLaws
 pub mod Serving
+pub mod Stands
 pub mod Services
 -- Devices of the proofs: no clause of a public call of the gateway needs them.
 pub mod Did

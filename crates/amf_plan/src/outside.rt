@@ -1,7 +1,6 @@
 ghost use Rattle.std.specs.Prelude.{◌≡◌, IfOk, OnErr};
 ghost use Rattle.amf_broker.specs.History.{Entry as Event};
-ghost use Rattle.amf_plan.specs.Did.{none_taken, moment_taken, word_taken, entry_taken, both_taken};
-ghost use Rattle.amf_plan.specs.Serving.{Taken};
+ghost use Rattle.amf_plan.specs.Did.{Drawn, none_taken, moment_taken, word_taken, entry_taken, no_answer, both_taken};
 ghost use Rattle.amf_plan.specs.Small.{IsSmall};
 
 use amf_broker::{Call, Reply};
@@ -39,7 +38,7 @@ impl From<Memory> for Unanswered {
 /// What a gateway is given while it answers: moments, words and the desk's replies.
 pub trait Outside {
     /// What was given between two states, in order.
-    ghost handed: { Self → Self → Taken → Type 0 };
+    ghost handed: { Self → Self → Drawn → Type 0 };
 
     /// Whether it may call the desk.
     ghost may_call: { Self → Type 0 };
@@ -60,14 +59,14 @@ pub trait Outside {
         requires { may_call self.old }
         ensures reply { IfOk result (λ reply. (e : Event) × handed self.old self.new (entry_taken e) × (e.moment ≡ moment) × (e.call ≡ call) × (e.answer.reply ≡ reply)) }
         ensures small { IfOk result (λ reply. IsSmall reply) }
-        ensures none { OnErr result (handed self.old self.new none_taken) };
+        ensures none { OnErr result (handed self.old self.new no_answer) };
 
     /// Where nothing happens, nothing is given.
     ghost hands_none: { (a : Self) → handed a a none_taken };
 
     /// One thing after another.
-    ghost hands_both: { (a b c : Self) (k l : Taken) → handed a b k → handed b c l → handed a c (both_taken k l) };
+    ghost hands_both: { (a b c : Self) (k l : Drawn) → handed a b k → handed b c l → handed a c (both_taken k l) };
 
     /// What may call the desk may do so afterwards.
-    ghost may_still: { (a b : Self) (k : Taken) → handed a b k → may_call a → may_call b };
+    ghost may_still: { (a b : Self) (k : Drawn) → handed a b k → may_call a → may_call b };
 }

@@ -32,3 +32,10 @@ returns-in_ok-numeral-in-Client-clause-says g c =
     let id : c.id.inside.0 ≡ c.in-Client.id = cc in
     let same = said_connected (context_in c.args.context) (context_in c.with_client-context.result) c.args.reply.now _ c.in_ok-numeral-in-Client.field-0 c.in_ok-empty.empty c.in-Client.is c.with_client-context.ensures (c.in_ok-numeral-in-Client.ensures.name ∙ ap decimal id) c.in_ok-empty.ensures in
     IfOk-weaker c.acknowledge_null.result _ _ (λ a h. subst (λ (p : Plan Answer). Says g.O.Outside.handed p c.args.outside.now c.acknowledge_null.new.outside a) same h) c.acknowledge_null.ensures.says
+
+pub returns-in_ok-numeral-in-Client-clause-stopped : goal.returns-in_ok-numeral-in-Client-clause-stopped
+returns-in_ok-numeral-in-Client-clause-stopped g c =
+    let view = c.id.view_is in
+    let id : c.id.inside.0 ≡ c.in-Client.id = cc in
+    let same = said_connected (context_in c.args.context) (context_in c.with_client-context.result) c.args.reply.now _ c.in_ok-numeral-in-Client.field-0 c.in_ok-empty.empty c.in-Client.is c.with_client-context.ensures (c.in_ok-numeral-in-Client.ensures.name ∙ ap decimal id) c.in_ok-empty.ensures in
+    on_err_weaker c.acknowledge_null.result (λ h. subst (λ (p : Plan Answer). Stopped g.O.Outside.handed p c.args.outside.now c.acknowledge_null.new.outside) same h) c.acknowledge_null.ensures.stopped

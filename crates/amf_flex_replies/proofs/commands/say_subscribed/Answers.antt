@@ -32,3 +32,10 @@ returns-in-Subscribed-clause-says g c =
     let id : c.id.inside.0 ≡ c.in-Subscribed.id = cc in
     let same = said_subscribed (context_in c.args.context.now) c.args.reply.now _ _ c.in-Subscribed.is (c.in_ok-client-in-Subscribed.ensures.name ∙ ap decimal id) in
     IfOk-weaker c.acknowledge_null.result _ _ (λ a h. subst (λ (p : Plan Answer). Says g.O.Outside.handed p c.args.outside.now c.acknowledge_null.new.outside a) same h) c.acknowledge_null.ensures.says
+
+pub returns-in-Subscribed-clause-stopped : goal.returns-in-Subscribed-clause-stopped
+returns-in-Subscribed-clause-stopped g c =
+    let view = c.id.view_is in
+    let id : c.id.inside.0 ≡ c.in-Subscribed.id = cc in
+    let same = said_subscribed (context_in c.args.context.now) c.args.reply.now _ _ c.in-Subscribed.is (c.in_ok-client-in-Subscribed.ensures.name ∙ ap decimal id) in
+    on_err_weaker c.acknowledge_null.result (λ h. subst (λ (p : Plan Answer). Stopped g.O.Outside.handed p c.args.outside.now c.acknowledge_null.new.outside) same h) c.acknowledge_null.ensures.stopped

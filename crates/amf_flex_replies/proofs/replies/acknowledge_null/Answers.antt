@@ -19,3 +19,8 @@ pub returns-clause-stopped : goal.returns-clause-stopped
 returns-clause-stopped g c =
     at_err c.answered.result (stopped_between g.O.Outside.handed g.met.O.Outside.hands_none g.met.O.Outside.hands_both
     (fresh (context_in c.args.context.now) c.args.client.now) (λ (r : Reply). answered r (acknowledge_graph r no_nodes null_value)) c.args.outside.now c.fresh.new.outside _ c.in_ok-reply.ensures.ran)
+
+pub returns-in_err-graph-clause-stopped : goal.returns-in_err-graph-clause-stopped
+returns-in_err-graph-clause-stopped g c =
+    at_err c.from_residual-in_err-graph.result (stopped_between g.O.Outside.handed g.met.O.Outside.hands_none g.met.O.Outside.hands_both
+    (fresh (context_in c.args.context.now) c.args.client.now) (λ (r : Reply). answered r (acknowledge_graph r no_nodes null_value)) c.args.outside.now c.fresh.new.outside _ c.in_ok-reply.ensures.ran)

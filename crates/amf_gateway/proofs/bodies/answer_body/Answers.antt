@@ -1,4 +1,4 @@
-use Rattle.std.proofs.Common.{◌≡◌, Option, Some, None, IfOk, subst, arith}
+use Rattle.std.proofs.Common.{Option, Some, None, subst, arith}
 use Rattle.std.proofs.lemmas.Result.{IfOk-weaker, on_err_weaker}
 use Rattle.amf_packet.specs.declared.packet.Packet.{Packet as KeptPacket}
 use Rattle.amf_gateway.specs.Answered.{Unpacks}

@@ -1,4 +1,3 @@
-use Rattle.std.proofs.Common.{◌≡◌}
 use Rattle.amf_packet.specs.Content.{packet_of}
 use Rattle.amf_gateway.proofs.BodyAnswers.{ran_bytes, stopped_bytes, stopped_answers}
 use Rattle.amf_plan.proofs.Doing.{at_err}

@@ -1,4 +1,4 @@
-use Rattle.std.proofs.Common.{◌≡◌, ◌∙◌, Some, refl, sym}
+use Rattle.std.proofs.Common.{◌∙◌, Some, refl, sym}
 use Rattle.amf_packet.specs.Content.{packet_of}
 use Rattle.amf_gateway.proofs.Answering.{short_uris}
 use Rattle.amf_gateway.proofs.BodyAnswers.{ran_long, ran_short, stopped_short}

@@ -1,4 +1,4 @@
-use Rattle.std.proofs.Common.{◌≡◌, Err, ap}
+use Rattle.std.proofs.Common.{Err, ap}
 use Rattle.amf_packet.specs.Packet.{Packet}
 use Rattle.amf_gateway.proofs.Writable.{has_texts, not_many, not_long, not_lacking, is_packed}
 use Rattle.amf_gateway.proofs.bodies.bytes_of.Goals as goal

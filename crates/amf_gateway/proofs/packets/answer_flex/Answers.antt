@@ -1,4 +1,3 @@
-use Rattle.std.proofs.Common.{◌≡◌}
 use Rattle.amf_gateway.proofs.MessageAnswers.{said_flex}
 use Rattle.amf_gateway.proofs.packets.answer_flex.Goals as goal
 

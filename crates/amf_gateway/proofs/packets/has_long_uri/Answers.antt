@@ -1,5 +1,5 @@
 -- A test of each message.
-use Rattle.std.proofs.Common.{◌≡◌, ◌∙◌, List, ap, rules, tests}
+use Rattle.std.proofs.Common.{◌∙◌, List, ap, rules, tests}
 use Rattle.std.specs.List.{list_any}
 use Rattle.std.proofs.lemmas.Iterator.{YieldsList-from_slice}
 use Rattle.std.proofs.lemmas.Iterator.Search.{any_from_yields_List}

@@ -1,5 +1,5 @@
 -- Each message is answered before the next.
-use Rattle.std.proofs.Common.{◌≡◌, ◌+◌, ◌≤◌, List, length, map, drop, ap, arith}
+use Rattle.std.proofs.Common.{◌+◌, ◌≤◌, List, length, map, drop, ap, arith}
 use Rattle.std.proofs.lemmas.List.{length-map}
 use Rattle.amf_packet.specs.declared.packet.Message.{Message as KeptMessage}
 use Rattle.amf_packet.specs.Content.{message_of}

@@ -1,4 +1,4 @@
-use Rattle.std.proofs.Common.{◌≡◌, refl, Ok, Err}
+use Rattle.std.proofs.Common.{refl}
 use Rattle.amf_io.specs.Outside.{SameLinks}
 use Rattle.amf_broker.specs.History.{Entry as Event}
 use Rattle.amf_gateway.specs.HandedLaws.{aid_none, links_self, pass_none, calls_none}
@@ -19,6 +19,7 @@ returns-in-Ok-clause-reply g c =
         refl,
         refl,
         calls_called p c.call-answer.new.pass c.args.moment c.args.call c.in-Ok.answer c.args.self.now.unanswered c.args.self.now.calls.now _ called c.saturating_add-self.ensures,
+        λ e. refl,
       ),
       refl,
       refl,
@@ -37,6 +38,7 @@ returns-in-Err-clause-none g c = (
   refl,
   refl,
   rw (c.in_default.is, c.why-end.ensures) (calls_ended c.args.self.now.pass.now c.call-answer.new.pass c.args.moment c.args.call c.in-Err.end c.args.self.now.calls.now _ c.in-Err.ensures.end c.saturating_add-self.ensures),
+  λ e. absurd cc,
 )
 
 pub returns-in-Some-clause-none : goal.returns-in-Some-clause-none
@@ -48,4 +50,5 @@ returns-in-Some-clause-none g c = (
   refl,
   refl,
   calls_none c.args.self.now.pass.now c.args.self.now.unanswered c.args.self.now.calls.now,
+  λ e. refl,
 )

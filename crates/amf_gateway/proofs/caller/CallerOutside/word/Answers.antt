@@ -1,4 +1,4 @@
-use Rattle.std.proofs.Common.{◌≡◌, refl}
+use Rattle.std.proofs.Common.{refl}
 use Rattle.amf_io.specs.Outside.{SameLinks}
 use Rattle.amf_gateway.specs.HandedLaws.{pass_none, calls_none}
 use Rattle.amf_gateway.proofs.Handing.{aid_word}
@@ -13,4 +13,5 @@ returns g c = (
   refl,
   refl,
   calls_none c.args.self.now.pass.now c.args.self.now.unanswered c.args.self.now.calls.now,
+  λ e. refl,
 )

@@ -1,5 +1,5 @@
 use Rattle.std.proofs.Common.{refl, ◌∙◌, arith}
-use Rattle.amf_gateway.proofs.SoFar.{sofar_none, sofar_next, served_each, served_all, served_until, counts_none, counts_more, counts_few}
+use Rattle.amf_gateway.proofs.SoFar.{sofar_none, sofar_next, served_each, served_all, served_until, calls_told, counts_none, counts_more, counts_few}
 use Rattle.amf_gateway.proofs.worker.Worker.serve.Goals as goal
 
 pub loop-init : goal.loop-init
@@ -35,3 +35,16 @@ returns-in-Err-clause-calls g c = counts_few _ _ _ _ _ (omega arith) c.loop.inva
 
 pub returns-clause-calls : goal.returns-clause-calls
 returns-clause-calls g c = counts_few _ _ _ _ _ (omega arith) c.loop.invariant.1
+
+pub returns-in-Ok-None-clause-calls_told : goal.returns-in-Ok-None-clause-calls_told
+returns-in-Ok-None-clause-calls_told g c =
+    let e = c.in-Ok-None.ensures in
+    calls_told _ _ _ _ _ _ _ _ _ _ _ _ _ c.loop.invariant.0 e.tells e.served c.loop.invariant.1
+
+pub returns-in-Err-clause-calls_told : goal.returns-in-Err-clause-calls_told
+returns-in-Err-clause-calls_told g c =
+    let e = c.in-Err.ensures in
+    calls_told _ _ _ _ _ _ _ _ _ _ _ _ _ c.loop.invariant.0 e.tells e.served c.loop.invariant.1
+
+pub returns-clause-calls_told : goal.returns-clause-calls_told
+returns-clause-calls_told g c = calls_told _ _ _ _ _ _ _ _ _ _ _ _ _ c.loop.invariant.0 (λ t. t) (λ t. refl) c.loop.invariant.1

@@ -1,5 +1,6 @@
-use Rattle.amf_gateway.specs.LinkSteps.{end_of}
-use Rattle.amf_gateway.proofs.SoFar.{served_next}
+use Rattle.amf_gateway.specs.ServesLink.{end_of}
+use Rattle.amf_gateway.proofs.SoFar.{served_next, counts_few}
+use Rattle.amf_gateway.proofs.ServedEnds.{at_most_each}
 use Rattle.amf_gateway.proofs.worker.Worker.serve_next.Goals as goal
 
 pub returns-clause-served : goal.returns-clause-served
@@ -8,3 +9,6 @@ returns-clause-served g c =
     let b = c.back.ensures in
     served_next _ _ _ _ _ _ c.serve_link_keyed-end.new.aid _ (record { came = c.args.link; left = c.serve_link_keyed-end.new.link; took = s.0; end = end_of c.serve_link_keyed-end.result }) _ s.1
     (record { tells = b.tells; coming = b.coming; served = b.served; faults = b.faults; moments = b.moments; words = b.words }) c.is_starved.ensures
+
+pub returns-clause-calls : goal.returns-clause-calls
+returns-clause-calls g c = counts_few _ _ _ _ _ (at_most_each (end_of c.serve_link_keyed-end.result)) c.serve_link_keyed-end.ensures.calls
