@@ -38,14 +38,9 @@ pub(crate) struct Answered {
     pub closed: Closed,
 }
 
-/// What comes of a link with these bytes at a new desk with `chat` and `news`. The dice give 0, and the one service is `echo`.
-pub(crate) fn answer_of<R: Wait + Abort>(
-    rt: &R,
-    alloc: Global,
-    bytes: &[u8],
-    ways: Ways<'_>,
-) -> Result<Answered, Fail> {
-    let mut link = Joined {
+/// A link in memory with these bytes.
+fn link_of(alloc: Global, bytes: &[u8], ways: Ways<'_>) -> Result<MemoryLink, Fail> {
+    Ok(Joined {
         source: MemorySource::new(
             alloc,
             bytes,
@@ -54,15 +49,54 @@ pub(crate) fn answer_of<R: Wait + Abort>(
             ways.failing_reads,
         )?,
         sink: MemorySink::new(alloc, ways.most, ways.failing_writes)?,
-    };
+    })
+}
+
+/// What comes of a link with these bytes at a new desk with `chat` and `news`. The dice give 0, and the one service is `echo`.
+pub(crate) fn answer_of<R: Wait + Abort>(
+    rt: &R,
+    alloc: Global,
+    bytes: &[u8],
+    ways: Ways<'_>,
+) -> Result<Answered, Fail> {
+    let mut link = link_of(alloc, bytes, ways)?;
     let (end, closed) = served(rt, alloc, &mut link, ways.moments)?;
-    let mut written = Vec::new(alloc);
-    written.extend_from_slice(link.sink.as_bytes())?;
+    let written = link.sink.as_bytes().to_vec(alloc)?;
     Ok(Answered {
         end,
         written,
         closed,
     })
+}
+
+/// What comes of it where the pass may make one call, and how many were counted.
+pub(crate) fn answer_by_one_call<R: Wait>(
+    rt: &R,
+    alloc: Global,
+    bytes: &[u8],
+) -> Result<(Answered, u64), Fail> {
+    let mut link = link_of(alloc, bytes, PLAINLY)?;
+    let (end, closed, calls) = served_by(rt, alloc, &mut link, &[], 1)?;
+    let written = link.sink.as_bytes().to_vec(alloc)?;
+    let answered = Answered {
+        end,
+        written,
+        closed,
+    };
+    Ok((answered, calls))
+}
+
+/// The destinations.
+fn destinations(alloc: Global) -> Result<Vec<Name>, Fail> {
+    let mut names = Vec::new(alloc);
+    names.push(Name::of_bytes(alloc, b"chat")?)?;
+    names.push(Name::of_bytes(alloc, b"news")?)?;
+    Ok(names)
+}
+
+/// A hall without links, whose clock gives these moments.
+fn aid(alloc: Global, moments: &[u64]) -> Result<MemoryHall<MemoryLink>, Fail> {
+    Ok(MemoryHall::new(alloc, Vec::new(alloc), moments, &[], &[])?)
 }
 
 /// Serves a link at a new desk, which is closed then.
@@ -72,34 +106,37 @@ pub(crate) fn served<R: Wait + Abort, L: Link>(
     link: &mut L,
     moments: &[u64],
 ) -> Result<(LinkEnd, Closed), Fail> {
+    let (end, closed, calls) = served_by(rt, alloc, link, moments, 1 << 61)?;
+    holds(rt, calls == closed.calls, "how many calls were made");
+    Ok((end, closed))
+}
+
+/// Serves a link at a new desk by a pass that may make so many calls, and tells how many were counted.
+fn served_by<R: Wait, L: Link>(
+    rt: &R,
+    alloc: Global,
+    link: &mut L,
+    moments: &[u64],
+    share: u64,
+) -> Result<(LinkEnd, Closed, u64), Fail> {
     let mut entries: Vec<(Name, Box<dyn Service>)> = Vec::new(alloc);
     entries.push((Name::of_bytes(alloc, b"echo")?, Box::new(alloc, Echo)?))?;
     let Ok(registry) = Registry::new(alloc, entries) else {
         return Err("no registry".into());
     };
-    let mut names = Vec::new(alloc);
-    names.push(Name::of_bytes(alloc, b"chat")?)?;
-    names.push(Name::of_bytes(alloc, b"news")?)?;
-    let mut hall: MemoryHall<MemoryLink> = MemoryHall::new(
-        alloc,
-        Vec::new(alloc),
-        moments,
-        &[],
-        &[],
-    )?;
-    let Ok((desk, mut pass)) = Desk::open(alloc, names) else {
+    let mut hall = aid(alloc, moments)?;
+    let Ok((desk, mut first)) = Desk::open(alloc, destinations(alloc)?) else {
         return Err("no desk".into());
     };
+    if share >= first.budget() {
+        return Err("too many calls".into());
+    }
+    let mut pass = desk.split(&mut first, share);
     let mut calls = 0;
     let end = serve_link(
-        rt, alloc, link, &registry, &desk, &mut pass, &mut hall, &OpenGate, 0, &mut calls,
+        rt, alloc, link, &registry, &desk, &mut pass, &mut hall, &OpenGate, 1, &mut calls,
     );
-    if pass.budget() == 0 {
-        return Err("no calls left".into());
-    }
-    let closed = desk.close(rt, pass);
-    holds(rt, calls == closed.calls, "how many calls were made");
-    Ok((end, closed))
+    Ok((end, desk.close(rt, first), calls))
 }
 
 /// Whether the pieces stand there, one behind the other.

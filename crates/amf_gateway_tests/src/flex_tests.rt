@@ -1,4 +1,4 @@
-use crate::answered::{PLAINLY, Ways, answer_of, count_of, has_in_order};
+use crate::answered::{PLAINLY, Ways, answer_by_one_call, answer_of, count_of, has_in_order};
 use crate::checks::holds;
 use crate::requests::{
     ACKNOWLEDGE, ASYNC, COMMAND, FRESH, HEADERS, NAMES, OPERATION, PING, TIMES, flex_request,
@@ -335,6 +335,24 @@ fn numbered_polls(rt: HostRuntime) -> Result<(), Fail> {
         queued: 0,
     };
     holds(&rt, got.closed == closed, "what the desk tells");
+    Ok(())
+}
+
+/// The second call is one too many for the pass: it is counted, and has no answer.
+#[test]
+fn one_call_too_many(rt: HostRuntime) -> Result<(), Fail> {
+    let alloc = rt.alloc();
+    let asked = all_asked(alloc, &[Ask::Connect, Ask::Subscribe(b'1')])?;
+    let (got, calls) = answer_by_one_call(&rt, alloc, &asked)?;
+    holds(&rt, got.end == LinkEnd::Spent, "the end");
+    holds(&rt, calls == 2, "how many calls were counted");
+    holds(&rt, got.closed.calls == 1, "how many were made");
+    holds(
+        &rt,
+        has_in_order(&got.written, &[b"/0/onResult"]),
+        "the answer",
+    );
+    holds(&rt, count_of(&got.written, b"HTTP/1.1") == 1, "one answer");
     Ok(())
 }
 
