@@ -1,13 +1,17 @@
 -- What words ask for: they ask for one command at most, and each is UTF-8.
-use Rattle.std.proofs.Common.{◌≡◌, ◌∙◌, ◌++◌, ◌<◌, ◌≤◌, ℕ, Bool, false, zero, suc, refl, sym, ap, ap₂, subst, true, List, [], ◌∷◌, length, Some, None, Option, arith}
-use Rattle.std.specs.Prelude.{codes, ◌&&◌, nat_le, if◌then◌else◌, option_map, unwrap_or, IfSome, IfNone}
+use Rattle.std.proofs.Common.{◌≡◌, ◌∙◌, inl, inr, ◌++◌, ◌<◌, ◌≤◌, ℕ, Bool, false, zero, suc, refl, sym, ap, ap₂, subst, true, List, [], ◌∷◌, length, Some, None, Option, Result, Ok, Err, arith}
+use Rattle.std.specs.Prelude.{codes, ◌&&◌, nat_le, if◌then◌else◌, option_and_then, option_map, unwrap_or, IfOk, IfSome, IfNone}
 use Rattle.std.specs.Str.Parse.{digits_value}
 use Rattle.std.proofs.lemmas.Bool.{leb-true}
 use Rattle.std.proofs.lemmas.Option.{same_Some}
 use Rattle.std.specs.List.{AllByRecursion, list_all, slice_index_or}
 use Rattle.std.specs.Str.{bytes_eq, IsUtf8}
+use Rattle.amf_wire.specs.Text.{IsText}
 use Rattle.amf_words.specs.Words.{Text, HasOptions, is_name, value_of}
+use Rattle.flv_meta.specs.declared.flv_job.FlvJob.{FlvJob}
 use Rattle.amf_words.proofs.OneValue.{one_value}
+use Rattle.amf_commands.proofs.Utf8.{utf8_is_text, value_utf8}
+use Rattle.amf_commands.specs.declared.command.CallOptions.{CallOptions}
 use Rattle.amf_commands.specs.declared.command.Command.{Command}
 use Rattle.amf_commands.specs.declared.command.Command.TheVariants as command
 use Rattle.amf_commands.specs.declared.command.ServeOptions.{ServeOptions}
@@ -17,15 +21,18 @@ use Rattle.amf_commands.specs.declared.format.Format.{Format}
 use Rattle.amf_commands.specs.declared.format.Format.TheVariants.{Amf3}
 use Rattle.amf_commands.specs.declared.kind.Kind.{Kind}
 use Rattle.amf_commands.specs.declared.kind.Kind.TheVariants as kind
-use Rattle.amf_commands.specs.Commands.{Asks, AsksFor, HasReading, Reads, ReadsServe, IsServing, canon_from, canon_to, format_or, gen_of, goes_to, is_numeral, name_of, number_at, options_for, serve_of, task_for}
-use Rattle.amf_commands.specs.Askable.{IsAskable, IsPossible, IsServable}
+use Rattle.amf_commands.specs.Commands.{Asks, AsksFor, HasReading, IsCalling, IsMedia, Reads, ReadsCall, ReadsFlv, ReadsRtmp, ReadsServe, IsServing, call_of, canon_from, canon_to, flv_job_named, format_or, gen_of, goes_to, is_numeral, name_of, number_at, options_for, rtmp_of, rtmp_show, serve_of, target_at, task_for}
+use Rattle.amf_commands.specs.Askable.{IsAskable, IsCallable, IsChunkable, IsPossible, IsServable}
 
 named : Text → Kind
 named t = if bytes_eq t (codes "canon") then kind.Canon
     else (if bytes_eq t (codes "check") then kind.Check
     else (if bytes_eq t (codes "show") then kind.Show
     else (if bytes_eq t (codes "same") then kind.Same
-    else (if bytes_eq t (codes "gen") then kind.Gen else kind.Serve))))
+    else (if bytes_eq t (codes "gen") then kind.Gen
+    else (if bytes_eq t (codes "serve") then kind.Serve
+    else (if bytes_eq t (codes "flv") then kind.Flv
+    else (if bytes_eq t (codes "rtmp") then kind.Rtmp else kind.Call)))))))
 
 named_is : (k : Kind) → named (name_of k) ≡ k
 unfolding named
@@ -35,6 +42,9 @@ named_is kind.Show = refl
 named_is kind.Same = refl
 named_is kind.Gen = refl
 named_is kind.Serve = refl
+named_is kind.Flv = refl
+named_is kind.Rtmp = refl
+named_is kind.Call = refl
 
 good : (k : Kind) → list_all is_name (options_for k) ≡ true
 good kind.Canon = refl
@@ -43,6 +53,9 @@ good kind.Show = refl
 good kind.Same = refl
 good kind.Gen = refl
 good kind.Serve = refl
+good kind.Flv = refl
+good kind.Rtmp = refl
+good kind.Call = refl
 
 head_or : List Text → Text
 head_or [] = []
@@ -120,27 +133,84 @@ serve_possible : (o : Option ServeOptions) (all : (s : ServeOptions) → o ≡ S
 serve_possible None all t e = cc
 serve_possible (Some s) all t e = subst IsPossible (same_Some (task.Serve s) t e) (all s refl)
 
-task_possible : (k : Kind) (value : Text → Option Text) (t : Task) → task_for k value ≡ Some t → IsPossible t
-task_possible kind.Canon value t e = output_possible (canon_from (format_or Amf3 (value (codes "from"))) (value (codes "to"))) (canon_sized (format_or Amf3 (value (codes "from"))) (value (codes "to"))) t e
-task_possible kind.Check value t e = output_possible (option_map command.Check (format_or Amf3 (value (codes "from")))) (mapped_sized command.Check (λ f. tt) (format_or Amf3 (value (codes "from")))) t e
-task_possible kind.Show value t e = output_possible (option_map command.Show (format_or Amf3 (value (codes "from")))) (mapped_sized command.Show (λ f. tt) (format_or Amf3 (value (codes "from")))) t e
-task_possible kind.Same value t e = subst IsPossible (same_Some (task.Output command.Same) t e) tt
-task_possible kind.Gen value t e = output_possible (gen_of (number_at 0 4294967295 (value (codes "seed"))) (number_at 1 1000000 (value (codes "size")))) (λ c. gen_sized (number_at 0 4294967295 (value (codes "seed"))) (number_at 1 1000000 (value (codes "size"))) c (number_within 1 1000000 (value (codes "size")))) t e
-task_possible kind.Serve value t e = serve_possible (serve_of (number_at 0 65535 (value (codes "port"))) (number_at 1 64 (value (codes "workers"))) (number_at 1 1000000 (value (codes "each")))) (λ s. serve_sized (number_at 0 65535 (value (codes "port"))) (number_at 1 64 (value (codes "workers"))) (number_at 1 1000000 (value (codes "each"))) s (number_within 1 64 (value (codes "workers")))) t e
+flv_possible : (o : Option FlvJob) (t : Task) → option_map task.Flv o ≡ Some t → IsPossible t
+flv_possible None t e = cc
+flv_possible (Some job) t e = subst IsPossible (same_Some (task.Flv job) t e) tt
+
+-- a size is asked for with `rechunk`, and is one that there is
+size_chunkable : (o : Option ℕ) (all : (n : ℕ) → o ≡ Some n → (1 ≤ n) × (n ≤ 2147483647)) (s : Option ℕ) → option_map Some o ≡ Some s → IsChunkable s
+size_chunkable None all s e = cc
+size_chunkable (Some n) all s e = subst IsChunkable (same_Some (Some n) s e) (all n refl)
+
+show_chunkable : (size : Option Text) (s : Option ℕ) → rtmp_show size ≡ Some s → IsChunkable s
+show_chunkable None s e = subst IsChunkable (same_Some None s e) tt
+show_chunkable (Some x) s e = cc
+
+named_chunkable : (show rechunk : Bool) (size : Option Text) (s : Option ℕ) → (if show then rtmp_show size else (if rechunk then option_map Some (number_at 1 2147483647 size) else None)) ≡ Some s → IsChunkable s
+named_chunkable true rechunk size s e = show_chunkable size s e
+named_chunkable false true size s e = size_chunkable (number_at 1 2147483647 size) (number_within 1 2147483647 size) s e
+named_chunkable false false size s e = cc
+
+rtmp_chunkable : (name size : Option Text) (s : Option ℕ) → rtmp_of name size ≡ Some s → IsChunkable s
+rtmp_chunkable None size s e = cc
+rtmp_chunkable (Some text) size s e = named_chunkable (bytes_eq text (codes "show")) (bytes_eq text (codes "rechunk")) size s e
+
+rtmp_possible : (o : Option (Option ℕ)) (all : (s : Option ℕ) → o ≡ Some s → IsChunkable s) (t : Task) → option_map task.Rtmp o ≡ Some t → IsPossible t
+rtmp_possible None all t e = cc
+rtmp_possible (Some s) all t e = subst IsPossible (same_Some (task.Rtmp s) t e) (all s refl)
+
+-- a target is short, and a text where what is given for it is UTF-8
+target_callable : (b : Bool) (text target : Text) → nat_le (length text) 65535 ≡ b → IsText text → (if b then Some text else None) ≡ Some target → IsText target × (length target ≤ 65535)
+target_callable true text target short is e = subst (λ (x : Text). IsText x × (length x ≤ 65535)) (same_Some text target e) (is, leb-true (length text) 65535 short)
+target_callable false text target short is e = cc
+
+called_callable : (port : Option ℕ) (given target : Option Text) (o : CallOptions) → ((text : Text) → given ≡ Some text → IsText text) → target_at given ≡ target → call_of port target ≡ Some o → IsCallable o
+called_callable None given target o all is e = cc
+called_callable (Some port) given None o all is e = cc
+called_callable (Some port) None (Some target) o all is e = cc
+called_callable (Some port) (Some text) (Some target) o all is e =
+    subst IsCallable (same_Some (record { port = port; target = target }) o e) (target_callable (nat_le (length text) 65535) text target refl (all text refl) is)
+
+call_possible : (o : Option CallOptions) (all : (s : CallOptions) → o ≡ Some s → IsCallable s) (t : Task) → option_map task.Call o ≡ Some t → IsPossible t
+call_possible None all t e = cc
+call_possible (Some s) all t e = subst IsPossible (same_Some (task.Call s) t e) (all s refl)
+
+task_possible : (k : Kind) (value : Text → Option Text) (all : (x text : Text) → value x ≡ Some text → IsText text) (t : Task) → task_for k value ≡ Some t → IsPossible t
+task_possible kind.Canon value all t e = output_possible (canon_from (format_or Amf3 (value (codes "from"))) (value (codes "to"))) (canon_sized (format_or Amf3 (value (codes "from"))) (value (codes "to"))) t e
+task_possible kind.Check value all t e = output_possible (option_map command.Check (format_or Amf3 (value (codes "from")))) (mapped_sized command.Check (λ f. tt) (format_or Amf3 (value (codes "from")))) t e
+task_possible kind.Show value all t e = output_possible (option_map command.Show (format_or Amf3 (value (codes "from")))) (mapped_sized command.Show (λ f. tt) (format_or Amf3 (value (codes "from")))) t e
+task_possible kind.Same value all t e = subst IsPossible (same_Some (task.Output command.Same) t e) tt
+task_possible kind.Gen value all t e = output_possible (gen_of (number_at 0 4294967295 (value (codes "seed"))) (number_at 1 1000000 (value (codes "size")))) (λ c. gen_sized (number_at 0 4294967295 (value (codes "seed"))) (number_at 1 1000000 (value (codes "size"))) c (number_within 1 1000000 (value (codes "size")))) t e
+task_possible kind.Serve value all t e = serve_possible (serve_of (number_at 0 65535 (value (codes "port"))) (number_at 1 64 (value (codes "workers"))) (number_at 1 1000000 (value (codes "each")))) (λ s. serve_sized (number_at 0 65535 (value (codes "port"))) (number_at 1 64 (value (codes "workers"))) (number_at 1 1000000 (value (codes "each"))) s (number_within 1 64 (value (codes "workers")))) t e
+task_possible kind.Flv value all t e = flv_possible (option_and_then flv_job_named (value (codes "do"))) t e
+task_possible kind.Rtmp value all t e = rtmp_possible (rtmp_of (value (codes "do")) (value (codes "size"))) (rtmp_chunkable (value (codes "do")) (value (codes "size"))) t e
+task_possible kind.Call value all t e = call_possible (call_of (number_at 0 65535 (value (codes "port"))) (target_at (value (codes "target")))) (λ s. called_callable (number_at 0 65535 (value (codes "port"))) (value (codes "target")) (target_at (value (codes "target"))) s (all (codes "target")) refl) t e
 
 pub asked_possible : (words : List Text) (t : Task) → AsksFor words t → IsPossible t
-asked_possible words t (utf8, (k, rest, given, is, has, gives)) = task_possible k (value_of given) t gives
+asked_possible words t (utf8, (k, rest, given, is, has, gives)) = task_possible k (value_of given) (λ x text e. utf8_is_text text (value_utf8 rest given (subst (AllByRecursion IsUtf8) is utf8).1 has.0 x text e)) t gives
 
 pub one_task : (words : List Text) (t u : Task) → AsksFor words t → AsksFor words u → t ≡ u
 one_task words t u a b = one_asked words t u a.1 b.1
 
 command_or : Command → Task → Command
 command_or c (task.Output d) = d
-command_or c (task.Serve o) = c
+command_or c t = c
 
 options_or : ServeOptions → Task → ServeOptions
-options_or o (task.Output d) = o
 options_or o (task.Serve p) = p
+options_or o t = o
+
+job_or : FlvJob → Task → FlvJob
+job_or job (task.Flv other) = other
+job_or job t = job
+
+size_or : Option ℕ → Task → Option ℕ
+size_or size (task.Rtmp other) = other
+size_or size t = size
+
+call_or : CallOptions → Task → CallOptions
+call_or o (task.Call p) = p
+call_or o t = o
 
 pub one_reading : (words : List Text) (c d : Command) → Reads words c → Reads words d → c ≡ d
 unfolding command_or
@@ -150,17 +220,105 @@ pub one_serving : (words : List Text) (o p : ServeOptions) → ReadsServe words 
 unfolding options_or
 one_serving words o p a b = ap (options_or o) (one_task words (task.Serve o) (task.Serve p) a b)
 
--- words that ask for an output ask for no links to be served
+pub one_job : (words : List Text) (job other : FlvJob) → ReadsFlv words job → ReadsFlv words other → job ≡ other
+unfolding job_or
+one_job words job other a b = ap (job_or job) (one_task words (task.Flv job) (task.Flv other) a b)
+
+pub one_size : (words : List Text) (size other : Option ℕ) → ReadsRtmp words size → ReadsRtmp words other → size ≡ other
+unfolding size_or
+one_size words size other a b = ap (size_or size) (one_task words (task.Rtmp size) (task.Rtmp other) a b)
+
+pub one_call : (words : List Text) (o p : CallOptions) → ReadsCall words o → ReadsCall words p → o ≡ p
+unfolding call_or
+one_call words o p a b = ap (call_or o) (one_task words (task.Call o) (task.Call p) a b)
+
+-- words that ask for one of these ask for none of the others: an output, links to be served, a job on media, and a call
 
 writes_output : Task → Bool
 writes_output (task.Output c) = true
-writes_output (task.Serve o) = false
+writes_output t = false
+
+serves_links : Task → Bool
+serves_links (task.Serve o) = true
+serves_links t = false
+
+handles_flv : Task → Bool
+handles_flv (task.Flv job) = true
+handles_flv t = false
+
+calls_peer : Task → Bool
+calls_peer (task.Call o) = true
+calls_peer t = false
 
 pub not_both : (words : List Text) (c : Command) (o : ServeOptions) → Reads words c → ReadsServe words o → ⊥
 unfolding writes_output
 not_both words c o a b =
     let e : true ≡ false = ap writes_output (one_task words (task.Output c) (task.Serve o) a b) in
     cc
+
+pub flv_is_no_output : (words : List Text) (c : Command) (job : FlvJob) → Reads words c → ReadsFlv words job → ⊥
+unfolding writes_output
+flv_is_no_output words c job a b =
+    let e : true ≡ false = ap writes_output (one_task words (task.Output c) (task.Flv job) a b) in
+    cc
+
+pub rtmp_is_no_output : (words : List Text) (c : Command) (size : Option ℕ) → Reads words c → ReadsRtmp words size → ⊥
+unfolding writes_output
+rtmp_is_no_output words c size a b =
+    let e : true ≡ false = ap writes_output (one_task words (task.Output c) (task.Rtmp size) a b) in
+    cc
+
+pub media_is_no_output : (words : List Text) (c : Command) → Reads words c → IsMedia words → ⊥
+media_is_no_output words c a (inl b) = flv_is_no_output words c b.0 a b.1
+media_is_no_output words c a (inr b) = rtmp_is_no_output words c b.0 a b.1
+
+pub flv_is_no_serving : (words : List Text) (o : ServeOptions) (job : FlvJob) → ReadsServe words o → ReadsFlv words job → ⊥
+unfolding serves_links
+flv_is_no_serving words o job a b =
+    let e : true ≡ false = ap serves_links (one_task words (task.Serve o) (task.Flv job) a b) in
+    cc
+
+pub rtmp_is_no_serving : (words : List Text) (o : ServeOptions) (size : Option ℕ) → ReadsServe words o → ReadsRtmp words size → ⊥
+unfolding serves_links
+rtmp_is_no_serving words o size a b =
+    let e : true ≡ false = ap serves_links (one_task words (task.Serve o) (task.Rtmp size) a b) in
+    cc
+
+pub media_is_no_serving : (words : List Text) → IsServing words → IsMedia words → ⊥
+media_is_no_serving words a (inl b) = flv_is_no_serving words a.0 b.0 a.1 b.1
+media_is_no_serving words a (inr b) = rtmp_is_no_serving words a.0 b.0 a.1 b.1
+
+pub flv_is_no_rtmp : (words : List Text) (job : FlvJob) (size : Option ℕ) → ReadsFlv words job → ReadsRtmp words size → ⊥
+unfolding handles_flv
+flv_is_no_rtmp words job size a b =
+    let e : true ≡ false = ap handles_flv (one_task words (task.Flv job) (task.Rtmp size) a b) in
+    cc
+
+no_call : (words : List Text) (o : CallOptions) (t : Task) → ReadsCall words o → AsksFor words t → calls_peer t ≡ false → ⊥
+unfolding calls_peer
+no_call words o t a b is =
+    let e : true ≡ false = ap calls_peer (one_task words (task.Call o) t a b) ∙ is in
+    cc
+
+pub call_is_no_output : (words : List Text) (c : Command) → Reads words c → IsCalling words → ⊥
+unfolding calls_peer
+call_is_no_output words c a b = no_call words b.0 (task.Output c) b.1 a refl
+
+pub call_is_no_serving : (words : List Text) → IsServing words → IsCalling words → ⊥
+unfolding calls_peer
+call_is_no_serving words a b = no_call words b.0 (task.Serve a.0) b.1 a.1 refl
+
+pub call_is_no_flv : (words : List Text) (job : FlvJob) → ReadsFlv words job → IsCalling words → ⊥
+unfolding calls_peer
+call_is_no_flv words job a b = no_call words b.0 (task.Flv job) b.1 a refl
+
+pub call_is_no_rtmp : (words : List Text) (size : Option ℕ) → ReadsRtmp words size → IsCalling words → ⊥
+unfolding calls_peer
+call_is_no_rtmp words size a b = no_call words b.0 (task.Rtmp size) b.1 a refl
+
+pub call_is_no_media : (words : List Text) → IsMedia words → IsCalling words → ⊥
+call_is_no_media words (inl a) b = call_is_no_flv words a.0 a.1 b
+call_is_no_media words (inr a) b = call_is_no_rtmp words a.0 a.1 b
 
 pub not_serving : (words : List Text) (c : Command) → Reads words c → IsServing words → ⊥
 not_serving words c a b = not_both words c b.0 a b.1
@@ -176,13 +334,21 @@ all_at [] i d lt h = absurd (omega arith)
 all_at (w ∷ ws) zero d lt h = h.0
 all_at (w ∷ ws) (suc i) d lt h = all_at ws i d (omega arith) h.1
 
-pub reads_seen : (o : Option Task) (seen words : List Text) → seen ≡ words → AllByRecursion IsUtf8 words → IfSome o (λ t. Asks seen t) → IfSome o (AsksFor words)
+reads_seen : (o : Option Task) (seen words : List Text) → seen ≡ words → AllByRecursion IsUtf8 words → IfSome o (λ t. Asks seen t) → IfSome o (AsksFor words)
 reads_seen None seen words same utf8 h = tt
 reads_seen (Some c) seen words same utf8 h = (utf8, subst (λ (ws : List Text). Asks ws c) same h)
 
-pub none_seen : (o : Option Task) (seen words : List Text) → seen ≡ words → IfNone o ((t : Task) → Asks seen t → ⊥) → IfNone o (HasReading words → ⊥)
+none_seen : (o : Option Task) (seen words : List Text) → seen ≡ words → IfNone o ((t : Task) → Asks seen t → ⊥) → IfNone o (HasReading words → ⊥)
 none_seen (Some c) seen words same h = tt
 none_seen None seen words same h = λ has. h has.0 (subst (λ (ws : List Text). Asks ws has.0) (sym same) has.1.1)
+
+pub answer_reads : {E : Type 0} (r : Result (Option Task) E) (seen words : List Text) → seen ≡ words → AllByRecursion IsUtf8 words → IfOk r (λ o. IfSome o (λ t. Asks seen t)) → IfOk r (λ o. IfSome o (AsksFor words))
+answer_reads (Ok o) seen words same utf8 h = reads_seen o seen words same utf8 h
+answer_reads (Err e) seen words same utf8 h = tt
+
+pub answer_none : {E : Type 0} (r : Result (Option Task) E) (seen words : List Text) → seen ≡ words → IfOk r (λ o. IfNone o ((t : Task) → Asks seen t → ⊥)) → IfOk r (λ o. IfNone o (HasReading words → ⊥))
+answer_none (Ok o) seen words same h = none_seen o seen words same h
+answer_none (Err e) seen words same h = tt
 
 -- ---- what was asked
 

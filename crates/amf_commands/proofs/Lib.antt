@@ -1,4 +1,5 @@
 mod Fronts
+pub mod Utf8
 pub mod Asked
 mod Formats
 mod Goes

@@ -1,10 +1,13 @@
--- What the words can ask for: the formats that go to each other, the sizes for which a graph is made, and the numbers of workers. A device of proofs.
-use Rattle.std.specs.Prelude.{◌≡◌, ◌≤◌, true}
+-- What the words can ask for: the formats that go to each other, the sizes for which a graph is made, the numbers of workers, the sizes of
+-- chunks, and the targets of calls. A device of proofs.
+use Rattle.std.specs.Prelude.{◌≡◌, ◌≤◌, ℕ, true, length, Option, Some, None}
+use Rattle.amf_wire.specs.Text.{IsText}
+use Rattle.amf_commands.specs.declared.command.CallOptions.{CallOptions}
 use Rattle.amf_commands.specs.declared.command.Command.{Command}
 use Rattle.amf_commands.specs.declared.command.Command.TheVariants.{Canon, Check, Show, Same, Gen}
 use Rattle.amf_commands.specs.declared.command.ServeOptions.{ServeOptions}
 use Rattle.amf_commands.specs.declared.command.Task.{Task}
-use Rattle.amf_commands.specs.declared.command.Task.TheVariants.{Output, Serve}
+use Rattle.amf_commands.specs.declared.command.Task.TheVariants.{Output, Serve, Flv, Rtmp, Call}
 use Rattle.amf_commands.specs.Commands.{goes_to}
 
 abbrev pub IsAskable : Command → Type 0
@@ -17,6 +20,17 @@ IsAskable (Gen seed size) = (1 ≤ size) × (size ≤ 1000000)
 abbrev pub IsServable : ServeOptions → Type 0
 IsServable o = (1 ≤ o.workers) × (o.workers ≤ 64)
 
+-- a size of chunks, where there is one
+abbrev pub IsChunkable : Option ℕ → Type 0
+IsChunkable None = Unit {0}
+IsChunkable (Some size) = (1 ≤ size) × (size ≤ 2147483647)
+
+abbrev pub IsCallable : CallOptions → Type 0
+IsCallable o = IsText o.target × (length o.target ≤ 65535)
+
 abbrev pub IsPossible : Task → Type 0
 IsPossible (Output c) = IsAskable c
 IsPossible (Serve o) = IsServable o
+IsPossible (Flv job) = Unit {0}
+IsPossible (Rtmp size) = IsChunkable size
+IsPossible (Call o) = IsCallable o

@@ -1,9 +1,13 @@
 -- What the words of a command line ask for: which commands there are, which options each has, and what their values say.
-use Rattle.std.specs.Prelude.{◌≡◌, ◌&&◌, ℕ, Bool, true, false, List, [], ◌∷◌, length, codes, Option, Some, None, option_map, option_and_then, nat_le, nat_lt, if◌then◌else◌}
+use Rattle.std.specs.Prelude.{◌≡◌, ◌⊎◌, ◌&&◌, ℕ, Bool, true, false, List, [], ◌∷◌, length, codes, Option, Some, None, nat_le, nat_lt, if◌then◌else◌}
+use Rattle.std.specs.Option.{option_map, option_and_then}
 use Rattle.std.specs.List.{list_all, AllByRecursion}
 use Rattle.std.specs.Str.{bytes_eq, IsUtf8}
 use Rattle.std.specs.Str.Parse.{digits_value}
 use Rattle.amf_words.specs.Words.{Text, Given, HasOptions, value_of}
+use Rattle.flv_meta.specs.declared.flv_job.FlvJob.{FlvJob}
+use Rattle.flv_meta.specs.declared.flv_job.FlvJob.TheVariants as flv
+use Rattle.amf_commands.specs.declared.command.CallOptions.{CallOptions}
 use Rattle.amf_commands.specs.declared.command.Command.{Command}
 use Rattle.amf_commands.specs.declared.command.Command.TheVariants as command
 use Rattle.amf_commands.specs.declared.command.ServeOptions.{ServeOptions}
@@ -21,6 +25,9 @@ name_of kind.Show = codes "show"
 name_of kind.Same = codes "same"
 name_of kind.Gen = codes "gen"
 name_of kind.Serve = codes "serve"
+name_of kind.Flv = codes "flv"
+name_of kind.Rtmp = codes "rtmp"
+name_of kind.Call = codes "call"
 
 abbrev pub options_for : Kind → List Text
 options_for kind.Canon = codes "from" ∷ codes "to" ∷ []
@@ -29,6 +36,9 @@ options_for kind.Show = codes "from" ∷ []
 options_for kind.Same = []
 options_for kind.Gen = codes "seed" ∷ codes "size" ∷ []
 options_for kind.Serve = codes "port" ∷ codes "workers" ∷ codes "each" ∷ []
+options_for kind.Flv = codes "do" ∷ []
+options_for kind.Rtmp = codes "do" ∷ codes "size" ∷ []
+options_for kind.Call = codes "port" ∷ codes "target" ∷ []
 
 -- What a value says.
 
@@ -54,6 +64,13 @@ number_named least most text =
 
 abbrev pub number_at : ℕ → ℕ → Option Text → Option ℕ
 number_at least most = option_and_then (number_named least most)
+
+-- a target of a call has at most 65,535 bytes
+abbrev pub target_named : Text → Option Text
+target_named text = if nat_le (length text) 65535 then Some text else None
+
+abbrev pub target_at : Option Text → Option Text
+target_at = option_and_then target_named
 
 -- What the values ask for.
 
@@ -86,6 +103,28 @@ abbrev pub serve_of : Option ℕ → Option ℕ → Option ℕ → Option ServeO
 serve_of (Some port) (Some workers) (Some each) = Some (record { port = port; workers = workers; each = each })
 serve_of port workers each = None
 
+-- the job on an FLV file that a value names
+abbrev pub flv_job_named : Text → Option FlvJob
+flv_job_named text = if bytes_eq text (codes "show") then Some flv.Show
+    else (if bytes_eq text (codes "drop") then Some flv.Drop
+    else (if bytes_eq text (codes "set") then Some flv.Set else None))
+
+-- a chunk stream is listed without a size
+abbrev pub rtmp_show : Option Text → Option (Option ℕ)
+rtmp_show None = Some None
+rtmp_show (Some size) = None
+
+-- by the values of `--do` and `--size`: `show` has no size, and `rechunk` has one
+abbrev pub rtmp_of : Option Text → Option Text → Option (Option ℕ)
+rtmp_of None size = None
+rtmp_of (Some text) size = if bytes_eq text (codes "show") then rtmp_show size
+    else (if bytes_eq text (codes "rechunk") then option_map Some (number_at 1 2147483647 size) else None)
+
+-- both the port and the target are given
+abbrev pub call_of : Option ℕ → Option Text → Option CallOptions
+call_of (Some port) (Some target) = Some (record { port = port; target = target })
+call_of port target = None
+
 -- by its name and the values of its options
 abbrev pub task_for : Kind → (Text → Option Text) → Option Task
 task_for kind.Canon value = option_map task.Output (canon_from (format_or Amf3 (value (codes "from"))) (value (codes "to")))
@@ -94,6 +133,9 @@ task_for kind.Show value = option_map task.Output (option_map command.Show (form
 task_for kind.Same value = Some (task.Output command.Same)
 task_for kind.Gen value = option_map task.Output (gen_of (number_at 0 4294967295 (value (codes "seed"))) (number_at 1 1000000 (value (codes "size"))))
 task_for kind.Serve value = option_map task.Serve (serve_of (number_at 0 65535 (value (codes "port"))) (number_at 1 64 (value (codes "workers"))) (number_at 1 1000000 (value (codes "each"))))
+task_for kind.Flv value = option_map task.Flv (option_and_then flv_job_named (value (codes "do")))
+task_for kind.Rtmp value = option_map task.Rtmp (rtmp_of (value (codes "do")) (value (codes "size")))
+task_for kind.Call value = option_map task.Call (call_of (number_at 0 65535 (value (codes "port"))) (target_at (value (codes "target"))))
 
 -- the words ask for this: its name comes first, and the rest gives it options with these values
 abbrev pub Asks : List Text → Task → Type 0
@@ -113,6 +155,25 @@ ReadsServe words o = AsksFor words (task.Serve o)
 
 abbrev pub IsServing : List Text → Type 0
 IsServing words = (o : ServeOptions) × ReadsServe words o
+
+-- for a job on an FLV file
+abbrev pub ReadsFlv : List Text → FlvJob → Type 0
+ReadsFlv words job = AsksFor words (task.Flv job)
+
+-- for a chunk stream to be listed, or to be written in chunks of a size
+abbrev pub ReadsRtmp : List Text → Option ℕ → Type 0
+ReadsRtmp words size = AsksFor words (task.Rtmp size)
+
+-- for either
+abbrev pub IsMedia : List Text → Type 0
+IsMedia words = ((job : FlvJob) × ReadsFlv words job) ⊎ ((size : Option ℕ) × ReadsRtmp words size)
+
+-- for one call of a gateway
+abbrev pub ReadsCall : List Text → CallOptions → Type 0
+ReadsCall words o = AsksFor words (task.Call o)
+
+abbrev pub IsCalling : List Text → Type 0
+IsCalling words = (o : CallOptions) × ReadsCall words o
 
 abbrev pub HasReading : List Text → Type 0
 HasReading words = (t : Task) × AsksFor words t

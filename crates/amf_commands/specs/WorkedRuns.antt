@@ -11,7 +11,7 @@ use Rattle.amf_listings.specs.WorkedPacketListings.{called}
 use Rattle.amf_sol.specs.WorkedFiles.{one_true_bytes}
 use Rattle.amf_listings.specs.WorkedFileListings.{one_array_twice}
 use Rattle.amf_commands.specs.declared.command.Command.{Command}
-use Rattle.amf_commands.specs.declared.command.Command.TheVariants.{Canon, Check, Show, Same, Gen}
+use Rattle.amf_commands.specs.declared.command.Command.TheVariants.{Canon, Check, Show, Same}
 use Rattle.amf_commands.specs.declared.command.Task.TheVariants.{Output, Serve}
 use Rattle.amf_commands.specs.declared.format.Format.TheVariants.{Amf3, Amf0, Packet, Sol}
 use Rattle.amf_commands.specs.declared.kind.Kind.TheVariants as kind

@@ -7,7 +7,8 @@ use crate::format::Format;
 use crate::kind::Kind;
 use amf_wire::{Memory, Name};
 use amf_words::options_of;
-use std::alloc::{AllocError, Global};
+use flv_meta::FlvJob;
+use std::alloc::Global;
 use std::str;
 
 /// A command that writes an output, which is made of the input or of numbers.
@@ -36,17 +37,31 @@ pub struct ServeOptions {
     pub each: u32,
 }
 
+/// Which operation `call` calls, of the gateway at which port of this machine.
+#[derive(Debug, Drop)]
+pub struct CallOptions {
+    pub port: u16,
+    /// A text of at most 65,535 bytes.
+    pub target: Name,
+}
+
 /// What the words of a command line ask for.
-#[derive(Clone, Copy, Debug, PartialEq, Eq)]
+#[derive(Debug, Drop)]
 pub enum Task {
     /// A command that writes an output.
     Output(Command),
     /// `serve`: links are served, and a line tells how many calls, messages and deliveries there were.
     Serve(ServeOptions),
+    /// `flv`: a job on an FLV file.
+    Flv(FlvJob),
+    /// `rtmp`: a chunk stream is listed, where there is no size, or written in chunks of this one, from 1 to 2,147,483,647.
+    Rtmp(Option<u32>),
+    /// `call`: one call of a gateway, whose arguments are read and whose result is written.
+    Call(CallOptions),
 }
 
 impl Task {
-    /// What the words ask for, if they have a reading: each has to be UTF-8.
+    /// What the words ask for, if they have a reading: each has to be UTF-8. It gives up where there is no memory.
     pub fn of(alloc: Global, words: &[Name]) -> Result<Option<Task>, Memory>
         ensures reads { IfOk result (λ r. IfSome r (AsksFor words.now)) }
         ensures none { IfOk result (λ r. IfNone r (HasReading words.now → ⊥)) }
@@ -58,12 +73,12 @@ impl Task {
                 Err(_) => return Ok(None),
             }
         }
-        Ok(asked(alloc, seen.as_slice())?)
+        asked(alloc, seen.as_slice())
     }
 }
 
 /// What the words ask for, if anything.
-fn asked<'a>(alloc: Global, words: &'a [&'a str]) -> Result<Option<Task>, AllocError>
+fn asked<'a>(alloc: Global, words: &'a [&'a str]) -> Result<Option<Task>, Memory>
     ensures reads { IfOk result (λ r. IfSome r (λ t. Asks (texts words.now) t)) }
     ensures none { IfOk result (λ r. IfNone r ((t : Task) → Asks (texts words.now) t → ⊥)) }
 {
@@ -74,7 +89,7 @@ fn asked<'a>(alloc: Global, words: &'a [&'a str]) -> Result<Option<Task>, AllocE
         return Ok(None);
     };
     match options_of(alloc, name, kind.options(), rest)? {
-        Some(matches) => Ok(kind.task(&matches)),
+        Some(matches) => kind.task(alloc, &matches),
         None => Ok(None),
     }
 }

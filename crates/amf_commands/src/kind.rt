@@ -1,14 +1,18 @@
-ghost use Rattle.std.specs.Prelude.{◌≡◌, ◌≤◌, IfSome, IfNone, codes, option_map};
+ghost use Rattle.std.specs.Prelude.{◌≡◌, ◌≤◌, IfOk, IfSome, IfNone, codes, option_map, option_and_then};
 ghost use Rattle.clap.specs.Matches.{first_value, found_of};
 ghost use Rattle.amf_words.specs.Words.{texts};
-ghost use Rattle.amf_commands.specs.Commands.{canon_from, format_or, gen_of, name_of, number_at, options_for, serve_of, task_for};
+ghost use Rattle.amf_commands.specs.Commands.{canon_from, flv_job_named, format_or, name_of, number_at, options_for, target_at, task_for};
+ghost use Rattle.amf_commands.specs.Commands.{call_of, gen_of, rtmp_of, serve_of};
 ghost use Rattle.amf_commands.specs.declared.command.Task.TheVariants as task;
 ghost use Rattle.amf_commands.specs.declared.format.Format.TheVariants.{Amf3};
 
-use crate::command::{Command, ServeOptions, Task};
+use crate::command::{CallOptions, Command, ServeOptions, Task};
 use crate::format::Format;
 use crate::number::number_in;
+use amf_wire::{Memory, Name};
 use clap::ArgMatches;
+use flv_meta::FlvJob;
+use std::alloc::Global;
 
 /// The name of a command.
 #[derive(Clone, Copy, Debug, PartialEq, Eq)]
@@ -25,6 +29,12 @@ pub enum Kind {
     Gen,
     /// `serve`.
     Serve,
+    /// `flv`.
+    Flv,
+    /// `rtmp`.
+    Rtmp,
+    /// `call`.
+    Call,
 }
 
 static CANON: [&str; 2] = ["from", "to"];
@@ -36,6 +46,12 @@ static SAME: [&str; 0] = [];
 static GEN: [&str; 2] = ["seed", "size"];
 
 static SERVE: [&str; 3] = ["port", "workers", "each"];
+
+static FLV: [&str; 1] = ["do"];
+
+static RTMP: [&str; 2] = ["do", "size"];
+
+static CALL: [&str; 2] = ["port", "target"];
 
 impl Kind {
     /// The command of this name.
@@ -50,6 +66,9 @@ impl Kind {
             "same" => Some(Kind::Same),
             "gen" => Some(Kind::Gen),
             "serve" => Some(Kind::Serve),
+            "flv" => Some(Kind::Flv),
+            "rtmp" => Some(Kind::Rtmp),
+            "call" => Some(Kind::Call),
             _ => None,
         }
     }
@@ -64,14 +83,17 @@ impl Kind {
             Kind::Same => SAME.as_slice(),
             Kind::Gen => GEN.as_slice(),
             Kind::Serve => SERVE.as_slice(),
+            Kind::Flv => FLV.as_slice(),
+            Kind::Rtmp => RTMP.as_slice(),
+            Kind::Call => CALL.as_slice(),
         }
     }
 
-    /// What it asks for, by the values of its options.
-    pub fn task(self, matches: &ArgMatches<'_>) -> Option<Task>
-        ensures { result ≡ task_for self (first_value (found_of matches.now)) }
+    /// What it asks for, by the values of its options. It gives up where there is no memory for the target of a call.
+    pub fn task(self, alloc: Global, matches: &ArgMatches<'_>) -> Result<Option<Task>, Memory>
+        ensures { IfOk result (λ task. task ≡ task_for self (first_value (found_of matches.now))) }
     {
-        match self {
+        let task = match self {
             Kind::Canon => output(canon(matches)),
             Kind::Check => match from(matches) {
                 Some(from) => Some(Task::Output(Command::Check { from })),
@@ -87,7 +109,20 @@ impl Kind {
                 Some(options) => Some(Task::Serve(options)),
                 None => None,
             },
-        }
+            Kind::Flv => match flv(matches) {
+                Some(job) => Some(Task::Flv(job)),
+                None => None,
+            },
+            Kind::Rtmp => match rtmp(matches) {
+                Some(size) => Some(Task::Rtmp(size)),
+                None => None,
+            },
+            Kind::Call => match call(alloc, matches)? {
+                Some(options) => Some(Task::Call(options)),
+                None => None,
+            },
+        };
+        Ok(task)
     }
 }
 
@@ -144,6 +179,62 @@ fn serve(matches: &ArgMatches<'_>) -> Option<ServeOptions>
         workers,
         each,
     })
+}
+
+/// The job on an FLV file that `--do` names.
+fn flv(matches: &ArgMatches<'_>) -> Option<FlvJob>
+    ensures { result ≡ option_and_then flv_job_named (first_value (found_of matches.now) (codes "do")) }
+{
+    match matches.get_str("do") {
+        Some(name) => flv_job(name),
+        None => None,
+    }
+}
+
+/// The job on an FLV file of this name.
+fn flv_job(name: &str) -> Option<FlvJob>
+    ensures { result ≡ flv_job_named name.now }
+{
+    match name {
+        "show" => Some(FlvJob::Show),
+        "drop" => Some(FlvJob::Drop),
+        "set" => Some(FlvJob::Set),
+        _ => None,
+    }
+}
+
+/// What is to be done with a chunk stream: it is listed, where there is no size, or written in chunks of this one.
+fn rtmp(matches: &ArgMatches<'_>) -> Option<Option<u32>>
+    ensures { result ≡ rtmp_of (first_value (found_of matches.now) (codes "do")) (first_value (found_of matches.now) (codes "size")) }
+{
+    match matches.get_str("do")? {
+        "show" => match matches.get_str("size") {
+            Some(_) => None,
+            None => Some(None),
+        },
+        "rechunk" => match number(matches, "size", 1, 2_147_483_647) {
+            Some(size) => Some(Some(size)),
+            None => None,
+        },
+        _ => None,
+    }
+}
+
+/// Which operation `--target` names, of the gateway at the port of `--port`. It gives up where there is no memory.
+fn call(alloc: Global, matches: &ArgMatches<'_>) -> Result<Option<CallOptions>, Memory>
+    ensures { IfOk result (λ options. options ≡ call_of
+        (number_at 0 65535 (first_value (found_of matches.now) (codes "port"))) (target_at (first_value (found_of matches.now) (codes "target")))) }
+{
+    let Some(port) = port(matches) else {
+        return Ok(None);
+    };
+    match matches.get_str("target") {
+        Some(text) if text.len() <= 65_535 => {
+            let target = Name::of_bytes(alloc, text.as_bytes())?;
+            Ok(Some(CallOptions { port, target }))
+        }
+        _ => Ok(None),
+    }
 }
 
 /// The number that `--port` has, if it is one of a port.

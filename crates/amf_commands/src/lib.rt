@@ -18,10 +18,12 @@ mod run_end;
 mod spelling;
 mod writing;
 
-pub use command::{Command, ServeOptions, Task};
+pub use command::{CallOptions, Command, ServeOptions, Task};
+pub use content::Content;
 pub use facts::run_rows;
 pub use format::Format;
-pub use reading::LIMIT;
+pub use reading::{LIMIT, read_content};
 pub use report::end_with;
 pub use run_end::RunEnd;
+pub use spelling::spell3;
 pub use writing::write_whole;
