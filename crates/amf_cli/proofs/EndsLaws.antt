@@ -1,5 +1,5 @@
 -- How a run ends, and what it promises then of its streams.
-use Rattle.std.proofs.Common.{◌≡◌, ◌≢◌, ◌⊎◌, inl, inr, ℕ, ◌+◌, ◌≤◌, List, ◌++◌, length, IfOk, Result, Ok, Err, refl, sym, ap, ◌∙◌, subst, arith}
+use Rattle.std.proofs.Common.{◌≡◌, ◌≢◌, ◌⊎◌, inl, inr, ℕ, ◌+◌, ◌≤◌, List, ◌++◌, length, IfOk, Option, Result, Ok, Err, refl, sym, ap, ◌∙◌, subst, arith}
 use Rattle.amf_io.specs.Outside.{Rose, Steady}
 use Rattle.amf_io.specs.declared.source.Source.{Ghosts as SourceMembers}
 use Rattle.amf_io.specs.declared.sink.Sink.{Ghosts as SinkMembers}
@@ -7,17 +7,28 @@ use Rattle.amf_graph.specs.declared.lack.Lack.{Lack}
 use Rattle.amf_commands.specs.declared.command.Command.{Command}
 use Rattle.amf_commands.specs.declared.command.ServeOptions.{ServeOptions}
 use Rattle.amf_commands.specs.declared.command.Task.{Task}
-use Rattle.amf_commands.specs.declared.command.Task.TheVariants.{Output, Serve}
+use Rattle.amf_commands.specs.declared.command.Task.TheVariants.{Output, Serve, Flv, Rtmp, Call}
+use Rattle.flv_meta.specs.declared.flv_job.FlvJob.{FlvJob}
+use Rattle.amf_media.specs.declared.ending.MediaEnd.{MediaEnd}
+use Rattle.amf_media.specs.declared.ending.MediaEnd.TheVariants as media
+use Rattle.flv_meta.specs.declared.flv_job.FlvJob.TheVariants as job
+use Rattle.amf_media.specs.FlvRuns.{Runs as RunsFlv, MayEnd, IsFileEnd, IsUntouched as IsMediaUntouched, CountsReads as CountsMediaReads}
+use Rattle.amf_media.specs.RtmpRuns.{RunsStream}
+use Rattle.amf_media.specs.Written.{CountsWrites as CountsMediaWrites}
 use Rattle.amf_commands.specs.declared.run_end.RunEnd.{RunEnd}
 use Rattle.amf_commands.specs.declared.run_end.RunEnd.TheVariants.{Refused, Usage, ReadFault, WriteFault, NoMemory, FrontFault, NoForm}
-use Rattle.amf_commands.specs.Commands.{AsksFor, HasReading, IsServing, Reads, ReadsServe}
+use Rattle.amf_commands.specs.Commands.{AsksFor, HasReading, IsCalling, IsMedia, IsServing, Reads, ReadsFlv, ReadsRtmp, ReadsServe}
 use Rattle.amf_commands.specs.Input.{most}
 use Rattle.amf_commands.specs.Lines.{status_of, line_of}
 use Rattle.amf_commands.specs.Run.{TakesInput, MayLack, CountsReads, CountsWrites, IsReading, IsUntouched, RunsTo}
-use Rattle.amf_commands.proofs.Asked.{not_both, not_serving, one_reading}
+use Rattle.amf_commands.proofs.Asked.{call_is_no_media, flv_is_no_output, flv_is_no_rtmp, flv_is_no_serving, media_is_no_output, media_is_no_serving, not_both, not_serving, one_job, one_reading, one_size, rtmp_is_no_output, rtmp_is_no_serving}
 use Rattle.amf_commands.proofs.Spelled.{made_again, made_not_lacking}
 use Rattle.amf_commands.proofs.Statuses.{refused_says, hidden_says, front_says, no_form_says, accepted_says, not_accepted_says, formed_says, lacking_says, done_not_refused, line_says, usage_end, form_status, reading_says, reads_steady, writes_steady, never_0, within_7, memory_end}
+use Rattle.amf_cli.specs.MediaEnds.{EndsJob, status_of as media_status_of, error_line}
+use Rattle.amf_cli.specs.CallEnds.{Starves}
 use Rattle.amf_cli.specs.Ends.{Ends}
+use Rattle.amf_cli.specs.Told.{Tells}
+use Rattle.amf_cli.proofs.MediaLaws.{flv_memory, rtmp_memory}
 use Rattle.amf_cli.specs.ServeEnds.{End, IsServeEnd, status_for, ReportsEnd}
 
 abbrev Ended : RunEnd → End
@@ -46,13 +57,19 @@ writes_rose NoMemory before now h c = absurd (omega arith)
 writes_rose FrontFault before now h c = absurd (omega arith)
 writes_rose (NoForm v l) before now h c = absurd (omega arith)
 
-none_of : (n : ℕ) → n ≢ 1 → n ≢ 2 → n ≢ 3 → n ≢ 7 → (n ≡ 1) ⊎ (n ≡ 2) ⊎ (n ≡ 3) ⊎ (n ≡ 7) → ⊥
+below_10 : (n : ℕ) → n ≤ 7 → n ≤ 10
+below_10 n h = omega (arith, h)
+
+not_above : {P : Type 0} (n : ℕ) → n ≤ 7 → 8 ≤ n → P
+not_above n h k = absurd (omega (arith, h, k))
+
+none_of : (n : ℕ) → n ≢ 1 → n ≢ 2 → n ≢ 3 → (7 ≤ n → ⊥) → (n ≡ 1) ⊎ (n ≡ 2) ⊎ (n ≡ 3) ⊎ (7 ≤ n) → ⊥
 none_of n a b c d h = elim h [ inl x ↦ a x | inr x ↦ elim x [ inl y ↦ b y | inr y ↦ elim y [ inl z ↦ c z | inr z ↦ d z ] ] ]
 
 neither : (n : ℕ) → n ≢ 1 → n ≢ 3 → (n ≡ 1) ⊎ (n ≡ 3) → ⊥
 neither n a b h = elim h [ inl x ↦ a x | inr x ↦ b x ]
 
-kept_with : {S : Type 0} (a b : S) (x : RunEnd) → (status_of x ≡ 1) ⊎ (status_of x ≡ 2) ⊎ (status_of x ≡ 3) ⊎ (status_of x ≡ 7) → IsUntouched a b (Ended x) → b ≡ a
+kept_with : {S : Type 0} (a b : S) (x : RunEnd) → (status_of x ≡ 1) ⊎ (status_of x ≡ 2) ⊎ (status_of x ≡ 3) ⊎ (7 ≤ status_of x) → IsUntouched a b (Ended x) → b ≡ a
 kept_with a b (Refused f) h u = u
 kept_with a b Usage h u = u
 kept_with a b ReadFault h u = u
@@ -79,7 +96,7 @@ serve_not_read NoMemory s h = omega arith
 serve_not_read FrontFault s h = omega arith
 serve_not_read (NoForm v l) s h = s
 
-serve_writes : (x : RunEnd) → IsServeEnd (Ended x) → (status_of x ≡ 1) ⊎ (status_of x ≡ 2) ⊎ (status_of x ≡ 3) ⊎ (status_of x ≡ 7) → ⊥
+serve_writes : (x : RunEnd) → IsServeEnd (Ended x) → (status_of x ≡ 1) ⊎ (status_of x ≡ 2) ⊎ (status_of x ≡ 3) ⊎ (7 ≤ status_of x) → ⊥
 serve_writes (Refused f) s h = s
 serve_writes Usage s h = s
 serve_writes ReadFault s h = s
@@ -88,8 +105,105 @@ serve_writes NoMemory s h = none_of 5 (λ z. absurd (omega arith)) (λ z. absurd
 serve_writes FrontFault s h = none_of 6 (λ z. absurd (omega arith)) (λ z. absurd (omega arith)) (λ z. absurd (omega arith)) (λ z. absurd (omega arith)) h
 serve_writes (NoForm v l) s h = s
 
+-- Of the end of a job on media.
+
+media_within_7 : (x : MediaEnd) → media_status_of x ≤ 7
+media_within_7 media.Done = omega arith
+media_within_7 (media.Refused f) = omega arith
+media_within_7 media.ReadFault = omega arith
+media_within_7 media.WriteFault = omega arith
+media_within_7 (media.NoForm l) = omega arith
+media_within_7 media.LongData = omega arith
+media_within_7 media.Memory = omega arith
+
+media_not_2 : (x : MediaEnd) → media_status_of x ≡ 2 → ⊥
+media_not_2 media.Done h = omega arith
+media_not_2 (media.Refused f) h = omega arith
+media_not_2 media.ReadFault h = omega arith
+media_not_2 media.WriteFault h = omega arith
+media_not_2 (media.NoForm l) h = omega arith
+media_not_2 media.LongData h = omega arith
+media_not_2 media.Memory h = omega arith
+
+media_not_6 : (x : MediaEnd) → media_status_of x ≡ 6 → ⊥
+media_not_6 media.Done h = omega arith
+media_not_6 (media.Refused f) h = omega arith
+media_not_6 media.ReadFault h = omega arith
+media_not_6 media.WriteFault h = omega arith
+media_not_6 (media.NoForm l) h = omega arith
+media_not_6 media.LongData h = omega arith
+media_not_6 media.Memory h = omega arith
+
+media_reads_steady : (x : MediaEnd) (before now : ℕ) → media_status_of x ≢ 3 → media_status_of x ≢ 4 → CountsMediaReads before now x → now ≡ before
+media_reads_steady media.Done before now three four c = c
+media_reads_steady (media.Refused f) before now three four c = c
+media_reads_steady media.ReadFault before now three four c = absurd (three refl)
+media_reads_steady media.WriteFault before now three four c = absurd (four refl)
+media_reads_steady (media.NoForm l) before now three four c = c
+media_reads_steady media.LongData before now three four c = c
+media_reads_steady media.Memory before now three four c = c
+
+media_writes_steady : (x : MediaEnd) (before now : ℕ) → media_status_of x ≢ 4 → media_status_of x ≢ 5 → CountsMediaWrites before now x → now ≡ before
+media_writes_steady media.Done before now four five c = c
+media_writes_steady (media.Refused f) before now four five c = c
+media_writes_steady media.ReadFault before now four five c = c
+media_writes_steady media.WriteFault before now four five c = absurd (four refl)
+media_writes_steady (media.NoForm l) before now four five c = c
+media_writes_steady media.LongData before now four five c = c
+media_writes_steady media.Memory before now four five c = c
+
+media_reads_rose : (x : MediaEnd) (before now : ℕ) → media_status_of x ≡ 3 → CountsMediaReads before now x → Rose before now
+media_reads_rose media.Done before now h c = absurd (omega arith)
+media_reads_rose (media.Refused f) before now h c = absurd (omega arith)
+media_reads_rose media.ReadFault before now h c = c.1
+media_reads_rose media.WriteFault before now h c = absurd (omega arith)
+media_reads_rose (media.NoForm l) before now h c = absurd (omega arith)
+media_reads_rose media.LongData before now h c = absurd (omega arith)
+media_reads_rose media.Memory before now h c = absurd (omega arith)
+
+media_writes_rose : (x : MediaEnd) (before now : ℕ) → media_status_of x ≡ 4 → CountsMediaWrites before now x → Rose before now
+media_writes_rose media.Done before now h c = absurd (omega arith)
+media_writes_rose (media.Refused f) before now h c = absurd (omega arith)
+media_writes_rose media.ReadFault before now h c = absurd (omega arith)
+media_writes_rose media.WriteFault before now h c = c.1
+media_writes_rose (media.NoForm l) before now h c = absurd (omega arith)
+media_writes_rose media.LongData before now h c = absurd (omega arith)
+media_writes_rose media.Memory before now h c = absurd (omega arith)
+
+-- memory may be wanting to each job
+may_memory : (j : FlvJob) → MayEnd j media.Memory
+may_memory job.Show = tt
+may_memory job.Drop = tt
+may_memory job.Set = tt
+
+-- where there is no form, nothing was asked of the output
+media_kept : {S : Type 0} (a b : S) (x : MediaEnd) → IsMediaUntouched a b x → media_status_of x ≡ 7 → b ≡ a
+media_kept a b media.Done u h = absurd (omega arith)
+media_kept a b (media.Refused f) u h = absurd (omega arith)
+media_kept a b media.ReadFault u h = absurd (omega arith)
+media_kept a b media.WriteFault u h = absurd (omega arith)
+media_kept a b (media.NoForm l) u h = u
+media_kept a b media.LongData u h = u
+media_kept a b media.Memory u h = absurd (omega arith)
+
+file_end_not_7 : (x : MediaEnd) → IsFileEnd x → media_status_of x ≡ 7 → ⊥
+file_end_not_7 media.Done m h = omega arith
+file_end_not_7 (media.Refused f) m h = omega arith
+file_end_not_7 media.ReadFault m h = omega arith
+file_end_not_7 media.WriteFault m h = omega arith
+file_end_not_7 (media.NoForm l) m h = m
+file_end_not_7 media.LongData m h = m
+file_end_not_7 media.Memory m h = omega arith
+
+media_read : (words : List (List ℕ)) → IsMedia words → HasReading words
+media_read words (inl m) = (Flv m.0, m.1)
+media_read words (inr m) = (Rtmp m.0, m.1)
+
 within_limit : (n : ℕ) → n ≤ n + (most + 1)
 within_limit n = omega arith
+
+within_media : (n : ℕ) → n ≤ n + (4294967295 + 1)
+within_media n = omega arith
 
 -- By the streams before and now.
 module _ {I O E : Type 0} (i : SourceMembers I) (o : SinkMembers O) (e : SinkMembers E) (words : List (List ℕ)) (input rest : I) (out wrote : O) (err told : E) where
@@ -103,13 +217,14 @@ module _ {I O E : Type 0} (i : SourceMembers I) (o : SinkMembers O) (e : SinkMem
   usage_ends : (HasReading words → ⊥) → rest ≡ input → wrote ≡ out → e.faults err ≤ e.faults told → (e.tells told → Steady (e.faults err) (e.faults told) → e.held told ≡ e.held err ++ line_of Usage) → Promises 2
   usage_ends none same kept counted line = record {
     statuses = omega arith;
+    of_call = λ h. absurd (omega arith);
     usage = λ two. none;
     no_reading = λ n. inl refl;
     read = λ two five. absurd (two refl);
     unread = λ n. same;
     done = λ c w zero t. absurd (none (Output c, w));
     again = λ c w zero t u own. absurd (none (Output c, w));
-    no_read_fault = λ n. ap i.faults same;
+    no_read_fault = λ n m. ap i.faults same;
     no_write_fault = λ n m. ap o.faults kept;
     counted = counted;
     refused = λ c w one t. absurd (none (Output c, w));
@@ -126,23 +241,48 @@ module _ {I O E : Type 0} (i : SourceMembers I) (o : SinkMembers O) (e : SinkMem
     untaken = λ c w n. same;
     reading = λ c w h. absurd (none (Output c, w));
     links = λ s. same;
-    untouched = λ h. kept;
-    unwritten = λ five n. kept;
-    taken = λ t. same_taken same;
-    line = λ t s. line_says Usage _ _ (line t s);
+    untouched = λ h m. kept;
+    unwritten = λ five n m. kept;
+    taken = λ t m. same_taken same;
+    flv = λ job w. absurd (none (Flv job, w));
+    rtmp = λ size w. absurd (none (Rtmp size, w));
+    line = λ t s m n. line_says Usage _ _ (line t s);
+  }
+
+  abbrev Does : Type 1
+  Does = List ℕ → List ℕ → Type 0 → List ℕ → List ℕ → MediaEnd → Type 0
+
+  abbrev Job : Does → (MediaEnd → Type 0) → ℕ → Type 0
+  Job Of May status = EndsJob i o e Of May status input rest out wrote err told
+
+  -- memory was wanting before the job began
+  memory_job : (Of : Does) (May : MediaEnd → Type 0) → Of (i.left input) (i.left rest) (o.tells wrote) (o.held out) (o.held wrote) media.Memory → May media.Memory → rest ≡ input → wrote ≡ out
+      → (e.tells told → Steady (e.faults err) (e.faults told) → e.held told ≡ e.held err ++ line_of NoMemory) → Job Of May 5
+  unfolding error_line
+  memory_job Of May runs may same kept line = record {
+    end = media.Memory;
+    its_status = refl;
+    may = may;
+    untouched = λ seven. absurd (omega (arith, seven));
+    runs = λ t. runs;
+    taken = λ t. subst (λ (r : I). length (i.left input) ≤ length (i.left r) + (4294967295 + 1)) (sym same) (within_media (length (i.left input)));
+    reads = ap i.faults same;
+    writes = ap o.faults kept;
+    line = line;
   }
 
   -- memory was wanting before anything was asked of a stream
   pub memory_ends : rest ≡ input → wrote ≡ out → e.faults err ≤ e.faults told → (e.tells told → Steady (e.faults err) (e.faults told) → e.held told ≡ e.held err ++ line_of NoMemory) → Promises 5
   memory_ends same kept counted line = record {
     statuses = omega arith;
+    of_call = λ h. absurd (omega arith);
     usage = λ two. absurd (omega arith);
     no_reading = λ n. inr refl;
     read = λ two five. absurd (five refl);
     unread = λ n. same;
     done = λ c w zero t. absurd (omega arith);
     again = λ c w zero t u own. absurd (omega arith);
-    no_read_fault = λ n. ap i.faults same;
+    no_read_fault = λ n m. ap i.faults same;
     no_write_fault = λ n m. ap o.faults kept;
     counted = counted;
     refused = λ c w one t. absurd (omega arith);
@@ -159,10 +299,12 @@ module _ {I O E : Type 0} (i : SourceMembers I) (o : SinkMembers O) (e : SinkMem
     untaken = λ c w n. same;
     reading = λ c w h. absurd (neither 5 (λ z. absurd (omega arith)) (λ z. absurd (omega arith)) h);
     links = λ s. same;
-    untouched = λ h. kept;
-    unwritten = λ five n. kept;
-    taken = λ t. same_taken same;
-    line = λ t s. line_says NoMemory _ _ (line t s);
+    untouched = λ h m. kept;
+    unwritten = λ five n m. kept;
+    taken = λ t m. same_taken same;
+    flv = λ job w. memory_job (RunsFlv job) (MayEnd job) (flv_memory job (i.left input) (i.left rest) (o.tells wrote) (o.held out) (o.held wrote) (ap i.left same) (ap o.held kept)) (may_memory job) same kept line;
+    rtmp = λ size w. memory_job (RunsStream size) IsFileEnd (rtmp_memory size (i.left input) (i.left rest) (o.tells wrote) (o.held out) (o.held wrote) (ap i.left same) (ap o.held kept)) tt same kept line;
+    line = λ t s m n. line_says NoMemory _ _ (line t s);
   }
 
   -- A command was done.
@@ -179,13 +321,14 @@ module _ {I O E : Type 0} (i : SourceMembers I) (o : SinkMembers O) (e : SinkMem
     whole_ends : (x : Unit {0}) → Runs (Ok x) → ((TakesInput c → ⊥) → rest ≡ input) → (i.tells input → length (i.left input) ≤ length (i.left rest) + (most + 1)) → CountsReads (i.faults input) (i.faults rest) (Whole x) → CountsWrites (o.faults out) (o.faults wrote) (Whole x) → e.faults err ≤ e.faults told → (e.tells told → Steady (e.faults err) (e.faults told) → e.held told ≡ e.held err) → Promises 0
     whole_ends x runs untaken taken reads writes counted line = record {
       statuses = omega arith;
+      of_call = λ h. absurd (omega arith);
       usage = λ two. absurd (omega arith);
       no_reading = λ none. absurd (none (Output c, w));
       read = λ two five. (Output c, w);
       unread = λ none. absurd (none (Output c, w));
       done = λ d v zero t. runs_of (Ok x) runs d v t;
       again = λ d v zero t u own. let r = runs_of (Ok x) runs d v t in r.written u ∙ ap (λ b. o.held out ++ b) (made_again d (i.left input) r.bytes r.made own);
-      no_read_fault = λ n. reads;
+      no_read_fault = λ n m. reads;
       no_write_fault = λ n m. writes;
       counted = counted;
       refused = λ d v one t. absurd (omega arith);
@@ -202,22 +345,25 @@ module _ {I O E : Type 0} (i : SourceMembers I) (o : SinkMembers O) (e : SinkMem
       untaken = untaken_of untaken;
       reading = λ d v h. absurd (neither 0 (λ z. absurd (omega arith)) (λ z. absurd (omega arith)) h);
       links = λ s. absurd (not_serving words c w s);
-      untouched = λ h. absurd (none_of 0 (λ z. absurd (omega arith)) (λ z. absurd (omega arith)) (λ z. absurd (omega arith)) (λ z. absurd (omega arith)) h);
-      unwritten = λ five n. absurd (omega arith);
-      taken = taken;
-      line = λ t s. line t s;
+      untouched = λ h m. absurd (none_of 0 (λ z. absurd (omega arith)) (λ z. absurd (omega arith)) (λ z. absurd (omega arith)) (λ z. absurd (omega arith)) h);
+      unwritten = λ five n m. absurd (omega arith);
+      taken = λ t m. taken t;
+      flv = λ job v. absurd (flv_is_no_output words c job w v);
+      rtmp = λ size v. absurd (rtmp_is_no_output words c size w v);
+      line = λ t s m n. line t s;
     }
 
     failed_ends : (x : RunEnd) → Ended x ≢ Err Usage → ((number : ℕ) (l : Lack) → Ended x ≡ Err (NoForm number l) → MayLack c) → IsReading c (Ended x) → ((TakesInput c → ⊥) → rest ≡ input) → Runs (Ended x) → (i.tells input → length (i.left input) ≤ length (i.left rest) + (most + 1)) → IsUntouched out wrote (Ended x) → (Ended x ≡ Err NoMemory → wrote ≡ out) → CountsReads (i.faults input) (i.faults rest) (Ended x) → CountsWrites (o.faults out) (o.faults wrote) (Ended x) → e.faults err ≤ e.faults told → (e.tells told → Steady (e.faults err) (e.faults told) → e.held told ≡ e.held err ++ line_of x) → Promises (status_of x)
     failed_ends x usage alone reading untaken runs taken untouched unwritten reads writes counted line = record {
-      statuses = within_7 x;
+      statuses = below_10 (status_of x) (within_7 x);
+      of_call = λ h. not_above (status_of x) (within_7 x) h;
       usage = λ two. absurd (usage (usage_end x two));
       no_reading = λ none. absurd (none (Output c, w));
       read = λ two five. (Output c, w);
       unread = λ none. absurd (none (Output c, w));
       done = λ d v zero t. absurd (never_0 x zero);
       again = λ d v zero t u own. absurd (never_0 x zero);
-      no_read_fault = λ n. reads_steady x _ _ reads n;
+      no_read_fault = λ n m. reads_steady x _ _ reads n;
       no_write_fault = λ n m. writes_steady x _ _ writes n m;
       counted = counted;
       refused = λ d v one t. refused_says d x (i.left input) (i.left rest) (o.tells wrote) (e.tells told × Steady (e.faults err) (e.faults told)) (o.held out) (o.held wrote) (e.held err) (e.held told) one (runs_of (Ended x) runs d v t) (λ s. line s.0 s.1);
@@ -234,10 +380,12 @@ module _ {I O E : Type 0} (i : SourceMembers I) (o : SinkMembers O) (e : SinkMem
       untaken = untaken_of untaken;
       reading = λ d v h. reading_says d x h (subst (λ (k : Command). IsReading k (Ended x)) (one_reading words c d w v) reading);
       links = λ s. absurd (not_serving words c w s);
-      untouched = λ h. kept_with out wrote x h untouched;
-      unwritten = λ five n. unwritten (memory_end x five);
-      taken = taken;
-      line = λ t s. line_says x _ _ (line t s);
+      untouched = λ h m. kept_with out wrote x h untouched;
+      unwritten = λ five n m. unwritten (memory_end x five);
+      taken = λ t m. taken t;
+      flv = λ job v. absurd (flv_is_no_output words c job w v);
+      rtmp = λ size v. absurd (rtmp_is_no_output words c size w v);
+      line = λ t s m n. line_says x _ _ (line t s);
     }
 
     -- a command was done, and ended so
@@ -249,13 +397,14 @@ module _ {I O E : Type 0} (i : SourceMembers I) (o : SinkMembers O) (e : SinkMem
   served_ends : (s : ServeOptions) (w : ReadsServe words s) (r : End) → IsServeEnd r → rest ≡ input → CountsWrites (o.faults out) (o.faults wrote) r → e.faults err ≤ e.faults told → (e.tells told → Steady (e.faults err) (e.faults told) → ReportsEnd r (e.held err) (e.held told)) → Promises (status_for r)
   served_ends s w (Ok x) ends same writes counted line = record {
     statuses = omega arith;
+    of_call = λ h. absurd (omega arith);
     usage = λ two. absurd (omega arith);
     no_reading = λ none. absurd (none (Serve s, w));
     read = λ two five. (Serve s, w);
     unread = λ none. same;
     done = λ c v zero t. absurd (not_both words c s v w);
     again = λ c v zero t u own. absurd (not_both words c s v w);
-    no_read_fault = λ n. ap i.faults same;
+    no_read_fault = λ n m. ap i.faults same;
     no_write_fault = λ n m. writes;
     counted = counted;
     refused = λ c v one t. absurd (not_both words c s v w);
@@ -272,20 +421,23 @@ module _ {I O E : Type 0} (i : SourceMembers I) (o : SinkMembers O) (e : SinkMem
     untaken = λ c v n. same;
     reading = λ c v h. absurd (not_both words c s v w);
     links = λ z. same;
-    untouched = λ h. absurd (none_of 0 (λ z. absurd (omega arith)) (λ z. absurd (omega arith)) (λ z. absurd (omega arith)) (λ z. absurd (omega arith)) h);
-    unwritten = λ five n. absurd (n (s, w));
-    taken = λ t. same_taken same;
-    line = λ t z. line t z;
+    untouched = λ h m. absurd (none_of 0 (λ z. absurd (omega arith)) (λ z. absurd (omega arith)) (λ z. absurd (omega arith)) (λ z. absurd (omega arith)) h);
+    unwritten = λ five n m. absurd (n (s, w));
+    taken = λ t m. same_taken same;
+    flv = λ job v. absurd (flv_is_no_serving words s job w v);
+    rtmp = λ size v. absurd (rtmp_is_no_serving words s size w v);
+    line = λ t z m n. line t z;
   }
   served_ends s w (Err x) ends same writes counted line = record {
-    statuses = within_7 x;
+    statuses = below_10 (status_of x) (within_7 x);
+    of_call = λ h. not_above (status_of x) (within_7 x) h;
     usage = λ two. absurd (serve_not_usage x ends two);
     no_reading = λ none. absurd (none (Serve s, w));
     read = λ two five. (Serve s, w);
     unread = λ none. same;
     done = λ c v zero t. absurd (not_both words c s v w);
     again = λ c v zero t u own. absurd (not_both words c s v w);
-    no_read_fault = λ n. ap i.faults same;
+    no_read_fault = λ n m. ap i.faults same;
     no_write_fault = λ n m. writes_steady x _ _ writes n m;
     counted = counted;
     refused = λ c v one t. absurd (not_both words c s v w);
@@ -302,11 +454,64 @@ module _ {I O E : Type 0} (i : SourceMembers I) (o : SinkMembers O) (e : SinkMem
     untaken = λ c v n. same;
     reading = λ c v h. absurd (not_both words c s v w);
     links = λ z. same;
-    untouched = λ h. absurd (serve_writes x ends h);
-    unwritten = λ five n. absurd (n (s, w));
-    taken = λ t. same_taken same;
-    line = λ t z. line_says x _ _ (line t z);
+    untouched = λ h m. absurd (serve_writes x ends h);
+    unwritten = λ five n m. absurd (n (s, w));
+    taken = λ t m. same_taken same;
+    flv = λ job v. absurd (flv_is_no_serving words s job w v);
+    rtmp = λ size v. absurd (rtmp_is_no_serving words s size w v);
+    line = λ t z m n. line_says x _ _ (line t z);
   }
+
+  -- a job on media was done, or not
+  job_ends : (m : IsMedia words) (x : MediaEnd) → CountsMediaReads (i.faults input) (i.faults rest) x → CountsMediaWrites (o.faults out) (o.faults wrote) x → e.faults err ≤ e.faults told → ((job : FlvJob) → ReadsFlv words job → Job (RunsFlv job) (MayEnd job) (media_status_of x)) → ((size : Option ℕ) → ReadsRtmp words size → Job (RunsStream size) IsFileEnd (media_status_of x)) → Promises (media_status_of x)
+  job_ends m x reads writes counted flv rtmp = record {
+    statuses = below_10 (media_status_of x) (media_within_7 x);
+    of_call = λ h. not_above (media_status_of x) (media_within_7 x) h;
+    usage = λ two. absurd (media_not_2 x two);
+    no_reading = λ none. absurd (none (media_read words m));
+    read = λ two five. media_read words m;
+    unread = λ none. absurd (none (media_read words m));
+    done = λ c v zero t. absurd (media_is_no_output words c v m);
+    again = λ c v zero t u own. absurd (media_is_no_output words c v m);
+    no_read_fault = λ n four. media_reads_steady x _ _ n (λ s. four s m) reads;
+    no_write_fault = λ n five. media_writes_steady x _ _ n five writes;
+    counted = counted;
+    refused = λ c v one t. absurd (media_is_no_output words c v m);
+    read_fault = λ h. media_reads_rose x _ _ h reads;
+    hidden = λ c v three t. absurd (media_is_no_output words c v m);
+    write_fault = λ h. media_writes_rose x _ _ h writes;
+    front = λ c v four t. absurd (media_is_no_output words c v m);
+    accepted = λ c v t a. absurd (media_is_no_output words c v m);
+    not_accepted = λ c v t reason at q. absurd (media_is_no_output words c v m);
+    no_form = λ c v seven t. absurd (media_is_no_output words c v m);
+    alone = λ c v seven. absurd (media_is_no_output words c v m);
+    formed = λ c v t bytes k. absurd (media_is_no_output words c v m);
+    lacking = λ c v t number l k. absurd (media_is_no_output words c v m);
+    untaken = λ c v n. absurd (media_is_no_output words c v m);
+    reading = λ c v h. absurd (media_is_no_output words c v m);
+    links = λ s. absurd (media_is_no_serving words s m);
+    untouched = λ h n. absurd (n m);
+    unwritten = λ five s n. absurd (n m);
+    taken = λ t n. absurd (n m);
+    flv = flv;
+    rtmp = rtmp;
+    line = λ t s n k. absurd (n m);
+  }
+
+  -- By what the job says of itself, where the streams are these.
+  module _ (x : MediaEnd) (status : ℕ) (is : status ≡ media_status_of x) (taken : i.tells input → length (i.left input) ≤ length (i.left rest) + (4294967295 + 1)) (reads : CountsMediaReads (i.faults input) (i.faults rest) x) (writes : CountsMediaWrites (o.faults out) (o.faults wrote) x) (counted : e.faults err ≤ e.faults told) (line : e.tells told → Steady (e.faults err) (e.faults told) → e.held told ≡ e.held err ++ error_line x) where
+    job_of : (Of : Does) (May : MediaEnd → Type 0) → (i.tells input → Of (i.left input) (i.left rest) (o.tells wrote) (o.held out) (o.held wrote) x) → May x → (media_status_of x ≡ 7 → wrote ≡ out) → Job Of May (media_status_of x)
+    job_of Of May runs may untouched = record { end = x; its_status = refl; may = may; untouched = untouched; runs = runs; taken = taken; reads = reads; writes = writes; line = line }
+
+    pub flv_ends : (job : FlvJob) (w : ReadsFlv words job) → (i.tells input → RunsFlv job (i.left input) (i.left rest) (o.tells wrote) (o.held out) (o.held wrote) x) → MayEnd job x → IsMediaUntouched out wrote x → Promises status
+    flv_ends job w runs may untouched =
+        let it : Job (RunsFlv job) (MayEnd job) (media_status_of x) = job_of (RunsFlv job) (MayEnd job) runs may (media_kept out wrote x untouched) in
+        subst Promises (sym is) (job_ends (inl (job, w)) x reads writes counted (λ other v. subst (λ (j : FlvJob). Job (RunsFlv j) (MayEnd j) (media_status_of x)) (one_job words job other w v) it) (λ size v. absurd (flv_is_no_rtmp words job size w v)))
+
+    pub rtmp_ends : (size : Option ℕ) (w : ReadsRtmp words size) → (i.tells input → RunsStream size (i.left input) (i.left rest) (o.tells wrote) (o.held out) (o.held wrote) x) → IsFileEnd x → Promises status
+    rtmp_ends size w runs may =
+        let it : Job (RunsStream size) IsFileEnd (media_status_of x) = job_of (RunsStream size) IsFileEnd runs may (λ seven. absurd (file_end_not_7 x may seven)) in
+        subst Promises (sym is) (job_ends (inr (size, w)) x reads writes counted (λ job v. absurd (flv_is_no_rtmp words job size v w)) (λ other v. subst (λ (s : Option ℕ). Job (RunsStream s) IsFileEnd (media_status_of x)) (one_size words size other w v) it))
 
   -- The same of a status that is that of the end.
 
@@ -338,9 +543,19 @@ not_front_fault (Err NoMemory) status other is six = absurd (omega (arith, is, s
 not_front_fault (Err FrontFault) status other is six = absurd (other refl)
 not_front_fault (Err (NoForm v l)) status other is six = absurd (omega (arith, is, six))
 
--- where nothing was found out, links may have been asked for only where memory was wanting
-pub serving_is_5 : (words : List (List ℕ)) (x : RunEnd) (status : ℕ) → ((x ≡ Usage) × (HasReading words → ⊥)) ⊎ (x ≡ NoMemory) → status ≡ status_of x → IsServing words → status ≡ 5
-serving_is_5 words x status why is s = elim why [ inl u ↦ absurd (u.1 (Serve s.0, s.1)) | inr m ↦ is ∙ ap status_of m ]
+-- memory was wanting
+starves_with : {O E : Type 0} (o : SinkMembers O) (e : SinkMembers E) (out : O) (err told : E) (x : RunEnd) (status : ℕ) → x ≡ NoMemory → status ≡ status_of x → Tells e err told (line_of x) → Starves o e out out err told status
+starves_with o e out err told x status is same line = (
+  same ∙ subst (λ (y : RunEnd). status_of x ≡ status_of y) is refl,
+  (refl, subst (λ (y : RunEnd). Tells e err told (line_of y)) is line),
+)
+
+-- where nothing was found out, links or a call may have been asked for only where memory was wanting
+pub task_starves : {O E : Type 0} (o : SinkMembers O) (e : SinkMembers E) (words : List (List ℕ)) (out : O) (err told : E) (x : RunEnd) (status : ℕ) → ((x ≡ Usage) × (HasReading words → ⊥)) ⊎ (x ≡ NoMemory) → status ≡ status_of x → Tells e err told (line_of x) → IsServing words ⊎ IsCalling words → Starves o e out out err told status
+task_starves o e words out err told x status why is line asked = elim why [
+  | inl u ↦ absurd (u.1 (elim asked [ inl s ↦ (Serve s.0, s.1) | inr k ↦ (Call k.0, k.1) ]))
+  | inr m ↦ starves_with o e out err told x status m is line
+]
 
 pub task_not_6 : (words : List (List ℕ)) (x : RunEnd) (status : ℕ) → ((x ≡ Usage) × (HasReading words → ⊥)) ⊎ (x ≡ NoMemory) → status ≡ status_of x → status ≢ 6
 task_not_6 words x status why is six = elim why [
@@ -358,3 +573,7 @@ memory_ends_with i o e words input out err told status is counted line = no_task
 
 pub five_not_six : (status : ℕ) → status ≡ 5 → status ≡ 6 → ⊥
 five_not_six status five six = omega (arith, five, six)
+
+-- a job on media fails for no front, serves no links and makes no call
+pub media_data : (words : List (List ℕ)) (x : MediaEnd) (status : ℕ) (P : Type 0) → IsMedia words → status ≡ media_status_of x → (IsServing words ⊎ IsCalling words → P) × (status ≢ 6)
+media_data words x status P m is = (λ s. absurd (elim s [ inl a ↦ media_is_no_serving words a m | inr b ↦ call_is_no_media words m b ]), λ six. media_not_6 x (sym is ∙ six))

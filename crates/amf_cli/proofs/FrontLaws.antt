@@ -46,8 +46,8 @@ stays_for before now (Err e) status is zero c = absurd (never_0 e (sym is ∙ ze
 
 module _ {F H L O : Type 0} (f : OfFront F H) (h : OfHall H L) (l : OfLink L) (o : SinkMembers O) (services : List Entry) (words : List (List ℕ)) where
   -- nothing was asked of the front, nor of the output where links were asked for
-  pub data_serves : (status : ℕ) (front : F) (out wrote : O) → (IsServing words → (status ≡ 5) × (wrote ≡ out)) → status ≢ 6 → ServesWords f h l o services words status front front out wrote
-  data_serves status front out wrote five other = record {
+  pub data_serves : (status : ℕ) (front : F) (out wrote : O) → AreLawful services → (IsServing words → (status ≡ 5) × (wrote ≡ out)) → status ≢ 6 → ServesWords f h l o services words status front front out wrote
+  data_serves status front out wrote lawful five other = record {
     served = λ s w z. absurd (not_of_serve status (five (s, w)).0 z);
     starved = λ s w z. record {
       answer = Memory;
@@ -56,7 +56,7 @@ module _ {F H L O : Type 0} (f : OfFront F H) (h : OfHall H L) (l : OfLink L) (o
       nothing = λ is. (five (s, w)).1;
       written = inl (λ t. ap o.held (five (s, w)).1 ∙ sym (append-nil (o.held out)));
     };
-    lawful = λ s n. absurd (n (five s).0);
+    lawful = lawful;
     serving = λ s. inr (inr (inl (five s).0));
     front_fault = λ six. absurd (other six);
     no_front_fault = λ zero. refl;
@@ -64,16 +64,16 @@ module _ {F H L O : Type 0} (f : OfFront F H) (h : OfHall H L) (l : OfLink L) (o
   }
 
   -- nothing was asked of either, because memory ran out
-  pub kept_serves : (status : ℕ) (front back : F) (out wrote : O) → back ≡ front → wrote ≡ out → status ≡ 5 → ServesWords f h l o services words status front back out wrote
-  kept_serves status front back out wrote same kept five =
-      subst (λ (x : F). ServesWords f h l o services words status front x out wrote) (sym same) (data_serves status front out wrote (λ s. (five, kept)) (λ six. absurd (omega (arith, five, six))))
+  pub kept_serves : (status : ℕ) (front back : F) (out wrote : O) → AreLawful services → back ≡ front → wrote ≡ out → status ≡ 5 → ServesWords f h l o services words status front back out wrote
+  kept_serves status front back out wrote lawful same kept five =
+      subst (λ (x : F). ServesWords f h l o services words status front x out wrote) (sym same) (data_serves status front out wrote lawful (λ s. (five, kept)) (λ six. absurd (omega (arith, five, six))))
 
   -- links were served
   pub links_serve : (s : ServeOptions) (w : ReadsServe words s) (r : End) (status : ℕ) (front back : F) (out wrote : O) → status ≡ status_for r → ServesTo (Serves f h l services s.port s.workers s.each front back) (wrote ≡ out) (o.tells wrote) (o.held out) (o.held wrote) (o.faults out) (o.faults wrote) r → AreLawful services → IsServeEnd r → CountsFront (f.faults front) (f.faults back) r → ServesWords f h l o services words status front back out wrote
   links_serve s w r status front back out wrote is came lawful ends counts = record {
     served = λ p v z. served_for _ _ _ _ _ _ _ r status is z (by p v);
     starved = λ p v z. starved_for _ _ _ _ _ _ _ r status is z (by p v);
-    lawful = λ z n. lawful;
+    lawful = lawful;
     serving = λ z. serves_for r status is ends;
     front_fault = λ six. rose_for _ _ r status is six counts;
     no_front_fault = λ zero. stays_for _ _ r status is zero counts;

@@ -1,6 +1,9 @@
 mod ServeRows
 mod ServeLaws
+mod MediaLaws
 mod EndsLaws
+mod CallAlike
+mod CallLaws
 mod FrontLaws
 mod GenLaws
 mod ServiceLaws

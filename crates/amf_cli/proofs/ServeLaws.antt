@@ -1,6 +1,5 @@
 -- How a run with `serve` ends.
 use Rattle.std.proofs.Common.{◌≡◌, ◌⊎◌, inl, inr, ℕ, Bool, true, false, List, Ok, Err, refl, sym, subst, arith}
-use Rattle.std.specs.Prelude.{◌≤◌}
 use Rattle.std.proofs.lemmas.List.{append-nil}
 use Rattle.amf_io.specs.Outside.{Rose}
 use Rattle.amf_desk.specs.declared.closed.Closed.{Closed}

@@ -1,9 +1,14 @@
 -- The definitions that contracts cite.
 pub mod Lines
+pub mod Told
 pub mod Outside
 pub mod Serving
+pub mod MediaEnds
 pub mod Ends
 pub mod ServesWords
+pub mod CallEnds
+pub mod CallsWords
 pub mod WorkedServe
--- A device of the proofs: no clause of a public call needs it.
+-- Devices of the proofs: no clause of a public call needs them.
 pub mod ServeEnds
+pub mod CallSteps

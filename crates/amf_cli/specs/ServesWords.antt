@@ -12,16 +12,16 @@ use Rattle.amf_commands.specs.Commands.{ReadsServe, IsServing}
 use Rattle.amf_cli.specs.Serving.{ServeRun, ServeStarved}
 
 -- By the meanings of the front and of the output, the services, the words and the status. Of front and output there is what it was before and what it is now.
-pub record ServesWords {F H L O : Type 0} (f : OfFront F H) (h : OfHall H L) (l : OfLink L) (o : SinkMembers O) (services : List Entry) (words : List (List ℕ)) (status : ℕ) (front back : F) (out wrote : O) : Type 0 where
+pub record ServesWords {F H L O : Type 0} (f : OfFront F H) (h : OfHall H L) (l : OfLink L) (o : SinkMembers O) (services : List Entry) (words : List (List ℕ)) (status : ℕ) (front front_now : F) (out out_now : O) : Type 0 where
   -- what `serve` came to, with 0, 4 and 6, is what workers at one desk did with the links of the front, by services that obey their law
   pub served : (s : ServeOptions) → ReadsServe words s → (status ≡ 0) ⊎ (status ≡ 4) ⊎ (status ≡ 6)
-      → ServeRun (Serves f h l services s.port s.workers s.each front back) (o.tells wrote) (o.held out) (o.held wrote) status
+      → ServeRun (Serves f h l services s.port s.workers s.each front front_now) (o.tells out_now) (o.held out) (o.held out_now) status
   -- with 5 nothing was opened or the front has its halls again, and the output is as it was; or the workers did so, and the line was still written where it could be
   pub starved : (s : ServeOptions) → ReadsServe words s → status ≡ 5
-      → ServeStarved (Serves f h l services s.port s.workers s.each front back) (wrote ≡ out) (o.tells wrote) (o.held out) (o.held wrote) (o.faults out) (o.faults wrote)
-  pub lawful : IsServing words → status ≢ 5 → AreLawful services
+      → ServeStarved (Serves f h l services s.port s.workers s.each front front_now) (out_now ≡ out) (o.tells out_now) (o.held out) (o.held out_now) (o.faults out) (o.faults out_now)
+  pub lawful : AreLawful services
   pub serving : IsServing words → (status ≡ 0) ⊎ (status ≡ 4) ⊎ (status ≡ 5) ⊎ (status ≡ 6)
   -- 6 comes only of `serve`, and only where the front's count rose; with 0 that stays; only `serve` asks anything of the front
-  pub front_fault : status ≡ 6 → Rose (f.faults front) (f.faults back)
-  pub no_front_fault : status ≡ 0 → f.faults back ≡ f.faults front
-  pub unasked : (IsServing words → ⊥) → (back ≡ front) × (status ≢ 6)
+  pub front_fault : status ≡ 6 → Rose (f.faults front) (f.faults front_now)
+  pub no_front_fault : status ≡ 0 → f.faults front_now ≡ f.faults front
+  pub unasked : (IsServing words → ⊥) → (front_now ≡ front) × (status ≢ 6)

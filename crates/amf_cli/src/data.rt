@@ -1,25 +1,38 @@
 ghost use Rattle.std.specs.Prelude.{◌≡◌, ◌≢◌, ◌⊎◌, ℕ, ◌+◌, ◌≤◌, length, IfOk, OnErr};
 ghost use Rattle.amf_graph.specs.declared.lack.Lack.{Lack};
+ghost use Rattle.amf_commands.specs.declared.command.CallOptions.{CallOptions};
 ghost use Rattle.amf_commands.specs.declared.command.ServeOptions.{ServeOptions};
 ghost use Rattle.amf_commands.specs.Askable.{IsAskable};
-ghost use Rattle.amf_commands.specs.Commands.{AsksFor, HasReading, ReadsServe, IsServing};
+ghost use Rattle.amf_commands.specs.Commands.{AsksFor, HasReading, ReadsCall, ReadsServe, IsCalling, IsServing};
 ghost use Rattle.amf_commands.specs.Input.{most};
 ghost use Rattle.amf_commands.specs.Run.{TakesInput, MayLack, CountsReads, CountsWrites, IsReading, IsUntouched, RunsTo};
 ghost use Rattle.amf_commands.specs.declared.run_end.RunEnd.{RunEnd};
 ghost use Rattle.amf_commands.specs.declared.run_end.RunEnd.TheVariants.{Usage, NoMemory};
+ghost use Rattle.amf_cli.specs.CallEnds.{Starves};
 ghost use Rattle.amf_cli.specs.Ends.{Ends};
 
 use crate::ending::status_with;
+use crate::media::media_status;
 use crate::no_input::NoInput;
 use amf_commands::perform::perform;
-use amf_commands::{Command, RunEnd, ServeOptions, Task};
+use amf_commands::{CallOptions, Command, RunEnd, ServeOptions, Task};
 use amf_io::{Sink, Source};
+use amf_media::{flv_keyed, rtmp_keyed};
 use amf_wire::Name;
 use std::alloc::Global;
 use std::hash::RandomState;
 
-/// Does what the words say as `run` does it, and gives the status of the program; but where they ask for links to be served it does
-/// nothing, and the answer has the options.
+/// What words ask for that is done over links.
+#[derive(Drop)]
+pub enum LinkTask {
+    /// Links are served.
+    Serve(ServeOptions),
+    /// A call is made.
+    Call(CallOptions),
+}
+
+/// Does what the words say as `run` does it, and gives the status of the program; but where they ask for links to be served or
+/// for a call, it does nothing, and the answer has the options, unless memory ran out.
 ///
 /// It has no runtime. So it returns, unless a stream waits. The keys are those by which readers and writers look texts up.
 pub fn run_data<I: Source, O: Sink, E: Sink>(
@@ -29,10 +42,12 @@ pub fn run_data<I: Source, O: Sink, E: Sink>(
     input: &mut I,
     out: &mut O,
     err: &mut E,
-) -> Result<u8, ServeOptions>
+) -> Result<u8, LinkTask>
     ensures ends { IfOk result (λ status. Ends I.Source O.Sink E.Sink words.now status input.old input.new out.old out.new err.old err.new) }
-    ensures data { IfOk result (λ status. (IsServing words.now → (status ≡ 5) × (out.new ≡ out.old)) × (status ≢ 6)) }
-    ensures serves { (options : ServeOptions) → result ≡ Err options → ReadsServe words.now options }
+    ensures data { IfOk result (λ status. (IsServing words.now ⊎ IsCalling words.now
+        → Starves O.Sink E.Sink out.old out.new err.old err.new status) × (status ≢ 6)) }
+    ensures serves { (options : ServeOptions) → result ≡ Err (LinkTask.Serve options) → ReadsServe words.now options }
+    ensures calls { (options : CallOptions) → result ≡ Err (LinkTask.Call options) → ReadsCall words.now options }
     ensures untouched { OnErr result ((input.new ≡ input.old) × (out.new ≡ out.old) × (err.new ≡ err.old)) }
 {
     match task_of(alloc, words) {
@@ -40,7 +55,16 @@ pub fn run_data<I: Source, O: Sink, E: Sink>(
             let end = carry_out(alloc, keys, command, input, out);
             Ok(status_with(end, err))
         }
-        Ok(Task::Serve(options)) => Err(options),
+        Ok(Task::Flv(job)) => {
+            let end = flv_keyed(alloc, keys, job, input, out);
+            Ok(media_status(end, err))
+        }
+        Ok(Task::Rtmp(size)) => {
+            let end = rtmp_keyed(alloc, keys, size, input, out);
+            Ok(media_status(end, err))
+        }
+        Ok(Task::Serve(options)) => Err(LinkTask::Serve(options)),
+        Ok(Task::Call(options)) => Err(LinkTask::Call(options)),
         Err(end) => Ok(status_with(Err(end), err)),
     }
 }
@@ -69,7 +93,8 @@ fn carry_out<I: Source, O: Sink>(
     ensures alone { (number : ℕ) (l : Lack) → result ≡ Err (RunEnd.NoForm number l) → MayLack command }
     ensures reading { IsReading command result }
     ensures untaken { (TakesInput command → ⊥) → input.new ≡ input.old }
-    ensures runs { (TakesInput command → I.tells input.old) → RunsTo command (I.left input.old) (I.left input.new) (O.tells out.new) (O.held out.old) (O.held out.new) result }
+    ensures runs { (TakesInput command → I.tells input.old)
+        → RunsTo command (I.left input.old) (I.left input.new) (O.tells out.new) (O.held out.old) (O.held out.new) result }
     ensures taken { I.tells input.old → length (I.left input.old) ≤ length (I.left input.new) + (most + 1) }
     ensures untouched { IsUntouched out.old out.new result }
     ensures unwritten { result ≡ Err RunEnd.NoMemory → out.new ≡ out.old }

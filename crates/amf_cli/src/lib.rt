@@ -1,19 +1,26 @@
 //! What the program `amf` does: writes the canonical spelling of any value of AMF 3 or AMF 0, in either, of any packet and of any
-//! shared object file, checks it, lists it, tells whether two values are the same graph, and serves remoting calls over HTTP.
+//! shared object file, checks it, lists it, tells whether two values are the same graph, lists and rewrites FLV files and RTMP chunk
+//! streams, and serves and makes remoting calls over HTTP.
 #![tactic(auto)]
 
 mod arguments;
+mod calling;
 pub mod data;
 mod ending;
 mod facts;
 mod lines;
+mod media;
 mod no_input;
 pub mod run;
 mod services;
 mod serving;
 pub mod start;
+mod telling;
 
-pub use amf_commands::{Command, Format, RunEnd, ServeOptions, Task, end_with, run_rows};
+pub use amf_commands::{
+    CallOptions, Command, Format, RunEnd, ServeOptions, Task, end_with, run_rows,
+};
+pub use amf_round::{RoundEnd, may_call, round};
 pub use arguments::{Arguments, Environment, words_of};
 pub use facts::serve_rows;
 pub use services::start_with_services;

@@ -1,15 +1,17 @@
 ghost use Rattle.std.specs.Prelude.{List};
 ghost use Rattle.amf_service.specs.Registry.{Entry};
 ghost use Rattle.amf_plan.specs.Services.{services_by};
+ghost use Rattle.amf_cli.specs.CallsWords.{CallsWords};
 ghost use Rattle.amf_cli.specs.Ends.{Ends};
 ghost use Rattle.amf_cli.specs.Outside.{of_front, of_hall, of_link};
 ghost use Rattle.amf_cli.specs.ServesWords.{ServesWords};
 
-use crate::data::run_data;
+use crate::calling::run_call;
+use crate::data::{LinkTask, run_data};
 use crate::ending::status_with;
 use crate::serving::serve_links;
 pub use amf_commands::LIMIT;
-use amf_io::{Front, Gate, Hall, Sink, Source};
+use amf_io::{Dial, Front, Gate, Hall, Sink, Source};
 use amf_service::Registry;
 use amf_wire::Name;
 use std::alloc::Global;
@@ -37,11 +39,29 @@ use std::thread::Threads;
 /// `--workers` says, 1 to 64. Each worker serves up to as many links of its hall as `--each` says, 1 to 1,000,000, all at once,
 /// and their calls go to one broker with the destinations `chat` and `news`. Then all halls go back to the front, and the output
 /// is the line `calls A published B delivered C queued D`. A call of the desk is told to the gate before and after. `serve` may
-/// wait for others, and no other command does but for its streams.
+/// wait for others, and no other command does but for its streams, and `call` for its link.
+///
+/// With `flv` the input is an FLV file (Adobe, Video File Format Specification 10.1, annex E) of at most 4,294,967,295 bytes. What is
+/// done with its metadata `--do` says: `show` lists the values, `drop` writes the file without them, and `set` first reads one AMF 0 value, and
+/// writes the file with this as its only metadata. With `rtmp` the input is what one side of an RTMP connection sends (Adobe's RTMP
+/// Chunk Stream, section 5), as long at most. With `--do show` its messages are listed, and with `--do rechunk` they are written again in chunks of
+/// the size of `--size`, 1 to 2,147,483,647. Both write while they read.
+///
+/// With `call` the input is one AMF 3 value, an array without names, which holds the arguments. Then the gateway at the port of
+/// `--port` of 127.0.0.1 is called once for the operation that `--target` names, a text of at most 65,535 bytes, and the output is the
+/// result's canonical spelling in AMF 3. A fault is status 8, a bad reply 9, and a dial or a link that fails 10.
 ///
 /// The runtime gives the keys by which readers and writers look texts up, so that no input can be made that takes long; where it gives
 /// none, they are fixed.
-pub fn run<R: RandomSource + Threads + Wait + Sync, I: Source, O: Sink, E: Sink, F: Front, G: Gate>(
+pub fn run<
+    R: RandomSource + Threads + Wait + Sync,
+    I: Source,
+    O: Sink,
+    E: Sink,
+    F: Front,
+    G: Gate,
+    D: Dial,
+>(
     rt: &R,
     alloc: Global,
     words: &[Name],
@@ -51,6 +71,7 @@ pub fn run<R: RandomSource + Threads + Wait + Sync, I: Source, O: Sink, E: Sink,
     front: &mut F,
     gate: &G,
     registry: &Registry,
+    dial: &mut D,
 ) -> u8
 where
     <F::Hall as Hall>::Link: Send,
@@ -58,13 +79,17 @@ where
     ensures serves { let services : List Entry = services_by registry.now.services.entries (λ x. x.items) (λ s. knows (s.vtable, s.value)) (λ s. gives (s.vtable, s.value)) in
         ServesWords (of_front F.Front) (of_hall F.Hall.Hall.own F.Hall.Clock F.Hall.Dice) (of_link F.Hall.Link.Link) O.Sink services
         words.now result front.old front.new out.old out.new }
+    ensures calls { CallsWords I.Source O.Sink E.Sink D.Dial D.Link.Link words.now result
+        input.old input.new out.old out.new err.old err.new dial.old dial.new }
 {
+    registry.are_lawful();
     let keys = RandomState::new(rt).ok();
     match run_data(alloc, keys, words, input, out, err) {
         Ok(status) => status,
-        Err(options) => {
+        Err(LinkTask::Serve(options)) => {
             let end = serve_links(rt, alloc, options, out, front, gate, registry);
             status_with(end, err)
         }
+        Err(LinkTask::Call(options)) => run_call(alloc, keys, &options, input, out, err, dial),
     }
 }

@@ -1,6 +1,7 @@
 ghost use Rattle.std.specs.Prelude.{◌≡◌, ℕ, List, IfOk, OnErr};
 ghost use Rattle.std.specs.Process.{exit_status};
 ghost use Rattle.amf_service.specs.Shipped.{shipped as shipped_services};
+ghost use Rattle.amf_cli.specs.CallsWords.{CallsWords};
 ghost use Rattle.amf_cli.specs.Ends.{Ends};
 ghost use Rattle.amf_cli.specs.Outside.{of_front, of_hall, of_link};
 ghost use Rattle.amf_cli.specs.ServesWords.{ServesWords};
@@ -8,8 +9,8 @@ ghost use Rattle.amf_cli.specs.ServesWords.{ServesWords};
 use crate::arguments::Arguments;
 use crate::start::start;
 use amf_commands::{RunEnd, end_with};
-use amf_io::{Front, Hall, OpenGate, Sink, Source};
-use amf_service::{Echo, Names, Registry, Service, Sum};
+use amf_io::{Dial, Front, Hall, OpenGate, Sink, Source};
+use amf_service::{Echo, Names, Registry, Service, Sum, service_laws};
 use amf_wire::{Memory, Name};
 use std::alloc::Global;
 use std::process::ExitCode;
@@ -26,6 +27,7 @@ pub fn start_with_services<
     O: Sink,
     E: Sink,
     F: Front,
+    D: Dial,
 >(
     rt: &R,
     alloc: Global,
@@ -34,15 +36,20 @@ pub fn start_with_services<
     out: &mut O,
     err: &mut E,
     front: &mut F,
+    dial: &mut D,
 ) -> ExitCode
 where
     <F::Hall as Hall>::Link: Send,
     ensures { (words : List (List ℕ)) × (A.tells arguments.now → words ≡ A.words arguments.now)
         × Ends I.Source O.Sink E.Sink words (exit_status result) input.old input.new out.old out.new err.old err.new
         × ServesWords (of_front F.Front) (of_hall F.Hall.Hall.own F.Hall.Clock F.Hall.Dice) (of_link F.Hall.Link.Link) O.Sink shipped_services
-        words (exit_status result) front.old front.new out.old out.new }
+        words (exit_status result) front.old front.new out.old out.new
+        × CallsWords I.Source O.Sink E.Sink D.Dial D.Link.Link words (exit_status result)
+        input.old input.new out.old out.new err.old err.new dial.old dial.new }
 {
-    match start_shipped(rt, alloc, arguments, input, out, err, front) {
+    // Also where there is no memory for the services, the law of services holds of them.
+    service_laws();
+    match start_shipped(rt, alloc, arguments, input, out, err, front, dial) {
         Ok(code) => code,
         Err(_) => ExitCode::from(end_with(RunEnd::NoMemory, err)),
     }
@@ -56,6 +63,7 @@ fn start_shipped<
     O: Sink,
     E: Sink,
     F: Front,
+    D: Dial,
 >(
     rt: &R,
     alloc: Global,
@@ -64,14 +72,17 @@ fn start_shipped<
     out: &mut O,
     err: &mut E,
     front: &mut F,
+    dial: &mut D,
 ) -> Result<ExitCode, Memory>
 where
     <F::Hall as Hall>::Link: Send,
     ensures runs { IfOk result (λ code. (words : List (List ℕ)) × (A.tells arguments.now → words ≡ A.words arguments.now)
         × Ends I.Source O.Sink E.Sink words (exit_status code) input.old input.new out.old out.new err.old err.new
         × ServesWords (of_front F.Front) (of_hall F.Hall.Hall.own F.Hall.Clock F.Hall.Dice) (of_link F.Hall.Link.Link) O.Sink shipped_services
-        words (exit_status code) front.old front.new out.old out.new) }
-    ensures untouched { OnErr result ((input.new ≡ input.old) × (out.new ≡ out.old) × (err.new ≡ err.old) × (front.new ≡ front.old)) }
+        words (exit_status code) front.old front.new out.old out.new
+        × CallsWords I.Source O.Sink E.Sink D.Dial D.Link.Link words (exit_status code)
+        input.old input.new out.old out.new err.old err.new dial.old dial.new) }
+    ensures untouched { OnErr result ((input.new ≡ input.old) × (out.new ≡ out.old) × (err.new ≡ err.old) × (front.new ≡ front.old) × (dial.new ≡ dial.old)) }
 {
     let mut entries: Vec<(Name, Box<dyn Service>)> = Vec::new(alloc);
     entries.push((Name::of_bytes(alloc, b"echo")?, Box::new(alloc, Echo)?))?;
@@ -81,6 +92,6 @@ where
         return Err(Memory);
     };
     Ok(start(
-        rt, alloc, arguments, input, out, err, front, &OpenGate, &registry,
+        rt, alloc, arguments, input, out, err, front, &OpenGate, &registry, dial,
     ))
 }

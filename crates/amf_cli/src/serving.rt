@@ -1,6 +1,5 @@
 ghost use Rattle.std.specs.Prelude.{◌≡◌, List, IfOk};
 ghost use Rattle.amf_service.specs.Registry.{Entry};
-ghost use Rattle.amf_plan.specs.RespondLaws.{AreLawful};
 ghost use Rattle.amf_plan.specs.Services.{services_by};
 ghost use Rattle.amf_workers.specs.Together.{Serves};
 ghost use Rattle.amf_commands.specs.Askable.{IsServable};
@@ -36,14 +35,11 @@ where
     ensures served { let services : List Entry = services_by registry.now.services.entries (λ x. x.items) (λ s. knows (s.vtable, s.value)) (λ s. gives (s.vtable, s.value)) in
         ServesTo (Serves (of_front F.Front) (of_hall F.Hall.Hall.own F.Hall.Clock F.Hall.Dice) (of_link F.Hall.Link.Link) services
         options.port options.workers options.each front.old front.new) (out.new ≡ out.old) (O.tells out.new) (O.held out.old) (O.held out.new) (O.faults out.old) (O.faults out.new) result }
-    ensures lawful { let services : List Entry = services_by registry.now.services.entries (λ x. x.items) (λ s. knows (s.vtable, s.value)) (λ s. gives (s.vtable, s.value)) in
-        AreLawful services }
     ensures ends { IsServeEnd result }
     ensures tells { O.tells out.new → O.tells out.old }
     ensures writes { CountsWrites (O.faults out.old) (O.faults out.new) result }
     ensures faults { CountsFront (F.faults front.old) (F.faults front.new) result }
 {
-    registry.are_lawful();
     let answer = serve(
         rt,
         alloc,

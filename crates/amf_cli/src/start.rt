@@ -2,6 +2,7 @@ ghost use Rattle.std.specs.Prelude.{◌≡◌, ℕ, List};
 ghost use Rattle.std.specs.Process.{exit_status};
 ghost use Rattle.amf_service.specs.Registry.{Entry};
 ghost use Rattle.amf_plan.specs.Services.{services_by};
+ghost use Rattle.amf_cli.specs.CallsWords.{CallsWords};
 ghost use Rattle.amf_cli.specs.Ends.{Ends};
 ghost use Rattle.amf_cli.specs.Outside.{of_front, of_hall, of_link};
 ghost use Rattle.amf_cli.specs.ServesWords.{ServesWords};
@@ -9,7 +10,7 @@ ghost use Rattle.amf_cli.specs.ServesWords.{ServesWords};
 use crate::arguments::{Arguments, words_of};
 use crate::run::run;
 use amf_commands::{RunEnd, end_with};
-use amf_io::{Front, Gate, Hall, Sink, Source};
+use amf_io::{Dial, Front, Gate, Hall, Sink, Source};
 use amf_service::Registry;
 use std::alloc::Global;
 use std::process::ExitCode;
@@ -27,6 +28,7 @@ pub fn start<
     E: Sink,
     F: Front,
     G: Gate,
+    D: Dial,
 >(
     rt: &R,
     alloc: Global,
@@ -37,6 +39,7 @@ pub fn start<
     front: &mut F,
     gate: &G,
     registry: &Registry,
+    dial: &mut D,
 ) -> ExitCode
 where
     <F::Hall as Hall>::Link: Send,
@@ -44,11 +47,16 @@ where
         (words : List (List ℕ)) × (A.tells arguments.now → words ≡ A.words arguments.now)
         × Ends I.Source O.Sink E.Sink words (exit_status result) input.old input.new out.old out.new err.old err.new
         × ServesWords (of_front F.Front) (of_hall F.Hall.Hall.own F.Hall.Clock F.Hall.Dice) (of_link F.Hall.Link.Link) O.Sink services
-        words (exit_status result) front.old front.new out.old out.new }
+        words (exit_status result) front.old front.new out.old out.new
+        × CallsWords I.Source O.Sink E.Sink D.Dial D.Link.Link words (exit_status result)
+        input.old input.new out.old out.new err.old err.new dial.old dial.new }
 {
+    registry.are_lawful();
     match words_of(alloc, arguments) {
         Ok(words) => {
-            let status = run(rt, alloc, &words, input, out, err, front, gate, registry);
+            let status = run(
+                rt, alloc, &words, input, out, err, front, gate, registry, dial,
+            );
             ExitCode::from(status)
         }
         Err(_) => ExitCode::from(end_with(RunEnd::NoMemory, err)),

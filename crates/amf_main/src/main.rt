@@ -1,9 +1,10 @@
 //! The program `amf`: writes the canonical spelling of any value of AMF 3 or AMF 0, in either, of any packet and of any shared object
-//! file, checks it, lists it, tells whether two values are the same graph, and serves remoting calls over HTTP.
+//! file, checks it, lists it, tells whether two values are the same graph, lists and rewrites FLV files and RTMP chunk streams, and
+//! serves and makes remoting calls over HTTP.
 #![tactic(auto)]
 
 use amf_cli::{Environment, start_with_services};
-use amf_io::{StandardError, StandardInput, StandardOutput, TcpFront};
+use amf_io::{StandardError, StandardInput, StandardOutput, TcpDial, TcpFront};
 use std::process::ExitCode;
 
 fn main(rt: HostRuntime) -> ExitCode {
@@ -15,5 +16,6 @@ fn main(rt: HostRuntime) -> ExitCode {
         &mut StandardOutput::new(rt.stdout()),
         &mut StandardError::new(rt.stderr()),
         &mut TcpFront::new(rt),
+        &mut TcpDial::new(rt),
     )
 }

@@ -17,4 +17,5 @@ returns-clause-runs g c =
           c.in-Ok.ensures.entries c.new-entries.ensures.items c.in_ok-push.ensures.items c.in_ok-push-2.ensures.items c.in_ok-push-3.ensures.items
           c.in_ok-of_bytes.ensures c.in_ok-of_bytes-2.ensures c.in_ok-of_bytes-3.ensures echo.ensures.0 sum.ensures.0 names.ensures.0
           (λ i. refl) (λ i. refl) (λ i. refl),
+      c.start.ensures.4,
     )

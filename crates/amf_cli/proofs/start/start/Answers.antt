@@ -1,5 +1,6 @@
 -- The status is that of the run by these words.
 use Rattle.std.proofs.Common.{refl, ◌∙◌}
+use Rattle.amf_cli.proofs.CallLaws.{calls_again, memory_calls}
 use Rattle.amf_cli.proofs.EndsLaws.{memory_ends_with, five_not_six}
 use Rattle.amf_cli.proofs.FrontLaws.{data_serves, serves_again, ends_again}
 use Rattle.amf_cli.proofs.start.start.Goals as goal
@@ -10,6 +11,7 @@ returns-in-Ok g c = (
   (λ told. c.deref.ensures.value ∙ c.in-Ok.ensures told),
   ends_again _ _ _ _ _ _ _ _ _ _ _ _ c.from.ensures c.run-status.ensures.ends,
   serves_again _ _ _ _ _ _ _ _ _ _ _ _ c.from.ensures c.run-status.ensures.serves,
+  calls_again _ _ _ _ _ _ _ _ _ _ _ _ _ _ _ _ c.from.ensures c.run-status.ensures.calls,
 )
 
 pub returns-in-Err : goal.returns-in-Err
@@ -17,5 +19,6 @@ returns-in-Err g c = (
   g.A.Arguments.words c.args.arguments.now,
   (λ told. refl),
   ends_again _ _ _ _ _ _ _ _ _ _ _ _ c.from-in-Err.ensures (memory_ends_with g.I.Source g.O.Sink g.E.Sink _ c.args.input.now c.args.out.now c.args.err.now c.end_with.new.err _ c.end_with.ensures.status c.end_with.ensures.counted c.end_with.ensures.line),
-  data_serves _ _ _ _ _ _ _ _ _ _ (λ s. (c.from-in-Err.ensures ∙ c.end_with.ensures.status, refl)) (λ six. absurd (five_not_six _ (c.from-in-Err.ensures ∙ c.end_with.ensures.status) six)),
+  data_serves _ _ _ _ _ _ _ _ _ _ c.are_lawful.ensures (λ s. (c.from-in-Err.ensures ∙ c.end_with.ensures.status, refl)) (λ six. absurd (five_not_six _ (c.from-in-Err.ensures ∙ c.end_with.ensures.status) six)),
+  memory_calls g.I.Source g.O.Sink g.E.Sink g.D.Dial g.D.Link.Link _ _ c.args.input.now c.args.input.now c.args.out.now c.args.out.now c.args.err.now c.args.err.now c.end_with.new.err c.args.dial.now c.args.dial.now (c.from-in-Err.ensures ∙ c.end_with.ensures.status) refl refl refl refl c.end_with.ensures.line,
 )
