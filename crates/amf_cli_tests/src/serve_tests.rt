@@ -2,7 +2,8 @@ ghost use Rattle.std.specs.Prelude.{◌≡◌, length, IfOk, All};
 
 use amf_cli::run::run;
 use amf_io::{
-    Gate, Joined, MemoryFront, MemoryHall, MemoryLink, MemorySink, MemorySource, OpenGate,
+    FaultlessDial, FaultlessLink, Gate, Joined, MemoryFront, MemoryHall, MemoryLink, MemorySink,
+    MemorySource, OpenGate,
 };
 use amf_service::Registry;
 use amf_wire::{Memory, Name};
@@ -134,6 +135,7 @@ fn serve<R: RandomSource + Threads + Wait + Abort + Sync, G: Gate>(
     let mut input = MemorySource::new(alloc, b"", 1, 0, &[0])?;
     let mut output = MemorySink::new(alloc, 100, failing_writes)?;
     let mut line = MemorySink::new(alloc, 100, &[])?;
+    let mut dial: FaultlessDial<FaultlessLink> = FaultlessDial::new(alloc, Vec::new(alloc))?;
     let status = run(
         rt,
         alloc,
@@ -144,6 +146,7 @@ fn serve<R: RandomSource + Threads + Wait + Abort + Sync, G: Gate>(
         front,
         gate,
         &registry,
+        &mut dial,
     );
     Ok(Ran {
         status,

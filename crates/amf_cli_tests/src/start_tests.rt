@@ -1,16 +1,19 @@
 use amf_cli::start::start;
 use amf_cli::{Arguments, Environment, words_of};
 use amf_io::{
-    FaultlessFront, FaultlessLink, MemorySink, MemorySource, OpenGate, StandardError,
-    StandardInput, StandardOutput,
+    FaultlessDial, FaultlessFront, FaultlessLink, MemorySink, MemorySource, OpenGate, Sink, Source,
+    StandardError, StandardInput, StandardOutput,
 };
 use amf_service::Registry;
 use amf_wire::{Memory, Name};
 use std::alloc::Global;
 use std::env::FillError;
 use std::process::ExitCode;
+use std::random::RandomSource;
 use std::rt::Env;
+use std::sync::Wait;
 use std::test::Fail;
+use std::thread::Threads;
 
 /// Words in memory.
 #[derive(Drop)]
@@ -41,6 +44,25 @@ impl Arguments for Given {
     }
 }
 
+/// Starts with a front without halls, without services, and with a dial without links.
+fn start_alone<R: RandomSource + Threads + Wait + Sync, A: Arguments, I: Source, O: Sink, E: Sink>(
+    rt: &R,
+    alloc: Global,
+    arguments: &A,
+    input: &mut I,
+    out: &mut O,
+    err: &mut E,
+) -> Result<ExitCode, Fail> {
+    let mut front: FaultlessFront<FaultlessLink> = FaultlessFront::new(alloc, Vec::new(alloc))?;
+    let mut dial: FaultlessDial<FaultlessLink> = FaultlessDial::new(alloc, Vec::new(alloc))?;
+    let Ok(registry) = Registry::new(alloc, Vec::new(alloc)) else {
+        return Err("no registry".into());
+    };
+    Ok(start(
+        rt, alloc, arguments, input, out, err, &mut front, &OpenGate, &registry, &mut dial,
+    ))
+}
+
 /// The exit code, the output and the error line, over streams in memory.
 #[test]
 fn starts_over_streams_in_memory(rt: HostRuntime) -> Result<(), Fail> {
@@ -68,19 +90,7 @@ fn starts_over_streams_in_memory(rt: HostRuntime) -> Result<(), Fail> {
         let mut source = MemorySource::new(alloc, input, 9, 0, &[])?;
         let mut sink = MemorySink::new(alloc, 9, &[])?;
         let mut error = MemorySink::new(alloc, 100, &[])?;
-        let mut front: FaultlessFront<FaultlessLink> = FaultlessFront::new(alloc, Vec::new(alloc))?;
-        let registry = Registry::new(alloc, Vec::new(alloc)).expect(&rt, "a registry");
-        let exit = start(
-            &rt,
-            alloc,
-            &arguments,
-            &mut source,
-            &mut sink,
-            &mut error,
-            &mut front,
-            &OpenGate,
-            &registry,
-        );
+        let exit = start_alone(&rt, alloc, &arguments, &mut source, &mut sink, &mut error)?;
         assert_eq!(rt; exit, ExitCode::from(code));
         assert_eq!(rt; sink.as_bytes(), output);
         assert_eq!(rt; error.as_bytes(), line);
@@ -91,23 +101,15 @@ fn starts_over_streams_in_memory(rt: HostRuntime) -> Result<(), Fail> {
 /// The exit code over the real streams, of which the input is empty.
 #[test]
 fn starts_over_the_real_streams(rt: HostRuntime) -> Result<(), Fail> {
-    let mut front: FaultlessFront<FaultlessLink> = FaultlessFront::new(
-        rt.alloc(),
-        Vec::new(rt.alloc()),
-    )?;
-    let registry = Registry::new(rt.alloc(), Vec::new(rt.alloc())).expect(&rt, "a registry");
     for (word, code) in [(b"canon".as_slice(), 1), (b"cannon", 2)] {
-        let exit = start(
+        let exit = start_alone(
             &rt,
             rt.alloc(),
             &Given::new(rt.alloc(), &[word])?,
             &mut StandardInput::new(rt.stdin()),
             &mut StandardOutput::new(rt.stdout()),
             &mut StandardError::new(rt.stderr()),
-            &mut front,
-            &OpenGate,
-            &registry,
-        );
+        )?;
         assert_eq!(rt; exit, ExitCode::from(code));
     }
     Ok(())

@@ -1,7 +1,7 @@
 use amf_cli::run::run;
 use amf_io::{
-    FaultlessFront, FaultlessLink, FaultlessSink, FaultlessSource, MemorySink, MemorySource,
-    OpenGate, Sink, Source,
+    FaultlessDial, FaultlessFront, FaultlessLink, FaultlessSink, FaultlessSource, MemorySink,
+    MemorySource, OpenGate, Sink, Source,
 };
 use amf_service::Registry;
 use amf_wire::Name;
@@ -113,7 +113,7 @@ pub(crate) struct Ran {
     pub line: MemorySink,
 }
 
-/// Runs with a front without halls, and without services.
+/// Runs with a front without halls, without services, and with a dial without links.
 pub(crate) fn run_alone<
     R: RandomSource + Threads + Wait + Abort + Sync,
     I: Source,
@@ -123,8 +123,10 @@ pub(crate) fn run_alone<
     let front = FaultlessFront::new(alloc, Vec::new(alloc));
     let mut front: FaultlessFront<FaultlessLink> = front.expect(rt, "a front");
     let registry = Registry::new(alloc, Vec::new(alloc)).expect(rt, "a registry");
+    let dial = FaultlessDial::new(alloc, Vec::new(alloc));
+    let mut dial: FaultlessDial<FaultlessLink> = dial.expect(rt, "a dial");
     run(
-        rt, alloc, words, input, out, err, &mut front, &OpenGate, &registry,
+        rt, alloc, words, input, out, err, &mut front, &OpenGate, &registry, &mut dial,
     )
 }
 
