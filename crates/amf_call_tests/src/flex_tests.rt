@@ -2,426 +2,313 @@ ghost use Rattle.std.specs.Prelude.{◌≡◌, IfOk};
 ghost use Rattle.amf_wire.specs.Text.{IsText};
 ghost use Rattle.amf_graph.specs.Arena.{Names};
 ghost use Rattle.amf_graph.specs.declared.value.Value.TheVariants.{Null};
-ghost use Rattle.flex_msgs.specs.Built.{IsReply};
+ghost use Rattle.flex_msgs.specs.Built.{IsReply, IsStored};
 
+use crate::checks::{holds, is};
+use amf_fixtures::graph3;
 use amf_graph::{Builder, Rooted, Value};
-use amf_io::{Cursor, MemorySource};
-use amf_tables::Tables3;
+use amf_rows::{Row, Table};
 use amf_wire::Name;
-use amf3_read::read3;
 use flex_msgs::{
     Common, FaultText, Member, NotAMessage, Reply, Request, acknowledge, delivered, error,
     invalidate, is_stored, published, sync, view,
 };
-use std::alloc::Global;
+use std::alloc::{AllocError, Global};
 use std::fmt::Display;
 use std::process::Abort;
-use std::test::Fail;
+use std::str;
 
-/// A name of these characters.
-fn name(alloc: Global, characters: &str) -> Result<Name, Fail>
-    ensures { IfOk result (λ name. IsText name) }
-{
-    Ok(Name::from_bytes(alloc, characters.as_bytes())?)
-}
-
-/// The graph with this root.
-fn finished(builder: Builder, root: Value) -> Result<Rooted, Fail>
-    requires { Names builder root }
-{
-    let graph = builder.finish(root).ok().ok_or("an open node")?;
-    Ok(graph)
-}
-
-/// The graph that these bytes of AMF 3 spell.
-fn graph_of(alloc: Global, bytes: &[u8]) -> Result<Rooted, Fail> {
-    let mut source = MemorySource::new(alloc, bytes, 1000, 0, &[])?;
-    let mut cursor = Cursor::new(alloc, &mut source, 1000)?;
-    let mut builder = Builder::new(alloc)?;
-    let mut tables = Tables3::new(alloc)?;
-    let Ok(root) = read3(alloc, &mut cursor, &mut builder, &mut tables) else {
-        return Err("no value")?;
-    };
-    Ok(builder.finish(root).ok().ok_or("an open node")?)
-}
-
-/// A piece of bytes of AMF 3.
-#[derive(Clone, Copy)]
-enum Piece<'a> {
-    Bytes(&'a [u8]),
-    /// A text, as names are spelled.
-    Name(&'a str),
-    /// A text that is a value.
-    Text(&'a str),
-}
-
-/// Spells a name of fewer than 64 bytes.
-fn spell(out: &mut Vec<u8>, text: &str) -> Result<(), Fail> {
-    if text.len() >= 64 {
-        return Err("a long text")?;
-    }
-    out.push(text.len() as u8 * 2 + 1)?;
-    out.extend_from_slice(text.as_bytes())?;
-    Ok(())
-}
-
-fn spell_piece(out: &mut Vec<u8>, piece: Piece<'_>) -> Result<(), Fail> {
-    match piece {
-        Piece::Bytes(bytes) => {
-            out.extend_from_slice(bytes)?;
-            Ok(())
-        }
-        Piece::Name(text) => spell(out, text),
-        Piece::Text(text) => {
-            out.push(0x06)?;
-            spell(out, text)
-        }
-    }
-}
-
-/// The graph that these pieces spell.
-fn spelled(alloc: Global, pieces: &[Piece<'_>]) -> Result<Rooted, Fail> {
-    let mut bytes = Vec::new(alloc);
-    for piece in pieces {
-        spell_piece(&mut bytes, *piece)?;
-    }
-    graph_of(alloc, &bytes)
-}
-
-/// A message of this class with one member, which is undefined.
-fn with_member<'t>(alloc: Global, class: &'t str, member: &'t str) -> Result<Rooted, Fail> {
-    spelled(
-        alloc,
-        &[
-            Piece::Bytes(&[0x0A, 0x0B]),
-            Piece::Name(class),
-            Piece::Name(member),
-            Piece::Bytes(&[0x00, 0x01]),
-        ],
-    )
-}
-
-/// A CommandMessage whose operation is 5 among the sealed members and 2 among the others.
-fn with_two_operations(alloc: Global) -> Result<Rooted, Fail> {
-    spelled(
-        alloc,
-        &[
-            Piece::Bytes(&[0x0A, 0x1B]),
-            Piece::Name("flex.messaging.messages.CommandMessage"),
-            Piece::Name("operation"),
-            Piece::Bytes(&[0x04, 5]),
-            Piece::Name("operation"),
-            Piece::Bytes(&[0x04, 2, 0x01]),
-        ],
-    )
-}
-
-/// An AsyncMessage with headers that are an array of one name, which is undefined.
-fn with_header(alloc: Global, header: &str) -> Result<Rooted, Fail> {
-    spelled(
-        alloc,
-        &[
-            Piece::Bytes(&[0x0A, 0x0B]),
-            Piece::Name("flex.messaging.messages.AsyncMessage"),
-            Piece::Name("headers"),
-            Piece::Bytes(&[0x09, 0x01]),
-            Piece::Name(header),
-            Piece::Bytes(&[0x00, 0x01, 0x01]),
-        ],
-    )
-}
-
-/// What a message is told: its client, destination, DSId and identifier.
-fn told(alloc: Global, texts: [&str; 4]) -> Result<Reply, Fail>
-    ensures texts { IfOk result (λ reply. IsReply reply) }
-    ensures body { IfOk result (λ reply. reply.body ≡ Null) }
-{
-    Ok(Reply {
-        body: Value::Null,
-        client: name(alloc, texts[0])?,
-        destination: name(alloc, texts[1])?,
-        ds_id: name(alloc, texts[2])?,
-        message: name(alloc, texts[3])?,
-        moment: 0,
-        correlation: name(alloc, "c")?,
-    })
-}
+/// Messages in AMF 3, and what they say, or why they are none.
+static MESSAGES: Table = Table {
+    rows: 13,
+    fields: 2,
+    text: r"
+# A member that is undefined.
+0A 0B 49 'flex.messaging.messages.AsyncMessage' 0F 'headers' 00 01 | headers is of another kind
+0A 0B 49 'flex.messaging.messages.AsyncMessage' 17 'destination' 00 01 | destination is of another kind
+0A 0B 49 'flex.messaging.messages.AsyncMessage' 13 'messageId' 00 01 | messageId is of another kind
+0A 0B 49 'flex.messaging.messages.AsyncMessage' 11 'clientId' 00 01 | clientId is of another kind
+0A 0B 49 'flex.messaging.messages.AsyncMessage' 1B 'correlationId' 00 01 | correlationId is of another kind
+0A 0B 49 'flex.messaging.messages.AsyncMessage' 13 'operation' 00 01 | async of ()
+0A 0B 4D 'flex.messaging.messages.CommandMessage' 13 'operation' 00 01 | operation is of another kind
+0A 0B 4F 'flex.messaging.messages.RemotingMessage' 13 'operation' 00 01 | operation is of another kind
+# A header that is undefined.
+0A 0B 49 'flex.messaging.messages.AsyncMessage' 0F 'headers' 09 01 09 'DSId' 00 01 01 | DSId is of another kind
+0A 0B 49 'flex.messaging.messages.AsyncMessage' 0F 'headers' 09 01 15 'DSSubtopic' 00 01 01 | DSSubtopic is of another kind
+0A 0B 49 'flex.messaging.messages.AsyncMessage' 0F 'headers' 09 01 0B 'other' 00 01 01 | async of ()
+# The operation is 5 among the sealed members and 2 among the others.
+0A 1B 4D 'flex.messaging.messages.CommandMessage' 13 'operation' 04 05 13 'operation' 04 02 01 | command 2 of () to () by () as ()
+# An array.
+09 01 01 | no object
+",
+};
 
 /// An object of nine sealed members, with the class and the names of a CommandMessage.
 const COMMAND: &[u8] = b"\x0A\x81\x13\x4Dflex.messaging.messages.CommandMessage\
     \x09body\x11clientId\x17destination\x0Fheaders\x13messageId\
     \x15timeToLive\x13timestamp\x1BcorrelationId\x13operation";
 
-/// A text that is a value, or null for the empty one.
-fn text_or_null(text: &str) -> Piece<'_> {
-    if text.is_empty() {
-        Piece::Bytes(&[0x01])
-    } else {
-        Piece::Text(text)
-    }
+/// The members of such an object, and what it says.
+static COMMANDS: Table = Table {
+    rows: 3,
+    fields: 2,
+    text: r"
+01 01 06 01 0A 0B 01 09 'DSId' 06 07 'nil' 01 06 05 'm1' 04 00 05 0000000000000000 06 03 'c' 04 05 | command 5 of () to () by (nil) as (m1)
+01 01 06 09 'chat' 0A 0B 01 09 'DSId' 06 03 '1' 01 06 05 'm2' 04 00 05 0000000000000000 06 03 'c' 04 00 | command 0 of () to (chat) by (1) as (m2)
+01 01 06 01 0A 0B 01 09 'DSId' 06 03 '1' 01 06 05 'm4' 04 00 05 0000000000000000 06 03 'c' 04 02 | command 2 of () to () by (1) as (m4)
+",
+};
+
+/// Messages that are made for a client, and what they say where they are viewed. A batch has a stored message.
+static MADE: Table = Table {
+    rows: 6,
+    fields: 2,
+    text: r"
+sync | command 4 of (7) to (chat) by (1) as (m)
+invalidate | command 10 of (7) to (chat) by (1) as (m)
+acknowledge | a class that is not served
+error | a class that is not served
+delivered | async of (9)
+batch | command 4 of (7) to (chat) by (1) as (m)
+",
+};
+
+/// The characters of a name.
+fn characters(name: &Name) -> &str {
+    str::from_utf8(name.as_bytes()).unwrap_or("?")
 }
 
-/// A CommandMessage.
-fn command(alloc: Global, operation: u8, texts: [&str; 4]) -> Result<Rooted, Fail> {
-    spelled(
-        alloc,
-        &[
-            Piece::Bytes(COMMAND),
-            Piece::Bytes(&[0x01]),
-            text_or_null(texts[0]),
-            Piece::Text(texts[1]),
-            Piece::Bytes(b"\x0A\x0B\x01\x09DSId"),
-            Piece::Text(texts[2]),
-            Piece::Bytes(&[0x01]),
-            Piece::Text(texts[3]),
-            Piece::Bytes(&[0x04, 0x00, 0x05, 0, 0, 0, 0, 0, 0, 0, 0]),
-            Piece::Text("c"),
-            Piece::Bytes(&[0x04, operation]),
-        ],
+fn command_said(alloc: Global, operation: i64, common: &Common) -> Result<String, AllocError> {
+    let client = characters(&common.client);
+    let destination = characters(&common.destination);
+    let ds_id = characters(&common.ds_id);
+    let message = characters(&common.message);
+    format!(in alloc;
+        "command {operation} of ({client}) to ({destination}) by ({ds_id}) as ({message})"
     )
 }
 
-/// Checks why a graph is no message, or that it is one.
-fn is_wrong(rt: &impl Abort, alloc: Global, graph: &Rooted, wrong: Option<Member>) {
-    let end = view(alloc, graph).err();
-    assert_eq!(rt; end, wrong.map(NotAMessage::WrongKind));
+fn async_said(alloc: Global, common: &Common) -> Result<String, AllocError> {
+    let client = characters(&common.client);
+    format!(in alloc; "async of ({client})")
 }
 
-const ASYNC: &str = "flex.messaging.messages.AsyncMessage";
+fn request_said(alloc: Global, request: &Request) -> Result<String, AllocError> {
+    match request {
+        Request::Command { common, operation } => command_said(alloc, *operation, common),
+        Request::Async { common, .. } => async_said(alloc, common),
+        Request::Remoting { .. } => String::from_str(alloc, "a call"),
+    }
+}
 
-/// Classes, each with a member that is undefined, and the member that is wrong.
-static MEMBERS: [(&str, &str, Option<Member>); 8] = [
-    (ASYNC, "headers", Some(Member::Headers)),
-    (ASYNC, "destination", Some(Member::Destination)),
-    (ASYNC, "messageId", Some(Member::MessageId)),
-    (ASYNC, "clientId", Some(Member::ClientId)),
-    (ASYNC, "correlationId", Some(Member::CorrelationId)),
-    (ASYNC, "operation", None),
-    (
-        "flex.messaging.messages.CommandMessage",
-        "operation",
-        Some(Member::Operation),
-    ),
-    (
-        "flex.messaging.messages.RemotingMessage",
-        "operation",
-        Some(Member::Operation),
-    ),
-];
+/// What a graph says as a message, or why it is none.
+fn said(alloc: Global, graph: &Rooted) -> Result<String, AllocError> {
+    match view(alloc, graph) {
+        Ok(request) => request_said(alloc, &request),
+        Err(end) => format!(in alloc; "{end}"),
+    }
+}
+
+/// Ends the test where a graph says something else.
+fn says(rt: &impl Abort, alloc: Global, graph: &Rooted, want: &str) {
+    let got = said(alloc, graph).expect(rt, "memory");
+    is(rt, &got, want);
+}
+
+/// These bytes, and then those of a row.
+fn bytes_in(rt: &impl Abort, alloc: Global, front: &[u8], row: Row<'_>) -> Vec<u8> {
+    let mut bytes = front.to_vec(alloc).expect(rt, "memory");
+    let rest = row.bytes(alloc, 0).expect(rt, "bytes");
+    bytes.extend_from_slice(&rest).expect(rt, "memory");
+    bytes
+}
+
+fn is_viewed(rt: &impl Abort, alloc: Global, front: &[u8], row: Row<'_>) {
+    let bytes = bytes_in(rt, alloc, front, row);
+    let graph = graph3(alloc, &bytes).expect(rt, "a graph");
+    says(rt, alloc, &graph, row.field(1).expect(rt, "what it says"));
+}
+
+fn are_viewed(rt: &impl Abort, alloc: Global, front: &[u8], table: &Table) {
+    for row in table.rows(alloc).expect(rt, "rows").iter() {
+        is_viewed(rt, alloc, front, *row);
+    }
+}
 
 #[test]
-fn names_the_first_wrong_member(rt: HostRuntime) -> Result<(), Fail> {
-    for (class, member, wrong) in MEMBERS.iter() {
-        let graph = with_member(rt.alloc(), class, member)?;
-        is_wrong(&rt, rt.alloc(), &graph, *wrong);
+fn views_messages(rt: HostRuntime) {
+    are_viewed(&rt, rt.alloc(), b"", &MESSAGES);
+    are_viewed(&rt, rt.alloc(), COMMAND, &COMMANDS);
+}
+
+/// The name of these characters.
+fn name(rt: &impl Abort, alloc: Global, text: &str) -> Name
+    ensures { IsText result }
+{
+    Name::from_bytes(alloc, text.as_bytes()).expect(rt, "a name")
+}
+
+/// What an answer is told.
+fn told(rt: &impl Abort, alloc: Global) -> Reply
+    ensures texts { IsReply result }
+    ensures body { result.body ≡ Null }
+{
+    Reply {
+        body: Value::Null,
+        client: name(rt, alloc, "7"),
+        destination: name(rt, alloc, "chat"),
+        ds_id: name(rt, alloc, "1"),
+        message: name(rt, alloc, "m"),
+        moment: 0,
+        correlation: name(rt, alloc, "c"),
     }
-    Ok(())
 }
 
-/// Headers that are undefined, and the member that is wrong.
-static HEADERS: [(&str, Option<Member>); 3] = [
-    ("DSId", Some(Member::DsId)),
-    ("DSSubtopic", Some(Member::DsSubtopic)),
-    ("other", None),
-];
-
-#[test]
-fn names_the_first_wrong_header(rt: HostRuntime) -> Result<(), Fail> {
-    for (header, wrong) in HEADERS.iter() {
-        let graph = with_header(rt.alloc(), header)?;
-        is_wrong(&rt, rt.alloc(), &graph, *wrong);
-    }
-    Ok(())
+fn add_error(rt: &impl Abort, alloc: Global, builder: &mut Builder, reply: &Reply) -> Value
+    requires { IsReply reply.now }
+    ensures { Names builder.new result }
+{
+    let fault = FaultText {
+        code: name(rt, alloc, "Client.NoClient"),
+        text: name(rt, alloc, "no such client"),
+    };
+    error(alloc, builder, reply, &fault).expect(rt, "an error")
 }
 
-/// Checks the texts of a message.
-fn has_texts(rt: &impl Abort, common: &Common, texts: [&str; 4]) {
-    assert_eq!(rt; common.client.as_bytes(), texts[0].as_bytes());
-    assert_eq!(rt; common.destination.as_bytes(), texts[1].as_bytes());
-    assert_eq!(rt; common.ds_id.as_bytes(), texts[2].as_bytes());
-    assert_eq!(rt; common.message.as_bytes(), texts[3].as_bytes());
-}
-
-/// Checks what a CommandMessage says.
-fn shows_command(
+/// Adds the answer of this kind, which is a sync without messages where it is no other.
+fn add_answer(
     rt: &impl Abort,
     alloc: Global,
-    graph: &Rooted,
-    operation: u8,
-    texts: [&str; 4],
-) -> Result<(), Fail> {
-    let Request::Command {
-        common,
-        operation: shown,
-    } = view(alloc, graph)?
-    else {
-        return Err("no command")?;
-    };
-    assert_eq!(rt; shown, i64::from(operation));
-    has_texts(rt, &common, texts);
-    Ok(())
-}
-
-static COMMANDS: [(u8, [&str; 4]); 3] = [
-    (5, ["", "", "nil", "m1"]),
-    (0, ["", "chat", "1", "m2"]),
-    (2, ["", "", "1", "m4"]),
-];
-
-#[test]
-fn views_commands(rt: HostRuntime) -> Result<(), Fail> {
-    for (operation, texts) in COMMANDS.iter() {
-        let graph = command(rt.alloc(), *operation, *texts)?;
-        shows_command(&rt, rt.alloc(), &graph, *operation, *texts)?;
-    }
-    Ok(())
-}
-
-#[test]
-fn views_the_last_operation(rt: HostRuntime) -> Result<(), Fail> {
-    let graph = with_two_operations(rt.alloc())?;
-    shows_command(&rt, rt.alloc(), &graph, 2, ["", "", "", ""])
-}
-
-/// A sync without messages.
-fn synced(alloc: Global, texts: [&str; 4]) -> Result<Rooted, Fail> {
-    let mut builder = Builder::new(alloc)?;
-    let reply = told(alloc, texts)?;
-    let root = sync(alloc, &mut builder, &reply, Vec::new(alloc))?;
-    finished(builder, root)
-}
-
-fn invalidated(alloc: Global, texts: [&str; 4]) -> Result<Rooted, Fail> {
-    let mut builder = Builder::new(alloc)?;
-    let reply = told(alloc, texts)?;
-    let root = invalidate(alloc, &mut builder, &reply)?;
-    finished(builder, root)
-}
-
-fn acknowledged(alloc: Global, texts: [&str; 4]) -> Result<Rooted, Fail> {
-    let mut builder = Builder::new(alloc)?;
-    let reply = told(alloc, texts)?;
-    let root = acknowledge(alloc, &mut builder, &reply)?;
-    finished(builder, root)
-}
-
-fn failed(alloc: Global, texts: [&str; 4]) -> Result<Rooted, Fail> {
-    let mut builder = Builder::new(alloc)?;
-    let reply = told(alloc, texts)?;
-    let fault = FaultText {
-        code: name(alloc, "Client.NoClient")?,
-        text: name(alloc, "no such client")?,
-    };
-    let root = error(alloc, &mut builder, &reply, &fault)?;
-    finished(builder, root)
-}
-
-const TEXTS: [&str; 4] = ["7", "chat", "1", "m"];
-
-#[test]
-fn syncs_are_messages(rt: HostRuntime) -> Result<(), Fail> {
-    let graph = synced(rt.alloc(), TEXTS)?;
-    shows_command(&rt, rt.alloc(), &graph, 4, TEXTS)?;
-    let graph = invalidated(rt.alloc(), TEXTS)?;
-    shows_command(&rt, rt.alloc(), &graph, 10, TEXTS)
-}
-
-/// Checks that a graph is a message that clients alone are sent.
-fn is_not_served(rt: &impl Abort, alloc: Global, graph: &Rooted) {
-    assert_eq!(rt; view(alloc, graph).err(), Some(NotAMessage::NotServed));
-}
-
-#[test]
-fn other_answers_are_not_served(rt: HostRuntime) -> Result<(), Fail> {
-    is_not_served(&rt, rt.alloc(), &acknowledged(rt.alloc(), TEXTS)?);
-    is_not_served(&rt, rt.alloc(), &failed(rt.alloc(), TEXTS)?);
-    Ok(())
-}
-
-/// The message that is stored of an AsyncMessage.
-fn stored_of(alloc: Global, graph: &Rooted) -> Result<Rooted, Fail> {
-    let Request::Async {
-        common,
-        correlation,
-    } = view(alloc, graph)?
-    else {
-        return Err("no message")?;
-    };
-    let mut builder = Builder::new(alloc)?;
-    let root = published(alloc, &mut builder, &common, graph, &correlation, 0)?;
-    finished(builder, root)
-}
-
-/// A stored message, as it is delivered.
-fn delivered_to(alloc: Global, stored: &Rooted, client: &str) -> Result<Rooted, Fail> {
-    if !is_stored(stored) {
-        return Err("no stored message")?;
-    }
-    let mut builder = Builder::new(alloc)?;
-    let client = name(alloc, client)?;
-    let root = delivered(alloc, &mut builder, stored, &client)?;
-    finished(builder, root)
-}
-
-/// A sync whose batch is this stored message.
-fn synced_with(alloc: Global, stored: &Rooted, texts: [&str; 4]) -> Result<Rooted, Fail> {
-    if !is_stored(stored) {
-        return Err("no stored message")?;
-    }
-    let mut builder = Builder::new(alloc)?;
-    let reply = told(alloc, texts)?;
-    let message = delivered(alloc, &mut builder, stored, &reply.client)?;
-    let batch = [message].to_vec(alloc)?;
-    let root = sync(alloc, &mut builder, &reply, batch)?;
-    finished(builder, root)
-}
-
-/// The client of an AsyncMessage.
-fn client_of(alloc: Global, graph: &Rooted) -> Result<Name, Fail> {
-    match view(alloc, graph)? {
-        Request::Async { common, .. } => Ok(common.client),
-        _ => Err("no message")?,
+    builder: &mut Builder,
+    reply: &Reply,
+    kind: &str,
+) -> Value
+    requires reply { IsReply reply.now }
+    requires body { reply.now.body ≡ Null }
+    ensures { Names builder.new result }
+{
+    match kind {
+        "invalidate" => invalidate(alloc, builder, reply).expect(rt, "an answer"),
+        "acknowledge" => acknowledge(alloc, builder, reply).expect(rt, "an answer"),
+        "error" => add_error(rt, alloc, builder, reply),
+        _ => sync(alloc, builder, reply, Vec::new(alloc)).expect(rt, "an answer"),
     }
 }
 
-/// The stored message of an AsyncMessage.
-fn stored_message(alloc: Global) -> Result<Rooted, Fail> {
-    stored_of(alloc, &with_header(alloc, "other")?)
+/// The graph with this root.
+fn finished(rt: &impl Abort, builder: Builder, root: Value) -> Rooted
+    requires { Names builder root }
+{
+    match builder.finish(root) {
+        Ok(graph) => graph,
+        Err(_) => panic!(rt; "an open node"),
+    }
+}
+
+/// The answer of this kind.
+fn answered(rt: &impl Abort, alloc: Global, kind: &str) -> Rooted {
+    let reply = told(rt, alloc);
+    let mut builder = Builder::new(alloc).expect(rt, "a builder");
+    let root = add_answer(rt, alloc, &mut builder, &reply, kind);
+    finished(rt, builder, root)
+}
+
+/// An AsyncMessage with headers that are an array.
+const PLAIN: &[u8] =
+    b"\x0A\x0B\x49flex.messaging.messages.AsyncMessage\x0Fheaders\x09\x01\x0Bother\x00\x01\x01";
+
+/// Adds the message that is stored of an AsyncMessage.
+fn add_stored(rt: &impl Abort, alloc: Global, builder: &mut Builder, graph: &Rooted) -> Value
+    ensures { Names builder.new result }
+{
+    match view(alloc, graph) {
+        Ok(
+            Request::Async {
+                common,
+                correlation,
+            },
+        ) => { published(alloc, builder, &common, graph, &correlation, 0).expect(rt, "a message") }
+        _ => panic!(rt; "no message"),
+    }
+}
+
+/// The stored message of an AsyncMessage, which is none itself.
+fn stored(rt: &impl Abort, alloc: Global) -> Rooted {
+    let graph = graph3(alloc, PLAIN).expect(rt, "a graph");
+    holds(rt, !is_stored(&graph), "no stored message");
+    let mut builder = Builder::new(alloc).expect(rt, "a builder");
+    let root = add_stored(rt, alloc, &mut builder, &graph);
+    finished(rt, builder, root)
+}
+
+/// Adds a stored message, as it is delivered.
+fn add_delivered(rt: &impl Abort, alloc: Global, builder: &mut Builder, stored: &Rooted) -> Value
+    requires { IsStored stored.now }
+    ensures { Names builder.new result }
+{
+    let client = name(rt, alloc, "9");
+    delivered(alloc, builder, stored, &client).expect(rt, "a message")
+}
+
+/// Adds a sync whose batch is this stored message.
+fn add_batch(rt: &impl Abort, alloc: Global, builder: &mut Builder, stored: &Rooted) -> Value
+    requires { IsStored stored.now }
+    ensures { Names builder.new result }
+{
+    let reply = told(rt, alloc);
+    let message = delivered(alloc, builder, stored, &reply.client).expect(rt, "a message");
+    let batch = [message].to_vec(alloc).expect(rt, "memory");
+    sync(alloc, builder, &reply, batch).expect(rt, "a batch")
+}
+
+/// Adds what is made of a stored message: it is delivered, by itself or in a batch.
+fn add_of_stored(
+    rt: &impl Abort,
+    alloc: Global,
+    builder: &mut Builder,
+    stored: &Rooted,
+    kind: &str,
+) -> Value
+    ensures { Names builder.new result }
+{
+    assert!(rt; is_stored(stored), "a stored message");
+    match kind {
+        "batch" => add_batch(rt, alloc, builder, stored),
+        _ => add_delivered(rt, alloc, builder, stored),
+    }
+}
+
+fn of_stored(rt: &impl Abort, alloc: Global, kind: &str) -> Rooted {
+    let stored = stored(rt, alloc);
+    let mut builder = Builder::new(alloc).expect(rt, "a builder");
+    let root = add_of_stored(rt, alloc, &mut builder, &stored, kind);
+    finished(rt, builder, root)
+}
+
+/// The message of this kind.
+fn made(rt: &impl Abort, alloc: Global, kind: &str) -> Rooted {
+    match kind {
+        "batch" | "delivered" => of_stored(rt, alloc, kind),
+        _ => answered(rt, alloc, kind),
+    }
+}
+
+fn is_made(rt: &impl Abort, alloc: Global, row: Row<'_>) {
+    let graph = made(rt, alloc, row.field(0).expect(rt, "a kind"));
+    says(rt, alloc, &graph, row.field(1).expect(rt, "what it says"));
 }
 
 #[test]
-fn stored_messages_are_delivered(rt: HostRuntime) -> Result<(), Fail> {
-    let stored = stored_message(rt.alloc())?;
-    let delivered = delivered_to(rt.alloc(), &stored, "9")?;
-    let client = client_of(rt.alloc(), &delivered)?;
-    assert_eq!(rt; client.as_bytes(), b"9".as_slice());
-    Ok(())
-}
-
-#[test]
-fn syncs_have_stored_messages(rt: HostRuntime) -> Result<(), Fail> {
-    let stored = stored_message(rt.alloc())?;
-    let graph = synced_with(rt.alloc(), &stored, TEXTS)?;
-    shows_command(&rt, rt.alloc(), &graph, 4, TEXTS)
-}
-
-#[test]
-fn other_graphs_are_no_messages(rt: HostRuntime) -> Result<(), Fail> {
-    let graph = with_header(rt.alloc(), "other")?;
-    assert!(rt; !is_stored(&graph));
-    let graph = spelled(rt.alloc(), &[Piece::Bytes(&[0x09, 0x01, 0x01])])?;
-    assert_eq!(rt;
-        view(rt.alloc(), &graph).err(),
-        Some(NotAMessage::NotObject)
-    );
-    Ok(())
+fn makes_messages(rt: HostRuntime) {
+    for row in MADE.rows(rt.alloc()).expect(&rt, "rows").iter() {
+        is_made(&rt, rt.alloc(), *row);
+    }
 }
 
 /// Looks at how an end or a member is told.
-fn is_told(rt: &impl Abort, alloc: Global, it: &impl Display, words: &str) -> Result<(), Fail> {
-    let said = format!(in alloc; "{it}")?;
-    assert_eq!(rt; said.as_str(), words);
-    Ok(())
+fn is_told(rt: &impl Abort, alloc: Global, it: &impl Display, words: &str) {
+    let said = format!(in alloc; "{it}").expect(rt, "memory");
+    is(rt, &said, words);
 }
 
 static ENDS: [(NotAMessage, &str); 4] = [
@@ -446,12 +333,11 @@ static NAMES: [(Member, &str); 8] = [
 ];
 
 #[test]
-fn says_why(rt: HostRuntime) -> Result<(), Fail> {
+fn says_why(rt: HostRuntime) {
     for (end, words) in ENDS.iter() {
-        is_told(&rt, rt.alloc(), end, words)?;
+        is_told(&rt, rt.alloc(), end, words);
     }
     for (member, words) in NAMES.iter() {
-        is_told(&rt, rt.alloc(), member, words)?;
+        is_told(&rt, rt.alloc(), member, words);
     }
-    Ok(())
 }

@@ -2,6 +2,8 @@
 #![tactic(auto)]
 
 #[cfg(test)]
+mod checks;
+#[cfg(test)]
 mod flex_tests;
 #[cfg(test)]
 mod service_tests;

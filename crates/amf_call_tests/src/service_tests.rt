@@ -1,12 +1,14 @@
-ghost use Rattle.std.specs.Prelude.{◌≡◌, ◌≤◌, ◌<◌, true, [], bytes_eq, codes, length, pos, IfOk, OnOk};
+ghost use Rattle.std.specs.Prelude.{◌≡◌, ◌≤◌, ◌<◌, true, false, [], bytes_eq, codes, length, pos, IfOk, OnOk};
 ghost use Rattle.std.specs.List.{AllByRecursion};
 ghost use Rattle.amf_graph.specs.Arena.{Names as NamesIn, array};
 ghost use Rattle.amf_graph.specs.Bounds.{weight};
 ghost use Rattle.amf_graph.specs.Building.{no_arena, kept_text, kept_node, closed};
 ghost use Rattle.amf_graph.specs.Graph.{leaf, integer};
+ghost use Rattle.amf_graph.specs.declared.value.Value.TheVariants.{Node};
 ghost use Rattle.amf_service.specs.Meaning.{result as Gave, heaviest_arguments};
 ghost use Rattle.amf_service.specs.Shipped.{items_of, or_fault};
 
+use crate::checks::holds;
 use amf_graph::{BuildEnd, Builder, NodeId, Part, Rooted, Shape, TextId, Value};
 use amf_service::{
     CallEnd, Echo, Names, Registry, RegistryEnd, Service, ServiceEnd, Sum, fault, is_named, items,
@@ -15,7 +17,6 @@ use amf_service::{
 use amf_wire::{Name, Pattern, is_amf_text};
 use std::alloc::Global;
 use std::process::Abort;
-use std::test::Fail;
 
 /// How many items there are.
 fn count_of(items: &[Value]) -> i32
@@ -61,8 +62,8 @@ enum Want<'a> {
     NoOperation,
 }
 
-fn name_of(alloc: Global, text: &str) -> Result<Name, Fail> {
-    Ok(Name::of_bytes(alloc, text.as_bytes())?)
+fn name_of(rt: &impl Abort, alloc: Global, text: &str) -> Name {
+    Name::of_bytes(alloc, text.as_bytes()).expect(rt, "a name")
 }
 
 /// Whether it is a small number.
@@ -104,62 +105,70 @@ fn add_array(builder: &mut Builder, items: &[Value]) -> Result<NodeId, BuildEnd>
 }
 
 /// An array of these numbers, which are few and small.
-fn arguments(alloc: Global, items: &[Value]) -> Result<Rooted, Fail>
-    ensures { IfOk result (λ args. weight args.arena ≤ heaviest_arguments) }
+fn arguments(rt: &impl Abort, alloc: Global, items: &[Value]) -> Rooted
+    ensures { weight result.arena ≤ heaviest_arguments }
 {
-    if items.len() > 1000 || !are_small(items) {
-        return Err("other items")?;
-    }
-    let mut builder = Builder::new(alloc)?;
-    let array = add_array(&mut builder, items)?;
-    Ok(whole(builder, Value::Node(array)))
+    assert!(rt; items.len() <= 1000, "few numbers");
+    assert!(rt; are_small(items), "small numbers");
+    let mut builder = Builder::new(alloc).expect(rt, "a builder");
+    let array = add_array(&mut builder, items).expect(rt, "an array");
+    whole(builder, Value::Node(array))
 }
 
-fn expect<R: Abort>(rt: &R, answer: Result<Rooted, CallEnd>, want: &Want) -> Result<(), Fail> {
+/// Whether it is what a call comes to.
+fn is_wanted(answer: &Result<Rooted, CallEnd>, want: &Want) -> bool {
     match (answer, want) {
-        (Ok(graph), Want::Root(value)) => assert_eq!(rt; graph.root(), *value),
-        (Err(CallEnd::Fault(fault)), Want::Fault(text)) => {
-            assert_eq!(rt; fault.as_bytes(), text.as_bytes())
-        }
-        (Err(CallEnd::NoService), Want::NoService) => {}
-        (Err(CallEnd::NoOperation), Want::NoOperation) => {}
-        _ => Err("another answer")?,
+        (Ok(graph), Want::Root(value)) => graph.root() == *value,
+        (Err(CallEnd::Fault(fault)), Want::Fault(text)) => fault.as_bytes() == text.as_bytes(),
+        (Err(CallEnd::NoService), Want::NoService) => true,
+        (Err(CallEnd::NoOperation), Want::NoOperation) => true,
+        _ => false,
     }
-    Ok(())
 }
 
-/// Adds a service under this name.
-fn add(
-    alloc: Global,
-    entries: &mut Vec<(Name, Box<dyn Service>)>,
-    name: &str,
-    service: Box<dyn Service>,
-) -> Result<(), Fail> {
-    let name = name_of(alloc, name)?;
-    entries.push((name, service))?;
-    Ok(())
+/// Adds the service of this name, which is one that counts where it is no other.
+fn add(rt: &impl Abort, alloc: Global, entries: &mut Vec<(Name, Box<dyn Service>)>, name: &str) {
+    let service: Box<dyn Service> = match name {
+        "echo" => Box::new(alloc, Echo).expect(rt, "a service"),
+        "sum" => Box::new(alloc, Sum).expect(rt, "a service"),
+        _ => Box::new(alloc, Count).expect(rt, "a service"),
+    };
+    entries
+        .push((name_of(rt, alloc, name), service))
+        .expect(rt, "memory");
 }
 
-/// What the operation of a service gives for these items.
-fn call(
-    registry: &Registry,
-    alloc: Global,
-    called: (&str, &str),
-    items: &[Value],
-) -> Result<Result<Rooted, CallEnd>, Fail> {
-    let service = name_of(alloc, called.0)?;
-    let operation = name_of(alloc, called.1)?;
-    let args = arguments(alloc, items)?;
-    Ok(registry.call(alloc, &service, &operation, &args))
+/// The services of these names.
+fn registered(rt: &impl Abort, alloc: Global, names: &[&str]) -> Result<Registry, RegistryEnd> {
+    let mut entries: Vec<(Name, Box<dyn Service>)> = Vec::new(alloc);
+    for name in names {
+        add(rt, alloc, &mut entries, name);
+    }
+    Registry::new(alloc, entries)
 }
 
 /// The services of the tests.
-fn registry(alloc: Global) -> Result<Registry, Fail> {
-    let mut entries: Vec<(Name, Box<dyn Service>)> = Vec::new(alloc);
-    add(alloc, &mut entries, "echo", Box::new(alloc, Echo)?)?;
-    add(alloc, &mut entries, "sum", Box::new(alloc, Sum)?)?;
-    add(alloc, &mut entries, "count", Box::new(alloc, Count)?)?;
-    Ok(Registry::new(alloc, entries).ok().ok_or("a registry")?)
+fn registry(rt: &impl Abort, alloc: Global) -> Registry {
+    match registered(rt, alloc, &["echo", "sum", "count"]) {
+        Ok(registry) => registry,
+        Err(_) => panic!(rt; "no registry"),
+    }
+}
+
+/// Whether the operation of a service gives for these arguments what its row says.
+fn answers_as(rt: &impl Abort, alloc: Global, registry: &Registry, row: &Row, args: &Rooted) -> bool
+    requires { weight args.now.arena ≤ heaviest_arguments }
+{
+    let service = name_of(rt, alloc, row.0);
+    let operation = name_of(rt, alloc, row.1);
+    let answer = registry.call(alloc, &service, &operation, args);
+    is_wanted(&answer, &row.3)
+}
+
+/// Calls what a row says.
+fn call(rt: &impl Abort, alloc: Global, registry: &Registry, row: &Row) {
+    let args = arguments(rt, alloc, row.2);
+    holds(rt, answers_as(rt, alloc, registry, row, &args), row.0);
 }
 
 const FIVE: Value = Value::Double(Pattern(0x4014_0000_0000_0000));
@@ -179,65 +188,66 @@ static CALLS: [Row; 6] = [
 ];
 
 #[test]
-fn calls_services_by_their_names(rt: HostRuntime) -> Result<(), Fail> {
-    let registry = registry(rt.alloc())?;
-    for (service, operation, items, want) in CALLS.iter() {
-        let answer = call(&registry, rt.alloc(), (*service, *operation), items)?;
-        expect(&rt, answer, want)?;
-    }
-    Ok(())
-}
-
-/// The name that stands twice.
-fn repeated(end: Option<RegistryEnd>) -> Result<Name, Fail> {
-    match end {
-        Some(RegistryEnd::DuplicateService(name)) => Ok(name),
-        Some(RegistryEnd::Memory) => Err("no memory")?,
-        None => Err("a registry")?,
+fn calls_services_by_their_names(rt: HostRuntime) {
+    let registry = registry(&rt, rt.alloc());
+    for row in CALLS.iter() {
+        call(&rt, rt.alloc(), &registry, row);
     }
 }
 
-/// The end of a registry with a name that stands twice.
-fn ended(alloc: Global) -> Result<Option<RegistryEnd>, Fail> {
-    let mut entries: Vec<(Name, Box<dyn Service>)> = Vec::new(alloc);
-    add(alloc, &mut entries, "echo", Box::new(alloc, Echo)?)?;
-    add(alloc, &mut entries, "sum", Box::new(alloc, Sum)?)?;
-    add(alloc, &mut entries, "echo", Box::new(alloc, Echo)?)?;
-    Ok(Registry::new(alloc, entries).err())
+/// Whether it ends with this name, which stands twice.
+fn repeats(made: &Result<Registry, RegistryEnd>, name: &[u8]) -> bool {
+    match made {
+        Err(RegistryEnd::DuplicateService(repeated)) => repeated.as_bytes() == name,
+        _ => false,
+    }
 }
 
 #[test]
-fn a_name_that_stands_twice(rt: HostRuntime) -> Result<(), Fail> {
-    let name = repeated(ended(rt.alloc())?)?;
-    assert_eq!(rt; name.as_bytes(), b"echo".as_slice());
-    Ok(())
+fn a_name_that_stands_twice(rt: HostRuntime) {
+    let made = registered(&rt, rt.alloc(), &["echo", "sum", "echo"]);
+    holds(&rt, repeats(&made, b"echo"), "the name");
 }
 
 /// Keeps a text.
-fn text(builder: &mut Builder, bytes: &[u8]) -> Result<TextId, Fail>
-    ensures id { IfOk result (λ text. text.0 ≡ length builder.old.texts) }
-    ensures kept { OnOk result (builder.new ≡ kept_text builder.old bytes.now) }
+fn text(rt: &impl Abort, builder: &mut Builder, bytes: &[u8]) -> TextId
+    ensures id { result.0 ≡ length builder.old.texts }
+    ensures kept { builder.new ≡ kept_text builder.old bytes.now }
 {
-    if !is_amf_text(bytes) {
-        return Err("no text")?;
-    }
-    Ok(builder.text(bytes)?)
+    assert!(rt; is_amf_text(bytes), "a text");
+    builder.text(bytes).expect(rt, "a text")
 }
 
-/// Arguments that are one object with the members b and a.
-fn two_members(alloc: Global) -> Result<Rooted, Fail>
-    ensures { IfOk result (λ args. weight args.arena ≤ heaviest_arguments) }
+/// Adds an array of one object with the members b and a.
+fn add_members(rt: &impl Abort, builder: &mut Builder) -> NodeId
+    requires { builder.old ≡ no_arena }
+    ensures names { NamesIn builder.new (Node result) }
+    ensures closed { AllByRecursion (λ n. n.is_open ≡ false) builder.new.nodes }
+    ensures light { weight builder.new ≤ heaviest_arguments }
 {
-    let mut builder = Builder::new(alloc)?;
-    let b = text(&mut builder, b"b")?;
-    let a = text(&mut builder, b"a")?;
-    let traits = builder.traits(b, true, &[])?;
-    let object = builder.open_node(Shape::Object(traits))?;
-    builder.put(object, Part::Named(b, Value::Integer(1)))?;
-    builder.put(object, Part::Named(a, Value::Integer(2)))?;
+    let b = text(rt, builder, b"b");
+    let a = text(rt, builder, b"a");
+    let traits = builder.traits(b, true, &[]).expect(rt, "traits");
+    let object = builder
+        .open_node(Shape::Object(traits))
+        .expect(rt, "an object");
+    builder
+        .put(object, Part::Named(b, Value::Integer(1)))
+        .expect(rt, "a member");
+    builder
+        .put(object, Part::Named(a, Value::Integer(2)))
+        .expect(rt, "a member");
     builder.close_node(object);
-    let array = add_array(&mut builder, &[Value::Node(object)])?;
-    Ok(whole(builder, Value::Node(array)))
+    add_array(builder, &[Value::Node(object)]).expect(rt, "an array")
+}
+
+/// Arguments that are such an object.
+fn two_members(rt: &impl Abort, alloc: Global) -> Rooted
+    ensures { weight result.arena ≤ heaviest_arguments }
+{
+    let mut builder = Builder::new(alloc).expect(rt, "a builder");
+    let array = add_members(rt, &mut builder);
+    whole(builder, Value::Node(array))
 }
 
 /// The text that stands at a place of an array.
@@ -252,29 +262,28 @@ fn text_at(graph: &Rooted, place: usize) -> Option<&[u8]> {
     }
 }
 
-/// The names of the members of the object.
-fn ordered_names(alloc: Global) -> Result<Rooted, Fail> {
-    let args = two_members(alloc)?;
-    let operation = name_of(alloc, "names")?;
-    Ok(
-        Names
-            .answers(alloc, &operation, &args)
-            .ok()
-            .ok_or("an array")?,
-    )
+/// The names of the members of the object that is the one item of these arguments.
+fn names_of(rt: &impl Abort, alloc: Global, args: &Rooted) -> Rooted
+    requires { weight args.now.arena ≤ heaviest_arguments }
+{
+    let operation = name_of(rt, alloc, "names");
+    match Names.answers(alloc, &operation, args) {
+        Ok(names) => names,
+        Err(_) => panic!(rt; "no names"),
+    }
+}
+
+fn are_ordered(rt: &impl Abort, names: &Rooted) {
+    holds(rt, text_at(names, 0) == Some(b"a".as_slice()), "the first");
+    holds(rt, text_at(names, 1) == Some(b"b".as_slice()), "the second");
+    holds(rt, text_at(names, 2) == None, "no third");
 }
 
 #[test]
-fn names_are_ordered(rt: HostRuntime) -> Result<(), Fail> {
-    let names = ordered_names(rt.alloc())?;
-    for (place, want) in [
-        (0, Some(b"a".as_slice())),
-        (1, Some(b"b".as_slice())),
-        (2, None),
-    ] {
-        assert_eq!(rt; text_at(&names, place), want);
-    }
-    Ok(())
+fn names_are_ordered(rt: HostRuntime) {
+    let args = two_members(&rt, rt.alloc());
+    let names = names_of(&rt, rt.alloc(), &args);
+    are_ordered(&rt, &names);
 }
 
 #[test]

@@ -1,6 +1,6 @@
 use amf_rows::Row;
+use std::alloc::Global;
 use std::process::Abort;
-use std::test::Fail;
 
 /// Ends the test where something does not hold.
 pub(crate) fn holds(rt: &impl Abort, right: bool, what: &str) {
@@ -13,11 +13,31 @@ pub(crate) fn holds_in(rt: &impl Abort, row: Row<'_>, right: bool, what: &str) {
     assert!(rt; right, "line {line}: {what}");
 }
 
+/// Ends the test where something else was got than the row says.
+pub(crate) fn is(rt: &impl Abort, row: Row<'_>, got: &str, want: &str) {
+    let line = row.line();
+    assert!(rt; got == want, "line {line}: {got} and not {want}");
+}
+
+/// A field of a row.
+pub(crate) fn field<'t>(rt: &impl Abort, row: Row<'t>, place: usize) -> &'t str {
+    row.field(place).expect(rt, "a field")
+}
+
+/// A number of a row.
+pub(crate) fn number(rt: &impl Abort, row: Row<'_>, place: usize) -> u32 {
+    row.number(place).expect(rt, "a number")
+}
+
+/// The bytes of a field of a row.
+pub(crate) fn bytes_of(rt: &impl Abort, alloc: Global, row: Row<'_>, place: usize) -> Vec<u8> {
+    row.bytes(alloc, place).expect(rt, "bytes")
+}
+
 /// A number of a row, or none where the field is `-`.
-pub(crate) fn number_in(row: Row<'_>, place: usize) -> Result<Option<u32>, Fail> {
-    if row.field(place)? == "-" {
-        Ok(None)
-    } else {
-        Ok(Some(row.number(place)?))
+pub(crate) fn number_in(rt: &impl Abort, row: Row<'_>, place: usize) -> Option<u32> {
+    match field(rt, row, place) {
+        "-" => None,
+        _ => Some(number(rt, row, place)),
     }
 }

@@ -1,4 +1,4 @@
-ghost use Rattle.std.specs.Prelude.{◌≡◌, true, codes, length, IfOk, OnOk};
+ghost use Rattle.std.specs.Prelude.{◌≡◌, true, codes, length};
 ghost use Rattle.amf_graph.specs.Arena.{Names, array};
 ghost use Rattle.amf_graph.specs.Building.{no_arena, kept_text, kept_node, begun};
 
@@ -11,7 +11,6 @@ use amf_wire::{Pattern, is_amf_text};
 use std::alloc::Global;
 use std::fmt::Display;
 use std::process::Abort;
-use std::test::Fail;
 
 static ROOTS: [Value; 7] = [
     Value::Undefined,
@@ -36,25 +35,21 @@ fn stands_alone(value: &Value) -> bool
 }
 
 /// A graph of this value alone.
-fn graph_of(alloc: Global, root: Value) -> Result<Rooted, Fail> {
-    if !stands_alone(&root) {
-        return Err("no such value")?;
-    }
-    finished(Builder::new(alloc)?, root)
+fn graph_of(rt: &impl Abort, alloc: Global, root: Value) -> Rooted {
+    assert!(rt; stands_alone(&root), "such a value");
+    finished(rt, Builder::new(alloc).expect(rt, "a builder"), root)
 }
 
-fn keeps_its_root(rt: &impl Abort, alloc: Global, root: Value) -> Result<(), Fail> {
-    let graph = graph_of(alloc, root)?;
+fn keeps_its_root(rt: &impl Abort, alloc: Global, root: Value) {
+    let graph = graph_of(rt, alloc, root);
     assert!(rt; graph.root() == root, "{root:?}");
-    Ok(())
 }
 
 #[test]
-fn keeps_the_root(rt: HostRuntime) -> Result<(), Fail> {
+fn keeps_the_root(rt: HostRuntime) {
     for root in ROOTS.iter() {
-        keeps_its_root(&rt, rt.alloc(), *root)?;
+        keeps_its_root(&rt, rt.alloc(), *root);
     }
-    Ok(())
 }
 
 #[test]
@@ -76,23 +71,31 @@ static TEXTS: [(u32, &[u8], u32); 7] = [
 ];
 
 /// Keeps a text.
-fn keep_text(builder: &mut Builder, bytes: &[u8]) -> Result<TextId, Fail>
-    ensures id { IfOk result (λ text. text.0 ≡ length builder.old.texts) }
-    ensures kept { OnOk result (builder.new ≡ kept_text builder.old bytes.now) }
+fn keep_text(rt: &impl Abort, builder: &mut Builder, bytes: &[u8]) -> TextId
+    ensures id { result.0 ≡ length builder.old.texts }
+    ensures kept { builder.new ≡ kept_text builder.old bytes.now }
 {
-    if !is_amf_text(bytes) {
-        return Err("no text")?;
-    }
-    Ok(builder.text(bytes)?)
+    assert!(rt; is_amf_text(bytes), "a text");
+    builder.text(bytes).expect(rt, "a text")
+}
+
+/// A graph of these texts alone.
+pub(crate) fn of_two_texts(rt: &impl Abort, alloc: Global, first: &[u8], second: &[u8]) -> Rooted
+    ensures { length result.arena.texts ≡ 2 }
+{
+    let mut builder = Builder::new(alloc).expect(rt, "a builder");
+    keep_text(rt, &mut builder, first);
+    keep_text(rt, &mut builder, second);
+    finished(rt, builder, Value::Null)
 }
 
 /// A graph of the texts alone.
-fn graph_of_texts(alloc: Global) -> Result<Rooted, Fail> {
-    let mut builder = Builder::new(alloc)?;
+fn graph_of_texts(rt: &impl Abort, alloc: Global) -> Rooted {
+    let mut builder = Builder::new(alloc).expect(rt, "a builder");
     for (_, bytes, _) in TEXTS.iter() {
-        keep_text(&mut builder, bytes)?;
+        keep_text(rt, &mut builder, bytes);
     }
-    finished(builder, Value::Null)
+    finished(rt, builder, Value::Null)
 }
 
 /// Compares a text with each.
@@ -104,72 +107,82 @@ fn compare_text(rt: &impl Abort, graph: &Rooted, x: u32, left: u32) {
 }
 
 #[test]
-fn compares_texts(rt: HostRuntime) -> Result<(), Fail> {
-    let graph = graph_of_texts(rt.alloc())?;
+fn compares_texts(rt: HostRuntime) {
+    let graph = graph_of_texts(&rt, rt.alloc());
     for (x, _, left) in TEXTS.iter() {
         compare_text(&rt, &graph, *x, *left);
     }
-    Ok(())
 }
 
 /// A builder with the text `a` and an open array.
-fn an_open_array(alloc: Global) -> Result<Builder, Fail>
-    ensures { IfOk result (λ builder. builder ≡ kept_node (kept_text no_arena (codes "a")) (begun array)) }
+fn an_open_array(rt: &impl Abort, alloc: Global) -> Builder
+    ensures { result ≡ kept_node (kept_text no_arena (codes "a")) (begun array) }
 {
-    let mut builder = Builder::new(alloc)?;
-    keep_text(&mut builder, b"a")?;
-    builder.open_node(Shape::Array)?;
-    Ok(builder)
+    let mut builder = Builder::new(alloc).expect(rt, "a builder");
+    keep_text(rt, &mut builder, b"a");
+    builder.open_node(Shape::Array).expect(rt, "an array");
+    builder
 }
 
 /// The graph with this root.
-fn finished(builder: Builder, root: Value) -> Result<Rooted, Fail>
+fn finished(rt: &impl Abort, builder: Builder, root: Value) -> Rooted
     requires { Names builder root }
+    ensures { result.arena ≡ builder }
 {
     match builder.finish(root) {
-        Ok(graph) => Ok(graph),
-        Err(_) => Err("an open node")?,
+        Ok(graph) => graph,
+        Err(_) => panic!(rt; "an open node"),
     }
 }
 
 /// Puts the array itself into an open array, and null under the name `a`, and closes it.
-fn fill_array(builder: &mut Builder) -> Result<Value, Fail>
+fn fill_array(rt: &impl Abort, builder: &mut Builder) -> Value
     requires { builder.old ≡ kept_node (kept_text no_arena (codes "a")) (begun array) }
-    ensures { IfOk result (Names builder.new) }
+    ensures { Names builder.new result }
 {
     let array = NodeId(0);
-    builder.put(array, Part::Named(TextId(0), Value::Null))?;
-    builder.put(array, Part::Item(Value::Node(array)))?;
+    builder
+        .put(array, Part::Named(TextId(0), Value::Null))
+        .expect(rt, "a name");
+    builder
+        .put(array, Part::Item(Value::Node(array)))
+        .expect(rt, "an item");
     builder.close_node(array);
-    Ok(Value::Node(array))
+    Value::Node(array)
 }
 
 /// An array that holds itself, and null under the name `a`.
-fn an_array(alloc: Global) -> Result<Rooted, Fail> {
-    let mut builder = an_open_array(alloc)?;
-    let root = fill_array(&mut builder)?;
-    finished(builder, root)
+fn an_array(rt: &impl Abort, alloc: Global) -> Rooted {
+    let mut builder = an_open_array(rt, alloc);
+    let root = fill_array(rt, &mut builder);
+    finished(rt, builder, root)
 }
 
 /// Adds an object of a class `a` with a sealed member of that name, which is true, and a dynamic one, which is null.
-fn add_object(builder: &mut Builder) -> Result<Value, Fail>
+fn add_object(rt: &impl Abort, builder: &mut Builder) -> Value
     requires { builder.old ≡ no_arena }
-    ensures { IfOk result (Names builder.new) }
+    ensures { Names builder.new result }
 {
-    let name = keep_text(builder, b"a")?;
-    let traits = builder.traits(name, true, &[name])?;
-    let object = builder.open_node(Shape::Object(traits))?;
-    builder.put(object, Part::Named(name, Value::Null))?;
-    builder.put(object, Part::Item(Value::Bool(true)))?;
+    let name = keep_text(rt, builder, b"a");
+    let traits = builder.traits(name, true, &[name]).expect(rt, "traits");
+    let object = builder
+        .open_node(Shape::Object(traits))
+        .expect(rt, "an object");
+    builder
+        .put(object, Part::Named(name, Value::Null))
+        .expect(rt, "a member");
+    builder
+        .put(object, Part::Item(Value::Bool(true)))
+        .expect(rt, "a member");
     builder.close_node(object);
-    Ok(Value::Node(object))
+    Value::Node(object)
 }
 
 /// The object alone.
-fn an_object(alloc: Global) -> Result<Rooted, Fail> {
-    let mut builder = Builder::new(alloc)?;
-    let root = add_object(&mut builder)?;
-    finished(builder, root)
+fn an_object(rt: &impl Abort, alloc: Global) -> Rooted {
+    let mut builder = Builder::new(alloc).expect(rt, "a builder");
+    let root = add_object(rt, &mut builder);
+    finished(rt, builder, root)
 }
 
 /// What node 0 holds, if it is there.
@@ -181,8 +194,8 @@ fn shown(graph: &Rooted) -> Option<NodeView<'_>> {
 }
 
 #[test]
-fn kinds_and_texts(rt: HostRuntime) -> Result<(), Fail> {
-    let builder = an_open_array(rt.alloc())?;
+fn kinds_and_texts(rt: HostRuntime) {
+    let builder = an_open_array(&rt, rt.alloc());
     holds(
         &rt,
         builder.text_of(TextId(0)) == b"a".as_slice(),
@@ -193,7 +206,6 @@ fn kinds_and_texts(rt: HostRuntime) -> Result<(), Fail> {
         builder.kind_of(NodeId(0)) == NodeKind::Array,
         "the kind",
     );
-    Ok(())
 }
 
 /// Looks at the parts of an array.
@@ -210,19 +222,18 @@ fn is_the_array(rt: &impl Abort, items: &[Value], names: &[(TextId, Value)]) {
     );
 }
 
-fn is_an_array(rt: &impl Abort, graph: &Rooted) -> Result<(), Fail> {
+fn is_an_array(rt: &impl Abort, graph: &Rooted) {
     holds(rt, graph.node_count() == 1, "how many nodes");
     match shown(graph) {
         Some(NodeView::Array { items, names }) => is_the_array(rt, items, names),
-        _ => Err("no array")?,
+        _ => panic!(rt; "no array"),
     }
-    Ok(())
 }
 
 #[test]
-fn builds_an_array(rt: HostRuntime) -> Result<(), Fail> {
-    let graph = an_array(rt.alloc())?;
-    is_an_array(&rt, &graph)
+fn builds_an_array(rt: HostRuntime) {
+    let graph = an_array(&rt, rt.alloc());
+    is_an_array(&rt, &graph);
 }
 
 /// Looks at the parts of an object.
@@ -251,7 +262,7 @@ fn class_of(graph: &Rooted) -> Option<TraitsView<'_>> {
     }
 }
 
-fn is_an_object(rt: &impl Abort, graph: &Rooted) -> Result<(), Fail> {
+fn is_an_object(rt: &impl Abort, graph: &Rooted) {
     match shown(graph) {
         Some(
             NodeView::Object {
@@ -263,13 +274,12 @@ fn is_an_object(rt: &impl Abort, graph: &Rooted) -> Result<(), Fail> {
             holds(rt, traits == TraitsId(0), "the traits");
             is_the_object(rt, sealed, members);
         }
-        _ => Err("no object")?,
+        _ => panic!(rt; "no object"),
     }
-    Ok(())
 }
 
-fn has_traits(rt: &impl Abort, graph: &Rooted) -> Result<(), Fail> {
-    let view = class_of(graph).ok_or("no object")?;
+fn has_traits(rt: &impl Abort, graph: &Rooted) {
+    let view = class_of(graph).expect(rt, "an object");
     holds(rt, view.class == TextId(0), "the class");
     holds(rt, view.dynamic, "further members");
     holds(
@@ -277,61 +287,58 @@ fn has_traits(rt: &impl Abort, graph: &Rooted) -> Result<(), Fail> {
         view.sealed == [TextId(0)].as_slice(),
         "the sealed names",
     );
-    Ok(())
 }
 
 #[test]
-fn builds_an_object(rt: HostRuntime) -> Result<(), Fail> {
-    let graph = an_object(rt.alloc())?;
-    is_an_object(&rt, &graph)?;
-    has_traits(&rt, &graph)
+fn builds_an_object(rt: HostRuntime) {
+    let graph = an_object(&rt, rt.alloc());
+    is_an_object(&rt, &graph);
+    has_traits(&rt, &graph);
 }
 
 /// A builder with a date and two open arrays.
-fn two_open_arrays(alloc: Global) -> Result<Builder, Fail> {
-    let mut builder = Builder::new(alloc)?;
-    builder.leaf(Leaf::Date(Pattern(0)))?;
-    builder.open_node(Shape::Array)?;
-    builder.open_node(Shape::Array)?;
-    Ok(builder)
+fn two_open_arrays(rt: &impl Abort, alloc: Global) -> Builder {
+    let mut builder = Builder::new(alloc).expect(rt, "a builder");
+    builder.leaf(Leaf::Date(Pattern(0))).expect(rt, "a date");
+    builder.open_node(Shape::Array).expect(rt, "an array");
+    builder.open_node(Shape::Array).expect(rt, "an array");
+    builder
 }
 
 /// The open node for which there is no graph.
-fn open_node(alloc: Global) -> Result<NodeId, Fail> {
-    match two_open_arrays(alloc)?.finish(Value::Null) {
-        Ok(_) => Err("no open node")?,
-        Err(unfinished) => Ok(unfinished.node),
+fn open_node(rt: &impl Abort, builder: Builder) -> NodeId {
+    match builder.finish(Value::Null) {
+        Ok(_) => panic!(rt; "no open node"),
+        Err(unfinished) => unfinished.node,
     }
 }
 
 #[test]
-fn tells_the_open_node(rt: HostRuntime) -> Result<(), Fail> {
-    let node = open_node(rt.alloc())?;
+fn tells_the_open_node(rt: HostRuntime) {
+    let node = open_node(&rt, two_open_arrays(&rt, rt.alloc()));
     holds(&rt, node == NodeId(1), "the open node");
-    Ok(())
 }
 
 /// Looks at how an end is told.
-fn is_told(rt: &impl Abort, alloc: Global, end: &impl Display, words: &str) -> Result<(), Fail> {
-    let said = format!(in alloc; "{end}")?;
+fn is_told(rt: &impl Abort, alloc: Global, end: &impl Display, words: &str) {
+    let said = format!(in alloc; "{end}").expect(rt, "memory");
     holds(rt, said.as_str() == words, words);
-    Ok(())
 }
 
 #[test]
-fn says_why(rt: HostRuntime) -> Result<(), Fail> {
+fn says_why(rt: HostRuntime) {
     let alloc = rt.alloc();
     let lack = Lack {
         kind: LackKind::EmptyName,
         node: 512,
     };
-    is_told(&rt, alloc, &BuildEnd::Memory, "no memory")?;
-    is_told(&rt, alloc, &BuildEnd::Full, "the graph is full")?;
-    is_told(&rt, alloc, &WriteEnd::Memory, "no memory")?;
+    is_told(&rt, alloc, &BuildEnd::Memory, "no memory");
+    is_told(&rt, alloc, &BuildEnd::Full, "the graph is full");
+    is_told(&rt, alloc, &WriteEnd::Memory, "no memory");
     is_told(
         &rt,
         alloc,
         &WriteEnd::NoSpelling(lack),
         "no spelling from node 512",
-    )
+    );
 }

@@ -1,28 +1,22 @@
-ghost use Rattle.std.specs.Prelude.{◌≡◌, ◌<◌, length, IfOk};
+ghost use Rattle.std.specs.Prelude.{◌≡◌, ◌<◌, length};
 ghost use Rattle.amf_tables.specs.ShownTraits.{AreTextIds};
 
-use crate::checks::{holds, holds_in, number_in};
-use amf_graph::{Builder, NodeId, Rooted, TextId, TraitsId, TraitsView, Value, Wrapped};
+use crate::checks::{bytes_of, field, holds, holds_in, number, number_in};
+use crate::graph_tests::of_two_texts;
+use amf_graph::{NodeId, Rooted, TextId, TraitsId, TraitsView, Wrapped};
 use amf_rows::{Row, Table};
 use amf_tables::{Tables3, WriterTables};
-use amf_wire::is_amf_text;
 use std::alloc::Global;
 use std::process::Abort;
-use std::test::Fail;
 
 /// The served class of a row, or none where the field is `-`.
-fn class_in(row: Row<'_>, place: usize) -> Result<Option<Wrapped>, Fail> {
-    let word = row.field(place)?;
-    if word == "ArrayCollection" {
-        Ok(Some(Wrapped::ArrayCollection))
-    } else if word == "ArrayList" {
-        Ok(Some(Wrapped::ArrayList))
-    } else if word == "ObjectProxy" {
-        Ok(Some(Wrapped::ObjectProxy))
-    } else if word == "-" {
-        Ok(None)
-    } else {
-        Err("no class")?
+fn class_in(rt: &impl Abort, row: Row<'_>, place: usize) -> Option<Wrapped> {
+    match field(rt, row, place) {
+        "ArrayCollection" => Some(Wrapped::ArrayCollection),
+        "ArrayList" => Some(Wrapped::ArrayList),
+        "ObjectProxy" => Some(Wrapped::ObjectProxy),
+        "-" => None,
+        _ => panic!(rt; "no class"),
     }
 }
 
@@ -51,58 +45,52 @@ static FOUND: Table = Table {
 ",
 };
 
-fn enter(row: Row<'_>, tables: &mut Tables3) -> Result<(), Fail> {
-    if let Some(text) = number_in(row, 0)? {
-        tables.push_text(TextId(text))?;
+fn enter(rt: &impl Abort, row: Row<'_>, tables: &mut Tables3) {
+    if let Some(text) = number_in(rt, row, 0) {
+        tables.push_text(TextId(text)).expect(rt, "memory");
     }
-    if let Some(node) = number_in(row, 1)? {
-        tables.push_node(NodeId(node))?;
+    if let Some(node) = number_in(rt, row, 1) {
+        tables.push_node(NodeId(node)).expect(rt, "memory");
     }
-    match (number_in(row, 2)?, class_in(row, 3)?) {
-        (Some(traits), Some(class)) => tables.push_external(TraitsId(traits), class)?,
-        (Some(traits), None) => tables.push_traits(TraitsId(traits))?,
-        (None, _) => {}
+    if let Some(traits) = number_in(rt, row, 2) {
+        enter_traits(rt, TraitsId(traits), class_in(rt, row, 3), tables);
     }
-    Ok(())
 }
 
-fn entered_tables(alloc: Global) -> Result<Tables3, Fail> {
-    let mut tables = Tables3::new(alloc)?;
-    for row in ENTERED.rows(alloc)?.iter() {
-        enter(*row, &mut tables)?;
+fn enter_traits(rt: &impl Abort, traits: TraitsId, class: Option<Wrapped>, tables: &mut Tables3) {
+    match class {
+        Some(class) => tables.push_external(traits, class).expect(rt, "memory"),
+        None => tables.push_traits(traits).expect(rt, "memory"),
     }
-    Ok(tables)
 }
 
-fn are_found(rt: &impl Abort, row: Row<'_>, index: u32, tables: &Tables3) -> Result<(), Fail> {
-    let text = number_in(row, 0)?.map(TextId);
+fn entered_tables(rt: &impl Abort, alloc: Global) -> Tables3 {
+    let mut tables = Tables3::new(alloc).expect(rt, "tables");
+    for row in ENTERED.rows(alloc).expect(rt, "rows").iter() {
+        enter(rt, *row, &mut tables);
+    }
+    tables
+}
+
+fn are_found(rt: &impl Abort, row: Row<'_>, index: u32, tables: &Tables3) {
+    let text = number_in(rt, row, 0).map(TextId);
     holds_in(rt, row, tables.text_at(index) == text, "the text");
-    let node = number_in(row, 1)?.map(NodeId);
+    let node = number_in(rt, row, 1).map(NodeId);
     holds_in(rt, row, tables.node_at(index) == node, "the node");
-    let traits = number_in(row, 2)?.map(TraitsId);
+    let traits = number_in(rt, row, 2).map(TraitsId);
     holds_in(rt, row, tables.traits_at(index) == traits, "the traits");
-    holds_in(
-        rt,
-        row,
-        tables.wrapped_at(index) == class_in(row, 3)?,
-        "the class",
-    );
-    Ok(())
-}
-
-fn finds_what_it_entered(rt: &impl Abort, alloc: Global, tables: &Tables3) -> Result<(), Fail> {
-    let mut index = 0_u32;
-    for row in FOUND.rows(alloc)?.iter() {
-        are_found(rt, *row, index, tables)?;
-        index = index.wrapping_add(1);
-    }
-    Ok(())
+    let class = class_in(rt, row, 3);
+    holds_in(rt, row, tables.wrapped_at(index) == class, "the class");
 }
 
 #[test]
-fn a_reader_finds_what_it_entered(rt: HostRuntime) -> Result<(), Fail> {
-    let tables = entered_tables(rt.alloc())?;
-    finds_what_it_entered(&rt, rt.alloc(), &tables)
+fn a_reader_finds_what_it_entered(rt: HostRuntime) {
+    let tables = entered_tables(&rt, rt.alloc());
+    let mut index = 0_u32;
+    for row in FOUND.rows(rt.alloc()).expect(&rt, "rows").iter() {
+        are_found(&rt, *row, index, &tables);
+        index = index.wrapping_add(1);
+    }
 }
 
 /// What a writer enters in turn: a text, a node or a served class.
@@ -137,66 +125,56 @@ class | ArrayList | -
 ",
 };
 
-fn add_text(alloc: Global, row: Row<'_>, tables: &mut WriterTables) -> Result<(), Fail> {
-    let text = row.bytes(alloc, 1)?;
-    tables.add_text(&text)?;
-    Ok(())
-}
-
-fn add(alloc: Global, row: Row<'_>, tables: &mut WriterTables) -> Result<(), Fail> {
-    let kind = row.field(0)?;
-    if kind == "text" {
-        add_text(alloc, row, tables)
-    } else if kind == "node" {
-        Ok(tables.add_node(NodeId(row.number(1)?))?)
-    } else {
-        let class = class_in(row, 1)?.ok_or("no class")?;
-        Ok(tables.add_wrapped(class)?)
+fn add(rt: &impl Abort, alloc: Global, row: Row<'_>, tables: &mut WriterTables) {
+    match field(rt, row, 0) {
+        "text" => {
+            let text = bytes_of(rt, alloc, row, 1);
+            tables.add_text(&text).expect(rt, "memory");
+        }
+        "node" => tables
+            .add_node(NodeId(number(rt, row, 1)))
+            .expect(rt, "memory"),
+        _ => {
+            let class = class_in(rt, row, 1).expect(rt, "a class");
+            tables.add_wrapped(class).expect(rt, "memory");
+        }
     }
 }
 
-fn place_of_text(alloc: Global, row: Row<'_>, tables: &WriterTables) -> Result<Option<u32>, Fail> {
-    let text = row.bytes(alloc, 1)?;
-    Ok(tables.place_of_text(&text))
-}
-
-fn place_of(alloc: Global, row: Row<'_>, tables: &WriterTables) -> Result<Option<u32>, Fail> {
-    let kind = row.field(0)?;
-    if kind == "text" {
-        place_of_text(alloc, row, tables)
-    } else if kind == "node" {
-        Ok(tables.place_of_node(NodeId(row.number(1)?)))
-    } else {
-        let class = class_in(row, 1)?.ok_or("no class")?;
-        Ok(tables.place_of_wrapped(class))
+fn place_of(rt: &impl Abort, alloc: Global, row: Row<'_>, tables: &WriterTables) -> Option<u32> {
+    match field(rt, row, 0) {
+        "text" => {
+            let text = bytes_of(rt, alloc, row, 1);
+            tables.place_of_text(&text)
+        }
+        "node" => tables.place_of_node(NodeId(number(rt, row, 1))),
+        _ => tables.place_of_wrapped(class_in(rt, row, 1).expect(rt, "a class")),
     }
 }
 
-fn written_tables(alloc: Global) -> Result<WriterTables, Fail> {
-    let mut tables = WriterTables::new(alloc)?;
-    for row in WRITTEN.rows(alloc)?.iter() {
-        add(alloc, *row, &mut tables)?;
+fn written_tables(rt: &impl Abort, alloc: Global) -> WriterTables {
+    let mut tables = WriterTables::new(alloc).expect(rt, "tables");
+    for row in WRITTEN.rows(alloc).expect(rt, "rows").iter() {
+        add(rt, alloc, *row, &mut tables);
     }
-    Ok(tables)
+    tables
 }
 
-fn finds_first_places(rt: &impl Abort, alloc: Global, tables: &WriterTables) -> Result<(), Fail> {
-    for row in FIRST_PLACES.rows(alloc)?.iter() {
-        let place = place_of(alloc, *row, tables)?;
-        holds_in(rt, *row, place == number_in(*row, 2)?, "the place");
+fn finds_first_places(rt: &impl Abort, alloc: Global, tables: &WriterTables) {
+    for row in FIRST_PLACES.rows(alloc).expect(rt, "rows").iter() {
+        let place = place_of(rt, alloc, *row, tables);
+        holds_in(rt, *row, place == number_in(rt, *row, 2), "the place");
     }
-    Ok(())
 }
 
 /// Has the tables hash their texts, and adds two more.
-fn settles(rt: &impl Abort, tables: &mut WriterTables) -> Result<(), Fail> {
+fn settles(rt: &impl Abort, tables: &mut WriterTables) {
     holds(rt, tables.text_count() == 3, "how many texts");
-    tables.settle_texts()?;
+    tables.settle_texts().expect(rt, "memory");
     holds(rt, tables.text_count() == 3, "as many texts");
-    tables.add_text(b"b")?;
-    tables.add_text(b"late")?;
+    tables.add_text(b"b").expect(rt, "memory");
+    tables.add_text(b"late").expect(rt, "memory");
     holds(rt, tables.place_of_text(b"late") == Some(4), "a late text");
-    Ok(())
 }
 
 /// So many of the first nodes, or all where there are fewer.
@@ -213,59 +191,44 @@ fn tells_its_first_nodes(
     tables: &WriterTables,
     count: u32,
     nodes: &[NodeId],
-) -> Result<(), Fail> {
-    let first = tables.first_nodes(alloc, count)?;
+) {
+    let first = tables.first_nodes(alloc, count).expect(rt, "memory");
     holds(rt, first.as_slice() == nodes, "the first nodes");
-    Ok(())
 }
 
-fn has_a_node_without_a_place(rt: &impl Abort, tables: &mut WriterTables) -> Result<(), Fail> {
+fn has_a_node_without_a_place(rt: &impl Abort, tables: &mut WriterTables) {
     holds(rt, tables.are_placed(), "all have places");
-    tables.add_done(NodeId(5))?;
+    tables.add_done(NodeId(5)).expect(rt, "memory");
     holds(rt, !tables.are_placed(), "one has no place");
     holds(rt, tables.is_done(NodeId(5)), "done");
     holds(rt, !tables.is_done(NodeId(1)), "not done");
-    Ok(())
 }
 
 #[test]
-fn a_writer_finds_what_it_entered(rt: HostRuntime) -> Result<(), Fail> {
-    let mut tables = written_tables(rt.alloc())?;
-    finds_first_places(&rt, rt.alloc(), &tables)?;
+fn a_writer_finds_what_it_entered(rt: HostRuntime) {
+    let mut tables = written_tables(&rt, rt.alloc());
+    finds_first_places(&rt, rt.alloc(), &tables);
     for (count, nodes) in FIRST_NODES.iter() {
-        tells_its_first_nodes(&rt, rt.alloc(), &tables, *count, nodes)?;
+        tells_its_first_nodes(&rt, rt.alloc(), &tables, *count, nodes);
     }
-    settles(&rt, &mut tables)?;
-    finds_first_places(&rt, rt.alloc(), &tables)?;
-    has_a_node_without_a_place(&rt, &mut tables)
-}
-
-/// A graph of one text at two places.
-fn twice(alloc: Global, text: &[u8]) -> Result<Rooted, Fail>
-    ensures { IfOk result (λ graph. length graph.arena.texts ≡ 2) }
-{
-    let mut builder = Builder::new(alloc)?;
-    if !is_amf_text(text) {
-        return Err("no text")?;
-    }
-    builder.text(text)?;
-    builder.text(text)?;
-    Ok(builder.finish(Value::Null).ok().ok_or("an open node")?)
+    settles(&rt, &mut tables);
+    finds_first_places(&rt, rt.alloc(), &tables);
+    has_a_node_without_a_place(&rt, &mut tables);
 }
 
 /// Enters a wrapper, and a class of the first text with a member of the second.
-fn add_class(alloc: Global, graph: &Rooted) -> Result<WriterTables, Fail>
+fn add_class(rt: &impl Abort, alloc: Global, graph: &Rooted) -> WriterTables
     requires { length graph.now.arena.texts ≡ 2 }
 {
-    let mut tables = WriterTables::new(alloc)?;
-    tables.add_wrapped(Wrapped::ArrayList)?;
+    let mut tables = WriterTables::new(alloc).expect(rt, "tables");
+    tables.add_wrapped(Wrapped::ArrayList).expect(rt, "memory");
     let entered = TraitsView {
         class: TextId(0),
         dynamic: true,
         sealed: &[TextId(1)],
     };
-    tables.add_traits(&entered, graph)?;
-    Ok(tables)
+    tables.add_traits(&entered, graph).expect(rt, "memory");
+    tables
 }
 
 /// Where a class stands, whose objects may have further members.
@@ -287,21 +250,21 @@ fn place_of_class(
 }
 
 /// Classes by their two texts, and where each stands.
-fn finds_by_content(rt: &impl Abort, alloc: Global, graph: &Rooted) -> Result<(), Fail>
+fn finds_by_content(rt: &impl Abort, alloc: Global, graph: &Rooted)
     requires { length graph.now.arena.texts ≡ 2 }
 {
-    let tables = add_class(alloc, graph)?;
+    let tables = add_class(rt, alloc, graph);
     let entered = place_of_class(&tables, graph, TextId(0), &[TextId(1)]);
     holds(rt, entered == Some(1), "the same");
     let alike = place_of_class(&tables, graph, TextId(1), &[TextId(0)]);
     holds(rt, alike == Some(1), "by other texts");
     let shorter = place_of_class(&tables, graph, TextId(0), &[]);
     holds(rt, shorter == None, "with fewer members");
-    Ok(())
 }
 
 #[test]
-fn a_writer_finds_traits_by_content(rt: HostRuntime) -> Result<(), Fail> {
-    let graph = twice(rt.alloc(), b"a")?;
-    finds_by_content(&rt, rt.alloc(), &graph)
+fn a_writer_finds_traits_by_content(rt: HostRuntime) {
+    // One text at two places.
+    let graph = of_two_texts(&rt, rt.alloc(), b"a", b"a");
+    finds_by_content(&rt, rt.alloc(), &graph);
 }

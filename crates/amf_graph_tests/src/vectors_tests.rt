@@ -2,7 +2,6 @@ use crate::checks::holds;
 use amf_graph::{NodeId, NodeView, Rooted, Value};
 use amf_vectors::{make, vectors};
 use std::process::Abort;
-use std::test::Fail;
 
 /// The first value among the members of an object.
 fn first_member(graph: &Rooted, place: u32) -> Option<Value> {
@@ -32,10 +31,9 @@ fn is_made(rt: &impl Abort, graph: &Rooted) {
 }
 
 #[test]
-fn an_array_and_two_objects(rt: HostRuntime) -> Result<(), Fail> {
-    let graph = make(rt.alloc(), 1, 3)?;
+fn an_array_and_two_objects(rt: HostRuntime) {
+    let graph = make(rt.alloc(), 1, 3).expect(&rt, "a graph");
     is_made(&rt, &graph);
-    Ok(())
 }
 
 #[test]

@@ -1,8 +1,10 @@
-use amf_http::{HttpBuffer, next_request, write_response};
-use amf_io::{Clock, Dice, Front, Hall, TcpFront, TcpHall};
+use crate::checks::holds;
+use amf_http::{HttpBuffer, HttpEnd, next_request, write_response};
+use amf_io::{Clock, Dice, Front, Hall, OpenEnd, TcpFront, TcpHall, TcpLink};
+use std::alloc::Global;
 use std::io::{Read, Write};
 use std::net::{TcpListener, TcpStream};
-use std::test::Fail;
+use std::process::Abort;
 
 const REQUEST: &[u8] =
     b"POST /amf HTTP/1.1\r\nHost: h\r\nContent-Type: application/x-amf\r\nContent-Length: 2\r\nConnection: close\r\n\r\nhi";
@@ -10,55 +12,74 @@ const REQUEST: &[u8] =
 const ANSWER: &[u8] =
     b"HTTP/1.1 200 OK\r\nContent-Type: application/x-amf\r\nContent-Length: 2\r\nConnection: close\r\n\r\nhi";
 
+/// Whether the request of a link is read and answered with its body.
+fn is_answered(alloc: Global, link: &mut TcpLink) -> Result<bool, HttpEnd> {
+    let mut buffer = HttpBuffer::new(alloc)?;
+    match next_request(alloc, link, &mut buffer)? {
+        Some(request) if request.close => {
+            let body = request.body.as_slice();
+            Ok(write_response(alloc, link, 200, body, request.close) == Ok(()))
+        }
+        _ => Ok(false),
+    }
+}
+
+/// Serves one request of the next link of a hall.
+fn serves<H: Hall<Link = TcpLink>>(rt: &impl Abort, alloc: Global, hall: &mut H) {
+    match hall.next() {
+        Ok(Some(link)) => {
+            let mut link = link;
+            let answered = is_answered(alloc, &mut link) == Ok(true);
+            holds(rt, answered, "the last request is answered");
+            hall.back(link);
+        }
+        _ => panic!(rt; "no link"),
+    }
+}
+
+/// Whether all that comes is the answer.
+fn has_answer(alloc: Global, client: &mut TcpStream) -> bool {
+    let mut answer = Vec::new(alloc);
+    client.read_to_end(&mut answer).is_ok() && answer.as_slice() == ANSWER
+}
+
 /// A connection is accepted by the system before the hall asks for it, so one thread plays both
 /// sides.
 #[test]
-fn serves_over_loopback(rt: HostRuntime) -> Result<(), Fail> {
-    let alloc = rt.alloc();
-    let listener = TcpListener::bind(&rt, "127.0.0.1:0")?;
-    let address = listener.local_addr()?;
+fn serves_over_loopback(rt: HostRuntime) {
+    let listener = TcpListener::bind(&rt, "127.0.0.1:0").expect(&rt, "a listener");
+    let address = listener.local_addr().expect(&rt, "an address");
+    let mut client = TcpStream::connect(&rt, address).expect(&rt, "a client");
+    let sent = client.write(REQUEST).expect(&rt, "a write");
+    holds(&rt, sent == REQUEST.len(), "the request is sent");
     let mut hall = TcpHall::new(listener, rt);
-    let mut client = TcpStream::connect(&rt, address)?;
-    assert_eq!(rt; client.write(REQUEST)?, REQUEST.len());
-    let Ok(Some(link)) = hall.next() else {
-        panic!(rt; "no link");
-    };
-    let mut link = link;
-    let mut buffer = HttpBuffer::new(alloc)?;
-    let Some(request) = next_request(alloc, &mut link, &mut buffer)? else {
-        panic!(rt; "no request");
-    };
-    assert!(rt; request.close);
-    write_response(
-        alloc,
-        &mut link,
-        200,
-        request.body.as_slice(),
-        request.close,
-    )?;
-    hall.back(link);
-    let mut answer = Vec::new(alloc);
-    client.read_to_end(&mut answer)?;
-    assert_eq!(rt; answer.as_slice(), ANSWER);
-    assert!(rt; hall.now() > 1_600_000_000_000);
-    assert!(rt; hall.word() != hall.word());
-    Ok(())
+    serves(&rt, rt.alloc(), &mut hall);
+    holds(&rt, has_answer(rt.alloc(), &mut client), "the answer");
+    holds(&rt, hall.now() > 1_600_000_000_000, "the moment");
+    holds(&rt, hall.word() != hall.word(), "two words");
 }
 
-#[test]
-fn opens_a_hall_for_each_worker(rt: HostRuntime) -> Result<(), Fail> {
-    let alloc = rt.alloc();
-    let listener = TcpListener::bind(&rt, "127.0.0.1:0")?;
-    let address = listener.local_addr()?;
-    let mut front = TcpFront::new(rt);
-    assert!(rt; front.open(alloc, address.port(), 2).is_err());
-    drop(listener);
-    let Ok(halls) = front.open(alloc, address.port(), 2) else {
-        panic!(rt; "no halls");
-    };
-    assert_eq!(rt; halls.len(), 2);
+/// How many halls a front opens, which go back then.
+fn opened<F: Front>(alloc: Global, front: &mut F, port: u16) -> Result<usize, OpenEnd>
+where
+    F::Hall: Drop,
+{
+    let halls = front.open(alloc, port, 2)?;
+    let count = halls.len();
     for hall in halls {
         front.back(hall);
     }
-    Ok(())
+    Ok(count)
+}
+
+#[test]
+fn opens_a_hall_for_each_worker(rt: HostRuntime) {
+    let listener = TcpListener::bind(&rt, "127.0.0.1:0").expect(&rt, "a listener");
+    let port = listener.local_addr().expect(&rt, "an address").port();
+    let mut front = TcpFront::new(rt);
+    let early = opened(rt.alloc(), &mut front, port);
+    holds(&rt, early.is_err(), "the address is taken");
+    drop(listener);
+    let halls = opened(rt.alloc(), &mut front, port);
+    holds(&rt, halls == Ok(2), "two halls");
 }

@@ -1,6 +1,9 @@
 ghost use Rattle.amf_io.specs.Cursor.{Counts};
 
+use crate::checks::{field, holds, holds_of, number};
+use crate::fields::pieces;
 use amf_io::{Cursor, CursorEnd, FaultlessSource, MemorySource, Source, Window};
+use amf_rows::{Row, Table};
 use std::alloc::Global;
 use std::process::Abort;
 
@@ -38,54 +41,66 @@ fn parts<S: Source>(
 
 const BYTES: [u8; 6] = [7, 1, 2, 3, 4, 5];
 
-/// In which pieces the bytes come: the most in one, and where one ends.
-static PIECES: [(usize, usize); 8] = [
-    (65536, 0),
-    (1, 0),
-    (2, 0),
-    (65536, 1),
-    (65536, 2),
-    (65536, 3),
-    (65536, 4),
-    (65536, 5),
-];
+/// In which pieces the bytes come.
+const PIECES: &str = "65536 1 2 65536@1 65536@2 65536@3 65536@4 65536@5";
 
 /// A limit, how many bytes are taken behind the first, and how many there are and whether they are the last, or the end.
-static PARTS: [(u32, u32, Result<(usize, bool), CursorEnd>); 8] = [
-    (6, 5, Ok((5, true))),
-    (9, 5, Ok((5, true))),
-    (6, 4, Ok((4, false))),
-    (5, 4, Ok((4, false))),
-    (5, 5, Err(CursorEnd::TooLarge)),
-    (0, 0, Err(CursorEnd::TooLarge)),
-    (6, 6, Err(CursorEnd::Ended)),
-    (7, 6, Err(CursorEnd::Ended)),
-];
+static PARTS: Table = Table {
+    rows: 8,
+    fields: 3,
+    text: r"
+6 | 5 | 5 last
+9 | 5 | 5 last
+6 | 4 | 4 more
+5 | 4 | 4 more
+5 | 5 | too large
+0 | 0 | too large
+6 | 6 | ended
+7 | 6 | ended
+",
+};
+
+type Rest = Result<(usize, bool), CursorEnd>;
+
+fn rest_of(rt: &impl Abort, row: Row<'_>) -> Rest {
+    match field(rt, row, 2) {
+        "5 last" => Ok((5, true)),
+        "4 more" => Ok((4, false)),
+        "too large" => Err(CursorEnd::TooLarge),
+        "ended" => Err(CursorEnd::Ended),
+        _ => panic!(rt; "no rest"),
+    }
+}
 
 /// The bytes behind the first, and whether they are the last.
-fn rest(
-    rt: &impl Abort,
-    alloc: Global,
-    pieces: (usize, usize),
-    limit: u32,
-    n: u32,
-) -> Result<(usize, bool), CursorEnd> {
+fn rest(rt: &impl Abort, alloc: Global, pieces: (usize, usize), limit: u32, n: u32) -> Rest {
     let made = FaultlessSource::new(alloc, &BYTES, pieces.0, pieces.1);
     let mut source = made.expect(rt, "a source");
     let (byte, out, ended, at) = parts(alloc, &mut source, limit, n)?;
-    assert_eq!(rt; byte, 7);
-    assert_eq!(rt; at as usize, out.len().wrapping_add(1));
-    assert!(rt; BYTES[1..].starts_with(&out));
+    holds(rt, byte == 7, "the first byte");
+    holds(rt, at as usize == out.len().wrapping_add(1), "the place");
+    holds(rt, BYTES[1..].starts_with(&out), "the bytes behind");
     Ok((out.len(), ended))
+}
+
+fn ask_rest(rt: &impl Abort, alloc: Global, row: Row<'_>) -> usize {
+    let want = rest_of(rt, row);
+    let (limit, n) = (number(rt, row, 0), number(rt, row, 1));
+    let mut count = 0usize;
+    for word in PIECES.split_whitespace() {
+        let pieces = pieces(rt, word);
+        let got = rest(rt, alloc, pieces, limit, n);
+        holds_of(rt, row, pieces.1, got == want);
+        count = count.wrapping_add(1);
+    }
+    count
 }
 
 #[test]
 fn gives_the_same_in_any_pieces(rt: HostRuntime) {
-    for pieces in PIECES.iter() {
-        for (limit, n, want) in PARTS.iter() {
-            let got = rest(&rt, rt.alloc(), *pieces, *limit, *n);
-            assert_eq!(rt; got, *want, "{pieces:?}, limit {limit}, {n} bytes");
-        }
+    for row in PARTS.rows(rt.alloc()).expect(&rt, "rows").iter() {
+        let count = ask_rest(&rt, rt.alloc(), *row);
+        holds(&rt, count == 8, "pieces");
     }
 }
 
@@ -100,8 +115,9 @@ fn first_where(rt: &impl Abort, alloc: Global, failing: u64) -> (Result<u8, Curs
 #[test]
 fn tells_faults(rt: HostRuntime) {
     let alloc = rt.alloc();
-    assert_eq!(rt; first_where(&rt, alloc, 0), (Err(CursorEnd::ReadFault), 1));
-    assert_eq!(rt; first_where(&rt, alloc, 1), (Ok(7), 0));
+    let failed = first_where(&rt, alloc, 0);
+    holds(&rt, failed == (Err(CursorEnd::ReadFault), 1), "a fault");
+    holds(&rt, first_where(&rt, alloc, 1) == (Ok(7), 0), "no fault");
 }
 
 #[test]
@@ -109,9 +125,13 @@ fn loses_nothing_at_a_failed_read(rt: HostRuntime) {
     let alloc = rt.alloc();
     let made = MemorySource::new(alloc, &[7, 8, 9], 1, 0, &[0, 2]);
     let mut source = made.expect(&rt, "a source");
-    assert_eq!(rt; first(alloc, &mut source), Err(CursorEnd::ReadFault));
-    assert_eq!(rt; first(alloc, &mut source), Ok(7));
-    assert_eq!(rt; first(alloc, &mut source), Err(CursorEnd::ReadFault));
-    assert_eq!(rt; first(alloc, &mut source), Ok(8));
-    assert_eq!(rt; source.faults(), 2);
+    for want in [
+        Err(CursorEnd::ReadFault),
+        Ok(7),
+        Err(CursorEnd::ReadFault),
+        Ok(8),
+    ] {
+        holds(&rt, first(alloc, &mut source) == want, "a read");
+    }
+    holds(&rt, source.faults() == 2, "the faults");
 }

@@ -1,48 +1,48 @@
-ghost use Rattle.std.specs.Prelude.{All, IfOk};
+ghost use Rattle.std.specs.Prelude.{All};
 ghost use Rattle.amf_io.specs.Dial.{IsFresh};
 ghost use Rattle.amf_io.specs.InMemory.{failures, sink_failures};
 
+use crate::checks::holds;
 use amf_io::{
     Dial, FaultlessDial, FaultlessLink, FaultlessSink, FaultlessSource, Joined, Link, MemoryDial,
-    MemoryLink, MemorySink, MemorySource, OpenEnd, TcpDial,
+    MemoryLink, MemorySink, MemorySource, OpenEnd, TcpDial, TcpLink,
 };
-use amf_wire::Memory;
 use std::alloc::Global;
 use std::io::{Read, Write};
-use std::net::TcpListener;
+use std::net::{TcpListener, TcpStream};
 use std::process::Abort;
-use std::test::Fail;
-
-fn holds(rt: &impl Abort, right: bool, label: &str) {
-    assert!(rt; right, "{label}");
-}
 
 /// A link that gives one byte, and whose second read fails.
-fn link(alloc: Global, byte: u8) -> Result<MemoryLink, Memory>
-    ensures { IfOk result (λ l. IsFresh (failures l.source) (sink_failures l.sink)) }
+fn link(rt: &impl Abort, alloc: Global, byte: u8) -> MemoryLink
+    ensures { IsFresh (failures result.source) (sink_failures result.sink) }
 {
-    Ok(Joined {
-        source: MemorySource::new(alloc, &[byte], 1, 0, &[1])?,
-        sink: MemorySink::new(alloc, 1, &[])?,
-    })
+    let source = MemorySource::new(alloc, &[byte], 1, 0, &[1]).expect(rt, "a source");
+    let sink = MemorySink::new(alloc, 1, &[]).expect(rt, "a sink");
+    Joined { source, sink }
 }
 
 /// A dial of two links, whose second call fails.
-fn dial_of_two(alloc: Global) -> Result<MemoryDial<MemoryLink>, Memory> {
+fn dial_of_two(rt: &impl Abort, alloc: Global) -> MemoryDial<MemoryLink> {
     let mut links = Vec::new(alloc);
-    links.push(link(alloc, 7)?)?;
-    links.push(link(alloc, 8)?)?;
-    MemoryDial::new(alloc, links, &[1])
+    links.push(link(rt, alloc, 7)).expect(rt, "memory");
+    links.push(link(rt, alloc, 8)).expect(rt, "memory");
+    MemoryDial::new(alloc, links, &[1]).expect(rt, "a dial")
+}
+
+/// A link without faults that gives one byte.
+fn faultless_link(rt: &impl Abort, alloc: Global, byte: u8) -> FaultlessLink {
+    let source = FaultlessSource::new(alloc, &[byte], 1, 0).expect(rt, "a source");
+    let sink = FaultlessSink::new(alloc, 1).expect(rt, "a sink");
+    Joined { source, sink }
 }
 
 /// A dial of one link.
-fn faultless_dial(alloc: Global) -> Result<FaultlessDial<FaultlessLink>, Memory> {
+fn faultless_dial(rt: &impl Abort, alloc: Global) -> FaultlessDial<FaultlessLink> {
     let mut links = Vec::new(alloc);
-    links.push(Joined {
-        source: FaultlessSource::new(alloc, &[9], 1, 0)?,
-        sink: FaultlessSink::new(alloc, 1)?,
-    })?;
-    FaultlessDial::new(alloc, links)
+    links
+        .push(faultless_link(rt, alloc, 9))
+        .expect(rt, "memory");
+    FaultlessDial::new(alloc, links).expect(rt, "a dial")
 }
 
 /// What a peer at a port says first: a byte, how the dial ends, or that it says nothing. Then the link is read once
@@ -64,7 +64,7 @@ fn first_byte<D: Dial>(dial: &mut D, port: u16, again: bool) -> Result<Option<u8
 
 #[test]
 fn a_dial_gives_its_links_in_order(rt: HostRuntime) {
-    let mut dial = dial_of_two(rt.alloc()).expect(&rt, "a dial");
+    let mut dial = dial_of_two(&rt, rt.alloc());
     let first = first_byte(&mut dial, 80, false);
     holds(&rt, first == Ok(Some(7)), "the first link");
     let planned = first_byte(&mut dial, 81, false);
@@ -86,7 +86,7 @@ fn a_dial_gives_its_links_in_order(rt: HostRuntime) {
 
 #[test]
 fn a_dial_without_faults_gives_what_it_has(rt: HostRuntime) {
-    let mut dial = faultless_dial(rt.alloc()).expect(&rt, "a dial");
+    let mut dial = faultless_dial(&rt, rt.alloc());
     let first = first_byte(&mut dial, 80, true);
     holds(&rt, first == Ok(Some(9)), "its link");
     let none = first_byte(&mut dial, 80, false);
@@ -94,31 +94,44 @@ fn a_dial_without_faults_gives_what_it_has(rt: HostRuntime) {
     holds(&rt, dial.returned().len() == 1, "one link came back");
 }
 
+/// Whether each side reads what the other one writes.
+fn meet(link: &mut TcpLink, peer: &mut TcpStream) -> bool {
+    let mut room = [0u8; 2];
+    if !matches!(peer.write(b"hi"), Ok(2)) || link.read(&mut room) != Ok(2) || &room != b"hi" {
+        return false;
+    }
+    link.write(b"ok") == Ok(2) && matches!(peer.read(&mut room), Ok(2)) && &room == b"ok"
+}
+
+/// Whether the peer finds its link closed.
+fn is_closed(peer: &mut TcpStream) -> bool {
+    matches!(peer.read(&mut [0u8; 2]), Ok(0))
+}
+
+/// Dials a listener, which answers.
+fn dials<D: Dial<Link = TcpLink>>(
+    rt: &impl Abort,
+    dial: &mut D,
+    port: u16,
+    listener: &TcpListener,
+) {
+    let mut link = match dial.dial(port) {
+        Ok(link) => link,
+        Err(_) => panic!(rt; "no link"),
+    };
+    let (mut peer, _) = listener.accept().expect(rt, "a peer");
+    holds(rt, meet(&mut link, &mut peer), "what is written is read");
+    dial.back(link);
+    holds(rt, is_closed(&mut peer), "a link that went back is closed");
+}
+
 /// A connection is made by the system before the listener asks for it, so one thread plays both sides.
 #[test]
-fn dials_over_loopback(rt: HostRuntime) -> Result<(), Fail> {
-    let listener = TcpListener::bind(&rt, "127.0.0.1:0")?;
-    let port = listener.local_addr()?.port();
+fn dials_over_loopback(rt: HostRuntime) {
+    let listener = TcpListener::bind(&rt, "127.0.0.1:0").expect(&rt, "a listener");
+    let port = listener.local_addr().expect(&rt, "an address").port();
     let mut dial = TcpDial::new(rt);
-    let Ok(link) = dial.dial(port) else {
-        return Err("no link")?;
-    };
-    let mut link = link;
-    let (mut peer, _) = listener.accept()?;
-    let mut room = [0u8; 2];
-    if peer.write(b"hi")? != 2 || link.read(&mut room) != Ok(2) || &room != b"hi" {
-        return Err("what the peer says is read")?;
-    }
-    if link.write(b"ok") != Ok(2) || peer.read(&mut room)? != 2 || &room != b"ok" {
-        return Err("what is written reaches the peer")?;
-    }
-    dial.back(link);
-    if peer.read(&mut room)? != 0 {
-        return Err("a link that went back is closed")?;
-    }
+    dials(&rt, &mut dial, port, &listener);
     drop(listener);
-    if dial.dial(port).is_ok() {
-        return Err("nobody listens any more")?;
-    }
-    Ok(())
+    holds(&rt, dial.dial(port).is_err(), "nobody listens any more");
 }

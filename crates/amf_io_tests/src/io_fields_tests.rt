@@ -1,12 +1,12 @@
 ghost use Rattle.std.specs.Prelude.{◌≤◌};
 ghost use Rattle.amf_io.specs.Cursor.{bound};
 
+use crate::checks::holds;
 use amf_io::{
     Cursor, CursorEnd, MemorySource, ReadEnd, Reason, Source, append_basic, append_exactly,
     append_field, append_raw, read_end, refused,
 };
 use std::alloc::Global;
-use std::process::Abort;
 
 /// A field to append behind a byte that was there.
 #[derive(Clone, Copy)]
@@ -41,39 +41,58 @@ static FIELDS: [(&[u8], Wanted, Result<&[u8], Reason>); 12] = [
     (b"", Wanted::Basic, Err(Reason::Truncated)),
 ];
 
-fn holds(rt: &impl Abort, right: bool, number: usize, label: &str) {
-    assert!(rt; right, "{label} of {number}");
+/// Appends the field that is wanted.
+fn append<S: Source>(
+    cursor: &mut Cursor<'_, S>,
+    wanted: Wanted,
+    out: &mut Vec<u8>,
+) -> Result<(), ReadEnd> {
+    match wanted {
+        Wanted::Field(0) | Wanted::Raw(0) => Ok(()),
+        Wanted::Field(size) => append_field(cursor, size, out),
+        Wanted::Raw(size) => append_raw(cursor, size, out),
+        Wanted::Exactly(bytes) if bytes.is_empty() || bytes.len() > 1000 => Ok(()),
+        Wanted::Exactly(bytes) => append_exactly(cursor, bytes, Reason::BadSignature, out),
+        Wanted::Basic => append_basic(cursor, out),
+    }
 }
 
-/// Appends the field, of an input of at most four bytes that comes in pieces of at most `most`.
-fn appended(alloc: Global, input: &[u8], most: usize, wanted: Wanted) -> Result<Vec<u8>, ReadEnd> {
+/// Appends the field, of an input of at most four bytes that comes in pieces of at most `most`, behind a byte.
+fn appended(
+    alloc: Global,
+    input: &[u8],
+    most: usize,
+    wanted: Wanted,
+    out: &mut Vec<u8>,
+) -> Result<(), ReadEnd> {
+    out.push(0xAA)?;
     let mut source = MemorySource::new(alloc, input, most, 0, &[])?;
     let mut cursor = Cursor::new(alloc, &mut source, 4)?;
-    let mut out = vec![in alloc; 0xAA]?;
-    match wanted {
-        Wanted::Field(0) | Wanted::Raw(0) => {}
-        Wanted::Field(size) => append_field(&mut cursor, size, &mut out)?,
-        Wanted::Raw(size) => append_raw(&mut cursor, size, &mut out)?,
-        Wanted::Exactly(bytes) if bytes.is_empty() || bytes.len() > 1000 => {}
-        Wanted::Exactly(bytes) => {
-            append_exactly(&mut cursor, bytes, Reason::BadSignature, &mut out)?
-        }
-        Wanted::Basic => append_basic(&mut cursor, &mut out)?,
+    append(&mut cursor, wanted, out)
+}
+
+/// Whether this is appended behind the byte, or ends so.
+fn is_appended(
+    alloc: Global,
+    input: &[u8],
+    most: usize,
+    wanted: Wanted,
+    want: &Result<&[u8], Reason>,
+) -> bool {
+    let mut out = Vec::new(alloc);
+    match (appended(alloc, input, most, wanted, &mut out), want) {
+        (Ok(()), Ok(want)) => out.len() > 0 && out[0] == 0xAA && &&out[1..] == want,
+        (Err(got), Err(want)) => got == refused(*want, 0),
+        _ => false,
     }
-    Ok(out)
 }
 
 #[test]
 fn fields_are_appended(rt: HostRuntime) {
-    for (number, (input, wanted, want)) in FIELDS.iter().enumerate() {
+    for (input, wanted, want) in FIELDS.iter() {
         for most in [1usize, 2, 3, 100] {
-            let got = appended(rt.alloc(), input, most, *wanted);
-            let right = match (&got, want) {
-                (Ok(got), Ok(want)) => got.len() > 0 && got[0] == 0xAA && &&got[1..] == want,
-                (Err(got), Err(want)) => *got == refused(*want, 0),
-                _ => false,
-            };
-            holds(&rt, right, number, "field");
+            let right = is_appended(rt.alloc(), input, most, *wanted, want);
+            assert!(rt; right, "{input:?} in pieces of {most}");
         }
     }
 }
@@ -104,5 +123,9 @@ fn read_past<S: Source>(cursor: &mut Cursor<'_, S>) -> Result<(u8, u8, bool, u8,
 #[test]
 fn a_raised_limit_lets_more_bytes_through(rt: HostRuntime) {
     let got = raised(rt.alloc());
-    holds(&rt, got == Ok((b'a', b'b', true, b'c', true)), 3, "bytes");
+    holds(
+        &rt,
+        got == Ok((b'a', b'b', true, b'c', true)),
+        "three bytes",
+    );
 }

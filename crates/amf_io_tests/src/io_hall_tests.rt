@@ -1,160 +1,211 @@
-ghost use Rattle.std.specs.Prelude.{◌≡◌, length, IfOk};
+ghost use Rattle.std.specs.Prelude.{◌≡◌, length};
 
+use crate::checks::holds;
 use amf_io::{
     Clock, Dice, Failed, FaultlessFront, FaultlessHall, FaultlessLink, FaultlessSink,
     FaultlessSource, Front, Gate, Hall, Joined, Link, MemoryFront, MemoryHall, MemoryLink,
     MemorySink, MemorySource, OpenEnd, OpenGate,
 };
-use amf_wire::Memory;
 use std::alloc::Global;
+use std::process::Abort;
 
 /// A link that gives one byte, and whose reads fail once.
-fn link(alloc: Global, byte: u8) -> Result<MemoryLink, Memory> {
-    Ok(Joined {
-        source: MemorySource::new(alloc, &[byte], 1, 0, &[1])?,
-        sink: MemorySink::new(alloc, 1, &[1])?,
-    })
+fn link(rt: &impl Abort, alloc: Global, byte: u8) -> MemoryLink {
+    let source = MemorySource::new(alloc, &[byte], 1, 0, &[1]).expect(rt, "a source");
+    let sink = MemorySink::new(alloc, 1, &[1]).expect(rt, "a sink");
+    Joined { source, sink }
 }
 
 /// A hall of two links, whose second call fails.
-fn hall(alloc: Global) -> Result<MemoryHall<MemoryLink>, Memory>
-    ensures whole { IfOk result (λ h. h.failed ≡ 0) }
-    ensures fresh { IfOk result (λ h. length h.links.served.items ≡ 0) }
+fn hall(rt: &impl Abort, alloc: Global) -> MemoryHall<MemoryLink>
+    ensures whole { result.failed ≡ 0 }
+    ensures fresh { length result.links.served.items ≡ 0 }
 {
     let mut links = Vec::new(alloc);
-    links.push(link(alloc, 7)?)?;
-    links.push(link(alloc, 8)?)?;
-    MemoryHall::new(alloc, links, &[5], &[6], &[1])
+    links.push(link(rt, alloc, 7)).expect(rt, "memory");
+    links.push(link(rt, alloc, 8)).expect(rt, "memory");
+    MemoryHall::new(alloc, links, &[5], &[6], &[1]).expect(rt, "a hall")
+}
+
+/// A link without faults that gives one byte.
+fn faultless_link(rt: &impl Abort, alloc: Global, byte: u8) -> FaultlessLink {
+    let source = FaultlessSource::new(alloc, &[byte], 1, 0).expect(rt, "a source");
+    let sink = FaultlessSink::new(alloc, 1).expect(rt, "a sink");
+    Joined { source, sink }
 }
 
 /// A hall of one link.
-fn faultless_hall(alloc: Global) -> Result<FaultlessHall<FaultlessLink>, Memory>
-    ensures { IfOk result (λ h. length h.links.served.items ≡ 0) }
+fn faultless_hall(rt: &impl Abort, alloc: Global) -> FaultlessHall<FaultlessLink>
+    ensures { length result.links.served.items ≡ 0 }
 {
     let mut links = Vec::new(alloc);
-    links.push(Joined {
-        source: FaultlessSource::new(alloc, &[9], 1, 0)?,
-        sink: FaultlessSink::new(alloc, 1)?,
-    })?;
-    FaultlessHall::new(alloc, links, &[5], &[6])
+    links
+        .push(faultless_link(rt, alloc, 9))
+        .expect(rt, "memory");
+    FaultlessHall::new(alloc, links, &[5], &[6]).expect(rt, "a hall")
 }
 
 #[test]
 fn a_link_fails_on_each_side_by_itself(rt: HostRuntime) {
-    let mut link = link(rt.alloc(), 7).expect(&rt, "a link");
+    let mut link = link(&rt, rt.alloc(), 7);
     let mut room = [0u8; 2];
-    assert_eq!(rt; link.read(&mut room), Ok(1));
-    assert_eq!(rt; room[0], 7);
-    assert_eq!(rt; link.write(b"ab"), Ok(1));
-    assert_eq!(rt; link.read(&mut room), Err(Failed));
-    assert_eq!(rt; link.flush(), Err(Failed));
-    assert_eq!(rt; link.read(&mut room), Ok(0));
-    assert_eq!(rt; link.flush(), Ok(()));
-    assert_eq!(rt; link.source.faults(), 1);
-    assert_eq!(rt; link.sink.faults(), 1);
-    assert_eq!(rt; link.sink.as_bytes(), b"a".as_slice());
+    holds(&rt, link.read(&mut room) == Ok(1), "one byte");
+    holds(&rt, room[0] == 7, "the byte");
+    holds(&rt, link.write(b"ab") == Ok(1), "one is taken");
+    holds(&rt, link.read(&mut room) == Err(Failed), "a failed read");
+    holds(&rt, link.flush() == Err(Failed), "a failed flush");
+    holds(&rt, link.read(&mut room) == Ok(0), "the end");
+    holds(&rt, link.flush() == Ok(()), "a flush");
+    holds(&rt, link.source.faults() == 1, "faults of reads");
+    holds(&rt, link.sink.faults() == 1, "faults of writes");
+    holds(
+        &rt,
+        link.sink.as_bytes() == b"a".as_slice(),
+        "what was taken",
+    );
+}
+
+/// What the next link gives, if one comes, which goes back then.
+fn next_byte<H: Hall>(hall: &mut H) -> Result<Option<u8>, Failed> {
+    match hall.next() {
+        Ok(Some(link)) => {
+            let mut link = link;
+            let byte = one_byte(&mut link);
+            hall.back(link);
+            byte
+        }
+        Ok(None) => Ok(None),
+        Err(end) => Err(end),
+    }
+}
+
+/// The one byte that a link gives.
+fn one_byte<L: Link>(link: &mut L) -> Result<Option<u8>, Failed> {
+    let mut room = [0u8; 1];
+    match link.read(&mut room) {
+        Ok(1) => Ok(Some(room[0])),
+        _ => Err(Failed),
+    }
+}
+
+/// Looks at the moments and words of a hall that has one of each.
+fn tells_numbers<H: Hall>(rt: &impl Abort, hall: &mut H) {
+    let told = [hall.now(), hall.word(), hall.now(), hall.word()];
+    holds(rt, told == [5, 6, 0, 0], "moments and words");
+}
+
+/// Looks at the links of a hall of two.
+fn gives_two_links(rt: &impl Abort, hall: &mut MemoryHall<MemoryLink>) {
+    holds(rt, next_byte(hall) == Ok(Some(7)), "the first link");
+    holds(rt, next_byte(hall) == Err(Failed), "a failed call");
+    holds(rt, next_byte(hall) == Ok(Some(8)), "the second link");
+    holds(rt, matches!(hall.next(), Ok(None)), "no more links");
+    holds(rt, hall.served().len() == 2, "two links");
+    holds(rt, hall.faults() == 1, "one fault");
 }
 
 #[test]
 fn a_hall_gives_its_links_in_order(rt: HostRuntime) {
-    let mut hall = hall(rt.alloc()).expect(&rt, "a hall");
-    assert_eq!(rt;
-        [hall.now(), hall.word(), hall.now(), hall.word()],
-        [5, 6, 0, 0]
-    );
-    let mut room = [0u8; 1];
-    for byte in [7u8, 8] {
-        let mut next = hall.next();
-        if byte == 8 {
-            assert!(rt; next.is_err());
-            next = hall.next();
-        }
-        let Ok(Some(link)) = next else {
-            panic!(rt; "no link");
-        };
-        let mut link = link;
-        assert_eq!(rt; link.read(&mut room), Ok(1));
-        assert_eq!(rt; room[0], byte);
-        hall.back(link);
-    }
-    assert!(rt; matches!(hall.next(), Ok(None)));
-    assert_eq!(rt; hall.served().len(), 2);
-    assert_eq!(rt; hall.faults(), 1);
-    hall.back(link(rt.alloc(), 9).expect(&rt, "a link"));
-    assert_eq!(rt; hall.served().len(), 2);
+    let mut hall = hall(&rt, rt.alloc());
+    tells_numbers(&rt, &mut hall);
+    gives_two_links(&rt, &mut hall);
+    hall.back(link(&rt, rt.alloc(), 9));
+    holds(&rt, hall.served().len() == 2, "still two links");
 }
 
 /// A front of three halls, whose first call fails.
-fn front(alloc: Global) -> Result<MemoryFront<MemoryLink>, Memory> {
-    let first = hall(alloc)?;
-    let second = hall(alloc)?;
-    let third = hall(alloc)?;
-    MemoryFront::new(alloc, vec![in alloc; first, second, third]?, &[0])
+fn front(rt: &impl Abort, alloc: Global) -> MemoryFront<MemoryLink> {
+    let mut halls = Vec::new(alloc);
+    halls.push(hall(rt, alloc)).expect(rt, "memory");
+    halls.push(hall(rt, alloc)).expect(rt, "memory");
+    halls.push(hall(rt, alloc)).expect(rt, "memory");
+    MemoryFront::new(alloc, halls, &[0]).expect(rt, "a front")
 }
 
 /// A front of one hall.
-fn faultless_front(alloc: Global) -> Result<FaultlessFront<FaultlessLink>, Memory> {
-    let only = faultless_hall(alloc)?;
-    FaultlessFront::new(alloc, vec![in alloc; only]?)
+fn faultless_front(rt: &impl Abort, alloc: Global) -> FaultlessFront<FaultlessLink> {
+    let mut halls = Vec::new(alloc);
+    halls.push(faultless_hall(rt, alloc)).expect(rt, "memory");
+    FaultlessFront::new(alloc, halls).expect(rt, "a front")
 }
+
+/// How many halls a front gives for so many workers. Each gives a link, and where there are two the next call fails.
+fn opened(
+    rt: &impl Abort,
+    alloc: Global,
+    front: &mut MemoryFront<MemoryLink>,
+    workers: u32,
+) -> Result<usize, OpenEnd> {
+    let halls = front.open(alloc, 8080, workers)?;
+    let count = halls.len();
+    for hall in halls {
+        let mut hall = hall;
+        holds(rt, matches!(hall.next(), Ok(Some(_))), "a link");
+        if workers == 2 {
+            holds(rt, hall.next().is_err(), "a failed call");
+        }
+        front.back(hall);
+    }
+    Ok(count)
+}
+
+/// For how many workers a front is asked, and how many halls it gives.
+static OPENED: [(u32, Result<usize, OpenEnd>); 4] = [
+    (1, Err(OpenEnd::Failed)),
+    (2, Ok(2)),
+    (2, Err(OpenEnd::Failed)),
+    (1, Ok(1)),
+];
 
 #[test]
 fn a_front_gives_a_hall_for_each_worker(rt: HostRuntime) {
-    let alloc = rt.alloc();
-    let mut front = front(alloc).expect(&rt, "a front");
-    for (workers, want) in [
-        (1u32, Err(OpenEnd::Failed)),
-        (2, Ok(2usize)),
-        (2, Err(OpenEnd::Failed)),
-        (1, Ok(1)),
-    ] {
-        let got = match front.open(alloc, 8080, workers) {
-            Ok(halls) => {
-                let count = halls.len();
-                for hall in halls {
-                    let mut hall = hall;
-                    assert!(rt; matches!(hall.next(), Ok(Some(_))));
-                    if workers == 2 {
-                        assert!(rt; hall.next().is_err());
-                    }
-                    front.back(hall);
-                }
-                Ok(count)
-            }
-            Err(end) => Err(end),
-        };
-        assert_eq!(rt; got, want);
+    let mut front = front(&rt, rt.alloc());
+    for (workers, want) in OPENED.iter() {
+        let got = opened(&rt, rt.alloc(), &mut front, *workers);
+        holds(&rt, got == *want, "how many halls");
     }
-    assert_eq!(rt;
-        front.asked(),
-        [(8080u16, 1u32), (8080, 2), (8080, 2), (8080, 1)].as_slice()
-    );
-    assert_eq!(rt; front.returned().len(), 3);
-    assert_eq!(rt; front.faults(), 4);
+    let asked = [(8080u16, 1u32), (8080, 2), (8080, 2), (8080, 1)];
+    holds(&rt, front.asked() == asked.as_slice(), "what was asked");
+    holds(&rt, front.returned().len() == 3, "what came back");
+    holds(&rt, front.faults() == 4, "the faults");
+}
+
+/// The one hall of a front.
+fn only_hall(
+    alloc: Global,
+    front: &mut FaultlessFront<FaultlessLink>,
+) -> Result<Option<FaultlessHall<FaultlessLink>>, OpenEnd> {
+    let mut halls = front.open(alloc, 80, 1)?;
+    Ok(halls.pop())
+}
+
+/// Looks at the one link of a hall without faults.
+fn gives_one_link(rt: &impl Abort, hall: &mut FaultlessHall<FaultlessLink>) {
+    tells_numbers(rt, hall);
+    holds(rt, next_byte(hall) == Ok(Some(9)), "the link");
+    holds(rt, matches!(hall.next(), Ok(None)), "no more links");
+    holds(rt, hall.served().len() == 1, "one link");
+}
+
+/// Looks at the one hall of a front, which goes back then.
+fn gives_one_hall(rt: &impl Abort, alloc: Global, front: &mut FaultlessFront<FaultlessLink>) {
+    match only_hall(alloc, front) {
+        Ok(Some(hall)) => {
+            let mut hall = hall;
+            gives_one_link(rt, &mut hall);
+            front.back(hall);
+        }
+        _ => panic!(rt; "no hall"),
+    }
 }
 
 #[test]
 fn a_front_without_faults_serves_with_what_it_has(rt: HostRuntime) {
-    let alloc = rt.alloc();
-    let mut front = faultless_front(alloc).expect(&rt, "a front");
-    assert!(rt; matches!(front.open(alloc, 80, 2), Err(OpenEnd::Memory)));
-    let mut halls = front.open(alloc, 80, 1).expect(&rt, "a hall");
-    let Some(hall) = halls.pop() else {
-        panic!(rt; "no hall");
-    };
-    let mut hall = hall;
-    assert_eq!(rt;
-        [hall.now(), hall.word(), hall.now(), hall.word()],
-        [5, 6, 0, 0]
-    );
-    let Ok(Some(link)) = hall.next() else {
-        panic!(rt; "no link");
-    };
-    hall.back(link);
-    assert!(rt; matches!(hall.next(), Ok(None)));
-    assert_eq!(rt; hall.served().len(), 1);
-    front.back(hall);
-    assert_eq!(rt; front.returned().len(), 1);
+    let mut front = faultless_front(&rt, rt.alloc());
+    let two = front.open(rt.alloc(), 80, 2);
+    holds(&rt, matches!(two, Err(OpenEnd::Memory)), "no two halls");
+    gives_one_hall(&rt, rt.alloc(), &mut front);
+    holds(&rt, front.returned().len() == 1, "one hall");
     OpenGate.before(0, 1);
     OpenGate.after(0, 1);
 }

@@ -2,9 +2,17 @@
 #![tactic(auto)]
 
 #[cfg(test)]
-mod http_loopback_tests;
+mod checks;
 #[cfg(test)]
-mod http_tests;
+mod fields;
+#[cfg(test)]
+mod http_firsts;
+#[cfg(test)]
+mod http_head_tests;
+#[cfg(test)]
+mod http_link_tests;
+#[cfg(test)]
+mod http_loopback_tests;
 #[cfg(test)]
 mod io_cursor_tests;
 #[cfg(test)]

@@ -1,143 +1,193 @@
+use crate::checks::{field, holds, holds_of, number};
+use crate::fields::{bits, integer};
+use amf_rows::{Row, Table};
 use amf_wire::{
     Name, NameEnd, Pattern, U29, U29Read, be16_at, be32_at, be64_at, first_bad, is_amf_text,
     one_shortest_u29, pattern_of, read_u29, sign29, unsign29, whole_numbers, whole_of,
     worked_facts, write_u29,
 };
-use std::test::Fail;
+use std::alloc::Global;
+use std::process::Abort;
 
-static NUMBERS: [(u32, &[u8]); 8] = [
-    (0, &[0x00]),
-    (0x7F, &[0x7F]),
-    (0x80, &[0x81, 0x00]),
-    (0x3FFF, &[0xFF, 0x7F]),
-    (0x4000, &[0x81, 0x80, 0x00]),
-    (0x1F_FFFF, &[0xFF, 0xFF, 0x7F]),
-    (0x20_0000, &[0x80, 0xC0, 0x80, 0x00]),
-    (0x1FFF_FFFF, &[0xFF, 0xFF, 0xFF, 0xFF]),
-];
+/// Numbers and how they are spelled.
+static NUMBERS: Table = Table {
+    rows: 8,
+    fields: 2,
+    text: r"
+0         | 00
+127       | 7F
+128       | 81 00
+16383     | FF 7F
+16384     | 81 80 00
+2097151   | FF FF 7F
+2097152   | 80 C0 80 00
+536870911 | FF FF FF FF
+",
+};
 
-#[test]
-fn spells_numbers(rt: HostRuntime) -> Result<(), Fail> {
-    for (number, bytes) in NUMBERS.iter() {
-        let n = U29::new(*number).ok_or("a number of 29 bits")?;
-        let written = write_u29(n);
-        assert_eq!(rt; written.as_slice(), *bytes);
-        let used = written.len;
-        assert_eq!(rt; read_u29(bytes), U29Read::Whole { value: n, used });
-    }
-    assert_eq!(rt; U29::new(1 << 29), None);
-    assert_eq!(rt; read_u29(&[0x80, 0x80, 0x80]), U29Read::Short);
-    Ok(())
+fn number_of(rt: &impl Abort, row: Row<'_>) -> U29 {
+    U29::new(number(rt, row, 0)).expect(rt, "a number of 29 bits")
 }
 
-static INTEGERS: [(u32, i32); 5] = [
-    (0, 0),
-    (0x0FFF_FFFF, 268_435_455),
-    (0x1000_0000, -268_435_456),
-    (0x1FFF_FFFF, -1),
-    (5, 5),
-];
-
-#[test]
-fn reads_integers(rt: HostRuntime) -> Result<(), Fail> {
-    for (bits, integer) in INTEGERS.iter() {
-        let n = U29::new(*bits).ok_or("a number of 29 bits")?;
-        assert_eq!(rt; sign29(n), *integer);
-        assert_eq!(rt; unsign29(*integer), Some(n));
-    }
-    assert_eq!(rt; unsign29(268_435_456), None);
-    assert_eq!(rt; unsign29(-268_435_457), None);
-    Ok(())
+fn spells(rt: &impl Abort, alloc: Global, row: Row<'_>) {
+    let value = number_of(rt, row);
+    let bytes = row.bytes(alloc, 1).expect(rt, "bytes");
+    let written = write_u29(value);
+    let used = written.len;
+    holds_of(rt, row, 0, written.as_slice() == bytes.as_slice());
+    let read = read_u29(&bytes) == U29Read::Whole { value, used };
+    holds_of(rt, row, 1, read);
 }
 
 #[test]
-fn reads_big_endian(rt: HostRuntime) -> Result<(), Fail> {
+fn spells_numbers(rt: HostRuntime) {
+    for row in NUMBERS.rows(rt.alloc()).expect(&rt, "rows").iter() {
+        spells(&rt, rt.alloc(), *row);
+    }
+    holds(&rt, U29::new(1 << 29).is_none(), "more than 29 bits");
+    let short = read_u29(&[0x80, 0x80, 0x80]) == U29Read::Short;
+    holds(&rt, short, "a fourth byte is lacking");
+}
+
+/// Numbers of 29 bits, and the integers that they stand for.
+static INTEGERS: Table = Table {
+    rows: 5,
+    fields: 2,
+    text: r"
+0         | 0
+268435455 | 268435455
+268435456 | -268435456
+536870911 | -1
+5         | 5
+",
+};
+
+fn is_integer(rt: &impl Abort, row: Row<'_>) {
+    let number = number_of(rt, row);
+    let integer = i32::try_from(integer(rt, row, 1)).expect(rt, "an integer");
+    holds_of(rt, row, 0, sign29(number) == integer);
+    holds_of(rt, row, 1, unsign29(integer) == Some(number));
+}
+
+#[test]
+fn reads_integers(rt: HostRuntime) {
+    for row in INTEGERS.rows(rt.alloc()).expect(&rt, "rows").iter() {
+        is_integer(&rt, *row);
+    }
+    holds(&rt, unsign29(268_435_456).is_none(), "too large");
+    holds(&rt, unsign29(-268_435_457).is_none(), "too small");
+}
+
+#[test]
+fn reads_big_endian(rt: HostRuntime) {
     let bytes = [9, 1, 2, 3, 4, 5, 6, 7, 8];
-    assert_eq!(rt; be16_at(&bytes, 1), 0x0102);
-    assert_eq!(rt; be32_at(&bytes, 1), 0x0102_0304);
-    assert_eq!(rt; be64_at(&bytes, 1), 0x0102_0304_0506_0708);
-    Ok(())
+    holds(&rt, be16_at(&bytes, 1) == 0x0102, "16 bits");
+    holds(&rt, be32_at(&bytes, 1) == 0x0102_0304, "32 bits");
+    holds(&rt, be64_at(&bytes, 1) == 0x0102_0304_0506_0708, "64 bits");
 }
 
-static WHOLE_NUMBERS: [(i64, u64); 8] = [
-    (0, 0),
-    (1, 0x3FF0_0000_0000_0000),
-    (-1, 0xBFF0_0000_0000_0000),
-    (5, 0x4014_0000_0000_0000),
-    (-5, 0xC014_0000_0000_0000),
-    (268_435_455, 0x41AF_FFFF_FE00_0000),
-    (9_007_199_254_740_991, 0x433F_FFFF_FFFF_FFFF),
-    (-9_007_199_254_740_991, 0xC33F_FFFF_FFFF_FFFF),
-];
+/// Doubles and the whole numbers that they are, if any.
+static DOUBLES: Table = Table {
+    rows: 16,
+    fields: 2,
+    text: r"
+0000000000000000 | 0
+3FF0000000000000 | 1
+BFF0000000000000 | -1
+4014000000000000 | 5
+C014000000000000 | -5
+41AFFFFFFE000000 | 268435455
+433FFFFFFFFFFFFF | 9007199254740991
+C33FFFFFFFFFFFFF | -9007199254740991
+# Minus zero, a half, one and a half, 2^53, 2^60, the least number, infinity and a not-a-number.
+8000000000000000 | none
+3FE0000000000000 | none
+3FF8000000000000 | none
+4340000000000000 | none
+43B0000000000000 | none
+0000000000000001 | none
+7FF0000000000000 | none
+7FF8000000000000 | none
+",
+};
 
-/// Minus zero, a half, one and a half, 2^53, 2^60, the least number, infinity and a not-a-number.
-static OTHERS: [u64; 8] = [
-    0x8000_0000_0000_0000,
-    0x3FE0_0000_0000_0000,
-    0x3FF8_0000_0000_0000,
-    0x4340_0000_0000_0000,
-    0x43B0_0000_0000_0000,
-    1,
-    0x7FF0_0000_0000_0000,
-    0x7FF8_0000_0000_0000,
-];
+fn is_double(rt: &impl Abort, row: Row<'_>) {
+    let pattern = Pattern(bits(rt, row, 0));
+    if field(rt, row, 1) == "none" {
+        holds_of(rt, row, 0, whole_of(pattern).is_none());
+    } else {
+        let whole = integer(rt, row, 1);
+        holds_of(rt, row, 0, whole_of(pattern) == Some(whole));
+        holds_of(rt, row, 1, pattern_of(whole) == Some(pattern));
+    }
+}
 
 #[test]
-fn knows_whole_numbers(rt: HostRuntime) -> Result<(), Fail> {
-    for (whole, bits) in WHOLE_NUMBERS.iter() {
-        assert_eq!(rt; pattern_of(*whole), Some(Pattern(*bits)));
-        assert_eq!(rt; whole_of(Pattern(*bits)), Some(*whole));
+fn knows_whole_numbers(rt: HostRuntime) {
+    for row in DOUBLES.rows(rt.alloc()).expect(&rt, "rows").iter() {
+        is_double(&rt, *row);
     }
     for large in [9_007_199_254_740_992, i64::MAX, i64::MIN] {
-        assert_eq!(rt; pattern_of(large), None);
+        holds(&rt, pattern_of(large).is_none(), "a large number");
     }
-    for bits in OTHERS.iter() {
-        assert_eq!(rt; whole_of(Pattern(*bits)), None);
-    }
-    Ok(())
 }
 
-static TEXTS: [(&[u8], Option<usize>); 12] = [
-    (&[], None),
-    (b"plain", None),
-    (
-        &[0xC3, 0xA9, 0xE2, 0x82, 0xAC, 0xF0, 0x9F, 0x98, 0x80],
-        None,
-    ),
-    (&[0xC0, 0x80], None),
-    (&[0xED, 0xA0, 0x80, 0xED, 0xBF, 0xBF], None),
-    (&[0xFF], Some(0)),
-    (&[0x41, 0xC0, 0x81], Some(1)),
-    (&[0x41, 0xED], Some(1)),
-    (&[0x41, 0x42, 0xE2, 0x82], Some(2)),
-    (&[0xE0, 0x9F, 0x80], Some(0)),
-    (&[0xF4, 0x90, 0x80, 0x80], Some(0)),
-    (&[0x41, 0x80], Some(1)),
-];
+/// Bytes, and where they are no text, if anywhere.
+static TEXTS: Table = Table {
+    rows: 12,
+    fields: 2,
+    text: r"
+                                    | none
+'plain'                             | none
+C3 A9  E2 82 AC  F0 9F 98 80        | none
+C0 80                               | none
+ED A0 80  ED BF BF                  | none
+FF                                  | 0
+41  C0 81                           | 1
+41  ED                              | 1
+41  42  E2 82                       | 2
+E0 9F 80                            | 0
+F4 90 80 80                         | 0
+41  80                              | 1
+",
+};
 
-#[test]
-fn judges_texts(rt: HostRuntime) -> Result<(), Fail> {
-    for (bytes, bad) in TEXTS.iter() {
-        assert_eq!(rt; first_bad(bytes), *bad);
-        assert_eq!(rt; is_amf_text(bytes), bad.is_none());
-    }
-    Ok(())
+fn is_judged(rt: &impl Abort, alloc: Global, row: Row<'_>) {
+    let bytes = row.bytes(alloc, 0).expect(rt, "bytes");
+    let bad = match field(rt, row, 1) {
+        "none" => None,
+        _ => Some(number(rt, row, 1) as usize),
+    };
+    holds_of(rt, row, 0, first_bad(&bytes) == bad);
+    holds_of(rt, row, 1, is_amf_text(&bytes) == bad.is_none());
 }
 
 #[test]
-fn keeps_names(rt: HostRuntime) -> Result<(), Fail> {
-    let name = Name::from_bytes(rt.alloc(), b"caf\xC3\xA9")?;
-    assert_eq!(rt; name.as_bytes(), b"caf\xC3\xA9".as_slice());
-    let copied = name.copy(rt.alloc())?;
-    assert_eq!(rt; copied.as_bytes(), name.as_bytes());
-    let any = Name::of_bytes(rt.alloc(), &[0x41, 0xFF])?;
-    assert_eq!(rt; any.as_bytes(), [0x41, 0xFF].as_slice());
-    match Name::from_bytes(rt.alloc(), &[0x41, 0xFF]) {
-        Err(end) => assert_eq!(rt; end, NameEnd::BadText(1)),
-        Ok(_) => assert!(rt; false, "no text"),
+fn judges_texts(rt: HostRuntime) {
+    for row in TEXTS.rows(rt.alloc()).expect(&rt, "rows").iter() {
+        is_judged(&rt, rt.alloc(), *row);
     }
+}
+
+#[test]
+fn keeps_names(rt: HostRuntime) {
+    let name = Name::from_bytes(rt.alloc(), b"caf\xC3\xA9").expect(&rt, "a name");
+    holds(&rt, name.as_bytes() == b"caf\xC3\xA9".as_slice(), "a text");
+    let copied = name.copy(rt.alloc()).expect(&rt, "memory");
+    holds(&rt, copied.as_bytes() == name.as_bytes(), "a copy");
+}
+
+#[test]
+fn keeps_other_bytes(rt: HostRuntime) {
+    let name = Name::of_bytes(rt.alloc(), &[0x41, 0xFF]).expect(&rt, "a name");
+    holds(&rt, name.as_bytes() == [0x41, 0xFF].as_slice(), "any bytes");
+    let end = Name::from_bytes(rt.alloc(), &[0x41, 0xFF]).err();
+    holds(&rt, end == Some(NameEnd::BadText(1)), "no text");
+}
+
+#[test]
+fn laws_hold(_rt: HostRuntime) {
     worked_facts();
     one_shortest_u29();
     whole_numbers();
-    Ok(())
 }

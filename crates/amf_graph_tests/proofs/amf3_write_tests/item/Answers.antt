@@ -7,7 +7,7 @@ use Rattle.amf_graph.specs.Arena.{value_content}
 use Rattle.amf_graph.specs.Reached.{Holds, at_root}
 use Rattle.amf_graph.specs.Rooted.{content}
 use Rattle.amf3_write.proofs.WroteNodes.{shown}
-use Rattle.amf3_tests.proofs.amf3_write_tests.item.Goals as goal
+use Rattle.amf_graph_tests.proofs.amf3_write_tests.item.Goals as goal
 
 pub returns-in-Array-clause-reached : goal.returns-in-Array-clause-reached
 returns-in-Array-clause-reached c =
