@@ -3,7 +3,7 @@
 
     docs/trust_paths.py [--check]
 
-For each of four promises it follows the definitions that the promises of a run (`Ends`, `ServesWords` in crates/amf_cli/specs, which the
+For each of seven promises it follows the definitions that the promises of a run (`Ends`, `ServesWords` and `CallsWords` in crates/amf_cli/specs, which the
 contract of `run` cites) name, from name to name by the imports of each file, and lists them in an order in which they can be read. What a file says is its own first line. With --check nothing is
 written, and the status is 1 where the page is not what would be written.
 """
@@ -14,7 +14,7 @@ from pathlib import Path
 
 ROOT = Path(__file__).resolve().parent.parent
 PAGE = ROOT / "docs/TRUST.md"
-RUN = [ROOT / f"crates/amf_cli/specs/{name}.antt" for name in ("Ends", "ServesWords")]
+RUN = [ROOT / f"crates/amf_cli/specs/{name}.antt" for name in ("Ends", "ServesWords", "CallsWords")]
 
 FRONT = """# What a reader has to trust
 
@@ -22,10 +22,10 @@ A proof says that the code meets its contract. What the contract means is said i
 every proof above it worthless. So these files, with the contracts on the functions in `crates/NAME/src`, are what has to be read to know
 what is promised. The toolchain, and what else is trusted, are named in [PROMISES.md](PROMISES.md#what-it-stands-on).
 
-Nobody has to read all of them. Each of the four paths below lists what one promise rests on, in an order in which it can be read: each file
+Nobody has to read all of them. Each of the seven paths below lists what one promise rests on, in an order in which it can be read: each file
 with those of its definitions that the promise needs, and how many lines these have. A path ends with the definitions that the program's
-contract itself names; that contract is `Ends` and, for `serve`, `ServesWords` in `crates/amf_cli/specs`, which `run`, `start` and
-`start_with_services` cite, the last of the services in `shipped` of `crates/amf_service/specs/Shipped.antt`. Much of a later path is known
+contract itself names; that contract is `Ends`, for `serve` with `ServesWords` and for `call` with `CallsWords`, in `crates/amf_cli/specs`, which
+`run`, `start` and `start_with_services` cite, the last of the services in `shipped` of `crates/amf_service/specs/Shipped.antt`. Much of a later path is known
 from an earlier one. Behind each path stand the laws and worked facts about its definitions: theorems, and bytes and graphs worked out by
 hand. They are proved *about* the definitions, and are where to look first when one is in doubt. The appendix lists all files.
 
@@ -40,9 +40,7 @@ program or about a message speaks of one. These do:
 - laws about layouts, and the trait `Format`;
 - the calls by which a reader of another format reads on: those of `amf_fields`, `append_field`, `append_raw`, `append_exactly` and
   `append_basic` of `amf_io`, `read_text` and `read_value` of `amf3_read`, and `read_short_text` and `read_value0` of `amf0_read`;
-- the readers and laws of `rtmp_chunks`, which speak of the layout of a chunk stream (`Machine`) and of those of `amf_io`. The fields of a chunk
-  stream, what is refused in each and so every offset of a refusal are said by `Machine` alone, although its first line calls it a device: who
-  goes by the verdict has to read it against the table in FORMATS;
+- the readers and laws of `rtmp_chunks`, which speak of the layouts of `amf_io`;
 - the steps that the gateway's crates share: `amf_plan`, `amf_flex_replies` and `amf_plain_calls`.
 
 Of the other promises these do, and who goes by one has to read as much of the device:
@@ -53,7 +51,6 @@ Of the other promises these do, and who goes by one has to read as much of the d
 | one walk finds the first lack: `met_again_is_twice` | `amf0_spelling/specs/LacksMet` |
 | what the tables of a writer are, seen as lists | `Spelled` in `amf_tables/specs/SpelledNodes` |
 | what a command that words ask for does: `perform` | `IsAskable` in `amf_commands/specs/Askable` |
-| how a link ended: `serve_link`, `serve_link_keyed` | `end_of` in `amf_gateway/specs/LinkSteps` |
 | each message is taken in order: `each_is_taken_once`, `replay` | `rises_by` in `amf_broker/specs/Sound` |
 | an FLV file or a chunk stream has one verdict: `files_have_one_verdict` of `flv_meta`, `one_verdict` of `rtmp_chunks` | `IsJudgedToEnd` and `IsJudgedOnceToEnd` in `amf_io/specs/Repeated` |
 
@@ -82,6 +79,8 @@ TITLES = {
     "flv_meta": "FLV script data",
     "rtmp_chunks": "RTMP chunk streams",
     "rtmp_pass": "Chunk streams that are written again",
+    "rtmp_listing": "The listing of a chunk stream",
+    "amf_media": "Jobs on media",
     "amf_vectors": "Values that are made",
     "amf_words": "The options of a command line",
     "amf_commands": "The commands of data",
@@ -96,6 +95,8 @@ TITLES = {
     "amf_calling": "One call over a dial",
     "amf_plan": "What a link is answered",
     "amf_plan_laws": "The laws of what a link is answered",
+    "amf_round_laws": "What comes back of a call",
+    "amf_round": "A call over memory",
     "amf_flex_replies": "Replies to Flex clients",
     "amf_plain_calls": "Plain calls",
     "amf_gateway": "The gateway",
@@ -109,29 +110,45 @@ ABOUT = re.compile(r"Worked|Laws|Facts$|^Agreement|^OneShortest$|^GraftKeeps$|^T
 # What the program's own promise says of its services.
 SHIPPED = ("amf_service", "Shipped", "shipped")
 
-# What the promises of a run name for `serve` alone, and for the other commands alone.
-OF_SERVE = ["amf_service.", "amf_plan.", "amf_gateway.", "amf_workers.", "amf_cli.", "amf_commands.Commands.ReadsServe", "amf_commands.Commands.IsServing"]
+# What the promises of a run name for one kind of command alone.
+OF_SERVE = ["amf_service.", "amf_plan.", "amf_gateway.", "amf_workers.", "amf_cli.Serving.", "amf_commands.Commands.ReadsServe",
+            "amf_commands.Commands.IsServing"]
 OF_DATA = ["amf_commands.Run.", "amf_commands.Input.", "amf_commands.Commands.Reads", "amf_graph."]
+OF_FLV = ["amf_media.FlvRuns.", "amf_commands.Commands.ReadsFlv"]
+OF_RTMP = ["amf_media.RtmpRuns.", "amf_commands.Commands.ReadsRtmp"]
+OF_MEDIA = [*OF_FLV, *OF_RTMP, "amf_cli.MediaEnds.", "amf_commands.Commands.IsMedia"]
+OF_CALL = ["amf_cli.CallEnds.", "amf_commands.Commands.ReadsCall", "amf_commands.Commands.IsCalling"]
 
-# What serves none of the four promises.
-OTHERS = ["amf_vectors", "amf_once", "amf_client", "amf_calling", "flv_meta", "rtmp_chunks", "rtmp_pass"]
+# The crates that speak of media, of calls, and of none of the promises.
+MEDIA = ["flv_meta", "amf_media", "rtmp_chunks", "rtmp_pass", "rtmp_listing"]
+CALLS = ["amf_client", "amf_calling", "amf_round_laws", "amf_round"]
+OTHERS = ["amf_vectors", "amf_once"]
+FILES = ["amf_packet", "amf_sol", "amf_listings"]
 
-# For each promise: its words, what is cited for other commands alone, and the crates or files that speak of other commands and formats.
+# For each promise: its words, what is cited for other commands alone, the crates or files that speak of other commands and formats, and the
+# files of `amf_cli` that belong to it whole.
 PATHS = [
     ("To trust `canon` on values", "That the output of `amf canon` is the one canonical encoding of the value in the input, from and to AMF 3 "
      "and AMF 0, that a refusal names the first invalid field, and that status 7 names the first node without an encoding.",
-     OF_SERVE, ["amf_packet", "amf_sol", "amf_show", "amf_listings", *OTHERS]),
+     [*OF_SERVE, *OF_MEDIA, *OF_CALL], [*FILES, "amf_show", *OTHERS, *MEDIA, *CALLS], ["Ends"]),
     ("To trust `same`", "That `amf same` says `same` exactly where two values of AMF 3 are the same graph.",
-     OF_SERVE, ["amf_packet", "amf_sol", "amf_show", "amf_listings", *OTHERS, "amf0_spelling",
-                "amf3_spelling.Lacks3", "amf_graph.Lacks", "amf_graph.Order"]),
+     [*OF_SERVE, *OF_MEDIA, *OF_CALL], [*FILES, "amf_show", *OTHERS, *MEDIA, *CALLS, "amf0_spelling",
+                "amf3_spelling.Lacks3", "amf_graph.Lacks", "amf_graph.Order"], ["Ends"]),
     ("To trust a `.sol`", "That `amf show`, `check` and `canon` with `--from sol` say what stands in a shared object file, or where it is damaged.",
-     OF_SERVE, ["amf_packet", *OTHERS, "amf_listings.SamePacket", "amf_listings.PacketListing", "amf_listings.PacketNodes",
-                "amf_listings.PacketLaws"]),
+     [*OF_SERVE, *OF_MEDIA, *OF_CALL], ["amf_packet", *OTHERS, *MEDIA, *CALLS, "amf_listings.SamePacket", "amf_listings.PacketListing",
+                "amf_listings.PacketNodes", "amf_listings.PacketLaws"], ["Ends"]),
     ("To trust `serve`", "That each connection is answered as the definition says, and that all connections have one legal history of the broker.",
-     OF_DATA, ["amf_sol", "amf_show", "amf_listings", *OTHERS]),
+     [*OF_DATA, *OF_MEDIA, *OF_CALL], ["amf_sol", "amf_show", "amf_listings", *OTHERS, *MEDIA, *CALLS], ["ServesWords", "Outside"]),
+    ("To trust `flv`", "That `amf flv` lists the metadata of an FLV file, or writes the file without them or with others, and all else as it was.",
+     [*OF_SERVE, *OF_DATA, *OF_RTMP, *OF_CALL], [*FILES, *OTHERS, *CALLS, "rtmp_chunks", "rtmp_pass", "rtmp_listing"], ["Ends", "MediaEnds"]),
+    ("To trust `rtmp`", "That `amf rtmp` lists the messages of a chunk stream, or writes the same messages in chunks of another size.",
+     [*OF_SERVE, *OF_DATA, *OF_FLV, *OF_CALL], [*FILES, *OTHERS, *CALLS, "flv_meta"], ["Ends", "MediaEnds"]),
+    ("To trust `call`", "That `amf call` makes one call with the arguments that it was given, and writes what the bytes that come back mean.",
+     [*OF_SERVE, *OF_DATA, *OF_MEDIA], ["amf_sol", "amf_listings", *OTHERS, *MEDIA, "amf_round_laws", "amf_round"], ["CallsWords"]),
 ]
 
-DEFINITION = re.compile(r"^(?:unfoldable |abbrev )*(?:pub )(?:record |data |abbrev )?(?!mod )(\S+)")
+# Definitions stand at the margin, or two spaces in where a file has parameters for all of them.
+DEFINITION = re.compile(r"^(?:(?:unfoldable |abbrev )*pub (?:record |data |abbrev )?(?!mod )|  (?:(?:unfoldable |abbrev )+pub |pub (?:record |data )))(\S+)")
 USE = re.compile(r"^(?:ghost )?use Rattle\.(\w+)\.specs\.([\w.]+?)(?:\.\{(.*)\}|(?: as (\w+)))?;?$")
 WORD = re.compile(r"[A-Za-z_][\w']*(?:\.[A-Za-z_][\w']*)*")
 
@@ -307,10 +324,10 @@ def link(specs):
     return f"[`{specs.crate}/{specs.name}`](../crates/{specs.crate}/specs/{specs.name}.antt)"
 
 
-def path_of(files, known, title, promise, left_out, stops):
+def path_of(files, known, title, promise, left_out, stops, whole):
     """The section on one promise. What is known from the sections above is counted apart, and what is new becomes known."""
     needed, types, others, stopped = closure(files, cited(files, left_out), stops)
-    for record in ["ServesWords", "Outside"] if left_out is OF_DATA else ["Ends"]:
+    for record in whole:
         needed[f"amf_cli.{record}"] = set(files[f"amf_cli.{record}"].blocks)
     order = in_order(files, needed)
     out, total, fresh = [], 0, 0
