@@ -3,9 +3,10 @@
 
     docs/trust_paths.py [--check]
 
-For each of seven promises it follows the definitions that the promises of a run (`Ends`, `ServesWords` and `CallsWords` in crates/amf_cli/specs, which the
-contract of `run` cites) name, from name to name by the imports of each file, and lists them in an order in which they can be read. What a file says is its own first line. With --check nothing is
-written, and the status is 1 where the page is not what would be written.
+For each of seven promises it follows the definitions that the promises of a run (`Ends`, `ServesWords` and `CallsWords` in
+crates/amf_cli/specs, which the contract of `run` cites) name, from name to name by the imports of each file, and lists them in an order in
+which they can be read. What a file says is its own first line, and what a definition says is the comment above it, or its sentence in
+docs/trust_words.txt. With --check nothing is written, and the status is 1 if the page is not what would be written.
 """
 import re
 import sys
@@ -14,6 +15,7 @@ from pathlib import Path
 
 ROOT = Path(__file__).resolve().parent.parent
 PAGE = ROOT / "docs/TRUST.md"
+WORDS = ROOT / "docs/trust_words.txt"
 RUN = [ROOT / f"crates/amf_cli/specs/{name}.antt" for name in ("Ends", "ServesWords", "CallsWords")]
 
 FRONT = """# What a reader has to trust
@@ -22,14 +24,16 @@ A proof says that the code meets its contract. What the contract means is said i
 every proof above it worthless. So these files, with the contracts on the functions in `crates/NAME/src`, are what has to be read to know
 what is promised. The toolchain, and what else is trusted, are named in [PROMISES.md](PROMISES.md#what-it-stands-on).
 
-Nobody has to read all of them. Each of the seven paths below lists what one promise rests on, in an order in which it can be read: each file
-with those of its definitions that the promise needs, and how many lines these have. A path ends with the definitions that the program's
-contract itself names; that contract is `Ends`, for `serve` with `ServesWords` and for `call` with `CallsWords`, in `crates/amf_cli/specs`, which
-`run`, `start` and `start_with_services` cite, the last of the services in `shipped` of `crates/amf_service/specs/Shipped.antt`. Much of a later path is known
-from an earlier one. Behind each path stand the laws and worked facts about its definitions: theorems, and bytes and graphs worked out by
-hand. They are proved *about* the definitions, and are where to look first when one is in doubt. The appendix lists all files.
+Nobody has to read all of them. Each of the seven paths below lists what one promise rests on, in an order in which it can be read: each
+file, those of its definitions that the promise needs, with a sentence for each, and how many lines these have. Much of a later path is known
+from an earlier one; such definitions are named again, and their sentences stand in the path where they come first. A path ends with the
+definitions that the program's contract itself names. That contract is `Ends`, for `serve` with `ServesWords` and for `call` with
+`CallsWords`, in `crates/amf_cli/specs`; `run`, `start` and `start_with_services` cite it, the last for the services in `shipped` of
+`crates/amf_service/specs/Shipped.antt`. After the definitions come the laws and worked facts about them: theorems, and bytes and graphs
+worked out by hand. They are proved *about* the definitions, and are where to look first when one is in doubt. The appendix lists all files.
 
-This page is written by `docs/trust_paths.py`, which follows the imports; what it says of a file is the file's own first line.
+This page is written by `docs/trust_paths.py`, which follows the imports. What it says of a file is the file's own first line. What it says
+of a definition is the comment above it, or a sentence of `docs/trust_words.txt`; neither is checked by the prover, so read the definition.
 
 ## Devices
 
@@ -153,11 +157,23 @@ USE = re.compile(r"^(?:ghost )?use Rattle\.(\w+)\.specs\.([\w.]+?)(?:\.\{(.*)\}|
 WORD = re.compile(r"[A-Za-z_][\w']*(?:\.[A-Za-z_][\w']*)*")
 
 
+def words_of_file():
+    """The sentences of docs/trust_words.txt, by file and name."""
+    words, now = {}, {}
+    for line in WORDS.read_text().splitlines():
+        if line.startswith("  "):
+            name, _, sentence = line.strip().partition(": ")
+            now[name] = sentence
+        elif line and not line.startswith("#"):
+            now = words.setdefault(line.replace("/", "."), {})
+    return words
+
+
 class Specs:
     """A file of definitions: its first line, its imports, and the text of each definition."""
 
-    def __init__(self, crate, name, is_device):
-        self.crate, self.name, self.is_device = crate, name, is_device
+    def __init__(self, crate, name, is_device, words):
+        self.crate, self.name, self.is_device, self.words = crate, name, is_device, words
         self.lines = (ROOT / f"crates/{crate}/specs/{name}.antt").read_text().splitlines()
         self.says = self.lines[0].removeprefix("-- ")
         self.imports, self.aliases = imports_of(self.lines)
@@ -166,27 +182,40 @@ class Specs:
 
     def gather(self):
         """Parts the file into definitions. The comment above a definition is its own, and a constructor stands for its data."""
-        now, above = None, []
+        now, name, above = None, None, []
         for line in self.lines[1:]:
             found = DEFINITION.match(line)
             if found:
-                now = self.blocks.setdefault(found[1], [])
                 name = found[1]
+                now = self.blocks.setdefault(name, [])
                 now += above
                 above = []
-            if line.startswith("-- "):
+            if line.lstrip().startswith("-- "):
                 above.append(line)
                 continue
             if not line.strip() or line.startswith("use "):
                 above = []
             elif now is not None:
-                now.append(line)
+                # A comment that stands above a part is of the definition that has the part.
+                now += above + [line]
+                above = []
                 part = re.match(r"^  (?:pub )?([a-z]\w*) :", line)
                 if part:
                     self.parts.setdefault(part[1], name)
 
     def key(self):
         return f"{self.crate}.{self.name}"
+
+    def sentence(self, name):
+        """What a definition says."""
+        above = []
+        for line in self.blocks[name]:
+            if not line.lstrip().startswith("-- "):
+                break
+            above.append(line.strip().removeprefix("-- "))
+        if name not in self.words and not above:
+            sys.exit(f"docs/trust_words.txt has no sentence for {name} of {self.crate}/{self.name}, and no comment stands above it")
+        return self.words.get(name) or " ".join(above)
 
 
 def imports_of(lines):
@@ -210,6 +239,7 @@ def load():
     """All files of definitions, in the order of the crates and of each Lib."""
     files = {}
     libs = {lib.parent.parent.name: lib for lib in ROOT.glob("crates/*/specs/Lib.antt")}
+    words = words_of_file()
     untitled = sorted(crate for crate, lib in libs.items() if crate not in TITLES and "pub mod" in lib.read_text())
     if untitled:
         sys.exit(f"docs/trust_paths.py: TITLES has no line for {', '.join(untitled)}")
@@ -219,8 +249,11 @@ def load():
             is_device = is_device or bool(re.match(r"-- (A d|D)evice", line))
             found = re.match(r"pub mod (\w+)", line)
             if found:
-                specs = Specs(crate, found[1], is_device)
+                specs = Specs(crate, found[1], is_device, words.pop(f"{crate}.{found[1]}", {}))
                 files[specs.key()] = specs
+    gone = [*words, *(f"{key}.{name}" for key, specs in files.items() for name in specs.words if name not in specs.blocks)]
+    if gone:
+        sys.exit(f"docs/trust_words.txt has sentences for what is not there: {', '.join(gone)}")
     return files
 
 
@@ -337,11 +370,13 @@ def path_of(files, known, title, promise, left_out, stops, whole):
         lines = sum(len(specs.blocks[name]) for name in names)
         total += lines
         fresh += sum(len(specs.blocks[name]) for name in names if (key, name) not in known)
-        out.append(f"| {place} | {link(specs)} | {lines} | {specs.says} | {', '.join(f'`{name}`' for name in names)} |")
+        out.append(f"{place}. {link(specs)}, {lines} lines. {specs.says}")
+        out += [f"    - `{name}`: {specs.sentence(name)}" for name in names if (key, name) not in known]
+        again = [f"`{name}`" for name in names if (key, name) in known]
+        out += [f"    - As above: {', '.join(again)}"] if again else []
     above = f", {fresh} of them not in a path above" if known else ""
     known |= {(key, name) for key in needed for name in needed[key]}
-    head = [f"## {title}", "", *wrapped(promise), "", f"{len(order)} files, of which {total} lines count{above}:", "",
-            "| | File | Lines | What it says | Definitions |", "|---|---|---|---|---|"]
+    head = [f"## {title}", "", *wrapped(promise), "", f"{len(order)} files, of which {total} lines count{above}:", ""]
     tail = [""]
     if types:
         named = "; ".join(f"{', '.join(f'`{name}`' for name in sorted(names))} in `{file}`" for file, names in sorted(types.items()))
