@@ -37,9 +37,10 @@ of a definition is the comment above it, or a sentence of `docs/trust_words.txt`
 
 ## Devices
 
-Apart from the definitions there are devices of the proofs. They are listed at the end of each `specs/Lib.antt`, and each says so in its
-first line. A wrong one can make a proof fail, and cannot make a promise false that does not speak of it. No promise about a run of the
-program or about a message speaks of one. These do:
+Besides the definitions there are devices of the proofs. They are listed at the end of each `specs/Lib.antt`, and each says so in its first
+line. A wrong one can make a proof fail, but cannot make a promise false that does not speak of it. Of the promises about a run of the
+program only that of `rtmp` speaks of devices: `Layout` and `Repeated` of `amf_io`, by which the fields of a chunk stream are defined, and
+which stand in its path. No promise about a Flex message speaks of one. Of the promises of the libraries these do:
 
 - laws about layouts, and the trait `Format`;
 - the calls by which a reader of another format reads on: those of `amf_fields`, `append_field`, `append_raw`, `append_exactly` and
@@ -47,7 +48,7 @@ program or about a message speaks of one. These do:
 - the readers and laws of `rtmp_chunks`, which speak of the layouts of `amf_io`;
 - the steps that the gateway's crates share: `amf_plan`, `amf_flex_replies` and `amf_plain_calls`.
 
-Of the other promises these do, and who goes by one has to read as much of the device:
+Of the laws these do, and whoever goes by one has to read as much of the device as is named:
 
 | Promise | Device |
 |---|---|
