@@ -1,7 +1,6 @@
 use amf_rows::Row;
 use std::alloc::Global;
 use std::process::Abort;
-use std::test::Fail;
 
 /// Ends the test where something does not hold.
 pub(crate) fn holds(rt: &impl Abort, right: bool, what: &str) {
@@ -14,24 +13,44 @@ pub(crate) fn is(rt: &impl Abort, row: Row<'_>, got: &str, want: &str) {
     assert!(rt; got == want, "line {line}: {got} and not {want}");
 }
 
-/// The bytes of three fields of a row: a front, how many times AA, and the rest.
-pub(crate) fn filled(alloc: Global, row: Row<'_>, place: usize) -> Result<Vec<u8>, Fail> {
-    let mut bytes = row.bytes(alloc, place)?;
-    for _ in 0..row.number(place.wrapping_add(1))? {
-        bytes.push(0xAA)?;
-    }
-    let rest = row.bytes(alloc, place.wrapping_add(2))?;
-    bytes.extend_from_slice(&rest)?;
-    Ok(bytes)
+/// A field of a row.
+pub(crate) fn field<'t>(rt: &impl Abort, row: Row<'t>, place: usize) -> &'t str {
+    row.field(place).expect(rt, "a field")
 }
 
-/// A handshake, 03 and 3,072 times 00, and bytes behind it.
-pub(crate) fn behind_handshake(alloc: Global, bytes: &[u8]) -> Result<Vec<u8>, Fail> {
-    let mut all = Vec::new(alloc);
-    all.push(3)?;
-    for _ in 0..3072 {
-        all.push(0)?;
+/// A number of a row.
+pub(crate) fn number(rt: &impl Abort, row: Row<'_>, place: usize) -> u32 {
+    row.number(place).expect(rt, "a number")
+}
+
+/// Appends the bytes of a field of a row.
+pub(crate) fn put_bytes(
+    rt: &impl Abort,
+    alloc: Global,
+    row: Row<'_>,
+    place: usize,
+    out: &mut Vec<u8>,
+) {
+    let bytes = row.bytes(alloc, place).expect(rt, "bytes");
+    out.extend_from_slice(&bytes).expect(rt, "memory");
+}
+
+/// Appends a byte so many times.
+fn put_times(rt: &impl Abort, byte: u8, times: u32, out: &mut Vec<u8>) {
+    for _ in 0..times {
+        out.push(byte).expect(rt, "memory");
     }
-    all.extend_from_slice(bytes)?;
-    Ok(all)
+}
+
+/// Appends the bytes of three fields of a row: a front, how many times AA, and the rest.
+pub(crate) fn fill(rt: &impl Abort, alloc: Global, row: Row<'_>, place: usize, out: &mut Vec<u8>) {
+    put_bytes(rt, alloc, row, place, out);
+    put_times(rt, 0xAA, number(rt, row, place.wrapping_add(1)), out);
+    put_bytes(rt, alloc, row, place.wrapping_add(2), out);
+}
+
+/// Appends a handshake, 03 and 3,072 times 00.
+pub(crate) fn put_handshake(rt: &impl Abort, out: &mut Vec<u8>) {
+    put_times(rt, 3, 1, out);
+    put_times(rt, 0, 3072, out);
 }

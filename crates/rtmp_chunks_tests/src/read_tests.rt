@@ -1,15 +1,11 @@
-use crate::checks::{behind_handshake, filled, holds, is};
-use crate::told::{chunks_told, told};
+use crate::checks::{field, fill, holds, is, number, put_bytes, put_handshake};
+use crate::told::{NEVER, Way, told};
 use amf_rows::{Row, Table};
 use rtmp_chunks::{
     calls_tell, one_meaning, one_verdict, pushed_reads, reading_tells, rechunked, worked_rows,
 };
 use std::alloc::Global;
 use std::process::Abort;
-use std::test::Fail;
-
-/// No read has this number.
-const NEVER: u64 = u64::MAX;
 
 /// Chunks behind a handshake (a front, so many times AA, and the rest), and what is read of all: messages and their order.
 static MESSAGES: Table = Table {
@@ -103,67 +99,75 @@ fn is_cut(place: usize, length: usize) -> bool {
     place <= 20 || length <= place.saturating_add(20)
 }
 
-/// Reads chunks behind a handshake.
-fn is_read(rt: &impl Abort, alloc: Global, row: Row<'_>, bytes: &[u8]) -> Result<(), Fail> {
-    let whole = behind_handshake(alloc, bytes)?;
-    let got = told(alloc, &whole, 65536, NEVER)?;
-    is(rt, row, got.trim(), row.field(3)?);
-    Ok(())
+/// Compares what is read of bytes, which come in a way, with what a row says.
+fn is_read(rt: &impl Abort, alloc: Global, row: Row<'_>, bytes: &[u8], way: Way) {
+    let got = told(rt, alloc, bytes, way);
+    is(rt, row, got.trim(), field(rt, row, 3));
 }
 
-/// Reads chunks in pieces of at most `most` bytes, none of which goes on past `cut`.
-fn is_read_in_pieces(
-    rt: &impl Abort,
-    alloc: Global,
-    row: Row<'_>,
-    bytes: &[u8],
-    most: usize,
-    cut: usize,
-) -> Result<(), Fail> {
-    let got = chunks_told(alloc, bytes, most, cut)?;
-    is(rt, row, got.trim(), row.field(3)?);
-    Ok(())
+/// Chunks in pieces of at most `most` bytes, none of which goes on past `cut`.
+fn in_pieces(most: usize, cut: usize) -> Way {
+    Way {
+        has_handshake: false,
+        most,
+        cut,
+        fail: NEVER,
+    }
 }
 
-/// Reads chunks behind a handshake; and without it a byte at a time, and in two pieces that meet at each place.
-fn is_read_in_any_pieces(rt: &impl Abort, alloc: Global, row: Row<'_>) -> Result<(), Fail> {
-    let bytes = filled(alloc, row, 0)?;
-    is_read(rt, alloc, row, &bytes)?;
-    is_read_in_pieces(rt, alloc, row, &bytes, 1, 0)?;
+/// A handshake and what follows, in pieces of at most `most` bytes, with a read that fails.
+fn behind_handshake(most: usize, fail: u64) -> Way {
+    Way {
+        has_handshake: true,
+        most,
+        cut: 0,
+        fail,
+    }
+}
+
+/// Reads a handshake and chunks, of which the handshake is `front` bytes; and without it a byte at a time, and in two pieces
+/// that meet at each place.
+fn is_read_in_any_pieces(rt: &impl Abort, alloc: Global, row: Row<'_>, whole: &[u8], front: usize) {
+    is_read(rt, alloc, row, whole, behind_handshake(65536, NEVER));
+    let bytes = whole.get(front..).expect(rt, "chunks");
+    is_read(rt, alloc, row, bytes, in_pieces(1, 0));
     for cut in 0..=bytes.len() {
         if is_cut(cut, bytes.len()) {
-            is_read_in_pieces(rt, alloc, row, &bytes, 65536, cut)?;
+            is_read(rt, alloc, row, bytes, in_pieces(65536, cut));
         }
     }
-    Ok(())
 }
 
 /// Reads the rows of a table.
-fn are_read(rt: &impl Abort, alloc: Global, table: Table) -> Result<(), Fail> {
-    for row in table.rows(alloc)?.iter() {
-        is_read_in_any_pieces(rt, alloc, *row)?;
+fn are_read(rt: &impl Abort, alloc: Global, table: Table) {
+    let mut whole = Vec::new(alloc);
+    for row in table.rows(alloc).expect(rt, "rows").iter() {
+        whole.clear();
+        put_handshake(rt, &mut whole);
+        let front = whole.len();
+        fill(rt, alloc, *row, 0, &mut whole);
+        is_read_in_any_pieces(rt, alloc, *row, &whole, front);
     }
-    Ok(())
 }
 
 #[test]
-fn reads_messages(rt: HostRuntime) -> Result<(), Fail> {
-    are_read(&rt, rt.alloc(), MESSAGES)
+fn reads_messages(rt: HostRuntime) {
+    are_read(&rt, rt.alloc(), MESSAGES);
 }
 
 #[test]
-fn holds_to_sizes(rt: HostRuntime) -> Result<(), Fail> {
-    are_read(&rt, rt.alloc(), SIZES)
+fn holds_to_sizes(rt: HostRuntime) {
+    are_read(&rt, rt.alloc(), SIZES);
 }
 
 #[test]
-fn drops_messages(rt: HostRuntime) -> Result<(), Fail> {
-    are_read(&rt, rt.alloc(), DROPS)
+fn drops_messages(rt: HostRuntime) {
+    are_read(&rt, rt.alloc(), DROPS);
 }
 
 #[test]
-fn reckons_times(rt: HostRuntime) -> Result<(), Fail> {
-    are_read(&rt, rt.alloc(), TIMES)
+fn reckons_times(rt: HostRuntime) {
+    are_read(&rt, rt.alloc(), TIMES);
 }
 
 /// How many bytes there are of a handshake and a chunk of 12 and 4 bytes, and what these are read as.
@@ -189,28 +193,25 @@ static FRONTS: Table = Table {
 };
 
 #[test]
-fn ends_in_each_field(rt: HostRuntime) -> Result<(), Fail> {
+fn ends_in_each_field(rt: HostRuntime) {
     let alloc = rt.alloc();
-    let chunk = [3, 0, 0, 0, 0, 0, 4, 20, 1, 0, 0, 0, 2, 0, 1, b'x'];
-    let bytes = behind_handshake(alloc, &chunk)?;
-    for row in FRONTS.rows(alloc)?.iter() {
-        let length = row.number(0)? as usize;
-        let front = bytes.get(..length).unwrap_or(&[]);
-        is(
-            &rt,
-            *row,
-            told(alloc, front, 1000, NEVER)?.trim(),
-            row.field(1)?,
-        );
+    let mut bytes = Vec::new(alloc);
+    put_handshake(&rt, &mut bytes);
+    bytes
+        .extend_from_slice(&[3, 0, 0, 0, 0, 0, 4, 20, 1, 0, 0, 0, 2, 0, 1, b'x'])
+        .expect(&rt, "memory");
+    for row in FRONTS.rows(alloc).expect(&rt, "rows").iter() {
+        let length = number(&rt, *row, 0) as usize;
+        let front = bytes.get(..length).expect(&rt, "a front");
+        let got = told(&rt, alloc, front, behind_handshake(1000, NEVER));
+        is(&rt, *row, got.trim(), field(&rt, *row, 1));
     }
-    Ok(())
 }
 
 #[test]
-fn refuses_another_version(rt: HostRuntime) -> Result<(), Fail> {
-    let got = told(rt.alloc(), &[2], 1, NEVER)?;
+fn refuses_another_version(rt: HostRuntime) {
+    let got = told(&rt, rt.alloc(), &[2], behind_handshake(1, NEVER));
     holds(&rt, got.as_str() == "BadVersion 0", &got);
-    Ok(())
 }
 
 /// How many bytes a read gives at most, the number of the read that fails, chunks behind a handshake, and what is read of all.
@@ -230,25 +231,19 @@ static FAULTS: Table = Table {
 };
 
 /// Reads the chunks of a row behind a handshake, with a read that fails.
-fn is_read_with_fault(rt: &impl Abort, alloc: Global, row: Row<'_>) -> Result<(), Fail> {
-    let chunks = row.bytes(alloc, 2)?;
-    let bytes = behind_handshake(alloc, &chunks)?;
-    let got = told(
-        alloc,
-        &bytes,
-        row.number(0)? as usize,
-        row.number(1)? as u64,
-    )?;
-    is(rt, row, got.trim(), row.field(3)?);
-    Ok(())
+fn is_read_with_fault(rt: &impl Abort, alloc: Global, row: Row<'_>) {
+    let mut bytes = Vec::new(alloc);
+    put_handshake(rt, &mut bytes);
+    put_bytes(rt, alloc, row, 2, &mut bytes);
+    let way = behind_handshake(number(rt, row, 0) as usize, number(rt, row, 1) as u64);
+    is_read(rt, alloc, row, &bytes, way);
 }
 
 #[test]
-fn tells_a_read_that_fails(rt: HostRuntime) -> Result<(), Fail> {
-    for row in FAULTS.rows(rt.alloc())?.iter() {
-        is_read_with_fault(&rt, rt.alloc(), *row)?;
+fn tells_a_read_that_fails(rt: HostRuntime) {
+    for row in FAULTS.rows(rt.alloc()).expect(&rt, "rows").iter() {
+        is_read_with_fault(&rt, rt.alloc(), *row);
     }
-    Ok(())
 }
 
 #[test]
