@@ -153,6 +153,83 @@ fn tells_a_write_that_fails(rt: HostRuntime) -> Result<(), Fail> {
     Ok(())
 }
 
+/// Chunks behind a handshake, which are written again as they are: a message of one chunk, and one of two whose time has the extended field.
+static WHOLE: Table = Table {
+    rows: 1,
+    fields: 3,
+    text: "
+03 000005 000001 09 01000000 BB 04 FFFFFF 000081 08 01000000 01000000 | 128 | C4 01000000 AA
+",
+};
+
+/// From where to where this input is cut, how the pass ends, and how many of its first bytes are written.
+static CUTS: Table = Table {
+    rows: 16,
+    fields: 4,
+    text: "
+0 | 0 | Truncated 0 | 0
+1 | 3 | Truncated 1 | 0
+1534 | 1536 | Truncated 1 | 0
+1537 | 1539 | Truncated 1537 | 0
+3070 | 3072 | Truncated 1537 | 0
+3073 | 3073 | | 3073
+3074 | 3084 | Truncated 3074 | 3073
+3085 | 3085 | Truncated 3085 | 3073
+3086 | 3086 | | 3086
+3087 | 3097 | Truncated 3087 | 3086
+3098 | 3101 | Truncated 3098 | 3086
+3102 | 3229 | Truncated 3102 | 3086
+3230 | 3230 | | 3086
+3231 | 3234 | Truncated 3231 | 3086
+3235 | 3235 | Truncated 3235 | 3086
+3236 | 3236 | | 3236
+",
+};
+
+/// The first bytes of an input.
+fn front_of(input: &[u8], length: usize) -> &[u8] {
+    input.get(..length).unwrap_or(input)
+}
+
+/// Whether the front of this length is written again as the row says.
+fn is_front_of_input_written(
+    rt: &impl Abort,
+    alloc: Global,
+    row: Row<'_>,
+    input: &[u8],
+    length: usize,
+) -> Result<(), Fail> {
+    let mut out = MemorySink::new(alloc, 1000, &[])?;
+    let end = written(alloc, 128, front_of(input, length), 9999, NEVER, &mut out)?;
+    let want = row.field(2)?;
+    assert!(rt; end.as_str() == want, "of {length}: {end} and not {want}");
+    let bytes = front_of(input, row.number(3)? as usize);
+    assert!(rt; out.as_bytes() == bytes, "of {length}: other bytes");
+    Ok(())
+}
+
+/// The input of the one row.
+fn whole_input(alloc: Global) -> Result<Vec<u8>, Fail> {
+    let rows = WHOLE.rows(alloc)?;
+    match rows.first() {
+        Some(row) => stream(alloc, *row, 0),
+        None => Err("no row")?,
+    }
+}
+
+/// The handshake is cut about the ends of its blocks, and what is behind it at each byte.
+#[test]
+fn is_cut_at_each_byte(rt: HostRuntime) -> Result<(), Fail> {
+    let alloc = rt.alloc();
+    let input = whole_input(alloc)?;
+    for row in CUTS.rows(alloc)?.iter() {
+        for length in row.number(0)?..=row.number(1)? {
+            is_front_of_input_written(&rt, alloc, *row, &input, length as usize)?;
+        }
+    }
+    Ok(())
+}
+
 #[test]
 fn laws_stand(_rt: HostRuntime) {
     rechunk_rows();
