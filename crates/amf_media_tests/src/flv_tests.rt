@@ -97,6 +97,11 @@ static CUTS: Table = Table {
 ",
 };
 
+/// What is listed of the front of the file that is cut at a place.
+fn shown_of(cut: u32) -> &'static [u8] {
+    if cut == 58 { b"meta\nroot null\n" } else { b"" }
+}
+
 /// From which to which read of one byte one fails, and how many bytes are written before.
 static READ_FAULTS: Table = Table {
     rows: 3,
@@ -176,6 +181,23 @@ fn files_are_cut_at_each_byte(rt: HostRuntime) -> Result<(), Fail> {
 }
 
 #[test]
+fn metadata_are_listed_of_files_that_are_cut(rt: HostRuntime) -> Result<(), Fail> {
+    for row in CUTS.rows(rt.alloc())?.iter() {
+        for cut in row.number(0)?..=row.number(1)? {
+            let want = wanted(rt.alloc(), row.field(2)?, shown_of(cut))?;
+            let bytes = front_of(cut as usize);
+            is(
+                &rt,
+                *row,
+                &run(rt.alloc(), FlvJob::Show, bytes, &pieces(65_536, 0))?,
+                &want,
+            );
+        }
+    }
+    Ok(())
+}
+
+#[test]
 fn reads_fail(rt: HostRuntime) -> Result<(), Fail> {
     for row in READ_FAULTS.rows(rt.alloc())?.iter() {
         let output = front_of(row.number(2)? as usize);
@@ -216,5 +238,19 @@ fn writes_fail(rt: HostRuntime) -> Result<(), Fail> {
             &want,
         );
     }
+    Ok(())
+}
+
+/// The read that would come behind the end fails, and does not come.
+#[test]
+fn no_read_follows_the_end(rt: HostRuntime) -> Result<(), Fail> {
+    let link = Link {
+        most: 1,
+        cut: 0,
+        reads: &[59],
+        writes: &[],
+    };
+    let want = wanted(rt.alloc(), "Done", front_of(29))?;
+    is_at(&rt, 59, &run(rt.alloc(), FlvJob::Drop, FILE, &link)?, &want);
     Ok(())
 }

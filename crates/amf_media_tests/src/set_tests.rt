@@ -150,3 +150,18 @@ fn a_value_is_too_long_for_a_tag(rt: HostRuntime) -> Result<(), Fail> {
     is_at(&rt, 0, &told, &want);
     Ok(())
 }
+
+/// The read that would come behind the end fails, and does not come.
+#[test]
+fn no_read_follows_the_end_of_what_is_set(rt: HostRuntime) -> Result<(), Fail> {
+    let link = Link {
+        most: 1,
+        cut: 0,
+        reads: &[60],
+        writes: &[],
+    };
+    let want = wanted(rt.alloc(), "Done", OUTPUT)?;
+    let told = run(rt.alloc(), FlvJob::Set, INPUT, &link)?;
+    is_at(&rt, 60, &told, &want);
+    Ok(())
+}
