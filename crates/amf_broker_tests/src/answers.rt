@@ -13,6 +13,20 @@ pub(crate) fn told(alloc: Global, answer: &Answer) -> Result<String, AllocError>
     Ok(out)
 }
 
+/// Answers in words, with a `;` between them.
+pub(crate) fn put_answers(out: &mut String, answers: &[Answer]) -> Result<(), AllocError> {
+    let mut is_first = true;
+    for answer in answers {
+        if !is_first {
+            out.push_str("; ")?;
+        }
+        is_first = false;
+        put_reply(out, &answer.reply)?;
+        put_expired(out, &answer.expired)?;
+    }
+    Ok(())
+}
+
 fn put_reply(out: &mut String, reply: &Reply) -> Result<(), AllocError> {
     match reply {
         Reply::Client(client) => put(out, "client", client.0),
@@ -82,7 +96,7 @@ fn put_batch(out: &mut String, deliveries: &Deliveries, ended: &SubIds) -> Resul
 
 /// A few deliveries, each with its subscription, its number and its message, or else how many they are, and which is the
 /// first where they follow one another at one subscription.
-fn put_deliveries(out: &mut String, deliveries: &[Delivery]) -> Result<(), AllocError> {
+pub(crate) fn put_deliveries(out: &mut String, deliveries: &[Delivery]) -> Result<(), AllocError> {
     if deliveries.len() > FEW {
         put(out, "", deliveries.len() as u64)?;
         return match deliveries.first() {

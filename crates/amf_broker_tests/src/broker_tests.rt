@@ -1,11 +1,10 @@
 use crate::answers::told;
-use crate::calls::{Asked, call_of, name_of};
-use crate::checks::{holds, is_answered};
+use crate::calls::{Asked, call, name_of};
+use crate::checks::{field, holds, is_answered, number};
 use amf_broker::Broker;
-use amf_rows::{Row, Table, Wrong};
+use amf_rows::{Row, Table};
 use std::alloc::Global;
 use std::process::Abort;
-use std::test::Fail;
 
 /// Calls with their answers: `open` and the destinations makes a new broker, and `queued` asks how many deliveries wait.
 /// Where the first field has two numbers, the call is made for each from the one to the other, and `#` stands for it.
@@ -146,12 +145,13 @@ fn sendable<T: Send>(value: T) -> T {
 }
 
 /// A broker of the destinations that follow the first word.
-fn opened(alloc: Global, asked: &Asked<'_>) -> Option<Broker> {
+fn opened(rt: &impl Abort, alloc: Global, asked: &Asked<'_>) -> Broker {
     let mut destinations = Vec::new(alloc);
     for word in asked.text.split_whitespace().skip(1) {
-        destinations.push(name_of(alloc, word)?).ok()?;
+        let name = name_of(alloc, word).expect(rt, "a name");
+        destinations.push(name).expect(rt, "memory");
     }
-    Some(sendable(Broker::new(alloc, destinations).ok()?))
+    sendable(Broker::new(alloc, destinations).expect(rt, "a broker"))
 }
 
 /// What a broker answers to a call.
@@ -161,11 +161,11 @@ fn answer(
     broker: &mut Broker,
     moment: u64,
     asked: &Asked<'_>,
-) -> Option<String> {
-    let call = call_of(alloc, asked)?;
+) -> String {
+    let call = call(rt, alloc, asked.text, asked.number);
     assert!(rt; broker.calls() < 1 << 62);
-    let answer = broker.step(alloc, moment, call).ok()?;
-    told(alloc, &answer).ok()
+    let answer = broker.step(alloc, moment, call).expect(rt, "an answer");
+    told(alloc, &answer).expect(rt, "memory")
 }
 
 /// What comes of a call, which may be one for a new broker.
@@ -175,86 +175,81 @@ fn answered(
     broker: &mut Broker,
     moment: u64,
     asked: &Asked<'_>,
-) -> Option<String> {
+) -> String {
     match asked.word(0) {
         "open" => {
-            *broker = opened(alloc, asked)?;
-            String::from_str(alloc, "open").ok()
+            *broker = opened(rt, alloc, asked);
+            String::from_str(alloc, "open").expect(rt, "memory")
         }
         "queued" => {
             let count = broker.queued();
-            format!(in alloc; "queued {count}").ok()
+            format!(in alloc; "queued {count}").expect(rt, "memory")
         }
         _ => answer(rt, alloc, broker, moment, asked),
     }
 }
 
 /// The first and the last number for which the call of a row is made.
-fn numbers(row: Row<'_>) -> Result<(u64, u64), Wrong> {
-    let field = row.field(0)?;
-    if field.is_empty() {
-        return Ok((0, 0));
+fn numbers(rt: &impl Abort, row: Row<'_>) -> (u64, u64) {
+    let text = field(rt, row, 0);
+    if text.is_empty() {
+        return (0, 0);
     }
-    let asked = Asked {
-        line: row.line(),
-        text: field,
-        number: 0,
-    };
-    match (asked.number(0), asked.number(1)) {
-        (Some(first), Some(last)) => Ok((first, last)),
-        _ => Err(asked.wrong("no numbers")),
-    }
+    let asked = Asked { text, number: 0 };
+    let first = asked.number(0).expect(rt, "a first number");
+    let last = asked.number(1).expect(rt, "a last number");
+    (first, last)
+}
+
+/// What a row says of an answer, in which `#` stands for a number.
+fn wanted(rt: &impl Abort, alloc: Global, row: Row<'_>, number: u64) -> String {
+    let digits = format!(in alloc; "{number}").expect(rt, "memory");
+    field(rt, row, 3)
+        .replace(alloc, '#', &digits)
+        .expect(rt, "memory")
 }
 
 /// Makes the calls of a row, and tells how many they are.
-fn ask(rt: &impl Abort, alloc: Global, broker: &mut Broker, row: Row<'_>) -> Result<u64, Wrong> {
-    let (first, last) = numbers(row)?;
-    let moment = u64::from(row.number(1)?);
+fn ask(rt: &impl Abort, alloc: Global, broker: &mut Broker, row: Row<'_>) -> u64 {
+    let (first, last) = numbers(rt, row);
+    let moment = u64::from(number(rt, row, 1));
     let mut count = 0u64;
     for number in first..=last {
         let asked = Asked {
-            line: row.line(),
-            text: row.field(2)?,
+            text: field(rt, row, 2),
             number,
         };
-        let Some(got) = answered(rt, alloc, broker, moment, &asked) else {
-            return Err(asked.wrong("no call, or no memory"));
-        };
-        let digits = format!(in alloc; "{number}")?;
-        let want = row.field(3)?.replace(alloc, '#', &digits)?;
-        is_answered(rt, row, &got, &want);
+        let got = answered(rt, alloc, broker, moment, &asked);
+        is_answered(rt, row, &got, &wanted(rt, alloc, row, number));
         count = count.wrapping_add(1);
     }
-    Ok(count)
+    count
 }
 
 /// Makes the calls of a table, and tells how many they are.
-fn ask_all(rt: &impl Abort, alloc: Global, table: &Table) -> Result<u64, Fail> {
-    let mut broker = Broker::new(alloc, Vec::new(alloc))?;
+fn ask_all(rt: &impl Abort, alloc: Global, table: &Table) -> u64 {
+    let mut broker = Broker::new(alloc, Vec::new(alloc)).expect(rt, "a broker");
     let mut count = 0u64;
-    for row in table.rows(alloc)? {
-        count = count.wrapping_add(ask(rt, alloc, &mut broker, row)?);
+    for row in table.rows(alloc).expect(rt, "rows").iter() {
+        count = count.wrapping_add(ask(rt, alloc, &mut broker, *row));
     }
-    Ok(count)
+    count
 }
 
 #[test]
-fn answers_in_order(rt: HostRuntime) -> Result<(), Fail> {
-    let count = ask_all(&rt, rt.alloc(), &IN_ORDER)?;
+fn answers_in_order(rt: HostRuntime) {
+    let count = ask_all(&rt, rt.alloc(), &IN_ORDER);
     holds(&rt, count == 56, "calls");
-    Ok(())
 }
 
 #[test]
-fn keeps_to_its_limits(rt: HostRuntime) -> Result<(), Fail> {
-    let count = ask_all(&rt, rt.alloc(), &LIMITS)?;
+fn keeps_to_its_limits(rt: HostRuntime) {
+    let count = ask_all(&rt, rt.alloc(), &LIMITS);
     holds(&rt, count == 1253, "calls");
-    Ok(())
 }
 
 #[test]
-fn fills_every_queue(rt: HostRuntime) -> Result<(), Fail> {
-    let count = ask_all(&rt, rt.alloc(), &FULL)?;
+fn fills_every_queue(rt: HostRuntime) {
+    let count = ask_all(&rt, rt.alloc(), &FULL);
     holds(&rt, count == 3202, "calls");
-    Ok(())
 }

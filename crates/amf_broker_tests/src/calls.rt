@@ -1,27 +1,26 @@
 use amf_broker::{Call, ClientId, SubId, Topic};
-use amf_rows::Wrong;
 use amf_wire::Name;
 use std::alloc::Global;
+use std::process::Abort;
 
-/// A call as words, the line that it stands in, and the number that `#` stands for.
+/// A call as words, and the number that `#` stands for.
 #[derive(Clone, Copy)]
 pub(crate) struct Asked<'t> {
-    pub line: u32,
     pub text: &'t str,
     pub number: u64,
 }
 
 impl<'t> Asked<'t> {
-    pub(crate) fn wrong(&self, what: &'static str) -> Wrong {
-        Wrong {
-            line: self.line,
-            what,
-        }
-    }
-
     /// A word, which is empty where there are fewer.
     pub(crate) fn word(&self, place: usize) -> &'t str {
-        self.text.split_whitespace().nth(place).unwrap_or("")
+        let mut left = place;
+        for word in self.text.split_whitespace() {
+            if left == 0 {
+                return word;
+            }
+            left -= 1;
+        }
+        ""
     }
 
     pub(crate) fn number(&self, place: usize) -> Option<u64> {
@@ -89,4 +88,17 @@ pub(crate) fn call_of(alloc: Global, asked: &Asked<'_>) -> Option<Call> {
         }),
         _ => None,
     }
+}
+
+/// The call that these words say, in which `#` stands for a number.
+pub(crate) fn call(rt: &impl Abort, alloc: Global, text: &str, number: u64) -> Call {
+    call_of(alloc, &Asked { text, number }).expect(rt, text)
+}
+
+/// The one destination of most tests.
+pub(crate) fn chat(rt: &impl Abort, alloc: Global) -> Vec<Name> {
+    let name = name_of(alloc, "chat").expect(rt, "a name");
+    let mut destinations = Vec::new(alloc);
+    destinations.push(name).expect(rt, "memory");
+    destinations
 }

@@ -11,3 +11,13 @@ pub(crate) fn is_answered(rt: &impl Abort, row: Row<'_>, got: &str, want: &str) 
     let line = row.line();
     assert!(rt; got == want, "line {line}: {got}");
 }
+
+/// A field of a row.
+pub(crate) fn field<'t>(rt: &impl Abort, row: Row<'t>, place: usize) -> &'t str {
+    row.field(place).expect(rt, "a field")
+}
+
+/// A number of a row.
+pub(crate) fn number(rt: &impl Abort, row: Row<'_>, place: usize) -> u32 {
+    row.number(place).expect(rt, "a number")
+}

@@ -1,4 +1,4 @@
-//! Tests of the broker and its desk, and nothing else.
+//! Tests of the broker and its desk, of the taker and of courses of events, and nothing else.
 #![tactic(auto)]
 
 #[cfg(test)]
@@ -10,4 +10,12 @@ mod calls;
 #[cfg(test)]
 mod checks;
 #[cfg(test)]
+mod course_tests;
+#[cfg(test)]
 mod desk_tests;
+#[cfg(test)]
+mod events;
+#[cfg(test)]
+mod lossy_tests;
+#[cfg(test)]
+mod taker_tests;

@@ -1,9 +1,8 @@
-use crate::checks::{is_said, wrong};
+use crate::checks::{field, is_answered};
 use amf_once::{Taken, Taker};
-use amf_rows::{Row, Table, Wrong};
-use std::alloc::{AllocError, Global};
+use amf_rows::{Row, Table};
+use std::alloc::Global;
 use std::process::Abort;
-use std::test::Fail;
 
 /// Numbers that a new taker is shown, what it says of each, and the number that it asks then.
 static NUMBERS: Table = Table {
@@ -30,34 +29,27 @@ fn said(taken: Taken) -> &'static str {
 }
 
 /// What the taker says of each of these numbers.
-fn answers(
-    rt: &impl Abort,
-    alloc: Global,
-    taker: &mut Taker,
-    numbers: &[u64],
-) -> Result<String, AllocError> {
+fn answers(rt: &impl Abort, alloc: Global, taker: &mut Taker, numbers: &[u64]) -> String {
     let mut out = String::new(alloc);
     for &number in numbers {
         assert!(rt; number < 1 << 62);
-        out.push_str(said(taker.take(number)))?;
+        out.push_str(said(taker.take(number))).expect(rt, "memory");
     }
-    Ok(out)
+    out
 }
 
-fn judge(rt: &impl Abort, alloc: Global, row: Row<'_>) -> Result<(), Wrong> {
-    let numbers = row.numbers(alloc, 0)?;
+fn judge(rt: &impl Abort, alloc: Global, row: Row<'_>) {
+    let numbers = row.numbers(alloc, 0).expect(rt, "numbers");
     let mut taker = Taker::new();
-    let says = answers(rt, alloc, &mut taker, numbers.as_slice())?;
-    is_said(rt, row, says.trim(), row.field(1)?);
-    let asks = format!(in alloc; "{}", taker.asks())?;
-    is_said(rt, row, &asks, row.field(2)?);
-    Ok(())
+    let says = answers(rt, alloc, &mut taker, &numbers);
+    is_answered(rt, row, says.trim(), field(rt, row, 1));
+    let asks = format!(in alloc; "{}", taker.asks()).expect(rt, "memory");
+    is_answered(rt, row, &asks, field(rt, row, 2));
 }
 
 #[test]
-fn judges_numbers(rt: HostRuntime) -> Result<(), Fail> {
-    for row in NUMBERS.rows(rt.alloc())? {
-        judge(&rt, rt.alloc(), row)?;
+fn judges_numbers(rt: HostRuntime) {
+    for row in NUMBERS.rows(rt.alloc()).expect(&rt, "rows").iter() {
+        judge(&rt, rt.alloc(), *row);
     }
-    Ok(())
 }

@@ -1,9 +1,9 @@
-use crate::checks::{chat, name_of, world_of};
-use amf_broker::{Answer, Call, ClientId, Delivery, Reply};
+use crate::calls::call;
+use crate::events::world_of;
+use amf_broker::{Answer, Delivery, Reply};
 use amf_once::{Event, World};
 use std::alloc::Global;
 use std::process::Abort;
-use std::test::Fail;
 
 /// How many courses are played, and how many events of each are chosen by chance.
 const COURSES: u64 = 200;
@@ -46,60 +46,48 @@ impl Chance {
         Event::Arrive(0, place)
     }
 
-    fn publish(&mut self, alloc: Global) -> Option<Event> {
+    fn publish(&mut self, rt: &impl Abort, alloc: Global) -> Event {
         self.published = self.published.wrapping_add(1);
-        let call = Call::Publish {
-            client: ClientId(1),
-            topic: chat(alloc)?,
-            message: name_of(alloc, "a")?,
-        };
-        Some(Event::Other(0, call))
+        Event::Other(0, call(rt, alloc, "publish 1 chat a", 0))
     }
 
     /// What happens next: a publish or an ask, twice as often an arrival or an answer.
-    fn event(&mut self, alloc: Global) -> Option<Event> {
+    fn event(&mut self, rt: &impl Abort, alloc: Global) -> Event {
         match self.next() % 6 {
-            0 => self.publish(alloc),
-            1 => Some(self.ask()),
+            0 => self.publish(rt, alloc),
+            1 => self.ask(),
             2 | 3 => {
                 let place = self.place(self.requests);
-                Some(self.arrive(place))
+                self.arrive(place)
             }
-            _ => Some(Event::Answer(self.place(self.answers))),
+            _ => Event::Answer(self.place(self.answers)),
         }
     }
 
     /// The taker asks, its request arrives, and the answer comes back: nothing is lost.
-    fn poll(&mut self, events: &mut Vec<Event>) -> Option<()> {
+    fn poll(&mut self, rt: &impl Abort, events: &mut Vec<Event>) {
         let asked = self.requests;
         let answered = self.answers;
-        events.push(self.ask()).ok()?;
-        events.push(self.arrive(asked)).ok()?;
-        events.push(Event::Answer(answered)).ok()
+        events.push(self.ask()).expect(rt, "memory");
+        events.push(self.arrive(asked)).expect(rt, "memory");
+        events.push(Event::Answer(answered)).expect(rt, "memory");
     }
 
     /// Two subscriptions, then events by chance, and then so many polls of which nothing is lost.
-    fn events(&mut self, alloc: Global, polls: u32) -> Option<Vec<Event>> {
+    fn events(&mut self, rt: &impl Abort, alloc: Global, polls: u32) -> Vec<Event> {
         let mut events = Vec::new(alloc);
         for _ in 0..2 {
-            events.push(subscribe(alloc)?).ok()?;
+            let subscribe = Event::Other(0, call(rt, alloc, "subscribe 1 chat", 0));
+            events.push(subscribe).expect(rt, "memory");
         }
         for _ in 0..EVENTS {
-            events.push(self.event(alloc)?).ok()?;
+            events.push(self.event(rt, alloc)).expect(rt, "memory");
         }
         for _ in 0..polls {
-            self.poll(&mut events)?;
+            self.poll(rt, &mut events);
         }
-        Some(events)
+        events
     }
-}
-
-fn subscribe(alloc: Global) -> Option<Event> {
-    let call = Call::Subscribe {
-        client: ClientId(1),
-        topic: chat(alloc)?,
-    };
-    Some(Event::Other(0, call))
 }
 
 /// How many messages a subscription was handed, unless they are not those from 1 on, each once and in order.
@@ -146,40 +134,30 @@ fn is_once(rt: &impl Abort, seed: u64, world: &World) {
     assert!(rt; count_of(taken, 1) == count_of(taken, 2), "seed {seed}");
 }
 
-/// The course of a seed, with so many polls in the end, and how many messages it published.
-fn play(rt: &impl Abort, alloc: Global, seed: u64, polls: u32) -> Option<(World, u64)> {
+/// Plays the course of a seed, with so many polls in the end, and ends the test unless each message is taken once. It tells
+/// how many were published, and how many of these each subscription took.
+fn play(rt: &impl Abort, alloc: Global, seed: u64, polls: u32) -> (u64, Option<u64>) {
     let mut chance = Chance {
         seed,
         requests: 0,
         answers: 0,
         published: 0,
     };
-    let events = chance.events(alloc, polls)?;
-    let world = world_of(rt, alloc, events)?;
-    Some((world, chance.published))
+    let events = chance.events(rt, alloc, polls);
+    let world = world_of(rt, alloc, events);
+    is_once(rt, seed, &world);
+    (chance.published, count_of(world.taken.as_slice(), 1))
 }
 
-/// What a course by chance comes to: each message once, and after two polls of which nothing is lost all of them.
-fn is_seed_once(rt: &impl Abort, alloc: Global, seed: u64) -> Option<u64> {
-    let (cut, _) = play(rt, alloc, seed, 0)?;
-    is_once(rt, seed, &cut);
-    let (whole, published) = play(rt, alloc, seed, 2)?;
-    is_once(rt, seed, &whole);
-    assert!(rt;
-        count_of(whole.taken.as_slice(), 1) == Some(published),
-        "seed {seed}"
-    );
-    Some(published)
-}
-
+/// After two polls of which nothing is lost all messages are taken.
 #[test]
-fn loses_nothing_by_chance(rt: HostRuntime) -> Result<(), Fail> {
-    let mut published = 0_u64;
+fn loses_nothing_by_chance(rt: HostRuntime) {
+    let mut all = 0_u64;
     for seed in 0..COURSES {
-        let count = is_seed_once(&rt, rt.alloc(), seed);
-        assert!(rt; count.is_some(), "no memory for seed {seed}");
-        published = published.wrapping_add(count.unwrap_or(0));
+        let _cut = play(&rt, rt.alloc(), seed, 0);
+        let (published, taken) = play(&rt, rt.alloc(), seed, 2);
+        assert!(rt; taken == Some(published), "seed {seed}");
+        all = all.wrapping_add(published);
     }
-    assert!(rt; published > COURSES);
-    Ok(())
+    assert!(rt; all > COURSES);
 }
