@@ -1,13 +1,14 @@
 -- Each step on the desk's table keeps its rule, and tells what it tells.
-use Rattle.std.proofs.Common.{◌≡◌, ◌≢◌, ℕ, zero, suc, ◌+◌, ◌%◌, ◌^◌, ◌<◌, ◌≤◌, ◌⊎◌, inl, inr, ⊎_elim, Bool, true, false, leb, List, [], ◌∷◌, ◌++◌, length, get_or, set, sym, refl, ap, ◌∙◌, subst, arith, length-set, length-append, le_refl, Option, Some, if◌then◌else◌}
+use Rattle.std.proofs.Common.{◌≡◌, ◌≢◌, ◌==◌, ℕ, zero, suc, ◌+◌, ◌%◌, ◌^◌, ◌<◌, ◌≤◌, ◌⊎◌, inl, inr, ⊎_elim, Bool, true, false, leb, List, [], ◌∷◌, ◌++◌, length, get_or, set, sym, refl, ap, ◌∙◌, subst, arith, length-set, length-append, le_refl, Option, Some, if◌then◌else◌}
 use Rattle.std.proofs.lemmas.Bool.Decides.{leb_tells}
 use mathlib.Core.Option.{none, some, some-injective, some-ne-none}
 use mathlib.Core.Logic.{dite}
 use native.Mathlib.Decide.{ℕ_discrete}
 use lib.ListN.{get_elem?}
+use prog.Atomic.{either}
 use lib.Seq.{set-get_or}
-use Rattle.atomic_table.specs.Table.{State, step, keeps, takes, gives, stepped, opening, rest, put_back, Allows, Splits, Joins}
-use Rattle.atomic_table.proofs.Lists.{set_here, set_else, set_again, one_turn}
+use Rattle.atomic_table.specs.Table.{State, Act, step, keeps, takes, gives, stepped, opening, rest, put_back, carried_after, Valid, Allows, Splits, Joins}
+use Rattle.atomic_table.proofs.Lists.{set_here, set_else, set_again, one_turn, exchanged}
 use Rattle.amf_broker.specs.State.{first}
 use Rattle.amf_broker.specs.Machine.{answer_to}
 use Rattle.amf_broker.specs.declared.call.Call.{Call}
@@ -18,7 +19,7 @@ use Rattle.amf_desk.specs.declared.view.Stage.TheVariants.{Idle, Waits, Turn, Jo
 use Rattle.amf_desk.specs.declared.view.View.{View}
 use Rattle.amf_desk.specs.Histories.{entry, state_of, AllBelow, Later, Begins, counted_after}
 use Rattle.amf_desk.specs.Rule.{first_view, spent_view, staged, outs, turns, HasTicket, total, out_of, turn_of, budget_of, Seated, Knows, Explained}
-use Rattle.amf_desk.specs.Steps.{Sat, Sound, turned, counted, longer, joined, agreed, left_of, right_of, Takes, Comes, Counts, Gives, Agrees}
+use Rattle.amf_desk.specs.Steps.{Sat, Sound, turned, counted, longer, joined, agreed, left_of, right_of, Takes, TakesNext, Comes, Counts, Gives, Agrees}
 use Rattle.amf_desk.proofs.Totals.{total_set, total_snoc, total_at, total_below, total_some, each_set, each_snoc, Apart, apart_set, apart_snoc}
 use Rattle.amf_desk.proofs.Longer.{explained, legal-snoc, below-snoc, below_wider, none_above, later_self, later-snoc, begins-snoc, begins_both, later_further, legal_begins, begins_length, below_begins, below_rest}
 
@@ -160,6 +161,15 @@ module _ (destinations : List (List ℕ)) where
         },
         (t, refl, ap (λ ws. get_or ws 0 0) r.words),
       )
+
+  pub takes_next : (slots id ticket new : ℕ) (me : Sat) → new ≡ (ticket + 1) % 2 ^ 64 → me.0.stage ≡ Idle → 0 < me.0.budget → Allows (Explained destinations) slots id me 0 (λ n. either (n == ticket) new n) (TakesNext (step slots 0 ticket new none) me)
+  takes_next slots id ticket new me next idle some_left s r long at fits = let n : ℕ = get_or s.words 0 0 in
+      exchanged n ticket new
+      (λ x. (w : View) × (a : Act (Option CountedBroker)) × Valid s.homes me.1 a × Explained destinations (stepped s 0 x id me.1 w a) × TakesNext (step slots 0 ticket new none) me n (w, carried_after me.1 a))
+      (λ hit. let taken = takes_ticket slots id me idle some_left s r long at fits in
+      let word : (n + 1) % 2 ^ 64 ≡ new = ap (λ (m : ℕ). (m + 1) % 2 ^ 64) hit ∙ sym next in
+      (taken.0, taken.1, taken.2, subst (λ x. Explained destinations (stepped s 0 x id me.1 taken.0 taken.1)) word taken.3, ((λ _. taken.4), (λ miss. absurd (miss hit)))))
+      (λ miss. (me.0, keeps, tt, unmoved s r 0 id me at, ((λ hit. absurd (miss hit)), (λ _. refl))))
 
   abbrev ticket_of : Stage → ℕ
   ticket_of Idle = 0

@@ -11,6 +11,7 @@ use Rattle.amf_desk.specs.declared.counted.CountedBroker.{CountedBroker}
 use Rattle.amf_desk.specs.declared.view.Stage.TheVariants.{Idle, Waits, Turn}
 use Rattle.amf_desk.specs.declared.view.View.{View}
 use Rattle.amf_desk.specs.Histories.{state_of, NoneBy, Later, counted_after}
+use Rattle.amf_desk.specs.Rule.{staged}
 use Rattle.amf_desk.specs.Steps.{Sat, Sound, turned}
 use Rattle.amf_desk.specs.Passes.{Held}
 
@@ -25,6 +26,10 @@ pub record Ready (seat : Seat (Option CountedBroker) View) (budget : ℕ) (first
   pub sound : Sound seat.me.0
   pub same : budget ≡ seat.me.0.budget
   pub is_first : IsTrue first ↔ (seat.me.0.number ≡ 0)
+
+-- the seat has taken this ticket
+abbrev pub HasTaken : Sat → ℕ → Sat → Type 0
+HasTaken m ticket m' = (t : ℕ) × (m' ≡ (staged m.0 (Waits t), m.1)) × (ticket ≡ t % 2 ^ 64)
 
 abbrev pub Waiting : View → ℕ → Type 0
 Waiting v ticket = (t : ℕ) × (v.stage ≡ Waits t) × (ticket ≡ t % 2 ^ 64)

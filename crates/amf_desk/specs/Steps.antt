@@ -58,6 +58,10 @@ right_of share v = record { destinations = v.destinations; number = v.splits + 1
 abbrev pub Takes : Step (Option CountedBroker) → Sat → ℕ → Sat → Type 0
 Takes st m n m' = (t : ℕ) × (m' ≡ (staged m.0 (Waits t), m.1)) × (n ≡ t % 2 ^ 64)
 
+-- the ticket of this number is given out, if it is the next one
+abbrev pub TakesNext : Step (Option CountedBroker) → Sat → ℕ → Sat → Type 0
+TakesNext st m n m' = (n ≡ st.first → Takes st m n m') × (n ≢ st.first → m' ≡ m)
+
 -- its turn has come, and the slot is its own, with the broker as the history leaves it
 pub record Came (v : View) (t : ℕ) (c : List (ℕ × Option CountedBroker)) (m' : Sat) : Type 0 where
   pub seen : List Entry

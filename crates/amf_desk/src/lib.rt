@@ -12,6 +12,7 @@ mod seats;
 mod steps;
 mod turn;
 mod view;
+mod waiting;
 
 pub use closed::{Closed, DeskEnd};
 pub use counted::CountedBroker;

@@ -1,6 +1,6 @@
 //! What each step on the table tells. These types are for the proofs alone.
 ghost use Rattle.amf_desk.specs.Rule.{spent_view};
-ghost use Rattle.amf_desk.specs.Steps.{Takes, Comes, Counts, Gives, Agrees, left_of, right_of, joined};
+ghost use Rattle.amf_desk.specs.Steps.{Takes, TakesNext, Comes, Counts, Gives, Agrees, left_of, right_of, joined};
 
 use crate::counted::CountedBroker;
 use crate::view::View;
@@ -40,6 +40,12 @@ pub(crate) struct Take;
 
 impl Play<Option<CountedBroker>, View> for Take {
     ghost then = { Takes };
+}
+
+pub(crate) struct TakeNext;
+
+impl Play<Option<CountedBroker>, View> for TakeNext {
+    ghost then = { TakesNext };
 }
 
 pub(crate) struct Come;

@@ -5,23 +5,18 @@ ghost use Rattle.amf_desk.specs.declared.view.Stage.TheVariants.{Idle, Waits, Tu
 ghost use Rattle.amf_desk.specs.Histories.{counted_after};
 ghost use Rattle.amf_desk.specs.Rule.{staged};
 ghost use Rattle.amf_desk.specs.Steps.{Came, Sound, counted};
-ghost use Rattle.amf_desk.specs.Seats.{Waiting, HasTurn};
+ghost use Rattle.amf_desk.specs.Seats.{HasTaken, Waiting, HasTurn};
 
 use crate::counted::CountedBroker;
 use crate::desk::Desk;
 use crate::pass::Place;
-use crate::plays::{Come, Count, Give, Take, Told};
-use std::sync::Wait;
-use std::{hint, thread};
+use crate::plays::{Come, Count, Give, Take, TakeNext, Told};
 
-const TICKET: usize = 0;
+pub(crate) const TICKET: usize = 0;
 
-const SERVING: usize = 1;
+pub(crate) const SERVING: usize = 1;
 
 const COUNT: usize = 2;
-
-/// How often a caller looks before it lets other threads run.
-const LOOKS: u32 = 100;
 
 impl Desk {
     /// Takes a ticket.
@@ -29,9 +24,24 @@ impl Desk {
         requires own { seat.old.table_id ≡ self.now }
         requires idle { (seat.old.me.0.stage ≡ Idle) × (0 < seat.old.me.0.budget) }
         ensures own { (seat.new.table_id ≡ seat.old.table_id) × (seat.new.id ≡ seat.old.id) }
-        ensures ticket { (t : ℕ) × (seat.new.me ≡ (staged seat.old.me.0 (Waits t), seat.old.me.1)) × (result ≡ t % 2 ^ 64) }
+        ensures ticket { HasTaken seat.old.me result seat.new.me }
     {
         self.table.shared.fetch_add::<Take>(seat, TICKET, 1)
+    }
+
+    /// Takes this ticket, if it is the next one.
+    pub(crate) fn take_this(&self, seat: &mut Place, ticket: u64) -> bool
+        requires own { seat.old.table_id ≡ self.now }
+        requires idle { (seat.old.me.0.stage ≡ Idle) × (0 < seat.old.me.0.budget) }
+        ensures own { (seat.new.table_id ≡ seat.old.table_id) × (seat.new.id ≡ seat.old.id) }
+        ensures taken { result ≡ true → HasTaken seat.old.me ticket seat.new.me }
+        ensures not_taken { result ≡ false → seat.new.me ≡ seat.old.me }
+    {
+        let next = ticket.wrapping_add(1);
+        self.table
+            .shared
+            .compare_exchange::<TakeNext>(seat, TICKET, ticket, next)
+            == ticket
     }
 
     /// Looks once whether the ticket is served.
@@ -44,39 +54,6 @@ impl Desk {
     {
         let serving = self.table.shared.load::<Come>(seat, SERVING);
         serving == ticket
-    }
-
-    /// Looks a few times, since turns are short.
-    pub(crate) fn look_often(&self, seat: &mut Place, ticket: u64) -> bool
-        requires own { seat.old.table_id ≡ self.now }
-        requires waits { Waiting seat.old.me.0 ticket }
-        ensures own { (seat.new.table_id ≡ seat.old.table_id) × (seat.new.id ≡ seat.old.id) }
-        ensures turn { result ≡ true → (t : ℕ) × Came seat.old.me.0 t seat.old.me.1 seat.new.me }
-        ensures not_yet { result ≡ false → seat.new.me ≡ seat.old.me }
-    {
-        for _ in 0..LOOKS {
-            if self.look(seat, ticket) {
-                return true;
-            }
-            hint::spin_loop();
-        }
-        false
-    }
-
-    /// Waits until the ticket is served. The slot is then out with the seat.
-    pub(crate) fn wait_turn<R: Wait>(&self, rt: &R, seat: &mut Place, ticket: u64)
-        requires own { seat.old.table_id ≡ self.now }
-        requires waits { Waiting seat.old.me.0 ticket }
-        ensures own { (seat.new.table_id ≡ seat.old.table_id) × (seat.new.id ≡ seat.old.id) }
-        ensures turn { (t : ℕ) × Came seat.old.me.0 t seat.old.me.1 seat.new.me }
-    {
-        for _ in rt.forever() {
-            if self.look_often(seat, ticket) {
-                return;
-            }
-            thread::yield_now();
-        }
-        unreachable!()
     }
 
     /// Takes the broker out of the slot.

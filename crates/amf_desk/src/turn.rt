@@ -23,7 +23,7 @@ impl Desk {
         ensures own { (seat.new.table_id ≡ seat.old.table_id) × (seat.new.id ≡ seat.old.id) }
         ensures entered { Entered seat.old.me.0 seat.new.me result }
     {
-        let ticket = self.take_ticket(seat);
+        let ticket = self.get_ticket(rt, seat);
         self.wait_turn(rt, seat, ticket);
         self.take_out(seat)
     }

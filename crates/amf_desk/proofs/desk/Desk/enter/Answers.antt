@@ -6,9 +6,9 @@ use Rattle.amf_desk.proofs.Turns.{entered}
 use Rattle.amf_desk.proofs.desk.Desk.enter.Goals as goal
 
 pub take_out-requires-clause-out : goal.take_out-requires-clause-out
-take_out-requires-clause-out g c = let came = c.wait_turn.ensures.turn.1 in let none_held = ap (λ (m : Sat). m.1) c.take_ticket-ticket.ensures.ticket.1 ∙ c.requires.idle.2 in
-    (counted_after c.take_ticket-ticket.new.seat.me.0.destinations came.seen, ap (λ (m : Sat). m.1) came.is ∙ ap (λ xs. (0, Some (counted_after c.take_ticket-ticket.new.seat.me.0.destinations came.seen)) ∷ xs) none_held)
+take_out-requires-clause-out g c = let came = c.wait_turn.ensures.turn.1 in let none_held = ap (λ (m : Sat). m.1) c.get_ticket-ticket.ensures.ticket.1 ∙ c.requires.idle.2 in
+    (counted_after c.get_ticket-ticket.new.seat.me.0.destinations came.seen, ap (λ (m : Sat). m.1) came.is ∙ ap (λ xs. (0, Some (counted_after c.get_ticket-ticket.new.seat.me.0.destinations came.seen)) ∷ xs) none_held)
 
 pub returns-clause-entered : goal.returns-clause-entered
-returns-clause-entered g c = let ticket = c.take_ticket-ticket.ensures.ticket in
+returns-clause-entered g c = let ticket = c.get_ticket-ticket.ensures.ticket in
     entered _ _ ticket.0 _ c.wait_turn.ensures.turn.0 _ _ _ (ap (λ (m : Sat). m.0) ticket.1) (ap (λ (m : Sat). m.1) ticket.1 ∙ c.requires.idle.2) c.wait_turn.ensures.turn.1 c.take_out.ensures.left c.take_out.ensures.broker

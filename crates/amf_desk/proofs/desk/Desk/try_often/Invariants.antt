@@ -1,0 +1,6 @@
+-- Until the ticket is taken nothing changes.
+use Rattle.std.proofs.Common.{◌≡◌}
+use Rattle.amf_desk.proofs.desk.Desk.try_often.Given as goal
+
+abbrev pub invariant-loop : goal.invariant-loop
+invariant-loop l = (l.seat.table_id ≡ l.initial.seat.table_id) × (l.seat.id ≡ l.initial.seat.id) × (l.seat.me ≡ l.initial.seat.me)
