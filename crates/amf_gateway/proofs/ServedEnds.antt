@@ -14,7 +14,7 @@ use Rattle.amf_plan.specs.Links.{LinkEnd, link}
 use Rattle.amf_plan.specs.Plan.{Plan}
 use Rattle.amf_plan.specs.Stands.{AtCall, StopsBy, Stops}
 use Rattle.amf_plan.proofs.Standing.{stands_weaker}
-use Rattle.amf_gateway.specs.ServesLink.{CountsLink, most_unanswered, ServesLink}
+use Rattle.amf_gateway.specs.ServesLink.{CountsLink, most_unanswered, ServesLink, is_starved}
 use Rattle.amf_plan.specs.Serving.{ServeEnd, ended, read_fault, write_fault, no_memory, spent, LinkBytes, Taken, supply_of, did, Serves}
 use Rattle.amf_gateway.specs.Tells.{OfLink, OfHall}
 use Rattle.amf_gateway.specs.WorkerSteps.{unknown}
@@ -134,6 +134,14 @@ at_most_each read_fault = omega arith
 at_most_each write_fault = omega arith
 at_most_each no_memory = omega arith
 at_most_each spent = omega arith
+
+-- each call had an answer, unless memory or calls ran out
+pub all_answered_unless : (end : ServeEnd) (budget before now answered : ℕ) → is_starved end ≡ false → (end ≡ spent → budget ≡ 0) → 0 < budget → CountsCalls (most_unanswered end) before now answered → CountsCalls 0 before now answered
+all_answered_unless (ended end) budget before now answered e none more c = c
+all_answered_unless read_fault budget before now answered e none more c = c
+all_answered_unless write_fault budget before now answered e none more c = c
+all_answered_unless no_memory budget before now answered e none more c = absurd cc
+all_answered_unless spent budget before now answered e none more c = let zero = none refl in absurd (omega arith)
 
 none_is_some : None ≡ Some Spent → ⊥
 none_is_some e = cc

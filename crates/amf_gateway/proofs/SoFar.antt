@@ -253,3 +253,13 @@ counts_none before budget l = record { unanswered = 0; few = omega arith; counte
 
 pub counts_few : (n each before now answered : ℕ) → n ≤ each → CountsCalls n before now answered → CountsCalls each before now answered
 counts_few n each before now answered l c = record { unanswered = c.unanswered; few = omega (arith, l, c.few); counted = c.counted }
+
+-- each call had an answer, also those of one link more
+pub all_answered_more : (before now later : ℕ) (starved hungry : Bool) (p q r : Held) (es fs : List Event) → PassGoesOn p q es → PassGoesOn q r fs → (starved ≡ false → 0 < q.budget → CountsCalls 0 before now (p.budget - q.budget))
+    → (hungry ≡ false → 0 < r.budget → CountsCalls 0 now later (q.budget - r.budget)) → (starved || hungry) ≡ false → 0 < r.budget → CountsCalls 0 before later (p.budget - r.budget)
+all_answered_more before now later starved hungry p q r es fs g h c d e more =
+    let none = either_false starved hungry e in
+    let left : 0 < q.budget = omega (arith, more, h.budget) in
+    let first = c none.0 left in
+    let second = d none.1 more in
+    record { unanswered = 0; few = omega arith; counted = omega (arith, first.few, first.counted, second.few, second.counted, g.budget, h.budget) }

@@ -1,10 +1,10 @@
 //! Workers at a desk, each with a pass and a hall of its own.
 
-ghost use Rattle.std.specs.Prelude.{◌≡◌, ◌-◌, ◌||◌, List, length, None};
+ghost use Rattle.std.specs.Prelude.{◌≡◌, ◌-◌, ◌<◌, ◌||◌, false, List, length, None};
 ghost use Rattle.amf_service.specs.Registry.{Entry};
 ghost use Rattle.amf_plan.specs.Services.{services_by};
 ghost use Rattle.amf_gateway.specs.Handed.{CountsCalls};
-ghost use Rattle.amf_gateway.specs.Served.{Served};
+ghost use Rattle.amf_gateway.specs.Served.{Served, starved_in};
 ghost use Rattle.amf_gateway.specs.WorkerSteps.{ServedNext};
 
 use crate::serve::serve_link_keyed;
@@ -101,6 +101,7 @@ impl<H: Hall> Worker<H> {
         requires { self.old.pass.desk ≡ desk.now }
         ensures served { let services : List Entry = services_by registry.now.services.entries (λ x. x.items) (λ s. knows (s.vtable, s.value)) (λ s. gives (s.vtable, s.value)) in ServedNext (record { tells_links = H.tells_links; coming = H.coming; served = H.served; faults = H.faults; tells_moments = H.tells_moments; moments = H.moments; tells_words = H.tells_words; words = H.words }) (record { tells_left = H.Link.tells_left; left = H.Link.left; tells_held = H.Link.tells_held; held = H.Link.held; read_faults = H.Link.read_faults; write_faults = H.Link.write_faults }) services self.old.pass self.new.pass self.old.hall self.new.hall link result }
         ensures calls { CountsCalls 1 self.old.calls self.new.calls (self.old.pass.budget - self.new.pass.budget) }
+        ensures all_answered { result ≡ false → 0 < self.new.pass.budget → CountsCalls 0 self.old.calls self.new.calls (self.old.pass.budget - self.new.pass.budget) }
         ensures number { self.new.number ≡ self.old.number }
         ensures keys { self.new.keys ≡ self.old.keys }
     {
@@ -123,7 +124,7 @@ impl<H: Hall> Worker<H> {
 
     /// Serves up to `each` links of the hall, one after the other, and gives each back to it. A link's end does not stop the
     /// worker. The desk is that of its pass. Its number and its keys stay, and its calls are counted: those that had an answer, and
-    /// one that had none at most for each link that it served.
+    /// one that had none at most for each link that it served. Where no link ran out of memory and calls are left, each had one.
     pub fn serve<R: Wait, G: Gate>(
         &mut self,
         rt: &R,
@@ -136,6 +137,8 @@ impl<H: Hall> Worker<H> {
         requires { self.old.pass.desk ≡ desk.now }
         ensures served { let services : List Entry = services_by registry.now.services.entries (λ x. x.items) (λ s. knows (s.vtable, s.value)) (λ s. gives (s.vtable, s.value)) in Served (record { tells_links = H.tells_links; coming = H.coming; served = H.served; faults = H.faults; tells_moments = H.tells_moments; moments = H.moments; tells_words = H.tells_words; words = H.words }) (record { tells_left = H.Link.tells_left; left = H.Link.left; tells_held = H.Link.tells_held; held = H.Link.held; read_faults = H.Link.read_faults; write_faults = H.Link.write_faults }) services each self.old.pass self.new.pass self.old.hall self.new.hall result }
         ensures calls { CountsCalls each self.old.calls self.new.calls (self.old.pass.budget - self.new.pass.budget) }
+        ensures all_answered { starved_in result ≡ false → 0 < self.new.pass.budget
+            → CountsCalls 0 self.old.calls self.new.calls (self.old.pass.budget - self.new.pass.budget) }
         ensures calls_told { H.tells_links self.new.hall → CountsCalls (length (H.served self.new.hall) - length (H.served self.old.hall)) self.old.calls self.new.calls (self.old.pass.budget - self.new.pass.budget) }
         ensures number { self.new.number ≡ self.old.number }
         ensures keys { self.new.keys ≡ self.old.keys }

@@ -1,9 +1,9 @@
 use Rattle.std.proofs.Common.{refl, ◌∙◌, arith}
-use Rattle.amf_gateway.proofs.SoFar.{sofar_none, sofar_next, served_each, served_all, served_until, calls_told, counts_none, counts_more, counts_few}
+use Rattle.amf_gateway.proofs.SoFar.{sofar_none, sofar_next, served_each, served_all, served_until, calls_told, counts_none, counts_more, counts_few, all_answered_more}
 use Rattle.amf_gateway.proofs.worker.Worker.serve.Goals as goal
 
 pub loop-init : goal.loop-init
-loop-init g c = (sofar_none _ _ _ _ _, counts_none _ _ (omega arith), refl, refl)
+loop-init g c = (sofar_none _ _ _ _ _, counts_none _ _ (omega arith), refl, refl, λ e more. counts_none _ _ (omega arith))
 
 pub returns-in-Ok-None-clause-served : goal.returns-in-Ok-None-clause-served
 returns-in-Ok-None-clause-served g c =
@@ -25,6 +25,7 @@ loop-preserved g c =
       counts_more _ _ _ _ _ _ _ _ _ c.loop.invariant.0.pass c.serve_next-hungry.ensures.served.pass c.loop.invariant.1 c.serve_next-hungry.ensures.calls,
       c.serve_next-hungry.ensures.number ∙ c.loop.invariant.2,
       c.serve_next-hungry.ensures.keys ∙ c.loop.invariant.3,
+      rw c.either-starved.ensures (all_answered_more _ _ _ _ _ _ _ _ _ _ c.loop.invariant.0.pass c.serve_next-hungry.ensures.served.pass c.loop.invariant.4 c.serve_next-hungry.ensures.all_answered),
     )
 
 pub returns-in-Ok-None-clause-calls : goal.returns-in-Ok-None-clause-calls
@@ -48,3 +49,12 @@ returns-in-Err-clause-calls_told g c =
 
 pub returns-clause-calls_told : goal.returns-clause-calls_told
 returns-clause-calls_told g c = calls_told _ _ _ _ _ _ _ _ _ _ _ _ _ c.loop.invariant.0 (λ t. t) (λ t. refl) c.loop.invariant.1
+
+pub returns-in-Ok-None-clause-all_answered : goal.returns-in-Ok-None-clause-all_answered
+returns-in-Ok-None-clause-all_answered g c = c.loop.invariant.4
+
+pub returns-in-Err-clause-all_answered : goal.returns-in-Err-clause-all_answered
+returns-in-Err-clause-all_answered g c = c.loop.invariant.4
+
+pub returns-clause-all_answered : goal.returns-clause-all_answered
+returns-clause-all_answered g c = c.loop.invariant.4

@@ -1,4 +1,4 @@
-use Rattle.std.proofs.Common.{◌≡◌, ◌-◌}
+use Rattle.std.proofs.Common.{◌≡◌, ◌-◌, ◌<◌, false}
 use Rattle.amf_gateway.specs.Handed.{CountsCalls}
 use Rattle.amf_plan.specs.Services.{services_by}
 use Rattle.amf_gateway.proofs.SoFar.{SoFar}
@@ -12,3 +12,4 @@ invariant-loop g l =
     (record { tells_left = k.tells_left; left = k.left; tells_held = k.tells_held; held = k.held; read_faults = k.read_faults; write_faults = k.write_faults }) (services_by l.registry.services.entries (λ x. x.items) (λ s. (goal.Service-dyn g (s.vtable, s.value)).knows s.value) (λ s. (goal.Service-dyn g (s.vtable, s.value)).gives s.value)) l.counter l.initial.self.pass l.self.pass l.initial.self.hall l.self.hall l.starved)
     × CountsCalls l.counter l.initial.self.calls l.self.calls (l.initial.self.pass.budget - l.self.pass.budget)
     × (l.self.number ≡ l.initial.self.number) × (l.self.keys ≡ l.initial.self.keys)
+    × (l.starved ≡ false → 0 < l.self.pass.budget → CountsCalls 0 l.initial.self.calls l.self.calls (l.initial.self.pass.budget - l.self.pass.budget))
