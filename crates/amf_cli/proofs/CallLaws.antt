@@ -16,12 +16,12 @@ use Rattle.amf_commands.specs.declared.command.Task.TheVariants.{Call}
 use Rattle.amf_commands.specs.declared.format.Format.TheVariants.{Amf3}
 use Rattle.amf_commands.specs.declared.run_end.RunEnd.{RunEnd}
 use Rattle.amf_commands.specs.declared.run_end.RunEnd.TheVariants.{Refused, Usage, ReadFault, WriteFault, NoMemory, FrontFault, NoForm}
-use Rattle.amf_commands.specs.Commands.{ReadsCall, IsCalling, IsServing}
+use Rattle.amf_commands.specs.Commands.{ReadsCall, IsDialling, IsListening, IsServing}
 use Rattle.amf_commands.specs.Content.{value}
 use Rattle.amf_commands.specs.Input.{most, one, IsAcceptedAs, IsRefusedAs}
 use Rattle.amf_commands.specs.Lines.{status_of, line_of}
 use Rattle.amf_commands.specs.Run.{IsReadEnd, ReadsInput, NeverLacks}
-use Rattle.amf_commands.proofs.Asked.{call_is_no_flv, call_is_no_output, call_is_no_rtmp, call_is_no_serving, one_call}
+use Rattle.amf_commands.proofs.Asked.{call_is_no_flv, call_is_no_output, call_is_no_rtmp, call_is_no_serving, dialling_is_no_serving, listener_is_no_call, one_call}
 use Rattle.amf_commands.proofs.Spelled.{once, never_refused}
 use Rattle.amf_cli.specs.CallEnds.{AnswerEnds, CallEnds, unread, answered, Starves}
 use Rattle.amf_cli.specs.CallSteps.{CallCounts}
@@ -156,22 +156,22 @@ module _ {I O E D L : Type 0} (i : SourceMembers I) (o : SinkMembers O) (e : Sin
 
   module _ (words : List (List ℕ)) (status : ℕ) (input rest : I) (out wrote : O) (err told : E) (dial : D) where
     -- nothing was asked of the dial
-    pub data_calls : (8 ≤ status → IsCalling words) → (IsCalling words → Starves o e out wrote err told status) → CallsWords i o e d l words status input rest out wrote err told dial dial
+    pub data_calls : (8 ≤ status → IsDialling words) → (IsDialling words → Starves o e out wrote err told status) → CallsWords i o e d l words status input rest out wrote err told dial dial
     data_calls from starves = record {
       uncalled = λ none. (refl, at_most none);
-      called = λ options w. unread refl (inr (inr (starves (options, w))));
-      accepted = λ c t a is_1. let five = (starves c).0 in omega (arith, five, is_1);
-      not_accepted = λ c t reason at q. inr (inr (starves c).0);
+      called = λ options w. unread refl (inr (inr (starves (inl (options, w)))));
+      accepted = λ c t a is_1. let five = (starves (inl c)).0 in omega (arith, five, is_1);
+      not_accepted = λ c t reason at q. inr (inr (starves (inl c)).0);
       link_fault = λ ten. let five = (starves (from (omega (arith, ten)))).0 in absurd (omega (arith, five, ten));
-      no_link_fault = λ n. refl;
+      no_link_fault = λ n k. refl;
     }
       where
-        at_most : (IsCalling words → ⊥) → status ≤ 7
+        at_most : (IsDialling words → ⊥) → status ≤ 7
         at_most none = elim (cases_lt status 8) [ inl h ↦ omega (arith, h) | inr h ↦ absurd (none (from h)) ]
 
     -- links were served
     pub link_calls : IsServing words → Ends i o e words status input rest out wrote err told → CallsWords i o e d l words status input rest out wrote err told dial dial
-    link_calls w ends = data_calls ends.of_call (λ k. absurd (call_is_no_serving words w k))
+    link_calls w ends = data_calls ends.of_peer (λ k. absurd (dialling_is_no_serving words w k))
 
     module _ (back : D) (options : CallOptions) (w : ReadsCall words options) (ends : CallEnds i o e d l options status input rest out wrote err told dial back) where
       call_status : CallStatus status (wrote ≡ out)
@@ -223,18 +223,22 @@ module _ {I O E D L : Type 0} (i : SourceMembers I) (o : SinkMembers O) (e : Sin
       -- a call was made, or not
       pub call_calls : CallsWords i o e d l words status input rest out wrote err told dial back
       call_calls = record {
-        uncalled = λ none. absurd (none (options, w));
+        uncalled = λ none. absurd (none (inl (options, w)));
         called = λ other v. subst (λ (x : CallOptions). CallEnds i o e d l x status input rest out wrote err told dial back) (one_call words options other w v) ends;
         accepted = λ c t a one_is. call_accepted t a one_is;
         not_accepted = λ c t reason at q. call_not_accepted t reason at q;
         link_fault = call_rose;
-        no_link_fault = call_steady;
+        no_link_fault = λ other k. call_steady other;
       }
+
+      call_links : IsServing words ⊎ IsListening words → ⊥
+      call_links (inl s) = call_is_no_serving words s (options, w)
+      call_links (inr s) = listener_is_no_call words (options, w) s
 
       pub call_ends : CallCounts status (i.faults input) (i.faults rest) (o.faults out) (o.faults wrote) (e.faults err) (e.faults told) → (i.tells input → length (i.left input) ≤ length (i.left rest) + (most + 1)) → Ends i o e words status input rest out wrote err told
       call_ends counts taken = record {
         statuses = at_most_10 status (wrote ≡ out) call_status;
-        of_call = λ h. (options, w);
+        of_peer = λ h. inl (options, w);
         usage = λ two. absurd (not_usage status (wrote ≡ out) call_status two);
         no_reading = λ none. absurd (none (Call options, w));
         read = λ two five. (Call options, w);
@@ -257,13 +261,13 @@ module _ {I O E D L : Type 0} (i : SourceMembers I) (o : SinkMembers O) (e : Sin
         lacking = λ c v t number k n. absurd (call_is_no_output words c v (options, w));
         untaken = λ c v n. absurd (call_is_no_output words c v (options, w));
         reading = λ c v h. absurd (call_is_no_output words c v (options, w));
-        links = λ s. absurd (call_is_no_serving words s (options, w));
-        untouched = λ h m. keeps status (wrote ≡ out) call_status h;
-        unwritten = λ five n m. keeps_at_5 status (wrote ≡ out) call_status five;
+        links = λ s. absurd (call_links s);
+        untouched = λ h m n. keeps status (wrote ≡ out) call_status h;
+        unwritten = λ five n m k. keeps_at_5 status (wrote ≡ out) call_status five;
         taken = λ t m. taken t;
         flv = λ job v. absurd (call_is_no_flv words job v (options, w));
         rtmp = λ size v. absurd (call_is_no_rtmp words size v (options, w));
-        line = λ t s m n. absurd (n (options, w));
+        line = λ t s m n. absurd (n (inl (options, w)));
       }
 
   -- The same from streams that are these.

@@ -7,7 +7,7 @@ use Rattle.amf_graph.specs.declared.lack.Lack.{Lack}
 use Rattle.amf_commands.specs.declared.command.Command.{Command}
 use Rattle.amf_commands.specs.declared.command.ServeOptions.{ServeOptions}
 use Rattle.amf_commands.specs.declared.command.Task.{Task}
-use Rattle.amf_commands.specs.declared.command.Task.TheVariants.{Output, Serve, Flv, Rtmp, Call}
+use Rattle.amf_commands.specs.declared.command.Task.TheVariants.{Output, Serve, Flv, Rtmp, Call, Listen}
 use Rattle.flv_meta.specs.declared.flv_job.FlvJob.{FlvJob}
 use Rattle.amf_media.specs.declared.ending.MediaEnd.{MediaEnd}
 use Rattle.amf_media.specs.declared.ending.MediaEnd.TheVariants as media
@@ -17,11 +17,11 @@ use Rattle.amf_media.specs.RtmpRuns.{RunsStream}
 use Rattle.amf_media.specs.Written.{CountsWrites as CountsMediaWrites}
 use Rattle.amf_commands.specs.declared.run_end.RunEnd.{RunEnd}
 use Rattle.amf_commands.specs.declared.run_end.RunEnd.TheVariants.{Refused, Usage, ReadFault, WriteFault, NoMemory, FrontFault, NoForm}
-use Rattle.amf_commands.specs.Commands.{AsksFor, HasReading, IsCalling, IsMedia, IsServing, Reads, ReadsFlv, ReadsRtmp, ReadsServe}
+use Rattle.amf_commands.specs.Commands.{AsksFor, HasReading, IsDialling, IsListening, IsMedia, IsServing, Reads, ReadsFlv, ReadsRtmp, ReadsServe}
 use Rattle.amf_commands.specs.Input.{most}
 use Rattle.amf_commands.specs.Lines.{status_of, line_of}
 use Rattle.amf_commands.specs.Run.{TakesInput, MayLack, CountsReads, CountsWrites, IsReading, IsUntouched, RunsTo}
-use Rattle.amf_commands.proofs.Asked.{call_is_no_media, flv_is_no_output, flv_is_no_rtmp, flv_is_no_serving, media_is_no_output, media_is_no_serving, not_both, not_serving, one_job, one_reading, one_size, rtmp_is_no_output, rtmp_is_no_serving}
+use Rattle.amf_commands.proofs.Asked.{dialling_is_no_media, flv_is_no_output, flv_is_no_rtmp, flv_is_no_serving, listener_is_no_media, listener_is_no_output, media_is_no_output, media_is_no_serving, not_both, not_serving, one_job, one_reading, one_size, rtmp_is_no_output, rtmp_is_no_serving}
 use Rattle.amf_commands.proofs.Spelled.{made_again, made_not_lacking}
 use Rattle.amf_commands.proofs.Statuses.{refused_says, hidden_says, front_says, no_form_says, accepted_says, not_accepted_says, formed_says, lacking_says, done_not_refused, line_says, usage_end, form_status, reading_says, reads_steady, writes_steady, never_0, within_7, memory_end}
 use Rattle.amf_cli.specs.MediaEnds.{EndsJob, status_of as media_status_of, error_line}
@@ -199,6 +199,15 @@ media_read : (words : List (List ℕ)) → IsMedia words → HasReading words
 media_read words (inl m) = (Flv m.0, m.1)
 media_read words (inr m) = (Rtmp m.0, m.1)
 
+-- what serves links, or listens, is none of these
+no_links : (words : List (List ℕ)) (c : Command) → Reads words c → IsServing words ⊎ IsListening words → ⊥
+no_links words c w (inl s) = not_serving words c w s
+no_links words c w (inr s) = listener_is_no_output words c w s
+
+no_media_links : (words : List (List ℕ)) → IsServing words ⊎ IsListening words → IsMedia words → ⊥
+no_media_links words (inl s) m = media_is_no_serving words s m
+no_media_links words (inr s) m = listener_is_no_media words m s
+
 within_limit : (n : ℕ) → n ≤ n + (most + 1)
 within_limit n = omega arith
 
@@ -217,7 +226,7 @@ module _ {I O E : Type 0} (i : SourceMembers I) (o : SinkMembers O) (e : SinkMem
   usage_ends : (HasReading words → ⊥) → rest ≡ input → wrote ≡ out → e.faults err ≤ e.faults told → (e.tells told → Steady (e.faults err) (e.faults told) → e.held told ≡ e.held err ++ line_of Usage) → Promises 2
   usage_ends none same kept counted line = record {
     statuses = omega arith;
-    of_call = λ h. absurd (omega arith);
+    of_peer = λ h. absurd (omega arith);
     usage = λ two. none;
     no_reading = λ n. inl refl;
     read = λ two five. absurd (two refl);
@@ -241,8 +250,8 @@ module _ {I O E : Type 0} (i : SourceMembers I) (o : SinkMembers O) (e : SinkMem
     untaken = λ c w n. same;
     reading = λ c w h. absurd (none (Output c, w));
     links = λ s. same;
-    untouched = λ h m. kept;
-    unwritten = λ five n m. kept;
+    untouched = λ h m k. kept;
+    unwritten = λ five n m k. kept;
     taken = λ t m. same_taken same;
     flv = λ job w. absurd (none (Flv job, w));
     rtmp = λ size w. absurd (none (Rtmp size, w));
@@ -275,7 +284,7 @@ module _ {I O E : Type 0} (i : SourceMembers I) (o : SinkMembers O) (e : SinkMem
   pub memory_ends : rest ≡ input → wrote ≡ out → e.faults err ≤ e.faults told → (e.tells told → Steady (e.faults err) (e.faults told) → e.held told ≡ e.held err ++ line_of NoMemory) → Promises 5
   memory_ends same kept counted line = record {
     statuses = omega arith;
-    of_call = λ h. absurd (omega arith);
+    of_peer = λ h. absurd (omega arith);
     usage = λ two. absurd (omega arith);
     no_reading = λ n. inr refl;
     read = λ two five. absurd (five refl);
@@ -299,8 +308,8 @@ module _ {I O E : Type 0} (i : SourceMembers I) (o : SinkMembers O) (e : SinkMem
     untaken = λ c w n. same;
     reading = λ c w h. absurd (neither 5 (λ z. absurd (omega arith)) (λ z. absurd (omega arith)) h);
     links = λ s. same;
-    untouched = λ h m. kept;
-    unwritten = λ five n m. kept;
+    untouched = λ h m k. kept;
+    unwritten = λ five n m k. kept;
     taken = λ t m. same_taken same;
     flv = λ job w. memory_job (RunsFlv job) (MayEnd job) (flv_memory job (i.left input) (i.left rest) (o.tells wrote) (o.held out) (o.held wrote) (ap i.left same) (ap o.held kept)) (may_memory job) same kept line;
     rtmp = λ size w. memory_job (RunsStream size) IsFileEnd (rtmp_memory size (i.left input) (i.left rest) (o.tells wrote) (o.held out) (o.held wrote) (ap i.left same) (ap o.held kept)) tt same kept line;
@@ -321,7 +330,7 @@ module _ {I O E : Type 0} (i : SourceMembers I) (o : SinkMembers O) (e : SinkMem
     whole_ends : (x : Unit {0}) → Runs (Ok x) → ((TakesInput c → ⊥) → rest ≡ input) → (i.tells input → length (i.left input) ≤ length (i.left rest) + (most + 1)) → CountsReads (i.faults input) (i.faults rest) (Whole x) → CountsWrites (o.faults out) (o.faults wrote) (Whole x) → e.faults err ≤ e.faults told → (e.tells told → Steady (e.faults err) (e.faults told) → e.held told ≡ e.held err) → Promises 0
     whole_ends x runs untaken taken reads writes counted line = record {
       statuses = omega arith;
-      of_call = λ h. absurd (omega arith);
+      of_peer = λ h. absurd (omega arith);
       usage = λ two. absurd (omega arith);
       no_reading = λ none. absurd (none (Output c, w));
       read = λ two five. (Output c, w);
@@ -344,9 +353,9 @@ module _ {I O E : Type 0} (i : SourceMembers I) (o : SinkMembers O) (e : SinkMem
       lacking = λ d v t number l k. let r = runs_of (Ok x) runs d v t in absurd (made_not_lacking d _ r.bytes number l r.made k);
       untaken = untaken_of untaken;
       reading = λ d v h. absurd (neither 0 (λ z. absurd (omega arith)) (λ z. absurd (omega arith)) h);
-      links = λ s. absurd (not_serving words c w s);
-      untouched = λ h m. absurd (none_of 0 (λ z. absurd (omega arith)) (λ z. absurd (omega arith)) (λ z. absurd (omega arith)) (λ z. absurd (omega arith)) h);
-      unwritten = λ five n m. absurd (omega arith);
+      links = λ s. absurd (no_links words c w s);
+      untouched = λ h m k. absurd (none_of 0 (λ z. absurd (omega arith)) (λ z. absurd (omega arith)) (λ z. absurd (omega arith)) (λ z. absurd (omega arith)) h);
+      unwritten = λ five n m k. absurd (omega arith);
       taken = λ t m. taken t;
       flv = λ job v. absurd (flv_is_no_output words c job w v);
       rtmp = λ size v. absurd (rtmp_is_no_output words c size w v);
@@ -356,7 +365,7 @@ module _ {I O E : Type 0} (i : SourceMembers I) (o : SinkMembers O) (e : SinkMem
     failed_ends : (x : RunEnd) → Ended x ≢ Err Usage → ((number : ℕ) (l : Lack) → Ended x ≡ Err (NoForm number l) → MayLack c) → IsReading c (Ended x) → ((TakesInput c → ⊥) → rest ≡ input) → Runs (Ended x) → (i.tells input → length (i.left input) ≤ length (i.left rest) + (most + 1)) → IsUntouched out wrote (Ended x) → (Ended x ≡ Err NoMemory → wrote ≡ out) → CountsReads (i.faults input) (i.faults rest) (Ended x) → CountsWrites (o.faults out) (o.faults wrote) (Ended x) → e.faults err ≤ e.faults told → (e.tells told → Steady (e.faults err) (e.faults told) → e.held told ≡ e.held err ++ line_of x) → Promises (status_of x)
     failed_ends x usage alone reading untaken runs taken untouched unwritten reads writes counted line = record {
       statuses = below_10 (status_of x) (within_7 x);
-      of_call = λ h. not_above (status_of x) (within_7 x) h;
+      of_peer = λ h. not_above (status_of x) (within_7 x) h;
       usage = λ two. absurd (usage (usage_end x two));
       no_reading = λ none. absurd (none (Output c, w));
       read = λ two five. (Output c, w);
@@ -379,9 +388,9 @@ module _ {I O E : Type 0} (i : SourceMembers I) (o : SinkMembers O) (e : SinkMem
       lacking = λ d v t number l k. lacking_says d x _ _ _ _ _ number l usage (runs_of (Ended x) runs d v t) k;
       untaken = untaken_of untaken;
       reading = λ d v h. reading_says d x h (subst (λ (k : Command). IsReading k (Ended x)) (one_reading words c d w v) reading);
-      links = λ s. absurd (not_serving words c w s);
-      untouched = λ h m. kept_with out wrote x h untouched;
-      unwritten = λ five n m. unwritten (memory_end x five);
+      links = λ s. absurd (no_links words c w s);
+      untouched = λ h m k. kept_with out wrote x h untouched;
+      unwritten = λ five n m k. unwritten (memory_end x five);
       taken = λ t m. taken t;
       flv = λ job v. absurd (flv_is_no_output words c job w v);
       rtmp = λ size v. absurd (rtmp_is_no_output words c size w v);
@@ -397,7 +406,7 @@ module _ {I O E : Type 0} (i : SourceMembers I) (o : SinkMembers O) (e : SinkMem
   served_ends : (s : ServeOptions) (w : ReadsServe words s) (r : End) → IsServeEnd r → rest ≡ input → CountsWrites (o.faults out) (o.faults wrote) r → e.faults err ≤ e.faults told → (e.tells told → Steady (e.faults err) (e.faults told) → ReportsEnd r (e.held err) (e.held told)) → Promises (status_for r)
   served_ends s w (Ok x) ends same writes counted line = record {
     statuses = omega arith;
-    of_call = λ h. absurd (omega arith);
+    of_peer = λ h. absurd (omega arith);
     usage = λ two. absurd (omega arith);
     no_reading = λ none. absurd (none (Serve s, w));
     read = λ two five. (Serve s, w);
@@ -421,8 +430,8 @@ module _ {I O E : Type 0} (i : SourceMembers I) (o : SinkMembers O) (e : SinkMem
     untaken = λ c v n. same;
     reading = λ c v h. absurd (not_both words c s v w);
     links = λ z. same;
-    untouched = λ h m. absurd (none_of 0 (λ z. absurd (omega arith)) (λ z. absurd (omega arith)) (λ z. absurd (omega arith)) (λ z. absurd (omega arith)) h);
-    unwritten = λ five n m. absurd (n (s, w));
+    untouched = λ h m k. absurd (none_of 0 (λ z. absurd (omega arith)) (λ z. absurd (omega arith)) (λ z. absurd (omega arith)) (λ z. absurd (omega arith)) h);
+    unwritten = λ five n m k. absurd (n (s, w));
     taken = λ t m. same_taken same;
     flv = λ job v. absurd (flv_is_no_serving words s job w v);
     rtmp = λ size v. absurd (rtmp_is_no_serving words s size w v);
@@ -430,7 +439,7 @@ module _ {I O E : Type 0} (i : SourceMembers I) (o : SinkMembers O) (e : SinkMem
   }
   served_ends s w (Err x) ends same writes counted line = record {
     statuses = below_10 (status_of x) (within_7 x);
-    of_call = λ h. not_above (status_of x) (within_7 x) h;
+    of_peer = λ h. not_above (status_of x) (within_7 x) h;
     usage = λ two. absurd (serve_not_usage x ends two);
     no_reading = λ none. absurd (none (Serve s, w));
     read = λ two five. (Serve s, w);
@@ -454,8 +463,8 @@ module _ {I O E : Type 0} (i : SourceMembers I) (o : SinkMembers O) (e : SinkMem
     untaken = λ c v n. same;
     reading = λ c v h. absurd (not_both words c s v w);
     links = λ z. same;
-    untouched = λ h m. absurd (serve_writes x ends h);
-    unwritten = λ five n m. absurd (n (s, w));
+    untouched = λ h m k. absurd (serve_writes x ends h);
+    unwritten = λ five n m k. absurd (n (s, w));
     taken = λ t m. same_taken same;
     flv = λ job v. absurd (flv_is_no_serving words s job w v);
     rtmp = λ size v. absurd (rtmp_is_no_serving words s size w v);
@@ -466,7 +475,7 @@ module _ {I O E : Type 0} (i : SourceMembers I) (o : SinkMembers O) (e : SinkMem
   job_ends : (m : IsMedia words) (x : MediaEnd) → CountsMediaReads (i.faults input) (i.faults rest) x → CountsMediaWrites (o.faults out) (o.faults wrote) x → e.faults err ≤ e.faults told → ((job : FlvJob) → ReadsFlv words job → Job (RunsFlv job) (MayEnd job) (media_status_of x)) → ((size : Option ℕ) → ReadsRtmp words size → Job (RunsStream size) IsFileEnd (media_status_of x)) → Promises (media_status_of x)
   job_ends m x reads writes counted flv rtmp = record {
     statuses = below_10 (media_status_of x) (media_within_7 x);
-    of_call = λ h. not_above (media_status_of x) (media_within_7 x) h;
+    of_peer = λ h. not_above (media_status_of x) (media_within_7 x) h;
     usage = λ two. absurd (media_not_2 x two);
     no_reading = λ none. absurd (none (media_read words m));
     read = λ two five. media_read words m;
@@ -489,9 +498,9 @@ module _ {I O E : Type 0} (i : SourceMembers I) (o : SinkMembers O) (e : SinkMem
     lacking = λ c v t number l k. absurd (media_is_no_output words c v m);
     untaken = λ c v n. absurd (media_is_no_output words c v m);
     reading = λ c v h. absurd (media_is_no_output words c v m);
-    links = λ s. absurd (media_is_no_serving words s m);
-    untouched = λ h n. absurd (n m);
-    unwritten = λ five s n. absurd (n m);
+    links = λ s. absurd (no_media_links words s m);
+    untouched = λ h n k. absurd (n m);
+    unwritten = λ five s n k. absurd (n m);
     taken = λ t n. absurd (n m);
     flv = flv;
     rtmp = rtmp;
@@ -550,10 +559,15 @@ starves_with o e out err told x status is same line = (
   (refl, subst (λ (y : RunEnd). Tells e err told (line_of y)) is line),
 )
 
--- where nothing was found out, links or a call may have been asked for only where memory was wanting
-pub task_starves : {O E : Type 0} (o : SinkMembers O) (e : SinkMembers E) (words : List (List ℕ)) (out : O) (err told : E) (x : RunEnd) (status : ℕ) → ((x ≡ Usage) × (HasReading words → ⊥)) ⊎ (x ≡ NoMemory) → status ≡ status_of x → Tells e err told (line_of x) → IsServing words ⊎ IsCalling words → Starves o e out out err told status
+linking_read : (words : List (List ℕ)) → IsServing words ⊎ IsDialling words → HasReading words
+linking_read words (inl s) = (Serve s.0, s.1)
+linking_read words (inr (inl s)) = (Call s.0, s.1)
+linking_read words (inr (inr s)) = (Listen s.0, s.1)
+
+-- where nothing was found out, links, a call or a listener may have been asked for only where memory was wanting
+pub task_starves : {O E : Type 0} (o : SinkMembers O) (e : SinkMembers E) (words : List (List ℕ)) (out : O) (err told : E) (x : RunEnd) (status : ℕ) → ((x ≡ Usage) × (HasReading words → ⊥)) ⊎ (x ≡ NoMemory) → status ≡ status_of x → Tells e err told (line_of x) → IsServing words ⊎ IsDialling words → Starves o e out out err told status
 task_starves o e words out err told x status why is line asked = elim why [
-  | inl u ↦ absurd (u.1 (elim asked [ inl s ↦ (Serve s.0, s.1) | inr k ↦ (Call k.0, k.1) ]))
+  | inl u ↦ absurd (u.1 (linking_read words asked))
   | inr m ↦ starves_with o e out err told x status m is line
 ]
 
@@ -574,6 +588,6 @@ memory_ends_with i o e words input out err told status is counted line = no_task
 pub five_not_six : (status : ℕ) → status ≡ 5 → status ≡ 6 → ⊥
 five_not_six status five six = omega (arith, five, six)
 
--- a job on media fails for no front, serves no links and makes no call
-pub media_data : (words : List (List ℕ)) (x : MediaEnd) (status : ℕ) (P : Type 0) → IsMedia words → status ≡ media_status_of x → (IsServing words ⊎ IsCalling words → P) × (status ≢ 6)
-media_data words x status P m is = (λ s. absurd (elim s [ inl a ↦ media_is_no_serving words a m | inr b ↦ call_is_no_media words m b ]), λ six. media_not_6 x (sym is ∙ six))
+-- a job on media fails for no front, serves no links and dials no gateway
+pub media_data : (words : List (List ℕ)) (x : MediaEnd) (status : ℕ) (P : Type 0) → IsMedia words → status ≡ media_status_of x → (IsServing words ⊎ IsDialling words → P) × (status ≢ 6)
+media_data words x status P m is = (λ s. absurd (elim s [ inl a ↦ media_is_no_serving words a m | inr b ↦ dialling_is_no_media words m b ]), λ six. media_not_6 x (sym is ∙ six))

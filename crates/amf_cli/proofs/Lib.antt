@@ -4,6 +4,7 @@ mod MediaLaws
 mod EndsLaws
 mod CallAlike
 mod CallLaws
+mod ListenLaws
 mod FrontLaws
 mod GenLaws
 mod ServiceLaws

@@ -9,7 +9,7 @@ use Rattle.amf_commands.specs.declared.command.Command.{Command}
 use Rattle.flv_meta.specs.declared.flv_job.FlvJob.{FlvJob}
 use Rattle.amf_media.specs.FlvRuns.{Runs, MayEnd, IsFileEnd}
 use Rattle.amf_media.specs.RtmpRuns.{RunsStream}
-use Rattle.amf_commands.specs.Commands.{Reads, ReadsFlv, ReadsRtmp, IsCalling, IsMedia, IsServing, HasReading}
+use Rattle.amf_commands.specs.Commands.{Reads, ReadsFlv, ReadsRtmp, IsDialling, IsListening, IsMedia, IsServing, HasReading}
 use Rattle.amf_commands.specs.Input.{most, input_of, IsAcceptedAs, IsRefusedAs}
 use Rattle.amf_cli.specs.MediaEnds.{EndsJob}
 use Rattle.amf_commands.specs.Run.{TakesInput, Makes, Lacks, MayLack, IsOutputOf, WritesAll, WritesSome, IsRefusedWith, IsHidden, HasNoForm, Reports}
@@ -17,8 +17,8 @@ use Rattle.amf_commands.specs.Run.{TakesInput, Makes, Lacks, MayLack, IsOutputOf
 -- By the meanings of the three streams, the words and the status. Of each stream there is what it was before and what it is now. What is said of bytes holds where the input tells them, or the command takes none.
 pub record Ends {I O E : Type 0} (i : SourceMembers I) (o : SinkMembers O) (e : SinkMembers E) (words : List (List ℕ)) (status : ℕ) (input input_now : I) (out out_now : O) (err err_now : E) : Type 0 where
   pub statuses : status ≤ 10
-  -- from 8 on it comes only of a call
-  pub of_call : 8 ≤ status → IsCalling words
+  -- from 8 on it comes only of a call, or of a listener
+  pub of_peer : 8 ≤ status → IsDialling words
   -- 2 comes exactly where the words are invalid, unless memory ran out; and where they are invalid, nothing is asked of the input
   pub usage : status ≡ 2 → HasReading words → ⊥
   pub no_reading : (HasReading words → ⊥) → (status ≡ 2) ⊎ (status ≡ 5)
@@ -51,17 +51,17 @@ pub record Ends {I O E : Type 0} (i : SourceMembers I) (o : SinkMembers O) (e : 
       → (status ≡ 0) ⊎ (status ≡ 3) ⊎ (status ≡ 4) ⊎ (status ≡ 5)
   pub lacking : (c : Command) → Reads words c → (TakesInput c → i.tells input) → (number : ℕ) (l : Lack) → Lacks c (i.left input) number l
       → (status ≡ 3) ⊎ (status ≡ 5) ⊎ (status ≡ 7)
-  -- a command without an input leaves it as it is, and has no status that comes of one; and so does `serve`
+  -- a command without an input leaves it as it is, and has no status that comes of one; and so do `serve` and `listen`
   pub untaken : (c : Command) → Reads words c → (TakesInput c → ⊥) → input_now ≡ input
   pub reading : (c : Command) → Reads words c → (status ≡ 1) ⊎ (status ≡ 3) → TakesInput c
-  pub links : IsServing words → input_now ≡ input
-  -- with 1, 2, 3 and from 7 on nothing is asked of the output, and but for `serve` not with 5 either; of a job on media this stands with the job
-  pub untouched : (status ≡ 1) ⊎ (status ≡ 2) ⊎ (status ≡ 3) ⊎ (7 ≤ status) → (IsMedia words → ⊥) → out_now ≡ out
-  pub unwritten : status ≡ 5 → (IsServing words → ⊥) → (IsMedia words → ⊥) → out_now ≡ out
+  pub links : IsServing words ⊎ IsListening words → input_now ≡ input
+  -- with 1, 2, 3 and from 7 on nothing is asked of the output, and but for `serve` not with 5 either; of a job on media, and of a listener, this stands with it
+  pub untouched : (status ≡ 1) ⊎ (status ≡ 2) ⊎ (status ≡ 3) ⊎ (7 ≤ status) → (IsMedia words → ⊥) → (IsListening words → ⊥) → out_now ≡ out
+  pub unwritten : status ≡ 5 → (IsServing words → ⊥) → (IsMedia words → ⊥) → (IsListening words → ⊥) → out_now ≡ out
   -- no byte of the input past the most is taken but the one that shows that there is more; a job on media has its own limit
   pub taken : i.tells input → (IsMedia words → ⊥) → length (i.left input) ≤ length (i.left input_now) + (most + 1)
   -- a job on an FLV file, or on a chunk stream, ends as it says of itself
   pub flv : (job : FlvJob) → ReadsFlv words job → EndsJob i o e (Runs job) (MayEnd job) status input input_now out out_now err err_now
   pub rtmp : (size : Option ℕ) → ReadsRtmp words size → EndsJob i o e (RunsStream size) IsFileEnd status input input_now out out_now err err_now
-  -- the error line is that of the status; those of a job on media and of a call stand with them
-  pub line : e.tells err_now → Steady (e.faults err) (e.faults err_now) → (IsMedia words → ⊥) → (IsCalling words → ⊥) → Reports status (e.held err) (e.held err_now)
+  -- the error line is that of the status; those of a job on media, of a call and of a listener stand with them
+  pub line : e.tells err_now → Steady (e.faults err) (e.faults err_now) → (IsMedia words → ⊥) → (IsDialling words → ⊥) → Reports status (e.held err) (e.held err_now)

@@ -8,6 +8,8 @@ pub mod Ends
 pub mod ServesWords
 pub mod CallEnds
 pub mod CallsWords
+pub mod ListenEnds
+pub mod ListensWords
 pub mod WorkedServe
 -- Devices of the proofs: no clause of a public call needs them.
 pub mod ServeEnds

@@ -1,4 +1,4 @@
--- The line that `serve` writes, and the error lines of `call`.
+-- The line that `serve` writes, and the error lines of `call` and `listen`.
 use Rattle.std.specs.Prelude.{List, ℕ, ◌++◌, codes, decimal}
 use Rattle.amf_show.specs.Shown.{shown_text}
 use Rattle.amf_desk.specs.declared.closed.Closed.{Closed}

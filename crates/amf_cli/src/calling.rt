@@ -1,4 +1,4 @@
-ghost use Rattle.std.specs.Prelude.{◌≡◌, ◌+◌, ◌≤◌, length, IfOk};
+ghost use Rattle.std.specs.Prelude.{◌+◌, ◌≤◌, length};
 ghost use Rattle.amf_graph.specs.Reached.{IsNamed};
 ghost use Rattle.amf_graph.specs.Rooted.{content};
 ghost use Rattle.amf_calling.specs.Called.{HasNames};
@@ -8,26 +8,17 @@ ghost use Rattle.amf_commands.specs.Content.{value};
 ghost use Rattle.amf_commands.specs.Input.{most, one};
 ghost use Rattle.amf_commands.specs.Run.{IsInputOf, CountsReads, IsReadEnd, ReadsInput, NeverLacks};
 ghost use Rattle.amf_cli.specs.CallEnds.{AnswerEnds, CallEnds};
-ghost use Rattle.amf_cli.specs.Lines as lines;
-ghost use Rattle.amf_cli.specs.Told.{Tells};
-ghost use Rattle.amf_cli.specs.CallSteps.{CallCounts, TellsFault, WritesFor};
+ghost use Rattle.amf_cli.specs.CallSteps.{CallCounts, WritesFor};
 
-use crate::telling::tell;
+use crate::telling::{tell, tell_bad_reply, tell_fault, tell_link_fault};
 use amf_calling::{CallAnswer, call_keyed};
 use amf_commands::{
     CallOptions, Content, Format, RunEnd, end_with, read_content, spell3, write_whole,
 };
 use amf_graph::{Rooted, WriteEnd};
 use amf_io::{Dial, Sink, Source};
-use amf_show::show_text;
-use amf_wire::{Memory, Name};
-use arrayvec::ArrayString;
-use itoa::Buffer;
 use std::alloc::Global;
 use std::hash::RandomState;
-
-/// Room for the words of the line of a bad reply and the three digits of its number.
-const ROOM: usize = 19;
 
 /// Reads the arguments, makes the call and writes what it came to, and gives the status of the program.
 pub fn run_call<I: Source, O: Sink, E: Sink, D: Dial>(
@@ -89,10 +80,7 @@ fn tell_answer<O: Sink, E: Sink>(
         CallAnswer::Graph(graph) => tell_result(alloc, keys, &graph, out, err),
         CallAnswer::Fault { code, text } => tell_fault(alloc, &code, &text, err),
         CallAnswer::BadReply(number) => tell_bad_reply(number, err),
-        CallAnswer::LinkFault => {
-            tell(b"amf: link fault\n", err);
-            10
-        }
+        CallAnswer::LinkFault => tell_link_fault(err),
         CallAnswer::NotArgs => {
             tell(b"amf: no form NotArgs node 0 value 0\n", err);
             7
@@ -125,54 +113,4 @@ fn tell_result<O: Sink, E: Sink>(
         Ok(()) => 0,
         Err(_) => end_with(RunEnd::WriteFault, err),
     }
-}
-
-/// Writes the line of a fault, and gives the status of the program.
-fn tell_fault<E: Sink>(alloc: Global, code: &Name, text: &Name, err: &mut E) -> u8
-    ensures tells { TellsFault E.Sink err.old err.new code.now text.now result }
-    ensures counted { E.faults err.old ≤ E.faults err.new }
-{
-    match fault_line(alloc, code, text) {
-        Ok(line) => {
-            tell(&line, err);
-            8
-        }
-        Err(_) => end_with(RunEnd::NoMemory, err),
-    }
-}
-
-/// The line of a fault, with the code and the text of it.
-fn fault_line(alloc: Global, code: &Name, text: &Name) -> Result<Vec<u8>, Memory>
-    ensures { IfOk result (λ line. line.items ≡ lines.fault_line code.now text.now) }
-{
-    let mut line = Vec::new(alloc);
-    line.extend_from_slice(b"amf: fault ")?;
-    show_text(alloc, code.as_bytes(), &mut line)?;
-    line.push(b' ')?;
-    show_text(alloc, text.as_bytes(), &mut line)?;
-    line.push(b'\n')?;
-    Ok(line)
-}
-
-/// Writes the line of a bad reply, and gives the status of the program.
-fn tell_bad_reply<E: Sink>(number: u8, err: &mut E) -> u8
-    ensures status { result ≡ 9 }
-    ensures line { Tells E.Sink err.old err.new (lines.bad_reply_line number) }
-    ensures counted { E.faults err.old ≤ E.faults err.new }
-{
-    let line = bad_reply_line(number);
-    tell(line.as_str().as_bytes(), err);
-    9
-}
-
-/// The line of a bad reply. It takes no memory.
-fn bad_reply_line(number: u8) -> ArrayString<ROOM>
-    ensures { result.bytes ≡ lines.bad_reply_line number }
-{
-    let mut digits = Buffer::new();
-    let mut text = ArrayString::new();
-    text.push_str("amf: bad reply ");
-    text.push_str(digits.format(number));
-    text.push_str("\n");
-    text
 }

@@ -1,9 +1,10 @@
 ghost use Rattle.std.specs.Prelude.{◌≡◌, ◌≢◌, ◌⊎◌, ℕ, ◌+◌, ◌≤◌, length, IfOk, OnErr};
 ghost use Rattle.amf_graph.specs.declared.lack.Lack.{Lack};
 ghost use Rattle.amf_commands.specs.declared.command.CallOptions.{CallOptions};
+ghost use Rattle.amf_commands.specs.declared.command.ListenOptions.{ListenOptions};
 ghost use Rattle.amf_commands.specs.declared.command.ServeOptions.{ServeOptions};
 ghost use Rattle.amf_commands.specs.Askable.{IsAskable};
-ghost use Rattle.amf_commands.specs.Commands.{AsksFor, HasReading, ReadsCall, ReadsServe, IsCalling, IsServing};
+ghost use Rattle.amf_commands.specs.Commands.{AsksFor, HasReading, ReadsCall, ReadsListen, ReadsServe, IsDialling, IsServing};
 ghost use Rattle.amf_commands.specs.Input.{most};
 ghost use Rattle.amf_commands.specs.Run.{TakesInput, MayLack, CountsReads, CountsWrites, IsReading, IsUntouched, RunsTo};
 ghost use Rattle.amf_commands.specs.declared.run_end.RunEnd.{RunEnd};
@@ -15,7 +16,7 @@ use crate::ending::status_with;
 use crate::media::media_status;
 use crate::no_input::NoInput;
 use amf_commands::perform::perform;
-use amf_commands::{CallOptions, Command, RunEnd, ServeOptions, Task};
+use amf_commands::{CallOptions, Command, ListenOptions, RunEnd, ServeOptions, Task};
 use amf_io::{Sink, Source};
 use amf_media::{flv_keyed, rtmp_keyed};
 use amf_wire::Name;
@@ -29,10 +30,12 @@ pub enum LinkTask {
     Serve(ServeOptions),
     /// A call is made.
     Call(CallOptions),
+    /// A gateway is listened to.
+    Listen(ListenOptions),
 }
 
-/// Does what the words say as `run` does it, and gives the status of the program; but where they ask for links to be served or
-/// for a call, it does nothing, and the answer has the options, unless memory ran out.
+/// Does what the words say as `run` does it, and gives the status of the program; but where they ask for links to be served, for
+/// a call or for a listener, it does nothing, and the answer has the options, unless memory ran out.
 ///
 /// It has no runtime. So it returns, unless a stream waits. The keys are those by which readers and writers look texts up.
 pub fn run_data<I: Source, O: Sink, E: Sink>(
@@ -44,10 +47,11 @@ pub fn run_data<I: Source, O: Sink, E: Sink>(
     err: &mut E,
 ) -> Result<u8, LinkTask>
     ensures ends { IfOk result (λ status. Ends I.Source O.Sink E.Sink words.now status input.old input.new out.old out.new err.old err.new) }
-    ensures data { IfOk result (λ status. (IsServing words.now ⊎ IsCalling words.now
+    ensures data { IfOk result (λ status. (IsServing words.now ⊎ IsDialling words.now
         → Starves O.Sink E.Sink out.old out.new err.old err.new status) × (status ≢ 6)) }
     ensures serves { (options : ServeOptions) → result ≡ Err (LinkTask.Serve options) → ReadsServe words.now options }
     ensures calls { (options : CallOptions) → result ≡ Err (LinkTask.Call options) → ReadsCall words.now options }
+    ensures listens { (options : ListenOptions) → result ≡ Err (LinkTask.Listen options) → ReadsListen words.now options }
     ensures untouched { OnErr result ((input.new ≡ input.old) × (out.new ≡ out.old) × (err.new ≡ err.old)) }
 {
     match task_of(alloc, words) {
@@ -65,6 +69,7 @@ pub fn run_data<I: Source, O: Sink, E: Sink>(
         }
         Ok(Task::Serve(options)) => Err(LinkTask::Serve(options)),
         Ok(Task::Call(options)) => Err(LinkTask::Call(options)),
+        Ok(Task::Listen(options)) => Err(LinkTask::Listen(options)),
         Err(end) => Ok(status_with(Err(end), err)),
     }
 }

@@ -1,6 +1,6 @@
 //! What the program `amf` does: writes the canonical spelling of any value of AMF 3 or AMF 0, in either, of any packet and of any
 //! shared object file, checks it, lists it, tells whether two values are the same graph, lists and rewrites FLV files and RTMP chunk
-//! streams, and serves and makes remoting calls over HTTP.
+//! streams, serves and makes remoting calls over HTTP, and polls a gateway.
 #![tactic(auto)]
 
 mod arguments;
@@ -9,6 +9,7 @@ pub mod data;
 mod ending;
 mod facts;
 mod lines;
+mod listening;
 mod media;
 mod no_input;
 pub mod run;
@@ -18,7 +19,7 @@ pub mod start;
 mod telling;
 
 pub use amf_commands::{
-    CallOptions, Command, Format, RunEnd, ServeOptions, Task, end_with, run_rows,
+    CallOptions, Command, Format, ListenOptions, RunEnd, ServeOptions, Task, end_with, run_rows,
 };
 pub use amf_round::{RoundEnd, may_call, round};
 pub use arguments::{Arguments, Environment, words_of};

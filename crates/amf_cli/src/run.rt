@@ -3,12 +3,14 @@ ghost use Rattle.amf_service.specs.Registry.{Entry};
 ghost use Rattle.amf_plan.specs.Services.{services_by};
 ghost use Rattle.amf_cli.specs.CallsWords.{CallsWords};
 ghost use Rattle.amf_cli.specs.Ends.{Ends};
+ghost use Rattle.amf_cli.specs.ListensWords.{ListensWords};
 ghost use Rattle.amf_cli.specs.Outside.{of_front, of_hall, of_link};
 ghost use Rattle.amf_cli.specs.ServesWords.{ServesWords};
 
 use crate::calling::run_call;
 use crate::data::{LinkTask, run_data};
 use crate::ending::status_with;
+use crate::listening::run_listen;
 use crate::serving::serve_links;
 pub use amf_commands::LIMIT;
 use amf_io::{Dial, Front, Gate, Hall, Sink, Source};
@@ -39,7 +41,7 @@ use std::thread::Threads;
 /// `--workers` says, 1 to 64. Each worker serves up to as many links of its hall as `--each` says, 1 to 1,000,000, all at once,
 /// and their calls go to one broker with the destinations `chat` and `news`. Then all halls go back to the front, and the output
 /// is the line `calls A published B delivered C queued D`. A call of the desk is told to the gate before and after. `serve` may
-/// wait for others, and no other command does but for its streams, and `call` for its link.
+/// wait for others, and no other command does but for its streams, and `call` and `listen` for their links.
 ///
 /// With `flv` the input is an FLV file (Adobe, Video File Format Specification 10.1, annex E) of at most 4,294,967,295 bytes. What is
 /// done with its metadata `--do` says: `show` lists the values, `drop` writes the file without them, and `set` first reads one AMF 0 value, and
@@ -50,6 +52,11 @@ use std::thread::Threads;
 /// With `call` the input is one AMF 3 value, an array without names, which holds the arguments. Then the gateway at the port of
 /// `--port` of 127.0.0.1 is called once for the operation that `--target` names, a text of at most 65,535 bytes, and the output is the
 /// result's canonical spelling in AMF 3. A fault is status 8, a bad reply 9, and a dial or a link that fails 10.
+///
+/// With `listen` nothing is read. The gateway at the port of `--port` of 127.0.0.1 is asked for a client, for a subscription to the
+/// destination that `--destination` names, a text of at most 65,535 bytes, and then for what was delivered, as often as `--polls` says, 1 to
+/// 1,000,000. The output is the canonical spelling in AMF 3 of each message's body, in order, each once: a poll whose link is lost is
+/// sent again with its number. It gives up where three dials brought no answer to one. The statuses 8, 9 and 10 are those of `call`.
 ///
 /// The runtime gives the keys by which readers and writers look texts up, so that no input can be made that takes long; where it gives
 /// none, they are fixed.
@@ -76,11 +83,13 @@ pub fn run<
 where
     <F::Hall as Hall>::Link: Send,
     ensures ends { Ends I.Source O.Sink E.Sink words.now result input.old input.new out.old out.new err.old err.new }
-    ensures serves { let services : List Entry = services_by registry.now.services.entries (λ x. x.items) (λ s. knows (s.vtable, s.value)) (λ s. gives (s.vtable, s.value)) in
+    ensures serves { let services : List Entry = services_by registry.now.services.entries (λ x. x.items)
+        (λ s. knows (s.vtable, s.value)) (λ s. gives (s.vtable, s.value)) in
         ServesWords (of_front F.Front) (of_hall F.Hall.Hall.own F.Hall.Clock F.Hall.Dice) (of_link F.Hall.Link.Link) O.Sink services
         words.now result front.old front.new out.old out.new }
     ensures calls { CallsWords I.Source O.Sink E.Sink D.Dial D.Link.Link words.now result
         input.old input.new out.old out.new err.old err.new dial.old dial.new }
+    ensures listens { ListensWords O.Sink E.Sink D.Dial D.Link.Link words.now result out.old out.new err.old err.new dial.old dial.new }
 {
     registry.are_lawful();
     let keys = RandomState::new(rt).ok();
@@ -91,5 +100,6 @@ where
             status_with(end, err)
         }
         Err(LinkTask::Call(options)) => run_call(alloc, keys, &options, input, out, err, dial),
+        Err(LinkTask::Listen(options)) => run_listen(alloc, keys, &options, out, err, dial),
     }
 }

@@ -3,6 +3,7 @@ ghost use Rattle.std.specs.Process.{exit_status};
 ghost use Rattle.amf_service.specs.Shipped.{shipped as shipped_services};
 ghost use Rattle.amf_cli.specs.CallsWords.{CallsWords};
 ghost use Rattle.amf_cli.specs.Ends.{Ends};
+ghost use Rattle.amf_cli.specs.ListensWords.{ListensWords};
 ghost use Rattle.amf_cli.specs.Outside.{of_front, of_hall, of_link};
 ghost use Rattle.amf_cli.specs.ServesWords.{ServesWords};
 
@@ -45,7 +46,8 @@ where
         × ServesWords (of_front F.Front) (of_hall F.Hall.Hall.own F.Hall.Clock F.Hall.Dice) (of_link F.Hall.Link.Link) O.Sink shipped_services
         words (exit_status result) front.old front.new out.old out.new
         × CallsWords I.Source O.Sink E.Sink D.Dial D.Link.Link words (exit_status result)
-        input.old input.new out.old out.new err.old err.new dial.old dial.new }
+        input.old input.new out.old out.new err.old err.new dial.old dial.new
+        × ListensWords O.Sink E.Sink D.Dial D.Link.Link words (exit_status result) out.old out.new err.old err.new dial.old dial.new }
 {
     // Also where there is no memory for the services, the law of services holds of them.
     service_laws();
@@ -81,8 +83,10 @@ where
         × ServesWords (of_front F.Front) (of_hall F.Hall.Hall.own F.Hall.Clock F.Hall.Dice) (of_link F.Hall.Link.Link) O.Sink shipped_services
         words (exit_status code) front.old front.new out.old out.new
         × CallsWords I.Source O.Sink E.Sink D.Dial D.Link.Link words (exit_status code)
-        input.old input.new out.old out.new err.old err.new dial.old dial.new) }
-    ensures untouched { OnErr result ((input.new ≡ input.old) × (out.new ≡ out.old) × (err.new ≡ err.old) × (front.new ≡ front.old) × (dial.new ≡ dial.old)) }
+        input.old input.new out.old out.new err.old err.new dial.old dial.new
+        × ListensWords O.Sink E.Sink D.Dial D.Link.Link words (exit_status code) out.old out.new err.old err.new dial.old dial.new) }
+    ensures untouched { OnErr result ((input.new ≡ input.old) × (out.new ≡ out.old) × (err.new ≡ err.old)
+        × (front.new ≡ front.old) × (dial.new ≡ dial.old)) }
 {
     let mut entries: Vec<(Name, Box<dyn Service>)> = Vec::new(alloc);
     entries.push((Name::of_bytes(alloc, b"echo")?, Box::new(alloc, Echo)?))?;

@@ -32,9 +32,11 @@ pub fn serve_links<R: RandomSource + Threads + Wait + Sync, O: Sink, F: Front, G
 where
     <F::Hall as Hall>::Link: Send,
     requires { IsServable options }
-    ensures served { let services : List Entry = services_by registry.now.services.entries (λ x. x.items) (λ s. knows (s.vtable, s.value)) (λ s. gives (s.vtable, s.value)) in
+    ensures served { let services : List Entry = services_by registry.now.services.entries (λ x. x.items)
+        (λ s. knows (s.vtable, s.value)) (λ s. gives (s.vtable, s.value)) in
         ServesTo (Serves (of_front F.Front) (of_hall F.Hall.Hall.own F.Hall.Clock F.Hall.Dice) (of_link F.Hall.Link.Link) services
-        options.port options.workers options.each front.old front.new) (out.new ≡ out.old) (O.tells out.new) (O.held out.old) (O.held out.new) (O.faults out.old) (O.faults out.new) result }
+        options.port options.workers options.each front.old front.new) (out.new ≡ out.old)
+        (O.tells out.new) (O.held out.old) (O.held out.new) (O.faults out.old) (O.faults out.new) result }
     ensures ends { IsServeEnd result }
     ensures tells { O.tells out.new → O.tells out.old }
     ensures writes { CountsWrites (O.faults out.old) (O.faults out.new) result }

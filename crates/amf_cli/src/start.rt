@@ -4,6 +4,7 @@ ghost use Rattle.amf_service.specs.Registry.{Entry};
 ghost use Rattle.amf_plan.specs.Services.{services_by};
 ghost use Rattle.amf_cli.specs.CallsWords.{CallsWords};
 ghost use Rattle.amf_cli.specs.Ends.{Ends};
+ghost use Rattle.amf_cli.specs.ListensWords.{ListensWords};
 ghost use Rattle.amf_cli.specs.Outside.{of_front, of_hall, of_link};
 ghost use Rattle.amf_cli.specs.ServesWords.{ServesWords};
 
@@ -43,13 +44,15 @@ pub fn start<
 ) -> ExitCode
 where
     <F::Hall as Hall>::Link: Send,
-    ensures { let services : List Entry = services_by registry.now.services.entries (λ x. x.items) (λ s. knows (s.vtable, s.value)) (λ s. gives (s.vtable, s.value)) in
+    ensures { let services : List Entry = services_by registry.now.services.entries (λ x. x.items)
+        (λ s. knows (s.vtable, s.value)) (λ s. gives (s.vtable, s.value)) in
         (words : List (List ℕ)) × (A.tells arguments.now → words ≡ A.words arguments.now)
         × Ends I.Source O.Sink E.Sink words (exit_status result) input.old input.new out.old out.new err.old err.new
         × ServesWords (of_front F.Front) (of_hall F.Hall.Hall.own F.Hall.Clock F.Hall.Dice) (of_link F.Hall.Link.Link) O.Sink services
         words (exit_status result) front.old front.new out.old out.new
         × CallsWords I.Source O.Sink E.Sink D.Dial D.Link.Link words (exit_status result)
-        input.old input.new out.old out.new err.old err.new dial.old dial.new }
+        input.old input.new out.old out.new err.old err.new dial.old dial.new
+        × ListensWords O.Sink E.Sink D.Dial D.Link.Link words (exit_status result) out.old out.new err.old err.new dial.old dial.new }
 {
     registry.are_lawful();
     match words_of(alloc, arguments) {

@@ -14,6 +14,7 @@ use Rattle.amf_commands.proofs.Utf8.{utf8_is_text, value_utf8}
 use Rattle.amf_commands.specs.declared.command.CallOptions.{CallOptions}
 use Rattle.amf_commands.specs.declared.command.Command.{Command}
 use Rattle.amf_commands.specs.declared.command.Command.TheVariants as command
+use Rattle.amf_commands.specs.declared.command.ListenOptions.{ListenOptions}
 use Rattle.amf_commands.specs.declared.command.ServeOptions.{ServeOptions}
 use Rattle.amf_commands.specs.declared.command.Task.{Task}
 use Rattle.amf_commands.specs.declared.command.Task.TheVariants as task
@@ -21,8 +22,8 @@ use Rattle.amf_commands.specs.declared.format.Format.{Format}
 use Rattle.amf_commands.specs.declared.format.Format.TheVariants.{Amf3}
 use Rattle.amf_commands.specs.declared.kind.Kind.{Kind}
 use Rattle.amf_commands.specs.declared.kind.Kind.TheVariants as kind
-use Rattle.amf_commands.specs.Commands.{Asks, AsksFor, HasReading, IsCalling, IsMedia, Reads, ReadsCall, ReadsFlv, ReadsRtmp, ReadsServe, IsServing, call_of, canon_from, canon_to, flv_job_named, format_or, gen_of, goes_to, is_numeral, name_of, number_at, options_for, rtmp_of, rtmp_show, serve_of, target_at, task_for}
-use Rattle.amf_commands.specs.Askable.{IsAskable, IsCallable, IsChunkable, IsPossible, IsServable}
+use Rattle.amf_commands.specs.Commands.{Asks, AsksFor, HasReading, IsCalling, IsDialling, IsListening, IsMedia, Reads, ReadsCall, ReadsFlv, ReadsListen, ReadsRtmp, ReadsServe, IsServing, call_of, canon_from, canon_to, destination_at, flv_job_named, format_or, gen_of, goes_to, is_numeral, listen_of, name_of, number_at, options_for, rtmp_of, rtmp_show, serve_of, target_at, task_for}
+use Rattle.amf_commands.specs.Askable.{IsAskable, IsCallable, IsChunkable, IsListenable, IsPossible, IsServable}
 
 named : Text → Kind
 named t = if bytes_eq t (codes "canon") then kind.Canon
@@ -32,7 +33,8 @@ named t = if bytes_eq t (codes "canon") then kind.Canon
     else (if bytes_eq t (codes "gen") then kind.Gen
     else (if bytes_eq t (codes "serve") then kind.Serve
     else (if bytes_eq t (codes "flv") then kind.Flv
-    else (if bytes_eq t (codes "rtmp") then kind.Rtmp else kind.Call)))))))
+    else (if bytes_eq t (codes "rtmp") then kind.Rtmp
+    else (if bytes_eq t (codes "call") then kind.Call else kind.Listen))))))))
 
 named_is : (k : Kind) → named (name_of k) ≡ k
 unfolding named
@@ -45,6 +47,7 @@ named_is kind.Serve = refl
 named_is kind.Flv = refl
 named_is kind.Rtmp = refl
 named_is kind.Call = refl
+named_is kind.Listen = refl
 
 good : (k : Kind) → list_all is_name (options_for k) ≡ true
 good kind.Canon = refl
@@ -56,6 +59,7 @@ good kind.Serve = refl
 good kind.Flv = refl
 good kind.Rtmp = refl
 good kind.Call = refl
+good kind.Listen = refl
 
 head_or : List Text → Text
 head_or [] = []
@@ -175,6 +179,19 @@ call_possible : (o : Option CallOptions) (all : (s : CallOptions) → o ≡ Some
 call_possible None all t e = cc
 call_possible (Some s) all t e = subst IsPossible (same_Some (task.Call s) t e) (all s refl)
 
+listened_listenable : (port : Option ℕ) (given destination : Option Text) (polls : Option ℕ) (o : ListenOptions) → ((text : Text) → given ≡ Some text → IsText text) → destination_at given ≡ destination → ((n : ℕ) → polls ≡ Some n → (1 ≤ n) × (n ≤ 1000000)) → listen_of port destination polls ≡ Some o → IsListenable o
+listened_listenable None given destination polls o all is few e = cc
+listened_listenable (Some port) given None polls o all is few e = cc
+listened_listenable (Some port) given (Some destination) None o all is few e = cc
+listened_listenable (Some port) None (Some destination) (Some polls) o all is few e = cc
+listened_listenable (Some port) (Some text) (Some destination) (Some polls) o all is few e =
+    let short = target_callable (nat_le (length text) 65535) text destination refl (all text refl) is in
+    subst IsListenable (same_Some (record { port = port; destination = destination; polls = polls }) o e) (short.0, short.1, (few polls refl).0, (few polls refl).1)
+
+listen_possible : (o : Option ListenOptions) (all : (s : ListenOptions) → o ≡ Some s → IsListenable s) (t : Task) → option_map task.Listen o ≡ Some t → IsPossible t
+listen_possible None all t e = cc
+listen_possible (Some s) all t e = subst IsPossible (same_Some (task.Listen s) t e) (all s refl)
+
 task_possible : (k : Kind) (value : Text → Option Text) (all : (x text : Text) → value x ≡ Some text → IsText text) (t : Task) → task_for k value ≡ Some t → IsPossible t
 task_possible kind.Canon value all t e = output_possible (canon_from (format_or Amf3 (value (codes "from"))) (value (codes "to"))) (canon_sized (format_or Amf3 (value (codes "from"))) (value (codes "to"))) t e
 task_possible kind.Check value all t e = output_possible (option_map command.Check (format_or Amf3 (value (codes "from")))) (mapped_sized command.Check (λ f. tt) (format_or Amf3 (value (codes "from")))) t e
@@ -185,6 +202,7 @@ task_possible kind.Serve value all t e = serve_possible (serve_of (number_at 0 6
 task_possible kind.Flv value all t e = flv_possible (option_and_then flv_job_named (value (codes "do"))) t e
 task_possible kind.Rtmp value all t e = rtmp_possible (rtmp_of (value (codes "do")) (value (codes "size"))) (rtmp_chunkable (value (codes "do")) (value (codes "size"))) t e
 task_possible kind.Call value all t e = call_possible (call_of (number_at 0 65535 (value (codes "port"))) (target_at (value (codes "target")))) (λ s. called_callable (number_at 0 65535 (value (codes "port"))) (value (codes "target")) (target_at (value (codes "target"))) s (all (codes "target")) refl) t e
+task_possible kind.Listen value all t e = listen_possible (listen_of (number_at 0 65535 (value (codes "port"))) (destination_at (value (codes "destination"))) (number_at 1 1000000 (value (codes "polls")))) (λ s. listened_listenable (number_at 0 65535 (value (codes "port"))) (value (codes "destination")) (destination_at (value (codes "destination"))) (number_at 1 1000000 (value (codes "polls"))) s (all (codes "destination")) refl (number_within 1 1000000 (value (codes "polls")))) t e
 
 pub asked_possible : (words : List Text) (t : Task) → AsksFor words t → IsPossible t
 asked_possible words t (utf8, (k, rest, given, is, has, gives)) = task_possible k (value_of given) (λ x text e. utf8_is_text text (value_utf8 rest given (subst (AllByRecursion IsUtf8) is utf8).1 has.0 x text e)) t gives
@@ -212,6 +230,10 @@ call_or : CallOptions → Task → CallOptions
 call_or o (task.Call p) = p
 call_or o t = o
 
+listener_or : ListenOptions → Task → ListenOptions
+listener_or o (task.Listen p) = p
+listener_or o t = o
+
 pub one_reading : (words : List Text) (c d : Command) → Reads words c → Reads words d → c ≡ d
 unfolding command_or
 one_reading words c d a b = ap (command_or c) (one_task words (task.Output c) (task.Output d) a b)
@@ -232,7 +254,11 @@ pub one_call : (words : List Text) (o p : CallOptions) → ReadsCall words o →
 unfolding call_or
 one_call words o p a b = ap (call_or o) (one_task words (task.Call o) (task.Call p) a b)
 
--- words that ask for one of these ask for none of the others: an output, links to be served, a job on media, and a call
+pub one_listener : (words : List Text) (o p : ListenOptions) → ReadsListen words o → ReadsListen words p → o ≡ p
+unfolding listener_or
+one_listener words o p a b = ap (listener_or o) (one_task words (task.Listen o) (task.Listen p) a b)
+
+-- words that ask for one of these ask for none of the others: an output, links to be served, a job on media, a call, and a listener
 
 writes_output : Task → Bool
 writes_output (task.Output c) = true
@@ -249,6 +275,10 @@ handles_flv t = false
 calls_peer : Task → Bool
 calls_peer (task.Call o) = true
 calls_peer t = false
+
+listens : Task → Bool
+listens (task.Listen o) = true
+listens t = false
 
 pub not_both : (words : List Text) (c : Command) (o : ServeOptions) → Reads words c → ReadsServe words o → ⊥
 unfolding writes_output
@@ -319,6 +349,49 @@ call_is_no_rtmp words size a b = no_call words b.0 (task.Rtmp size) b.1 a refl
 pub call_is_no_media : (words : List Text) → IsMedia words → IsCalling words → ⊥
 call_is_no_media words (inl a) b = call_is_no_flv words a.0 a.1 b
 call_is_no_media words (inr a) b = call_is_no_rtmp words a.0 a.1 b
+
+-- what a listener is not
+no_listener : (words : List Text) (t : Task) → AsksFor words t → listens t ≡ false → IsListening words → ⊥
+unfolding listens
+no_listener words t a is b =
+    let e : true ≡ false = ap listens (one_task words (task.Listen b.0) t b.1 a) ∙ is in
+    cc
+
+pub listener_is_no_output : (words : List Text) (c : Command) → Reads words c → IsListening words → ⊥
+unfolding listens
+listener_is_no_output words c a b = no_listener words (task.Output c) a refl b
+
+pub listener_is_no_serving : (words : List Text) → IsServing words → IsListening words → ⊥
+unfolding listens
+listener_is_no_serving words a b = no_listener words (task.Serve a.0) a.1 refl b
+
+pub listener_is_no_flv : (words : List Text) (job : FlvJob) → ReadsFlv words job → IsListening words → ⊥
+unfolding listens
+listener_is_no_flv words job a b = no_listener words (task.Flv job) a refl b
+
+pub listener_is_no_rtmp : (words : List Text) (size : Option ℕ) → ReadsRtmp words size → IsListening words → ⊥
+unfolding listens
+listener_is_no_rtmp words size a b = no_listener words (task.Rtmp size) a refl b
+
+pub listener_is_no_media : (words : List Text) → IsMedia words → IsListening words → ⊥
+listener_is_no_media words (inl a) b = listener_is_no_flv words a.0 a.1 b
+listener_is_no_media words (inr a) b = listener_is_no_rtmp words a.0 a.1 b
+
+pub listener_is_no_call : (words : List Text) → IsCalling words → IsListening words → ⊥
+unfolding listens
+listener_is_no_call words a b = no_listener words (task.Call a.0) a.1 refl b
+
+pub dialling_is_no_output : (words : List Text) (c : Command) → Reads words c → IsDialling words → ⊥
+dialling_is_no_output words c a (inl b) = call_is_no_output words c a b
+dialling_is_no_output words c a (inr b) = listener_is_no_output words c a b
+
+pub dialling_is_no_serving : (words : List Text) → IsServing words → IsDialling words → ⊥
+dialling_is_no_serving words a (inl b) = call_is_no_serving words a b
+dialling_is_no_serving words a (inr b) = listener_is_no_serving words a b
+
+pub dialling_is_no_media : (words : List Text) → IsMedia words → IsDialling words → ⊥
+dialling_is_no_media words a (inl b) = call_is_no_media words a b
+dialling_is_no_media words a (inr b) = listener_is_no_media words a b
 
 pub not_serving : (words : List Text) (c : Command) → Reads words c → IsServing words → ⊥
 not_serving words c a b = not_both words c b.0 a b.1

@@ -10,6 +10,7 @@ use Rattle.flv_meta.specs.declared.flv_job.FlvJob.TheVariants as flv
 use Rattle.amf_commands.specs.declared.command.CallOptions.{CallOptions}
 use Rattle.amf_commands.specs.declared.command.Command.{Command}
 use Rattle.amf_commands.specs.declared.command.Command.TheVariants as command
+use Rattle.amf_commands.specs.declared.command.ListenOptions.{ListenOptions}
 use Rattle.amf_commands.specs.declared.command.ServeOptions.{ServeOptions}
 use Rattle.amf_commands.specs.declared.command.Task.{Task}
 use Rattle.amf_commands.specs.declared.command.Task.TheVariants as task
@@ -28,6 +29,7 @@ name_of kind.Serve = codes "serve"
 name_of kind.Flv = codes "flv"
 name_of kind.Rtmp = codes "rtmp"
 name_of kind.Call = codes "call"
+name_of kind.Listen = codes "listen"
 
 abbrev pub options_for : Kind → List Text
 options_for kind.Canon = codes "from" ∷ codes "to" ∷ []
@@ -39,6 +41,7 @@ options_for kind.Serve = codes "port" ∷ codes "workers" ∷ codes "each" ∷ [
 options_for kind.Flv = codes "do" ∷ []
 options_for kind.Rtmp = codes "do" ∷ codes "size" ∷ []
 options_for kind.Call = codes "port" ∷ codes "target" ∷ []
+options_for kind.Listen = codes "port" ∷ codes "destination" ∷ codes "polls" ∷ []
 
 -- What a value says.
 
@@ -71,6 +74,10 @@ target_named text = if nat_le (length text) 65535 then Some text else None
 
 abbrev pub target_at : Option Text → Option Text
 target_at = option_and_then target_named
+
+-- and so has a destination
+abbrev pub destination_at : Option Text → Option Text
+destination_at = target_at
 
 -- What the values ask for.
 
@@ -125,6 +132,11 @@ abbrev pub call_of : Option ℕ → Option Text → Option CallOptions
 call_of (Some port) (Some target) = Some (record { port = port; target = target })
 call_of port target = None
 
+-- the port, the destination and the number of polls are given
+abbrev pub listen_of : Option ℕ → Option Text → Option ℕ → Option ListenOptions
+listen_of (Some port) (Some destination) (Some polls) = Some (record { port = port; destination = destination; polls = polls })
+listen_of port destination polls = None
+
 -- by its name and the values of its options
 abbrev pub task_for : Kind → (Text → Option Text) → Option Task
 task_for kind.Canon value = option_map task.Output (canon_from (format_or Amf3 (value (codes "from"))) (value (codes "to")))
@@ -136,6 +148,7 @@ task_for kind.Serve value = option_map task.Serve (serve_of (number_at 0 65535 (
 task_for kind.Flv value = option_map task.Flv (option_and_then flv_job_named (value (codes "do")))
 task_for kind.Rtmp value = option_map task.Rtmp (rtmp_of (value (codes "do")) (value (codes "size")))
 task_for kind.Call value = option_map task.Call (call_of (number_at 0 65535 (value (codes "port"))) (target_at (value (codes "target"))))
+task_for kind.Listen value = option_map task.Listen (listen_of (number_at 0 65535 (value (codes "port"))) (destination_at (value (codes "destination"))) (number_at 1 1000000 (value (codes "polls"))))
 
 -- the words ask for this: its name comes first, and the rest gives it options with these values
 abbrev pub Asks : List Text → Task → Type 0
@@ -174,6 +187,17 @@ ReadsCall words o = AsksFor words (task.Call o)
 
 abbrev pub IsCalling : List Text → Type 0
 IsCalling words = (o : CallOptions) × ReadsCall words o
+
+-- for a gateway to be listened to
+abbrev pub ReadsListen : List Text → ListenOptions → Type 0
+ReadsListen words o = AsksFor words (task.Listen o)
+
+abbrev pub IsListening : List Text → Type 0
+IsListening words = (o : ListenOptions) × ReadsListen words o
+
+-- for a gateway to be dialled: by a call, or by a listener
+abbrev pub IsDialling : List Text → Type 0
+IsDialling words = IsCalling words ⊎ IsListening words
 
 abbrev pub HasReading : List Text → Type 0
 HasReading words = (t : Task) × AsksFor words t

@@ -45,6 +45,16 @@ pub struct CallOptions {
     pub target: Name,
 }
 
+/// Which destination `listen` listens to, of the gateway at which port of this machine, and how often it polls.
+#[derive(Debug, Drop)]
+pub struct ListenOptions {
+    pub port: u16,
+    /// A text of at most 65,535 bytes.
+    pub destination: Name,
+    /// From 1 to 1,000,000.
+    pub polls: u32,
+}
+
 /// What the words of a command line ask for.
 #[derive(Debug, Drop)]
 pub enum Task {
@@ -58,6 +68,8 @@ pub enum Task {
     Rtmp(Option<u32>),
     /// `call`: one call of a gateway, whose arguments are read and whose result is written.
     Call(CallOptions),
+    /// `listen`: a gateway is polled, and what it delivers is written.
+    Listen(ListenOptions),
 }
 
 impl Task {

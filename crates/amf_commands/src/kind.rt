@@ -2,11 +2,11 @@ ghost use Rattle.std.specs.Prelude.{◌≡◌, ◌≤◌, IfOk, IfSome, IfNone, 
 ghost use Rattle.clap.specs.Matches.{first_value, found_of};
 ghost use Rattle.amf_words.specs.Words.{texts};
 ghost use Rattle.amf_commands.specs.Commands.{canon_from, flv_job_named, format_or, name_of, number_at, options_for, target_at, task_for};
-ghost use Rattle.amf_commands.specs.Commands.{call_of, gen_of, rtmp_of, serve_of};
+ghost use Rattle.amf_commands.specs.Commands.{call_of, destination_at, gen_of, listen_of, rtmp_of, serve_of};
 ghost use Rattle.amf_commands.specs.declared.command.Task.TheVariants as task;
 ghost use Rattle.amf_commands.specs.declared.format.Format.TheVariants.{Amf3};
 
-use crate::command::{CallOptions, Command, ServeOptions, Task};
+use crate::command::{CallOptions, Command, ListenOptions, ServeOptions, Task};
 use crate::format::Format;
 use crate::number::number_in;
 use amf_wire::{Memory, Name};
@@ -35,6 +35,8 @@ pub enum Kind {
     Rtmp,
     /// `call`.
     Call,
+    /// `listen`.
+    Listen,
 }
 
 static CANON: [&str; 2] = ["from", "to"];
@@ -53,6 +55,8 @@ static RTMP: [&str; 2] = ["do", "size"];
 
 static CALL: [&str; 2] = ["port", "target"];
 
+static LISTEN: [&str; 3] = ["port", "destination", "polls"];
+
 impl Kind {
     /// The command of this name.
     pub fn of(name: &str) -> Option<Kind>
@@ -69,6 +73,7 @@ impl Kind {
             "flv" => Some(Kind::Flv),
             "rtmp" => Some(Kind::Rtmp),
             "call" => Some(Kind::Call),
+            "listen" => Some(Kind::Listen),
             _ => None,
         }
     }
@@ -86,10 +91,11 @@ impl Kind {
             Kind::Flv => FLV.as_slice(),
             Kind::Rtmp => RTMP.as_slice(),
             Kind::Call => CALL.as_slice(),
+            Kind::Listen => LISTEN.as_slice(),
         }
     }
 
-    /// What it asks for, by the values of its options. It gives up where there is no memory for the target of a call.
+    /// What it asks for, by the values of its options. It gives up where there is no memory for a target or a destination.
     pub fn task(self, alloc: Global, matches: &ArgMatches<'_>) -> Result<Option<Task>, Memory>
         ensures { IfOk result (λ task. task ≡ task_for self (first_value (found_of matches.now))) }
     {
@@ -119,6 +125,10 @@ impl Kind {
             },
             Kind::Call => match call(alloc, matches)? {
                 Some(options) => Some(Task::Call(options)),
+                None => None,
+            },
+            Kind::Listen => match listen(alloc, matches)? {
+                Some(options) => Some(Task::Listen(options)),
                 None => None,
             },
         };
@@ -232,6 +242,31 @@ fn call(alloc: Global, matches: &ArgMatches<'_>) -> Result<Option<CallOptions>, 
         Some(text) if text.len() <= 65_535 => {
             let target = Name::of_bytes(alloc, text.as_bytes())?;
             Ok(Some(CallOptions { port, target }))
+        }
+        _ => Ok(None),
+    }
+}
+
+/// Which destination `--destination` names, of the gateway at the port of `--port`, and how often it is polled. It gives up where
+/// there is no memory.
+fn listen(alloc: Global, matches: &ArgMatches<'_>) -> Result<Option<ListenOptions>, Memory>
+    ensures { IfOk result (λ options. options ≡ listen_of (number_at 0 65535 (first_value (found_of matches.now) (codes "port")))
+        (destination_at (first_value (found_of matches.now) (codes "destination"))) (number_at 1 1000000 (first_value (found_of matches.now) (codes "polls")))) }
+{
+    let Some(port) = port(matches) else {
+        return Ok(None);
+    };
+    let Some(polls) = number(matches, "polls", 1, 1_000_000) else {
+        return Ok(None);
+    };
+    match matches.get_str("destination") {
+        Some(text) if text.len() <= 65_535 => {
+            let destination = Name::of_bytes(alloc, text.as_bytes())?;
+            Ok(Some(ListenOptions {
+                port,
+                destination,
+                polls,
+            }))
         }
         _ => Ok(None),
     }

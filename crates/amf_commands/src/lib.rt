@@ -18,7 +18,7 @@ mod run_end;
 mod spelling;
 mod writing;
 
-pub use command::{CallOptions, Command, ServeOptions, Task};
+pub use command::{CallOptions, Command, ListenOptions, ServeOptions, Task};
 pub use content::Content;
 pub use facts::run_rows;
 pub use format::Format;

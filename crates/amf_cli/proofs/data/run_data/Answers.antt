@@ -1,8 +1,8 @@
 -- What the words ask for was done, or there is nothing that they ask for, or memory was wanting.
 use Rattle.std.proofs.Common.{◌≡◌, inl, inr, refl, subst}
-use Rattle.amf_commands.specs.declared.command.Task.TheVariants.{Output, Serve, Flv, Rtmp, Call}
+use Rattle.amf_commands.specs.declared.command.Task.TheVariants.{Output, Serve, Flv, Rtmp, Call, Listen}
 use Rattle.amf_commands.specs.Commands.{AsksFor}
-use Rattle.amf_commands.proofs.Asked.{asked_possible, call_is_no_output, not_serving}
+use Rattle.amf_commands.proofs.Asked.{asked_possible, dialling_is_no_output, not_serving}
 use Rattle.amf_cli.proofs.EndsLaws.{command_ends, flv_ends, media_data, rtmp_ends, no_task_ends, not_front_fault, task_not_6, task_starves, was_asked_for}
 use Rattle.amf_cli.proofs.MediaLaws.{chunkable}
 use Rattle.amf_cli.proofs.data.run_data.Goals as goal
@@ -21,7 +21,7 @@ returns-in-Ok-Output-clause-ends g c =
 pub returns-in-Ok-Output-clause-data : goal.returns-in-Ok-Output-clause-data
 returns-in-Ok-Output-clause-data g c =
     let w : AsksFor c.args.words.now (Output c.in-Ok-Output.command) = was_asked_for c.args.words.now _ _ _ c.in-Ok-Output.is c.in-Ok-Output.field-0-is c.task_of.ensures.asked in (
-      (λ s. absurd (elim s [ inl a ↦ not_serving c.args.words.now c.in-Ok-Output.command w a | inr b ↦ call_is_no_output c.args.words.now c.in-Ok-Output.command w b ])),
+      (λ s. absurd (elim s [ inl a ↦ not_serving c.args.words.now c.in-Ok-Output.command w a | inr b ↦ dialling_is_no_output c.args.words.now c.in-Ok-Output.command w b ])),
       not_front_fault c.carry_out-end.result _ c.carry_out-end.ensures.no_front c.status_with.ensures.status,
     )
 
@@ -61,6 +61,11 @@ pub returns-in-Ok-Call-clause-calls : goal.returns-in-Ok-Call-clause-calls
 returns-in-Ok-Call-clause-calls g c =
     let w : AsksFor c.args.words.now (Call c.in-Ok-Call.options) = was_asked_for c.args.words.now _ _ _ c.in-Ok-Call.is c.in-Ok-Call.field-0-is c.task_of.ensures.asked in
     λ options same. let is : c.in-Ok-Call.options ≡ options = cc in subst (λ o. AsksFor c.args.words.now (Call o)) is w
+
+pub returns-in-Ok-Listen-clause-listens : goal.returns-in-Ok-Listen-clause-listens
+returns-in-Ok-Listen-clause-listens g c =
+    let w : AsksFor c.args.words.now (Listen c.in-Ok-Listen.options) = was_asked_for c.args.words.now _ _ _ c.in-Ok-Listen.is c.in-Ok-Listen.field-0-is c.task_of.ensures.asked in
+    λ options same. let is : c.in-Ok-Listen.options ≡ options = cc in subst (λ o. AsksFor c.args.words.now (Listen o)) is w
 
 pub returns-in-Err-clause-ends : goal.returns-in-Err-clause-ends
 returns-in-Err-clause-ends g c =

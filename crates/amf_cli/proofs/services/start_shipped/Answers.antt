@@ -18,4 +18,5 @@ returns-clause-runs g c =
           c.in_ok-of_bytes.ensures c.in_ok-of_bytes-2.ensures c.in_ok-of_bytes-3.ensures echo.ensures.0 sum.ensures.0 names.ensures.0
           (λ i. refl) (λ i. refl) (λ i. refl),
       c.start.ensures.4,
+      c.start.ensures.5,
     )

@@ -3,6 +3,7 @@ use Rattle.std.proofs.Common.{refl, ◌∙◌}
 use Rattle.amf_cli.proofs.CallLaws.{memory_calls}
 use Rattle.amf_cli.proofs.EndsLaws.{memory_ends_with}
 use Rattle.amf_cli.proofs.FrontLaws.{ends_again, ends_from, kept_serves}
+use Rattle.amf_cli.proofs.ListenLaws.{memory_listens}
 use Rattle.amf_cli.proofs.ServiceLaws.{shipped_lawful}
 use Rattle.amf_cli.proofs.services.start_with_services.Goals as goal
 
@@ -22,4 +23,5 @@ returns-in-Err g c =
       ends_again _ _ _ _ _ _ _ _ _ _ _ _ c.from.ensures (ends_from g.I.Source g.O.Sink g.E.Sink _ _ c.args.input.now input input c.args.out.now out out c.args.err.now err c.end_with.new.err same.0 same.1 same.2 ended),
       kept_serves _ _ _ _ _ _ _ _ _ _ _ (shipped_lawful c.service_laws.ensures) same.3 same.1 five,
       memory_calls g.I.Source g.O.Sink g.E.Sink g.D.Dial g.D.Link.Link _ _ c.args.input.now input c.args.out.now out c.args.err.now err c.end_with.new.err c.args.dial.now _ five same.0 same.1 same.2 same.4 c.end_with.ensures.line,
+      memory_listens g.I.Source g.O.Sink g.E.Sink g.D.Dial g.D.Link.Link _ _ c.args.out.now out c.args.err.now err c.end_with.new.err c.args.dial.now _ five same.1 same.2 same.4 c.end_with.ensures.line,
     )

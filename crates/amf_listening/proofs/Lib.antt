@@ -1,0 +1,14 @@
+pub mod Turns
+pub mod Hearing
+pub mod Digits
+pub mod Spelling
+pub mod Replies
+pub mod Bounds
+pub mod Requests
+pub mod Links
+pub mod Steps
+pub mod Dials
+pub mod Lost
+pub mod Delivering
+pub mod Batched
+pub mod ReadAlike

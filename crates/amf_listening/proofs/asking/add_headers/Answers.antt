@@ -1,0 +1,16 @@
+-- The headers are added.
+use Rattle.std.proofs.Common.{refl, ap, ◌∙◌}
+use Rattle.amf_wire.proofs.TextTest.{is_text-is}
+use Rattle.amf_graph.specs.Building.{kept_text}
+use Rattle.flex_msgs.specs.Classes.{ds_id_name}
+use Rattle.flex_msgs.proofs.Written.{headers_written}
+use Rattle.amf_listening.proofs.asking.add_headers.Goals as goal
+
+pub text-requires-2 : goal.text-requires-2
+text-requires-2 c = (is_text-is ds_id_name).0 refl
+
+pub returns : goal.returns
+returns c =
+    headers_written c.args.builder.now c.text.new.self c.text-2.new.self c.text-3.new.self c.traits.new.self c.add_object.new.builder c.args.ds_id.now c.in_ok-class.class c.in_ok-name.name c.in_ok-text.text c.in_ok-traits.traits.0 c.in_ok-node.node
+    c.in_ok-class.ensures.ok c.in_ok-class.ensures.id c.in_ok-name.ensures.ok c.in_ok-name.ensures.id (c.in_ok-text.ensures.ok ∙ ap (kept_text c.text-2.new.self) c.as_bytes.ensures) c.in_ok-text.ensures.id
+    c.in_ok-traits.ensures.ok c.in_ok-traits.ensures.id c.in_ok-node.ensures.ok c.in_ok-node.ensures.id
