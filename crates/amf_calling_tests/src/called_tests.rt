@@ -3,43 +3,38 @@ use crate::dials::{
     BY_BYTES, Case, FIVE, LINK_FAULT, RESULT, WHOLE, Ways, answers, comes, dial_of,
     ends_without_link, sum_case,
 };
-use crate::replies::{SUM_ASKED, SUM_REPLY, asked_of, reply_of};
-use amf_fixtures::{graph0, graph3};
-use amf_graph::Rooted;
-use amf_io::{MemoryDial, MemoryLink};
+use crate::replies::{SUM_ASKED, SUM_REPLY};
 use amf_rows::{Row, Table};
-use amf_wire::Memory;
 use std::alloc::Global;
 use std::process::Abort;
-use std::test::Fail;
 
-/// Replies to the call of `sum.sum` for 2 and 3: the status, the length that the head names, and more of the head; the target and the
-/// value of the one message. What comes of it: 0 and the bits of a double, 20, the code, `/` and the text, or the number of a bad reply.
+/// Replies to the call of `sum.sum` for 2 and 3, and what comes of each: 0 and the bits of a double, 20, the code and the text, or the
+/// number of a bad reply.
 static REPLIES: Table = Table {
     rows: 10,
-    fields: 6,
-    text: r"
-'200' | '39' | '/1/onResult' | 11 05 4014000000000000 | 0 | 4014000000000000
-'200' | '89' | '/1/onStatus' | 03 0004'code' 020010'Client.NoService' 000B'description' 02000F'no such service' 000009 | 20 | 'Client.NoService/no such service'
-'2OO' | '30' | '/1/onResult' | 05 | 1 |
-'200' | '30' 0D0A 'Transfer-Encoding: identity' | '/1/onResult' | 05 | 2 |
-'200' | '+30' | '/1/onResult' | 05 | 3 |
-'200' | '29' | '/1/onResult' | | 4 |
-'200' | '30' | '/2/onResult' | 05 | 5 |
-'200' | '30' | '/1/onStatus' | 05 | 6 |
-'200' | '31' | '/1/onResult' | 05 | 7 |
-'404' | '30' | '/1/onResult' | 05 | 8 |
+    fields: 4,
+    text: "
+'HTTP/1.1 200 OK' 0D0A 'Content-Type: application/x-amf' 0D0A 'Content-Length: 39' 0D0A0D0A 0003 0000 0001 000B'/1/onResult' 0004'null' FFFFFFFF 11 05 4014000000000000 | 0 | 4014000000000000 |
+'HTTP/1.1 200 OK' 0D0A 'Content-Type: application/x-amf' 0D0A 'Content-Length: 89' 0D0A0D0A 0003 0000 0001 000B'/1/onStatus' 0004'null' FFFFFFFF 03 0004'code' 020010'Client.NoService' 000B'description' 02000F'no such service' 000009 | 20 | 'Client.NoService' | 'no such service'
+'HTTP/1.1 2OO OK' 0D0A 'Content-Type: application/x-amf' 0D0A 'Content-Length: 30' 0D0A0D0A 0003 0000 0001 000B'/1/onResult' 0004'null' FFFFFFFF 05 | 1 | |
+'HTTP/1.1 200 OK' 0D0A 'Content-Type: application/x-amf' 0D0A 'Content-Length: 30' 0D0A 'Transfer-Encoding: identity' 0D0A0D0A 0003 0000 0001 000B'/1/onResult' 0004'null' FFFFFFFF 05 | 2 | |
+'HTTP/1.1 200 OK' 0D0A 'Content-Type: application/x-amf' 0D0A 'Content-Length: +30' 0D0A0D0A 0003 0000 0001 000B'/1/onResult' 0004'null' FFFFFFFF 05 | 3 | |
+'HTTP/1.1 200 OK' 0D0A 'Content-Type: application/x-amf' 0D0A 'Content-Length: 29' 0D0A0D0A 0003 0000 0001 000B'/1/onResult' 0004'null' FFFFFFFF | 4 | |
+'HTTP/1.1 200 OK' 0D0A 'Content-Type: application/x-amf' 0D0A 'Content-Length: 30' 0D0A0D0A 0003 0000 0001 000B'/2/onResult' 0004'null' FFFFFFFF 05 | 5 | |
+'HTTP/1.1 200 OK' 0D0A 'Content-Type: application/x-amf' 0D0A 'Content-Length: 30' 0D0A0D0A 0003 0000 0001 000B'/1/onStatus' 0004'null' FFFFFFFF 05 | 6 | |
+'HTTP/1.1 200 OK' 0D0A 'Content-Type: application/x-amf' 0D0A 'Content-Length: 31' 0D0A0D0A 0003 0000 0001 000B'/1/onResult' 0004'null' FFFFFFFF 05 | 7 | |
+'HTTP/1.1 404 OK' 0D0A 'Content-Type: application/x-amf' 0D0A 'Content-Length: 30' 0D0A0D0A 0003 0000 0001 000B'/1/onResult' 0004'null' FFFFFFFF 05 | 8 | |
 ",
 };
 
-/// A target and arguments in AMF 3; the length that the head names, and the packet.
+/// A target and arguments in AMF 3, and what is written to port 1.
 static CALLS: Table = Table {
     rows: 3,
-    fields: 4,
-    text: r"
-'sum.sum' | 09 05 01 04 02 04 03 | '31' | 00 03 00 00 00 01 00 07 'sum.sum' 00 02 '/1' FF FF FF FF 11 09 05 01 04 02 04 03
-'nobody.op' | 09 05 01 04 02 04 03 | '33' | 00 03 00 00 00 01 00 09 'nobody.op' 00 02 '/1' FF FF FF FF 11 09 05 01 04 02 04 03
-'' | 09 01 01 | '20' | 00 03 00 00 00 01 00 00 00 02 '/1' FF FF FF FF 11 09 01 01
+    fields: 3,
+    text: "
+'sum.sum' | 09 05 01 04 02 04 03 | 'POST /amf HTTP/1.1' 0D0A 'Host: 127.0.0.1:1' 0D0A 'Content-Type: application/x-amf' 0D0A 'Content-Length: 31' 0D0A0D0A 00 03 00 00 00 01 00 07 'sum.sum' 00 02 '/1' FF FF FF FF 11 09 05 01 04 02 04 03
+'nobody.op' | 09 05 01 04 02 04 03 | 'POST /amf HTTP/1.1' 0D0A 'Host: 127.0.0.1:1' 0D0A 'Content-Type: application/x-amf' 0D0A 'Content-Length: 33' 0D0A0D0A 00 03 00 00 00 01 00 09 'nobody.op' 00 02 '/1' FF FF FF FF 11 09 05 01 04 02 04 03
+'' | 09 01 01 | 'POST /amf HTTP/1.1' 0D0A 'Host: 127.0.0.1:1' 0D0A 'Content-Type: application/x-amf' 0D0A 'Content-Length: 20' 0D0A0D0A 00 03 00 00 00 01 00 00 00 02 '/1' FF FF FF FF 11 09 01 01
 ",
 };
 
@@ -47,7 +42,7 @@ static CALLS: Table = Table {
 static UNCALLED: Table = Table {
     rows: 5,
     fields: 2,
-    text: r"
+    text: "
 11 01 | 40
 11 09 01 03 'a' 01 01 | 40
 11 0A 0B 01 01 | 40
@@ -56,122 +51,93 @@ static UNCALLED: Table = Table {
 ",
 };
 
-/// The arguments 2 and 3.
-const TWO_AND_THREE: &[u8] = b"\x09\x05\x01\x04\x02\x04\x03";
+/// The bytes of a field of a row.
+fn bytes_of(rt: &impl Abort, alloc: Global, row: Row<'_>, place: usize) -> Vec<u8> {
+    row.bytes(alloc, place).expect(rt, "bytes")
+}
 
 /// A reply that comes a byte at a time, whole, and in two pieces that meet at any place.
-fn played(
-    rt: &impl Abort,
-    alloc: Global,
-    row: Row<'_>,
-    bytes: &[u8],
-    case: Case<'_>,
-) -> Result<(), Fail> {
-    let right = comes(alloc, bytes, BY_BYTES, case, SUM_ASKED)?;
+fn check_reply(rt: &impl Abort, alloc: Global, row: Row<'_>, bytes: &[u8], case: Case<'_>) {
+    let right = comes(rt, alloc, bytes, BY_BYTES, case, SUM_ASKED);
     holds_of(rt, row, bytes.len(), right);
     for cut in 0..bytes.len() {
         let ways = Ways { cut, ..WHOLE };
-        let right = comes(alloc, bytes, ways, case, SUM_ASKED)?;
+        let right = comes(rt, alloc, bytes, ways, case, SUM_ASKED);
         holds_of(rt, row, cut, right);
     }
-    Ok(())
 }
 
-fn reply_row(rt: &impl Abort, alloc: Global, row: Row<'_>, args: &Rooted) -> Result<(), Fail> {
-    let what = row.number(4)?;
-    let bytes = reply_of(alloc, row)?;
-    let told = row.bytes(alloc, 5)?;
-    played(rt, alloc, row, &bytes, sum_case(args, what, &told))
-}
-
-#[test]
-fn replies(rt: HostRuntime) -> Result<(), Fail> {
-    let args = graph3(rt.alloc(), TWO_AND_THREE)?;
-    for row in REPLIES.rows(rt.alloc())? {
-        reply_row(&rt, rt.alloc(), row, &args)?;
-    }
-    Ok(())
-}
-
-/// Whether the call is written as the row has it, to a peer that gives no bytes: the number is 7.
-fn is_written(alloc: Global, row: Row<'_>, target: &[u8], args: &Rooted) -> Result<bool, Fail> {
+fn reply_row(rt: &impl Abort, alloc: Global, row: Row<'_>) {
+    let what = row.number(1).expect(rt, "a number");
+    let bytes = bytes_of(rt, alloc, row, 0);
+    let told = bytes_of(rt, alloc, row, 2);
+    let text = bytes_of(rt, alloc, row, 3);
     let case = Case {
-        target,
-        args,
-        what: 7,
-        told: b"",
+        text: &text,
+        ..sum_case(what, &told)
     };
-    let written = asked_of(alloc, row)?;
-    Ok(comes(alloc, b"", WHOLE, case, &written)?)
-}
-
-/// The graph of a field in AMF 3.
-fn graph3_of(alloc: Global, row: Row<'_>, place: usize) -> Result<Rooted, Fail> {
-    let value = row.bytes(alloc, place)?;
-    Ok(graph3(alloc, &value)?)
-}
-
-fn call_row(rt: &impl Abort, alloc: Global, row: Row<'_>) -> Result<(), Fail> {
-    let target = row.bytes(alloc, 0)?;
-    let args = graph3_of(alloc, row, 1)?;
-    let right = is_written(alloc, row, &target, &args)?;
-    holds_of(rt, row, 0, right);
-    Ok(())
+    check_reply(rt, alloc, row, &bytes, case);
 }
 
 #[test]
-fn calls(rt: HostRuntime) -> Result<(), Fail> {
-    for row in CALLS.rows(rt.alloc())? {
-        call_row(&rt, rt.alloc(), row)?;
+fn replies(rt: HostRuntime) {
+    for row in REPLIES.rows(rt.alloc()).expect(&rt, "rows").iter() {
+        reply_row(&rt, rt.alloc(), *row);
     }
-    Ok(())
 }
 
-/// Whether the call ends so, and nothing was dialled.
-fn is_not_dialled(alloc: Global, case: Case<'_>) -> Result<bool, Memory> {
-    let mut dial = dial_of(alloc, SUM_REPLY, WHOLE, &[])?;
-    ends_without_link(alloc, &mut dial, case, &[], 0)
-}
-
-/// The graph of a field in AMF 0.
-fn graph0_of(alloc: Global, row: Row<'_>, place: usize) -> Result<Rooted, Fail> {
-    let value = row.bytes(alloc, place)?;
-    Ok(graph0(alloc, &value)?)
-}
-
-fn uncalled_row(rt: &impl Abort, alloc: Global, row: Row<'_>) -> Result<(), Fail> {
-    let what = row.number(1)?;
-    let args = graph0_of(alloc, row, 0)?;
-    let right = is_not_dialled(alloc, sum_case(&args, what, b""))?;
+/// The call is written as the row has it, to a peer that gives no bytes: the number is 7.
+fn call_row(rt: &impl Abort, alloc: Global, row: Row<'_>) {
+    let target = bytes_of(rt, alloc, row, 0);
+    let args = bytes_of(rt, alloc, row, 1);
+    let written = bytes_of(rt, alloc, row, 2);
+    let case = Case {
+        target: &target,
+        args: &args,
+        ..sum_case(7, b"")
+    };
+    let right = comes(rt, alloc, b"", WHOLE, case, &written);
     holds_of(rt, row, 0, right);
-    Ok(())
 }
 
 #[test]
-fn no_calls(rt: HostRuntime) -> Result<(), Fail> {
-    for row in UNCALLED.rows(rt.alloc())? {
-        uncalled_row(&rt, rt.alloc(), row)?;
+fn calls(rt: HostRuntime) {
+    for row in CALLS.rows(rt.alloc()).expect(&rt, "rows").iter() {
+        call_row(&rt, rt.alloc(), *row);
     }
-    Ok(())
+}
+
+/// The call ends so, and nothing is dialled.
+fn uncalled_row(rt: &impl Abort, alloc: Global, row: Row<'_>) {
+    let what = row.number(1).expect(rt, "a number");
+    let args = bytes_of(rt, alloc, row, 0);
+    let case = Case {
+        args: &args,
+        is_amf0: true,
+        ..sum_case(what, b"")
+    };
+    let mut dial = dial_of(rt, alloc, SUM_REPLY, WHOLE, &[]);
+    let right = ends_without_link(rt, alloc, &mut dial, case, &[], 0);
+    holds_of(rt, row, 0, right);
+}
+
+#[test]
+fn no_calls(rt: HostRuntime) {
+    for row in UNCALLED.rows(rt.alloc()).expect(&rt, "rows").iter() {
+        uncalled_row(&rt, rt.alloc(), *row);
+    }
 }
 
 /// Two calls over a dial of one link: the first is answered, and none is given for the second, which the dial counts.
-fn two_calls(
-    alloc: Global,
-    dial: &mut MemoryDial<MemoryLink>,
-    args: &Rooted,
-) -> Result<bool, Memory> {
-    let first = answers(alloc, dial, 1, sum_case(args, RESULT, FIVE))?;
-    let second = answers(alloc, dial, 2, sum_case(args, LINK_FAULT, b""))?;
-    let ports = dial.asked() == [1u16, 2].as_slice();
-    Ok(first && second && ports && dial.returned().len() == 1 && dial.faults() == 1)
-}
-
 #[test]
-fn one_link_for_each_call(rt: HostRuntime) -> Result<(), Fail> {
-    let args = graph3(rt.alloc(), TWO_AND_THREE)?;
-    let mut dial = dial_of(rt.alloc(), SUM_REPLY, WHOLE, &[])?;
-    let right = two_calls(rt.alloc(), &mut dial, &args)?;
-    holds(&rt, right, "two calls");
-    Ok(())
+fn one_link_for_each_call(rt: HostRuntime) {
+    let alloc = rt.alloc();
+    let mut dial = dial_of(&rt, alloc, SUM_REPLY, WHOLE, &[]);
+    let first = answers(&rt, alloc, &mut dial, 1, sum_case(RESULT, FIVE));
+    let second = answers(&rt, alloc, &mut dial, 2, sum_case(LINK_FAULT, b""));
+    holds(&rt, first, "an answer");
+    holds(&rt, second, "no link");
+    holds(&rt, dial.asked() == [1u16, 2].as_slice(), "the ports");
+    holds(&rt, dial.returned().len() == 1, "the link");
+    holds(&rt, dial.faults() == 1, "the faults");
 }

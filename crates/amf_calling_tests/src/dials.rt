@@ -1,14 +1,14 @@
-ghost use Rattle.std.specs.Prelude.{All, IfOk};
+ghost use Rattle.std.specs.Prelude.{All};
 ghost use Rattle.amf_io.specs.Dial.{IsFresh};
 ghost use Rattle.amf_io.specs.InMemory.{failures, sink_failures};
 
-use crate::replies::joined;
 use amf_calling::{CallAnswer, call};
+use amf_fixtures::{graph0, graph3};
 use amf_graph::{Rooted, Value};
 use amf_io::{Dial, Joined, MemoryDial, MemoryLink, MemorySink, MemorySource};
-use amf_wire::{Memory, Name, is_amf_text};
+use amf_wire::{Name, is_amf_text};
 use std::alloc::Global;
-use std::test::Fail;
+use std::process::Abort;
 
 /// What a call comes to: a result, a bad reply of a number from 1 to 8, or one of these.
 pub(crate) const RESULT: u32 = 0;
@@ -26,23 +26,30 @@ const NO_MEMORY: u32 = 50;
 /// The bits of the result of `sum.sum` for 2 and 3.
 pub(crate) const FIVE: &[u8] = b"\x40\x14\0\0\0\0\0\0";
 
-/// A call that is to be made, and what is to come of it: what it is, and the bits of a double that is the result, or the code of a
-/// fault, `/` and its text.
+/// The arguments 2 and 3.
+const TWO_AND_THREE: &[u8] = b"\x09\x05\x01\x04\x02\x04\x03";
+
+/// A call that is to be made, with arguments in AMF 3 or AMF 0, and what is to come of it: what it is, and the bits of a double that is
+/// the result, or the code of a fault and its text.
 #[derive(Clone, Copy)]
 pub(crate) struct Case<'a> {
     pub target: &'a [u8],
-    pub args: &'a Rooted,
+    pub args: &'a [u8],
+    pub is_amf0: bool,
     pub what: u32,
     pub told: &'a [u8],
+    pub text: &'a [u8],
 }
 
-/// The call of `sum.sum`.
-pub(crate) fn sum_case<'a>(args: &'a Rooted, what: u32, told: &'a [u8]) -> Case<'a> {
+/// The call of `sum.sum` for 2 and 3.
+pub(crate) fn sum_case<'a>(what: u32, told: &'a [u8]) -> Case<'a> {
     Case {
         target: b"sum.sum",
-        args,
+        args: TWO_AND_THREE,
+        is_amf0: false,
         what,
         told,
+        text: b"",
     }
 }
 
@@ -74,25 +81,27 @@ pub(crate) const BY_BYTES: Ways<'static> = Ways {
 };
 
 /// A link in memory that gives these bytes.
-fn link_of(alloc: Global, bytes: &[u8], ways: Ways<'_>) -> Result<MemoryLink, Memory>
-    ensures { IfOk result (λ l. IsFresh (failures l.source) (sink_failures l.sink)) }
+fn link_of(rt: &impl Abort, alloc: Global, bytes: &[u8], ways: Ways<'_>) -> MemoryLink
+    ensures { IsFresh (failures result.source) (sink_failures result.sink) }
 {
-    Ok(Joined {
-        source: MemorySource::new(alloc, bytes, ways.most, ways.cut, ways.reads)?,
-        sink: MemorySink::new(alloc, ways.takes, ways.writes)?,
-    })
+    let source = MemorySource::new(alloc, bytes, ways.most, ways.cut, ways.reads);
+    let source = source.expect(rt, "a source");
+    let sink = MemorySink::new(alloc, ways.takes, ways.writes).expect(rt, "a sink");
+    Joined { source, sink }
 }
 
 /// A dial of one link.
 pub(crate) fn dial_of(
+    rt: &impl Abort,
     alloc: Global,
     bytes: &[u8],
     ways: Ways<'_>,
     failing: &[u64],
-) -> Result<MemoryDial<MemoryLink>, Memory> {
+) -> MemoryDial<MemoryLink> {
     let mut links = Vec::new(alloc);
-    links.push(link_of(alloc, bytes, ways)?)?;
-    MemoryDial::new(alloc, links, failing)
+    let link = link_of(rt, alloc, bytes, ways);
+    links.push(link).expect(rt, "memory");
+    MemoryDial::new(alloc, links, failing).expect(rt, "a dial")
 }
 
 /// Whether the graph is a double of these bits.
@@ -103,20 +112,12 @@ fn is_double(graph: &Rooted, told: &[u8]) -> bool {
     }
 }
 
-/// Whether these are a code, `/` and a text.
-fn is_fault(alloc: Global, code: &Name, text: &Name, told: &[u8]) -> bool {
-    match joined(alloc, &[code.as_bytes(), b"/", text.as_bytes()]) {
-        Ok(bytes) => bytes.as_slice() == told,
-        Err(_) => false,
-    }
-}
-
 /// Whether this is what is to come of the call.
-fn is_as(alloc: Global, answer: &CallAnswer, case: Case<'_>) -> bool {
+fn is_as(answer: &CallAnswer, case: Case<'_>) -> bool {
     match answer {
         CallAnswer::Graph(graph) => case.what == RESULT && is_double(graph, case.told),
         CallAnswer::Fault { code, text } => {
-            case.what == FAULT && is_fault(alloc, code, text, case.told)
+            case.what == FAULT && code.as_bytes() == case.told && text.as_bytes() == case.text
         }
         CallAnswer::BadReply(number) => case.what == u32::from(*number),
         CallAnswer::LinkFault => case.what == LINK_FAULT,
@@ -126,19 +127,29 @@ fn is_as(alloc: Global, answer: &CallAnswer, case: Case<'_>) -> bool {
     }
 }
 
+/// The arguments of a call.
+fn args_of(rt: &impl Abort, alloc: Global, case: Case<'_>) -> Rooted {
+    let graph = if case.is_amf0 {
+        graph0(alloc, case.args)
+    } else {
+        graph3(alloc, case.args)
+    };
+    graph.expect(rt, "a graph")
+}
+
 /// Whether the call over a dial comes to what it is to come to.
 pub(crate) fn answers<D: Dial>(
+    rt: &impl Abort,
     alloc: Global,
     dial: &mut D,
     port: u16,
     case: Case<'_>,
-) -> Result<bool, Memory> {
-    if !is_amf_text(case.target) || case.target.len() > 65_535 {
-        return Ok(false);
-    }
-    let target = Name::of_bytes(alloc, case.target)?;
-    let answer = call(alloc, dial, port, &target, case.args);
-    Ok(is_as(alloc, &answer, case))
+) -> bool {
+    assert!(rt; is_amf_text(case.target));
+    assert!(rt; case.target.len() < 65_536);
+    let target = Name::of_bytes(alloc, case.target).expect(rt, "memory");
+    let args = args_of(rt, alloc, case);
+    is_as(&call(alloc, dial, port, &target, &args), case)
 }
 
 /// Whether the dial was asked once, for port 1, has its one link again, which has taken these bytes, and counts so many faults.
@@ -150,38 +161,29 @@ fn has_taken(dial: &MemoryDial<MemoryLink>, written: &[u8], faults: u64) -> bool
     took && dial.asked() == [1u16].as_slice() && dial.faults() == faults
 }
 
-/// Whether this comes of the call on port 1 over this dial, whose link has then taken these bytes.
-fn comes_over(
-    alloc: Global,
-    dial: &mut MemoryDial<MemoryLink>,
-    case: Case<'_>,
-    written: &[u8],
-) -> Result<bool, Memory> {
-    let right = answers(alloc, dial, 1, case)?;
-    let faults = u64::from(case.what == LINK_FAULT);
-    Ok(right && has_taken(dial, written, faults))
-}
-
 /// Whether this comes of the call on port 1 over a link that gives these bytes so, and has then taken those that are to be written.
 pub(crate) fn comes(
+    rt: &impl Abort,
     alloc: Global,
     bytes: &[u8],
     ways: Ways<'_>,
     case: Case<'_>,
     written: &[u8],
-) -> Result<bool, Memory> {
-    let mut dial = dial_of(alloc, bytes, ways, &[])?;
-    comes_over(alloc, &mut dial, case, written)
+) -> bool {
+    let mut dial = dial_of(rt, alloc, bytes, ways, &[]);
+    let right = answers(rt, alloc, &mut dial, 1, case);
+    right && has_taken(&dial, written, u64::from(case.what == LINK_FAULT))
 }
 
 /// Whether the call over this dial ends so, which was asked for these ports, gave no link and counts so many faults.
 pub(crate) fn ends_without_link(
+    rt: &impl Abort,
     alloc: Global,
     dial: &mut MemoryDial<MemoryLink>,
     case: Case<'_>,
     asked: &[u16],
     faults: u64,
-) -> Result<bool, Memory> {
-    let right = answers(alloc, dial, 1, case)?;
-    Ok(right && dial.asked() == asked && dial.returned().is_empty() && dial.faults() == faults)
+) -> bool {
+    let right = answers(rt, alloc, dial, 1, case);
+    right && dial.asked() == asked && dial.returned().is_empty() && dial.faults() == faults
 }

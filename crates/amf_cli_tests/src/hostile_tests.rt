@@ -1,153 +1,124 @@
 //! Inputs that are cut off or lie about their sizes, and reads that fail.
-use crate::tests::{Case, check_rows, refused, run_over};
+use crate::runs::{BY_BYTES, Case, WHOLE, Ways, check, check_rows, wrong};
+use amf_rows::Table;
 use amf_vectors::vectors;
-use std::test::Fail;
-
-static AMF0: [&str; 3] = ["canon", "--from", "amf0"];
-
-static PACKET: [&str; 3] = ["canon", "--from", "packet"];
-
-static SOL: [&str; 3] = ["canon", "--from", "sol"];
-
-/// A packet and a file that are accepted.
-const CALL: &[u8] = b"\0\0\0\0\0\x01\0\x09echo.echo\0\x02/1\0\0\0\x0A\x0A\0\0\0\x01\x02\0\x02hi";
-
-const FILE: &[u8] = b"\0\xBF\0\0\0\x17TCSO\0\x04\0\0\0\0\0\x01t\0\0\0\0\0\x01a\x01\x01\0";
-
-/// Words with an input that is refused.
-fn cut(words: &'static [&'static str], input: &'static [u8], line: &'static [u8]) -> Case {
-    Case {
-        words,
-        input,
-        status: 1,
-        output: b"",
-        line,
-    }
-}
+use std::alloc::Global;
+use std::process::Abort;
+use std::random::RandomSource;
+use std::sync::Wait;
+use std::thread::Threads;
 
 /// Sizes that no input can have are met at its end, and take no memory.
+static SIZES: Table = Table {
+    rows: 7,
+    fields: 5,
+    text: r#"
+canon | 09 FF FF FF FF 01 | 1 | | 'amf: refused Truncated at 6' 0A
+canon | 0A FF FF FF F3 01 | 1 | | 'amf: refused Truncated at 6' 0A
+canon | 0D FF FF FF FF 00 | 1 | | 'amf: refused Truncated at 6' 0A
+canon | 06 FF FF FF FF 61 | 1 | | 'amf: refused Truncated at 5' 0A
+canon | 11 FF FF FF FF 00 | 1 | | 'amf: refused Truncated at 6' 0A
+canon --from packet | 00 00 FF FF | 1 | | 'amf: refused Truncated at 4' 0A
+canon --from amf0 | 0A FF FF FF FF | 1 | | 'amf: refused Truncated at 5' 0A
+"#,
+};
+
 #[test]
 fn sizes_without_their_bytes(rt: HostRuntime) {
-    let cases = [
-        refused(
-            b"\x09\xFF\xFF\xFF\xFF\x01",
-            b"amf: refused Truncated at 6\n",
-        ),
-        refused(
-            b"\x0A\xFF\xFF\xFF\xF3\x01",
-            b"amf: refused Truncated at 6\n",
-        ),
-        refused(
-            b"\x0D\xFF\xFF\xFF\xFF\x00",
-            b"amf: refused Truncated at 6\n",
-        ),
-        refused(
-            b"\x06\xFF\xFF\xFF\xFF\x61",
-            b"amf: refused Truncated at 5\n",
-        ),
-        refused(
-            b"\x11\xFF\xFF\xFF\xFF\x00",
-            b"amf: refused Truncated at 6\n",
-        ),
-        cut(
-            PACKET.as_slice(),
-            b"\0\0\xFF\xFF",
-            b"amf: refused Truncated at 4\n",
-        ),
-        cut(
-            AMF0.as_slice(),
-            b"\x0A\xFF\xFF\xFF\xFF",
-            b"amf: refused Truncated at 5\n",
-        ),
-    ];
-    check_rows(&rt, rt.alloc(), &cases);
+    check_rows(&rt, rt.alloc(), &SIZES);
 }
 
-/// Words with an input that is accepted.
-fn accepted() -> [(&'static [&'static str], &'static [u8]); 3] {
-    [
-        (PACKET.as_slice(), CALL),
-        (SOL.as_slice(), FILE),
-        (AMF0.as_slice(), b"\x03\0\x01a\x07\0\0\0\0\x09"),
-    ]
+const SOL: &str = "canon --from sol";
+
+/// Words with an input that is accepted: a packet, a file and an object of AMF 0.
+static ACCEPTED: [(&str, &[u8]); 3] = [
+    (
+        "canon --from packet",
+        b"\0\0\0\0\0\x01\0\x09echo.echo\0\x02/1\0\0\0\x0A\x0A\0\0\0\x01\x02\0\x02hi",
+    ),
+    (
+        SOL,
+        b"\0\xBF\0\0\0\x17TCSO\0\x04\0\0\0\0\0\x01t\0\0\0\0\0\x01a\x01\x01\0",
+    ),
+    ("canon --from amf0", b"\x03\0\x01a\x07\0\0\0\0\x09"),
+];
+
+/// Whether the file ends between pairs.
+fn ends_between<R: RandomSource + Threads + Wait + Abort + Sync>(
+    rt: &R,
+    alloc: Global,
+    front: &Case<'_>,
+) -> bool {
+    let bad_length = Case {
+        line: b"amf: refused BadLength at 2\n",
+        ..*front
+    };
+    front.words == SOL && wrong(rt, alloc, &bad_length, WHOLE).is_empty()
 }
 
 /// Every front of an accepted input is cut off; of a file it can also end between pairs.
+fn check_fronts<R: RandomSource + Threads + Wait + Abort + Sync>(
+    rt: &R,
+    alloc: Global,
+    words: &str,
+    input: &[u8],
+) {
+    for cut in 0..input.len() {
+        let front = Case {
+            words,
+            input: &input[..cut],
+            status: 1,
+            output: b"",
+            line: b"amf: refused Truncated at ",
+        };
+        let is_cut = wrong(rt, alloc, &front, WHOLE).is_empty();
+        assert!(rt;
+            is_cut || ends_between(rt, alloc, &front),
+            "{words} cut at {cut}"
+        );
+    }
+}
+
 #[test]
 fn fronts_of_accepted_inputs(rt: HostRuntime) {
-    for (words, input) in accepted() {
-        for cut in 0..input.len() {
-            let ran = run_over(&rt, rt.alloc(), words, &input[..cut], (100, 0), &[], &[]);
-            assert_eq!(rt; ran.status, 1, "{words:?} cut at {cut}");
-            let line = ran.line.as_bytes();
-            assert!(rt;
-                line.starts_with(b"amf: refused Truncated at ")
-                    || line == b"amf: refused BadLength at 2\n".as_slice()
-                        && words.contains(&"sol"),
-                "{words:?} cut at {cut}"
-            );
-        }
+    for (words, input) in ACCEPTED.iter() {
+        check_fronts(&rt, rt.alloc(), words, input);
     }
     for vector in vectors() {
-        for cut in 0..vector.input.len() {
-            let ran = run_over(
-                &rt,
-                rt.alloc(),
-                &["canon"],
-                &vector.input[..cut],
-                (100, 0),
-                &[],
-                &[],
-            );
-            assert_eq!(rt; ran.status, 1, "cut at {cut}");
-            assert!(rt;
-                ran.line
-                    .as_bytes()
-                    .starts_with(b"amf: refused Truncated at ")
-            );
-        }
+        check_fronts(&rt, rt.alloc(), "canon", vector.input);
     }
 }
 
 /// Each read of an input that comes a byte at a time fails once, the one that finds the end among them.
+fn check_reads<R: RandomSource + Threads + Wait + Abort + Sync>(
+    rt: &R,
+    alloc: Global,
+    words: &str,
+    input: &[u8],
+) {
+    let case = Case {
+        words,
+        input,
+        status: 3,
+        output: b"",
+        line: b"amf: read fault\n",
+    };
+    for failing in 0..=input.len() {
+        let reads = [failing as u64];
+        let ways = Ways {
+            reads: &reads,
+            ..BY_BYTES
+        };
+        check(rt, alloc, failing as u64, &case, ways);
+    }
+}
+
 #[test]
-fn reads_that_fail(rt: HostRuntime) -> Result<(), Fail> {
-    for (words, input) in accepted() {
-        for failing in 0..(input.len() as u64).saturating_add(1) {
-            let ran = run_over(&rt, rt.alloc(), words, input, (1, 0), &[failing], &[]);
-            assert_eq!(rt; ran.status, 3, "{words:?} at read {failing}");
-        }
+fn reads_that_fail(rt: HostRuntime) {
+    for (words, input) in ACCEPTED.iter() {
+        check_reads(&rt, rt.alloc(), words, input);
     }
     for vector in vectors() {
-        for failing in 0..(vector.input.len() as u64).saturating_add(1) {
-            let ran = run_over(
-                &rt,
-                rt.alloc(),
-                &["canon"],
-                vector.input,
-                (1, 0),
-                &[failing],
-                &[],
-            );
-            assert_eq!(rt; ran.status, 3, "at read {failing}");
-        }
+        check_reads(&rt, rt.alloc(), "canon", vector.input);
     }
-    // A refusal that is met before the read that fails.
-    for failing in 0..4u64 {
-        let ran = run_over(
-            &rt,
-            rt.alloc(),
-            PACKET.as_slice(),
-            b"\0\x02\0\0",
-            (1, 0),
-            &[failing],
-            &[],
-        );
-        assert_eq!(rt;
-            ran.status,
-            if failing < 2 { 3 } else { 1 },
-            "at read {failing}"
-        );
-    }
-    Ok(())
 }

@@ -1,234 +1,203 @@
-use crate::tests::{check, refused, run_over};
-use amf_cli::run::LIMIT;
+use crate::runs::{BY_BYTES, Case, Ways, check, check_rows, put, put_part};
 use amf_graph::{BuildEnd, Builder};
-use amf_wire::{U29, is_amf_text, write_u29};
-use std::alloc::{AllocError, Global};
+use amf_rows::Table;
+use amf_wire::is_amf_text;
+use std::alloc::Global;
 use std::process::Abort;
 use std::random::RandomSource;
 use std::sync::Wait;
-use std::test::Fail;
 use std::thread::Threads;
 
-/// So many arrays within one another, and what the innermost holds.
-fn nested(alloc: Global, count: usize, inside: &[u8]) -> Result<Vec<u8>, AllocError> {
-    let mut bytes = Vec::new(alloc);
-    for _ in 0..count {
-        bytes.extend_from_slice(b"\x09\x03\x01")?;
-    }
-    bytes.extend_from_slice(inside)?;
-    Ok(bytes)
-}
-
-/// Runs `canon` over an input, which is its own canonical spelling.
-fn check_itself<R: RandomSource + Threads + Wait + Abort + Sync>(
-    rt: &R,
-    alloc: Global,
-    input: &[u8],
-    pieces: (usize, usize),
-) {
-    check_canon(rt, alloc, input, pieces, input);
-}
-
-/// Runs `canon` over an input, of which `output` is the canonical spelling.
-fn check_canon<R: RandomSource + Threads + Wait + Abort + Sync>(
-    rt: &R,
-    alloc: Global,
-    input: &[u8],
-    pieces: (usize, usize),
-    output: &[u8],
-) {
-    let ran = run_over(rt, alloc, &["canon"], input, pieces, &[], &[]);
-    assert_eq!(rt; ran.status, 0);
-    assert!(rt; ran.output.as_bytes() == output);
-    assert_eq!(rt; ran.line.as_bytes(), b"".as_slice());
-}
+/// Nodes within one another.
+static NESTED: Table = Table {
+    rows: 6,
+    fields: 9,
+    text: "
+canon | 513*09 03 01 + 01 | 0 | 513*09 03 01 + 01 | | 10000 1 | 0 | |
+canon | 513*09 03 01 + 01 | 0 | 513*09 03 01 + 01 | | 10000 | 1536 | |
+canon | 513*09 03 01 + 09 00 | 0 | 513*09 03 01 + 09 00 | | 10000 1 | 0 | |
+canon | 513*09 03 01 + 09 00 | 0 | 513*09 03 01 + 09 00 | | 10000 | 1536 | |
+canon | 513*09 03 01 + 0C 03 FF | 0 | 513*09 03 01 + 0C 03 FF | | 10000 1 | 0 | |
+canon | 513*09 03 01 + 0C 03 FF | 0 | 513*09 03 01 + 0C 03 FF | | 10000 | 1536 | |
+",
+};
 
 #[test]
-fn nodes_within_nodes(rt: HostRuntime) -> Result<(), Fail> {
-    let alloc = rt.alloc();
-    for pieces in [(10_000, 0), (1, 0), (10_000, 1536)] {
-        for inside in [b"\x01".as_slice(), b"\x09\x00", b"\x0C\x03\xFF"] {
-            check_itself(&rt, alloc, &nested(alloc, 513, inside)?, pieces);
-        }
-    }
-    Ok(())
+fn nodes_within_nodes(rt: HostRuntime) {
+    check_rows(&rt, rt.alloc(), &NESTED);
 }
 
 /// More nodes within one another than a stack of calls has room for.
+static VERY_MANY: Table = Table {
+    rows: 5,
+    fields: 9,
+    text: "
+canon | 2000000*09 03 01 + 01 | 0 | 2000000*09 03 01 + 01 | | 65536 | 0 | |
+canon | 500000*09 03 01 | 1 | | 'amf: refused Truncated at 1500000' 0A | 65536 | 0 | |
+canon | 500000*09 03 01 + 09 BD 84 40 | 1 | | 'amf: refused BadReference at 1500001' 0A | 65536 | 0 | |
+same | 500000*09 03 01 + 01 + 500000*09 03 01 + 01 | 0 | 'same' 0A | | 65536 | 0 | |
+same | 500000*09 03 01 + 01 + 500000*09 03 01 + 02 | 0 | 'different' 0A | | 65536 | 0 | |
+",
+};
+
 #[test]
-fn very_many_nodes_within_nodes(rt: HostRuntime) -> Result<(), Fail> {
-    let alloc = rt.alloc();
-    let pieces = (1 << 16, 0);
-    check_itself(&rt, alloc, &nested(alloc, 2_000_000, b"\x01")?, pieces);
-    let count = 500_000;
-    let cut = refused(b"", b"amf: refused Truncated at 1500000\n");
-    check(&rt, alloc, &nested(alloc, count, b"")?, pieces, &cut);
-    let past = refused(b"", b"amf: refused BadReference at 1500001\n");
-    check(
-        &rt,
-        alloc,
-        &nested(alloc, count, b"\x09\xBD\x84\x40")?,
-        pieces,
-        &past,
+fn very_many_nodes_within_nodes(rt: HostRuntime) {
+    check_rows(&rt, rt.alloc(), &VERY_MANY);
+}
+
+/// Bytes and texts of 2^24 bytes.
+static LONG: Table = Table {
+    rows: 2,
+    fields: 9,
+    text: "
+canon | 0C 88 80 80 01 + 16777216*00 | 0 | 0C 88 80 80 01 + 16777216*00 | | 33554432 | 0 | |
+canon | 06 88 80 80 01 + 16777216*'a' | 0 | 06 88 80 80 01 + 16777216*'a' | | 33554432 | 0 | |
+",
+};
+
+#[test]
+fn long_inputs(rt: HostRuntime) {
+    check_rows(&rt, rt.alloc(), &LONG);
+}
+
+/// More than the limit of 2^26 bytes. Of the last two values each is within it, and the second ends one byte behind it.
+static PAST_THE_LIMIT: Table = Table {
+    rows: 3,
+    fields: 9,
+    text: "
+canon | 0C A0 80 80 01 + 67108864*00 | 1 | | 'amf: refused TooLarge at 5' 0A | 33554432 | 0 | |
+canon | 06 A0 80 80 01 + 67108864*'a' | 1 | | 'amf: refused TooLarge at 5' 0A | 33554432 | 0 | |
+same | 0C 8F FF FF F7 + 33554427*00 + 0C 8F FF FF F9 + 33554428*00 | 1 | | 'amf: refused TooLarge at 33554437' 0A | 33554432 | 0 | |
+",
+};
+
+#[test]
+fn inputs_past_the_limit(rt: HostRuntime) {
+    check_rows(&rt, rt.alloc(), &PAST_THE_LIMIT);
+}
+
+/// The last decimal digit.
+fn digit(number: u32) -> u8 {
+    b'0' + (number % 10) as u8
+}
+
+/// Appends the name of three digits, so many bytes and an array by its place, which is below 8192.
+fn put_pair(rt: &impl Abort, out: &mut Vec<u8>, name: u32, front: &[u8], place: u32) {
+    put(
+        rt,
+        out,
+        1,
+        &[0x07, digit(name / 100), digit(name / 10), digit(name)],
     );
-    for (last, output) in [
-        (b"\x01".as_slice(), b"same\n".as_slice()),
-        (b"\x02", b"different\n"),
-    ] {
-        let mut input = nested(alloc, count, b"\x01")?;
-        input.extend_from_slice(&nested(alloc, count, last)?)?;
-        let ran = run_over(&rt, alloc, &["same"], &input, pieces, &[], &[]);
-        assert_eq!(rt; ran.status, 0);
-        assert_eq!(rt; ran.output.as_bytes(), output);
-    }
-    Ok(())
-}
-
-/// The name of three digits and its length.
-fn push_name(bytes: &mut Vec<u8>, name: u32) -> Result<(), AllocError> {
-    bytes.push(0x07)?;
-    for digit in [name / 100, name / 10, name] {
-        bytes.push(b'0' + (digit % 10) as u8)?;
-    }
-    Ok(())
-}
-
-/// An array by its place, which is below 8192.
-fn push_array(bytes: &mut Vec<u8>, place: u32) -> Result<(), AllocError> {
+    put(rt, out, 1, front);
     let header = 2 * (place % 8192);
-    bytes.push(0x09)?;
-    if header >= 128 {
-        bytes.push(0x80 + (header / 128 % 128) as u8)?;
+    if header < 128 {
+        put(rt, out, 1, &[0x09, (header % 128) as u8]);
+    } else {
+        put(
+            rt,
+            out,
+            1,
+            &[
+                0x09,
+                0x80 + (header / 128 % 128) as u8,
+                (header % 128) as u8,
+            ],
+        );
     }
-    bytes.push((header % 128) as u8)?;
-    Ok(())
 }
 
-/// The header of a dynamic object or of an array, and 600 named pairs of arrays, of which each but the
-/// first holds the one before it: in the order of their names each stands within the one before it.
-fn chain(alloc: Global, header: &[u8]) -> Result<Vec<u8>, AllocError> {
-    let mut bytes = Vec::new(alloc);
-    bytes.extend_from_slice(header)?;
-    for member in 1..601_u32 {
-        push_name(&mut bytes, 600 - member)?;
-        if member == 1 {
-            bytes.extend_from_slice(b"\x09\x01\x01")?;
-        } else {
-            bytes.extend_from_slice(b"\x09\x03\x01")?;
-            push_array(&mut bytes, member - 1)?;
-        }
+/// Appends the header of a dynamic object or of an array, and 600 named pairs of arrays, of which each but the first holds the
+/// one before it: in the order of their names each stands within the one before it.
+fn put_chain(rt: &impl Abort, alloc: Global, out: &mut Vec<u8>, header: &[u8]) {
+    put(rt, out, 1, header);
+    put_part(rt, alloc, out, "07 '599' 09 01 01");
+    for member in 2..601_u32 {
+        put_pair(rt, out, 600 - member, b"\x09\x03\x01", member - 1);
     }
-    bytes.push(0x01)?;
-    Ok(bytes)
+    put(rt, out, 1, b"\x01");
 }
 
-/// The canonical spelling of the same: the first name has all arrays, within one another, and each other name has one of
-/// them by its place.
-fn sorted_chain(alloc: Global, header: &[u8]) -> Result<Vec<u8>, AllocError> {
-    let mut bytes = Vec::new(alloc);
-    bytes.extend_from_slice(header)?;
-    push_name(&mut bytes, 0)?;
-    bytes.extend_from_slice(&nested(alloc, 599, b"\x09\x01\x01")?)?;
+/// Appends the canonical spelling of the same: the first name has all arrays, within one another, and each other name has one
+/// of them by its place.
+fn put_sorted_chain(rt: &impl Abort, alloc: Global, out: &mut Vec<u8>, header: &[u8]) {
+    put(rt, out, 1, header);
+    put_part(rt, alloc, out, "07 '000'");
+    put_part(rt, alloc, out, "599*09 03 01");
+    put_part(rt, alloc, out, "09 01 01");
     for name in 1..600_u32 {
-        push_name(&mut bytes, name)?;
-        push_array(&mut bytes, name + 1)?;
+        put_pair(rt, out, name, b"", name + 1);
     }
-    bytes.push(0x01)?;
-    Ok(bytes)
+    put(rt, out, 1, b"\x01");
+}
+
+/// The headers of a dynamic object and of an array.
+static HEADERS: [&[u8]; 2] = [b"\x0A\x0B\x01", b"\x09\x01"];
+
+const AT_ONCE: Ways<'static> = Ways {
+    most: 10_000,
+    ..BY_BYTES
+};
+
+/// Runs with these words over bytes, and looks for these.
+fn check_written<R: RandomSource + Threads + Wait + Abort + Sync>(
+    rt: &R,
+    alloc: Global,
+    words: &str,
+    input: &[u8],
+    output: &[u8],
+    ways: Ways<'_>,
+) {
+    let case = Case {
+        words,
+        input,
+        status: 0,
+        output,
+        line: b"",
+    };
+    check(rt, alloc, 0, &case, ways);
 }
 
 /// What is written may have more nodes within one another than what was read.
 #[test]
-fn nodes_within_nodes_by_name(rt: HostRuntime) -> Result<(), Fail> {
+fn nodes_within_nodes_by_name(rt: HostRuntime) {
     let alloc = rt.alloc();
-    for header in [b"\x0A\x0B\x01".as_slice(), b"\x09\x01"] {
-        let input = chain(alloc, header)?;
-        let output = sorted_chain(alloc, header)?;
-        for pieces in [(10_000, 0), (1, 0)] {
-            check_canon(&rt, alloc, &input, pieces, &output);
-            check_itself(&rt, alloc, &output, pieces);
+    for header in HEADERS.iter() {
+        let mut input = Vec::new(alloc);
+        put_chain(&rt, alloc, &mut input, header);
+        let mut output = Vec::new(alloc);
+        put_sorted_chain(&rt, alloc, &mut output, header);
+        for ways in [AT_ONCE, BY_BYTES] {
+            check_written(&rt, alloc, "canon", &input, &output, ways);
+            check_written(&rt, alloc, "canon", &output, &output, ways);
         }
-        for (last, line) in [
-            (b"\x0A\x0B\x01".as_slice(), header.len() == 3),
-            (b"\x09\x01", header.len() == 2),
-        ] {
-            let mut both = input.clone()?;
-            both.extend_from_slice(&sorted_chain(alloc, last)?)?;
-            let ran = run_over(&rt, alloc, &["same"], &both, (10_000, 0), &[], &[]);
-            assert_eq!(rt; ran.status, 0);
-            let want = if line {
-                b"same\n".as_slice()
+    }
+}
+
+#[test]
+fn chains_are_the_same_by_name(rt: HostRuntime) {
+    let alloc = rt.alloc();
+    for header in HEADERS.iter() {
+        for last in HEADERS.iter() {
+            let mut both = Vec::new(alloc);
+            put_chain(&rt, alloc, &mut both, header);
+            put_sorted_chain(&rt, alloc, &mut both, last);
+            let said: &[u8] = if header.len() == last.len() {
+                b"same\n"
             } else {
                 b"different\n"
             };
-            assert_eq!(rt; ran.output.as_bytes(), want);
+            check_written(&rt, alloc, "same", &both, said, AT_ONCE);
         }
     }
-    Ok(())
-}
-
-/// Five bytes, and so many more.
-fn long(alloc: Global, front: [u8; 5], count: u32, byte: u8) -> Result<Vec<u8>, AllocError> {
-    let mut bytes = Vec::new(alloc);
-    bytes.extend_from_slice(&front)?;
-    for _ in 0..count {
-        bytes.push(byte)?;
-    }
-    Ok(bytes)
-}
-
-#[test]
-fn long_inputs(rt: HostRuntime) -> Result<(), Fail> {
-    for (front, byte) in [
-        ([0x0C, 0x88, 0x80, 0x80, 0x01], 0x00),
-        ([0x06, 0x88, 0x80, 0x80, 0x01], b'a'),
-    ] {
-        let input = long(rt.alloc(), front, 16_777_216, byte)?;
-        check_itself(&rt, rt.alloc(), &input, (1 << 25, 0));
-    }
-    Ok(())
-}
-
-#[test]
-fn inputs_past_the_limit(rt: HostRuntime) -> Result<(), Fail> {
-    let want = refused(b"", b"amf: refused TooLarge at 5\n");
-    for (front, byte) in [
-        ([0x0C, 0xA0, 0x80, 0x80, 0x01], 0x00),
-        ([0x06, 0xA0, 0x80, 0x80, 0x01], b'a'),
-    ] {
-        let input = long(rt.alloc(), front, LIMIT, byte)?;
-        check(&rt, rt.alloc(), &input, (1 << 25, 0), &want);
-    }
-    Ok(())
-}
-
-/// Two values, each within the limit, and not together: the second ends one byte behind it.
-#[test]
-fn comparisons_past_the_limit(rt: HostRuntime) -> Result<(), Fail> {
-    let half = LIMIT / 2;
-    let mut input = vec![in rt.alloc(); 0; 0]?;
-    for size in [half - 5, half - 4] {
-        input.extend_from_slice(b"\x0C")?;
-        input.extend_from_slice(write_u29(U29::new(2 * size + 1).ok_or("too large")?).as_slice())?;
-        input.extend_from_slice(&vec![in rt.alloc(); 0; size as usize]?)?;
-    }
-    let ran = run_over(&rt, rt.alloc(), &["same"], &input, (1 << 25, 0), &[], &[]);
-    assert_eq!(rt; ran.status, 1);
-    let line = format!(in rt.alloc(); "amf: refused TooLarge at {}\n", half + 5)?;
-    assert_eq!(rt; ran.line.as_bytes(), line.as_bytes());
-    Ok(())
 }
 
 /// A text of one byte more than a builder keeps.
 #[test]
-fn a_text_past_the_most(rt: HostRuntime) -> Result<(), Fail> {
-    let alloc = rt.alloc();
-    let mut bytes = Vec::new(alloc);
-    for _ in 0..268_435_456_u32 {
-        bytes.push(b'a')?;
-    }
-    let mut builder = Builder::new(alloc)?;
+fn a_text_past_the_most(rt: HostRuntime) {
+    let mut bytes = Vec::new(rt.alloc());
+    bytes.resize(268_435_456, b'a').expect(&rt, "memory");
     assert!(rt; is_amf_text(&bytes));
-    assert_eq!(rt; builder.text(&bytes), Err(BuildEnd::Full));
-    Ok(())
+    let mut builder = Builder::new(rt.alloc()).expect(&rt, "a builder");
+    assert!(rt; builder.text(&bytes) == Err(BuildEnd::Full));
 }

@@ -14,6 +14,8 @@ mod packet_tests;
 #[cfg(test)]
 mod real_tests;
 #[cfg(test)]
+mod runs;
+#[cfg(test)]
 mod serve_tests;
 #[cfg(test)]
 mod sol_tests;

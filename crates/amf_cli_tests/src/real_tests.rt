@@ -1,85 +1,47 @@
 //! Inputs of the kinds that people have, made by hand from the formats' descriptions: what is listed of each, how many nodes it has,
 //! and its canonical spelling.
-use crate::tests::{check_rows, writes};
+use crate::runs::check_rows;
+use amf_rows::Table;
 
-static CANON_SOL: [&str; 3] = ["canon", "--from", "sol"];
-
-static CHECK_SOL: [&str; 3] = ["check", "--from", "sol"];
-
-static SHOW_SOL: [&str; 3] = ["show", "--from", "sol"];
-
-static CANON_PACKET: [&str; 3] = ["canon", "--from", "packet"];
-
-static CHECK_PACKET: [&str; 3] = ["check", "--from", "packet"];
-
-static SHOW_PACKET: [&str; 3] = ["show", "--from", "packet"];
-
-/// A saved game in AMF 0: an object within an object, a date, a reference and an XML document.
-static GAME: &[u8] =
-    b"\0\xBF\0\0\0\x87TCSO\0\x04\0\0\0\0\0\x04save\0\0\0\0\0\x06player\x03\0\x04name\x02\0\x03Ann\0\x02hp\0@T\0\0\0\0\0\0\0\x03pos\x03\0\x01x\0?\xF0\0\0\0\0\0\0\0\x01y\0@\0\0\0\0\0\0\0\0\0\x09\0\0\x09\0\0\x04last\x0BBm\x1A\x94\xA2\0\0\0\0\0\0\0\x05again\x07\0\0\0\0\x03doc\x0F\0\0\0\x04<a/>\0";
-
-static GAME_CANON: &[u8] =
-    b"\0\xBF\0\0\0\x87TCSO\0\x04\0\0\0\0\0\x04save\0\0\0\0\0\x05again\x03\0\x02hp\0@T\0\0\0\0\0\0\0\x04name\x02\0\x03Ann\0\x03pos\x03\0\x01x\0?\xF0\0\0\0\0\0\0\0\x01y\0@\0\0\0\0\0\0\0\0\0\x09\0\0\x09\0\0\x03doc\x0F\0\0\0\x04<a/>\0\0\x04last\x0BBm\x1A\x94\xA2\0\0\0\0\0\0\0\x06player\x07\0\0\0";
-
-static GAME_SHOWN: &[u8] =
-    b"sol \"save\" 0\nroot #0\n#0 object \"\" sealed {} dynamic {\"again\"=#1, \"doc\"=#3, \"last\"=#4, \"player\"=#1}\n#1 object \"\" sealed {} dynamic {\"hp\"=d4054000000000000, \"name\"=\"Ann\", \"pos\"=#2}\n#2 object \"\" sealed {} dynamic {\"x\"=d3ff0000000000000, \"y\"=d4000000000000000}\n#3 xmldoc \"<a/>\"\n#4 date d426d1a94a2000000\n";
-
-/// A saved state in AMF 3: an object of a class, a ByteArray, an ArrayCollection and a reference.
-static STATE: &[u8] =
-    b"\0\xBF\0\0\0{TCSO\0\x04\0\0\0\0\0\x05state\0\0\0\x03\x07who\n#\x17game.Player\x09name\x05hp\x06\x07Ann\x04P\0\x09data\x0C\x07\x01\x02\x03\0\x09list\n\x07Cflex.messaging.io.ArrayCollection\x09\x05\x01\x04\x01\x04\x02\0\x09peer\n\0\0";
-
-static STATE_CANON: &[u8] =
-    b"\0\xBF\0\0\0{TCSO\0\x04\0\0\0\0\0\x05state\0\0\0\x03\x09data\x0C\x07\x01\x02\x03\0\x09list\n\x07Cflex.messaging.io.ArrayCollection\x09\x05\x01\x04\x01\x04\x02\0\x09peer\n#\x17game.Player\x09name\x05hp\x06\x07Ann\x04P\0\x07who\n\x06\0";
-
-static STATE_SHOWN: &[u8] =
-    b"sol \"state\" 3\nroot #0\n#0 object \"\" sealed {} dynamic {\"data\"=#1, \"list\"=#2, \"peer\"=#4, \"who\"=#4}\n#1 bytes x010203\n#2 wrapper \"flex.messaging.io.ArrayCollection\" #3\n#3 array [1, 2] {}\n#4 object \"game.Player\" sealed {\"name\"=\"Ann\", \"hp\"=80}\n";
-
-/// A call of Flash Remoting with two headers, whose lengths are told.
-static REPORT: &[u8] =
-    b"\0\0\0\x02\0\x0BCredentials\x01\0\0\0\x1E\x03\0\x06userid\x02\0\x01u\0\x08password\x02\0\x01p\0\0\x09\0\x0FDescribeService\0\0\0\0\x01\x05\0\x01\0\x0Bdemo.report\0\x02/1\0\0\0\n\n\0\0\0\x01\x02\0\x02hi";
-
-static REPORT_CANON: &[u8] =
-    b"\0\0\0\x02\0\x0BCredentials\x01\xFF\xFF\xFF\xFF\x03\0\x08password\x02\0\x01p\0\x06userid\x02\0\x01u\0\0\x09\0\x0FDescribeService\0\xFF\xFF\xFF\xFF\x05\0\x01\0\x0Bdemo.report\0\x02/1\xFF\xFF\xFF\xFF\n\0\0\0\x01\x02\0\x02hi";
-
-static REPORT_SHOWN: &[u8] =
-    b"packet 0\nheader \"Credentials\" 1\nroot #0\n#0 object \"\" sealed {} dynamic {\"password\"=\"p\", \"userid\"=\"u\"}\nheader \"DescribeService\" 0\nroot null\nmessage \"demo.report\" \"/1\" plain\nroot #0\n#0 array [\"hi\"] {}\n";
-
-/// The ping of a Flex client.
-static PING: &[u8] =
-    b"\0\x03\0\0\0\x01\0\x04null\0\x02/1\xFF\xFF\xFF\xFF\n\0\0\0\x01\x11\n\x81\x13Mflex.messaging.messages.CommandMessage\x09body\x11clientId\x17destination\x0Fheaders\x13messageId\x15timeToLive\x13timestamp\x1BcorrelationId\x13operation\n\x0B\x01\x01\x01\x06\x01\n\x05%DSMessagingVersion\x04\x01\x09DSId\x06\x07nil\x01\x06I8C9E1A20-0000-4000-8000-0000000000A1\x04\0\x04\0\x06\x01\x04\x05";
-
-static PING_CANON: &[u8] =
-    b"\0\x03\0\0\0\x01\0\x04null\0\x02/1\xFF\xFF\xFF\xFF\n\0\0\0\x01\x11\n\x81\x13Mflex.messaging.messages.CommandMessage\x09body\x11clientId\x17destination\x0Fheaders\x13messageId\x15timeToLive\x13timestamp\x1BcorrelationId\x13operation\n\x0B\x01\x01\x01\x06\x01\n\x05\x09DSId\x06\x07nil%DSMessagingVersion\x04\x01\x01\x06I8C9E1A20-0000-4000-8000-0000000000A1\x04\0\x04\0\x06\x01\x04\x05";
-
-static PING_SHOWN: &[u8] =
-    b"packet 3\nmessage \"null\" \"/1\" call\nroot #0\n#0 object \"flex.messaging.messages.CommandMessage\" sealed {\"body\"=#1, \"clientId\"=null, \"destination\"=\"\", \"headers\"=#2, \"messageId\"=\"8C9E1A20-0000-4000-8000-0000000000A1\", \"timeToLive\"=0, \"timestamp\"=0, \"correlationId\"=\"\", \"operation\"=5}\n#1 object \"\" sealed {} dynamic {}\n#2 object \"\" sealed {} dynamic {\"DSId\"=\"nil\", \"DSMessagingVersion\"=1}\n";
+/// A saved game in AMF 0: an object within an object, a date, a reference and an XML document. And a saved state in AMF 3: an object of
+/// a class, a ByteArray, an ArrayCollection and a reference.
+static SAVED: Table = Table {
+    rows: 8,
+    fields: 5,
+    text: r#"
+show --from sol | 00 BF 00 00 00 87 'TCSO' 00 04 00 00 00 00 00 04 'save' 00 00 00 00 00 06 'player' 03 00 04 'name' 02 00 03 'Ann' 00 02 'hp' 00 40 54 00 00 00 00 00 00 00 03 'pos' 03 00 01 78 00 3F F0 00 00 00 00 00 00 00 01 79 00 40 00 00 00 00 00 00 00 00 00 09 00 00 09 00 00 04 'last' 0B 42 6D 1A 94 A2 00 00 00 00 00 00 00 05 'again' 07 00 00 00 00 03 'doc' 0F 00 00 00 04 '<a/>' 00 | 0 | 'sol "save" 0' 0A 'root #0' 0A '#0 object "" sealed {} dynamic {"again"=#1, "doc"=#3, "last"=#4, "player"=#1}' 0A '#1 object "" sealed {} dynamic {"hp"=d4054000000000000, "name"="Ann", "pos"=#2}' 0A '#2 object "" sealed {} dynamic {"x"=d3ff0000000000000, "y"=d4000000000000000}' 0A '#3 xmldoc "<a/>"' 0A '#4 date d426d1a94a2000000' 0A |
+check --from sol | 00 BF 00 00 00 87 'TCSO' 00 04 00 00 00 00 00 04 'save' 00 00 00 00 00 06 'player' 03 00 04 'name' 02 00 03 'Ann' 00 02 'hp' 00 40 54 00 00 00 00 00 00 00 03 'pos' 03 00 01 78 00 3F F0 00 00 00 00 00 00 00 01 79 00 40 00 00 00 00 00 00 00 00 00 09 00 00 09 00 00 04 'last' 0B 42 6D 1A 94 A2 00 00 00 00 00 00 00 05 'again' 07 00 00 00 00 03 'doc' 0F 00 00 00 04 '<a/>' 00 | 0 | 'ok nodes 5' 0A |
+canon --from sol | 00 BF 00 00 00 87 'TCSO' 00 04 00 00 00 00 00 04 'save' 00 00 00 00 00 06 'player' 03 00 04 'name' 02 00 03 'Ann' 00 02 'hp' 00 40 54 00 00 00 00 00 00 00 03 'pos' 03 00 01 78 00 3F F0 00 00 00 00 00 00 00 01 79 00 40 00 00 00 00 00 00 00 00 00 09 00 00 09 00 00 04 'last' 0B 42 6D 1A 94 A2 00 00 00 00 00 00 00 05 'again' 07 00 00 00 00 03 'doc' 0F 00 00 00 04 '<a/>' 00 | 0 | 00 BF 00 00 00 87 'TCSO' 00 04 00 00 00 00 00 04 'save' 00 00 00 00 00 05 'again' 03 00 02 'hp' 00 40 54 00 00 00 00 00 00 00 04 'name' 02 00 03 'Ann' 00 03 'pos' 03 00 01 78 00 3F F0 00 00 00 00 00 00 00 01 79 00 40 00 00 00 00 00 00 00 00 00 09 00 00 09 00 00 03 'doc' 0F 00 00 00 04 '<a/>' 00 00 04 'last' 0B 42 6D 1A 94 A2 00 00 00 00 00 00 00 06 'player' 07 00 00 00 |
+canon --from sol | 00 BF 00 00 00 87 'TCSO' 00 04 00 00 00 00 00 04 'save' 00 00 00 00 00 05 'again' 03 00 02 'hp' 00 40 54 00 00 00 00 00 00 00 04 'name' 02 00 03 'Ann' 00 03 'pos' 03 00 01 78 00 3F F0 00 00 00 00 00 00 00 01 79 00 40 00 00 00 00 00 00 00 00 00 09 00 00 09 00 00 03 'doc' 0F 00 00 00 04 '<a/>' 00 00 04 'last' 0B 42 6D 1A 94 A2 00 00 00 00 00 00 00 06 'player' 07 00 00 00 | 0 | 00 BF 00 00 00 87 'TCSO' 00 04 00 00 00 00 00 04 'save' 00 00 00 00 00 05 'again' 03 00 02 'hp' 00 40 54 00 00 00 00 00 00 00 04 'name' 02 00 03 'Ann' 00 03 'pos' 03 00 01 78 00 3F F0 00 00 00 00 00 00 00 01 79 00 40 00 00 00 00 00 00 00 00 00 09 00 00 09 00 00 03 'doc' 0F 00 00 00 04 '<a/>' 00 00 04 'last' 0B 42 6D 1A 94 A2 00 00 00 00 00 00 00 06 'player' 07 00 00 00 |
+show --from sol | 00 BF 00 00 00 7B 'TCSO' 00 04 00 00 00 00 00 05 'state' 00 00 00 03 07 'who' 0A 23 17 'game.Player' 09 'name' 05 'hp' 06 07 'Ann' 04 50 00 09 'data' 0C 07 01 02 03 00 09 'list' 0A 07 43 'flex.messaging.io.ArrayCollection' 09 05 01 04 01 04 02 00 09 'peer' 0A 00 00 | 0 | 'sol "state" 3' 0A 'root #0' 0A '#0 object "" sealed {} dynamic {"data"=#1, "list"=#2, "peer"=#4, "who"=#4}' 0A '#1 bytes x010203' 0A '#2 wrapper "flex.messaging.io.ArrayCollection" #3' 0A '#3 array [1, 2] {}' 0A '#4 object "game.Player" sealed {"name"="Ann", "hp"=80}' 0A |
+check --from sol | 00 BF 00 00 00 7B 'TCSO' 00 04 00 00 00 00 00 05 'state' 00 00 00 03 07 'who' 0A 23 17 'game.Player' 09 'name' 05 'hp' 06 07 'Ann' 04 50 00 09 'data' 0C 07 01 02 03 00 09 'list' 0A 07 43 'flex.messaging.io.ArrayCollection' 09 05 01 04 01 04 02 00 09 'peer' 0A 00 00 | 0 | 'ok nodes 5' 0A |
+canon --from sol | 00 BF 00 00 00 7B 'TCSO' 00 04 00 00 00 00 00 05 'state' 00 00 00 03 07 'who' 0A 23 17 'game.Player' 09 'name' 05 'hp' 06 07 'Ann' 04 50 00 09 'data' 0C 07 01 02 03 00 09 'list' 0A 07 43 'flex.messaging.io.ArrayCollection' 09 05 01 04 01 04 02 00 09 'peer' 0A 00 00 | 0 | 00 BF 00 00 00 7B 'TCSO' 00 04 00 00 00 00 00 05 'state' 00 00 00 03 09 'data' 0C 07 01 02 03 00 09 'list' 0A 07 43 'flex.messaging.io.ArrayCollection' 09 05 01 04 01 04 02 00 09 'peer' 0A 23 17 'game.Player' 09 'name' 05 'hp' 06 07 'Ann' 04 50 00 07 'who' 0A 06 00 |
+canon --from sol | 00 BF 00 00 00 7B 'TCSO' 00 04 00 00 00 00 00 05 'state' 00 00 00 03 09 'data' 0C 07 01 02 03 00 09 'list' 0A 07 43 'flex.messaging.io.ArrayCollection' 09 05 01 04 01 04 02 00 09 'peer' 0A 23 17 'game.Player' 09 'name' 05 'hp' 06 07 'Ann' 04 50 00 07 'who' 0A 06 00 | 0 | 00 BF 00 00 00 7B 'TCSO' 00 04 00 00 00 00 00 05 'state' 00 00 00 03 09 'data' 0C 07 01 02 03 00 09 'list' 0A 07 43 'flex.messaging.io.ArrayCollection' 09 05 01 04 01 04 02 00 09 'peer' 0A 23 17 'game.Player' 09 'name' 05 'hp' 06 07 'Ann' 04 50 00 07 'who' 0A 06 00 |
+"#,
+};
 
 #[test]
 fn saved_files(rt: HostRuntime) {
-    let cases = [
-        writes(SHOW_SOL.as_slice(), GAME, GAME_SHOWN),
-        writes(CHECK_SOL.as_slice(), GAME, b"ok nodes 5\n"),
-        writes(CANON_SOL.as_slice(), GAME, GAME_CANON),
-        writes(CANON_SOL.as_slice(), GAME_CANON, GAME_CANON),
-        writes(SHOW_SOL.as_slice(), STATE, STATE_SHOWN),
-        writes(CHECK_SOL.as_slice(), STATE, b"ok nodes 5\n"),
-        writes(CANON_SOL.as_slice(), STATE, STATE_CANON),
-        writes(CANON_SOL.as_slice(), STATE_CANON, STATE_CANON),
-    ];
-    check_rows(&rt, rt.alloc(), &cases);
+    check_rows(&rt, rt.alloc(), &SAVED);
 }
+
+/// A call of Flash Remoting with two headers, whose lengths are told; and the ping of a Flex client.
+static CAPTURED: Table = Table {
+    rows: 8,
+    fields: 5,
+    text: r#"
+show --from packet | 00 00 00 02 00 0B 'Credentials' 01 00 00 00 1E 03 00 06 'userid' 02 00 01 75 00 08 'password' 02 00 01 70 00 00 09 00 0F 'DescribeService' 00 00 00 00 01 05 00 01 00 0B 'demo.report' 00 02 '/1' 00 00 00 0A 0A 00 00 00 01 02 00 02 'hi' | 0 | 'packet 0' 0A 'header "Credentials" 1' 0A 'root #0' 0A '#0 object "" sealed {} dynamic {"password"="p", "userid"="u"}' 0A 'header "DescribeService" 0' 0A 'root null' 0A 'message "demo.report" "/1" plain' 0A 'root #0' 0A '#0 array ["hi"] {}' 0A |
+check --from packet | 00 00 00 02 00 0B 'Credentials' 01 00 00 00 1E 03 00 06 'userid' 02 00 01 75 00 08 'password' 02 00 01 70 00 00 09 00 0F 'DescribeService' 00 00 00 00 01 05 00 01 00 0B 'demo.report' 00 02 '/1' 00 00 00 0A 0A 00 00 00 01 02 00 02 'hi' | 0 | 'ok nodes 2' 0A |
+canon --from packet | 00 00 00 02 00 0B 'Credentials' 01 00 00 00 1E 03 00 06 'userid' 02 00 01 75 00 08 'password' 02 00 01 70 00 00 09 00 0F 'DescribeService' 00 00 00 00 01 05 00 01 00 0B 'demo.report' 00 02 '/1' 00 00 00 0A 0A 00 00 00 01 02 00 02 'hi' | 0 | 00 00 00 02 00 0B 'Credentials' 01 FF FF FF FF 03 00 08 'password' 02 00 01 70 00 06 'userid' 02 00 01 75 00 00 09 00 0F 'DescribeService' 00 FF FF FF FF 05 00 01 00 0B 'demo.report' 00 02 '/1' FF FF FF FF 0A 00 00 00 01 02 00 02 'hi' |
+canon --from packet | 00 00 00 02 00 0B 'Credentials' 01 FF FF FF FF 03 00 08 'password' 02 00 01 70 00 06 'userid' 02 00 01 75 00 00 09 00 0F 'DescribeService' 00 FF FF FF FF 05 00 01 00 0B 'demo.report' 00 02 '/1' FF FF FF FF 0A 00 00 00 01 02 00 02 'hi' | 0 | 00 00 00 02 00 0B 'Credentials' 01 FF FF FF FF 03 00 08 'password' 02 00 01 70 00 06 'userid' 02 00 01 75 00 00 09 00 0F 'DescribeService' 00 FF FF FF FF 05 00 01 00 0B 'demo.report' 00 02 '/1' FF FF FF FF 0A 00 00 00 01 02 00 02 'hi' |
+show --from packet | 00 03 00 00 00 01 00 04 'null' 00 02 '/1' FF FF FF FF 0A 00 00 00 01 11 0A 81 13 4D 'flex.messaging.messages.CommandMessage' 09 'body' 11 'clientId' 17 'destination' 0F 'headers' 13 'messageId' 15 'timeToLive' 13 'timestamp' 1B 'correlationId' 13 'operation' 0A 0B 01 01 01 06 01 0A 05 25 'DSMessagingVersion' 04 01 09 'DSId' 06 07 'nil' 01 06 49 '8C9E1A20-0000-4000-8000-0000000000A1' 04 00 04 00 06 01 04 05 | 0 | 'packet 3' 0A 'message "null" "/1" call' 0A 'root #0' 0A '#0 object "flex.messaging.messages.CommandMessage" sealed {"body"=#1, "clientId"=null, "destination"="", "headers"=#2, "messageId"="8C9E1A20-0000-4000-8000-0000000000A1", "timeToLive"=0, "timestamp"=0, "correlationId"="", "operation"=5}' 0A '#1 object "" sealed {} dynamic {}' 0A '#2 object "" sealed {} dynamic {"DSId"="nil", "DSMessagingVersion"=1}' 0A |
+check --from packet | 00 03 00 00 00 01 00 04 'null' 00 02 '/1' FF FF FF FF 0A 00 00 00 01 11 0A 81 13 4D 'flex.messaging.messages.CommandMessage' 09 'body' 11 'clientId' 17 'destination' 0F 'headers' 13 'messageId' 15 'timeToLive' 13 'timestamp' 1B 'correlationId' 13 'operation' 0A 0B 01 01 01 06 01 0A 05 25 'DSMessagingVersion' 04 01 09 'DSId' 06 07 'nil' 01 06 49 '8C9E1A20-0000-4000-8000-0000000000A1' 04 00 04 00 06 01 04 05 | 0 | 'ok nodes 3' 0A |
+canon --from packet | 00 03 00 00 00 01 00 04 'null' 00 02 '/1' FF FF FF FF 0A 00 00 00 01 11 0A 81 13 4D 'flex.messaging.messages.CommandMessage' 09 'body' 11 'clientId' 17 'destination' 0F 'headers' 13 'messageId' 15 'timeToLive' 13 'timestamp' 1B 'correlationId' 13 'operation' 0A 0B 01 01 01 06 01 0A 05 25 'DSMessagingVersion' 04 01 09 'DSId' 06 07 'nil' 01 06 49 '8C9E1A20-0000-4000-8000-0000000000A1' 04 00 04 00 06 01 04 05 | 0 | 00 03 00 00 00 01 00 04 'null' 00 02 '/1' FF FF FF FF 0A 00 00 00 01 11 0A 81 13 4D 'flex.messaging.messages.CommandMessage' 09 'body' 11 'clientId' 17 'destination' 0F 'headers' 13 'messageId' 15 'timeToLive' 13 'timestamp' 1B 'correlationId' 13 'operation' 0A 0B 01 01 01 06 01 0A 05 09 'DSId' 06 07 'nil' 25 'DSMessagingVersion' 04 01 01 06 49 '8C9E1A20-0000-4000-8000-0000000000A1' 04 00 04 00 06 01 04 05 |
+canon --from packet | 00 03 00 00 00 01 00 04 'null' 00 02 '/1' FF FF FF FF 0A 00 00 00 01 11 0A 81 13 4D 'flex.messaging.messages.CommandMessage' 09 'body' 11 'clientId' 17 'destination' 0F 'headers' 13 'messageId' 15 'timeToLive' 13 'timestamp' 1B 'correlationId' 13 'operation' 0A 0B 01 01 01 06 01 0A 05 09 'DSId' 06 07 'nil' 25 'DSMessagingVersion' 04 01 01 06 49 '8C9E1A20-0000-4000-8000-0000000000A1' 04 00 04 00 06 01 04 05 | 0 | 00 03 00 00 00 01 00 04 'null' 00 02 '/1' FF FF FF FF 0A 00 00 00 01 11 0A 81 13 4D 'flex.messaging.messages.CommandMessage' 09 'body' 11 'clientId' 17 'destination' 0F 'headers' 13 'messageId' 15 'timeToLive' 13 'timestamp' 1B 'correlationId' 13 'operation' 0A 0B 01 01 01 06 01 0A 05 09 'DSId' 06 07 'nil' 25 'DSMessagingVersion' 04 01 01 06 49 '8C9E1A20-0000-4000-8000-0000000000A1' 04 00 04 00 06 01 04 05 |
+"#,
+};
 
 #[test]
 fn captured_packets(rt: HostRuntime) {
-    let cases = [
-        writes(SHOW_PACKET.as_slice(), REPORT, REPORT_SHOWN),
-        writes(CHECK_PACKET.as_slice(), REPORT, b"ok nodes 2\n"),
-        writes(CANON_PACKET.as_slice(), REPORT, REPORT_CANON),
-        writes(CANON_PACKET.as_slice(), REPORT_CANON, REPORT_CANON),
-        writes(SHOW_PACKET.as_slice(), PING, PING_SHOWN),
-        writes(CHECK_PACKET.as_slice(), PING, b"ok nodes 3\n"),
-        writes(CANON_PACKET.as_slice(), PING, PING_CANON),
-        writes(CANON_PACKET.as_slice(), PING_CANON, PING_CANON),
-    ];
-    check_rows(&rt, rt.alloc(), &cases);
+    check_rows(&rt, rt.alloc(), &CAPTURED);
 }

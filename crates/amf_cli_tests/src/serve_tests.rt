@@ -1,231 +1,167 @@
-ghost use Rattle.std.specs.Prelude.{◌≡◌, length, IfOk, All};
+ghost use Rattle.std.specs.Prelude.{◌≡◌, length, All};
 
-use amf_cli::run::run;
+use crate::runs::{Case, Ways, check_rows, put, wrong_over};
 use amf_io::{
-    FaultlessDial, FaultlessLink, Gate, Joined, MemoryFront, MemoryHall, MemoryLink, MemorySink,
-    MemorySource, OpenGate,
+    Gate, Joined, MemoryFront, MemoryHall, MemoryLink, MemorySink, MemorySource, OpenGate,
 };
-use amf_service::Registry;
-use amf_wire::{Memory, Name};
-use itoa::Buffer;
-use std::alloc::{AllocError, Global};
+use amf_rows::{Row, Table};
+use std::alloc::Global;
 use std::process::Abort;
 use std::random::RandomSource;
 use std::sync::Wait;
 use std::sync::atomic::{AtomicBool, AtomicU64, Ordering};
-use std::test::Fail;
 use std::thread;
 use std::thread::Threads;
-
-static ONE: [&str; 7] = ["serve", "--port", "0", "--workers", "1", "--each", "1"];
-
-static TWO_LINKS: [&str; 4] = ["serve", "--port=0", "--workers=1", "--each=2"];
-
-static TWO_WORKERS: [&str; 4] = ["serve", "--each=1", "--workers=2", "--port=0"];
 
 /// The front of a packet with one message of a Flex client, up to the body of its CommandMessage.
 const COMMAND: &[u8] =
     b"\0\x03\0\0\0\x01\0\x04null\0\x02/1\xFF\xFF\xFF\xFF\n\0\0\0\x01\x11\n\x81\x13Mflex.messaging.messages.CommandMessage\x09body\x11clientId\x17destination\x0Fheaders\x13messageId\x15timeToLive\x13timestamp\x1BcorrelationId\x13operation\x01\x01\x06\x09chat\n\x0B\x01\x09DSId\x06";
 
 /// And of its AsyncMessage, whose body is the text `hi`.
-const PUBLISH: &[u8] =
+const MESSAGE: &[u8] =
     b"\0\x03\0\0\0\x01\0\x04null\0\x02/1\xFF\xFF\xFF\xFF\n\0\0\0\x01\x11\n\x81\x03Iflex.messaging.messages.AsyncMessage\x09body\x11clientId\x17destination\x0Fheaders\x13messageId\x15timeToLive\x13timestamp\x1BcorrelationId\x06\x05hi\x01\x06\x09chat\n\x0B\x01\x09DSId\x06";
 
 /// What stands behind the number of the client.
 const BACK: &[u8] = b"\x01\x06\x03m\x04\0\x04\0\x06\x01";
 
-/// What a client asks for: a new number, a subscription to `chat`, a message there, or what came.
-#[derive(Clone, Copy)]
-enum Ask {
-    Connect,
-    Subscribe(u8),
-    Publish(u8),
-    Poll(u8),
-}
+const HEAD: &[u8] =
+    b"POST /amf HTTP/1.1\r\nHost: h\r\nContent-Type: application/x-amf\r\nContent-Length: ";
 
-/// A request of a client.
-fn request(alloc: Global, ask: Ask) -> Result<Vec<u8>, AllocError> {
-    let (front, client, operation) = match ask {
-        Ask::Connect => (COMMAND, b"\x07nil".to_vec(alloc)?, b"\x04\x05".as_slice()),
-        Ask::Subscribe(client) => (COMMAND, [3, client].to_vec(alloc)?, b"\x04\0".as_slice()),
-        Ask::Publish(client) => (PUBLISH, [3, client].to_vec(alloc)?, b"".as_slice()),
-        Ask::Poll(client) => (COMMAND, [3, client].to_vec(alloc)?, b"\x04\x02".as_slice()),
-    };
-    let mut packet = front.to_vec(alloc)?;
-    packet.extend_from_slice(&client)?;
-    packet.extend_from_slice(BACK)?;
-    packet.extend_from_slice(operation)?;
-    let mut digits = Buffer::new();
-    let mut bytes = Vec::new(alloc);
-    bytes.extend_from_slice(
-        b"POST /amf HTTP/1.1\r\nHost: h\r\nContent-Type: application/x-amf\r\nContent-Length: ",
-    )?;
-    bytes.extend_from_slice(digits.format(packet.len()).as_bytes())?;
-    bytes.extend_from_slice(b"\r\n\r\n")?;
-    bytes.extend_from_slice(&packet)?;
-    Ok(bytes)
-}
+/// A request in pieces: the head with the length of the packet, and the packet with the number of the client.
+type Ask = [&'static [u8]; 7];
+
+const END: &[u8] = b"\r\n\r\n";
+
+/// A new number.
+const CONNECT: Ask = [HEAD, b"190", END, COMMAND, b"\x07nil", BACK, b"\x04\x05"];
+
+/// A subscription of client 1 to `chat`, a message there, and what came; and those of client 2.
+const SUBSCRIBE: Ask = [HEAD, b"188", END, COMMAND, b"\x031", BACK, b"\x04\0"];
+
+const PUBLISH: Ask = [HEAD, b"177", END, MESSAGE, b"\x031", BACK, b""];
+
+const POLL: Ask = [HEAD, b"188", END, COMMAND, b"\x031", BACK, b"\x04\x02"];
+
+const SUBSCRIBE_2: Ask = [HEAD, b"188", END, COMMAND, b"\x032", BACK, b"\x04\0"];
+
+const POLL_2: Ask = [HEAD, b"188", END, COMMAND, b"\x032", BACK, b"\x04\x02"];
 
 /// A link with these requests.
-fn link(alloc: Global, asks: &[Ask]) -> Result<MemoryLink, Memory> {
+fn link(rt: &impl Abort, alloc: Global, asks: &[Ask]) -> MemoryLink {
     let mut bytes = Vec::new(alloc);
     for ask in asks {
-        let one = request(alloc, *ask)?;
-        bytes.extend_from_slice(&one)?;
+        for piece in ask {
+            put(rt, &mut bytes, 1, piece);
+        }
     }
-    Ok(Joined {
-        source: MemorySource::new(alloc, &bytes, usize::MAX, 0, &[])?,
-        sink: MemorySink::new(alloc, usize::MAX, &[])?,
-    })
+    let source = MemorySource::new(alloc, &bytes, usize::MAX, 0, &[]).expect(rt, "a source");
+    let sink = MemorySink::new(alloc, usize::MAX, &[]).expect(rt, "a sink");
+    Joined { source, sink }
+}
+
+/// A hall of so many links with these requests, whose calls of `next` with these numbers fail.
+fn hall(
+    rt: &impl Abort,
+    alloc: Global,
+    count: usize,
+    asks: &[Ask],
+    failing: &[u64],
+) -> MemoryHall<MemoryLink>
+    ensures whole { result.failed ≡ 0 }
+    ensures fresh { length result.links.served.items ≡ 0 }
+{
+    let mut coming = Vec::new(alloc);
+    for _ in 0..count {
+        coming.push(link(rt, alloc, asks)).expect(rt, "memory");
+    }
+    MemoryHall::new(alloc, coming, &[], &[], failing).expect(rt, "a hall")
 }
 
 /// The first four requests of a client.
-static FIRST: [Ask; 4] = [
-    Ask::Connect,
-    Ask::Subscribe(b'1'),
-    Ask::Publish(b'1'),
-    Ask::Poll(b'1'),
-];
+static FIRST: [Ask; 4] = [CONNECT, SUBSCRIBE, PUBLISH, POLL];
 
-/// A hall of links with these requests, whose calls of `next` with these numbers fail.
-fn hall(alloc: Global, links: &[&[Ask]], failing: &[u64]) -> Result<MemoryHall<MemoryLink>, Memory>
-    ensures whole { IfOk result (λ h. h.failed ≡ 0) }
-    ensures fresh { IfOk result (λ h. length h.links.served.items ≡ 0) }
-{
-    let mut coming = Vec::new(alloc);
-    for asks in links {
-        coming.push(link(alloc, asks)?)?;
-    }
-    MemoryHall::new(alloc, coming, &[], &[], failing)
-}
-
-/// A front of one hall.
+/// A front of one hall of so many links, whose calls of `next` and of `open` with these numbers fail.
 fn front_of_one(
+    rt: &impl Abort,
     alloc: Global,
-    links: &[&[Ask]],
-    failing: &[u64],
-    failing_opens: &[u64],
-) -> Result<MemoryFront<MemoryLink>, Memory> {
-    let only = hall(alloc, links, failing)?;
-    MemoryFront::new(alloc, vec![in alloc; only]?, failing_opens)
+    count: usize,
+    next: &[u64],
+    open: &[u64],
+) -> MemoryFront<MemoryLink> {
+    let mut halls = Vec::new(alloc);
+    let only = hall(rt, alloc, count, &FIRST, next);
+    halls.push(only).expect(rt, "memory");
+    MemoryFront::new(alloc, halls, open).expect(rt, "a front")
 }
 
-/// What a run gave.
-#[derive(Drop)]
-struct Ran {
-    status: u8,
-    output: MemorySink,
-    line: MemorySink,
-}
+/// No byte of the input is asked for.
+const UNREAD: Ways<'static> = Ways {
+    most: 1,
+    cut: 0,
+    takes: 100,
+    reads: &[0],
+    writes: &[],
+};
 
-/// Runs with `serve`, without services.
-fn serve<R: RandomSource + Threads + Wait + Abort + Sync, G: Gate>(
+/// Serves over a front, which is then asked at port 0 for so many workers, and has so many halls back.
+fn check_front<R: RandomSource + Threads + Wait + Abort + Sync, G: Gate>(
     rt: &R,
     alloc: Global,
-    words: &[&str],
+    case: &Case<'_>,
+    ways: Ways<'_>,
     front: &mut MemoryFront<MemoryLink>,
     gate: &G,
-    failing_writes: &[u64],
-) -> Result<Ran, Fail> {
-    let mut names = Vec::new(alloc);
-    for word in words {
-        names.push(Name::from_bytes(alloc, word.as_bytes()).expect(rt, "a name"))?;
-    }
-    let registry = Registry::new(alloc, Vec::new(alloc)).expect(rt, "a registry");
-    let mut input = MemorySource::new(alloc, b"", 1, 0, &[0])?;
-    let mut output = MemorySink::new(alloc, 100, failing_writes)?;
-    let mut line = MemorySink::new(alloc, 100, &[])?;
-    let mut dial: FaultlessDial<FaultlessLink> = FaultlessDial::new(alloc, Vec::new(alloc))?;
-    let status = run(
-        rt,
-        alloc,
-        &names,
-        &mut input,
-        &mut output,
-        &mut line,
-        front,
-        gate,
-        &registry,
-        &mut dial,
-    );
-    Ok(Ran {
-        status,
-        output,
-        line,
-    })
+    workers: u32,
+    back: usize,
+) {
+    let words = case.words;
+    let wrong = wrong_over(rt, alloc, case, ways, front, gate);
+    assert!(rt; wrong.is_empty(), "{words}: {wrong}");
+    let is_asked = front.asked() == [(0u16, workers)].as_slice();
+    assert!(rt; is_asked, "{words}: the front");
+    let is_back = front.returned().len() == back;
+    assert!(rt; is_back, "{words}: the halls");
 }
 
-/// One worker, one link, and the input is not asked for a byte.
-#[test]
-fn serves_one_link(rt: HostRuntime) -> Result<(), Fail> {
-    let alloc = rt.alloc();
-    let mut front = front_of_one(alloc, &[&FIRST], &[], &[])?;
-    let ran = serve(&rt, alloc, ONE.as_slice(), &mut front, &OpenGate, &[])?;
-    assert_eq!(rt; ran.status, 0);
-    assert_eq!(rt;
-        ran.output.as_bytes(),
-        b"calls 4 published 1 delivered 1 queued 0\n".as_slice()
-    );
-    assert_eq!(rt; ran.line.as_bytes(), b"".as_slice());
-    assert_eq!(rt; front.asked(), [(0u16, 1u32)].as_slice());
-    assert_eq!(rt; front.returned().len(), 1);
-    Ok(())
+/// One worker: the status, the output and the error line; how many links there are, the calls of `next`, of `open` and of the output
+/// that fail, and how many halls are given back.
+static ONE_WORKER: Table = Table {
+    rows: 7,
+    fields: 10,
+    text: r"
+serve --port 0 --workers 1 --each 1 | | 0 | 'calls 4 published 1 delivered 1 queued 0' 0A | | 1 | | | | 1
+serve --port=0 --workers=1 --each=2 | | 6 | | 'amf: front fault' 0A | 2 | | 0 | | 0
+serve --port=0 --workers=1 --each=2 | | 6 | 'calls 0 published 0 delivered 0 queued 0' 0A | 'amf: front fault' 0A | 2 | 0 | | | 1
+serve --port=0 --workers=1 --each=2 | | 6 | 'calls 4 published 1 delivered 1 queued 0' 0A | 'amf: front fault' 0A | 2 | 1 | | | 1
+serve --port=0 --workers=1 --each=2 | | 0 | 'calls 8 published 2 delivered 3 queued 0' 0A | | 2 | 2 | | | 1
+serve --port=0 --workers=1 --each=2 | | 4 | | 'amf: write fault' 0A | 2 | | | 0 | 1
+serve --port=0 --workers=1 --each=2 | | 4 | | 'amf: write fault' 0A | 2 | 1 | | 0 | 1
+",
+};
+
+/// Serves as five more fields of the row say.
+pub(crate) fn check_served<R: RandomSource + Threads + Wait + Abort + Sync>(
+    rt: &R,
+    alloc: Global,
+    row: Row<'_>,
+    case: &Case<'_>,
+) {
+    let count = row.number(5).expect(rt, "a count") as usize;
+    let next = row.numbers(alloc, 6).expect(rt, "numbers");
+    let open = row.numbers(alloc, 7).expect(rt, "numbers");
+    let writes = row.numbers(alloc, 8).expect(rt, "numbers");
+    let back = row.number(9).expect(rt, "a count") as usize;
+    let mut front = front_of_one(rt, alloc, count, &next, &open);
+    let ways = Ways {
+        writes: &writes,
+        ..UNREAD
+    };
+    check_front(rt, alloc, case, ways, &mut front, &OpenGate, 1, back);
 }
 
-/// Fronts, halls and outputs that fail, as the failing calls of `next`, of `open` and of the output.
 #[test]
-fn serves_with_faults(rt: HostRuntime) -> Result<(), Fail> {
-    let alloc = rt.alloc();
-    for (next, open, write, status, output, line) in [
-        (
-            [].as_slice(),
-            [0u64].as_slice(),
-            [].as_slice(),
-            6,
-            b"".as_slice(),
-            b"amf: front fault\n".as_slice(),
-        ),
-        (
-            &[0],
-            &[],
-            &[],
-            6,
-            b"calls 0 published 0 delivered 0 queued 0\n",
-            b"amf: front fault\n",
-        ),
-        (
-            &[1],
-            &[],
-            &[],
-            6,
-            b"calls 4 published 1 delivered 1 queued 0\n",
-            b"amf: front fault\n",
-        ),
-        (
-            &[2],
-            &[],
-            &[],
-            0,
-            b"calls 8 published 2 delivered 3 queued 0\n",
-            b"",
-        ),
-        (&[], &[], &[0], 4, b"", b"amf: write fault\n"),
-        (&[1], &[], &[0], 4, b"", b"amf: write fault\n"),
-    ] {
-        let mut front = front_of_one(alloc, &[&FIRST, &FIRST], next, open)?;
-        let ran = serve(
-            &rt,
-            alloc,
-            TWO_LINKS.as_slice(),
-            &mut front,
-            &OpenGate,
-            write,
-        )?;
-        assert_eq!(rt; ran.status, status);
-        assert_eq!(rt; ran.output.as_bytes(), output);
-        assert_eq!(rt; ran.line.as_bytes(), line);
-    }
-    Ok(())
+fn serves_with_faults(rt: HostRuntime) {
+    check_rows(&rt, rt.alloc(), &ONE_WORKER);
 }
 
 /// Holds calls until others are answered, so that two workers are at work at once. It gives up after 50,000,000 looks.
@@ -270,36 +206,30 @@ impl Gate for Turns {
 }
 
 /// A front of two halls, each of one link: client 2 subscribes and polls, and client 1 publishes.
-fn front_of_two(alloc: Global) -> Result<MemoryFront<MemoryLink>, Memory> {
-    let listens = hall(
-        alloc,
-        &[&[Ask::Connect, Ask::Subscribe(b'2'), Ask::Poll(b'2')]],
-        &[],
-    )?;
-    let publishes = hall(
-        alloc,
-        &[&[Ask::Connect, Ask::Publish(b'1'), Ask::Publish(b'1')]],
-        &[],
-    )?;
-    MemoryFront::new(alloc, vec![in alloc; listens, publishes]?, &[])
+fn front_of_two(rt: &impl Abort, alloc: Global) -> MemoryFront<MemoryLink> {
+    let mut halls = Vec::new(alloc);
+    let listens = hall(rt, alloc, 1, &[CONNECT, SUBSCRIBE_2, POLL_2], &[]);
+    halls.push(listens).expect(rt, "memory");
+    let publishes = hall(rt, alloc, 1, &[CONNECT, PUBLISH, PUBLISH], &[]);
+    halls.push(publishes).expect(rt, "memory");
+    MemoryFront::new(alloc, halls, &[]).expect(rt, "a front")
 }
 
 #[test]
-fn two_workers_at_once(rt: HostRuntime) -> Result<(), Fail> {
-    let alloc = rt.alloc();
-    let mut front = front_of_two(alloc)?;
+fn two_workers_at_once(rt: HostRuntime) {
+    let mut front = front_of_two(&rt, rt.alloc());
     let turns = Turns {
         first: AtomicU64::new(0),
         second: AtomicU64::new(0),
         gave_up: AtomicBool::new(false),
     };
-    let ran = serve(&rt, alloc, TWO_WORKERS.as_slice(), &mut front, &turns, &[])?;
+    let case = Case {
+        words: "serve --each=1 --workers=2 --port=0",
+        input: b"",
+        status: 0,
+        output: b"calls 6 published 2 delivered 2 queued 0\n",
+        line: b"",
+    };
+    check_front(&rt, rt.alloc(), &case, UNREAD, &mut front, &turns, 2, 2);
     assert!(rt; !turns.gave_up.load(Ordering::SeqCst));
-    assert_eq!(rt; ran.status, 0);
-    assert_eq!(rt;
-        ran.output.as_bytes(),
-        b"calls 6 published 2 delivered 2 queued 0\n".as_slice()
-    );
-    assert_eq!(rt; front.returned().len(), 2);
-    Ok(())
 }

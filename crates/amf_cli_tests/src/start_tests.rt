@@ -8,33 +8,22 @@ use amf_service::Registry;
 use amf_wire::{Memory, Name};
 use std::alloc::Global;
 use std::env::FillError;
-use std::process::ExitCode;
+use std::process::{Abort, ExitCode};
 use std::random::RandomSource;
 use std::rt::Env;
 use std::sync::Wait;
-use std::test::Fail;
 use std::thread::Threads;
 
 /// Words in memory.
-#[derive(Drop)]
-struct Given {
-    words: Vec<Name>,
+#[derive(Clone, Copy)]
+struct Given<'a> {
+    words: &'a [Name],
 }
 
-impl Given {
-    fn new(alloc: Global, words: &[&[u8]]) -> Result<Given, Fail> {
-        let mut names = Vec::new(alloc);
-        for word in words {
-            names.push(Name::of_bytes(alloc, word)?)?;
-        }
-        Ok(Given { words: names })
-    }
-}
-
-impl Arguments for Given {
+impl Arguments for Given<'_> {
     ghost tells = { λ given. Unit {0} };
 
-    ghost words = { λ given. given.words.items };
+    ghost words = { λ given. given.words.now };
 
     fn word(&self, alloc: Global, place: usize) -> Result<Option<Name>, Memory> {
         match self.words.get(place) {
@@ -44,75 +33,122 @@ impl Arguments for Given {
     }
 }
 
+/// These words.
+fn names_of(rt: &impl Abort, alloc: Global, words: &[&[u8]]) -> Vec<Name> {
+    let mut names = Vec::new(alloc);
+    for word in words {
+        let name = Name::of_bytes(alloc, word).expect(rt, "memory");
+        names.push(name).expect(rt, "memory");
+    }
+    names
+}
+
 /// Starts with a front without halls, without services, and with a dial without links.
-fn start_alone<R: RandomSource + Threads + Wait + Sync, A: Arguments, I: Source, O: Sink, E: Sink>(
+fn start_alone<R: RandomSource + Threads + Wait + Abort + Sync, I: Source, O: Sink, E: Sink>(
     rt: &R,
     alloc: Global,
-    arguments: &A,
+    words: &[&[u8]],
     input: &mut I,
     out: &mut O,
     err: &mut E,
-) -> Result<ExitCode, Fail> {
-    let mut front: FaultlessFront<FaultlessLink> = FaultlessFront::new(alloc, Vec::new(alloc))?;
-    let mut dial: FaultlessDial<FaultlessLink> = FaultlessDial::new(alloc, Vec::new(alloc))?;
-    let Ok(registry) = Registry::new(alloc, Vec::new(alloc)) else {
-        return Err("no registry".into());
-    };
-    Ok(start(
-        rt, alloc, arguments, input, out, err, &mut front, &OpenGate, &registry, &mut dial,
-    ))
+) -> ExitCode {
+    let front = FaultlessFront::new(alloc, Vec::new(alloc));
+    let mut front: FaultlessFront<FaultlessLink> = front.expect(rt, "a front");
+    let dial = FaultlessDial::new(alloc, Vec::new(alloc));
+    let mut dial: FaultlessDial<FaultlessLink> = dial.expect(rt, "a dial");
+    let registry = Registry::new(alloc, Vec::new(alloc)).expect(rt, "a registry");
+    let names = names_of(rt, alloc, words);
+    let given = Given { words: &names };
+    start(
+        rt, alloc, &given, input, out, err, &mut front, &OpenGate, &registry, &mut dial,
+    )
 }
 
-/// The exit code, the output and the error line, over streams in memory.
+/// Words and an input, with the exit code, the output and the error line.
+#[derive(Clone, Copy)]
+struct Start {
+    words: &'static [&'static [u8]],
+    input: &'static [u8],
+    code: u8,
+    output: &'static [u8],
+    line: &'static [u8],
+}
+
+static STARTS: [Start; 5] = [
+    Start {
+        words: &[b"canon", b"--to=amf3"],
+        input: b"\x04\x80\x05",
+        code: 0,
+        output: b"\x04\x05",
+        line: b"",
+    },
+    Start {
+        words: &[b"canon"],
+        input: b"\x12",
+        code: 1,
+        output: b"",
+        line: b"amf: refused BadMarker at 0\n",
+    },
+    Start {
+        words: &[b"same", b"canon"],
+        input: b"\x01",
+        code: 2,
+        output: b"",
+        line: b"amf: usage\n",
+    },
+    Start {
+        words: &[b"same", b"\xFF"],
+        input: b"\x01",
+        code: 2,
+        output: b"",
+        line: b"amf: usage\n",
+    },
+    Start {
+        words: &[],
+        input: b"\x01",
+        code: 2,
+        output: b"",
+        line: b"amf: usage\n",
+    },
+];
+
+fn check_start<R: RandomSource + Threads + Wait + Abort + Sync>(
+    rt: &R,
+    alloc: Global,
+    start: &Start,
+) {
+    let mut input = MemorySource::new(alloc, start.input, 9, 0, &[]).expect(rt, "a source");
+    let mut output = MemorySink::new(alloc, 9, &[]).expect(rt, "a sink");
+    let mut line = MemorySink::new(alloc, 100, &[]).expect(rt, "a sink");
+    let code = start_alone(rt, alloc, start.words, &mut input, &mut output, &mut line);
+    assert!(rt; code == ExitCode::from(start.code));
+    assert!(rt; output.as_bytes() == start.output);
+    assert!(rt; line.as_bytes() == start.line);
+}
+
 #[test]
-fn starts_over_streams_in_memory(rt: HostRuntime) -> Result<(), Fail> {
-    let alloc = rt.alloc();
-    for (words, input, code, output, line) in [
-        (
-            [b"canon".as_slice(), b"--to=amf3"].as_slice(),
-            b"\x04\x80\x05".as_slice(),
-            0,
-            b"\x04\x05".as_slice(),
-            b"".as_slice(),
-        ),
-        (
-            &[b"canon"],
-            b"\x12",
-            1,
-            b"",
-            b"amf: refused BadMarker at 0\n",
-        ),
-        (&[b"same", b"canon"], b"\x01", 2, b"", b"amf: usage\n"),
-        (&[b"same", b"\xFF"], b"\x01", 2, b"", b"amf: usage\n"),
-        (&[], b"\x01", 2, b"", b"amf: usage\n"),
-    ] {
-        let arguments = Given::new(alloc, words)?;
-        let mut source = MemorySource::new(alloc, input, 9, 0, &[])?;
-        let mut sink = MemorySink::new(alloc, 9, &[])?;
-        let mut error = MemorySink::new(alloc, 100, &[])?;
-        let exit = start_alone(&rt, alloc, &arguments, &mut source, &mut sink, &mut error)?;
-        assert_eq!(rt; exit, ExitCode::from(code));
-        assert_eq!(rt; sink.as_bytes(), output);
-        assert_eq!(rt; error.as_bytes(), line);
+fn starts_over_streams_in_memory(rt: HostRuntime) {
+    for start in STARTS.iter() {
+        check_start(&rt, rt.alloc(), start);
     }
-    Ok(())
 }
 
-/// The exit code over the real streams, of which the input is empty.
+/// Words, and the exit code over an empty input.
+static REAL: [(&[&[u8]], u8); 2] = [(&[b"canon"], 1), (&[b"cannon"], 2)];
+
 #[test]
-fn starts_over_the_real_streams(rt: HostRuntime) -> Result<(), Fail> {
-    for (word, code) in [(b"canon".as_slice(), 1), (b"cannon", 2)] {
+fn starts_over_the_real_streams(rt: HostRuntime) {
+    for (words, code) in REAL.iter() {
         let exit = start_alone(
             &rt,
             rt.alloc(),
-            &Given::new(rt.alloc(), &[word])?,
+            words,
             &mut StandardInput::new(rt.stdin()),
             &mut StandardOutput::new(rt.stdout()),
             &mut StandardError::new(rt.stderr()),
-        )?;
-        assert_eq!(rt; exit, ExitCode::from(code));
+        );
+        assert!(rt; exit == ExitCode::from(*code));
     }
-    Ok(())
 }
 
 /// An environment with these words, the program's name among them.
@@ -147,16 +183,16 @@ static WORDS: [&[u8]; 4] = [b"\xFF\xFE", b"canon", b"\xFF", &[120; 700]];
 
 /// The words behind a program's name that is not UTF-8.
 #[test]
-fn takes_words_from_an_environment(rt: HostRuntime) -> Result<(), Fail> {
+fn takes_words_from_an_environment(rt: HostRuntime) {
     for count in 0..5usize {
         let machine = Machine {
             words: &WORDS[..count.min(4)],
         };
-        let words = words_of(rt.alloc(), &Environment::new(&machine))?;
-        assert_eq!(rt; words.len(), count.min(4).saturating_sub(1));
+        let words = words_of(rt.alloc(), &Environment::new(&machine));
+        let words = words.expect(&rt, "memory");
+        assert!(rt; words.len() == count.min(4).saturating_sub(1));
         for (word, want) in words.iter().zip(WORDS.iter().skip(1)) {
             assert!(rt; word.as_bytes() == *want);
         }
     }
-    Ok(())
 }

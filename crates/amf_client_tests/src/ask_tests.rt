@@ -1,5 +1,5 @@
-use crate::checks::{holds, holds_of};
-use crate::replies::joined;
+use crate::checks::{bytes_in, number};
+use crate::replies::put;
 use amf_client::{AskEnd, write_call};
 use amf_fixtures::{graph0, graph3};
 use amf_graph::{Lack, LackKind, Rooted};
@@ -8,7 +8,6 @@ use amf_rows::{Row, Table, bytes_of};
 use amf_wire::{Name, is_amf_text};
 use std::alloc::Global;
 use std::process::Abort;
-use std::test::Fail;
 
 /// The arguments 2 and 3.
 const TWO_AND_THREE: &[u8] = b"\x09\x05\x01\x04\x02\x04\x03";
@@ -68,171 +67,147 @@ const BY_BYTES: Takes<'static> = Takes {
 };
 
 /// A link on which nothing comes.
-fn link_of(alloc: Global, takes: Takes<'_>) -> Result<Joined<MemorySource, MemorySink>, Fail> {
-    Ok(Joined {
-        source: MemorySource::new(alloc, b"", 1, 0, &[])?,
-        sink: MemorySink::new(alloc, takes.most, takes.failing)?,
-    })
+fn link_of(rt: &impl Abort, alloc: Global, takes: Takes<'_>) -> Joined<MemorySource, MemorySink> {
+    Joined {
+        source: MemorySource::new(alloc, b"", 1, 0, &[]).expect(rt, "a source"),
+        sink: MemorySink::new(alloc, takes.most, takes.failing).expect(rt, "a sink"),
+    }
 }
 
 /// Makes the call over a link.
 fn write_to(
+    rt: &impl Abort,
     alloc: Global,
     link: &mut Joined<MemorySource, MemorySink>,
     call: Call<'_>,
-) -> Result<Result<(), AskEnd>, Fail> {
-    if !is_amf_text(call.target) || call.target.len() > 65_535 {
-        return Err("no target".into());
-    }
-    let target = Name::of_bytes(alloc, call.target)?;
-    Ok(write_call(alloc, link, call.port, &target, call.args))
+) -> Result<(), AskEnd> {
+    assert!(rt; is_amf_text(call.target), "no text");
+    assert!(rt; call.target.len() <= 65_535, "a long text");
+    let target = Name::of_bytes(alloc, call.target).expect(rt, "a name");
+    write_call(alloc, link, call.port, &target, call.args)
 }
 
-/// Whether the call ends so, and this was written.
+/// Ends the test unless the call ends so, and this was written.
 fn ends_so(
+    rt: &impl Abort,
     alloc: Global,
     call: Call<'_>,
     takes: Takes<'_>,
     end: Result<(), AskEnd>,
     written: &[u8],
-) -> Result<bool, Fail> {
-    let mut link = link_of(alloc, takes)?;
-    let ended = write_to(alloc, &mut link, call)?;
-    Ok(ended == end && link.sink.as_bytes() == written)
+) {
+    let mut link = link_of(rt, alloc, takes);
+    let ended = write_to(rt, alloc, &mut link, call);
+    let port = call.port;
+    assert!(rt; ended == end, "port {port}: another end");
+    assert!(rt; link.sink.as_bytes() == written, "port {port}: other bytes");
 }
 
-/// The bytes that a text spells.
-fn spelled(alloc: Global, text: &str) -> Result<Vec<u8>, Fail> {
-    match bytes_of(alloc, text)? {
-        Some(bytes) => Ok(bytes),
-        None => Err("no bytes".into()),
-    }
+/// The bytes of a whole call of `sum.sum`.
+fn sum_spelled(rt: &impl Abort, alloc: Global) -> Vec<u8> {
+    bytes_of(alloc, SUM)
+        .expect(rt, "memory")
+        .expect(rt, "bytes")
 }
 
-fn is_asked(rt: &impl Abort, alloc: Global, args: &Rooted) -> Result<(), Fail> {
-    let wanted = spelled(alloc, SUM)?;
-    let call = Call {
+/// A call of `sum.sum`.
+fn sum_of(args: &Rooted) -> Call<'_> {
+    Call {
         port: 1,
         target: b"sum.sum",
         args,
-    };
-    let whole = ends_so(alloc, call, WHOLE, Ok(()), &wanted)?;
-    holds(rt, whole, "whole");
-    let pieces = ends_so(alloc, call, BY_BYTES, Ok(()), &wanted)?;
-    holds(rt, pieces, "by bytes");
-    Ok(())
+    }
 }
 
 #[test]
-fn two_and_three(rt: HostRuntime) -> Result<(), Fail> {
-    let args = graph3(rt.alloc(), TWO_AND_THREE)?;
-    is_asked(&rt, rt.alloc(), &args)
+fn two_and_three(rt: HostRuntime) {
+    let args = graph3(rt.alloc(), TWO_AND_THREE).expect(&rt, "a graph");
+    let wanted = sum_spelled(&rt, rt.alloc());
+    ends_so(&rt, rt.alloc(), sum_of(&args), WHOLE, Ok(()), &wanted);
+    ends_so(&rt, rt.alloc(), sum_of(&args), BY_BYTES, Ok(()), &wanted);
 }
 
-fn ask_row(rt: &impl Abort, alloc: Global, row: Row<'_>) -> Result<(), Fail> {
-    let port = u16::try_from(row.number(0)?)?;
-    let target = row.bytes(alloc, 1)?;
-    let args = graph3(alloc, &row.bytes(alloc, 2)?)?;
-    let lines = row.bytes(alloc, 3)?;
-    let wanted = joined(alloc, &[b"POST /amf HTTP/1.1\r\n", &lines])?;
+/// The arguments that are a field of a row.
+fn args_in(rt: &impl Abort, alloc: Global, row: Row<'_>, place: usize) -> Rooted {
+    graph3(alloc, &bytes_in(rt, alloc, row, place)).expect(rt, "a graph")
+}
+
+/// What is to be written of the call of a row.
+fn written_in(rt: &impl Abort, alloc: Global, row: Row<'_>) -> Vec<u8> {
+    let mut wanted = Vec::new(alloc);
+    let lines = bytes_in(rt, alloc, row, 3);
+    put(rt, &mut wanted, &[b"POST /amf HTTP/1.1\r\n", &lines]);
+    wanted
+}
+
+/// Makes the call of a row with these arguments.
+fn ask_row(rt: &impl Abort, alloc: Global, row: Row<'_>, args: &Rooted) {
+    let port = u16::try_from(number(rt, row, 0)).expect(rt, "a port");
+    let target = bytes_in(rt, alloc, row, 1);
+    let wanted = written_in(rt, alloc, row);
     let call = Call {
         port,
         target: &target,
-        args: &args,
+        args,
     };
-    let asked = ends_so(alloc, call, WHOLE, Ok(()), &wanted)?;
-    holds_of(rt, row, asked, "asked");
-    Ok(())
+    ends_so(rt, alloc, call, WHOLE, Ok(()), &wanted);
 }
 
 #[test]
-fn calls(rt: HostRuntime) -> Result<(), Fail> {
-    for row in CALLS.rows(rt.alloc())? {
-        ask_row(&rt, rt.alloc(), row)?;
+fn calls(rt: HostRuntime) {
+    for row in CALLS.rows(rt.alloc()).expect(&rt, "rows").iter() {
+        let args = args_in(&rt, rt.alloc(), *row, 2);
+        ask_row(&rt, rt.alloc(), *row, &args);
     }
-    Ok(())
 }
 
-/// A call of `a` with these arguments ends so, and nothing is written.
-fn writes_nothing(alloc: Global, args: &Rooted, end: AskEnd) -> Result<bool, Fail> {
+/// A call of `a` with these arguments ends so, and nothing is written. Its port is the line of the row.
+fn writes_nothing(rt: &impl Abort, alloc: Global, port: u16, args: &Rooted, end: AskEnd) {
     let call = Call {
-        port: 1,
+        port,
         target: b"a",
         args,
     };
-    ends_so(alloc, call, WHOLE, Err(end), b"")
-}
-
-fn refuse_row(rt: &impl Abort, alloc: Global, row: Row<'_>) -> Result<(), Fail> {
-    let args = graph3(alloc, &row.bytes(alloc, 0)?)?;
-    let refused = writes_nothing(alloc, &args, AskEnd::NotArgs)?;
-    holds_of(rt, row, refused, "no arguments");
-    Ok(())
+    ends_so(rt, alloc, call, WHOLE, Err(end), b"");
 }
 
 #[test]
-fn no_arguments(rt: HostRuntime) -> Result<(), Fail> {
-    for row in NO_ARGUMENTS.rows(rt.alloc())? {
-        refuse_row(&rt, rt.alloc(), row)?;
+fn no_arguments(rt: HostRuntime) {
+    for row in NO_ARGUMENTS.rows(rt.alloc()).expect(&rt, "rows").iter() {
+        let port = u16::try_from(row.line()).expect(&rt, "a port");
+        let args = args_in(&rt, rt.alloc(), *row, 0);
+        writes_nothing(&rt, rt.alloc(), port, &args, AskEnd::NotArgs);
     }
-    Ok(())
 }
 
 /// An array whose item has an empty name, as AMF 0 can say it.
 #[test]
-fn no_spelling(rt: HostRuntime) -> Result<(), Fail> {
-    let alloc = rt.alloc();
-    let args = graph0(alloc, b"\x0A\0\0\0\x01\x03\0\0\x05\0\0\x09")?;
+fn no_spelling(rt: HostRuntime) {
+    let args = graph0(rt.alloc(), b"\x0A\0\0\0\x01\x03\0\0\x05\0\0\x09").expect(&rt, "a graph");
     let lack = Lack {
         node: 1,
         kind: LackKind::EmptyName,
     };
-    let refused = writes_nothing(alloc, &args, AskEnd::NoSpelling(lack))?;
-    holds(&rt, refused, "no spelling");
-    Ok(())
+    writes_nothing(&rt, rt.alloc(), 1, &args, AskEnd::NoSpelling(lack));
 }
 
-/// The call over a link that fails ends so, with this written.
-fn fails_with(
-    alloc: Global,
-    args: &Rooted,
-    takes: Takes<'_>,
-    written: &[u8],
-) -> Result<bool, Fail> {
-    let call = Call {
-        port: 1,
-        target: b"sum.sum",
-        args,
-    };
-    ends_so(alloc, call, takes, Err(AskEnd::WriteFault), written)
+/// The call over a link that takes ten bytes at once, and fails, ends so, with this written.
+fn fails_with(rt: &impl Abort, alloc: Global, args: &Rooted, takes: Takes<'_>, written: &[u8]) {
+    let end = Err(AskEnd::WriteFault);
+    ends_so(rt, alloc, sum_of(args), takes, end, written);
 }
 
 /// Where the third write of ten bytes fails, 20 bytes were written; where the first does, none; and where the flush does, all.
-fn fails_so(rt: &impl Abort, alloc: Global, args: &Rooted) -> Result<(), Fail> {
-    let third = Takes {
-        most: 10,
-        failing: &[2],
-    };
-    let front = fails_with(alloc, args, third, b"POST /amf HTTP/1.1\r\n")?;
-    holds(rt, front, "the third write");
-    let first = Takes {
-        most: 10,
-        failing: &[0],
-    };
-    let none = fails_with(alloc, args, first, b"")?;
-    holds(rt, none, "the first write");
-    let flush = Takes {
-        failing: &[1],
-        ..WHOLE
-    };
-    let wanted = spelled(alloc, SUM)?;
-    let whole = fails_with(alloc, args, flush, &wanted)?;
-    holds(rt, whole, "the flush");
-    Ok(())
-}
-
 #[test]
-fn writes_that_fail(rt: HostRuntime) -> Result<(), Fail> {
-    let args = graph3(rt.alloc(), TWO_AND_THREE)?;
-    fails_so(&rt, rt.alloc(), &args)
+fn writes_that_fail(rt: HostRuntime) {
+    let args = graph3(rt.alloc(), TWO_AND_THREE).expect(&rt, "a graph");
+    let wanted = sum_spelled(&rt, rt.alloc());
+    for (most, failing, front) in [(10, 2, 20), (10, 0, 0), (usize::MAX, 1, wanted.len())] {
+        let takes = Takes {
+            most,
+            failing: &[failing],
+        };
+        let written = wanted.get(..front).expect(&rt, "a front");
+        fails_with(&rt, rt.alloc(), &args, takes, written);
+    }
 }

@@ -1,11 +1,10 @@
 use amf_client::{AnswerFault, ReplyBuffer, read_result};
 use amf_graph::Rooted;
 use amf_io::{Joined, MemorySink, MemorySource};
-use amf_wire::Name;
 use amf3_write::write3;
 use itoa::Buffer;
-use std::alloc::{AllocError, Global};
-use std::test::Fail;
+use std::alloc::Global;
+use std::process::Abort;
 
 /// What a reply is read as: a result, a bad reply of a number from 1 to 8, or one of these.
 pub(crate) const RESULT: u32 = 0;
@@ -14,11 +13,22 @@ pub(crate) const FAULT: u32 = 20;
 
 pub(crate) const READ_FAULT: u32 = 30;
 
-/// What a reply was read as. The bytes are the canonical ones of a result in AMF 3, or the code of a fault, `/` and its text.
-#[derive(Drop)]
-pub(crate) struct Told {
+/// What a reply is to be read as. The bytes are the canonical ones of a result in AMF 3, or the code of a fault, `/` and its
+/// text, and else none. Where the test stands is a line or an offset.
+#[derive(Clone, Copy)]
+pub(crate) struct Want<'a> {
+    pub at: usize,
     pub what: u32,
-    pub bytes: Vec<u8>,
+    pub bytes: &'a [u8],
+}
+
+/// A bad reply, or a read that fails.
+pub(crate) fn no_result(at: usize, what: u32) -> Want<'static> {
+    Want {
+        at,
+        what,
+        bytes: b"",
+    }
 }
 
 /// How a link gives its bytes: at most so many at a time, none across this offset, and the reads that fail.
@@ -44,86 +54,96 @@ pub(crate) const BY_BYTES: Ways<'static> = Ways {
 /// A link in memory.
 pub(crate) type MemoryReply = Joined<MemorySource, MemorySink>;
 
-pub(crate) fn link_of(alloc: Global, bytes: &[u8], ways: Ways<'_>) -> Result<MemoryReply, Fail> {
-    Ok(Joined {
-        source: MemorySource::new(alloc, bytes, ways.most, ways.cut, ways.failing)?,
-        sink: MemorySink::new(alloc, usize::MAX, &[])?,
-    })
-}
-
-/// The canonical bytes of a graph.
-fn spelled(alloc: Global, graph: &Rooted) -> Result<Vec<u8>, Fail> {
-    let mut bytes = Vec::new(alloc);
-    match write3(alloc, graph, &mut bytes) {
-        Ok(()) => Ok(bytes),
-        Err(_) => Err("no spelling".into()),
+pub(crate) fn link_of(rt: &impl Abort, alloc: Global, bytes: &[u8], ways: Ways<'_>) -> MemoryReply {
+    Joined {
+        source: MemorySource::new(alloc, bytes, ways.most, ways.cut, ways.failing).expect(
+            rt, "a source",
+        ),
+        sink: MemorySink::new(alloc, usize::MAX, &[]).expect(rt, "a sink"),
     }
 }
 
-/// A code, `/` and a text.
-fn fault_bytes(alloc: Global, code: &Name, text: &Name) -> Result<Vec<u8>, AllocError> {
-    joined(alloc, &[code.as_bytes(), b"/", text.as_bytes()])
+/// What an answer is, and its bytes.
+fn put_answer(
+    rt: &impl Abort,
+    alloc: Global,
+    answer: &Result<Rooted, AnswerFault>,
+    out: &mut Vec<u8>,
+) -> u32 {
+    match answer {
+        Ok(graph) => {
+            assert!(rt; write3(alloc, graph, out).is_ok(), "no spelling");
+            RESULT
+        }
+        Err(AnswerFault::Fault { code, text }) => {
+            put(rt, out, &[code.as_bytes(), b"/", text.as_bytes()]);
+            FAULT
+        }
+        Err(AnswerFault::BadReply(number)) => u32::from(*number),
+        Err(AnswerFault::ReadFault) => READ_FAULT,
+        Err(AnswerFault::Memory) => panic!(rt; "no memory"),
+    }
 }
 
-fn told_as(alloc: Global, answer: &Result<Rooted, AnswerFault>) -> Result<Told, Fail> {
-    let (what, bytes) = match answer {
-        Ok(graph) => (RESULT, spelled(alloc, graph)?),
-        Err(AnswerFault::Fault { code, text }) => (FAULT, fault_bytes(alloc, code, text)?),
-        Err(AnswerFault::BadReply(number)) => (u32::from(*number), Vec::new(alloc)),
-        Err(AnswerFault::ReadFault) => (READ_FAULT, Vec::new(alloc)),
-        Err(AnswerFault::Memory) => return Err("no memory".into()),
-    };
-    Ok(Told { what, bytes })
-}
-
-/// What is read next of a link.
-pub(crate) fn next_told(
+/// Ends the test unless this is read next of a link.
+pub(crate) fn is_next(
+    rt: &impl Abort,
     alloc: Global,
     link: &mut MemoryReply,
     buffer: &mut ReplyBuffer,
-) -> Result<Told, Fail> {
+    want: Want<'_>,
+) {
     let answer = read_result(alloc, link, buffer);
-    told_as(alloc, &answer)
-}
-
-/// What is read of these bytes.
-pub(crate) fn told_of(alloc: Global, bytes: &[u8], ways: Ways<'_>) -> Result<Told, Fail> {
-    let mut link = link_of(alloc, bytes, ways)?;
-    let mut buffer = ReplyBuffer::new(alloc)?;
-    next_told(alloc, &mut link, &mut buffer)
-}
-
-/// The pieces one behind the other.
-pub(crate) fn joined(alloc: Global, pieces: &[&[u8]]) -> Result<Vec<u8>, AllocError> {
     let mut bytes = Vec::new(alloc);
-    for piece in pieces {
-        bytes.extend_from_slice(piece)?;
-    }
-    Ok(bytes)
+    let what = put_answer(rt, alloc, &answer, &mut bytes);
+    let at = want.at;
+    assert!(rt; what == want.what, "at {at}: {what}");
+    assert!(rt; bytes.as_slice() == want.bytes, "at {at}: other bytes");
 }
 
-/// Lines each of which ends in `;`, an empty one, and the body. A `#` stands for the number of the body's bytes.
-pub(crate) fn reply(alloc: Global, lines: &str, body: &[u8]) -> Result<Vec<u8>, AllocError> {
+/// Ends the test unless this is read of these bytes.
+pub(crate) fn is_read(
+    rt: &impl Abort,
+    alloc: Global,
+    bytes: &[u8],
+    ways: Ways<'_>,
+    want: Want<'_>,
+) {
+    let mut link = link_of(rt, alloc, bytes, ways);
+    let mut buffer = ReplyBuffer::new(alloc).expect(rt, "a buffer");
+    is_next(rt, alloc, &mut link, &mut buffer, want);
+}
+
+/// Appends the pieces one behind the other.
+pub(crate) fn put(rt: &impl Abort, out: &mut Vec<u8>, pieces: &[&[u8]]) {
+    for piece in pieces {
+        out.extend_from_slice(piece).expect(rt, "memory");
+    }
+}
+
+/// Appends a reply: lines each of which ends in `;`, an empty one, and the body. A `#` stands for the number of the body's
+/// bytes.
+pub(crate) fn put_reply(rt: &impl Abort, out: &mut Vec<u8>, lines: &str, body: &[u8]) {
     let mut digits = Buffer::new();
     let size = digits.format(body.len()).as_bytes();
-    let mut bytes = Vec::new(alloc);
     for byte in lines.bytes() {
         match byte {
-            b';' => bytes.extend_from_slice(b"\r\n")?,
-            b'#' => bytes.extend_from_slice(size)?,
-            _ => bytes.push(byte)?,
+            b';' => put(rt, out, &[b"\r\n"]),
+            b'#' => put(rt, out, &[size]),
+            _ => out.push(byte).expect(rt, "memory"),
         }
     }
-    bytes.extend_from_slice(b"\r\n")?;
-    bytes.extend_from_slice(body)?;
-    Ok(bytes)
+    put(rt, out, &[b"\r\n", body]);
 }
 
-/// A packet of one message to this target, with this value.
-pub(crate) fn packet(alloc: Global, target: &[u8], value: &[u8]) -> Result<Vec<u8>, AllocError> {
-    let size = u16::try_from(target.len()).unwrap_or(0).to_be_bytes();
-    joined(
-        alloc,
+/// Appends a packet of one message to this target, with this value.
+pub(crate) fn put_packet(rt: &impl Abort, out: &mut Vec<u8>, target: &[u8], value: &[u8]) {
+    let size = u16::try_from(target.len())
+        .expect(rt, "a length")
+        .to_be_bytes();
+    put(
+        rt,
+        out,
         &[
             b"\0\x03\0\0\0\x01",
             &size,
@@ -131,11 +151,33 @@ pub(crate) fn packet(alloc: Global, target: &[u8], value: &[u8]) -> Result<Vec<u
             b"\0\x04null\xFF\xFF\xFF\xFF",
             value,
         ],
-    )
+    );
 }
 
-/// A reply with the result null.
-pub(crate) fn good_reply(alloc: Global) -> Result<Vec<u8>, AllocError> {
-    let body = packet(alloc, b"/1/onResult", b"\x11\x01")?;
-    reply(alloc, "HTTP/1.1 200 OK;Content-Length: #;", &body)
+/// A reply with this head and a packet of one message.
+pub(crate) fn reply_with(
+    rt: &impl Abort,
+    alloc: Global,
+    lines: &str,
+    target: &[u8],
+    value: &[u8],
+) -> Vec<u8> {
+    let mut packet = Vec::new(alloc);
+    put_packet(rt, &mut packet, target, value);
+    let mut bytes = Vec::new(alloc);
+    put_reply(rt, &mut bytes, lines, &packet);
+    bytes
 }
+
+/// The lines of a good reply.
+pub(crate) const GOOD: &str = "HTTP/1.1 200 OK;Content-Length: #;";
+
+/// A reply with the result whose canonical bytes are these.
+pub(crate) fn good_reply(rt: &impl Abort, alloc: Global, canonical: &[u8]) -> Vec<u8> {
+    let mut value = Vec::new(alloc);
+    put(rt, &mut value, &[b"\x11", canonical]);
+    reply_with(rt, alloc, GOOD, b"/1/onResult", &value)
+}
+
+/// The canonical bytes of null.
+pub(crate) const NULL: &[u8] = b"\x01";

@@ -1,9 +1,10 @@
-use crate::checks::{holds_at, holds_of};
-use crate::replies::{BY_BYTES, Told, WHOLE, Ways, packet, reply, told_of};
+use crate::checks::{bytes_in, field, number};
+use crate::replies::{
+    BY_BYTES, GOOD, NULL, RESULT, WHOLE, Want, Ways, is_read, put_reply, reply_with,
+};
 use amf_rows::{Row, Table};
 use std::alloc::Global;
 use std::process::Abort;
-use std::test::Fail;
 
 /// The lines of a head, each of which ends in `;`, before a packet with the result null, and what is read: 0 for that result,
 /// or the number of a bad reply. A `#` stands for the packet's length.
@@ -102,92 +103,75 @@ static MESSAGES: Table = Table {
 ",
 };
 
-fn is_told(told: &Told, what: u32, bytes: &[u8]) -> bool {
-    told.what == what && told.bytes.as_slice() == bytes
+/// What a row says that a reply is read as.
+fn wanted<'a>(rt: &impl Abort, row: Row<'_>, place: usize, bytes: &'a [u8]) -> Want<'a> {
+    Want {
+        at: row.line() as usize,
+        what: number(rt, row, place),
+        bytes,
+    }
 }
 
 /// Bytes are read as this, whole and a byte at a time.
-fn ask(
-    rt: &impl Abort,
-    row: Row<'_>,
-    bytes: &[u8],
-    what: u32,
-    wanted: &[u8],
-    alloc: Global,
-) -> Result<(), Fail> {
-    let whole = told_of(alloc, bytes, WHOLE)?;
-    holds_of(rt, row, is_told(&whole, what, wanted), "whole");
-    let pieces = told_of(alloc, bytes, BY_BYTES)?;
-    holds_of(rt, row, is_told(&pieces, what, wanted), "by bytes");
-    Ok(())
+fn ask(rt: &impl Abort, alloc: Global, bytes: &[u8], want: Want<'_>) {
+    is_read(rt, alloc, bytes, WHOLE, want);
+    is_read(rt, alloc, bytes, BY_BYTES, want);
 }
 
 /// Bytes are read as this in two pieces that meet at any place.
-fn ask_in_two(
-    rt: &impl Abort,
-    bytes: &[u8],
-    what: u32,
-    wanted: &[u8],
-    alloc: Global,
-) -> Result<(), Fail> {
+fn ask_in_two(rt: &impl Abort, alloc: Global, bytes: &[u8], want: Want<'_>) {
     for cut in 0..bytes.len() {
-        let ways = Ways { cut, ..WHOLE };
-        let told = told_of(alloc, bytes, ways)?;
-        holds_at(rt, cut, is_told(&told, what, wanted), "in two");
+        is_read(rt, alloc, bytes, Ways { cut, ..WHOLE }, want);
     }
-    Ok(())
 }
 
-fn ask_head(rt: &impl Abort, alloc: Global, row: Row<'_>) -> Result<(), Fail> {
-    let body = packet(alloc, b"/1/onResult", b"\x11\x01")?;
-    let bytes = reply(alloc, row.field(0)?, &body)?;
-    let what = row.number(1)?;
-    let wanted: &[u8] = if what == 0 { b"\x01" } else { b"" };
-    ask(rt, row, &bytes, what, wanted, alloc)
+fn ask_head(rt: &impl Abort, alloc: Global, row: Row<'_>) {
+    let bytes = reply_with(rt, alloc, field(rt, row, 0), b"/1/onResult", b"\x11\x01");
+    let mut want = wanted(rt, row, 1, b"");
+    if want.what == RESULT {
+        want.bytes = NULL;
+    }
+    ask(rt, alloc, &bytes, want);
 }
 
 #[test]
-fn heads(rt: HostRuntime) -> Result<(), Fail> {
-    for row in HEADS.rows(rt.alloc())? {
-        ask_head(&rt, rt.alloc(), row)?;
+fn heads(rt: HostRuntime) {
+    for row in HEADS.rows(rt.alloc()).expect(&rt, "rows").iter() {
+        ask_head(&rt, rt.alloc(), *row);
     }
-    Ok(())
 }
 
-fn ask_body(rt: &impl Abort, alloc: Global, row: Row<'_>) -> Result<(), Fail> {
-    let body = row.bytes(alloc, 0)?;
-    let bytes = reply(alloc, "HTTP/1.1 200 OK;Content-Length: #;", &body)?;
-    let number = row.number(1)?;
-    ask(rt, row, &bytes, number, b"", alloc)?;
-    ask_in_two(rt, &bytes, number, b"", alloc)
+fn ask_body(rt: &impl Abort, alloc: Global, row: Row<'_>) {
+    let mut bytes = Vec::new(alloc);
+    put_reply(rt, &mut bytes, GOOD, &bytes_in(rt, alloc, row, 0));
+    let want = wanted(rt, row, 1, b"");
+    ask(rt, alloc, &bytes, want);
+    ask_in_two(rt, alloc, &bytes, want);
 }
 
 #[test]
-fn bodies(rt: HostRuntime) -> Result<(), Fail> {
-    for row in BODIES.rows(rt.alloc())? {
-        ask_body(&rt, rt.alloc(), row)?;
+fn bodies(rt: HostRuntime) {
+    for row in BODIES.rows(rt.alloc()).expect(&rt, "rows").iter() {
+        ask_body(&rt, rt.alloc(), *row);
     }
-    Ok(())
 }
 
 /// A reply whose packet has one message.
-fn answer(alloc: Global, row: Row<'_>) -> Result<Vec<u8>, Fail> {
-    let target = row.bytes(alloc, 0)?;
-    let value = row.bytes(alloc, 1)?;
-    let body = packet(alloc, &target, &value)?;
-    Ok(reply(alloc, "HTTP/1.1 200 OK;Content-Length: #;", &body)?)
+fn answer(rt: &impl Abort, alloc: Global, row: Row<'_>) -> Vec<u8> {
+    let target = bytes_in(rt, alloc, row, 0);
+    let value = bytes_in(rt, alloc, row, 1);
+    reply_with(rt, alloc, GOOD, &target, &value)
 }
 
-fn ask_message(rt: &impl Abort, alloc: Global, row: Row<'_>) -> Result<(), Fail> {
-    let bytes = answer(alloc, row)?;
-    let wanted = row.bytes(alloc, 3)?;
-    ask(rt, row, &bytes, row.number(2)?, &wanted, alloc)
+fn ask_message(rt: &impl Abort, alloc: Global, row: Row<'_>) {
+    let bytes = answer(rt, alloc, row);
+    let canonical = bytes_in(rt, alloc, row, 3);
+    ask(rt, alloc, &bytes, wanted(rt, row, 2, &canonical));
 }
 
 #[test]
-fn messages(rt: HostRuntime) -> Result<(), Fail> {
-    for row in MESSAGES.rows(rt.alloc())? {
-        ask_message(&rt, rt.alloc(), row)?;
+fn messages(rt: HostRuntime) {
+    for row in MESSAGES.rows(rt.alloc()).expect(&rt, "rows").iter() {
+        ask_message(&rt, rt.alloc(), *row);
     }
-    Ok(())
 }

@@ -1,7 +1,6 @@
 use amf_rows::Row;
-use amf_sol::SolVersion;
+use std::alloc::Global;
 use std::process::Abort;
-use std::test::Fail;
 
 /// Ends the test where something does not hold.
 pub(crate) fn holds(rt: &impl Abort, right: bool, what: &str) {
@@ -20,11 +19,17 @@ pub(crate) fn is(rt: &impl Abort, row: Row<'_>, got: &str, want: &str) {
     assert!(rt; got == want, "line {line}: {got} and not {want}");
 }
 
-/// The version that is a number of a row.
-pub(crate) fn version_in(row: Row<'_>, place: usize) -> Result<SolVersion, Fail> {
-    match row.number(place)? {
-        0 => Ok(SolVersion::Amf0),
-        3 => Ok(SolVersion::Amf3),
-        _ => Err("no version")?,
-    }
+/// A field of a row.
+pub(crate) fn field<'t>(rt: &impl Abort, row: Row<'t>, place: usize) -> &'t str {
+    row.field(place).expect(rt, "a field")
+}
+
+/// A number of a row.
+pub(crate) fn number(rt: &impl Abort, row: Row<'_>, place: usize) -> u32 {
+    row.number(place).expect(rt, "a number")
+}
+
+/// The bytes of a field of a row.
+pub(crate) fn bytes_of(rt: &impl Abort, alloc: Global, row: Row<'_>, place: usize) -> Vec<u8> {
+    row.bytes(alloc, place).expect(rt, "bytes")
 }

@@ -1,10 +1,9 @@
 use crate::checks::holds;
-use amf_io::{Cursor, MemorySource};
+use amf_io::{Cursor, MemorySource, ReadEnd};
 use amf_listings::{count_packet_nodes, packet_has_lowering, show_packet};
 use amf_packet::{Packet, read_packet};
 use std::alloc::Global;
 use std::process::Abort;
-use std::test::Fail;
 
 /// A header that must be understood, with the array of "hi" in AMF 3; a call of null; and the array of an array.
 const PACKET: &[u8] = b"\x00\x03\x00\x01\
@@ -24,28 +23,23 @@ const LISTING: &[u8] = b">packet 3\n\
     #0 array [#1] {}\n\
     #1 array [] {}\n";
 
-fn packet(alloc: Global) -> Result<Packet, Fail> {
+fn packet(alloc: Global) -> Result<Packet, ReadEnd> {
     let mut source = MemorySource::new(alloc, PACKET, 100, 0, &[])?;
     let mut cursor = Cursor::new(alloc, &mut source, 100)?;
-    match read_packet(alloc, &mut cursor) {
-        Ok(packet) => Ok(packet),
-        Err(_) => Err("no packet".into()),
-    }
+    read_packet(alloc, &mut cursor)
 }
 
-fn is_listed(rt: &impl Abort, alloc: Global, packet: &Packet) -> Result<(), Fail> {
+fn is_listed(rt: &impl Abort, alloc: Global, packet: &Packet) {
     packet_has_lowering(packet);
-    let mut out = vec![in alloc; b'>']?;
-    show_packet(alloc, packet, &mut out)?;
+    let mut out = vec![in alloc; b'>'].expect(rt, "memory");
+    show_packet(alloc, packet, &mut out).expect(rt, "memory");
     holds(rt, out.as_slice() == LISTING, "the listing");
-    Ok(())
 }
 
 #[test]
-fn lists_and_counts(rt: HostRuntime) -> Result<(), Fail> {
-    let packet = packet(rt.alloc())?;
-    is_listed(&rt, rt.alloc(), &packet)?;
-    let nodes = count_packet_nodes(rt.alloc(), &packet)?;
+fn lists_and_counts(rt: HostRuntime) {
+    let packet = packet(rt.alloc()).expect(&rt, "a packet");
+    is_listed(&rt, rt.alloc(), &packet);
+    let nodes = count_packet_nodes(rt.alloc(), &packet).expect(&rt, "memory");
     holds(&rt, nodes == 3, "how many nodes");
-    Ok(())
 }

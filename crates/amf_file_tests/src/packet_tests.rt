@@ -1,10 +1,10 @@
-ghost use Rattle.std.specs.Prelude.{◌≡◌, true, IfOk};
+ghost use Rattle.std.specs.Prelude.{◌≡◌, true, [], IfOk};
 ghost use Rattle.amf_wire.specs.Text.{IsText};
 ghost use Rattle.amf_packet.specs.Content.{packet_of};
 ghost use Rattle.amf_packet.specs.Packet.{is_version};
 ghost use Rattle.amf_packet.specs.WrittenPacket.{HasTexts};
 
-use crate::checks::{holds, is};
+use crate::checks::{bytes_of, field, holds, is};
 use amf_fixtures::end_told;
 use amf_graph::{Builder, Lack, LackKind, Rooted, Value};
 use amf_io::{Cursor, MemorySource, ReadEnd};
@@ -16,7 +16,6 @@ use amf_rows::{Row, Table};
 use amf_wire::{Name, is_amf_text};
 use std::alloc::Global;
 use std::process::Abort;
-use std::test::Fail;
 
 /// Two headers and two messages in all forms, with a flag, lengths and texts that no writer gives.
 const ODD: &[u8] = b"\x00\x03\x00\x02\
@@ -40,49 +39,42 @@ const NAMELESS: &[u8] = b"\x00\x00\x00\x00\x00\x02\
     \x00\x00\x00\x00\x00\x00\x00\x00\x0A\x00\x00\x00\x02\x03\x00\x00\x05\x00\x00\x09\x11\x01";
 
 /// What is read of these bytes within a limit, in pieces of at most so many.
-fn read_of(
-    alloc: Global,
-    bytes: &[u8],
-    limit: u16,
-    most: usize,
-) -> Result<Result<Packet, ReadEnd>, Fail>
-    ensures version { IfOk result (λ read. IfOk read (λ packet. is_version packet.version ≡ true)) }
-    ensures texts { IfOk result (λ read. IfOk read (λ packet. HasTexts (packet_of packet))) }
+fn read_of(alloc: Global, bytes: &[u8], limit: u16, most: usize) -> Result<Packet, ReadEnd>
+    ensures version { IfOk result (λ packet. is_version packet.version ≡ true) }
+    ensures texts { IfOk result (λ packet. HasTexts (packet_of packet)) }
 {
     let mut source = MemorySource::new(alloc, bytes, most, 0, &[])?;
     let mut cursor = Cursor::new(alloc, &mut source, limit as u32)?;
-    Ok(read_packet(alloc, &mut cursor))
+    read_packet(alloc, &mut cursor)
 }
 
-/// What the packet that is read of these bytes gives behind a byte that was there, and how its writing ended.
-fn written_of(
+/// Writes the packet that is read of these bytes.
+fn write(
+    rt: &impl Abort,
     alloc: Global,
     bytes: &[u8],
     most: usize,
-) -> Result<(Vec<u8>, Result<(), PacketEnd>), Fail> {
-    let Ok(packet) = read_of(alloc, bytes, 200, most)? else {
-        return Err("no packet".into());
-    };
-    let mut out = vec![in alloc; 0xAA]?;
-    let end = write_packet(alloc, &packet, &mut out);
-    Ok((out, end))
+    out: &mut Vec<u8>,
+) -> Result<(), PacketEnd> {
+    let packet = read_of(alloc, bytes, 200, most).expect(rt, "a packet");
+    write_packet(alloc, &packet, out)
 }
 
-/// Reads a packet in pieces of at most so many bytes, and compares what is written of it.
-fn is_written(rt: &impl Abort, alloc: Global, most: usize) -> Result<(), Fail> {
-    let (out, end) = written_of(alloc, ODD, most)?;
+/// Reads a packet in pieces of at most so many bytes, and compares what is written of it behind a byte that was there.
+fn is_written(rt: &impl Abort, alloc: Global, most: usize) {
+    let mut out = vec![in alloc; 0xAA].expect(rt, "memory");
+    let end = write(rt, alloc, ODD, most, &mut out);
     holds(rt, end == Ok(()), "an end");
     holds(rt, out.as_slice() == CANONICAL, "what is written");
-    Ok(())
 }
 
 #[test]
-fn keeps_names_flags_and_forms(rt: HostRuntime) -> Result<(), Fail> {
+fn keeps_names_flags_and_forms(rt: HostRuntime) {
     packet_rows();
     packet_verdict_rows();
     packets_have_one_verdict();
-    is_written(&rt, rt.alloc(), 1)?;
-    is_written(&rt, rt.alloc(), 65536)
+    is_written(&rt, rt.alloc(), 1);
+    is_written(&rt, rt.alloc(), 65536);
 }
 
 /// Bytes that are refused within a limit of 30, for a reason at a place.
@@ -106,111 +98,102 @@ static REFUSED: Table = Table {
 };
 
 /// Why bytes are refused within a limit of 30, in pieces of at most so many.
-fn refusal(alloc: Global, bytes: &[u8], most: usize) -> Result<ReadEnd, Fail> {
-    match read_of(alloc, bytes, 30, most)? {
-        Ok(_) => Err("a packet".into()),
-        Err(end) => Ok(end),
+fn refusal(rt: &impl Abort, alloc: Global, bytes: &[u8], most: usize) -> ReadEnd {
+    match read_of(alloc, bytes, 30, most) {
+        Ok(_) => panic!(rt; "a packet"),
+        Err(end) => end,
     }
 }
 
-fn is_refused(
-    rt: &impl Abort,
-    alloc: Global,
-    row: Row<'_>,
-    bytes: &[u8],
-    most: usize,
-) -> Result<(), Fail> {
-    let told = end_told(alloc, refusal(alloc, bytes, most)?)?;
-    is(rt, row, &told, row.field(1)?);
-    Ok(())
+fn is_refused(rt: &impl Abort, alloc: Global, row: Row<'_>, bytes: &[u8], most: usize) {
+    let end = refusal(rt, alloc, bytes, most);
+    let told = end_told(alloc, end).expect(rt, "memory");
+    is(rt, row, &told, field(rt, row, 1));
 }
 
-fn is_refused_in_pieces(rt: &impl Abort, alloc: Global, row: Row<'_>) -> Result<(), Fail> {
-    let bytes = row.bytes(alloc, 0)?;
-    is_refused(rt, alloc, row, &bytes, 1)?;
-    is_refused(rt, alloc, row, &bytes, 65536)
+fn is_refused_in_pieces(rt: &impl Abort, alloc: Global, row: Row<'_>) {
+    let bytes = bytes_of(rt, alloc, row, 0);
+    is_refused(rt, alloc, row, &bytes, 1);
+    is_refused(rt, alloc, row, &bytes, 65536);
 }
 
 #[test]
-fn refuses_the_first_wrong_field(rt: HostRuntime) -> Result<(), Fail> {
-    for row in REFUSED.rows(rt.alloc())?.iter() {
-        is_refused_in_pieces(&rt, rt.alloc(), *row)?;
+fn refuses_the_first_wrong_field(rt: HostRuntime) {
+    for row in REFUSED.rows(rt.alloc()).expect(&rt, "rows").iter() {
+        is_refused_in_pieces(&rt, rt.alloc(), *row);
     }
-    Ok(())
-}
-
-/// A text of so many bytes.
-fn letters(alloc: Global, size: usize) -> Result<Vec<u8>, Fail>
-    ensures { IfOk result (λ text. IsText text.items) }
-{
-    let text = vec![in alloc; b'a'; size]?;
-    if is_amf_text(&text) {
-        Ok(text)
-    } else {
-        Err("no text".into())
-    }
-}
-
-fn null(alloc: Global) -> Result<Rooted, Fail> {
-    let graph = Builder::new(alloc)?
-        .finish(Value::Null)
-        .ok()
-        .ok_or("an open node")?;
-    Ok(graph)
-}
-
-/// A packet of one message with this target.
-fn targeted(alloc: Global, target: &[u8], graph: Rooted) -> Result<Packet, Fail>
-    requires { IsText target.now }
-    ensures version { IfOk result (λ packet. is_version packet.version ≡ true) }
-    ensures texts { IfOk result (λ packet. HasTexts (packet_of packet)) }
-{
-    let mut messages = Vec::new(alloc);
-    messages.push(Message {
-        target: Name::of_bytes(alloc, target)?,
-        response: Name::of_bytes(alloc, b"")?,
-        body: Body::Plain(graph),
-    })?;
-    Ok(Packet {
-        version: 1,
-        headers: Headers::of_vec(Vec::new(alloc)),
-        messages: Messages::of_vec(messages),
-    })
 }
 
 #[test]
-fn tells_which_value_is_not_written(rt: HostRuntime) -> Result<(), Fail> {
+fn tells_which_value_is_not_written(rt: HostRuntime) {
     let lack = Lack {
         kind: LackKind::EmptyName,
         node: 1,
     };
-    let (out, end) = written_of(rt.alloc(), NAMELESS, 65536)?;
+    let mut out = vec![in rt.alloc(); 0xAA].expect(&rt, "memory");
+    let end = write(&rt, rt.alloc(), NAMELESS, 65536, &mut out);
     holds(
         &rt,
         end == Err(PacketEnd::NoSpelling { value: 1, lack }),
         "the lack",
     );
     holds(&rt, out.as_slice() == b"\xAA".as_slice(), "nothing written");
-    Ok(())
+}
+
+/// A text of so many bytes.
+fn letters(rt: &impl Abort, alloc: Global, size: usize) -> Vec<u8>
+    ensures { IsText result.items }
+{
+    let text = vec![in alloc; b'a'; size].expect(rt, "memory");
+    assert!(rt; is_amf_text(&text), "a text");
+    text
+}
+
+fn null(rt: &impl Abort, alloc: Global) -> Rooted {
+    let builder = Builder::new(alloc).expect(rt, "a builder");
+    match builder.finish(Value::Null) {
+        Ok(graph) => graph,
+        Err(_) => panic!(rt; "an open node"),
+    }
+}
+
+/// A message of null with this target.
+fn message(rt: &impl Abort, alloc: Global, target: &[u8]) -> Message
+    requires { IsText target.now }
+    ensures target { result.target ≡ target.now }
+    ensures response { result.response ≡ [] }
+{
+    Message {
+        target: Name::of_bytes(alloc, target).expect(rt, "a name"),
+        response: Name::of_bytes(alloc, b"").expect(rt, "a name"),
+        body: Body::Plain(null(rt, alloc)),
+    }
 }
 
 /// A packet of one message whose target has one byte too many.
-fn too_long(alloc: Global) -> Result<Packet, Fail>
-    ensures version { IfOk result (λ packet. is_version packet.version ≡ true) }
-    ensures texts { IfOk result (λ packet. HasTexts (packet_of packet)) }
+fn too_long(rt: &impl Abort, alloc: Global) -> Packet
+    ensures version { is_version result.version ≡ true }
+    ensures texts { HasTexts (packet_of result) }
 {
-    let target = letters(alloc, 65536)?;
-    targeted(alloc, &target, null(alloc)?)
+    let target = letters(rt, alloc, 65536);
+    let mut messages = Vec::new(alloc);
+    messages
+        .push(message(rt, alloc, &target))
+        .expect(rt, "memory");
+    Packet {
+        version: 1,
+        headers: Headers::of_vec(Vec::new(alloc)),
+        messages: Messages::of_vec(messages),
+    }
 }
 
 #[test]
-fn writes_no_long_text(rt: HostRuntime) -> Result<(), Fail> {
-    let packet = too_long(rt.alloc())?;
-    let mut out = vec![in rt.alloc(); 0xAA]?;
+fn writes_no_long_text(rt: HostRuntime) {
+    let packet = too_long(&rt, rt.alloc());
+    let mut out = vec![in rt.alloc(); 0xAA].expect(&rt, "memory");
     let end = write_packet(rt.alloc(), &packet, &mut out);
     holds(&rt, end == Err(PacketEnd::LongText(0)), "a long text");
     holds(&rt, out.as_slice() == b"\xAA".as_slice(), "nothing written");
-    Ok(())
 }
 
 /// Ends, and how they are told.
@@ -231,10 +214,9 @@ static ENDS: [(PacketEnd, &str); 4] = [
 ];
 
 #[test]
-fn says_why_nothing_was_written(rt: HostRuntime) -> Result<(), Fail> {
+fn says_why_nothing_was_written(rt: HostRuntime) {
     for (end, words) in ENDS.iter() {
-        let said = format!(in rt.alloc(); "{end}")?;
+        let said = format!(in rt.alloc(); "{end}").expect(&rt, "memory");
         holds(&rt, said.as_str() == *words, words);
     }
-    Ok(())
 }

@@ -1,4 +1,4 @@
-use crate::checks::holds_in;
+use crate::checks::{bytes_of, holds_in, number};
 use amf_fixtures::{graph0, rooted_at};
 use amf_graph::Rooted;
 use amf_listings::{file_laws, file_listing_rows, packet_laws, packet_listing_rows};
@@ -6,7 +6,6 @@ use amf_rows::{Row, Table};
 use amf_show::{count_nodes, listing_laws, listing_rows, show, show_text};
 use std::alloc::Global;
 use std::process::Abort;
-use std::test::Fail;
 
 /// Bytes of AMF 0, the node that is the root, how many nodes it leads to, and the listing behind a first byte.
 static SHOWN: Table = Table {
@@ -33,49 +32,33 @@ fn facts_and_laws_stand(_rt: HostRuntime) {
     file_laws();
 }
 
-fn graph_in(alloc: Global, row: Row<'_>) -> Result<Rooted, Fail> {
-    let bytes = row.bytes(alloc, 0)?;
-    Ok(rooted_at(graph0(alloc, &bytes)?, row.number(1)?)?)
-}
-
-/// The listing of a graph behind a first byte.
-fn listed(alloc: Global, graph: &Rooted) -> Result<Vec<u8>, Fail> {
-    let mut out = vec![in alloc; b'>']?;
-    show(alloc, graph, &mut out)?;
-    Ok(out)
-}
-
 /// Compares a listing with that of a row.
-fn is_listing(
-    rt: &impl Abort,
-    alloc: Global,
-    row: Row<'_>,
-    place: usize,
-    listing: &[u8],
-) -> Result<(), Fail> {
-    let want = row.bytes(alloc, place)?;
+fn is_listing(rt: &impl Abort, alloc: Global, row: Row<'_>, place: usize, listing: &[u8]) {
+    let want = bytes_of(rt, alloc, row, place);
     holds_in(rt, row, listing == want.as_slice(), "the listing");
-    Ok(())
 }
 
-fn is_shown(rt: &impl Abort, alloc: Global, row: Row<'_>, graph: &Rooted) -> Result<(), Fail> {
-    holds_in(
-        rt,
-        row,
-        count_nodes(alloc, graph)? == row.number(2)?,
-        "how many nodes",
-    );
-    let listing = listed(alloc, graph)?;
-    is_listing(rt, alloc, row, 3, &listing)
+/// Compares the listing of a graph, behind a first byte, with that of a row.
+fn is_shown(rt: &impl Abort, alloc: Global, row: Row<'_>, graph: &Rooted) {
+    let count = count_nodes(alloc, graph).expect(rt, "memory");
+    holds_in(rt, row, count == number(rt, row, 2), "how many nodes");
+    let mut out = vec![in alloc; b'>'].expect(rt, "memory");
+    show(alloc, graph, &mut out).expect(rt, "memory");
+    is_listing(rt, alloc, row, 3, &out);
+}
+
+fn graph_in(rt: &impl Abort, alloc: Global, row: Row<'_>) -> Rooted {
+    let bytes = bytes_of(rt, alloc, row, 0);
+    let whole = graph0(alloc, &bytes).expect(rt, "a graph");
+    rooted_at(whole, number(rt, row, 1)).expect(rt, "a node")
 }
 
 #[test]
-fn shows_graphs(rt: HostRuntime) -> Result<(), Fail> {
-    for row in SHOWN.rows(rt.alloc())?.iter() {
-        let graph = graph_in(rt.alloc(), *row)?;
-        is_shown(&rt, rt.alloc(), *row, &graph)?;
+fn shows_graphs(rt: HostRuntime) {
+    for row in SHOWN.rows(rt.alloc()).expect(&rt, "rows").iter() {
+        let graph = graph_in(&rt, rt.alloc(), *row);
+        is_shown(&rt, rt.alloc(), *row, &graph);
     }
-    Ok(())
 }
 
 /// Bytes of texts, and their listings.
@@ -89,18 +72,16 @@ static TEXTS: Table = Table {
 ",
 };
 
-fn text_listed(alloc: Global, row: Row<'_>) -> Result<Vec<u8>, Fail> {
-    let bytes = row.bytes(alloc, 0)?;
+fn is_text_shown(rt: &impl Abort, alloc: Global, row: Row<'_>) {
+    let bytes = bytes_of(rt, alloc, row, 0);
     let mut out = Vec::new(alloc);
-    show_text(alloc, &bytes, &mut out)?;
-    Ok(out)
+    show_text(alloc, &bytes, &mut out).expect(rt, "memory");
+    is_listing(rt, alloc, row, 1, &out);
 }
 
 #[test]
-fn shows_texts(rt: HostRuntime) -> Result<(), Fail> {
-    for row in TEXTS.rows(rt.alloc())?.iter() {
-        let listing = text_listed(rt.alloc(), *row)?;
-        is_listing(&rt, rt.alloc(), *row, 1, &listing)?;
+fn shows_texts(rt: HostRuntime) {
+    for row in TEXTS.rows(rt.alloc()).expect(&rt, "rows").iter() {
+        is_text_shown(&rt, rt.alloc(), *row);
     }
-    Ok(())
 }

@@ -1,60 +1,66 @@
-use crate::checks::{holds, is};
+use crate::checks::{bytes_of, field, holds, is, number};
 use amf_fixtures::end_told;
-use amf_graph::NodeView;
+use amf_graph::{NodeView, Value};
 use amf_io::{Cursor, MemorySource, ReadEnd};
 use amf_rows::{Row, Table};
 use amf_sol::{SharedObject, SolVersion, read_sol};
 use std::alloc::Global;
 use std::process::Abort;
-use std::test::Fail;
 
-/// What is read of these bytes within a limit, in pieces of so many bytes and cut at a place, where the reads of these
-/// numbers fail.
+/// What is read of these bytes within a limit, in pieces of at most so many, where the reads of these numbers fail.
 fn read_of(
-    alloc: Global,
-    bytes: &[u8],
-    limit: u16,
-    pieces: (usize, usize),
-    failing: &[u64],
-) -> Result<Result<SharedObject, ReadEnd>, Fail> {
-    let mut source = MemorySource::new(alloc, bytes, pieces.0, pieces.1, failing)?;
-    let mut cursor = Cursor::new(alloc, &mut source, limit as u32)?;
-    Ok(read_sol(alloc, &mut cursor))
-}
-
-/// A file of this version with this length, and these pairs; its name is "t".
-fn file(alloc: Global, version: u8, length: u8, pairs: &[u8]) -> Result<Vec<u8>, Fail> {
-    let mut bytes = Vec::new(alloc);
-    bytes.extend_from_slice(&[0x00, 0xBF, 0, 0, 0, length])?;
-    bytes.extend_from_slice(b"TCSO")?;
-    bytes.extend_from_slice(&[0x00, 0x04, 0, 0, 0, 0, 0x00, 0x01, 0x74, 0, 0, 0, version])?;
-    bytes.extend_from_slice(pairs)?;
-    Ok(bytes)
-}
-
-/// How many members the holder has, or why the file is refused.
-fn members(read: Result<SharedObject, ReadEnd>) -> Result<usize, ReadEnd> {
-    let shared = read?;
-    match shared.holder().root() {
-        amf_graph::Value::Node(root) => match shared.holder().node(root) {
-            NodeView::Object { members, .. } => Ok(members.len()),
-            _ => Err(ReadEnd::Memory),
-        },
-        _ => Err(ReadEnd::Memory),
-    }
-}
-
-/// How many members the holder of a file has, or why the file is refused.
-fn told(
     alloc: Global,
     bytes: &[u8],
     limit: u16,
     most: usize,
     failing: &[u64],
-) -> Result<String, Fail> {
-    match members(read_of(alloc, bytes, limit, (most, 0), failing)?) {
-        Ok(count) => Ok(format!(in alloc; "{count} members")?),
-        Err(end) => Ok(end_told(alloc, end)?),
+) -> Result<SharedObject, ReadEnd> {
+    let mut source = MemorySource::new(alloc, bytes, most, 0, failing)?;
+    let mut cursor = Cursor::new(alloc, &mut source, limit as u32)?;
+    read_sol(alloc, &mut cursor)
+}
+
+/// A file of this version with this length, and these pairs; its name is "t".
+fn file(rt: &impl Abort, alloc: Global, version: u8, length: u8, pairs: &[u8]) -> Vec<u8> {
+    let begin = [0x00, 0xBF, 0, 0, 0, length];
+    let rest = [0x00, 0x04, 0, 0, 0, 0, 0x00, 0x01, 0x74, 0, 0, 0, version];
+    let mut bytes = begin.to_vec(alloc).expect(rt, "memory");
+    bytes.extend_from_slice(b"TCSO").expect(rt, "memory");
+    bytes.extend_from_slice(&rest).expect(rt, "memory");
+    bytes.extend_from_slice(pairs).expect(rt, "memory");
+    bytes
+}
+
+/// How many members the holder has.
+fn members(shared: &SharedObject) -> Option<usize> {
+    let holder = shared.holder();
+    holder.is_finished();
+    let Value::Node(root) = holder.root() else {
+        return None;
+    };
+    match holder.node(root) {
+        NodeView::Object { members, .. } => Some(members.len()),
+        _ => None,
+    }
+}
+
+fn members_told(rt: &impl Abort, alloc: Global, shared: &SharedObject) -> String {
+    let count = members(shared).expect(rt, "an object");
+    format!(in alloc; "{count} members").expect(rt, "memory")
+}
+
+/// How many members the holder of a file has, or why the file is refused.
+fn told(
+    rt: &impl Abort,
+    alloc: Global,
+    bytes: &[u8],
+    limit: u16,
+    most: usize,
+    failing: &[u64],
+) -> String {
+    match read_of(alloc, bytes, limit, most, failing) {
+        Ok(shared) => members_told(rt, alloc, &shared),
+        Err(end) => end_told(alloc, end).expect(rt, "memory"),
     }
 }
 
@@ -86,42 +92,28 @@ static FILES: Table = Table {
 ",
 };
 
-/// A number of a row that is a byte.
-fn byte(row: Row<'_>, place: usize) -> Result<u8, Fail> {
-    Ok(u8::try_from(row.number(place)?)?)
-}
-
 /// The file whose version, length and pairs are the first fields of a row.
-fn file_in(alloc: Global, row: Row<'_>) -> Result<Vec<u8>, Fail> {
-    let pairs = row.bytes(alloc, 2)?;
-    file(alloc, byte(row, 0)?, byte(row, 1)?, &pairs)
+fn file_in(rt: &impl Abort, alloc: Global, row: Row<'_>) -> Vec<u8> {
+    let version = u8::try_from(number(rt, row, 0)).expect(rt, "a byte");
+    let length = u8::try_from(number(rt, row, 1)).expect(rt, "a byte");
+    let pairs = bytes_of(rt, alloc, row, 2);
+    file(rt, alloc, version, length, &pairs)
 }
 
-/// Reads a file in one piece or a byte at a time, and compares what is read.
-fn is_read_as(
-    rt: &impl Abort,
-    alloc: Global,
-    row: Row<'_>,
-    bytes: &[u8],
-    most: usize,
-) -> Result<(), Fail> {
-    let told = told(alloc, bytes, 1000, most, &[])?;
-    is(rt, row, &told, row.field(3)?);
-    Ok(())
-}
-
-fn is_read_in_any_pieces(rt: &impl Abort, alloc: Global, row: Row<'_>) -> Result<(), Fail> {
-    let bytes = file_in(alloc, row)?;
-    is_read_as(rt, alloc, row, &bytes, 1000)?;
-    is_read_as(rt, alloc, row, &bytes, 1)
+/// Reads a file in one piece and a byte at a time, and compares what is read.
+fn is_read_in_any_pieces(rt: &impl Abort, alloc: Global, row: Row<'_>) {
+    let bytes = file_in(rt, alloc, row);
+    for most in [1000, 1] {
+        let told = told(rt, alloc, &bytes, 1000, most, &[]);
+        is(rt, row, &told, field(rt, row, 3));
+    }
 }
 
 #[test]
-fn files_are_read_or_refused_in_any_pieces(rt: HostRuntime) -> Result<(), Fail> {
-    for row in FILES.rows(rt.alloc())?.iter() {
-        is_read_in_any_pieces(&rt, rt.alloc(), *row)?;
+fn files_are_read_or_refused_in_any_pieces(rt: HostRuntime) {
+    for row in FILES.rows(rt.alloc()).expect(&rt, "rows").iter() {
+        is_read_in_any_pieces(&rt, rt.alloc(), *row);
     }
-    Ok(())
 }
 
 /// Versions, lengths and pairs of files, limits, how many bytes are in a piece, the reads that fail, and how reading ends.
@@ -143,44 +135,33 @@ static ENDS: Table = Table {
 ",
 };
 
-/// How the reading of the file of a row ends.
-fn end_in(alloc: Global, row: Row<'_>, bytes: &[u8]) -> Result<String, Fail> {
-    let failing = row.numbers(alloc, 5)?;
-    let limit = u16::try_from(row.number(3)?)?;
-    let most = row.number(4)? as usize;
-    told(alloc, bytes, limit, most, &failing)
-}
-
-fn ends_as(rt: &impl Abort, alloc: Global, row: Row<'_>) -> Result<(), Fail> {
-    let bytes = file_in(alloc, row)?;
-    let told = end_in(alloc, row, &bytes)?;
-    is(rt, row, &told, row.field(6)?);
-    Ok(())
+fn ends_as(rt: &impl Abort, alloc: Global, row: Row<'_>) {
+    let bytes = file_in(rt, alloc, row);
+    let limit = u16::try_from(number(rt, row, 3)).expect(rt, "a limit");
+    let most = number(rt, row, 4) as usize;
+    let failing = row.numbers(alloc, 5).expect(rt, "numbers");
+    let told = told(rt, alloc, &bytes, limit, most, &failing);
+    is(rt, row, &told, field(rt, row, 6));
 }
 
 #[test]
-fn limits_and_failed_reads_are_told(rt: HostRuntime) -> Result<(), Fail> {
-    for row in ENDS.rows(rt.alloc())?.iter() {
-        ends_as(&rt, rt.alloc(), *row)?;
+fn limits_and_failed_reads_are_told(rt: HostRuntime) {
+    for row in ENDS.rows(rt.alloc()).expect(&rt, "rows").iter() {
+        ends_as(&rt, rt.alloc(), *row);
     }
-    Ok(())
 }
 
 /// The empty file of this version, read whole.
-fn empty_file(alloc: Global, version: u8) -> Result<SharedObject, Fail> {
-    let bytes = file(alloc, version, 0x11, &[])?;
-    match read_of(alloc, &bytes, 1000, (1000, 0), &[])? {
-        Ok(shared) => Ok(shared),
-        Err(_) => Err("no file".into()),
-    }
+fn empty_file(rt: &impl Abort, alloc: Global, version: u8) -> SharedObject {
+    let bytes = file(rt, alloc, version, 0x11, &[]);
+    read_of(alloc, &bytes, 1000, 1000, &[]).expect(rt, "a file")
 }
 
 #[test]
-fn name_and_version_are_kept(rt: HostRuntime) -> Result<(), Fail> {
+fn name_and_version_are_kept(rt: HostRuntime) {
     for (byte, version) in [(0, SolVersion::Amf0), (3, SolVersion::Amf3)] {
-        let shared = empty_file(rt.alloc(), byte)?;
+        let shared = empty_file(&rt, rt.alloc(), byte);
         holds(&rt, shared.name().as_bytes() == b"t".as_slice(), "the name");
         holds(&rt, shared.version() == version, "the version");
     }
-    Ok(())
 }

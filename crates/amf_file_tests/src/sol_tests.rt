@@ -1,4 +1,4 @@
-use crate::checks::{holds, is, version_in};
+use crate::checks::{bytes_of, field, holds, is, number};
 use amf_fixtures::{graph0, rooted_at};
 use amf_graph::Rooted;
 use amf_rows::{Row, Table};
@@ -9,7 +9,6 @@ use amf_sol::{
 use amf_wire::Name;
 use std::alloc::Global;
 use std::process::Abort;
-use std::test::Fail;
 
 #[test]
 fn facts_and_laws_stand(_rt: HostRuntime) {
@@ -38,71 +37,85 @@ static HOLDERS: Table = Table {
 ",
 };
 
+/// The version that is a number of a row.
+pub(crate) fn version_in(rt: &impl Abort, row: Row<'_>, place: usize) -> SolVersion {
+    match number(rt, row, place) {
+        0 => SolVersion::Amf0,
+        3 => SolVersion::Amf3,
+        _ => panic!(rt; "no version"),
+    }
+}
+
 /// Why no shared object of this name and holder is made, unless it is made.
 fn end_of(
+    rt: &impl Abort,
     alloc: Global,
     name: &[u8],
     version: SolVersion,
     holder: Rooted,
-) -> Result<Option<SolEnd>, Fail> {
-    let name = Name::from_bytes(alloc, name)?;
-    Ok(SharedObject::new(alloc, name, version, holder).err())
+) -> Option<SolEnd> {
+    let name = Name::from_bytes(alloc, name).expect(rt, "a name");
+    SharedObject::new(alloc, name, version, holder).err()
 }
 
-fn holder_in(alloc: Global, row: Row<'_>) -> Result<Rooted, Fail> {
-    let bytes = row.bytes(alloc, 0)?;
-    Ok(rooted_at(graph0(alloc, &bytes)?, row.number(1)?)?)
+fn holder_in(rt: &impl Abort, alloc: Global, row: Row<'_>) -> Rooted {
+    let bytes = bytes_of(rt, alloc, row, 0);
+    let whole = graph0(alloc, &bytes).expect(rt, "a graph");
+    rooted_at(whole, number(rt, row, 1)).expect(rt, "a node")
 }
 
-fn is_made(rt: &impl Abort, alloc: Global, row: Row<'_>) -> Result<(), Fail> {
-    let version = version_in(row, 2)?;
-    let told = match end_of(alloc, b"t", version, holder_in(alloc, row)?)? {
+fn is_made(rt: &impl Abort, alloc: Global, row: Row<'_>) {
+    let version = version_in(rt, row, 2);
+    let told = match end_of(rt, alloc, b"t", version, holder_in(rt, alloc, row)) {
         None => "made",
         Some(SolEnd::NotAHolder) => "NotAHolder",
         Some(_) => "another end",
     };
-    is(rt, row, told, row.field(3)?);
-    Ok(())
+    is(rt, row, told, field(rt, row, 3));
 }
 
 #[test]
-fn only_holders_are_taken(rt: HostRuntime) -> Result<(), Fail> {
-    for row in HOLDERS.rows(rt.alloc())?.iter() {
-        is_made(&rt, rt.alloc(), *row)?;
+fn only_holders_are_taken(rt: HostRuntime) {
+    for row in HOLDERS.rows(rt.alloc()).expect(&rt, "rows").iter() {
+        is_made(&rt, rt.alloc(), *row);
     }
-    Ok(())
 }
 
 /// An object without a class that has one member, an array.
 const HOLDER: &[u8] = b"\x03\0\0\x0A\0\0\0\0\0\0\x09";
 
+fn holder(rt: &impl Abort, alloc: Global) -> Rooted {
+    graph0(alloc, HOLDER).expect(rt, "a graph")
+}
+
 /// Why there is no shared object with a name of so many letters.
-fn long_name(alloc: Global, length: usize) -> Result<Option<SolEnd>, Fail> {
-    let name = vec![in alloc; 0x61_u8; length]?;
-    end_of(alloc, &name, SolVersion::Amf0, graph0(alloc, HOLDER)?)
+fn long_name(rt: &impl Abort, alloc: Global, length: usize) -> Option<SolEnd> {
+    let name = vec![in alloc; 0x61_u8; length].expect(rt, "memory");
+    end_of(rt, alloc, &name, SolVersion::Amf0, holder(rt, alloc))
 }
 
 #[test]
-fn names_have_a_longest(rt: HostRuntime) -> Result<(), Fail> {
+fn names_have_a_longest(rt: HostRuntime) {
     for (length, end) in [(65_535, None), (65_536, Some(SolEnd::LongName))] {
-        holds(&rt, long_name(rt.alloc(), length)? == end, "a long name");
+        holds(
+            &rt,
+            long_name(&rt, rt.alloc(), length) == end,
+            "a long name",
+        );
     }
-    Ok(())
 }
 
-fn shared_object(alloc: Global, version: SolVersion) -> Result<SharedObject, Fail> {
-    let name = Name::from_bytes(alloc, b"t")?;
-    let made = SharedObject::new(alloc, name, version, graph0(alloc, HOLDER)?);
-    Ok(made.ok().ok_or("no holder")?)
+fn shared_object(rt: &impl Abort, alloc: Global, version: SolVersion) -> SharedObject {
+    let name = Name::from_bytes(alloc, b"t").expect(rt, "a name");
+    SharedObject::new(alloc, name, version, holder(rt, alloc)).expect(rt, "a holder")
 }
 
 #[test]
-fn a_shared_object_shows_its_parts(rt: HostRuntime) -> Result<(), Fail> {
+fn a_shared_object_shows_its_parts(rt: HostRuntime) {
     for version in [SolVersion::Amf0, SolVersion::Amf3] {
-        let made = shared_object(rt.alloc(), version)?;
+        let made = shared_object(&rt, rt.alloc(), version);
         holds(&rt, made.name().as_bytes() == b"t".as_slice(), "the name");
         holds(&rt, made.version() == version, "the version");
         holds(&rt, made.holder().node_count() == 2, "the holder");
     }
-    Ok(())
 }

@@ -1,4 +1,5 @@
-use crate::checks::{holds, holds_in, is, version_in};
+use crate::checks::{bytes_of, field, holds, holds_in, is};
+use crate::sol_tests::version_in;
 use amf_fixtures::graph0;
 use amf_graph::{Lack, LackKind, Rooted, WriteEnd};
 use amf_rows::{Row, Table};
@@ -6,7 +7,6 @@ use amf_sol::{SharedObject, SolVersion, files_or_lacks, write_sol};
 use amf_wire::Name;
 use std::alloc::Global;
 use std::process::Abort;
-use std::test::Fail;
 
 /// Versions and holders in AMF 0, with what is written behind a byte of files with the name t, and how that ends.
 static FILES: Table = Table {
@@ -25,94 +25,94 @@ static FILES: Table = Table {
 ",
 };
 
-/// What stands behind a byte that was there, and how the writing of a shared object with this holder ended.
-fn written(
+/// Writes the shared object with this holder.
+fn write(
+    rt: &impl Abort,
     alloc: Global,
     version: SolVersion,
     holder: Rooted,
-) -> Result<(Vec<u8>, Result<(), WriteEnd>), Fail> {
-    let name = Name::from_bytes(alloc, b"t")?;
-    let object = SharedObject::new(alloc, name, version, holder)
-        .ok()
-        .ok_or("no holder")?;
-    let mut out = vec![in alloc; 0xAA]?;
-    let end = write_sol(alloc, &object, &mut out);
-    Ok((out, end))
-}
-
-/// A holder of one pair, which is true, with a name of the size that the first bytes say.
-fn one_true(alloc: Global, size: &[u8], name: &[u8]) -> Result<Rooted, Fail> {
-    let mut bytes = b"\x11\x0A\x0B\x01".to_vec(alloc)?;
-    bytes.extend_from_slice(size)?;
-    bytes.extend_from_slice(name)?;
-    bytes.extend_from_slice(b"\x03\x01")?;
-    Ok(graph0(alloc, &bytes)?)
-}
-
-/// What is written of the holder of a row, and how that ended.
-fn written_in(alloc: Global, row: Row<'_>) -> Result<(Vec<u8>, Result<(), WriteEnd>), Fail> {
-    let bytes = row.bytes(alloc, 1)?;
-    written(alloc, version_in(row, 0)?, graph0(alloc, &bytes)?)
+    out: &mut Vec<u8>,
+) -> Result<(), WriteEnd> {
+    let name = Name::from_bytes(alloc, b"t").expect(rt, "a name");
+    let object = SharedObject::new(alloc, name, version, holder).expect(rt, "a holder");
+    write_sol(alloc, &object, out)
 }
 
 /// How a writing ended: a lack by its kind and its node.
-fn end_told(alloc: Global, end: Result<(), WriteEnd>) -> Result<String, Fail> {
+fn end_told(rt: &impl Abort, alloc: Global, end: Result<(), WriteEnd>) -> String {
     match end {
-        Ok(()) => Ok(format!(in alloc; "written")?),
+        Ok(()) => format!(in alloc; "written").expect(rt, "memory"),
         Err(WriteEnd::NoSpelling(lack)) => {
             let Lack { kind, node } = lack;
-            Ok(format!(in alloc; "{kind:?} {node}")?)
+            format!(in alloc; "{kind:?} {node}").expect(rt, "memory")
         }
-        Err(WriteEnd::Memory) => Err("no memory")?,
+        Err(WriteEnd::Memory) => panic!(rt; "no memory"),
     }
 }
 
-fn ends_as(
-    rt: &impl Abort,
-    alloc: Global,
-    row: Row<'_>,
-    end: Result<(), WriteEnd>,
-) -> Result<(), Fail> {
-    let told = end_told(alloc, end)?;
-    is(rt, row, &told, row.field(3)?);
-    Ok(())
+fn ends_as(rt: &impl Abort, alloc: Global, row: Row<'_>, end: Result<(), WriteEnd>) {
+    let told = end_told(rt, alloc, end);
+    is(rt, row, &told, field(rt, row, 3));
 }
 
-fn are_bytes(rt: &impl Abort, alloc: Global, row: Row<'_>, out: &[u8]) -> Result<(), Fail> {
-    let want = row.bytes(alloc, 2)?;
+fn are_bytes(rt: &impl Abort, alloc: Global, row: Row<'_>, out: &[u8]) {
+    let want = bytes_of(rt, alloc, row, 2);
     holds_in(rt, row, out == want.as_slice(), "what is written");
-    Ok(())
 }
 
-fn is_written(rt: &impl Abort, alloc: Global, row: Row<'_>) -> Result<(), Fail> {
-    let (out, end) = written_in(alloc, row)?;
-    ends_as(rt, alloc, row, end)?;
-    are_bytes(rt, alloc, row, &out)
+fn holder_in(rt: &impl Abort, alloc: Global, row: Row<'_>) -> Rooted {
+    let bytes = bytes_of(rt, alloc, row, 1);
+    graph0(alloc, &bytes).expect(rt, "a graph")
+}
+
+/// Compares what is written of the holder of a row behind a byte that was there, and how that ended.
+fn is_written(rt: &impl Abort, alloc: Global, row: Row<'_>) {
+    let mut out = vec![in alloc; 0xAA].expect(rt, "memory");
+    let version = version_in(rt, row, 0);
+    let end = write(rt, alloc, version, holder_in(rt, alloc, row), &mut out);
+    ends_as(rt, alloc, row, end);
+    are_bytes(rt, alloc, row, &out);
 }
 
 #[test]
-fn pairs_by_name_over_one_set_of_tables(rt: HostRuntime) -> Result<(), Fail> {
+fn pairs_by_name_over_one_set_of_tables(rt: HostRuntime) {
     files_or_lacks();
-    for row in FILES.rows(rt.alloc())?.iter() {
-        is_written(&rt, rt.alloc(), *row)?;
+    for row in FILES.rows(rt.alloc()).expect(&rt, "rows").iter() {
+        is_written(&rt, rt.alloc(), *row);
     }
-    Ok(())
+}
+
+/// A holder of one pair, which is true, with a name of so many letters, which is the size that these bytes say.
+fn one_true(rt: &impl Abort, alloc: Global, length: usize, size: &[u8]) -> Rooted {
+    let mut bytes = b"\x11\x0A\x0B\x01".to_vec(alloc).expect(rt, "memory");
+    bytes.extend_from_slice(size).expect(rt, "memory");
+    bytes
+        .resize(bytes.len().saturating_add(length), b'a')
+        .expect(rt, "memory");
+    bytes.extend_from_slice(b"\x03\x01").expect(rt, "memory");
+    graph0(alloc, &bytes).expect(rt, "a graph")
 }
 
 /// How the writing of a holder with a long name ends.
 fn long_name(
+    rt: &impl Abort,
     alloc: Global,
     version: SolVersion,
     length: usize,
     size: &[u8],
-) -> Result<Result<(), WriteEnd>, Fail> {
-    let name = vec![in alloc; b'a'; length]?;
-    let (_, end) = written(alloc, version, one_true(alloc, size, &name)?)?;
-    Ok(end)
+) -> Result<(), WriteEnd> {
+    let mut out = Vec::new(alloc);
+    write(
+        rt,
+        alloc,
+        version,
+        one_true(rt, alloc, length, size),
+        &mut out,
+    )
 }
 
 #[test]
-fn long_names_of_pairs(rt: HostRuntime) -> Result<(), Fail> {
+fn long_names_of_pairs(rt: HostRuntime) {
     let too_long = WriteEnd::NoSpelling(Lack {
         kind: LackKind::LongName,
         node: 0,
@@ -122,8 +122,7 @@ fn long_names_of_pairs(rt: HostRuntime) -> Result<(), Fail> {
         (SolVersion::Amf0, 65_536, b"\x88\x80\x01", Err(too_long)),
         (SolVersion::Amf3, 65_536, b"\x88\x80\x01", Ok(())),
     ] {
-        let end = long_name(rt.alloc(), version, length, size)?;
+        let end = long_name(&rt, rt.alloc(), version, length, size);
         holds(&rt, end == wanted, "a long name");
     }
-    Ok(())
 }

@@ -1,4 +1,3 @@
-use crate::checks::holds;
 use amf_desk::{Closed, Desk};
 use amf_gateway::{LinkEnd, serve_link};
 use amf_io::{Joined, Link, MemoryHall, MemoryLink, MemorySink, MemorySource, OpenGate};
@@ -7,9 +6,9 @@ use amf_wire::Name;
 use std::alloc::Global;
 use std::process::Abort;
 use std::sync::Wait;
-use std::test::Fail;
 
-/// How a link in memory gives its bytes and takes those of the answers, which of its calls fail, and what the clock gives.
+/// How a link in memory gives its bytes and takes those of the answers, which of its calls fail, what the clock gives, and how
+/// many calls of the broker may be made.
 #[derive(Clone, Copy)]
 pub(crate) struct Ways<'a> {
     /// The most bytes of a piece, and the offset that none crosses.
@@ -19,6 +18,7 @@ pub(crate) struct Ways<'a> {
     pub most: usize,
     pub failing_writes: &'a [u64],
     pub moments: &'a [u64],
+    pub share: u64,
 }
 
 /// All at once, and nothing fails. The clock gives 0.
@@ -28,75 +28,87 @@ pub(crate) const PLAINLY: Ways<'static> = Ways {
     most: usize::MAX,
     failing_writes: &[],
     moments: &[],
+    share: 1 << 61,
 };
 
-/// What came of a link.
-#[derive(Drop)]
-pub(crate) struct Answered {
+/// How a link ended, what the desk tells then, and how many calls were counted.
+#[derive(Clone, Copy)]
+pub(crate) struct Came {
     pub end: LinkEnd,
-    pub written: Vec<u8>,
     pub closed: Closed,
+    pub calls: u64,
 }
+
+/// What is to come of a link, and where the test stands: a line or an offset.
+#[derive(Clone, Copy)]
+pub(crate) struct Want<'a> {
+    pub at: usize,
+    pub end: LinkEnd,
+    pub closed: Closed,
+    pub written: &'a [u8],
+}
+
+/// No call was made.
+pub(crate) const NO_CALLS: Closed = Closed {
+    calls: 0,
+    published: 0,
+    delivered: 0,
+    queued: 0,
+};
 
 /// A link in memory with these bytes.
-fn link_of(alloc: Global, bytes: &[u8], ways: Ways<'_>) -> Result<MemoryLink, Fail> {
-    Ok(Joined {
-        source: MemorySource::new(
-            alloc,
-            bytes,
-            ways.pieces.0,
-            ways.pieces.1,
-            ways.failing_reads,
-        )?,
-        sink: MemorySink::new(alloc, ways.most, ways.failing_writes)?,
-    })
+fn link_of(rt: &impl Abort, alloc: Global, bytes: &[u8], ways: Ways<'_>) -> MemoryLink {
+    let (most, cut) = ways.pieces;
+    Joined {
+        source: MemorySource::new(alloc, bytes, most, cut, ways.failing_reads).expect(
+            rt, "a source",
+        ),
+        sink: MemorySink::new(alloc, ways.most, ways.failing_writes).expect(rt, "a sink"),
+    }
 }
 
-/// What comes of a link with these bytes at a new desk with `chat` and `news`. The dice give 0, and the one service is `echo`.
+/// What comes of a link with these bytes at a new desk with `chat` and `news`, and what is written. The dice give 0, and the
+/// one service is `echo`.
 pub(crate) fn answer_of<R: Wait + Abort>(
     rt: &R,
     alloc: Global,
     bytes: &[u8],
     ways: Ways<'_>,
-) -> Result<Answered, Fail> {
-    let mut link = link_of(alloc, bytes, ways)?;
-    let (end, closed) = served(rt, alloc, &mut link, ways.moments)?;
-    let written = link.sink.as_bytes().to_vec(alloc)?;
-    Ok(Answered {
-        end,
-        written,
-        closed,
-    })
+    written: &mut Vec<u8>,
+) -> Came {
+    let mut link = link_of(rt, alloc, bytes, ways);
+    let came = served(rt, alloc, &mut link, ways);
+    written
+        .extend_from_slice(link.sink.as_bytes())
+        .expect(rt, "memory");
+    came
 }
 
-/// What comes of it where the pass may make one call, and how many were counted.
-pub(crate) fn answer_by_one_call<R: Wait>(
+/// Ends the test unless this comes of a link with these bytes.
+pub(crate) fn is_answered<R: Wait + Abort>(
     rt: &R,
     alloc: Global,
     bytes: &[u8],
-) -> Result<(Answered, u64), Fail> {
-    let mut link = link_of(alloc, bytes, PLAINLY)?;
-    let (end, closed, calls) = served_by(rt, alloc, &mut link, &[], 1)?;
-    let written = link.sink.as_bytes().to_vec(alloc)?;
-    let answered = Answered {
-        end,
-        written,
-        closed,
-    };
-    Ok((answered, calls))
+    ways: Ways<'_>,
+    want: Want<'_>,
+) {
+    let mut written = Vec::new(alloc);
+    let came = answer_of(rt, alloc, bytes, ways, &mut written);
+    let at = want.at;
+    assert!(rt; came.end == want.end, "at {at}: the end");
+    assert!(rt; came.closed == want.closed, "at {at}: what the desk tells");
+    assert!(rt; came.calls == want.closed.calls, "at {at}: how many calls");
+    assert!(rt; written.as_slice() == want.written, "at {at}: the answer");
 }
 
 /// The destinations.
-fn destinations(alloc: Global) -> Result<Vec<Name>, Fail> {
+fn destinations(rt: &impl Abort, alloc: Global) -> Vec<Name> {
     let mut names = Vec::new(alloc);
-    names.push(Name::of_bytes(alloc, b"chat")?)?;
-    names.push(Name::of_bytes(alloc, b"news")?)?;
-    Ok(names)
-}
-
-/// A hall without links, whose clock gives these moments.
-fn aid(alloc: Global, moments: &[u64]) -> Result<MemoryHall<MemoryLink>, Fail> {
-    Ok(MemoryHall::new(alloc, Vec::new(alloc), moments, &[], &[])?)
+    for name in [b"chat", b"news"] {
+        let name = Name::of_bytes(alloc, name).expect(rt, "a name");
+        names.push(name).expect(rt, "memory");
+    }
+    names
 }
 
 /// Serves a link at a new desk, which is closed then.
@@ -104,55 +116,50 @@ pub(crate) fn served<R: Wait + Abort, L: Link>(
     rt: &R,
     alloc: Global,
     link: &mut L,
-    moments: &[u64],
-) -> Result<(LinkEnd, Closed), Fail> {
-    let (end, closed, calls) = served_by(rt, alloc, link, moments, 1 << 61)?;
-    holds(rt, calls == closed.calls, "how many calls were made");
-    Ok((end, closed))
+    ways: Ways<'_>,
+) -> Came {
+    let name = Name::of_bytes(alloc, b"echo").expect(rt, "a name");
+    let echo = Box::new(alloc, Echo).expect(rt, "memory");
+    let mut entries: Vec<(Name, Box<dyn Service>)> = Vec::new(alloc);
+    entries.push((name, echo)).expect(rt, "memory");
+    match Registry::new(alloc, entries) {
+        Ok(registry) => served_at_desk(rt, alloc, link, &registry, ways),
+        Err(_) => panic!(rt; "no registry"),
+    }
 }
 
-/// Serves a link at a new desk by a pass that may make so many calls, and tells how many were counted.
-fn served_by<R: Wait, L: Link>(
+/// Serves a link with these services.
+fn served_at_desk<R: Wait + Abort, L: Link>(
     rt: &R,
     alloc: Global,
     link: &mut L,
-    moments: &[u64],
-    share: u64,
-) -> Result<(LinkEnd, Closed, u64), Fail> {
-    let mut entries: Vec<(Name, Box<dyn Service>)> = Vec::new(alloc);
-    entries.push((Name::of_bytes(alloc, b"echo")?, Box::new(alloc, Echo)?))?;
-    let Ok(registry) = Registry::new(alloc, entries) else {
-        return Err("no registry".into());
-    };
-    let mut hall = aid(alloc, moments)?;
-    let Ok((desk, mut first)) = Desk::open(alloc, destinations(alloc)?) else {
-        return Err("no desk".into());
-    };
-    if share >= first.budget() {
-        return Err("too many calls".into());
-    }
-    let mut pass = desk.split(&mut first, share);
+    registry: &Registry,
+    ways: Ways<'_>,
+) -> Came {
+    let (desk, mut first) = Desk::open(alloc, destinations(rt, alloc)).expect(rt, "a desk");
+    let budget = first.budget();
+    assert!(rt; ways.share < budget, "too many calls");
+    let mut pass = desk.split(&mut first, ways.share);
+    let mut hall: MemoryHall<MemoryLink> = MemoryHall::new(
+        alloc,
+        Vec::new(alloc),
+        ways.moments,
+        &[],
+        &[],
+    ).expect(rt, "a hall");
     let mut calls = 0;
     let end = serve_link(
-        rt, alloc, link, &registry, &desk, &mut pass, &mut hall, &OpenGate, 1, &mut calls,
+        rt, alloc, link, registry, &desk, &mut pass, &mut hall, &OpenGate, 1, &mut calls,
     );
-    Ok((end, desk.close(rt, first), calls))
-}
-
-/// Whether the pieces stand there, one behind the other.
-pub(crate) fn has_in_order(bytes: &[u8], pieces: &[&[u8]]) -> bool {
-    let mut rest = bytes;
-    for piece in pieces {
-        match behind(rest, piece) {
-            Some(more) => rest = more,
-            None => return false,
-        }
+    Came {
+        end,
+        closed: desk.close(rt, first),
+        calls,
     }
-    true
 }
 
 /// What stands behind the first place where the piece stands.
-fn behind<'a>(bytes: &'a [u8], piece: &[u8]) -> Option<&'a [u8]> {
+pub(crate) fn behind<'a>(bytes: &'a [u8], piece: &[u8]) -> Option<&'a [u8]> {
     for place in 0..bytes.len() {
         if let Some(rest) = bytes[place..].strip_prefix(piece) {
             return Some(rest);

@@ -1,4 +1,5 @@
 use amf_rows::Row;
+use std::alloc::Global;
 use std::process::Abort;
 
 /// Ends the test where something does not hold.
@@ -6,13 +7,17 @@ pub(crate) fn holds(rt: &impl Abort, right: bool, what: &str) {
     assert!(rt; right, "{what}");
 }
 
-/// Ends the test where something does not hold of a row.
-pub(crate) fn holds_of(rt: &impl Abort, row: Row<'_>, right: bool, what: &str) {
-    let line = row.line();
-    assert!(rt; right, "line {line}: {what}");
+/// A field of a row.
+pub(crate) fn field<'t>(rt: &impl Abort, row: Row<'t>, place: usize) -> &'t str {
+    row.field(place).expect(rt, "a field")
 }
 
-/// Ends the test where something does not hold of bytes that are cut at this place.
-pub(crate) fn holds_at(rt: &impl Abort, cut: usize, right: bool) {
-    assert!(rt; right, "cut at {cut}");
+/// A number of a row.
+pub(crate) fn number(rt: &impl Abort, row: Row<'_>, place: usize) -> u32 {
+    row.number(place).expect(rt, "a number")
+}
+
+/// The bytes of a field of a row.
+pub(crate) fn bytes_in(rt: &impl Abort, alloc: Global, row: Row<'_>, place: usize) -> Vec<u8> {
+    row.bytes(alloc, place).expect(rt, "bytes")
 }

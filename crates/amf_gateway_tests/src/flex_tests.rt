@@ -1,253 +1,123 @@
-use crate::answered::{PLAINLY, Ways, answer_by_one_call, answer_of, count_of, has_in_order};
-use crate::checks::holds;
-use crate::requests::{
-    ACKNOWLEDGE, ASYNC, COMMAND, FRESH, HEADERS, NAMES, OPERATION, PING, TIMES, flex_request,
-    flex_response, joined, request,
-};
+use crate::answered::{Came, PLAINLY, Want, Ways, answer_of, behind, count_of, is_answered};
+use crate::checks::{field, holds};
+use crate::requests::{put, put_bytes, put_flex_request, put_flex_response, put_words, request};
 use amf_desk::Closed;
 use amf_gateway::LinkEnd;
-use std::alloc::{AllocError, Global};
-use std::test::Fail;
+use amf_rows::{Row, Table};
+use std::alloc::Global;
+use std::process::Abort;
+use std::sync::Wait;
 
-/// The requests of a new client: a ping, a subscription, a message and two polls.
-fn first_requests(alloc: Global) -> Result<Vec<u8>, AllocError> {
-    let ping = flex_request(
-        alloc,
-        b"1",
-        &[
-            COMMAND,
-            NAMES,
-            OPERATION,
-            b"\x0A\x0B\x01\x01\x01\x06\x01\x0A\x05\x25DSMessagingVersion\x04\x01\x09DSId\x06\x07nil\x01",
-            PING,
-            TIMES,
-            b"\x06\x01\x04\x05",
-        ],
-    )?;
-    let subscribe = flex_request(
-        alloc,
-        b"2",
-        &[
-            COMMAND,
-            NAMES,
-            OPERATION,
-            b"\x01\x01\x06\x09chat",
-            HEADERS,
-            b"\x06\x05m2",
-            TIMES,
-            b"\x06\x01\x04\0",
-        ],
-    )?;
-    let publish = flex_request(
-        alloc,
-        b"3",
-        &[
-            ASYNC,
-            NAMES,
-            b"\x06\x05hi\x01\x06\x09chat",
-            HEADERS,
-            b"\x06\x05m3",
-            TIMES,
-            b"\x06\x01",
-        ],
-    )?;
-    let poll = poll_of(alloc, b"4", b"\x06\x05m4")?;
-    let again = poll_of(alloc, b"5", b"\x06\x05m5")?;
-    joined(alloc, &[&ping, &subscribe, &publish, &poll, &again])
-}
+/// The requests of a new client: a ping, a subscription, a message and two polls, and their answers, where dice and clock
+/// give 0. First stands the digit to which each is answered.
+static FIRST: Table = Table {
+    rows: 5,
+    fields: 3,
+    text: r"
+1 | COMMAND OPERATION 0A0B0101 01 0601 0A05 25'DSMessagingVersion' 0401 09'DSId' 0607'nil' 01 PING TIMES 0601 0405 | ACKNOWLEDGE 01 01 0601 ONE FRESH PING
+2 | COMMAND OPERATION 01 01 0609'chat' ONE 0605'm2' TIMES 0601 0400 | ACKNOWLEDGE 01 0603'1' 0609'chat' 0A0B01 09'DSId' 0612 01 FRESH 0605'm2'
+3 | ASYNC 0605'hi' 01 0609'chat' ONE 0605'm3' TIMES 0601 | ACKNOWLEDGE 01 01 0609'chat' ONE FRESH 0605'm3'
+4 | COMMAND OPERATION 01 01 0601 ONE 0605'm4' TIMES 0601 0402 | COMMAND OPERATION 090301 0A8103 49'flex.messaging.messages.AsyncMessage' 02 04 06 08 0A 0C 0E 10 0605'hi' 0603'1' 0609'chat' 0A0B01 09'DSId' 0618 01 0605'm3' 0400 05 0000000000000000 0601 01 0601 0A09 1C 0618 01 FRESH 0605'm4' 0404
+5 | COMMAND OPERATION 01 01 0601 ONE 0605'm5' TIMES 0601 0402 | ACKNOWLEDGE 01 01 0601 ONE FRESH 0605'm5'
+",
+};
 
-fn poll_of(alloc: Global, digit: &[u8], identifier: &[u8]) -> Result<Vec<u8>, AllocError> {
-    flex_request(
-        alloc,
-        digit,
-        &[
-            COMMAND,
-            NAMES,
-            OPERATION,
-            b"\x01\x01\x06\x01",
-            HEADERS,
-            identifier,
-            TIMES,
-            b"\x06\x01\x04\x02",
-        ],
-    )
-}
-
-/// Their answers, where dice and clock give 0.
-fn first_answers(alloc: Global) -> Result<Vec<u8>, AllocError> {
-    let ping = flex_response(
-        alloc,
-        b"1",
-        &[
-            ACKNOWLEDGE,
-            NAMES,
-            b"\x01\x01\x06\x01",
-            HEADERS,
-            FRESH,
-            PING,
-        ],
-    )?;
-    let subscribe = flex_response(
-        alloc,
-        b"2",
-        &[
-            ACKNOWLEDGE,
-            NAMES,
-            b"\x01\x06\x031\x06\x09chat\x0A\x0B\x01\x09DSId\x06\x12\x01",
-            FRESH,
-            b"\x06\x05m2",
-        ],
-    )?;
-    let publish = flex_response(
-        alloc,
-        b"3",
-        &[
-            ACKNOWLEDGE,
-            NAMES,
-            b"\x01\x01\x06\x09chat",
-            HEADERS,
-            FRESH,
-            b"\x06\x05m3",
-        ],
-    )?;
-    let poll = flex_response(
-        alloc,
-        b"4",
-        &[
-            COMMAND,
-            NAMES,
-            OPERATION,
-            b"\x09\x03\x01\x0A\x81\x03\x49flex.messaging.messages.AsyncMessage\x02\x04\x06\x08\x0A\x0C\x0E\x10",
-            b"\x06\x05hi\x06\x031\x06\x09chat\x0A\x0B\x01\x09DSId\x06\x18\x01\x06\x05m3\x04\0\x05\0\0\0\0\0\0\0\0\x06\x01",
-            b"\x01\x06\x01\x0A\x09\x1C\x06\x18\x01",
-            FRESH,
-            b"\x06\x05m4\x04\x04",
-        ],
-    )?;
-    let again = flex_response(
-        alloc,
-        b"5",
-        &[
-            ACKNOWLEDGE,
-            NAMES,
-            b"\x01\x01\x06\x01",
-            HEADERS,
-            FRESH,
-            b"\x06\x05m5",
-        ],
-    )?;
-    joined(alloc, &[&ping, &subscribe, &publish, &poll, &again])
-}
-
-/// Byte for byte, all at once and a byte at a time.
+/// Byte for byte, in pieces of so many bytes.
 #[test]
-fn the_first_requests_of_a_client(rt: HostRuntime) -> Result<(), Fail> {
-    let alloc = rt.alloc();
-    let asked = first_requests(alloc)?;
-    let wanted = first_answers(alloc)?;
-    for pieces in [(usize::MAX, 0), (1, 0), (100, 0)] {
-        let got = answer_of(&rt, alloc, &asked, Ways { pieces, ..PLAINLY })?;
-        holds(&rt, got.end == LinkEnd::Closed, "the end");
-        holds(
-            &rt,
-            got.written.as_slice() == wanted.as_slice(),
-            "the answers",
-        );
-        let closed = Closed {
-            calls: 5,
-            published: 1,
-            delivered: 1,
-            queued: 0,
+fn the_first_requests_of_a_client(rt: HostRuntime) {
+    let mut asked = Vec::new(rt.alloc());
+    let mut wanted = Vec::new(rt.alloc());
+    for row in FIRST.rows(rt.alloc()).expect(&rt, "rows").iter() {
+        let digit = field(&rt, *row, 0);
+        put_flex_request(&rt, rt.alloc(), digit, field(&rt, *row, 1), &mut asked);
+        put_flex_response(&rt, rt.alloc(), digit, field(&rt, *row, 2), &mut wanted);
+    }
+    for most in [usize::MAX, 1, 100] {
+        let ways = Ways {
+            pieces: (most, 0),
+            ..PLAINLY
         };
-        holds(&rt, got.closed == closed, "what the desk tells");
-    }
-    Ok(())
-}
-
-/// What a client asks for, by its number.
-#[derive(Clone, Copy)]
-enum Ask {
-    Connect,
-    Subscribe(u8),
-    Publish(u8, &'static [u8]),
-    Poll(u8),
-    /// With the number of the poll as a text.
-    PollNumbered(u8, &'static [u8]),
-}
-
-/// The body of a message, its headers behind the number of the client, and its operation if it is a command.
-type Parts = (&'static [u8], u8, &'static [u8], Option<&'static [u8]>);
-
-fn parts_of(ask: Ask) -> Parts {
-    match ask {
-        Ask::Connect => (b"\x01", b'0', b"\x01", Some(b"\x04\x05")),
-        Ask::Subscribe(client) => (b"\x01", client, b"\x01", Some(b"\x04\0")),
-        Ask::Publish(client, content) => (content, client, b"\x01", None),
-        Ask::Poll(client) => (b"\x01", client, b"\x01", Some(b"\x04\x02")),
-        Ask::PollNumbered(client, headers) => (b"\x01", client, headers, Some(b"\x04\x02")),
+        let want = Want {
+            at: most,
+            end: LinkEnd::Closed,
+            closed: Closed {
+                calls: 5,
+                published: 1,
+                delivered: 1,
+                queued: 0,
+            },
+            written: &wanted,
+        };
+        is_answered(&rt, rt.alloc(), &asked, ways, want);
     }
 }
 
-/// A request to be answered to this digit. All are about `chat`.
-fn asked(alloc: Global, digit: &[u8], ask: Ask) -> Result<Vec<u8>, AllocError> {
-    let (body, client, headers, operation) = parts_of(ask);
-    let number = [client];
-    let identity = if client == b'0' {
-        b"\x0A\x0B\x01\x09DSId\x06\x07nil".to_vec(alloc)?
-    } else {
-        joined(alloc, &[b"\x0A\x0B\x01\x09DSId\x06\x03", &number])?
+/// What comes of the requests of a table, of which first stands the digit to which each is answered. What is written has the
+/// pieces of all rows in their order.
+fn answers<R: Wait + Abort>(
+    rt: &R,
+    alloc: Global,
+    table: Table,
+    ways: Ways<'_>,
+    written: &mut Vec<u8>,
+) -> Came {
+    let mut asked = Vec::new(alloc);
+    let rows = table.rows(alloc).expect(rt, "rows");
+    for row in rows.iter() {
+        let digit = field(rt, *row, 0);
+        put_flex_request(rt, alloc, digit, field(rt, *row, 1), &mut asked);
+    }
+    let came = answer_of(rt, alloc, &asked, ways, written);
+    let mut rest = written.as_slice();
+    for row in rows.iter() {
+        rest = behind_all(rt, alloc, *row, rest);
+    }
+    came
+}
+
+/// What stands behind the pieces of a row.
+fn behind_all<'a>(rt: &impl Abort, alloc: Global, row: Row<'_>, bytes: &'a [u8]) -> &'a [u8] {
+    let mut rest = bytes;
+    let mut piece = Vec::new(alloc);
+    for text in field(rt, row, 2).split(';') {
+        piece.clear();
+        put_bytes(rt, alloc, text, &mut piece);
+        rest = behind(rest, &piece).expect(rt, text);
+    }
+    rest
+}
+
+/// Calls that each take a moment before them and one with their answer, all about `chat`. A client that none has named for
+/// 600,000 milliseconds ends.
+static IDLE: Table = Table {
+    rows: 7,
+    fields: 3,
+    text: r"
+0 | COMMAND OPERATION 01 01 0609'chat' NEW 0603'm' TIMES 0601 0405 | '/0/onResult'
+1 | COMMAND OPERATION 01 01 0609'chat' ONE 0603'm' TIMES 0601 0400 | '/1/onResult'
+2 | COMMAND OPERATION 01 01 0609'chat' NEW 0603'm' TIMES 0601 0405 | '/2/onResult'
+3 | ASYNC 0603'a' 01 0609'chat' TWO 0603'm' TIMES 0601 | '/3/onResult'
+4 | COMMAND OPERATION 01 01 0609'chat' ONE 0603'm' TIMES 0601 0402 | '/4/onStatus'; 'Client.NoClient'
+5 | COMMAND OPERATION 01 01 0609'chat' TWO 0603'm' TIMES 0601 0402 | '/5/onResult'; 'AcknowledgeMessage'
+6 | COMMAND OPERATION 01 01 0609'chat' TWO 0603'm' TIMES 0601 0402 | '/6/onStatus'; 'Client.NoClient'; 'no such client'
+",
+};
+
+/// The link is read to its end, the desk tells this, and so many messages were handed out.
+fn is_closed(rt: &impl Abort, came: Came, calls: u64, published: u64, delivered: u64) {
+    let closed = Closed {
+        calls,
+        published,
+        delivered,
+        queued: 0,
     };
-    let (class, last, code) = match operation {
-        Some(code) => (COMMAND, OPERATION, code),
-        None => (ASYNC, b"".as_slice(), b"".as_slice()),
-    };
-    flex_request(
-        alloc,
-        digit,
-        &[
-            class,
-            NAMES,
-            last,
-            body,
-            b"\x01\x06\x09chat",
-            &identity,
-            headers,
-            b"\x06\x03m",
-            TIMES,
-            b"\x06\x01",
-            code,
-        ],
-    )
+    holds(rt, came.end == LinkEnd::Closed, "the end");
+    holds(rt, came.closed == closed, "what the desk tells");
+    holds(rt, came.calls == calls, "how many calls were counted");
 }
 
-/// The requests one after the other, to be answered to the digits from 0 on.
-fn all_asked(alloc: Global, asks: &[Ask]) -> Result<Vec<u8>, AllocError> {
-    let digits = [b"0", b"1", b"2", b"3", b"4", b"5", b"6", b"7", b"8", b"9"];
-    let mut bytes = Vec::new(alloc);
-    for (digit, ask) in digits.iter().zip(asks) {
-        let one = asked(alloc, *digit, *ask)?;
-        bytes.extend_from_slice(&one)?;
-    }
-    Ok(bytes)
-}
-
-const HELLO: &[u8] = b"\x06\x03a";
-
-const AGAIN: &[u8] = b"\x06\x03b";
-
-/// A client that no call has named for 600,000 milliseconds ends. Each call takes a moment before it, and each answer one.
 #[test]
-fn idle_clients_end(rt: HostRuntime) -> Result<(), Fail> {
-    let alloc = rt.alloc();
-    let asks = [
-        Ask::Connect,
-        Ask::Subscribe(b'1'),
-        Ask::Connect,
-        Ask::Publish(b'2', HELLO),
-        Ask::Poll(b'1'),
-        Ask::Poll(b'2'),
-        Ask::Poll(b'2'),
-    ];
+fn idle_clients_end(rt: HostRuntime) {
     let ways = Ways {
         moments: &[
             0, 0, 0, 0, 1_000, 1_000, 600_000, 600_000, 600_000, 600_000, 599_000, 599_000,
@@ -255,148 +125,97 @@ fn idle_clients_end(rt: HostRuntime) -> Result<(), Fail> {
         ],
         ..PLAINLY
     };
-    let got = answer_of(&rt, alloc, &all_asked(alloc, &asks)?, ways)?;
-    holds(&rt, got.end == LinkEnd::Closed, "the end");
-    let wanted: [&[u8]; 11] = [
-        b"/0/onResult",
-        b"/1/onResult",
-        b"/2/onResult",
-        b"/3/onResult",
-        b"/4/onStatus",
-        b"Client.NoClient",
-        b"/5/onResult",
-        b"AcknowledgeMessage",
-        b"/6/onStatus",
-        b"Client.NoClient",
-        b"no such client",
-    ];
-    holds(&rt, has_in_order(&got.written, &wanted), "pieces in order");
-    holds(
-        &rt,
-        count_of(&got.written, b"AsyncMessage") == 0,
-        "how many",
-    );
-    let closed = Closed {
-        calls: 7,
-        published: 1,
-        delivered: 0,
-        queued: 0,
-    };
-    holds(&rt, got.closed == closed, "what the desk tells");
-    Ok(())
+    let mut written = Vec::new(rt.alloc());
+    let came = answers(&rt, rt.alloc(), IDLE, ways, &mut written);
+    is_closed(&rt, came, 7, 1, 0);
+    holds(&rt, count_of(&written, b"AsyncMessage") == 0, "messages");
 }
 
-/// A numbered poll that is asked twice is answered the same twice, and counted once.
+/// Numbered polls. One that is asked twice is answered the same twice, and counted once.
+static NUMBERED: Table = Table {
+    rows: 10,
+    fields: 3,
+    text: r"
+0 | COMMAND OPERATION 01 01 0609'chat' NEW 0603'm' TIMES 0601 0405 | '/0/onResult'
+1 | COMMAND OPERATION 01 01 0609'chat' ONE 0603'm' TIMES 0601 0400 | '/1/onResult'
+2 | ASYNC 0603'a' 01 0609'chat' ONE 0603'm' TIMES 0601 | '/2/onResult'
+3 | COMMAND OPERATION 01 01 0609'chat' 0A0B01 09'DSId' 0603'1' 0F'AMFPoll' 0603'1' 01 0603'm' TIMES 0601 0402 | '/3/onResult'; 0603'a'
+4 | ASYNC 0603'b' 01 0609'chat' ONE 0603'm' TIMES 0601 | '/4/onResult'
+5 | COMMAND OPERATION 01 01 0609'chat' 0A0B01 09'DSId' 0603'1' 0F'AMFPoll' 0603'1' 01 0603'm' TIMES 0601 0402 | '/5/onResult'; 0603'a'
+6 | COMMAND OPERATION 01 01 0609'chat' 0A0B01 09'DSId' 0603'1' 0F'AMFPoll' 0603'2' 01 0603'm' TIMES 0601 0402 | '/6/onResult'; 0603'b'
+7 | COMMAND OPERATION 01 01 0609'chat' 0A0B01 09'DSId' 0603'1' 0F'AMFPoll' 0603'1' 01 0603'm' TIMES 0601 0402 | '/7/onStatus'; 'Client.BadNumber'
+8 | COMMAND OPERATION 01 01 0609'chat' 0A0B01 09'DSId' 0603'1' 0F'AMFPoll' 0603'0' 01 0603'm' TIMES 0601 0402 | '/8/onStatus'; 'bad poll number'
+9 | COMMAND OPERATION 01 01 0609'chat' ONE 0603'm' TIMES 0601 0402 | '/9/onResult'; 'AcknowledgeMessage'
+",
+};
+
 #[test]
-fn numbered_polls(rt: HostRuntime) -> Result<(), Fail> {
-    let alloc = rt.alloc();
-    let asks = [
-        Ask::Connect,
-        Ask::Subscribe(b'1'),
-        Ask::Publish(b'1', HELLO),
-        Ask::PollNumbered(b'1', b"\x0FAMFPoll\x06\x031\x01"),
-        Ask::Publish(b'1', AGAIN),
-        Ask::PollNumbered(b'1', b"\x0FAMFPoll\x06\x031\x01"),
-        Ask::PollNumbered(b'1', b"\x0FAMFPoll\x06\x032\x01"),
-        Ask::PollNumbered(b'1', b"\x0FAMFPoll\x06\x031\x01"),
-        Ask::PollNumbered(b'1', b"\x0FAMFPoll\x06\x030\x01"),
-        Ask::Poll(b'1'),
-    ];
-    let got = answer_of(&rt, alloc, &all_asked(alloc, &asks)?, PLAINLY)?;
-    holds(&rt, got.end == LinkEnd::Closed, "the end");
-    let wanted: [&[u8]; 16] = [
-        b"/0/onResult",
-        b"/1/onResult",
-        b"/2/onResult",
-        b"/3/onResult",
-        HELLO,
-        b"/4/onResult",
-        b"/5/onResult",
-        HELLO,
-        b"/6/onResult",
-        AGAIN,
-        b"/7/onStatus",
-        b"Client.BadNumber",
-        b"/8/onStatus",
-        b"bad poll number",
-        b"/9/onResult",
-        b"AcknowledgeMessage",
-    ];
-    holds(&rt, has_in_order(&got.written, &wanted), "pieces in order");
-    holds(
-        &rt,
-        count_of(&got.written, b"AsyncMessage") == 3,
-        "how many",
-    );
-    let closed = Closed {
-        calls: 10,
-        published: 2,
-        delivered: 2,
-        queued: 0,
-    };
-    holds(&rt, got.closed == closed, "what the desk tells");
-    Ok(())
+fn numbered_polls(rt: HostRuntime) {
+    let mut written = Vec::new(rt.alloc());
+    let came = answers(&rt, rt.alloc(), NUMBERED, PLAINLY, &mut written);
+    is_closed(&rt, came, 10, 2, 2);
+    holds(&rt, count_of(&written, b"AsyncMessage") == 3, "messages");
 }
 
-/// The second call is one too many for the pass: it is counted, and has no answer.
+/// Two calls, of which the second is one too many for the pass: it is counted, and has no answer.
+static TWO_CALLS: Table = Table {
+    rows: 2,
+    fields: 3,
+    text: r"
+0 | COMMAND OPERATION 01 01 0609'chat' NEW 0603'm' TIMES 0601 0405 | '/0/onResult'
+1 | COMMAND OPERATION 01 01 0609'chat' ONE 0603'm' TIMES 0601 0400 |
+",
+};
+
 #[test]
-fn one_call_too_many(rt: HostRuntime) -> Result<(), Fail> {
-    let alloc = rt.alloc();
-    let asked = all_asked(alloc, &[Ask::Connect, Ask::Subscribe(b'1')])?;
-    let (got, calls) = answer_by_one_call(&rt, alloc, &asked)?;
-    holds(&rt, got.end == LinkEnd::Spent, "the end");
-    holds(&rt, calls == 2, "how many calls were counted");
-    holds(&rt, got.closed.calls == 1, "how many were made");
-    holds(
-        &rt,
-        has_in_order(&got.written, &[b"/0/onResult"]),
-        "the answer",
-    );
-    holds(&rt, count_of(&got.written, b"HTTP/1.1") == 1, "one answer");
-    Ok(())
+fn one_call_too_many(rt: HostRuntime) {
+    let mut written = Vec::new(rt.alloc());
+    let ways = Ways {
+        share: 1,
+        ..PLAINLY
+    };
+    let came = answers(&rt, rt.alloc(), TWO_CALLS, ways, &mut written);
+    holds(&rt, came.end == LinkEnd::Spent, "the end");
+    holds(&rt, came.calls == 2, "how many calls were counted");
+    holds(&rt, came.closed.calls == 1, "how many were made");
+    holds(&rt, count_of(&written, b"HTTP/1.1") == 1, "one answer");
 }
 
-/// A packet with so many pings of new clients.
-fn pings(alloc: Global, count: u16) -> Result<Vec<u8>, AllocError> {
-    let message = joined(
-        alloc,
-        &[
-            b"\0\x04null\0\x02/1\xFF\xFF\xFF\xFF\x0A\0\0\0\x01\x11",
-            COMMAND,
-            NAMES,
-            OPERATION,
-            b"\x01\x01\x06\x01\x0A\x0B\x01\x09DSId\x06\x07nil\x01\x06\x03m",
-            TIMES,
-            b"\x06\x01\x04\x05",
-        ],
-    )?;
-    let mut packet = joined(alloc, &[b"\0\x03\0\0", &count.to_be_bytes()])?;
+/// What a packet with so many pings of new clients has.
+fn put_pings(rt: &impl Abort, alloc: Global, count: u16, packet: &mut Vec<u8>) {
+    put(rt, packet, &[b"\0\x03\0\0", &count.to_be_bytes()]);
+    let mut message = Vec::new(alloc);
+    let words =
+        "0004'null' 0002'/1' FFFFFFFF 0A 00000001 11 COMMAND OPERATION 01 01 0601 NEW 0603'm' TIMES 0601 0405";
+    put_words(rt, alloc, words, &mut message);
     for _ in 0..count {
-        packet.extend_from_slice(&message)?;
+        put(rt, packet, &[&message]);
     }
-    Ok(packet)
 }
+
+/// The pieces of the answer to the 1,024th ping and to the one behind it.
+static LAST: Table = Table {
+    rows: 1,
+    fields: 3,
+    text: r"
+ | | 06 09 '1024'; '/1/onStatus'; 'Server.Full'; 'too many clients'
+",
+};
 
 /// The 1,025th client is one too many.
 #[test]
-fn too_many_clients(rt: HostRuntime) -> Result<(), Fail> {
-    let alloc = rt.alloc();
-    let asked = request(alloc, &pings(alloc, 1_025)?)?;
-    let got = answer_of(&rt, alloc, &asked, PLAINLY)?;
-    holds(&rt, got.end == LinkEnd::Closed, "the end");
-    holds(&rt, got.closed.calls == 1_025, "calls");
-    holds(
-        &rt,
-        count_of(&got.written, b"/1/onResult") == 1_024,
-        "how many",
-    );
-    holds(&rt, count_of(&got.written, b"/1/onStatus") == 1, "how many");
-    let wanted: [&[u8]; 4] = [
-        b"\x06\x091024",
-        b"/1/onStatus",
-        b"Server.Full",
-        b"too many clients",
-    ];
-    holds(&rt, has_in_order(&got.written, &wanted), "pieces in order");
-    Ok(())
+fn too_many_clients(rt: HostRuntime) {
+    let mut packet = Vec::new(rt.alloc());
+    put_pings(&rt, rt.alloc(), 1_025, &mut packet);
+    let asked = request(&rt, rt.alloc(), &packet);
+    let mut written = Vec::new(rt.alloc());
+    let came = answer_of(&rt, rt.alloc(), &asked, PLAINLY, &mut written);
+    holds(&rt, came.end == LinkEnd::Closed, "the end");
+    holds(&rt, came.closed.calls == 1_025, "calls");
+    holds(&rt, came.calls == 1_025, "counted calls");
+    holds(&rt, count_of(&written, b"/1/onResult") == 1_024, "results");
+    holds(&rt, count_of(&written, b"/1/onStatus") == 1, "faults");
+    for row in LAST.rows(rt.alloc()).expect(&rt, "rows").iter() {
+        behind_all(&rt, rt.alloc(), *row, &written);
+    }
 }

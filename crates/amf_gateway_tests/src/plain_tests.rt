@@ -1,14 +1,12 @@
-use crate::answered::{PLAINLY, Ways, answer_of, served};
-use crate::checks::{holds, holds_at, holds_of};
-use crate::requests::{joined, request, response};
-use amf_desk::Closed;
+use crate::answered::{NO_CALLS, PLAINLY, Want, Ways, answer_of, is_answered, served};
+use crate::checks::{bytes_in, holds};
+use crate::requests::{put, request, response};
 use amf_gateway::LinkEnd;
 use amf_io::{Failed, Link};
 use amf_rows::{Row, Table};
 use std::alloc::Global;
 use std::process::Abort;
 use std::sync::Wait;
-use std::test::Fail;
 
 /// A call of `echo.echo` with the text `hi`.
 const ECHO: &[u8] = b"\0\0\0\0\0\x01\0\x09echo.echo\0\x02/1\0\0\0\x0A\x0A\0\0\0\x01\x02\0\x02hi";
@@ -26,120 +24,114 @@ static CALLS: Table = Table {
 ",
 };
 
-/// No call was made.
-const NO_CALLS: Closed = Closed {
-    calls: 0,
-    published: 0,
-    delivered: 0,
-    queued: 0,
-};
-
 /// One request, and its answer.
-fn ask<R: Wait + Abort>(rt: &R, alloc: Global, row: Row<'_>) -> Result<(), Fail> {
-    let asked = request(alloc, &row.bytes(alloc, 0)?)?;
-    let wanted = response(alloc, &row.bytes(alloc, 1)?)?;
-    let got = answer_of(rt, alloc, &asked, PLAINLY)?;
-    holds_of(rt, row, got.end == LinkEnd::Closed, "the end");
-    holds_of(
-        rt,
-        row,
-        got.written.as_slice() == wanted.as_slice(),
-        "the answer",
-    );
-    holds_of(rt, row, got.closed == NO_CALLS, "calls of the broker");
-    Ok(())
+fn ask<R: Wait + Abort>(rt: &R, alloc: Global, row: Row<'_>) {
+    let asked = request(rt, alloc, &bytes_in(rt, alloc, row, 0));
+    let wanted = response(rt, alloc, &bytes_in(rt, alloc, row, 1));
+    let want = Want {
+        at: row.line() as usize,
+        end: LinkEnd::Closed,
+        closed: NO_CALLS,
+        written: &wanted,
+    };
+    is_answered(rt, alloc, &asked, PLAINLY, want);
 }
 
 #[test]
-fn calls_of_services(rt: HostRuntime) -> Result<(), Fail> {
-    for row in CALLS.rows(rt.alloc())? {
-        ask(&rt, rt.alloc(), row)?;
+fn calls_of_services(rt: HostRuntime) {
+    for row in CALLS.rows(rt.alloc()).expect(&rt, "rows").iter() {
+        ask(&rt, rt.alloc(), *row);
     }
-    Ok(())
+}
+
+/// The bytes twice.
+fn twice(rt: &impl Abort, alloc: Global, bytes: &[u8]) -> Vec<u8> {
+    let mut both = Vec::new(alloc);
+    put(rt, &mut both, &[bytes, bytes]);
+    both
 }
 
 /// The same two answers wherever the bytes are cut, and nothing but whole answers of what was read.
 #[test]
-fn two_calls_in_any_pieces(rt: HostRuntime) -> Result<(), Fail> {
-    let alloc = rt.alloc();
-    let one = request(alloc, ECHO)?;
-    let two = joined(alloc, &[&one, &one])?;
-    let answer = response(alloc, ECHOED)?;
-    let both = joined(alloc, &[&answer, &answer])?;
+fn two_calls_in_any_pieces(rt: HostRuntime) {
+    let two = twice(&rt, rt.alloc(), &request(&rt, rt.alloc(), ECHO));
+    let both = twice(&rt, rt.alloc(), &response(&rt, rt.alloc(), ECHOED));
     for cut in 0..two.len() {
         let ways = Ways {
             pieces: (usize::MAX, cut),
             ..PLAINLY
         };
-        let got = answer_of(&rt, alloc, &two, ways)?;
-        let is_whole = got.written.as_slice() == both.as_slice();
-        holds_at(&rt, cut, got.end == LinkEnd::Closed && is_whole);
+        let want = Want {
+            at: cut,
+            end: LinkEnd::Closed,
+            closed: NO_CALLS,
+            written: &both,
+        };
+        is_answered(&rt, rt.alloc(), &two, ways, want);
     }
-    Ok(())
 }
 
 /// A link that ends inside its request gets no answer, and makes no call.
 #[test]
-fn a_request_that_is_cut_off(rt: HostRuntime) -> Result<(), Fail> {
-    let alloc = rt.alloc();
-    let whole = request(alloc, ECHO)?;
+fn a_request_that_is_cut_off(rt: HostRuntime) {
+    let whole = request(&rt, rt.alloc(), ECHO);
     for cut in 0..whole.len() {
-        let got = answer_of(&rt, alloc, &whole[..cut], PLAINLY)?;
-        let want = if cut == 0 {
-            LinkEnd::Closed
-        } else {
-            LinkEnd::Truncated
+        let want = Want {
+            at: cut,
+            end: if cut == 0 {
+                LinkEnd::Closed
+            } else {
+                LinkEnd::Truncated
+            },
+            closed: NO_CALLS,
+            written: b"",
         };
-        let is_quiet = got.written.is_empty() && got.closed == NO_CALLS;
-        holds_at(&rt, cut, got.end == want && is_quiet);
+        is_answered(&rt, rt.alloc(), &whole[..cut], PLAINLY, want);
     }
-    Ok(())
 }
 
-/// What comes of the call where these reads and writes fail, by pieces of 16 bytes.
-fn faulty<R: Wait + Abort>(
+/// Whether the call ends well where these reads and writes fail, by pieces of 16 bytes. Else it ends by this fault, and what
+/// was written is a front of the answer.
+fn ends_well<'a, R: Wait + Abort>(
     rt: &R,
     alloc: Global,
-    failing_reads: &[u64],
-    failing_writes: &[u64],
-) -> Result<(LinkEnd, bool), Fail> {
+    failing_reads: &'a [u64],
+    failing_writes: &'a [u64],
+    fault: LinkEnd,
+) -> bool {
     let ways = Ways {
         pieces: (16, 0),
         failing_reads,
         most: 16,
         failing_writes,
-        moments: &[],
+        ..PLAINLY
     };
-    let got = answer_of(rt, alloc, &request(alloc, ECHO)?, ways)?;
-    let wanted = response(alloc, ECHOED)?;
-    let is_front = wanted.starts_with(got.written.as_slice());
-    Ok((got.end, is_front))
+    let mut written = Vec::new(alloc);
+    let came = answer_of(rt, alloc, &request(rt, alloc, ECHO), ways, &mut written);
+    let wanted = response(rt, alloc, ECHOED);
+    holds(rt, wanted.starts_with(&written), "a front of the answer");
+    holds(rt, came.calls == came.closed.calls, "how many calls");
+    let is_well = came.end == LinkEnd::Closed;
+    holds(rt, is_well || came.end == fault, "the end");
+    is_well
 }
 
-/// Each read and each write fails once: what was written is a front of the answer.
+/// Each read and each write fails once.
 #[test]
-fn a_link_that_fails(rt: HostRuntime) -> Result<(), Fail> {
-    let alloc = rt.alloc();
-    let mut ended = 0usize;
+fn a_link_that_fails(rt: HostRuntime) {
+    let mut read = 0usize;
+    let mut written = 0usize;
     for failing in 0..40u64 {
-        match faulty(&rt, alloc, &[failing], &[])? {
-            (LinkEnd::ReadFault, true) => {}
-            (LinkEnd::Closed, true) => ended = ended.saturating_add(1),
-            _ => panic!(rt; "read {failing}"),
+        if ends_well(&rt, rt.alloc(), &[failing], &[], LinkEnd::ReadFault) {
+            read = read.saturating_add(1);
+        }
+        if ends_well(&rt, rt.alloc(), &[], &[failing], LinkEnd::WriteFault) {
+            written = written.saturating_add(1);
         }
     }
     // The request comes in 8 reads, and one more finds the end.
-    holds(&rt, ended == 31, "failed reads");
-    ended = 0;
-    for failing in 0..40u64 {
-        match faulty(&rt, alloc, &[], &[failing])? {
-            (LinkEnd::WriteFault, true) => {}
-            (LinkEnd::Closed, true) => ended = ended.saturating_add(1),
-            _ => panic!(rt; "write {failing}"),
-        }
-    }
-    holds(&rt, 0 < ended && ended < 40, "failed writes");
-    Ok(())
+    holds(&rt, read == 31, "failed reads");
+    holds(&rt, 0 < written && written < 40, "failed writes");
 }
 
 /// A peer that sends a request and waits for its answer: a read before that fails.
@@ -194,10 +186,9 @@ impl Link for Patient<'_> {
 
 /// Each request is answered before the next read.
 #[test]
-fn answers_before_it_reads_on(rt: HostRuntime) -> Result<(), Fail> {
-    let alloc = rt.alloc();
-    let one = request(alloc, ECHO)?;
-    let answer = response(alloc, ECHOED)?;
+fn answers_before_it_reads_on(rt: HostRuntime) {
+    let one = request(&rt, rt.alloc(), ECHO);
+    let answer = response(&rt, rt.alloc(), ECHOED);
     let mut link = Patient {
         request: &one,
         sent: 0,
@@ -206,10 +197,10 @@ fn answers_before_it_reads_on(rt: HostRuntime) -> Result<(), Fail> {
         taken: 0,
         failed: 0,
     };
-    let (end, _closed) = served(&rt, alloc, &mut link, &[])?;
-    holds(&rt, end == LinkEnd::Closed, "the end");
+    let came = served(&rt, rt.alloc(), &mut link, PLAINLY);
+    holds(&rt, came.end == LinkEnd::Closed, "the end");
+    holds(&rt, came.calls == came.closed.calls, "how many calls");
     holds(&rt, link.failed == 0, "no read before an answer");
     let all = answer.len().saturating_mul(2);
     holds(&rt, link.taken == all, "two answers");
-    Ok(())
 }

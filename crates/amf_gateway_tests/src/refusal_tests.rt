@@ -1,12 +1,11 @@
-use crate::answered::{PLAINLY, answer_of};
-use crate::checks::{holds, holds_of};
-use crate::requests::{joined, request};
+use crate::answered::{NO_CALLS, PLAINLY, Want, is_answered};
+use crate::checks::{bytes_in, field, number};
+use crate::requests::{put, request};
 use amf_gateway::LinkEnd;
 use amf_rows::{Row, Table};
-use std::alloc::{AllocError, Global};
+use std::alloc::Global;
 use std::process::Abort;
 use std::sync::Wait;
-use std::test::Fail;
 
 /// The lines of a head, each of which ends in `;`, its status, and the lines of the answer but the last two, behind which the link ends.
 static HEADS: Table = Table {
@@ -26,66 +25,59 @@ GET /amf HTTP/1.1;Host: h;Content-Type: application/x-amf;Content-Length: 0; | 4
 };
 
 /// Lines each of which ends in `;`, then these bytes.
-fn lines(alloc: Global, text: &str, rest: &[u8]) -> Result<Vec<u8>, AllocError> {
+fn lines(rt: &impl Abort, alloc: Global, text: &str, rest: &[u8]) -> Vec<u8> {
     let mut bytes = Vec::new(alloc);
     for byte in text.bytes() {
         if byte == b';' {
-            bytes.extend_from_slice(b"\r\n")?;
+            put(rt, &mut bytes, &[b"\r\n"]);
         } else {
-            bytes.push(byte)?;
+            bytes.push(byte).expect(rt, "memory");
         }
     }
-    bytes.extend_from_slice(rest)?;
-    Ok(bytes)
+    put(rt, &mut bytes, &[rest]);
+    bytes
 }
 
-/// An answer that begins with these lines, and behind which the link ends.
-fn refusal(alloc: Global, text: &str) -> Result<Vec<u8>, AllocError> {
-    lines(
-        alloc,
-        text,
-        b"Content-Length: 0\r\nConnection: close\r\n\r\n",
-    )
+/// Bytes are answered with these lines and this status, and behind the answer the link ends. No call is made.
+fn is_refused<R: Wait + Abort>(
+    rt: &R,
+    alloc: Global,
+    bytes: &[u8],
+    at: usize,
+    status: u16,
+    text: &str,
+) {
+    let rest = b"Content-Length: 0\r\nConnection: close\r\n\r\n";
+    let wanted = lines(rt, alloc, text, rest);
+    let want = Want {
+        at,
+        end: LinkEnd::Refused(status),
+        closed: NO_CALLS,
+        written: &wanted,
+    };
+    is_answered(rt, alloc, bytes, PLAINLY, want);
 }
 
-fn ask_head<R: Wait + Abort>(rt: &R, alloc: Global, row: Row<'_>) -> Result<(), Fail> {
-    let asked = lines(alloc, row.field(0)?, b"\r\n")?;
-    let got = answer_of(rt, alloc, &asked, PLAINLY)?;
-    let status = u16::try_from(row.number(1)?)?;
-    let wanted = refusal(alloc, row.field(2)?)?;
-    holds_of(rt, row, got.end == LinkEnd::Refused(status), "the end");
-    holds_of(
-        rt,
-        row,
-        got.written.as_slice() == wanted.as_slice(),
-        "the answer",
-    );
-    Ok(())
+fn ask_head<R: Wait + Abort>(rt: &R, alloc: Global, row: Row<'_>) {
+    let asked = lines(rt, alloc, field(rt, row, 0), b"\r\n");
+    let status = u16::try_from(number(rt, row, 1)).expect(rt, "a status");
+    let at = row.line() as usize;
+    is_refused(rt, alloc, &asked, at, status, field(rt, row, 2));
 }
 
 #[test]
-fn heads_that_are_refused(rt: HostRuntime) -> Result<(), Fail> {
-    for row in HEADS.rows(rt.alloc())? {
-        ask_head(&rt, rt.alloc(), row)?;
+fn heads_that_are_refused(rt: HostRuntime) {
+    for row in HEADS.rows(rt.alloc()).expect(&rt, "rows").iter() {
+        ask_head(&rt, rt.alloc(), *row);
     }
-    Ok(())
 }
 
 /// 8,192 bytes without the end of a head.
 #[test]
-fn a_head_without_an_end(rt: HostRuntime) -> Result<(), Fail> {
-    let alloc = rt.alloc();
-    let mut endless = Vec::new(alloc);
-    endless.resize(8192, b'A')?;
-    let got = answer_of(&rt, alloc, &endless, PLAINLY)?;
-    holds(&rt, got.end == LinkEnd::Refused(431), "the end");
-    let wanted = refusal(alloc, "HTTP/1.1 431 Request Header Fields Too Large;")?;
-    holds(
-        &rt,
-        got.written.as_slice() == wanted.as_slice(),
-        "the answer",
-    );
-    Ok(())
+fn a_head_without_an_end(rt: HostRuntime) {
+    let endless = vec![in rt.alloc(); b'A'; 8192].expect(&rt, "memory");
+    let text = "HTTP/1.1 431 Request Header Fields Too Large;";
+    is_refused(&rt, rt.alloc(), &endless, 0, 431, text);
 }
 
 /// Bodies that are no packet.
@@ -99,38 +91,27 @@ static BODIES: Table = Table {
 ",
 };
 
-/// A body is refused, and no call is made.
-fn is_refused<R: Wait + Abort>(rt: &R, alloc: Global, packet: &[u8]) -> Result<bool, Fail> {
-    let got = answer_of(rt, alloc, &request(alloc, packet)?, PLAINLY)?;
-    let wanted = refusal(alloc, "HTTP/1.1 400 Bad Request;")?;
-    let is_answered = got.written.as_slice() == wanted.as_slice();
-    Ok(got.end == LinkEnd::Refused(400) && got.closed.calls == 0 && is_answered)
+/// A packet is refused.
+fn is_no_packet<R: Wait + Abort>(rt: &R, alloc: Global, packet: &[u8], at: usize) {
+    let asked = request(rt, alloc, packet);
+    is_refused(rt, alloc, &asked, at, 400, "HTTP/1.1 400 Bad Request;");
 }
 
 #[test]
-fn bodies_that_are_refused(rt: HostRuntime) -> Result<(), Fail> {
-    let alloc = rt.alloc();
-    for row in BODIES.rows(alloc)? {
-        let refused = is_refused(&rt, alloc, &row.bytes(alloc, 0)?)?;
-        holds_of(&rt, row, refused, "refused");
+fn bodies_that_are_refused(rt: HostRuntime) {
+    for row in BODIES.rows(rt.alloc()).expect(&rt, "rows").iter() {
+        let packet = bytes_in(&rt, rt.alloc(), *row, 0);
+        is_no_packet(&rt, rt.alloc(), &packet, row.line() as usize);
     }
-    Ok(())
 }
 
 /// A call whose answer would have too long a name.
 #[test]
-fn too_long_a_response_is_refused(rt: HostRuntime) -> Result<(), Fail> {
-    let alloc = rt.alloc();
-    let mut long = Vec::new(alloc);
-    long.resize(65_527, b'/')?;
-    let packet = joined(
-        alloc,
-        &[
-            b"\0\0\0\0\0\x01\0\x09echo.echo\xFF\xF7",
-            &long,
-            b"\0\0\0\x0A\x0A\0\0\0\x01\x02\0\x02hi",
-        ],
-    )?;
-    holds(&rt, is_refused(&rt, alloc, &packet)?, "refused");
-    Ok(())
+fn too_long_a_response_is_refused(rt: HostRuntime) {
+    let long = vec![in rt.alloc(); b'/'; 65_527].expect(&rt, "memory");
+    let mut packet = Vec::new(rt.alloc());
+    let front = b"\0\0\0\0\0\x01\0\x09echo.echo\xFF\xF7";
+    let rest = b"\0\0\0\x0A\x0A\0\0\0\x01\x02\0\x02hi";
+    put(&rt, &mut packet, &[front, &long, rest]);
+    is_no_packet(&rt, rt.alloc(), &packet, 0);
 }

@@ -1,8 +1,9 @@
 use crate::cases::{Case, case_of, holds_of};
 use crate::dials::{GOOD, Links, dial_of, taken};
+use crate::packets::{answer_with, asked_with};
 use crate::runs::{BY_BYTES, WHOLE, Ways, gives, run_in_pieces};
 use amf_rows::{Row, Table};
-use std::alloc::{AllocError, Global};
+use std::alloc::Global;
 use std::process::Abort;
 use std::random::RandomSource;
 use std::sync::Wait;
@@ -36,16 +37,16 @@ static ANSWERS: Table = Table {
 "#,
 };
 
-/// How each is written: the size of its packet, in digits, its target and its arguments.
+/// How each is written: the size of its packet, in digits, its target and its body.
 static WRITTEN: Table = Table {
     rows: 5,
     fields: 3,
     text: "
-'31' | 0007'sum.sum' | 09 05 01 04 02 04 03
-'33' | 0009'nobody.op' | 09 05 01 04 02 04 03
-'24' | 0000 | 09 05 01 04 05 06 01
-'21' | 0001'a' | 09 01 01
-'21' | 0001'a' | 09 01 01
+'31' | 0007'sum.sum' | 11 09 05 01 04 02 04 03
+'33' | 0009'nobody.op' | 11 09 05 01 04 02 04 03
+'24' | 0000 | 11 09 05 01 04 05 06 01
+'21' | 0001'a' | 11 09 01 01
+'21' | 0001'a' | 11 09 01 01
 ",
 };
 
@@ -85,46 +86,20 @@ call --port 1 --target sum.sum | 09 01 01 01 | 1 | | 'amf: refused Trailing at 3
 ",
 };
 
-/// The pieces one behind the other.
-fn joined(alloc: Global, pieces: &[&[u8]]) -> Result<Vec<u8>, AllocError> {
-    let mut bytes = Vec::new(alloc);
-    for piece in pieces {
-        bytes.extend_from_slice(piece)?;
-    }
-    Ok(bytes)
-}
-
 /// The answer of a row of `ANSWERS`.
 fn answer_of(alloc: Global, row: Row<'_>) -> Result<Vec<u8>, Fail> {
     let size = row.bytes(alloc, 0)?;
     let target = row.bytes(alloc, 1)?;
     let value = row.bytes(alloc, 2)?;
-    let pieces: [&[u8]; 6] = [
-        b"HTTP/1.1 200 OK\r\nContent-Type: application/x-amf\r\nContent-Length: ",
-        &size,
-        b"\r\n\r\n\0\x03\0\0\0\x01",
-        &target,
-        b"\0\x04null\xFF\xFF\xFF\xFF",
-        &value,
-    ];
-    Ok(joined(alloc, &pieces)?)
+    Ok(answer_with(alloc, &size, &target, &value)?)
 }
 
 /// What a row of `WRITTEN` says, on port 1.
 fn asked_of(alloc: Global, row: Row<'_>) -> Result<Vec<u8>, Fail> {
     let size = row.bytes(alloc, 0)?;
     let target = row.bytes(alloc, 1)?;
-    let args = row.bytes(alloc, 2)?;
-    let pieces: [&[u8]; 7] = [
-        b"POST /amf HTTP/1.1\r\nHost: 127.0.0.1:1\r\nContent-Type: application/x-amf\r\n",
-        b"Content-Length: ",
-        &size,
-        b"\r\n\r\n\0\x03\0\0\0\x01",
-        &target,
-        b"\0\x02/1\xFF\xFF\xFF\xFF\x11",
-        &args,
-    ];
-    Ok(joined(alloc, &pieces)?)
+    let body = row.bytes(alloc, 2)?;
+    Ok(asked_with(alloc, &size, &target, &body)?)
 }
 
 /// What goes over a link: what is written, and what comes back.

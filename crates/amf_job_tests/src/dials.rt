@@ -44,6 +44,20 @@ pub(crate) fn dial_of(
     MemoryDial::new(alloc, coming, links.dials)
 }
 
+/// A dial of three links, which give these bytes.
+pub(crate) fn dial_of_three(
+    alloc: Global,
+    answers: [&[u8]; 3],
+    links: Links<'_>,
+) -> Result<MemoryDial<MemoryLink>, Memory> {
+    let [first, second, third] = answers;
+    let mut coming = Vec::new(alloc);
+    coming.push(link_of(alloc, first, links)?)?;
+    coming.push(link_of(alloc, second, links)?)?;
+    coming.push(link_of(alloc, third, links)?)?;
+    MemoryDial::new(alloc, coming, links.dials)
+}
+
 /// A dial to which no link is to come.
 pub(crate) fn dial_of_none(alloc: Global) -> Result<MemoryDial<MemoryLink>, Memory> {
     MemoryDial::new(alloc, Vec::new(alloc), &[])

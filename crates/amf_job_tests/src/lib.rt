@@ -1,4 +1,4 @@
-//! Tests of the program's jobs on media and of its calls, over streams and dials in memory, and nothing else.
+//! Tests of the program's jobs on media, of its calls and of its listener, over streams and dials in memory, and nothing else.
 #![tactic(auto)]
 
 #[cfg(test)]
@@ -11,6 +11,10 @@ mod dials;
 mod example_tests;
 #[cfg(test)]
 mod flv_tests;
+#[cfg(test)]
+mod listen_tests;
+#[cfg(test)]
+mod packets;
 #[cfg(test)]
 mod rtmp_tests;
 #[cfg(test)]

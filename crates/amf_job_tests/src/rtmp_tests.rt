@@ -11,7 +11,7 @@ use std::thread::Threads;
 /// Words; chunks behind a handshake (a front, so many times AA, and the rest); the status; how many bytes of a
 /// handshake are written, and what stands behind them (a front, and so many times AA); and the line.
 static STREAMS: Table = Table {
-    rows: 11,
+    rows: 17,
     fields: 9,
     text: r#"
 rtmp --do show | 03 000000 000004 14 01000000 02 0001 'x' | 0 | | 0 | 0 | 'message id 3 type 20 stream 1 time 0 length 4' 0A 'root "x"' 0A | 0 |
@@ -29,6 +29,13 @@ rtmp --do rechunk --size 128 | 03 000000 000001 09 01000000 AB C4 | 0 | | 1 | 30
 rtmp --do show | 03 000000 000000 09 01000000 43 | 0 | | 1 | 0 | 'message id 3 type 9 stream 1 time 0 length 0' 0A | 0 | 'amf: refused Truncated at 3086' 0A
 # What a client of a media server sends first: `examples/connect.rtmp` behind its handshake.
 rtmp --do show | 02 000000 000004 01 00000000 00001000 03 000000 000035 14 00000000 02 0007 'connect' 00 3FF0000000000000 03 0003 'app' 02 0004 'live' 0008 'flashVer' 02 0005 'amf/1' 0000 09 | 0 | | 0 | 0 | 'message id 2 type 1 stream 0 time 0 length 4' 0A 'message id 3 type 20 stream 0 time 0 length 53' 0A 'root "connect"' 0A 'root d3ff0000000000000' 0A 'root #0' 0A '#0 object "" sealed {} dynamic {"app"="live", "flashVer"="amf/1"}' 0A | 0 |
+# And what `examples/connect.txt` makes of it.
+rtmp --do rechunk --size 16 | 02000000000004010000000000001000030000000000351400000000020007 'connect' 003FF0000000000000030003 'app' 020004 'live' 0008 'flashVer' 020005 'amf/1' 000009 | 0 | | 0 | 3073 | 02000000000004010000000000000010030000000000351400000000020007 'connect' 003FF0000000C3000000030003 'app' 020004 'live' C30008 'flashVer' 020005 'amf' C32F31000009 | 0 |
+rtmp --do show | 02000000000004010000000000000010030000000000351400000000020007 'connect' 003FF0000000C3000000030003 'app' 020004 'live' C30008 'flashVer' 020005 'amf' C32F31000009 | 0 | | 0 | 0 | 'message id 2 type 1 stream 0 time 0 length 4' 0A 'message id 3 type 20 stream 0 time 0 length 53' 0A 'root "connect"' 0A 'root d3ff0000000000000' 0A 'root #0' 0A '#0 object "" sealed {} dynamic {"app"="live", "flashVer"="amf/1"}' 0A | 0 |
+rtmp --do rechunk --size 4096 | 02000000000004010000000000000010030000000000351400000000020007 'connect' 003FF0000000C3000000030003 'app' 020004 'live' C30008 'flashVer' 020005 'amf' C32F31000009 | 0 | | 0 | 3073 | 02000000000004010000000000001000030000000000351400000000020007 'connect' 003FF0000000000000030003 'app' 020004 'live' 0008 'flashVer' 020005 'amf/1' 000009 | 0 |
+rtmp --do show | 02000000000004010000000000001000030000000000351400000000020007 'connec' | 0 | | 1 | 0 | 'message id 2 type 1 stream 0 time 0 length 4' 0A | 0 | 'amf: refused Truncated at 3101' 0A
+rtmp --do show | 02000000000004010000000000000010030000000000351400000000020007 'connect' 003FF0000000C30000 | 0 | | 1 | 0 | 'message id 2 type 1 stream 0 time 0 length 4' 0A | 0 | 'amf: refused Truncated at 3118' 0A
+rtmp --do show | 02000000000004010000000000000010030000000000351400000000020007 'connect' 003FF0000000 | 0 | | 0 | 0 | 'message id 2 type 1 stream 0 time 0 length 4' 0A 'open id 3 got 16 of 53' 0A | 0 |
 "#,
 };
 

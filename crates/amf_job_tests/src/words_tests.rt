@@ -1,5 +1,6 @@
 use crate::cases::{Case, holds_at, holds_of, words_of};
-use crate::runs::{WHOLE, gives_alone};
+use crate::dials::dial_of_none;
+use crate::runs::{WHOLE, gives, gives_alone};
 use amf_rows::{Row, Table};
 use amf_wire::Name;
 use std::alloc::Global;
@@ -10,7 +11,7 @@ use std::thread::Threads;
 
 /// Words that have no reading.
 static NO_READING: Table = Table {
-    rows: 37,
+    rows: 52,
     fields: 1,
     text: "
 flv
@@ -50,6 +51,21 @@ call --port 1 --target -sum
 call --port 1 --target sum.sum sum.sum
 call --port 1 --target sum.sum --target sum.sum
 call --port 1 --target sum.sum --polls 1
+listen
+listen --port 1
+listen --port 1 --destination chat
+listen --port 1 --polls 1
+listen --destination chat --polls 1
+listen --port 65536 --destination chat --polls 1
+listen --port 1 --destination --polls 1
+listen --port 1 --destination -chat --polls 1
+listen --port 1 --destination chat --polls 0
+listen --port 1 --destination chat --polls 1000001
+listen --port 1 --destination chat --polls 00000000001
+listen --port 1 --destination chat --polls -1
+listen --port 1 --destination chat --polls 1 --polls 1
+listen --port 1 --destination chat --polls 1 --target chat
+listen --port 1 --destination chat --polls 1 chat
 ",
 };
 
@@ -86,9 +102,13 @@ fn no_reading(rt: HostRuntime) -> Result<(), Fail> {
     Ok(())
 }
 
-/// The words of a call whose target has this many bytes, and ends with this one.
-fn call_of(alloc: Global, length: usize, last: u8) -> Result<Vec<Name>, Fail> {
-    let mut words = words_of(alloc, "call --port=65535 --target")?;
+const CALL: &str = "call --port=65535 --target";
+
+const LISTEN: &str = "listen --port=65535 --polls=1 --destination";
+
+/// These words, and behind them one that has a byte more than this, and ends with this one.
+fn long_of(alloc: Global, text: &str, length: usize, last: u8) -> Result<Vec<Name>, Fail> {
+    let mut words = words_of(alloc, text)?;
     let mut target = Vec::new(alloc);
     target.resize(length, b'a')?;
     target.push(last)?;
@@ -96,21 +116,22 @@ fn call_of(alloc: Global, length: usize, last: u8) -> Result<Vec<Name>, Fail> {
     Ok(words)
 }
 
-/// Whether a call with this target is refused as words.
-fn is_no_target<R: RandomSource + Threads + Wait + Sync>(
+/// Whether words that end so are refused as words.
+fn is_refused<R: RandomSource + Threads + Wait + Sync>(
     rt: &R,
     alloc: Global,
+    text: &str,
     length: usize,
     last: u8,
 ) -> Result<bool, Fail> {
-    let case = usage(alloc, call_of(alloc, length, last)?)?;
+    let case = usage(alloc, long_of(alloc, text, length, last)?)?;
     gives_alone(rt, alloc, &case, WHOLE)
 }
 
 /// Whether a call with a target of the most bytes is read: then its arguments, null, are judged.
 fn is_target<R: RandomSource + Threads + Wait + Sync>(rt: &R, alloc: Global) -> Result<bool, Fail> {
     let case = Case {
-        words: call_of(alloc, 65_534, b'a')?,
+        words: long_of(alloc, CALL, 65_534, b'a')?,
         input: b"\x01".to_vec(alloc)?,
         status: 7,
         output: Vec::new(alloc),
@@ -119,17 +140,34 @@ fn is_target<R: RandomSource + Threads + Wait + Sync>(rt: &R, alloc: Global) -> 
     gives_alone(rt, alloc, &case, WHOLE)
 }
 
-/// A target has at most 65,535 bytes, and is UTF-8.
+/// Whether a listener whose destination has the most bytes is read: then it dials, which fails.
+fn is_destination<R: RandomSource + Threads + Wait + Sync>(
+    rt: &R,
+    alloc: Global,
+) -> Result<bool, Fail> {
+    let case = Case {
+        words: long_of(alloc, LISTEN, 65_534, b'a')?,
+        input: b"\x01".to_vec(alloc)?,
+        status: 10,
+        output: Vec::new(alloc),
+        line: b"amf: link fault\n".to_vec(alloc)?,
+    };
+    let mut dial = dial_of_none(alloc)?;
+    let right = gives(rt, alloc, &case, WHOLE, &mut dial)?;
+    Ok(right && dial.asked() == [65_535u16].as_slice())
+}
+
+/// A target and a destination have at most 65,535 bytes, and are UTF-8.
 #[test]
 fn targets(rt: HostRuntime) -> Result<(), Fail> {
     let alloc = rt.alloc();
     holds_at(&rt, 65_535, is_target(&rt, alloc)?, "no target");
-    holds_at(
-        &rt,
-        65_536,
-        is_no_target(&rt, alloc, 65_535, b'a')?,
-        "a target",
-    );
-    holds_at(&rt, 0, is_no_target(&rt, alloc, 3, 0xFF)?, "a target");
+    holds_at(&rt, 65_535, is_destination(&rt, alloc)?, "no destination");
+    for text in [CALL, LISTEN] {
+        let long = is_refused(&rt, alloc, text, 65_535, b'a')?;
+        holds_at(&rt, 65_536, long, "a target");
+        let ill = is_refused(&rt, alloc, text, 3, 0xFF)?;
+        holds_at(&rt, 0, ill, "a target");
+    }
     Ok(())
 }
