@@ -3,8 +3,8 @@
 
     docs/trust_paths.py [--check]
 
-For each of seven promises it follows the definitions that the promises of a run (`Ends`, `ServesWords` and `CallsWords` in
-crates/amf_cli/specs, which the contract of `run` cites) name, from name to name by the imports of each file, and lists them in an order in
+For each of ten promises it follows the definitions that the promises of a run (`Ends`, `ServesWords`, `CallsWords` and `ListensWords`
+in crates/amf_cli/specs, which the contract of `run` cites) name, from name to name by the imports of each file, and lists them in an order in
 which they can be read. What a file says is its own first line, and what a definition says is the comment above it, or its sentence in
 docs/trust_words.txt. With --check nothing is written, and the status is 1 if the page is not what would be written.
 """
@@ -16,7 +16,7 @@ from pathlib import Path
 ROOT = Path(__file__).resolve().parent.parent
 PAGE = ROOT / "docs/TRUST.md"
 WORDS = ROOT / "docs/trust_words.txt"
-RUN = [ROOT / f"crates/amf_cli/specs/{name}.antt" for name in ("Ends", "ServesWords", "CallsWords")]
+RUN = [ROOT / f"crates/amf_cli/specs/{name}.antt" for name in ("Ends", "ServesWords", "CallsWords", "ListensWords")]
 
 FRONT = """# What a reader has to trust
 
@@ -24,11 +24,13 @@ A proof says that the code meets its contract. What the contract means is said i
 every proof above it worthless. So these files, with the contracts on the functions in `crates/NAME/src`, are what has to be read to know
 what is promised. The toolchain, and what else is trusted, are named in [PROMISES.md](PROMISES.md#what-it-stands-on).
 
-Nobody has to read all of them. Each of the seven paths below lists what one promise rests on, in an order in which it can be read: each
-file, those of its definitions that the promise needs, with a sentence for each, and how many lines these have. Much of a later path is known
-from an earlier one; such definitions are named again, and their sentences stand in the path where they come first. A path ends with the
-definitions that the program's contract itself names. That contract is `Ends`, for `serve` with `ServesWords` and for `call` with
-`CallsWords`, in `crates/amf_cli/specs`; `run`, `start` and `start_with_services` cite it, the last for the services in `shipped` of
+Nobody has to read all of them. Each of the ten paths below lists what one promise rests on, in an order in which it can be read: each file,
+those of its definitions that the promise needs, with a sentence for each, and how many lines these have. Much of a later path is known from
+an earlier one; such definitions are named again, and their sentences stand in the path where they come first. The first path has some 1,600
+lines, and each later one at most 1,200 that no path above it has: about an hour each. `serve` has two, the first for what one connection is
+answered, and `listen` has two, the second for the law of both ends. Any other path ends with the definitions that the program's contract
+itself names. That contract is `Ends`, for `serve` with `ServesWords`, for `call` with `CallsWords` and for `listen` with `ListensWords`, in
+`crates/amf_cli/specs`; `run`, `start` and `start_with_services` cite it, the last for the services in `shipped` of
 `crates/amf_service/specs/Shipped.antt`. After the definitions come the laws and worked facts about them: theorems, and bytes and graphs
 worked out by hand. They are proved *about* the definitions, and are where to look first when one is in doubt. The appendix lists all files.
 
@@ -98,6 +100,7 @@ TITLES = {
     "amf_once": "Polls that survive losses",
     "amf_client": "Calling the gateway",
     "amf_calling": "One call over a dial",
+    "amf_listening": "A session of polls over a dial",
     "amf_plan": "What a link is answered",
     "amf_plan_laws": "The laws of what a link is answered",
     "amf_round_laws": "What comes back of a call",
@@ -123,10 +126,12 @@ OF_FLV = ["amf_media.FlvRuns.", "amf_commands.Commands.ReadsFlv"]
 OF_RTMP = ["amf_media.RtmpRuns.", "amf_commands.Commands.ReadsRtmp"]
 OF_MEDIA = [*OF_FLV, *OF_RTMP, "amf_cli.MediaEnds.", "amf_commands.Commands.IsMedia"]
 OF_CALL = ["amf_cli.CallEnds.", "amf_commands.Commands.ReadsCall", "amf_commands.Commands.IsCalling"]
+OF_LISTEN = ["amf_cli.ListenEnds.", "amf_commands.Commands.ReadsListen", "amf_commands.Commands.IsListening"]
+OF_LINKS = [*OF_CALL, *OF_LISTEN, "amf_commands.Commands.IsDialling"]
 
 # The crates that speak of media, of calls, and of none of the promises.
 MEDIA = ["flv_meta", "amf_media", "rtmp_chunks", "rtmp_pass", "rtmp_listing"]
-CALLS = ["amf_client", "amf_calling", "amf_round_laws", "amf_round"]
+CALLS = ["amf_client", "amf_calling", "amf_listening", "amf_round_laws", "amf_round"]
 OTHERS = ["amf_vectors", "amf_once"]
 FILES = ["amf_packet", "amf_sol", "amf_listings"]
 
@@ -135,21 +140,32 @@ FILES = ["amf_packet", "amf_sol", "amf_listings"]
 PATHS = [
     ("To trust `canon` on values", "That the output of `amf canon` is the one canonical encoding of the value in the input, from and to AMF 3 "
      "and AMF 0, that a refusal names the first invalid field, and that status 7 names the first node without an encoding.",
-     [*OF_SERVE, *OF_MEDIA, *OF_CALL], [*FILES, "amf_show", *OTHERS, *MEDIA, *CALLS], ["Ends"]),
+     [*OF_SERVE, *OF_MEDIA, *OF_LINKS], [*FILES, "amf_show", *OTHERS, *MEDIA, *CALLS], ["Ends"]),
     ("To trust `same`", "That `amf same` says `same` exactly where two values of AMF 3 are the same graph.",
-     [*OF_SERVE, *OF_MEDIA, *OF_CALL], [*FILES, "amf_show", *OTHERS, *MEDIA, *CALLS, "amf0_spelling",
+     [*OF_SERVE, *OF_MEDIA, *OF_LINKS], [*FILES, "amf_show", *OTHERS, *MEDIA, *CALLS, "amf0_spelling",
                 "amf3_spelling.Lacks3", "amf_graph.Lacks", "amf_graph.Order"], ["Ends"]),
     ("To trust a `.sol`", "That `amf show`, `check` and `canon` with `--from sol` say what stands in a shared object file, or where it is damaged.",
-     [*OF_SERVE, *OF_MEDIA, *OF_CALL], ["amf_packet", *OTHERS, *MEDIA, *CALLS, "amf_listings.SamePacket", "amf_listings.PacketListing",
+     [*OF_SERVE, *OF_MEDIA, *OF_LINKS], ["amf_packet", *OTHERS, *MEDIA, *CALLS, "amf_listings.SamePacket", "amf_listings.PacketListing",
                 "amf_listings.PacketNodes", "amf_listings.PacketLaws"], ["Ends"]),
+    ("To trust an answer of `serve`", "That what a connection is sent is the definition's answer to the bytes that came: what a request means, which calls of "
+     "services and of the broker it makes, and which bytes tell what they gave.",
+     [], ["amf_sol", "amf_show", "amf_listings", *OTHERS, *MEDIA, *CALLS], [], "amf_plan.Respond"),
     ("To trust `serve`", "That each connection is answered as the definition says, and that all connections have one legal history of the broker.",
-     [*OF_DATA, *OF_MEDIA, *OF_CALL], ["amf_sol", "amf_show", "amf_listings", *OTHERS, *MEDIA, *CALLS], ["ServesWords", "Outside"]),
+     [*OF_DATA, *OF_MEDIA, *OF_LINKS], ["amf_sol", "amf_show", "amf_listings", *OTHERS, *MEDIA, *CALLS], ["ServesWords", "Outside"]),
     ("To trust `flv`", "That `amf flv` lists the metadata of an FLV file, or writes the file without them or with others, and all else as it was.",
-     [*OF_SERVE, *OF_DATA, *OF_RTMP, *OF_CALL], [*FILES, *OTHERS, *CALLS, "rtmp_chunks", "rtmp_pass", "rtmp_listing"], ["Ends", "MediaEnds"]),
+     [*OF_SERVE, *OF_DATA, *OF_RTMP, *OF_LINKS], [*FILES, *OTHERS, *CALLS, "rtmp_chunks", "rtmp_pass", "rtmp_listing"], ["Ends", "MediaEnds"]),
     ("To trust `rtmp`", "That `amf rtmp` lists the messages of a chunk stream, or writes the same messages in chunks of another size.",
-     [*OF_SERVE, *OF_DATA, *OF_FLV, *OF_CALL], [*FILES, *OTHERS, *CALLS, "flv_meta"], ["Ends", "MediaEnds"]),
+     [*OF_SERVE, *OF_DATA, *OF_FLV, *OF_LINKS], [*FILES, *OTHERS, *CALLS, "flv_meta"], ["Ends", "MediaEnds"]),
     ("To trust `call`", "That `amf call` makes one call with the arguments that it was given, and writes what the bytes that come back mean.",
-     [*OF_SERVE, *OF_DATA, *OF_MEDIA], ["amf_sol", "amf_listings", *OTHERS, *MEDIA, "amf_round_laws", "amf_round"], ["CallsWords"]),
+     [*OF_SERVE, *OF_DATA, *OF_MEDIA, *OF_LISTEN], ["amf_sol", "amf_listings", *OTHERS, *MEDIA, "amf_listening", "amf_round_laws", "amf_round"],
+     ["CallsWords"]),
+    ("To trust `listen`", "That `amf listen` sends the requests of one session, again where a connection was lost, and writes the bodies of each "
+     "batch once and in order. That these are the messages that were published is the path below.",
+     [*OF_SERVE, *OF_DATA, *OF_MEDIA, *OF_CALL],
+     ["amf_sol", "amf_listings", "amf_vectors", *MEDIA, "amf_calling", "amf_round_laws", "amf_round"], ["ListensWords"]),
+    ("To trust that `listen` loses nothing", "That what a listener has written is what was published while it was subscribed, each message once and in order: the law "
+     "`what_was_published_is_written` of `amf_listening`, over the listener's session and the broker.",
+     [], ["amf_sol", "amf_listings", "amf_vectors", *MEDIA, "amf_calling", "amf_round_laws", "amf_round"], [], "amf_listening.Delivered"),
 ]
 
 # Definitions stand at the margin, or two spaces in where a file has parameters for all of them.
@@ -358,9 +374,11 @@ def link(specs):
     return f"[`{specs.crate}/{specs.name}`](../crates/{specs.crate}/specs/{specs.name}.antt)"
 
 
-def path_of(files, known, title, promise, left_out, stops, whole):
-    """The section on one promise. What is known from the sections above is counted apart, and what is new becomes known."""
-    needed, types, others, stopped = closure(files, cited(files, left_out), stops)
+def path_of(files, known, title, promise, left_out, stops, whole, part=None):
+    """The section on one promise. What is known from the sections above is counted apart, and what is new becomes known. A section on a part
+    begins at the definitions of one file, and else at what the promises of a run name."""
+    roots = [(part, name) for name in files[part].blocks] if part else cited(files, left_out)
+    needed, types, others, stopped = closure(files, roots, stops)
     for record in whole:
         needed[f"amf_cli.{record}"] = set(files[f"amf_cli.{record}"].blocks)
     order = in_order(files, needed)
