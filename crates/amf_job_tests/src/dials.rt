@@ -1,10 +1,10 @@
-ghost use Rattle.std.specs.Prelude.{All, IfOk};
+ghost use Rattle.std.specs.Prelude.{All};
 ghost use Rattle.amf_io.specs.Dial.{IsFresh};
 ghost use Rattle.amf_io.specs.InMemory.{failures, sink_failures};
 
 use amf_io::{Joined, MemoryDial, MemoryLink, MemorySink, MemorySource};
-use amf_wire::Memory;
 use std::alloc::Global;
+use std::process::Abort;
 
 /// How a dial and its link do: the dials that fail, at most how many bytes come and go at a time, and the reads and the writes of
 /// the link that fail.
@@ -24,43 +24,49 @@ pub(crate) const GOOD: Links<'static> = Links {
 };
 
 /// A link that gives these bytes.
-fn link_of(alloc: Global, bytes: &[u8], links: Links<'_>) -> Result<MemoryLink, Memory>
-    ensures { IfOk result (λ l. IsFresh (failures l.source) (sink_failures l.sink)) }
+fn link_of(rt: &impl Abort, alloc: Global, bytes: &[u8], links: Links<'_>) -> MemoryLink
+    ensures { IsFresh (failures result.source) (sink_failures result.sink) }
 {
-    Ok(Joined {
-        source: MemorySource::new(alloc, bytes, links.most, 0, links.reads)?,
-        sink: MemorySink::new(alloc, links.most, links.writes)?,
-    })
+    let source = MemorySource::new(alloc, bytes, links.most, 0, links.reads);
+    let source = source.expect(rt, "a source");
+    let sink = MemorySink::new(alloc, links.most, links.writes).expect(rt, "a sink");
+    Joined { source, sink }
 }
 
 /// A dial of one link, which gives these bytes.
 pub(crate) fn dial_of(
+    rt: &impl Abort,
     alloc: Global,
     bytes: &[u8],
     links: Links<'_>,
-) -> Result<MemoryDial<MemoryLink>, Memory> {
+) -> MemoryDial<MemoryLink> {
     let mut coming = Vec::new(alloc);
-    coming.push(link_of(alloc, bytes, links)?)?;
-    MemoryDial::new(alloc, coming, links.dials)
+    let link = link_of(rt, alloc, bytes, links);
+    coming.push(link).expect(rt, "memory");
+    MemoryDial::new(alloc, coming, links.dials).expect(rt, "a dial")
 }
 
 /// A dial of three links, which give these bytes.
 pub(crate) fn dial_of_three(
+    rt: &impl Abort,
     alloc: Global,
     answers: [&[u8]; 3],
     links: Links<'_>,
-) -> Result<MemoryDial<MemoryLink>, Memory> {
+) -> MemoryDial<MemoryLink> {
     let [first, second, third] = answers;
     let mut coming = Vec::new(alloc);
-    coming.push(link_of(alloc, first, links)?)?;
-    coming.push(link_of(alloc, second, links)?)?;
-    coming.push(link_of(alloc, third, links)?)?;
-    MemoryDial::new(alloc, coming, links.dials)
+    let link = link_of(rt, alloc, first, links);
+    coming.push(link).expect(rt, "memory");
+    let link = link_of(rt, alloc, second, links);
+    coming.push(link).expect(rt, "memory");
+    let link = link_of(rt, alloc, third, links);
+    coming.push(link).expect(rt, "memory");
+    MemoryDial::new(alloc, coming, links.dials).expect(rt, "a dial")
 }
 
 /// A dial to which no link is to come.
-pub(crate) fn dial_of_none(alloc: Global) -> Result<MemoryDial<MemoryLink>, Memory> {
-    MemoryDial::new(alloc, Vec::new(alloc), &[])
+pub(crate) fn dial_of_none(rt: &impl Abort, alloc: Global) -> MemoryDial<MemoryLink> {
+    MemoryDial::new(alloc, Vec::new(alloc), &[]).expect(rt, "a dial")
 }
 
 /// What the one link took that the dial has again; nothing where it has none, or more.

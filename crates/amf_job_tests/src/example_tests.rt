@@ -1,7 +1,5 @@
-use crate::cases::case_of;
-use crate::runs::run_in_pieces;
+use crate::cases::{How, check_rows};
 use amf_rows::Table;
-use std::test::Fail;
 
 /// What the texts of the folder `examples` print: words, a file or what the text makes of files, the status, the output and the line. The
 /// commands on `connect.rtmp` are rows of the tests of chunk streams; what is sent and served is tested over loopback.
@@ -74,11 +72,6 @@ check | 090301 | 1 |  | 'amf: refused Truncated at 3' 0A
 };
 
 #[test]
-fn examples(rt: HostRuntime) -> Result<(), Fail> {
-    let alloc = rt.alloc();
-    for row in PRINTED.rows(alloc)?.iter() {
-        let case = case_of(alloc, *row)?;
-        run_in_pieces(&rt, alloc, *row, &case, 1)?;
-    }
-    Ok(())
+fn examples(rt: HostRuntime) {
+    check_rows(&rt, rt.alloc(), &PRINTED, How::InPieces(1));
 }

@@ -14,8 +14,6 @@ mod flv_tests;
 #[cfg(test)]
 mod listen_tests;
 #[cfg(test)]
-mod packets;
-#[cfg(test)]
 mod rtmp_tests;
 #[cfg(test)]
 mod runs;

@@ -1,14 +1,12 @@
-use crate::cases::{Case, case_of, holds_of};
+use crate::cases::{Case, How, check_rows, field, put_part};
 use crate::dials::{GOOD, Links, dial_of_three};
-use crate::packets::{answer_with, asked_with, joined};
-use crate::runs::{BY_BYTES, WHOLE, Ways, gives};
+use crate::runs::{BY_BYTES, Told, WHOLE, Ways, check_over};
 use amf_io::{MemoryDial, MemoryLink};
 use amf_rows::{Row, Table};
 use std::alloc::Global;
 use std::process::Abort;
 use std::random::RandomSource;
 use std::sync::Wait;
-use std::test::Fail;
 use std::thread::Threads;
 
 /// Words, no input, the status, the output and the line; the answers that each of three links gives, by their rows in `ANSWERS`, and the
@@ -38,209 +36,169 @@ listen --port 1 --destination chat --polls 1 | | 9 | | 'amf: bad reply 6' 0A | 7
 "#,
 };
 
-/// The requests: how many bytes a packet has, in digits, its target, its class and its values.
+/// The requests: a ping, a subscribe, a poll, a disconnect, and the next poll.
 static REQUESTS: Table = Table {
     rows: 5,
-    fields: 4,
+    fields: 1,
     text: "
-'184' | 0004'null' | command | 01 01 01 0A0B01 09'DSId' 0607'nil' 01 0603'p' 0400 0400 01 0405
-'187' | 0004'null' | command | 01 01 0609'chat' 0A0B01 09'DSId' 0603'7' 01 0603's' 0400 0400 01 0400
-'192' | 0004'null' | command | 01 01 01 0A0B01 0F'AMFPoll' 0603'1' 09'DSId' 0603'7' 01 0616 0400 0400 01 0402
-'182' | 0004'null' | command | 01 01 01 0A0B01 09'DSId' 0603'7' 01 0603'd' 0400 0400 01 040C
-'192' | 0004'null' | command | 01 01 01 0A0B01 0F'AMFPoll' 0603'2' 09'DSId' 0603'7' 01 0616 0400 0400 01 0402
+'POST /amf HTTP/1.1' 0D0A 'Host: 127.0.0.1:1' 0D0A 'Content-Type: application/x-amf' 0D0A 'Content-Length: 184' 0D0A0D0A 0003 0000 0001 0004'null' 0002'/1' FFFFFFFF 0A 00000001 11 0A 8113 4D'flex.messaging.messages.CommandMessage' 09'body' 11'clientId' 17'destination' 0F'headers' 13'messageId' 15'timeToLive' 13'timestamp' 1B'correlationId' 13'operation' 01 01 01 0A0B01 09'DSId' 0607'nil' 01 0603'p' 0400 0400 01 0405
+'POST /amf HTTP/1.1' 0D0A 'Host: 127.0.0.1:1' 0D0A 'Content-Type: application/x-amf' 0D0A 'Content-Length: 187' 0D0A0D0A 0003 0000 0001 0004'null' 0002'/1' FFFFFFFF 0A 00000001 11 0A 8113 4D'flex.messaging.messages.CommandMessage' 09'body' 11'clientId' 17'destination' 0F'headers' 13'messageId' 15'timeToLive' 13'timestamp' 1B'correlationId' 13'operation' 01 01 0609'chat' 0A0B01 09'DSId' 0603'7' 01 0603's' 0400 0400 01 0400
+'POST /amf HTTP/1.1' 0D0A 'Host: 127.0.0.1:1' 0D0A 'Content-Type: application/x-amf' 0D0A 'Content-Length: 192' 0D0A0D0A 0003 0000 0001 0004'null' 0002'/1' FFFFFFFF 0A 00000001 11 0A 8113 4D'flex.messaging.messages.CommandMessage' 09'body' 11'clientId' 17'destination' 0F'headers' 13'messageId' 15'timeToLive' 13'timestamp' 1B'correlationId' 13'operation' 01 01 01 0A0B01 0F'AMFPoll' 0603'1' 09'DSId' 0603'7' 01 0616 0400 0400 01 0402
+'POST /amf HTTP/1.1' 0D0A 'Host: 127.0.0.1:1' 0D0A 'Content-Type: application/x-amf' 0D0A 'Content-Length: 182' 0D0A0D0A 0003 0000 0001 0004'null' 0002'/1' FFFFFFFF 0A 00000001 11 0A 8113 4D'flex.messaging.messages.CommandMessage' 09'body' 11'clientId' 17'destination' 0F'headers' 13'messageId' 15'timeToLive' 13'timestamp' 1B'correlationId' 13'operation' 01 01 01 0A0B01 09'DSId' 0603'7' 01 0603'd' 0400 0400 01 040C
+'POST /amf HTTP/1.1' 0D0A 'Host: 127.0.0.1:1' 0D0A 'Content-Type: application/x-amf' 0D0A 'Content-Length: 192' 0D0A0D0A 0003 0000 0001 0004'null' 0002'/1' FFFFFFFF 0A 00000001 11 0A 8113 4D'flex.messaging.messages.CommandMessage' 09'body' 11'clientId' 17'destination' 0F'headers' 13'messageId' 15'timeToLive' 13'timestamp' 1B'correlationId' 13'operation' 01 01 01 0A0B01 0F'AMFPoll' 0603'2' 09'DSId' 0603'7' 01 0616 0400 0400 01 0402
 ",
 };
 
-/// The answers, in the same form; the values of a batch begin with those of the one message in it.
+/// The answers: to a ping, to a subscribe, a batch of one message, to a disconnect, without a message, another batch, a fault, and one to a
+/// ping that has no identifier.
 static ANSWERS: Table = Table {
     rows: 8,
-    fields: 4,
+    fields: 1,
     text: "
-'180' | 000B'/1/onResult' | acknowledge | 01 01 01 0A0B01 09'DSId' 0603'7' 01 0603'm' 0400 0400 0603'p'
-'176' | 000B'/1/onResult' | acknowledge | 01 0603'1' 0609'chat' 01 0603'm' 0400 0400 0603's'
-'240' | 000B'/1/onResult' | batch | 0605'hi' 01 01 01 01 0400 0400 01 01 01 01 0603'm' 0400 0400 0603'1' 0404
-'169' | 000B'/1/onResult' | acknowledge | 01 01 01 01 0603'm' 0400 0400 0603'd'
-'169' | 000B'/1/onResult' | acknowledge | 01 01 01 01 0603'm' 0400 0400 0603'1'
-'239' | 000B'/1/onResult' | batch | 0603'a' 01 01 01 01 0400 0400 01 01 01 01 0603'm' 0400 0400 0603'2' 0404
-'57' | 000B'/1/onStatus' | object | 0B01 09'code' 0603'c' 17'description' 0603't' 01
-'169' | 000B'/1/onResult' | acknowledge | 01 01 01 01 0603'm' 0400 0400 0603'p'
+'HTTP/1.1 200 OK' 0D0A 'Content-Type: application/x-amf' 0D0A 'Content-Length: 180' 0D0A0D0A 0003 0000 0001 000B'/1/onResult' 0004'null' FFFFFFFF 11 0A 8103 55'flex.messaging.messages.AcknowledgeMessage' 09'body' 11'clientId' 17'destination' 0F'headers' 13'messageId' 15'timeToLive' 13'timestamp' 1B'correlationId' 01 01 01 0A0B01 09'DSId' 0603'7' 01 0603'm' 0400 0400 0603'p'
+'HTTP/1.1 200 OK' 0D0A 'Content-Type: application/x-amf' 0D0A 'Content-Length: 176' 0D0A0D0A 0003 0000 0001 000B'/1/onResult' 0004'null' FFFFFFFF 11 0A 8103 55'flex.messaging.messages.AcknowledgeMessage' 09'body' 11'clientId' 17'destination' 0F'headers' 13'messageId' 15'timeToLive' 13'timestamp' 1B'correlationId' 01 0603'1' 0609'chat' 01 0603'm' 0400 0400 0603's'
+'HTTP/1.1 200 OK' 0D0A 'Content-Type: application/x-amf' 0D0A 'Content-Length: 240' 0D0A0D0A 0003 0000 0001 000B'/1/onResult' 0004'null' FFFFFFFF 11 0A 8113 4D'flex.messaging.messages.CommandMessage' 09'body' 11'clientId' 17'destination' 0F'headers' 13'messageId' 15'timeToLive' 13'timestamp' 1B'correlationId' 13'operation' 09 03 01 0A 8103 49'flex.messaging.messages.AsyncMessage' 02 04 06 08 0A 0C 0E 10 0605'hi' 01 01 01 01 0400 0400 01 01 01 01 0603'm' 0400 0400 0603'1' 0404
+'HTTP/1.1 200 OK' 0D0A 'Content-Type: application/x-amf' 0D0A 'Content-Length: 169' 0D0A0D0A 0003 0000 0001 000B'/1/onResult' 0004'null' FFFFFFFF 11 0A 8103 55'flex.messaging.messages.AcknowledgeMessage' 09'body' 11'clientId' 17'destination' 0F'headers' 13'messageId' 15'timeToLive' 13'timestamp' 1B'correlationId' 01 01 01 01 0603'm' 0400 0400 0603'd'
+'HTTP/1.1 200 OK' 0D0A 'Content-Type: application/x-amf' 0D0A 'Content-Length: 169' 0D0A0D0A 0003 0000 0001 000B'/1/onResult' 0004'null' FFFFFFFF 11 0A 8103 55'flex.messaging.messages.AcknowledgeMessage' 09'body' 11'clientId' 17'destination' 0F'headers' 13'messageId' 15'timeToLive' 13'timestamp' 1B'correlationId' 01 01 01 01 0603'm' 0400 0400 0603'1'
+'HTTP/1.1 200 OK' 0D0A 'Content-Type: application/x-amf' 0D0A 'Content-Length: 239' 0D0A0D0A 0003 0000 0001 000B'/1/onResult' 0004'null' FFFFFFFF 11 0A 8113 4D'flex.messaging.messages.CommandMessage' 09'body' 11'clientId' 17'destination' 0F'headers' 13'messageId' 15'timeToLive' 13'timestamp' 1B'correlationId' 13'operation' 09 03 01 0A 8103 49'flex.messaging.messages.AsyncMessage' 02 04 06 08 0A 0C 0E 10 0603'a' 01 01 01 01 0400 0400 01 01 01 01 0603'm' 0400 0400 0603'2' 0404
+'HTTP/1.1 200 OK' 0D0A 'Content-Type: application/x-amf' 0D0A 'Content-Length: 57' 0D0A0D0A 0003 0000 0001 000B'/1/onStatus' 0004'null' FFFFFFFF 11 0A 0B01 09'code' 0603'c' 17'description' 0603't' 01
+'HTTP/1.1 200 OK' 0D0A 'Content-Type: application/x-amf' 0D0A 'Content-Length: 169' 0D0A0D0A 0003 0000 0001 000B'/1/onResult' 0004'null' FFFFFFFF 11 0A 8103 55'flex.messaging.messages.AcknowledgeMessage' 09'body' 11'clientId' 17'destination' 0F'headers' 13'messageId' 15'timeToLive' 13'timestamp' 1B'correlationId' 01 01 01 01 0603'm' 0400 0400 0603'p'
 ",
 };
 
-/// The sealed names that the classes share.
-const NAMES: &[u8] =
-    b"\x09body\x11clientId\x17destination\x0Fheaders\x13messageId\x15timeToLive\x13timestamp\x1BcorrelationId";
-
-/// The class of a CommandMessage, and of an AcknowledgeMessage.
-const COMMAND: &[u8] = b"\x0A\x81\x13\x4Dflex.messaging.messages.CommandMessage";
-
-const ACKNOWLEDGE: &[u8] = b"\x0A\x81\x03\x55flex.messaging.messages.AcknowledgeMessage";
-
-/// A body of one AsyncMessage, up to its values.
-const ONE_MESSAGE: &[u8] =
-    b"\x13operation\x09\x03\x01\x0A\x81\x03\x49flex.messaging.messages.AsyncMessage\x02\x04\x06\x08\x0A\x0C\x0E\x10";
-
-/// A strict array of one value of AMF 3, up to this.
-const ARGUMENTS: &[u8] = b"\x0A\0\0\0\x01\x11";
-
-/// The spelling of the value of a row of `REQUESTS` or `ANSWERS`.
-fn value_of(alloc: Global, row: Row<'_>) -> Result<Vec<u8>, Fail> {
-    let values = row.bytes(alloc, 3)?;
-    let front: [&[u8]; 3] = match row.field(2)? {
-        "command" => [COMMAND, NAMES, b"\x13operation"],
-        "acknowledge" => [ACKNOWLEDGE, NAMES, b""],
-        "batch" => [COMMAND, NAMES, ONE_MESSAGE],
-        _ => [b"\x0A", b"", b""],
-    };
-    let front = joined(alloc, &front)?;
-    let pieces: [&[u8]; 2] = [&front, &values];
-    Ok(joined(alloc, &pieces)?)
-}
-
-fn request_of(alloc: Global, row: Row<'_>) -> Result<Vec<u8>, Fail> {
-    let size = row.bytes(alloc, 0)?;
-    let target = row.bytes(alloc, 1)?;
-    let value = value_of(alloc, row)?;
-    let body = joined(alloc, &[ARGUMENTS, &value])?;
-    Ok(asked_with(alloc, &size, &target, &body)?)
-}
-
-fn answer_of(alloc: Global, row: Row<'_>) -> Result<Vec<u8>, Fail> {
-    let size = row.bytes(alloc, 0)?;
-    let target = row.bytes(alloc, 1)?;
-    let value = value_of(alloc, row)?;
-    let marker: &[u8] = b"\x11";
-    let value = joined(alloc, &[marker, &value])?;
-    Ok(answer_with(alloc, &size, &target, &value)?)
-}
-
-/// What a link takes, or what it gives: the requests or the answers of these rows, one behind the other.
-fn side_of(alloc: Global, numbers: &[u64], is_taken: bool) -> Result<Vec<u8>, Fail> {
-    let table = if is_taken { &REQUESTS } else { &ANSWERS };
-    let rows = table.rows(alloc)?;
-    let mut bytes = Vec::new(alloc);
+/// Appends the messages of these rows of a table.
+fn put_messages(rt: &impl Abort, alloc: Global, out: &mut Vec<u8>, table: &Table, numbers: &[u64]) {
+    let rows = table.rows(alloc).expect(rt, "rows");
     for number in numbers {
-        let Some(row) = rows.get(*number as usize) else {
-            return Err("no such row".into());
-        };
-        let piece = if is_taken {
-            request_of(alloc, *row)?
-        } else {
-            answer_of(alloc, *row)?
-        };
-        bytes.extend_from_slice(&piece)?;
+        let row = rows.get(*number as usize).expect(rt, "a row");
+        put_part(rt, alloc, out, field(rt, *row, 0));
     }
-    Ok(bytes)
+}
+
+/// What a link takes, or what it gives: the messages that a field lists.
+fn side_of(rt: &impl Abort, alloc: Global, table: &Table, row: Row<'_>, place: usize) -> Vec<u8> {
+    let numbers = row.numbers(alloc, place).expect(rt, "numbers");
+    let mut bytes = Vec::new(alloc);
+    put_messages(rt, alloc, &mut bytes, table, &numbers);
+    bytes
 }
 
 /// The dial of a row, which gives three links.
-fn dial_for(alloc: Global, row: Row<'_>, links: Links<'_>) -> Result<MemoryDial<MemoryLink>, Fail> {
-    let first = side_of(alloc, &row.numbers(alloc, 5)?, false)?;
-    let second = side_of(alloc, &row.numbers(alloc, 6)?, false)?;
-    let third = side_of(alloc, &row.numbers(alloc, 7)?, false)?;
-    Ok(dial_of_three(alloc, [&first, &second, &third], links)?)
-}
-
-/// Whether the links that came back have taken the requests that the row says, each as often as it says.
-fn took(alloc: Global, row: Row<'_>, dial: &MemoryDial<MemoryLink>) -> Result<bool, Fail> {
-    let mut right = true;
-    for (place, link) in dial.returned().iter().enumerate() {
-        let numbers = row.numbers(alloc, 8 + place)?;
-        let asked = side_of(alloc, &numbers, true)?;
-        right = right && link.sink.as_bytes() == asked.as_slice();
-    }
-    Ok(right)
-}
-
-/// Whether it dialled port 1 so often, and gave back each link that it got.
-fn dialled(
+fn dial_for(
+    rt: &impl Abort,
     alloc: Global,
     row: Row<'_>,
-    failing: &[u64],
-    dial: &MemoryDial<MemoryLink>,
-) -> Result<bool, Fail> {
-    let dials = row.numbers(alloc, 11)?;
-    let [dials] = dials.as_slice() else {
-        return Err("no row".into());
-    };
-    let ports = [1u16, 1, 1];
-    let often = (*dials as usize).min(3);
-    Ok(
-        dial.asked() == &ports[..often]
-            && dial.returned().len() == often - failing.len().min(often)
-            && took(alloc, row, dial)?,
-    )
+    links: Links<'_>,
+) -> MemoryDial<MemoryLink> {
+    let first = side_of(rt, alloc, &ANSWERS, row, 5);
+    let second = side_of(rt, alloc, &ANSWERS, row, 6);
+    let third = side_of(rt, alloc, &ANSWERS, row, 7);
+    dial_of_three(rt, alloc, [&first, &second, &third], links)
 }
 
-/// Whether a run listens as its row says, with streams and links that come and go in these ways.
-fn listens<R: RandomSource + Threads + Wait + Sync>(
+/// Ends the test where a link has not taken the requests that a field lists, each as often as it says.
+fn check_taken(rt: &impl Abort, alloc: Global, row: Row<'_>, place: usize, link: &MemoryLink) {
+    let asked = side_of(rt, alloc, &REQUESTS, row, place);
+    let is_taken = link.sink.as_bytes() == asked.as_slice();
+    let line = row.line();
+    assert!(rt; is_taken, "line {line}: the link of field {place}");
+}
+
+/// Runs over this dial, of which so many calls fail: it dials port 1 as often as the row says, and has each link back that it gave.
+fn check_session<R: RandomSource + Threads + Wait + Abort + Sync>(
     rt: &R,
     alloc: Global,
     row: Row<'_>,
-    case: &Case,
+    case: &Case<'_>,
     ways: Ways<'_>,
-) -> Result<bool, Fail> {
-    let failing = row.numbers(alloc, 12)?;
+    dial: &mut MemoryDial<MemoryLink>,
+    failing: usize,
+) {
+    let line = row.line();
+    let dials = row.number(11).expect(rt, "a count") as usize;
+    let ports = [1u16, 1, 1];
+    let often = dials.min(3);
+    let told = Told {
+        ports: &ports[..often],
+        faults: failing as u64,
+    };
+    check_over(rt, alloc, line, case, ways, dial, told);
+    let is_back = dial.returned().len() == often - failing.min(often);
+    assert!(rt; is_back, "line {line}: the links");
+    for (place, link) in dial.returned().iter().enumerate() {
+        check_taken(rt, alloc, row, 8 + place, link);
+    }
+}
+
+/// Runs with streams and links that come and go in these ways.
+fn listen_once<R: RandomSource + Threads + Wait + Abort + Sync>(
+    rt: &R,
+    alloc: Global,
+    row: Row<'_>,
+    case: &Case<'_>,
+    ways: Ways<'_>,
+) {
+    let dials = row.numbers(alloc, 12).expect(rt, "numbers");
     let links = Links {
-        dials: &failing,
+        dials: &dials,
         most: ways.most,
         ..GOOD
     };
-    let mut dial = dial_for(alloc, row, links)?;
-    let right = gives(rt, alloc, case, ways, &mut dial)?;
-    Ok(right && dialled(alloc, row, &failing, &dial)?)
+    let mut dial = dial_for(rt, alloc, row, links);
+    check_session(rt, alloc, row, case, ways, &mut dial, dials.len());
 }
 
-fn listen_row<R: RandomSource + Threads + Wait + Abort + Sync>(
+/// Runs the session of a row all at once, and a byte at a time.
+pub(crate) fn check_sessions<R: RandomSource + Threads + Wait + Abort + Sync>(
     rt: &R,
     alloc: Global,
     row: Row<'_>,
-) -> Result<(), Fail> {
-    let case = case_of(alloc, row)?;
-    holds_of(rt, row, listens(rt, alloc, row, &case, WHOLE)?, "whole");
-    holds_of(rt, row, listens(rt, alloc, row, &case, BY_BYTES)?, "bytes");
-    Ok(())
+    case: &Case<'_>,
+) {
+    listen_once(rt, alloc, row, case, WHOLE);
+    listen_once(rt, alloc, row, case, BY_BYTES);
 }
 
 #[test]
-fn sessions(rt: HostRuntime) -> Result<(), Fail> {
-    let alloc = rt.alloc();
-    for row in LISTENS.rows(alloc)?.iter() {
-        listen_row(&rt, alloc, *row)?;
-    }
-    Ok(())
+fn sessions(rt: HostRuntime) {
+    check_rows(&rt, rt.alloc(), &LISTENS, How::Listening);
 }
 
-/// Whether a run of the first row ends so where this write of the output fails; its bytes go one by one.
-fn ends_at<R: RandomSource + Threads + Wait + Sync>(
+/// Runs the session of a row where this write of the output fails; its bytes go one by one.
+fn check_write<R: RandomSource + Threads + Wait + Abort + Sync>(
     rt: &R,
     alloc: Global,
     row: Row<'_>,
     write: u64,
-    most: usize,
-) -> Result<bool, Fail> {
-    let mut case = case_of(alloc, row)?;
-    case.status = 4;
-    case.output.truncate(most);
-    case.line = b"amf: write fault\n".to_vec(alloc)?;
+    output: &[u8],
+) {
+    let case = Case {
+        words: field(rt, row, 0),
+        more: b"",
+        input: b"",
+        status: 4,
+        output,
+        line: b"amf: write fault\n",
+    };
     let ways = Ways {
         writes: &[write],
         ..BY_BYTES
     };
-    let mut dial = dial_for(alloc, row, GOOD)?;
-    gives(rt, alloc, &case, ways, &mut dial)
+    let told = Told {
+        ports: &[1, 1],
+        faults: 0,
+    };
+    let mut dial = dial_for(rt, alloc, row, GOOD);
+    check_over(rt, alloc, row.line(), &case, ways, &mut dial, told);
 }
 
-/// Writes of the output that fail: the first, the third and the flush.
+/// Writes of the output of the first row that fail: the first, the third and the flush.
 #[test]
-fn output_that_fails(rt: HostRuntime) -> Result<(), Fail> {
+fn output_that_fails(rt: HostRuntime) {
     let alloc = rt.alloc();
-    let rows = LISTENS.rows(alloc)?;
-    let Some(row) = rows.first() else {
-        return Err("no such row".into());
-    };
-    holds_of(&rt, *row, ends_at(&rt, alloc, *row, 0, 0)?, "the first");
-    holds_of(&rt, *row, ends_at(&rt, alloc, *row, 2, 2)?, "the third");
-    holds_of(&rt, *row, ends_at(&rt, alloc, *row, 4, 4)?, "the flush");
-    Ok(())
+    let rows = LISTENS.rows(alloc).expect(&rt, "rows");
+    let row = rows.first().expect(&rt, "a row");
+    check_write(&rt, alloc, *row, 0, b"");
+    check_write(&rt, alloc, *row, 2, b"\x06\x05");
+    check_write(&rt, alloc, *row, 4, b"\x06\x05hi");
 }

@@ -1,12 +1,11 @@
-use crate::cases::{Case, holds_at, holds_of, words_of};
+use crate::cases::{Case, field, put};
 use crate::dials::dial_of_none;
-use crate::runs::{WHOLE, gives, gives_alone};
-use amf_rows::{Row, Table};
-use amf_wire::Name;
+use crate::runs::{Told, WHOLE, check, check_over};
+use amf_rows::Table;
 use std::alloc::Global;
+use std::process::Abort;
 use std::random::RandomSource;
 use std::sync::Wait;
-use std::test::Fail;
 use std::thread::Threads;
 
 /// Words that have no reading.
@@ -69,105 +68,79 @@ listen --port 1 --destination chat --polls 1 chat
 ",
 };
 
-/// These words have no reading, so the input is not looked at.
-fn usage(alloc: Global, words: Vec<Name>) -> Result<Case, Fail> {
-    let input = b"\x01".to_vec(alloc)?;
-    let line = b"amf: usage\n".to_vec(alloc)?;
-    Ok(Case {
-        words,
-        input,
-        status: 2,
-        output: Vec::new(alloc),
-        line,
-    })
-}
-
-/// Whether the words of a row have no reading.
-fn has_no_reading<R: RandomSource + Threads + Wait + Sync>(
-    rt: &R,
-    alloc: Global,
-    row: Row<'_>,
-) -> Result<bool, Fail> {
-    let words = words_of(alloc, row.field(0)?)?;
-    let case = usage(alloc, words)?;
-    gives_alone(rt, alloc, &case, WHOLE)
-}
+/// These words, and perhaps one more, have no reading, so the input is not looked at.
+const USAGE: Case<'static> = Case {
+    words: "",
+    more: b"",
+    input: b"\x01",
+    status: 2,
+    output: b"",
+    line: b"amf: usage\n",
+};
 
 #[test]
-fn no_reading(rt: HostRuntime) -> Result<(), Fail> {
+fn no_reading(rt: HostRuntime) {
     let alloc = rt.alloc();
-    for row in NO_READING.rows(alloc)?.iter() {
-        holds_of(&rt, *row, has_no_reading(&rt, alloc, *row)?, "a reading");
+    for row in NO_READING.rows(alloc).expect(&rt, "rows").iter() {
+        let words = field(&rt, *row, 0);
+        check(&rt, alloc, row.line(), &Case { words, ..USAGE }, WHOLE);
     }
-    Ok(())
 }
 
-const CALL: &str = "call --port=65535 --target";
+const CALL: Case<'static> = Case {
+    words: "call --port=65535 --target",
+    ..USAGE
+};
 
-const LISTEN: &str = "listen --port=65535 --polls=1 --destination";
+const LISTEN: Case<'static> = Case {
+    words: "listen --port=65535 --polls=1 --destination",
+    ..USAGE
+};
 
-/// These words, and behind them one that has a byte more than this, and ends with this one.
-fn long_of(alloc: Global, text: &str, length: usize, last: u8) -> Result<Vec<Name>, Fail> {
-    let mut words = words_of(alloc, text)?;
-    let mut target = Vec::new(alloc);
-    target.resize(length, b'a')?;
-    target.push(last)?;
-    words.push(Name::of_bytes(alloc, &target)?)?;
-    Ok(words)
-}
-
-/// Whether words that end so are refused as words.
-fn is_refused<R: RandomSource + Threads + Wait + Sync>(
+/// Runs with one word more, which has so many bytes before this one; that number is its line.
+fn check_long<R: RandomSource + Threads + Wait + Abort + Sync>(
     rt: &R,
     alloc: Global,
-    text: &str,
-    length: usize,
+    case: Case<'_>,
+    length: u32,
     last: u8,
-) -> Result<bool, Fail> {
-    let case = usage(alloc, long_of(alloc, text, length, last)?)?;
-    gives_alone(rt, alloc, &case, WHOLE)
-}
-
-/// Whether a call with a target of the most bytes is read: then its arguments, null, are judged.
-fn is_target<R: RandomSource + Threads + Wait + Sync>(rt: &R, alloc: Global) -> Result<bool, Fail> {
+    ports: &[u16],
+) {
+    let mut more = Vec::new(alloc);
+    put(rt, &mut more, length as usize, b"a");
+    put(rt, &mut more, 1, &[last]);
     let case = Case {
-        words: long_of(alloc, CALL, 65_534, b'a')?,
-        input: b"\x01".to_vec(alloc)?,
-        status: 7,
-        output: Vec::new(alloc),
-        line: b"amf: no form NotArgs node 0 value 0\n".to_vec(alloc)?,
+        more: &more,
+        ..case
     };
-    gives_alone(rt, alloc, &case, WHOLE)
-}
-
-/// Whether a listener whose destination has the most bytes is read: then it dials, which fails.
-fn is_destination<R: RandomSource + Threads + Wait + Sync>(
-    rt: &R,
-    alloc: Global,
-) -> Result<bool, Fail> {
-    let case = Case {
-        words: long_of(alloc, LISTEN, 65_534, b'a')?,
-        input: b"\x01".to_vec(alloc)?,
-        status: 10,
-        output: Vec::new(alloc),
-        line: b"amf: link fault\n".to_vec(alloc)?,
+    let mut dial = dial_of_none(rt, alloc);
+    let told = Told {
+        ports,
+        faults: ports.len() as u64,
     };
-    let mut dial = dial_of_none(alloc)?;
-    let right = gives(rt, alloc, &case, WHOLE, &mut dial)?;
-    Ok(right && dial.asked() == [65_535u16].as_slice())
+    check_over(rt, alloc, length, &case, WHOLE, &mut dial, told);
 }
 
 /// A target and a destination have at most 65,535 bytes, and are UTF-8.
 #[test]
-fn targets(rt: HostRuntime) -> Result<(), Fail> {
+fn targets(rt: HostRuntime) {
     let alloc = rt.alloc();
-    holds_at(&rt, 65_535, is_target(&rt, alloc)?, "no target");
-    holds_at(&rt, 65_535, is_destination(&rt, alloc)?, "no destination");
-    for text in [CALL, LISTEN] {
-        let long = is_refused(&rt, alloc, text, 65_535, b'a')?;
-        holds_at(&rt, 65_536, long, "a target");
-        let ill = is_refused(&rt, alloc, text, 3, 0xFF)?;
-        holds_at(&rt, 0, ill, "a target");
+    for case in [CALL, LISTEN] {
+        check_long(&rt, alloc, case, 65_535, b'a', &[]);
+        check_long(&rt, alloc, case, 3, 0xFF, &[]);
     }
-    Ok(())
+    // The arguments, null, are judged.
+    let no_args = Case {
+        status: 7,
+        line: b"amf: no form NotArgs node 0 value 0\n",
+        ..CALL
+    };
+    check_long(&rt, alloc, no_args, 65_534, b'a', &[]);
+    // It dials, which fails.
+    let no_link = Case {
+        status: 10,
+        line: b"amf: link fault\n",
+        ..LISTEN
+    };
+    check_long(&rt, alloc, no_link, 65_534, b'a', &[65_535]);
 }
