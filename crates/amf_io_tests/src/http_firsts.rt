@@ -1,29 +1,42 @@
 use crate::checks::{field, holds_of};
 use crate::fields::pieces;
 use amf_http::{HttpBuffer, HttpEnd, next_request};
-use amf_io::{FaultlessLink, FaultlessSink, FaultlessSource, Joined, Link};
+use amf_io::{Joined, MemoryLink, MemorySink, MemorySource};
 use amf_rows::Row;
-use amf_wire::Memory;
 use std::alloc::Global;
 use std::process::Abort;
 
 /// The size of a first request's body and whether the link ends after it, or why there is none.
 pub(crate) type First = Result<Option<(usize, bool)>, HttpEnd>;
 
-/// A link that gives bytes in pieces of at most `most`, none of which goes on past `cut`.
-pub(crate) fn link_of(
-    alloc: Global,
-    bytes: &[u8],
-    most: usize,
-    cut: usize,
-) -> Result<FaultlessLink, Memory> {
-    let source = FaultlessSource::new(alloc, bytes, most, cut)?;
-    let sink = FaultlessSink::new(alloc, 0)?;
-    Ok(Joined { source, sink })
+/// How bytes come: at most how many at a time, a place that no piece goes past, and the number of the read that fails. Of what
+/// is written 16 bytes are taken at a time, and the write with a number fails.
+#[derive(Clone, Copy)]
+pub(crate) struct Ways {
+    pub most: usize,
+    pub cut: usize,
+    pub read: u64,
+    pub write: u64,
+}
+
+/// The bytes come whole, and nothing fails.
+pub(crate) const WHOLE: Ways = Ways {
+    most: usize::MAX,
+    cut: 0,
+    read: u64::MAX,
+    write: u64::MAX,
+};
+
+/// A link that gives these bytes so.
+pub(crate) fn link_of(rt: &impl Abort, alloc: Global, bytes: &[u8], ways: Ways) -> MemoryLink {
+    let source = MemorySource::new(alloc, bytes, ways.most, ways.cut, &[ways.read]);
+    let source = source.expect(rt, "a source");
+    let sink = MemorySink::new(alloc, 16, &[ways.write]).expect(rt, "a sink");
+    Joined { source, sink }
 }
 
 /// The answer that comes next on a link.
-pub(crate) fn next_on<L: Link>(alloc: Global, link: &mut L, buffer: &mut HttpBuffer) -> First {
+pub(crate) fn next_on(alloc: Global, link: &mut MemoryLink, buffer: &mut HttpBuffer) -> First {
     match next_request(alloc, link, buffer) {
         Ok(Some(request)) => Ok(Some((request.body.as_slice().len(), request.close))),
         Ok(None) => Ok(None),
@@ -31,17 +44,11 @@ pub(crate) fn next_on<L: Link>(alloc: Global, link: &mut L, buffer: &mut HttpBuf
     }
 }
 
-/// The first answer for bytes that come in pieces of at most `most`, none of which goes on past
-/// `cut`.
-pub(crate) fn first_in(alloc: Global, bytes: &[u8], most: usize, cut: usize) -> First {
-    let mut link = link_of(alloc, bytes, most, cut)?;
-    let mut buffer = HttpBuffer::new(alloc)?;
+/// The first answer for bytes that come so.
+pub(crate) fn first(rt: &impl Abort, alloc: Global, bytes: &[u8], ways: Ways) -> First {
+    let mut link = link_of(rt, alloc, bytes, ways);
+    let mut buffer = HttpBuffer::new(alloc).expect(rt, "a buffer");
     next_on(alloc, &mut link, &mut buffer)
-}
-
-/// The first answer for bytes that come whole.
-pub(crate) fn first(alloc: Global, bytes: &[u8]) -> First {
-    first_in(alloc, bytes, usize::MAX, 0)
 }
 
 /// The first answer that a field says: `taken` or `last` with the size of the body, `refused` with the status, `end`,
@@ -70,10 +77,11 @@ pub(crate) fn expect_first(
     bytes: &[u8],
     want: First,
 ) {
-    holds_of(rt, row, usize::MAX, first(alloc, bytes) == want);
-    holds_of(rt, row, 1, first_in(alloc, bytes, 1, 0) == want);
-    for at in 0..bytes.len() {
-        holds_of(rt, row, at, first_in(alloc, bytes, usize::MAX, at) == want);
+    let by_bytes = Ways { most: 1, ..WHOLE };
+    holds_of(rt, row, 1, first(rt, alloc, bytes, by_bytes) == want);
+    for cut in 0..=bytes.len() {
+        let ways = Ways { cut, ..WHOLE };
+        holds_of(rt, row, cut, first(rt, alloc, bytes, ways) == want);
     }
 }
 
@@ -83,13 +91,14 @@ pub(crate) fn expect_in_pieces(
     row: Row<'_>,
     alloc: Global,
     bytes: &[u8],
-    ways: &str,
     want: First,
+    ways: &str,
 ) -> usize {
     let mut count = 0usize;
     for word in ways.split_whitespace() {
         let (most, cut) = pieces(rt, word);
-        holds_of(rt, row, cut, first_in(alloc, bytes, most, cut) == want);
+        let ways = Ways { most, cut, ..WHOLE };
+        holds_of(rt, row, cut, first(rt, alloc, bytes, ways) == want);
         count = count.wrapping_add(1);
     }
     count
@@ -97,12 +106,9 @@ pub(crate) fn expect_in_pieces(
 
 /// A link that ends within these bytes ends inside a request, and at their front before one.
 pub(crate) fn expect_truncated(rt: &impl Abort, row: Row<'_>, alloc: Global, bytes: &[u8]) {
-    for at in 0..bytes.len() {
-        let want = if at == 0 {
-            Ok(None)
-        } else {
-            Err(HttpEnd::Truncated)
-        };
-        holds_of(rt, row, at, first(alloc, &bytes[..at]) == want);
+    holds_of(rt, row, 0, first(rt, alloc, b"", WHOLE) == Ok(None));
+    for at in 1..bytes.len() {
+        let got = first(rt, alloc, &bytes[..at], WHOLE);
+        holds_of(rt, row, at, got == Err(HttpEnd::Truncated));
     }
 }

@@ -1,6 +1,6 @@
-use crate::checks::{field, holds, number};
+use crate::checks::{field, holds, holds_of, number};
 use crate::fields::{put_text, text_of};
-use crate::http_firsts::{expect_first, expect_in_pieces, expect_truncated, first, wanted};
+use crate::http_firsts::{WHOLE, expect_first, expect_in_pieces, expect_truncated, first, wanted};
 use amf_http::HttpEnd;
 use amf_rows::{Row, Table};
 use std::alloc::Global;
@@ -122,157 +122,89 @@ fn head_with(
 /// The first answer where two parts are wrong, and where the head is too long besides.
 fn ask_faults(rt: &impl Abort, alloc: Global, order: Row<'_>, earlier: Row<'_>, later: Row<'_>) {
     let mut bytes = head_with(rt, alloc, order, earlier, later);
-    let mut long = bytes.clone().expect(rt, "memory");
+    let size = bytes.len();
     end_head(rt, &mut bytes, b"hi");
     expect_first(rt, earlier, alloc, &bytes, wanted(rt, earlier, 2));
-    put_filled(rt, &mut long, b'x', 8192);
-    end_head(rt, &mut long, b"hi");
-    let right = first(alloc, &long) == Err(HttpEnd::Status(431));
-    holds(rt, right, "too long a head");
+    bytes.resize(size, 0).expect(rt, "memory");
+    put_times(rt, &mut bytes, "x", 8192);
+    end_head(rt, &mut bytes, b"hi");
+    let got = first(rt, alloc, &bytes, WHOLE);
+    holds_of(rt, later, 8192, got == Err(HttpEnd::Status(431)));
 }
 
-/// Asks each pair of faults in the order with this number.
-fn ask_order(rt: &impl Abort, alloc: Global, number: usize) -> usize {
-    let faults = FAULTS.rows(alloc).expect(rt, "rows");
+/// Asks each pair of faults in this order, and tells how many there are.
+fn ask_order(rt: &impl Abort, alloc: Global, order: Row<'_>, faults: &[Row<'_>]) -> usize {
     let mut count = 0usize;
-    for order in ORDERS
-        .rows(alloc)
-        .expect(rt, "rows")
-        .iter()
-        .skip(number)
-        .take(1)
-    {
-        for (first, earlier) in faults.iter().enumerate() {
-            for later in faults.iter().skip(first) {
-                ask_faults(rt, alloc, *order, *earlier, *later);
-                count = count.wrapping_add(1);
-            }
+    for (first, earlier) in faults.iter().enumerate() {
+        for later in faults.iter().skip(first) {
+            ask_faults(rt, alloc, order, *earlier, *later);
+            count = count.wrapping_add(1);
         }
     }
     count
 }
 
 #[test]
-fn the_first_of_two_faults_decides(rt: HostRuntime) {
-    let count = ask_order(&rt, rt.alloc(), 0);
-    holds(&rt, count == 55, "pairs");
-}
-
-#[test]
-fn it_decides_in_the_other_order(rt: HostRuntime) {
-    let count = ask_order(&rt, rt.alloc(), 1);
-    holds(&rt, count == 55, "pairs");
-}
-
-/// Appends so many of a byte.
-fn put_filled(rt: &impl Abort, out: &mut Vec<u8>, byte: u8, count: usize) {
-    out.resize(out.len().saturating_add(count), byte)
-        .expect(rt, "memory");
-}
-
-/// Digits for a length, and the first answer where 1,048,576 bytes follow the head.
-static LENGTHS: Table = Table {
-    rows: 12,
-    fields: 2,
-    text: r"
-0                    | taken 0
-00                   | taken 0
-35                   | taken 35
-00000000000000000035 | taken 35
-1048576              | taken 1048576
-1048577              | refused 413
-99999999999999999999 | refused 413
-                     | refused 400
--2                   | refused 400
-0x2                  | refused 400
-2 2                  | refused 400
-2, 2                 | refused 400
-",
-};
-
-const TYPED: &[u8] = b"POST /amf HTTP/1.1\r\nHost: h\r\nContent-Type: application/x-amf\r\n";
-
-fn ask_length(rt: &impl Abort, alloc: Global, row: Row<'_>) -> usize {
-    let mut bytes = TYPED.to_vec(alloc).expect(rt, "memory");
-    let digits = field(rt, row, 0).as_bytes();
-    bytes
-        .extend_from_slice(b"Content-Length: ")
-        .expect(rt, "memory");
-    bytes.extend_from_slice(digits).expect(rt, "memory");
-    bytes.extend_from_slice(b"\r\n\r\n").expect(rt, "memory");
-    put_filled(rt, &mut bytes, b'x', 1_048_576);
-    let want = wanted(rt, row, 1);
-    expect_in_pieces(rt, row, alloc, &bytes, "all 1 8192 all@100", want)
-}
-
-#[test]
-fn a_length_is_decimal_digits(rt: HostRuntime) {
-    for row in LENGTHS.rows(rt.alloc()).expect(&rt, "rows").iter() {
-        let count = ask_length(&rt, rt.alloc(), *row);
-        holds(&rt, count == 4, "pieces");
+fn the_first_of_two_faults_decides_in_either_order(rt: HostRuntime) {
+    let faults = FAULTS.rows(rt.alloc()).expect(&rt, "rows");
+    for order in ORDERS.rows(rt.alloc()).expect(&rt, "rows").iter() {
+        let count = ask_order(&rt, rt.alloc(), *order, &faults);
+        holds(&rt, count == 55, "pairs");
     }
 }
 
-/// How many bytes a head has, and the first answer.
+/// Appends a text so many times.
+fn put_times(rt: &impl Abort, out: &mut Vec<u8>, text: &str, count: u32) {
+    for _ in 0..count {
+        out.extend_from_slice(text.as_bytes()).expect(rt, "memory");
+    }
+}
+
+/// What bytes begin with, how many times which byte follows, what comes then, in which pieces they come, and the first answer.
 static SIZES: Table = Table {
-    rows: 3,
-    fields: 2,
+    rows: 20,
+    fields: 6,
     text: r"
-8191 | taken 2
-8192 | taken 2
-8193 | refused 431
+# A length is decimal digits.
+POST /amf HTTP/1.1\r\nHost: h\r\nContent-Type: application/x-amf\r\nContent-Length: 0\r\n\r\n | 1048576 | x | | all 1 8192 all@100 | taken 0
+POST /amf HTTP/1.1\r\nHost: h\r\nContent-Type: application/x-amf\r\nContent-Length: 00\r\n\r\n | 1048576 | x | | all 1 8192 all@100 | taken 0
+POST /amf HTTP/1.1\r\nHost: h\r\nContent-Type: application/x-amf\r\nContent-Length: 35\r\n\r\n | 1048576 | x | | all 1 8192 all@100 | taken 35
+POST /amf HTTP/1.1\r\nHost: h\r\nContent-Type: application/x-amf\r\nContent-Length: 00000000000000000035\r\n\r\n | 1048576 | x | | all 1 8192 all@100 | taken 35
+POST /amf HTTP/1.1\r\nHost: h\r\nContent-Type: application/x-amf\r\nContent-Length: 1048576\r\n\r\n | 1048576 | x | | all 1 8192 all@100 | taken 1048576
+POST /amf HTTP/1.1\r\nHost: h\r\nContent-Type: application/x-amf\r\nContent-Length: 1048577\r\n\r\n | 1048576 | x | | all 1 8192 all@100 | refused 413
+POST /amf HTTP/1.1\r\nHost: h\r\nContent-Type: application/x-amf\r\nContent-Length: 99999999999999999999\r\n\r\n|1048576|x|| all 1 8192 all@100|refused 413
+POST /amf HTTP/1.1\r\nHost: h\r\nContent-Type: application/x-amf\r\nContent-Length:\s\r\n\r\n | 1048576 | x | | all 1 8192 all@100 | refused 400
+POST /amf HTTP/1.1\r\nHost: h\r\nContent-Type: application/x-amf\r\nContent-Length: -2\r\n\r\n | 1048576 | x | | all 1 8192 all@100 | refused 400
+POST /amf HTTP/1.1\r\nHost: h\r\nContent-Type: application/x-amf\r\nContent-Length: 0x2\r\n\r\n | 1048576 | x | | all 1 8192 all@100 | refused 400
+POST /amf HTTP/1.1\r\nHost: h\r\nContent-Type: application/x-amf\r\nContent-Length: 2 2\r\n\r\n | 1048576 | x | | all 1 8192 all@100 | refused 400
+POST /amf HTTP/1.1\r\nHost: h\r\nContent-Type: application/x-amf\r\nContent-Length: 2, 2\r\n\r\n | 1048576 | x | | all 1 8192 all@100 | refused 400
+# A head has at most 8,192 bytes: heads of 8,191, 8,192 and 8,193, and the first hundred bytes of each.
+POST /amf HTTP/1.1\r\nHost: h\r\nContent-Type: application/x-amf\r\nContent-Length: 2\r\nX:\s | 8103 | x | \r\n\r\nhi | all 1 all@8190 8191@8192 | taken 2
+POST /amf HTTP/1.1\r\nHost: h\r\nContent-Type: application/x-amf\r\nContent-Length: 2\r\nX:\s | 8104 | x | \r\n\r\nhi | all 1 all@8190 8191@8192 | taken 2
+POST /amf HTTP/1.1\r\nHost: h\r\nContent-Type: application/x-amf\r\nContent-Length: 2\r\nX:\s | 8105 | x | \r\n\r\nhi | all 1 all@8190 8191@8192 | refused 431
+POST /amf HTTP/1.1\r\nHost: h\r\nContent-Type: application/x-amf\r\nContent-Length: 2\r\nX:\s | 16 | x | | all | truncated
+# A line has at most 8,192 bytes.
+ | 8192 | A | | all 1 all@1 all@8191 | refused 431
+ | 1 | A | | all | truncated
+ | 4096 | A | | all | truncated
+ | 8191 | A | | all | truncated
 ",
 };
 
-/// The first answer of a head of this size, and of its first hundred bytes.
+/// The first answers of a row, and in how many pieces.
 fn ask_size(rt: &impl Abort, alloc: Global, row: Row<'_>) -> usize {
-    let mut bytes = TYPED.to_vec(alloc).expect(rt, "memory");
-    bytes
-        .extend_from_slice(b"Content-Length: 2\r\nX: ")
-        .expect(rt, "memory");
-    let size = number(rt, row, 0) as usize;
-    let room = size.saturating_sub(bytes.len()).saturating_sub(4);
-    put_filled(rt, &mut bytes, b'x', room);
-    bytes.extend_from_slice(b"\r\n\r\nhi").expect(rt, "memory");
-    let front = &bytes[..100.min(bytes.len())];
-    let right = first(alloc, front) == Err(HttpEnd::Truncated);
-    holds(rt, right, "the front of a large head");
-    let want = wanted(rt, row, 1);
-    expect_in_pieces(rt, row, alloc, &bytes, "all 1 all@8190 8191@8192", want)
+    let mut bytes = text_of(rt, alloc, row, 0);
+    put_times(rt, &mut bytes, field(rt, row, 2), number(rt, row, 1));
+    put_text(rt, &mut bytes, field(rt, row, 3));
+    let ways = field(rt, row, 4);
+    expect_in_pieces(rt, row, alloc, &bytes, wanted(rt, row, 5), ways)
 }
 
 #[test]
-fn a_head_has_at_most_8192_bytes(rt: HostRuntime) {
-    for row in SIZES.rows(rt.alloc()).expect(&rt, "rows").iter() {
-        let count = ask_size(&rt, rt.alloc(), *row);
-        holds(&rt, count == 4, "pieces");
-    }
-}
-
-/// How many bytes without the end of a line there are, in which pieces they come, and the first answer.
-static LINES: Table = Table {
-    rows: 4,
-    fields: 3,
-    text: r"
-8192 | all 1 all@1 all@8191 | refused 431
-1    | all                  | truncated
-4096 | all                  | truncated
-8191 | all                  | truncated
-",
-};
-
-fn ask_line(rt: &impl Abort, alloc: Global, row: Row<'_>) -> usize {
-    let mut bytes = Vec::new(alloc);
-    put_filled(rt, &mut bytes, b'A', number(rt, row, 0) as usize);
-    let want = wanted(rt, row, 2);
-    expect_in_pieces(rt, row, alloc, &bytes, field(rt, row, 1), want)
-}
-
-#[test]
-fn a_line_has_at_most_8192_bytes(rt: HostRuntime) {
+fn sizes_of_bodies_heads_and_lines(rt: HostRuntime) {
     let mut count = 0usize;
-    for row in LINES.rows(rt.alloc()).expect(&rt, "rows").iter() {
-        count = count.wrapping_add(ask_line(&rt, rt.alloc(), *row));
+    for row in SIZES.rows(rt.alloc()).expect(&rt, "rows").iter() {
+        count = count.wrapping_add(ask_size(&rt, rt.alloc(), *row));
     }
-    holds(&rt, count == 7, "pieces");
+    holds(&rt, count == 68, "pieces");
 }

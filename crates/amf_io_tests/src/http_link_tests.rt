@@ -3,11 +3,12 @@ ghost use Rattle.amf_http.specs.Response.{is_status};
 
 use crate::checks::{field, holds, holds_of, number};
 use crate::fields::{pieces, text_of};
-use crate::http_firsts::{First, expect_first, expect_truncated, link_of, next_on, wanted};
+use crate::http_firsts::{
+    First, WHOLE, Ways, expect_first, expect_truncated, link_of, next_on, wanted,
+};
 use amf_http::{AnswerEnd, HttpBuffer, HttpEnd, next_request, write_response};
-use amf_io::{FaultlessLink, FaultlessSource, Joined, MemoryLink, MemorySink, MemorySource};
+use amf_io::MemoryLink;
 use amf_rows::{Row, Table};
-use amf_wire::Memory;
 use std::alloc::Global;
 use std::process::Abort;
 
@@ -28,43 +29,60 @@ const GOOD: &[u8] =
     b"POST /amf HTTP/1.1\r\nHost: h\r\nContent-Type: application/x-amf\r\nContent-Length: 2\r\n\r\n";
 
 /// Whether the next request has this body.
-fn has_body(alloc: Global, link: &mut FaultlessLink, buffer: &mut HttpBuffer, body: &[u8]) -> bool {
+fn has_body(alloc: Global, link: &mut MemoryLink, buffer: &mut HttpBuffer, body: &[u8]) -> bool {
     match next_request(alloc, link, buffer) {
         Ok(Some(request)) => request.body.as_slice() == body,
         _ => false,
     }
 }
 
-/// Whether these two bodies come, and then the end, in pieces of at most `most`, none of which goes on past `cut`.
-fn are_two(
+/// Two bodies come, and then the end.
+fn expect_two(
     rt: &impl Abort,
+    row: Row<'_>,
     alloc: Global,
     bytes: &[u8],
     bodies: [&[u8]; 2],
-    most: usize,
-    cut: usize,
-) -> bool {
-    let mut link = link_of(alloc, bytes, most, cut).expect(rt, "a link");
+    ways: Ways,
+) {
+    let mut link = link_of(rt, alloc, bytes, ways);
     let mut buffer = HttpBuffer::new(alloc).expect(rt, "a buffer");
-    has_body(alloc, &mut link, &mut buffer, bodies[0])
-        && has_body(alloc, &mut link, &mut buffer, bodies[1])
-        && next_on(alloc, &mut link, &mut buffer) == Ok(None)
+    for body in bodies {
+        holds_of(
+            rt,
+            row,
+            ways.cut,
+            has_body(alloc, &mut link, &mut buffer, body),
+        );
+    }
+    let end = next_on(alloc, &mut link, &mut buffer);
+    holds_of(rt, row, ways.cut, end == Ok(None));
+}
+
+/// Two bodies come, and then the end: a byte at a time, and in two pieces that meet at each place.
+fn expect_two_in_pieces(
+    rt: &impl Abort,
+    row: Row<'_>,
+    alloc: Global,
+    bytes: &[u8],
+    bodies: [&[u8]; 2],
+) {
+    let by_bytes = Ways { most: 1, ..WHOLE };
+    expect_two(rt, row, alloc, bytes, bodies, by_bytes);
+    for cut in 0..bytes.len() {
+        let ways = Ways { cut, ..WHOLE };
+        expect_two(rt, row, alloc, bytes, bodies, ways);
+    }
 }
 
 fn ask_two(rt: &impl Abort, alloc: Global, row: Row<'_>) {
-    let mut bytes = ECHO_HEAD.to_vec(alloc).expect(rt, "memory");
     let body = row.bytes(alloc, 0).expect(rt, "bytes");
+    let mut bytes = ECHO_HEAD.to_vec(alloc).expect(rt, "memory");
     bytes.extend_from_slice(&body).expect(rt, "memory");
     expect_first(rt, row, alloc, &bytes, wanted(rt, row, 1));
     expect_truncated(rt, row, alloc, &bytes);
-    bytes.extend_from_slice(GOOD).expect(rt, "memory");
-    bytes.extend_from_slice(b"ho").expect(rt, "memory");
-    let bodies = [body.as_slice(), b"ho"];
-    holds_of(rt, row, 1, are_two(rt, alloc, &bytes, bodies, 1, 0));
-    for cut in 0..bytes.len() {
-        let right = are_two(rt, alloc, &bytes, bodies, usize::MAX, cut);
-        holds_of(rt, row, cut, right);
-    }
+    put_good(rt, &mut bytes, b"ho");
+    expect_two_in_pieces(rt, row, alloc, &bytes, [&body, b"ho"]);
 }
 
 #[test]
@@ -74,19 +92,9 @@ fn two_requests_on_one_link(rt: HostRuntime) {
     }
 }
 
-/// How many requests are cut from bytes before something else is answered, where the read with
-/// this number fails; and what that is.
-fn requests_before(
-    rt: &impl Abort,
-    alloc: Global,
-    bytes: &[u8],
-    most: usize,
-    cut: usize,
-    failing: u64,
-) -> (usize, First) {
-    let source = MemorySource::new(alloc, bytes, most, cut, &[failing]).expect(rt, "a source");
-    let sink = MemorySink::new(alloc, 1, &[]).expect(rt, "a sink");
-    let mut link = Joined { source, sink };
+/// How many requests are cut from bytes before something else is answered, and what that is.
+fn requests_before(rt: &impl Abort, alloc: Global, bytes: &[u8], ways: Ways) -> (usize, First) {
+    let mut link = link_of(rt, alloc, bytes, ways);
     let mut buffer = HttpBuffer::new(alloc).expect(rt, "a buffer");
     count_requests(alloc, &mut link, &mut buffer, bytes.len())
 }
@@ -107,60 +115,83 @@ fn count_requests(
     (most, Ok(None))
 }
 
+/// Appends a request with this body of two bytes.
+fn put_good(rt: &impl Abort, out: &mut Vec<u8>, body: &[u8]) {
+    out.extend_from_slice(GOOD).expect(rt, "memory");
+    out.extend_from_slice(body).expect(rt, "memory");
+}
+
 /// Two requests, one behind the other.
 fn two_requests(rt: &impl Abort, alloc: Global) -> Vec<u8> {
     let mut bytes = Vec::new(alloc);
-    for _ in 0..2 {
-        bytes.extend_from_slice(GOOD).expect(rt, "memory");
-        bytes.extend_from_slice(b"hi").expect(rt, "memory");
-    }
+    put_good(rt, &mut bytes, b"hi");
+    put_good(rt, &mut bytes, b"hi");
     bytes
 }
 
-const FAULT: First = Err(HttpEnd::ReadFault);
+/// Where the read with this number fails of two requests that come a byte at a time.
+fn expect_fault(rt: &impl Abort, alloc: Global, bytes: &[u8], failing: usize) {
+    let ways = Ways {
+        most: 1,
+        read: failing as u64,
+        ..WHOLE
+    };
+    // The second request is whole with the last byte, so the read behind it finds the end.
+    let whole = if failing < bytes.len() / 2 { 0 } else { 1 };
+    let found = requests_before(rt, alloc, bytes, ways);
+    let right = found == (whole, Err(HttpEnd::ReadFault));
+    holds(rt, right, "a failed read");
+}
 
 #[test]
 fn a_failed_read_decides_nothing(rt: HostRuntime) {
     let bytes = two_requests(&rt, rt.alloc());
-    // The second request is whole with the last byte, so the read behind it finds the end.
     for failing in 0..bytes.len() {
-        let whole = if failing < bytes.len() / 2 { 0 } else { 1 };
-        let found = requests_before(&rt, rt.alloc(), &bytes, 1, 0, failing as u64);
-        holds(&rt, found == (whole, FAULT), "a failed read");
+        expect_fault(&rt, rt.alloc(), &bytes, failing);
     }
 }
 
-/// Bytes, of which `two` are two requests of 85 bytes, in which pieces they come, which read fails, how many requests come
-/// before something else, and what that is.
+/// In which pieces two requests of 85 bytes come, which read fails, how many requests come before something else, and what
+/// that is.
 static FAILED_READS: Table = Table {
-    rows: 5,
-    fields: 5,
+    rows: 4,
+    fields: 4,
     text: r"
-P   | all    | 1 | 0 | fault
-two | all    | 0 | 0 | fault
-two | all    | 1 | 2 | fault
-two | all    | 2 | 2 | end
-two | all@85 | 1 | 1 | fault
+all    | 0 | 0 | fault
+all    | 1 | 2 | fault
+all    | 2 | 2 | end
+all@85 | 1 | 1 | fault
 ",
 };
 
-fn ask_failed_read(rt: &impl Abort, alloc: Global, row: Row<'_>) {
-    let bytes = match field(rt, row, 0) {
-        "two" => two_requests(rt, alloc),
-        _ => text_of(rt, alloc, row, 0),
+fn ask_failed_read(rt: &impl Abort, alloc: Global, row: Row<'_>, bytes: &[u8]) {
+    let (most, cut) = pieces(rt, field(rt, row, 0));
+    let read = u64::from(number(rt, row, 1));
+    let ways = Ways {
+        most,
+        cut,
+        read,
+        ..WHOLE
     };
-    let (most, cut) = pieces(rt, field(rt, row, 1));
-    let failing = u64::from(number(rt, row, 2));
-    let found = requests_before(rt, alloc, &bytes, most, cut, failing);
-    let want = (number(rt, row, 3) as usize, wanted(rt, row, 4));
-    holds_of(rt, row, cut, found == want);
+    let want = (number(rt, row, 2) as usize, wanted(rt, row, 3));
+    holds_of(
+        rt,
+        row,
+        cut,
+        requests_before(rt, alloc, bytes, ways) == want,
+    );
 }
 
 #[test]
 fn a_failed_read_of_long_pieces(rt: HostRuntime) {
+    let bytes = two_requests(&rt, rt.alloc());
     for row in FAILED_READS.rows(rt.alloc()).expect(&rt, "rows").iter() {
-        ask_failed_read(&rt, rt.alloc(), *row);
+        ask_failed_read(&rt, rt.alloc(), *row, &bytes);
     }
+    let ways = Ways { read: 1, ..WHOLE };
+    let found = requests_before(&rt, rt.alloc(), b"P", ways);
+    let right = found == (0, Err(HttpEnd::ReadFault));
+    holds(&rt, right, "a failed read behind one byte");
 }
 
 /// Whether this status is written.
@@ -173,26 +204,22 @@ fn is_written(status: u16) -> bool
     )
 }
 
-/// A link whose writes take 16 bytes, and of which the one with this number fails.
-fn answering(alloc: Global, failing: u64) -> Result<Joined<FaultlessSource, MemorySink>, Memory> {
-    let source = FaultlessSource::new(alloc, b"", 1, 0)?;
-    let sink = MemorySink::new(alloc, 16, &[failing])?;
-    Ok(Joined { source, sink })
-}
-
-/// Whether this is written of a response with the body `hi`, 16 bytes at a time, where the write with this number fails,
-/// and whether it ends so.
-fn writes(
+/// This is written of a response with the body `hi`, 16 bytes at a time, where the write with this number fails, and it ends
+/// so.
+fn expect_written(
     rt: &impl Abort,
+    row: Row<'_>,
     alloc: Global,
-    response: (u16, bool),
-    failing: u64,
-    want: (&[u8], Result<(), AnswerEnd>),
-) -> bool {
-    let mut link = answering(alloc, failing).expect(rt, "a link");
-    assert!(rt; is_written(response.0));
-    let answer = write_response(alloc, &mut link, response.0, b"hi", response.1);
-    link.sink.as_bytes() == want.0 && answer == want.1
+    write: u64,
+    want: &[u8],
+    end: Result<(), AnswerEnd>,
+) {
+    let (status, close) = response_of(rt, row);
+    let mut link = link_of(rt, alloc, b"", Ways { write, ..WHOLE });
+    assert!(rt; is_written(status));
+    let answer = write_response(alloc, &mut link, status, b"hi", close);
+    holds_of(rt, row, want.len(), answer == end);
+    holds_of(rt, row, want.len(), link.sink.as_bytes() == want);
 }
 
 /// A status, whether the link is to be closed, and what is written.
@@ -225,16 +252,13 @@ fn response_of(rt: &impl Abort, row: Row<'_>) -> (u16, bool) {
 
 /// What is written of a response, also where a write fails.
 fn ask_response(rt: &impl Abort, alloc: Global, row: Row<'_>) {
-    let response = response_of(rt, row);
     let want = text_of(rt, alloc, row, 2);
-    let right = writes(rt, alloc, response, u64::MAX, (&want, Ok(())));
-    holds_of(rt, row, want.len(), right);
+    expect_written(rt, row, alloc, u64::MAX, &want, Ok(()));
     // There is a write for each 16 bytes, and then the flush.
     for failing in 0..=want.len().div_ceil(16) {
-        let front = want.len().min(failing.saturating_mul(16));
-        let want = (&want[..front], Err(AnswerEnd::WriteFault));
-        let right = writes(rt, alloc, response, failing as u64, want);
-        holds_of(rt, row, failing, right);
+        let front = &want[..want.len().min(failing.saturating_mul(16))];
+        let end = Err(AnswerEnd::WriteFault);
+        expect_written(rt, row, alloc, failing as u64, front, end);
     }
 }
 

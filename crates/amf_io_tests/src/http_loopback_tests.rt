@@ -43,6 +43,21 @@ fn has_answer(alloc: Global, client: &mut TcpStream) -> bool {
     client.read_to_end(&mut answer).is_ok() && answer.as_slice() == ANSWER
 }
 
+/// A hall serves a client, and tells the moment and words.
+fn meets<H: Hall<Link = TcpLink>>(
+    rt: &impl Abort,
+    alloc: Global,
+    hall: &mut H,
+    client: &mut TcpStream,
+) {
+    let sent = client.write(REQUEST).expect(rt, "a write");
+    holds(rt, sent == REQUEST.len(), "the request is sent");
+    serves(rt, alloc, hall);
+    holds(rt, has_answer(alloc, client), "the answer");
+    holds(rt, hall.now() > 1_600_000_000_000, "the moment");
+    holds(rt, hall.word() != hall.word(), "two words");
+}
+
 /// A connection is accepted by the system before the hall asks for it, so one thread plays both
 /// sides.
 #[test]
@@ -50,13 +65,8 @@ fn serves_over_loopback(rt: HostRuntime) {
     let listener = TcpListener::bind(&rt, "127.0.0.1:0").expect(&rt, "a listener");
     let address = listener.local_addr().expect(&rt, "an address");
     let mut client = TcpStream::connect(&rt, address).expect(&rt, "a client");
-    let sent = client.write(REQUEST).expect(&rt, "a write");
-    holds(&rt, sent == REQUEST.len(), "the request is sent");
     let mut hall = TcpHall::new(listener, rt);
-    serves(&rt, rt.alloc(), &mut hall);
-    holds(&rt, has_answer(rt.alloc(), &mut client), "the answer");
-    holds(&rt, hall.now() > 1_600_000_000_000, "the moment");
-    holds(&rt, hall.word() != hall.word(), "two words");
+    meets(&rt, rt.alloc(), &mut hall, &mut client);
 }
 
 /// How many halls a front opens, which go back then.

@@ -21,22 +21,15 @@ fn first<S: Source>(alloc: Global, source: &mut S) -> Result<u8, CursorEnd>
     }
 }
 
-/// The first byte, then the next `n`, then whether that is the end.
+/// The first byte, and whether the next `n`, which are appended, are the last.
 fn parts<S: Source>(
-    alloc: Global,
-    source: &mut S,
-    limit: u32,
+    cursor: &mut Cursor<'_, S>,
     n: u32,
-) -> Result<(u8, Vec<u8>, bool, u32), CursorEnd> {
-    let mut cursor = match Cursor::new(alloc, source, limit) {
-        Ok(cursor) => cursor,
-        Err(_) => return Err(CursorEnd::Memory),
-    };
+    out: &mut Vec<u8>,
+) -> Result<(u8, bool), CursorEnd> {
     let byte = cursor.byte()?;
-    let mut out = Vec::new(alloc);
-    cursor.take_into(n, &mut out)?;
-    let ended = cursor.at_end()?;
-    Ok((byte, out, ended, cursor.at()))
+    cursor.take_into(n, out)?;
+    Ok((byte, cursor.at_end()?))
 }
 
 const BYTES: [u8; 6] = [7, 1, 2, 3, 4, 5];
@@ -72,15 +65,26 @@ fn rest_of(rt: &impl Abort, row: Row<'_>) -> Rest {
     }
 }
 
+/// The first byte, the place of the cursor and the bytes behind the first are what they are to be.
+fn expect_bytes(rt: &impl Abort, byte: u8, at: u32, out: &[u8]) {
+    holds(rt, byte == 7, "the first byte");
+    holds(rt, at as usize == out.len().wrapping_add(1), "the place");
+    holds(rt, BYTES[1..].starts_with(out), "the bytes behind");
+}
+
 /// The bytes behind the first, and whether they are the last.
 fn rest(rt: &impl Abort, alloc: Global, pieces: (usize, usize), limit: u32, n: u32) -> Rest {
     let made = FaultlessSource::new(alloc, &BYTES, pieces.0, pieces.1);
     let mut source = made.expect(rt, "a source");
-    let (byte, out, ended, at) = parts(alloc, &mut source, limit, n)?;
-    holds(rt, byte == 7, "the first byte");
-    holds(rt, at as usize == out.len().wrapping_add(1), "the place");
-    holds(rt, BYTES[1..].starts_with(&out), "the bytes behind");
-    Ok((out.len(), ended))
+    let mut cursor = Cursor::new(alloc, &mut source, limit).expect(rt, "a cursor");
+    let mut out = Vec::new(alloc);
+    match parts(&mut cursor, n, &mut out) {
+        Ok((byte, ended)) => {
+            expect_bytes(rt, byte, cursor.at(), &out);
+            Ok((out.len(), ended))
+        }
+        Err(end) => Err(end),
+    }
 }
 
 fn ask_rest(rt: &impl Abort, alloc: Global, row: Row<'_>) -> usize {

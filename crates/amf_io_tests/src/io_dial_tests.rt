@@ -62,25 +62,29 @@ fn first_byte<D: Dial>(dial: &mut D, port: u16, again: bool) -> Result<Option<u8
     }
 }
 
+/// A port, whether its link is read once more, what is said there first, and how many faults there are then.
+static DIALED: [(u16, bool, Result<Option<u8>, OpenEnd>, u64); 4] = [
+    (80, false, Ok(Some(7)), 0),
+    (81, false, Err(OpenEnd::Failed), 1),
+    (82, true, Ok(Some(8)), 2),
+    (83, false, Err(OpenEnd::Failed), 3),
+];
+
+/// Dials each port. The second call fails, and no link is left for the last one.
+fn dials_each(rt: &impl Abort, dial: &mut MemoryDial<MemoryLink>) {
+    for (port, again, want, faults) in DIALED.iter() {
+        let got = first_byte(dial, *port, *again);
+        holds(rt, got == *want, "what is said first");
+        holds(rt, dial.faults() == *faults, "the faults");
+    }
+}
+
 #[test]
 fn a_dial_gives_its_links_in_order(rt: HostRuntime) {
     let mut dial = dial_of_two(&rt, rt.alloc());
-    let first = first_byte(&mut dial, 80, false);
-    holds(&rt, first == Ok(Some(7)), "the first link");
-    let planned = first_byte(&mut dial, 81, false);
-    holds(&rt, planned == Err(OpenEnd::Failed), "a call that fails");
-    holds(&rt, dial.faults() == 1, "one fault");
-    let second = first_byte(&mut dial, 82, true);
-    holds(&rt, second == Ok(Some(8)), "the second link");
-    holds(&rt, dial.faults() == 2, "a link with a fault");
-    let none = first_byte(&mut dial, 83, false);
-    holds(&rt, none == Err(OpenEnd::Failed), "no link is left");
-    holds(&rt, dial.faults() == 3, "that is a fault");
-    holds(
-        &rt,
-        dial.asked() == [80u16, 81, 82, 83].as_slice(),
-        "the ports",
-    );
+    dials_each(&rt, &mut dial);
+    let ports = [80u16, 81, 82, 83];
+    holds(&rt, dial.asked() == ports.as_slice(), "the ports");
     holds(&rt, dial.returned().len() == 2, "two links came back");
 }
 

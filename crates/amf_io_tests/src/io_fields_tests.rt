@@ -7,6 +7,7 @@ use amf_io::{
     append_field, append_raw, read_end, refused,
 };
 use std::alloc::Global;
+use std::process::Abort;
 
 /// A field to append behind a byte that was there.
 #[derive(Clone, Copy)]
@@ -59,48 +60,56 @@ fn append<S: Source>(
 
 /// Appends the field, of an input of at most four bytes that comes in pieces of at most `most`, behind a byte.
 fn appended(
+    rt: &impl Abort,
     alloc: Global,
     input: &[u8],
     most: usize,
     wanted: Wanted,
     out: &mut Vec<u8>,
 ) -> Result<(), ReadEnd> {
-    out.push(0xAA)?;
-    let mut source = MemorySource::new(alloc, input, most, 0, &[])?;
-    let mut cursor = Cursor::new(alloc, &mut source, 4)?;
+    out.push(0xAA).expect(rt, "memory");
+    let mut source = MemorySource::new(alloc, input, most, 0, &[]).expect(rt, "a source");
+    let mut cursor = Cursor::new(alloc, &mut source, 4).expect(rt, "a cursor");
     append(&mut cursor, wanted, out)
 }
 
-/// Whether this is appended behind the byte, or ends so.
-fn is_appended(
+/// Whether this was appended behind the byte, or it ended so.
+fn is_right(got: Result<(), ReadEnd>, out: &[u8], want: Result<&[u8], Reason>) -> bool {
+    match (got, want) {
+        (Ok(()), Ok(want)) => out.len() > 0 && out[0] == 0xAA && &out[1..] == want,
+        (Err(got), Err(want)) => got == refused(want, 0),
+        _ => false,
+    }
+}
+
+/// This is appended behind the byte, or it ends so.
+fn expect_appended(
+    rt: &impl Abort,
     alloc: Global,
     input: &[u8],
     most: usize,
     wanted: Wanted,
-    want: &Result<&[u8], Reason>,
-) -> bool {
+    want: Result<&[u8], Reason>,
+) {
     let mut out = Vec::new(alloc);
-    match (appended(alloc, input, most, wanted, &mut out), want) {
-        (Ok(()), Ok(want)) => out.len() > 0 && out[0] == 0xAA && &&out[1..] == want,
-        (Err(got), Err(want)) => got == refused(*want, 0),
-        _ => false,
-    }
+    let got = appended(rt, alloc, input, most, wanted, &mut out);
+    assert!(rt; is_right(got, &out, want), "{input:?} in pieces of {most}");
 }
 
 #[test]
 fn fields_are_appended(rt: HostRuntime) {
     for (input, wanted, want) in FIELDS.iter() {
         for most in [1usize, 2, 3, 100] {
-            let right = is_appended(rt.alloc(), input, most, *wanted, want);
-            assert!(rt; right, "{input:?} in pieces of {most}");
+            expect_appended(&rt, rt.alloc(), input, most, *wanted, *want);
         }
     }
 }
 
 /// What is read of three bytes under a limit of two, which is raised by one then.
-fn raised(alloc: Global) -> Result<(u8, u8, bool, u8, bool), ReadEnd> {
-    let mut source = MemorySource::new(alloc, b"abc", 2, 0, &[])?;
-    let mut cursor = Cursor::new(alloc, &mut source, 2)?;
+fn raised(rt: &impl Abort, alloc: Global) -> Result<(u8, u8, bool, u8, bool), ReadEnd> {
+    let source = MemorySource::new(alloc, b"abc", 2, 0, &[]);
+    let mut source = source.expect(rt, "a source");
+    let mut cursor = Cursor::new(alloc, &mut source, 2).expect(rt, "a cursor");
     match read_past(&mut cursor) {
         Ok(read) => Ok(read),
         Err(end) => Err(read_end(end, 0)),
@@ -122,7 +131,7 @@ fn read_past<S: Source>(cursor: &mut Cursor<'_, S>) -> Result<(u8, u8, bool, u8,
 
 #[test]
 fn a_raised_limit_lets_more_bytes_through(rt: HostRuntime) {
-    let got = raised(rt.alloc());
+    let got = raised(&rt, rt.alloc());
     holds(
         &rt,
         got == Ok((b'a', b'b', true, b'c', true)),

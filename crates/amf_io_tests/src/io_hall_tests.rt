@@ -45,26 +45,6 @@ fn faultless_hall(rt: &impl Abort, alloc: Global) -> FaultlessHall<FaultlessLink
     FaultlessHall::new(alloc, links, &[5], &[6]).expect(rt, "a hall")
 }
 
-#[test]
-fn a_link_fails_on_each_side_by_itself(rt: HostRuntime) {
-    let mut link = link(&rt, rt.alloc(), 7);
-    let mut room = [0u8; 2];
-    holds(&rt, link.read(&mut room) == Ok(1), "one byte");
-    holds(&rt, room[0] == 7, "the byte");
-    holds(&rt, link.write(b"ab") == Ok(1), "one is taken");
-    holds(&rt, link.read(&mut room) == Err(Failed), "a failed read");
-    holds(&rt, link.flush() == Err(Failed), "a failed flush");
-    holds(&rt, link.read(&mut room) == Ok(0), "the end");
-    holds(&rt, link.flush() == Ok(()), "a flush");
-    holds(&rt, link.source.faults() == 1, "faults of reads");
-    holds(&rt, link.sink.faults() == 1, "faults of writes");
-    holds(
-        &rt,
-        link.sink.as_bytes() == b"a".as_slice(),
-        "what was taken",
-    );
-}
-
 /// What the next link gives, if one comes, which goes back then.
 fn next_byte<H: Hall>(hall: &mut H) -> Result<Option<u8>, Failed> {
     match hall.next() {
@@ -94,23 +74,22 @@ fn tells_numbers<H: Hall>(rt: &impl Abort, hall: &mut H) {
     holds(rt, told == [5, 6, 0, 0], "moments and words");
 }
 
-/// Looks at the links of a hall of two.
-fn gives_two_links(rt: &impl Abort, hall: &mut MemoryHall<MemoryLink>) {
-    holds(rt, next_byte(hall) == Ok(Some(7)), "the first link");
-    holds(rt, next_byte(hall) == Err(Failed), "a failed call");
-    holds(rt, next_byte(hall) == Ok(Some(8)), "the second link");
-    holds(rt, matches!(hall.next(), Ok(None)), "no more links");
+/// Looks at the links of a hall of two. A third one that goes back is dropped.
+fn gives_two_links(rt: &impl Abort, alloc: Global, hall: &mut MemoryHall<MemoryLink>) {
+    for want in [Ok(Some(7)), Err(Failed), Ok(Some(8)), Ok(None)] {
+        holds(rt, next_byte(hall) == want, "what the next link gives");
+    }
     holds(rt, hall.served().len() == 2, "two links");
     holds(rt, hall.faults() == 1, "one fault");
+    hall.back(link(rt, alloc, 9));
+    holds(rt, hall.served().len() == 2, "still two links");
 }
 
 #[test]
 fn a_hall_gives_its_links_in_order(rt: HostRuntime) {
     let mut hall = hall(&rt, rt.alloc());
     tells_numbers(&rt, &mut hall);
-    gives_two_links(&rt, &mut hall);
-    hall.back(link(&rt, rt.alloc(), 9));
-    holds(&rt, hall.served().len() == 2, "still two links");
+    gives_two_links(&rt, rt.alloc(), &mut hall);
 }
 
 /// A front of three halls, whose first call fails.
@@ -129,7 +108,15 @@ fn faultless_front(rt: &impl Abort, alloc: Global) -> FaultlessFront<FaultlessLi
     FaultlessFront::new(alloc, halls).expect(rt, "a front")
 }
 
-/// How many halls a front gives for so many workers. Each gives a link, and where there are two the next call fails.
+/// A hall gives a link, and where there are two workers its next call fails.
+fn gives(rt: &impl Abort, hall: &mut MemoryHall<MemoryLink>, workers: u32) {
+    holds(rt, next_byte(hall) == Ok(Some(7)), "a link");
+    if workers == 2 {
+        holds(rt, next_byte(hall) == Err(Failed), "a failed call");
+    }
+}
+
+/// How many halls a front gives for so many workers, which go back.
 fn opened(
     rt: &impl Abort,
     alloc: Global,
@@ -140,10 +127,7 @@ fn opened(
     let count = halls.len();
     for hall in halls {
         let mut hall = hall;
-        holds(rt, matches!(hall.next(), Ok(Some(_))), "a link");
-        if workers == 2 {
-            holds(rt, hall.next().is_err(), "a failed call");
-        }
+        gives(rt, &mut hall, workers);
         front.back(hall);
     }
     Ok(count)
@@ -157,17 +141,22 @@ static OPENED: [(u32, Result<usize, OpenEnd>); 4] = [
     (1, Ok(1)),
 ];
 
+/// Looks at the halls of a front of three.
+fn gives_three_halls(rt: &impl Abort, alloc: Global, front: &mut MemoryFront<MemoryLink>) {
+    for (workers, want) in OPENED.iter() {
+        let got = opened(rt, alloc, front, *workers);
+        holds(rt, got == *want, "how many halls");
+    }
+    let asked = [(8080u16, 1u32), (8080, 2), (8080, 2), (8080, 1)];
+    holds(rt, front.asked() == asked.as_slice(), "what was asked");
+    holds(rt, front.returned().len() == 3, "what came back");
+    holds(rt, front.faults() == 4, "the faults");
+}
+
 #[test]
 fn a_front_gives_a_hall_for_each_worker(rt: HostRuntime) {
     let mut front = front(&rt, rt.alloc());
-    for (workers, want) in OPENED.iter() {
-        let got = opened(&rt, rt.alloc(), &mut front, *workers);
-        holds(&rt, got == *want, "how many halls");
-    }
-    let asked = [(8080u16, 1u32), (8080, 2), (8080, 2), (8080, 1)];
-    holds(&rt, front.asked() == asked.as_slice(), "what was asked");
-    holds(&rt, front.returned().len() == 3, "what came back");
-    holds(&rt, front.faults() == 4, "the faults");
+    gives_three_halls(&rt, rt.alloc(), &mut front);
 }
 
 /// The one hall of a front.
@@ -183,7 +172,7 @@ fn only_hall(
 fn gives_one_link(rt: &impl Abort, hall: &mut FaultlessHall<FaultlessLink>) {
     tells_numbers(rt, hall);
     holds(rt, next_byte(hall) == Ok(Some(9)), "the link");
-    holds(rt, matches!(hall.next(), Ok(None)), "no more links");
+    holds(rt, next_byte(hall) == Ok(None), "no more links");
     holds(rt, hall.served().len() == 1, "one link");
 }
 
