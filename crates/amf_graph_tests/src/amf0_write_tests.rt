@@ -1,4 +1,3 @@
-ghost use Rattle.std.specs.Prelude.{IfOk};
 ghost use Rattle.amf_graph.specs.Rooted.{content};
 ghost use Rattle.amf0_spelling.specs.Lowered.{IsLowered};
 
@@ -7,20 +6,19 @@ use crate::checks::{bytes_of, field, holds, holds_in, is, number};
 use amf_fixtures::{graph0, graph3};
 use amf_graph::{Lack, LackKind, Rooted, WriteEnd};
 use amf_rows::{Row, Table};
-use amf_wire::{Memory, U29, write_u29};
-use amf0_spelling::graphs_have_one_lowering;
+use amf_wire::{U29, write_u29};
 use amf0_write::{first_lack0, lower, write0, write0_part};
 use std::alloc::Global;
 use std::process::Abort;
 
-/// The lowered graph.
-fn lowered(alloc: Global, graph: &Rooted) -> Result<Rooted, Memory>
-    ensures { IfOk result (λ low. IsLowered (content low)) }
+/// The lowered graph, which is one (`lowering_is_lowered`).
+fn lowered(rt: &impl Abort, alloc: Global, graph: &Rooted) -> Rooted
+    ensures { IsLowered (content result) }
 {
-    // What is lowered is a lowered graph.
-    graphs_have_one_lowering();
-    let low = lower(alloc, graph)?;
-    Ok(low)
+    match lower(alloc, graph) {
+        Ok(low) => low,
+        Err(_) => panic!(rt; "no memory"),
+    }
 }
 
 /// Writes the lowered graph.
@@ -30,7 +28,7 @@ fn write_lowered(
     graph: &Rooted,
     out: &mut Vec<u8>,
 ) -> Result<(), WriteEnd> {
-    let low = lowered(alloc, graph).expect(rt, "memory");
+    let low = lowered(rt, alloc, graph);
     write0(alloc, &low, out)
 }
 
@@ -41,7 +39,7 @@ fn write_twice(
     graph: &Rooted,
     out: &mut Vec<u8>,
 ) -> Result<(), WriteEnd> {
-    let low = lowered(alloc, graph).expect(rt, "memory");
+    let low = lowered(rt, alloc, graph);
     low.is_finished();
     let mut tables = empty_tables(rt, alloc);
     match write0_part(alloc, &low, low.root(), &mut tables, out) {
@@ -114,8 +112,13 @@ fn are_bytes(rt: &impl Abort, alloc: Global, row: Row<'_>, out: &[u8]) {
     holds_in(rt, row, out == want.as_slice(), "what is written");
 }
 
-/// Compares what is written of a graph, behind a byte that was there, with what its row says.
-fn is_written(rt: &impl Abort, alloc: Global, row: Row<'_>, graph: &Rooted) {
+/// Compares what is written of the value of a row, behind a byte that was there, with what the row says.
+fn is_written(rt: &impl Abort, alloc: Global, row: Row<'_>) {
+    let graph = graph_in(rt, alloc, row);
+    graph_is_written(rt, alloc, row, &graph);
+}
+
+fn graph_is_written(rt: &impl Abort, alloc: Global, row: Row<'_>, graph: &Rooted) {
     let mut out = vec![in alloc; 0xAA].expect(rt, "memory");
     let end = match field(rt, row, 0) {
         "parts" => write_twice(rt, alloc, graph, &mut out),
@@ -130,8 +133,7 @@ fn is_written(rt: &impl Abort, alloc: Global, row: Row<'_>, graph: &Rooted) {
 #[test]
 fn writes_values(rt: HostRuntime) {
     for row in WRITTEN.rows(rt.alloc()).expect(&rt, "rows").iter() {
-        let graph = graph_in(&rt, rt.alloc(), *row);
-        is_written(&rt, rt.alloc(), *row, &graph);
+        is_written(&rt, rt.alloc(), *row);
     }
 }
 
@@ -142,20 +144,25 @@ fn an_array_lacks_nothing(rt: HostRuntime) {
     holds(&rt, lack == None, "no lack");
 }
 
-/// The graph of an array with a text of so many bytes as an item, and with one name.
-fn named(rt: &impl Abort, alloc: Global, length: u32) -> Rooted {
+fn put(rt: &impl Abort, bytes: &mut Vec<u8>, more: &[u8]) {
+    bytes.extend_from_slice(more).expect(rt, "memory");
+}
+
+/// Puts a text of so many bytes.
+fn put_text(rt: &impl Abort, bytes: &mut Vec<u8>, length: u32) {
     assert!(rt; length <= 65_536, "a long text");
     let size = U29::new(length * 2 + 1).expect(rt, "a number of 29 bits");
-    let mut bytes = vec![in alloc; 0x09, 0x01].expect(rt, "memory");
-    bytes
-        .extend_from_slice(write_u29(size).as_slice())
-        .expect(rt, "memory");
-    bytes
-        .resize(bytes.len().saturating_add(length as usize), b'a')
-        .expect(rt, "memory");
-    bytes
-        .extend_from_slice(&[0x06, 0x00, 0x01])
-        .expect(rt, "memory");
+    put(rt, bytes, write_u29(size).as_slice());
+    let end = bytes.len().saturating_add(length as usize);
+    bytes.resize(end, b'a').expect(rt, "memory");
+}
+
+/// The graph of an array with a text of so many bytes as an item, and with one name.
+fn named(rt: &impl Abort, alloc: Global, length: u32) -> Rooted {
+    let mut bytes = Vec::new(alloc);
+    put(rt, &mut bytes, b"\x09\x01");
+    put_text(rt, &mut bytes, length);
+    put(rt, &mut bytes, b"\x06\x00\x01");
     graph3(alloc, &bytes).expect(rt, "a graph")
 }
 

@@ -3,6 +3,7 @@ ghost use Rattle.amf3_spelling.specs.Tables.{no_tables};
 ghost use Rattle.amf_graph.specs.Arena.{IsTextId, Names, value_content};
 ghost use Rattle.amf_graph.specs.Reached.{IsReachedValue};
 ghost use Rattle.amf_graph.specs.Rooted.{content};
+ghost use Rattle.amf3_write.specs.PartTables.{AreTablesOf};
 
 use crate::checks::holds;
 use amf_fixtures::{graph0, graph3, rooted_at};
@@ -66,14 +67,39 @@ fn by_given_tables(rt: &impl Abort, alloc: Global, graph: &Rooted, out: &mut Vec
 
 /// The same by the tables of a graph, an item first.
 fn by_tables_of_a_graph(rt: &impl Abort, alloc: Global, graph: &Rooted, out: &mut Vec<u8>) {
+    let mut tables = GraphTables::of(alloc, empty_tables(rt, alloc));
+    put_parts(rt, alloc, graph, &mut tables, out);
+}
+
+fn put_parts(
+    rt: &impl Abort,
+    alloc: Global,
+    graph: &Rooted,
+    tables: &mut GraphTables,
+    out: &mut Vec<u8>,
+)
+    requires { AreTablesOf graph.now.arena tables.old }
+    ensures { AreTablesOf graph.now.arena tables.new }
+{
+    put_item(rt, alloc, graph, 0, tables, out);
     let text = text(graph).expect(rt, "a text");
-    let part = item(graph, 0).expect(rt, "an item");
-    let again = item(graph, 1).expect(rt, "an item");
-    let empty = empty_tables(rt, alloc);
-    let mut tables = GraphTables::of(alloc, empty);
-    write3_part_of(alloc, graph, part, &mut tables, out).expect(rt, "an item");
-    write3_text_of(alloc, graph, text, &mut tables, out).expect(rt, "a text");
-    write3_part_of(alloc, graph, again, &mut tables, out).expect(rt, "an item");
+    write3_text_of(alloc, graph, text, tables, out).expect(rt, "a text");
+    put_item(rt, alloc, graph, 1, tables, out);
+}
+
+fn put_item(
+    rt: &impl Abort,
+    alloc: Global,
+    graph: &Rooted,
+    place: usize,
+    tables: &mut GraphTables,
+    out: &mut Vec<u8>,
+)
+    requires { AreTablesOf graph.now.arena tables.old }
+    ensures { AreTablesOf graph.now.arena tables.new }
+{
+    let part = item(graph, place).expect(rt, "an item");
+    write3_part_of(alloc, graph, part, tables, out).expect(rt, "an item");
 }
 
 /// Writes a graph twice.
@@ -132,14 +158,17 @@ const UNNAMED: &[u8] = b"\x0A\x00\x00\x00\x02\x0A\x00\x00\x00\x00\x0A\x00\x00\x0
     \x08\x00\x00\x00\x00\x00\x00\x07\x00\x03\x00\x00\x09";
 
 /// The lack of the first node with the empty name, which is the second of the graph.
-const EMPTY_NAME: WriteEnd = WriteEnd::NoSpelling(Lack {
+const EMPTY_NAME: Lack = Lack {
     kind: LackKind::EmptyName,
     node: 1,
-});
+};
 
 /// Whether a writing ended with the lack of a name, and nothing was written behind a byte.
 fn lacks_a_name(rt: &impl Abort, end: Result<(), WriteEnd>, out: &[u8]) {
-    holds(rt, end == Err(EMPTY_NAME), "the lack");
+    match end {
+        Err(WriteEnd::NoSpelling(lack)) => holds(rt, lack == EMPTY_NAME, "the lack"),
+        _ => panic!(rt; "no lack"),
+    }
     holds(rt, out == [0xAA].as_slice(), "nothing written");
 }
 

@@ -37,12 +37,16 @@ fn is_numbered(rt: &impl Abort, numbering: &Numbering, number: u32, node: NodeId
     );
 }
 
-fn numbers_in_order(rt: &impl Abort, alloc: Global, graph: &Rooted) {
-    let numbering = Numbering::of(alloc, graph).expect(rt, "an order");
+fn are_numbered(rt: &impl Abort, numbering: &Numbering) {
     holds(rt, numbering.count() == 4, "the count");
     for (number, node) in NUMBERED.iter() {
-        is_numbered(rt, &numbering, *number, *node);
+        is_numbered(rt, numbering, *number, *node);
     }
+}
+
+fn numbers_in_order(rt: &impl Abort, alloc: Global, graph: &Rooted) {
+    let numbering = Numbering::of(alloc, graph).expect(rt, "an order");
+    are_numbered(rt, &numbering);
 }
 
 /// The graph with its nodes in their order.
@@ -66,16 +70,25 @@ fn names_go_in_order(rt: HostRuntime) {
     relabels_in_order(&rt, rt.alloc(), &graph);
 }
 
+/// Nodes, each with its number if it is reached.
+static REACHED: [(NodeId, Option<u32>); 3] = [
+    (NodeId(1), Some(0)),
+    (NodeId(0), None),
+    (NodeId(2), None),
+];
+
+/// Checks the number of each node.
+fn has_numbers(rt: &impl Abort, numbering: &Numbering) {
+    holds(rt, numbering.count() == 1, "the count");
+    for (node, number) in REACHED.iter() {
+        let found = numbering.number_of(*node);
+        holds(rt, found == *number, "the number of a node");
+    }
+}
+
 fn numbers_what_is_reached(rt: &impl Abort, alloc: Global, ring: &Rooted) {
     let numbering = Numbering::of(alloc, ring).expect(rt, "an order");
-    holds(rt, numbering.count() == 1, "the count");
-    for (node, number) in [(1, Some(0)), (0, None), (2, None)] {
-        holds(
-            rt,
-            numbering.number_of(NodeId(node)) == number,
-            "the number of a node",
-        );
-    }
+    has_numbers(rt, &numbering);
 }
 
 /// The values that are met at node 0.

@@ -127,26 +127,29 @@ class | ArrayList | -
 
 fn add(rt: &impl Abort, alloc: Global, row: Row<'_>, tables: &mut WriterTables) {
     match field(rt, row, 0) {
-        "text" => {
-            let text = bytes_of(rt, alloc, row, 1);
-            tables.add_text(&text).expect(rt, "memory");
-        }
-        "node" => tables
-            .add_node(NodeId(number(rt, row, 1)))
-            .expect(rt, "memory"),
-        _ => {
-            let class = class_in(rt, row, 1).expect(rt, "a class");
-            tables.add_wrapped(class).expect(rt, "memory");
-        }
+        "text" => add_text(rt, alloc, row, tables),
+        "node" => add_node(rt, number(rt, row, 1), tables),
+        _ => add_wrapped(rt, class_in(rt, row, 1), tables),
     }
+}
+
+fn add_text(rt: &impl Abort, alloc: Global, row: Row<'_>, tables: &mut WriterTables) {
+    let text = bytes_of(rt, alloc, row, 1);
+    tables.add_text(&text).expect(rt, "memory");
+}
+
+fn add_node(rt: &impl Abort, node: u32, tables: &mut WriterTables) {
+    tables.add_node(NodeId(node)).expect(rt, "memory");
+}
+
+fn add_wrapped(rt: &impl Abort, class: Option<Wrapped>, tables: &mut WriterTables) {
+    let class = class.expect(rt, "a class");
+    tables.add_wrapped(class).expect(rt, "memory");
 }
 
 fn place_of(rt: &impl Abort, alloc: Global, row: Row<'_>, tables: &WriterTables) -> Option<u32> {
     match field(rt, row, 0) {
-        "text" => {
-            let text = bytes_of(rt, alloc, row, 1);
-            tables.place_of_text(&text)
-        }
+        "text" => tables.place_of_text(&bytes_of(rt, alloc, row, 1)),
         "node" => tables.place_of_node(NodeId(number(rt, row, 1))),
         _ => tables.place_of_wrapped(class_in(rt, row, 1).expect(rt, "a class")),
     }
@@ -217,18 +220,16 @@ fn a_writer_finds_what_it_entered(rt: HostRuntime) {
 }
 
 /// Enters a wrapper, and a class of the first text with a member of the second.
-fn add_class(rt: &impl Abort, alloc: Global, graph: &Rooted) -> WriterTables
+fn add_class(rt: &impl Abort, graph: &Rooted, tables: &mut WriterTables)
     requires { length graph.now.arena.texts ≡ 2 }
 {
-    let mut tables = WriterTables::new(alloc).expect(rt, "tables");
-    tables.add_wrapped(Wrapped::ArrayList).expect(rt, "memory");
+    add_wrapped(rt, Some(Wrapped::ArrayList), tables);
     let entered = TraitsView {
         class: TextId(0),
         dynamic: true,
         sealed: &[TextId(1)],
     };
     tables.add_traits(&entered, graph).expect(rt, "memory");
-    tables
 }
 
 /// Where a class stands, whose objects may have further members.
@@ -250,16 +251,23 @@ fn place_of_class(
 }
 
 /// Classes by their two texts, and where each stands.
+fn finds_classes(rt: &impl Abort, graph: &Rooted, tables: &WriterTables)
+    requires { length graph.now.arena.texts ≡ 2 }
+{
+    let entered = place_of_class(tables, graph, TextId(0), &[TextId(1)]);
+    holds(rt, entered == Some(1), "the same");
+    let alike = place_of_class(tables, graph, TextId(1), &[TextId(0)]);
+    holds(rt, alike == Some(1), "by other texts");
+    let shorter = place_of_class(tables, graph, TextId(0), &[]);
+    holds(rt, shorter == None, "with fewer members");
+}
+
 fn finds_by_content(rt: &impl Abort, alloc: Global, graph: &Rooted)
     requires { length graph.now.arena.texts ≡ 2 }
 {
-    let tables = add_class(rt, alloc, graph);
-    let entered = place_of_class(&tables, graph, TextId(0), &[TextId(1)]);
-    holds(rt, entered == Some(1), "the same");
-    let alike = place_of_class(&tables, graph, TextId(1), &[TextId(0)]);
-    holds(rt, alike == Some(1), "by other texts");
-    let shorter = place_of_class(&tables, graph, TextId(0), &[]);
-    holds(rt, shorter == None, "with fewer members");
+    let mut tables = WriterTables::new(alloc).expect(rt, "tables");
+    add_class(rt, graph, &mut tables);
+    finds_classes(rt, graph, &tables);
 }
 
 #[test]

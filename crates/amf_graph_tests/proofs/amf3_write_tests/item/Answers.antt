@@ -1,13 +1,24 @@
-use Rattle.std.proofs.Common.{◌≡◌, ◌<◌, length, get_or, slice_get, Some, sym, ap, ◌∙◌, subst, inl, inr, arith}
+use Rattle.std.proofs.Common.{◌<◌, length, get_or, sym, ap, ◌∙◌, subst, inl, inr, arith}
 use Rattle.std.specs.Option.{option_map}
 use Rattle.std.proofs.lemmas.Option.{slice_get-map, slice_get-get_or}
 use Rattle.amf_graph.specs.declared.value.Value.TheVariants.{Undefined}
-use Rattle.amf_graph.specs.Graph.{Node, node_at}
-use Rattle.amf_graph.specs.Arena.{value_content}
+use Rattle.amf_graph.specs.Graph.{Node}
+use Rattle.amf_graph.specs.Arena.{value_content, Names, StoredNode}
+use Rattle.std.specs.List.{AllByRecursion}
 use Rattle.amf_graph.specs.Reached.{Holds, at_root}
-use Rattle.amf_graph.specs.Rooted.{content}
-use Rattle.amf3_write.proofs.WroteNodes.{shown}
+use Rattle.amf3_write.proofs.Wrote.{each_there}
+use Rattle.amf3_write.proofs.WroteNodes.{shown, node_in}
 use Rattle.amf_graph_tests.proofs.amf3_write_tests.item.Goals as goal
+
+pub returns-in-Array-clause-names : goal.returns-in-Array-clause-names
+returns-in-Array-clause-names c =
+    let a = c.args.graph.now.arena in
+    let i = c.in-Node.node.0 in
+    let vs = c.in-Array.items.now in
+    let there : i < length a.nodes = subst (Names a) (sym c.root.ensures ∙ c.in-Node.is) c.is_finished.ensures.names in
+    let within : c.args.place < length vs = omega arith in
+    let all : AllByRecursion (Names a) vs = subst (λ (n : StoredNode). AllByRecursion (Names a) n.values) c.in-Array.ensures (node_in a i c.is_finished.ensures.finished there).values in
+    each_there (Names a) vs c.args.place Undefined all within
 
 pub returns-in-Array-clause-reached : goal.returns-in-Array-clause-reached
 returns-in-Array-clause-reached c =
