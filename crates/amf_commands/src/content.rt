@@ -32,6 +32,13 @@ pub fn node_count(alloc: Global, content: &Content) -> Result<u128, Memory>
     }
 }
 
+/// How many nodes a content has that is let go then.
+pub(crate) fn counted(alloc: Global, content: Content) -> Result<u128, Memory>
+    ensures { IfOk result (λ nodes. HasNodes (content_of content) nodes) }
+{
+    node_count(alloc, &content)
+}
+
 /// The listing of a value, of a packet or of a file.
 pub fn listing(alloc: Global, content: &Content) -> Result<Vec<u8>, Memory>
     ensures { IfOk result (λ bytes. IsListed (content_of content.now) bytes.items) }
@@ -43,4 +50,11 @@ pub fn listing(alloc: Global, content: &Content) -> Result<Vec<u8>, Memory>
         Content::File(file) => show_file(alloc, file, &mut bytes)?,
     }
     Ok(bytes)
+}
+
+/// The listing of a content that is let go then.
+pub(crate) fn listed(alloc: Global, content: Content) -> Result<Vec<u8>, Memory>
+    ensures { IfOk result (λ bytes. IsListed (content_of content) bytes.items) }
+{
+    listing(alloc, &content)
 }

@@ -6,7 +6,7 @@ ghost use Rattle.amf_commands.specs.Run.{TakesInput, Makes, IsConverted, IsUncon
 ghost use Rattle.amf_commands.specs.Askable.{IsAskable};
 
 use crate::command::Command;
-use crate::content::{listing, node_count};
+use crate::content::{counted, listed};
 use crate::format::Format;
 use crate::lines::count_line;
 use crate::making::measurement;
@@ -99,7 +99,7 @@ fn checked<I: Source>(
     ensures ends { IsReadEnd result }
 {
     let content = read_content(alloc, keys, from, input)?;
-    let nodes = node_count(alloc, &content)?;
+    let nodes = counted(alloc, content)?;
     Ok(count_line(alloc, nodes)?)
 }
 
@@ -116,5 +116,5 @@ fn shown<I: Source>(
     ensures ends { IsReadEnd result }
 {
     let content = read_content(alloc, keys, from, input)?;
-    Ok(listing(alloc, &content)?)
+    Ok(listed(alloc, content)?)
 }
