@@ -1,8 +1,9 @@
+ghost use Rattle.std.specs.Prelude.{◌≤◌, length};
 ghost use Rattle.amf_io.specs.Cursor.{Counts};
 
 use crate::checks::{field, holds, holds_of, number};
 use crate::fields::pieces;
-use amf_io::{Cursor, CursorEnd, FaultlessSource, MemorySource, Source, Window};
+use amf_io::{Cursor, CursorEnd, Empty, FaultlessSource, MemorySource, Source, Window};
 use amf_rows::{Row, Table};
 use std::alloc::Global;
 use std::process::Abort;
@@ -105,6 +106,72 @@ fn gives_the_same_in_any_pieces(rt: HostRuntime) {
     for row in PARTS.rows(rt.alloc()).expect(&rt, "rows").iter() {
         let count = ask_rest(&rt, rt.alloc(), *row);
         holds(&rt, count == 8, "pieces");
+    }
+}
+
+/// How many bytes there are, a limit, how many of them are taken one by one and then how many at once, and whether they are the
+/// last, or the end.
+static OVER_BYTES: Table = Table {
+    rows: 11,
+    fields: 5,
+    text: r"
+6 | 6 | 6 | 0 | last
+6 | 9 | 6 | 0 | last
+6 | 6 | 0 | 6 | last
+6 | 9 | 2 | 4 | last
+6 | 6 | 5 | 0 | more
+6 | 9 | 0 | 5 | more
+6 | 6 | 7 | 0 | ended
+6 | 9 | 2 | 5 | ended
+0 | 0 | 0 | 0 | last
+0 | 0 | 1 | 0 | ended
+0 | 9 | 0 | 1 | ended
+",
+};
+
+/// Whether the bytes that are taken from a cursor over bytes are the last.
+fn over_bytes(
+    rt: &impl Abort,
+    alloc: Global,
+    bytes: &[u8],
+    limit: u32,
+    parts: (u32, u32),
+) -> Result<bool, CursorEnd>
+    requires { length bytes.now ≤ limit }
+{
+    let mut end = Empty;
+    let made = Cursor::over_bytes(alloc, &mut end, bytes, limit);
+    let mut cursor = made.expect(rt, "a cursor");
+    let mut out = Vec::new(alloc);
+    for _ in 0..parts.0 {
+        out.push(cursor.byte()?)?;
+    }
+    cursor.take_into(parts.1, &mut out)?;
+    holds(rt, bytes.starts_with(&out), "the bytes");
+    holds(rt, cursor.at() as usize == out.len(), "the place");
+    let many = parts.0.wrapping_add(parts.1);
+    holds(rt, cursor.at() == many, "how many");
+    Ok(cursor.is_at_end())
+}
+
+fn ask_over_bytes(rt: &impl Abort, alloc: Global, row: Row<'_>) {
+    let want = match field(rt, row, 4) {
+        "last" => Ok(true),
+        "more" => Ok(false),
+        "ended" => Err(CursorEnd::Ended),
+        _ => panic!(rt; "no end"),
+    };
+    let count = (number(rt, row, 0) as usize).min(6);
+    let limit = number(rt, row, 1).max(count as u32);
+    let parts = (number(rt, row, 2), number(rt, row, 3));
+    let got = over_bytes(rt, alloc, &BYTES[..count], limit, parts);
+    holds_of(rt, row, 0, got == want);
+}
+
+#[test]
+fn gives_bytes_in_memory(rt: HostRuntime) {
+    for row in OVER_BYTES.rows(rt.alloc()).expect(&rt, "rows").iter() {
+        ask_over_bytes(&rt, rt.alloc(), *row);
     }
 }
 
