@@ -30,3 +30,5 @@ mod Published
 mod Gone
 mod Trims
 mod Rounds
+mod Noted
+mod Awake

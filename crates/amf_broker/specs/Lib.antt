@@ -12,3 +12,5 @@ pub mod Moments
 pub mod Lines
 pub mod Members
 pub mod Trims
+pub mod Index
+pub mod Awake

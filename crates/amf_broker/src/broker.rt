@@ -8,6 +8,7 @@ use crate::switchboard::Switchboard;
 use crate::{Answer, Call, ClientIds};
 use amf_wire::{Memory, Name};
 use std::alloc::Global;
+use std::hash::{BuildHasher, DefaultHasher, RandomState};
 use std::marker::Model;
 
 /// A broker of publish and subscribe. It answers one call after another, and hands out messages only when it is polled.
@@ -15,17 +16,22 @@ use std::marker::Model;
 pub struct Broker {
     board: Switchboard,
     calls: u64,
+    /// A moment before which no client expires.
+    awake_until: u64,
 }
 
 impl Model for Broker {
     ghost use Rattle.std.specs.Prelude.{◌≤◌, ◌+◌};
+    ghost use Rattle.std.specs.Prelude.{◌≡◌, true};
+    ghost use Rattle.amf_broker.specs.Limits.{most_idle};
     ghost use Rattle.amf_broker.specs.State.{State};
+    ghost use Rattle.amf_broker.specs.Awake.{are_awake};
 
     ghost Value = { State };
 
     ghost view = { λ b. record { board = b.board; calls = b.calls } };
 
-    ghost invariant = { λ b. (b.board.next_client ≤ b.calls + 1) × (b.board.next_sub ≤ b.calls + 1) × (b.board.next_message ≤ b.calls + 1) };
+    ghost invariant = { λ b. (b.board.next_client ≤ b.calls + 1) × (b.board.next_sub ≤ b.calls + 1) × (b.board.next_message ≤ b.calls + 1) × (are_awake b.awake_until b.board.clients ≡ true) × (b.awake_until ≤ b.board.moment + most_idle) };
 }
 
 impl Broker {
@@ -33,8 +39,30 @@ impl Broker {
     pub fn new(alloc: Global, destinations: Vec<Name>) -> Result<Broker, Memory>
         ensures { IfOk result (λ broker. broker ≡ first destinations.items) }
     {
-        let board = Switchboard::new(alloc, destinations);
-        Ok(Broker { board, calls: 0 })
+        Ok(Broker::hashed(alloc, destinations, DefaultHasher::new()))
+    }
+
+    /// The same, and its topics are looked up by hashes of these keys. So whoever names topics should not know them.
+    pub fn keyed(
+        alloc: Global,
+        destinations: Vec<Name>,
+        keys: RandomState,
+    ) -> Result<Broker, Memory>
+        ensures { IfOk result (λ broker. broker ≡ first destinations.items) }
+    {
+        Ok(Broker::hashed(alloc, destinations, keys.build_hasher()))
+    }
+
+    /// The hashes begin so.
+    fn hashed(alloc: Global, destinations: Vec<Name>, start: DefaultHasher) -> Broker
+        ensures { result ≡ first destinations.items }
+    {
+        let board = Switchboard::new(alloc, destinations, start);
+        Broker {
+            board,
+            calls: 0,
+            awake_until: 0,
+        }
     }
 
     /// How many calls were answered.
@@ -67,7 +95,7 @@ impl Broker {
 
         ensures takes_none { IsTrue (takes_none call (answer_to self.old moment call)) → IsOk result }
     {
-        let moment = self.board.moment(alloc, moment)?;
+        let moment = self.board.moment(alloc, moment, self.awake_until)?;
         let caller = call.client();
         let reply = match self.board.admitted(&moment, call) {
             Err(refusal) => {
@@ -78,9 +106,8 @@ impl Broker {
         };
         self.board.see(caller);
         self.calls += 1;
-        Ok(Answer {
-            reply,
-            expired: ClientIds::of_vec(moment.expired),
-        })
+        let expired = ClientIds::of_vec(moment.expired);
+        self.awake_until = self.board.awake_from(self.awake_until);
+        Ok(Answer { reply, expired })
     }
 }

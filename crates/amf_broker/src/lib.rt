@@ -10,6 +10,7 @@ mod laws;
 mod limits;
 mod lines;
 mod log;
+mod logs;
 mod mailbox;
 mod member;
 mod merge;

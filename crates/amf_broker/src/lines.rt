@@ -4,16 +4,13 @@ ghost use Rattle.amf_broker.specs.declared.limits.TheConstants.{MAX_CLIENTS, MAX
 ghost use Rattle.amf_broker.specs.Machine.{new_client, at_client, emptied, kept_as, seen_at, is_idle, is_connected, queue_of, ended_of, last_of, kept_of, kept_ended_of, subs_of, still_live};
 ghost use Rattle.amf_broker.specs.Sound.{are_in_order, rises_by};
 ghost use Rattle.amf_broker.specs.Moments.{stays, clients_left, subs_left};
+ghost use Rattle.amf_broker.specs.Awake.{are_awake};
 ghost use Rattle.amf_broker.specs.Lines.{reached_of, waiters_rise, waiters_left, spans_left, begun_anew, cleared};
 ghost use Rattle.amf_broker.specs.Members.{stopped, remains, logs_of, lines_without, line_without, spans_ended};
-ghost use Rattle.amf_broker.specs.Trims.{is_kept};
 
 use crate::ended::Ended;
-use crate::log::{
-    Log, call_up, drop_sub, drop_subs, enlist, is_kept, members_of, part_all, put_up_message,
-    unheard,
-};
-use crate::mailbox::{Mailbox, has_idle, idle_among, place_in_order, queued, staying};
+use crate::logs::Logs;
+use crate::mailbox::{Mailbox, awake_until, has_idle, idle_among, place_in_order, queued, staying};
 use crate::member::{Member, hand_round, seat_of};
 use crate::merge::{remains, remains_sub, shared, waiting_for};
 use crate::moment::is_in;
@@ -22,6 +19,7 @@ use crate::room::Room;
 use crate::{ClientId, Deliveries, MAX_CLIENTS, SubId, SubIds, Topic};
 use amf_wire::{Memory, Name};
 use std::alloc::Global;
+use std::hash::DefaultHasher;
 use std::marker::Model;
 
 /// The clients and subscriptions of a board. Each message is kept once, in the log of its topic, and each subscription has
@@ -31,7 +29,7 @@ use std::marker::Model;
 pub(crate) struct Lines {
     clients: Vec<Mailbox>,
     places: Vec<Place>,
-    logs: Vec<Log>,
+    logs: Logs,
     next_client: u64,
     next_message: u64,
     turn: usize,
@@ -45,19 +43,20 @@ impl Model for Lines {
 
     ghost Value = { Floor };
 
-    ghost view = { λ l. floor_of l.logs.items l.places.items l.clients.items l.next_client l.next_message };
+    ghost view = { λ l. floor_of l.logs l.places.items l.clients.items l.next_client l.next_message };
 
-    ghost invariant = { λ l. IsLined l.logs.items l.places.items l.clients.items l.next_client l.next_message };
+    ghost invariant = { λ l. IsLined l.logs l.places.items l.clients.items l.next_client l.next_message };
 }
 
 impl Lines {
-    pub(crate) fn new(alloc: Global) -> Lines
+    /// Nobody yet. Topics are looked up by the keys of this hasher.
+    pub(crate) fn new(alloc: Global, start: DefaultHasher) -> Lines
         ensures { result ≡ record { clients = []; subs = []; next_client = 1; next_message = 1 } }
     {
         Lines {
             clients: Vec::new(alloc),
             places: Vec::new(alloc),
-            logs: Vec::new(alloc),
+            logs: Logs::new(alloc, start),
             next_client: 1,
             next_message: 1,
             turn: 0,
@@ -80,11 +79,23 @@ impl Lines {
         queued(&self.clients)
     }
 
-    /// Whether a client expires at this moment.
-    pub(crate) fn has_idle(&self, present: u64) -> bool
+    /// Whether a client expires at this moment. None does before `until`.
+    pub(crate) fn has_idle(&self, present: u64, until: u64) -> bool
+        requires { are_awake until self.now.clients ≡ true }
         ensures { result ≡ list_any (is_idle present) self.now.clients }
     {
+        if present < until {
+            return false;
+        }
         has_idle(&self.clients, present)
+    }
+
+    /// A moment before which no client expires, at most this one.
+    pub(crate) fn awake_until(&self, most: u64) -> u64
+        ensures awake { are_awake result self.now.clients ≡ true }
+        ensures bound { result ≤ most }
+    {
+        awake_until(&self.clients, most)
     }
 
     /// The clients that expire at this moment.
@@ -189,7 +200,7 @@ impl Lines {
     {
         self.places.reserve(1)?;
         let member = Member::new(id, client, seat_of(&self.clients, client));
-        enlist(alloc, &mut self.logs, &topic, member)?;
+        self.logs.enlist(alloc, &topic, member)?;
         leave(&mut self.clients, &mut self.places, &mut self.logs, left);
         let place = Place::new(id, client, topic, self.next_message);
         self.places.push(place).unwrap();
@@ -200,7 +211,7 @@ impl Lines {
     pub(crate) fn unsubscribe(&mut self, sub: SubId)
         ensures { self.new ≡ record self.old { subs = filter (λ u. not (u.id == sub)) self.old.subs } }
     {
-        drop_sub(&mut self.logs, sub);
+        self.logs.drop_sub(sub);
         stop_sub(&mut self.places, sub, self.next_message);
         clear_sub(&mut self.places, &self.logs, sub, self.next_message);
     }
@@ -223,10 +234,10 @@ impl Lines {
         ensures err { OnErr result (self.new ≡ self.old) }
     {
         let number = self.next_message;
-        let ended = Vec::with_capacity(alloc, members_of(&self.logs, topic).len())?;
-        put_up_message(alloc, &mut self.logs, topic, number, message)?;
+        let ended = Vec::with_capacity(alloc, self.logs.members_of(topic).len())?;
+        self.logs.put_up_message(alloc, topic, number, message)?;
         leave(&mut self.clients, &mut self.places, &mut self.logs, left);
-        let members = members_of(&self.logs, topic);
+        let members = self.logs.members_of(topic);
         let ended = hand_round(members, &mut self.clients, ended);
         self.next_message += 1;
         let ended = Ended { subs: ended };
@@ -301,14 +312,16 @@ impl Lines {
         }
     }
 
-    /// Messages that nobody waits for go, and logs that nobody needs. Nothing of that is seen.
+    /// Messages that nobody waits for go from the log whose turn it is and from the one to which a message came last, and logs
+    /// that nobody needs go. Nothing of that is seen.
     pub(crate) fn settle(&mut self)
         ensures { self.new ≡ self.old }
     {
         self.take_turn();
-        for at in 0..self.logs.len() {
-            self.trim(at);
-        }
+        let turn = self.turn;
+        self.trim(turn);
+        let last = self.logs.last();
+        self.trim(last);
         self.sweep();
     }
 
@@ -323,7 +336,7 @@ impl Lines {
         }
         self.turn_in = self.places.len() / 16;
         self.turn = turn_after(self.turn, self.logs.len());
-        call_up(&mut self.logs, self.turn);
+        self.logs.call_up(self.turn);
     }
 
     /// Messages of the log at this place that nobody waits for go, if it is long or was called up.
@@ -333,11 +346,11 @@ impl Lines {
         if at >= self.logs.len() {
             return;
         }
-        self.logs[at].trim(&self.places, self.next_message);
+        self.logs.trim(at, &self.places, self.next_message);
     }
 
-    /// Logs that nobody needs go. Each one to which nobody listens takes a look at all places, so as many calls as there are
-    /// such logs pass before the next time.
+    /// Logs that nobody needs go. That takes a look at all logs, and for each one to which nobody listens at all places, so some
+    /// calls pass before the next time.
     fn sweep(&mut self)
         ensures { self.new ≡ self.old }
     {
@@ -345,8 +358,8 @@ impl Lines {
             self.sweep_in -= 1;
             return;
         }
-        sweep(&mut self.logs, &self.places);
-        self.sweep_in = unheard(&self.logs);
+        self.logs.sweep(&self.places);
+        self.sweep_in = (self.logs.len() / 16).saturating_add(self.logs.unheard());
     }
 }
 
@@ -359,25 +372,13 @@ fn turn_after(turn: usize, count: usize) -> usize {
     }
 }
 
-/// Logs to which nobody listens, and in which nobody has a place, go.
-fn sweep(logs: &mut Vec<Log>, places: &[Place])
-    ensures { logs.new.items ≡ filter (is_kept places.now) logs.old.items }
-{
-    logs.retain(|log| is_kept(log, places));
-}
-
 /// These clients leave, and their subscriptions end.
-fn leave(
-    clients: &mut Vec<Mailbox>,
-    places: &mut Vec<Place>,
-    logs: &mut Vec<Log>,
-    left: &[ClientId],
-)
+fn leave(clients: &mut Vec<Mailbox>, places: &mut Vec<Place>, logs: &mut Logs, left: &[ClientId])
     requires left { are_in_order left.now ≡ true }
     requires rise { waiters_rise 0 clients.old.items ≡ true }
     ensures clients { clients.new.items ≡ waiters_left left.now clients.old.items }
     ensures places { places.new.items ≡ spans_left left.now places.old.items }
-    ensures logs { logs.new.items ≡ lines_without left.now (waiters_left left.now clients.old.items) logs.old.items }
+    ensures logs { logs.new ≡ lines_without left.now (waiters_left left.now clients.old.items) logs.old }
     ensures clients_len { vec_len clients.new ≤ vec_len clients.old }
     ensures places_len { vec_len places.new ≤ vec_len places.old }
     ensures clients_room { vec_capacity clients.new ≡ vec_capacity clients.old }
@@ -388,7 +389,7 @@ fn leave(
     }
     clients.retain(|mailbox| !is_in(left, mailbox.id()));
     places.retain(|place| !is_in(left, place.client()));
-    part_all(logs, left, clients);
+    logs.part_all(left, clients);
 }
 
 /// The subscription ends, if it is live, before the message of this number.
@@ -410,28 +411,28 @@ fn stop_subs(places: &mut [Place], ended: &Ended, next: u64)
 }
 
 /// These subscriptions, if there are any, end before the message of this number, which is the last one.
-fn end_all(places: &mut Vec<Place>, logs: &mut Vec<Log>, ended: &Ended, number: u64)
+fn end_all(places: &mut Vec<Place>, logs: &mut Logs, ended: &Ended, number: u64)
     requires { number < 2 ^ 63 }
-    ensures logs { logs.new.items ≡ map (line_without (λ sub. list_any (λ id. id == sub) ended.now.subs.items)) logs.old.items }
-    ensures places { places.new.items ≡ spans_ended ended.now.subs.items number (logs_of logs.old.items) places.old.items }
+    ensures logs { logs.new ≡ map (line_without (λ sub. list_any (λ id. id == sub) ended.now.subs.items)) logs.old }
+    ensures places { places.new.items ≡ spans_ended ended.now.subs.items number (logs_of logs.old) places.old.items }
 {
     if ended.subs.is_empty() {
         return;
     }
-    drop_subs(logs, ended);
+    logs.drop_subs(ended);
     stop_subs(places, ended, number);
     clear(places, logs, ended, number + 1);
 }
 
 /// The subscription goes, if it has ended and nothing waits for it.
-fn clear_sub(places: &mut Vec<Place>, logs: &[Log], sub: SubId, next: u64)
+fn clear_sub(places: &mut Vec<Place>, logs: &Logs, sub: SubId, next: u64)
     ensures { places.new.items ≡ filter (remains (λ id. id == sub) (logs_of logs.now) next) places.old.items }
 {
     places.retain(|place| remains_sub(place, logs, sub, next));
 }
 
 /// Of these subscriptions go those that have ended, and for which nothing waits.
-fn clear(places: &mut Vec<Place>, logs: &[Log], ended: &Ended, next: u64)
+fn clear(places: &mut Vec<Place>, logs: &Logs, ended: &Ended, next: u64)
     ensures { places.new.items ≡ filter (remains (λ sub. list_any (λ id. id == sub) ended.now.subs.items) (logs_of logs.now) next) places.old.items }
 {
     places.retain(|place| remains(place, logs, ended, next));

@@ -75,7 +75,7 @@ impl Model for Log {
 
 impl Log {
     /// A log in which nothing is, to which one subscription listens.
-    fn new(alloc: Global, topic: &Topic, member: Member) -> Result<Log, Memory>
+    pub(crate) fn new(alloc: Global, topic: &Topic, member: Member) -> Result<Log, Memory>
         ensures { IfOk result (λ log. log ≡ record { topic = topic.now; posts = []; members = member ∷ [] }) }
     {
         let topic = copy_of(alloc, topic)?;
@@ -89,35 +89,42 @@ impl Log {
         })
     }
 
-    fn is_of(&self, topic: &Topic) -> bool
+    pub(crate) fn topic(&self) -> &Topic
+        ensures { result.now ≡ self.now.topic }
+    {
+        &self.topic
+    }
+
+    pub(crate) fn is_of(&self, topic: &Topic) -> bool
         ensures { result ≡ is_same_topic topic.now self.now.topic }
     {
         is_same_topic(topic, &self.topic)
     }
 
-    fn posts(&self) -> &[Post]
+    pub(crate) fn posts(&self) -> &[Post]
         ensures { result.now ≡ self.now.posts }
     {
         self.posts.as_slice()
     }
 
-    fn members(&self) -> &[Member]
+    pub(crate) fn members(&self) -> &[Member]
         ensures { result.now ≡ self.now.members }
     {
         self.members.as_slice()
     }
 
     /// Whether nobody listens to it.
-    fn is_unheard(&self) -> bool
+    pub(crate) fn is_unheard(&self) -> bool
         ensures { result ≡ (length self.now.members == 0) }
     {
         self.members.is_empty()
     }
 
     /// The message comes to the back, if someone listens.
-    fn push(&mut self, post: Post) -> Result<(), Memory>
+    pub(crate) fn push(&mut self, post: Post) -> Result<(), Memory>
         ensures ok { OnOk result (self.new ≡ with_post post self.old) }
         ensures err { OnErr result (self.new ≡ self.old) }
+        ensures topic { self.new.topic ≡ self.old.topic }
     {
         if self.members.is_empty() {
             return Ok(());
@@ -127,9 +134,10 @@ impl Log {
     }
 
     /// The subscription listens from now on.
-    fn join(&mut self, member: Member) -> Result<(), Memory>
+    pub(crate) fn join(&mut self, member: Member) -> Result<(), Memory>
         ensures ok { OnOk result (self.new ≡ with_member member self.old) }
         ensures err { OnErr result (self.new ≡ self.old) }
+        ensures topic { self.new.topic ≡ self.old.topic }
     {
         self.members.push(member)?;
         Ok(())
@@ -165,7 +173,7 @@ impl Log {
     }
 
     /// It is at its limit, however short it is.
-    fn call_up(&mut self)
+    pub(crate) fn call_up(&mut self)
         ensures { self.new ≡ self.old }
     {
         self.limit = 0;
@@ -212,46 +220,12 @@ fn sit_all(members: &mut [Member], clients: &[Mailbox])
     }
 }
 
-/// Where the log of the topic stands, if there is one.
-fn place_of_log(logs: &[Log], topic: &Topic) -> Option<usize>
+/// Where the log of the topic stands, if there is one. It looks at one after another.
+pub(crate) fn place_of_log(logs: &[Log], topic: &Topic) -> Option<usize>
     ensures place { result ≡ position (λ l. is_same_topic topic.now l.topic) logs.now }
     ensures bound { IfSome result (λ i. i < length logs.now) }
 {
     logs.iter().position(|log| log.is_of(topic))
-}
-
-/// The messages of the topic that are kept.
-pub(crate) fn posts_of<'a>(logs: &'a [Log], topic: &Topic) -> &'a [Post]
-    ensures { result.now ≡ posts_of topic.now (logs_of logs.now) }
-{
-    for log in logs {
-        if log.is_of(topic) {
-            return log.posts();
-        }
-    }
-    &[]
-}
-
-/// The live subscriptions that listen to the topic.
-pub(crate) fn members_of<'a>(logs: &'a [Log], topic: &Topic) -> &'a [Member]
-    ensures { result.now ≡ members_at topic.now logs.now }
-{
-    for log in logs {
-        if log.is_of(topic) {
-            return log.members();
-        }
-    }
-    &[]
-}
-
-/// The log at this place, if there is one, is at its limit, however short it is.
-pub(crate) fn call_up(logs: &mut Vec<Log>, place: usize)
-    ensures { logs.new.items ≡ logs.old.items }
-{
-    if place >= logs.len() {
-        return;
-    }
-    logs[place].call_up();
 }
 
 /// Whether a subscription has its place in the log.
@@ -271,34 +245,6 @@ pub(crate) fn is_kept(log: &Log, places: &[Place]) -> bool
 /// How many logs nobody listens to.
 pub(crate) fn unheard(logs: &[Log]) -> usize {
     logs.iter().filter(|log| log.is_unheard()).count()
-}
-
-/// The message comes to the back of the log of its topic, if someone listens to that.
-fn put_up(logs: &mut Vec<Log>, topic: &Topic, post: Post) -> Result<(), Memory>
-    ensures ok { OnOk result (logs.new.items ≡ posted_line topic.now post logs.old.items) }
-    ensures err { OnErr result (logs.new.items ≡ logs.old.items) }
-{
-    if let Some(place) = place_of_log(logs, topic) {
-        let log = &mut logs[place];
-        return log.push(post);
-    }
-    Ok(())
-}
-
-/// The message of this number comes to the back of the log of its topic, if someone listens to that.
-pub(crate) fn put_up_message(
-    alloc: Global,
-    logs: &mut Vec<Log>,
-    topic: &Topic,
-    number: u64,
-    message: Name,
-) -> Result<(), Memory>
-    ensures ok { OnOk result (logs.new.items ≡ posted_line topic.now (record { number = number; bytes = message }) logs.old.items) }
-    ensures err { OnErr result (logs.new.items ≡ logs.old.items) }
-{
-    let message = Payload::new(alloc, message)?;
-    let post = Post::new(number, message);
-    put_up(logs, topic, post)
 }
 
 /// These clients have left, and the others stand so.
@@ -328,25 +274,6 @@ pub(crate) fn drop_subs(logs: &mut [Log], ended: &Ended)
     for log in logs.iter_mut() {
         log.drop_subs(ended);
     }
-}
-
-/// The subscription listens to the log of the topic from now on.
-pub(crate) fn enlist(
-    alloc: Global,
-    logs: &mut Vec<Log>,
-    topic: &Topic,
-    member: Member,
-) -> Result<(), Memory>
-    ensures ok { OnOk result (logs.new.items ≡ enlisted topic.now member logs.old.items) }
-    ensures err { OnErr result (logs.new.items ≡ logs.old.items) }
-{
-    if let Some(place) = place_of_log(logs, topic) {
-        let log = &mut logs[place];
-        return log.join(member);
-    }
-    let log = Log::new(alloc, topic, member)?;
-    logs.push(log)?;
-    Ok(())
 }
 
 fn copy_of(alloc: Global, topic: &Topic) -> Result<Topic, Memory>

@@ -1,7 +1,9 @@
-ghost use Rattle.std.specs.Prelude.{◌≡◌, ◌<◌, ◌≤◌, ◌==◌, ℕ, List, [], length, map, filter, count_by, sum_by, position, nat_le, true, IfOk, IfSome};
-ghost use Rattle.std.specs.List.{list_any};
+ghost use Rattle.std.specs.Prelude.{◌≡◌, ◌+◌, ◌<◌, ◌≤◌, ◌==◌, ℕ, List, [], length, map, filter, count_by, sum_by, position, nat_le, true, IfOk, IfSome};
+ghost use Rattle.std.specs.List.{list_all, list_any};
 ghost use Rattle.amf_broker.specs.declared.limits.TheConstants.{MAX_CLIENTS};
+ghost use Rattle.amf_broker.specs.Limits.{most_idle};
 ghost use Rattle.amf_broker.specs.Machine.{is_idle};
+ghost use Rattle.amf_broker.specs.Awake.{is_awake};
 ghost use Rattle.amf_broker.specs.Sound.{are_in_order};
 ghost use Rattle.amf_broker.specs.Moments.{stays};
 ghost use Rattle.amf_broker.specs.Lines.{bare, new_waiter, counted, noted, emptied_waiter, kept_waiter, seen_waiter, waiters_rise};
@@ -106,6 +108,15 @@ impl Mailbox {
         present.saturating_sub(self.seen) >= MAX_IDLE
     }
 
+    /// A moment before which it does not expire, at most this one.
+    pub(crate) fn awake_until(&self, most: u64) -> u64
+        ensures awake { nat_le result (self.now.seen + most_idle) ≡ true }
+        ensures bound { result ≤ most }
+    {
+        let until = self.seen.saturating_add(MAX_IDLE);
+        if until < most { until } else { most }
+    }
+
     pub(crate) fn see(&mut self, present: u64)
         ensures { self.new ≡ seen_waiter present self.old }
     {
@@ -197,6 +208,18 @@ pub(crate) fn has_idle(clients: &[Mailbox], present: u64) -> bool
     ensures { result ≡ list_any (λ w. is_idle present (bare w)) clients.now }
 {
     clients.iter().any(|mailbox| mailbox.is_idle(present))
+}
+
+/// A moment before which none of these clients expires, at most this one.
+pub(crate) fn awake_until(clients: &[Mailbox], most: u64) -> u64
+    ensures awake { list_all (λ w. is_awake result (bare w)) clients.now ≡ true }
+    ensures bound { result ≤ most }
+{
+    let mut until = most;
+    for mailbox in clients {
+        until = mailbox.awake_until(until);
+    }
+    until
 }
 
 /// The clients that expire at this moment.

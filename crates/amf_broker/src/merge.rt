@@ -4,7 +4,8 @@ ghost use Rattle.amf_broker.specs.Lines.{put, put_all, covered, gathered, spans_
 ghost use Rattle.amf_broker.specs.Members.{raised, logs_of, is_waited, remains};
 
 use crate::ended::Ended;
-use crate::log::{Log, Post, posts_of};
+use crate::log::Post;
+use crate::logs::Logs;
 use crate::place::Place;
 use crate::{ClientId, Deliveries, Delivery, SubId};
 use amf_wire::Memory;
@@ -78,7 +79,7 @@ fn put_covered(
 /// What waits for the client: its subscriptions' parts of their logs, merged by message number and then by subscription.
 pub(crate) fn waiting_for(
     alloc: Global,
-    logs: &[Log],
+    logs: &Logs,
     places: &[Place],
     client: ClientId,
     next: u64,
@@ -88,17 +89,17 @@ pub(crate) fn waiting_for(
     let mut queue = Vec::new(alloc);
     for place in places {
         if place.client() == client {
-            put_covered(&mut queue, place, posts_of(logs, place.topic()), next)?;
+            put_covered(&mut queue, place, logs.posts_of(place.topic()), next)?;
         }
     }
     Ok(Deliveries::of_vec(queue))
 }
 
 /// Whether the subscription is live, or something waits for it.
-fn is_waited(place: &Place, logs: &[Log], next: u64) -> bool
+fn is_waited(place: &Place, logs: &Logs, next: u64) -> bool
     ensures { result ≡ is_waited (logs_of logs.now) (raised next place.now) }
 {
-    place.is_live() || covers_any(place, posts_of(logs, place.topic()), next)
+    place.is_live() || covers_any(place, logs.posts_of(place.topic()), next)
 }
 
 /// Whether one of the messages waits for the subscription.
@@ -109,14 +110,14 @@ fn covers_any(place: &Place, posts: &[Post], next: u64) -> bool
 }
 
 /// Whether the place is not the subscription's, or the subscription is live, or something waits for it.
-pub(crate) fn remains_sub(place: &Place, logs: &[Log], sub: SubId, next: u64) -> bool
+pub(crate) fn remains_sub(place: &Place, logs: &Logs, sub: SubId, next: u64) -> bool
     ensures { result ≡ remains (λ id. id == sub) (logs_of logs.now) next place.now }
 {
     place.id() != sub || is_waited(place, logs, next)
 }
 
 /// Whether the place is none of these subscriptions', or its subscription is live, or something waits for it.
-pub(crate) fn remains(place: &Place, logs: &[Log], ended: &Ended, next: u64) -> bool
+pub(crate) fn remains(place: &Place, logs: &Logs, ended: &Ended, next: u64) -> bool
     ensures { result ≡ remains (λ sub. list_any (λ id. id == sub) ended.now.subs.items) (logs_of logs.now) next place.now }
 {
     !ended.has(place.id()) || is_waited(place, logs, next)

@@ -2,17 +2,22 @@ use crate::lines::Lines;
 use crate::merge::shared;
 use crate::moment::{Moment, later_of};
 use crate::room::Room;
-use crate::{Call, ClientId, Deliveries, MAX_CLIENTS, MAX_SUBS, Reply, SubId, SubIds, Topic};
+use crate::{
+    Call, ClientId, Deliveries, MAX_CLIENTS, MAX_IDLE, MAX_SUBS, Reply, SubId, SubIds, Topic,
+};
 use amf_wire::{Memory, Name};
 use std::alloc::Global;
+use std::hash::DefaultHasher;
 use std::marker::Model;
 
 mod admission;
 
-ghost use Rattle.std.specs.Prelude.{◌≡◌, ℕ, List, [], ◌<◌, ◌≤◌, ◌^◌, IfOk, OnOk, OnErr, IsOk, None, length, true, sum_by, vec_len, vec_capacity};
+ghost use Rattle.std.specs.Prelude.{◌≡◌, ℕ, List, [], ◌+◌, ◌<◌, ◌≤◌, ◌^◌, IfOk, OnOk, OnErr, IsOk, None, length, true, sum_by, vec_len, vec_capacity};
 ghost use Rattle.amf_broker.specs.State.{first_board};
 ghost use Rattle.amf_broker.specs.Machine.{connected, subscribed, unsubscribed, published, polled, kept_as, at_client, next_batch, same_batch, polled_numbered, disconnected, served, refusal, is_connected, places_of, queue_of, ended_of, last_of, later, expired_at, sighted};
 ghost use Rattle.amf_broker.specs.Memory.{is_unsubscribe, nobody};
+ghost use Rattle.amf_broker.specs.Limits.{most_idle};
+ghost use Rattle.amf_broker.specs.Awake.{are_awake};
 ghost use Rattle.amf_broker.specs.Moments.{board_at, clients_left, subs_left};
 
 /// The destinations, the present moment, the connected clients with what waits for each, and the live subscriptions, these
@@ -37,13 +42,14 @@ impl Model for Switchboard {
 }
 
 impl Switchboard {
-    pub(crate) fn new(alloc: Global, destinations: Vec<Name>) -> Switchboard
+    /// Topics are looked up by the keys of this hasher.
+    pub(crate) fn new(alloc: Global, destinations: Vec<Name>, start: DefaultHasher) -> Switchboard
         ensures { result ≡ first_board destinations.items }
     {
         Switchboard {
             destinations,
             moment: 0,
-            lines: Lines::new(alloc),
+            lines: Lines::new(alloc, start),
             next_sub: 1,
         }
     }
@@ -55,14 +61,28 @@ impl Switchboard {
         self.lines.queued()
     }
 
-    /// What the present moment is at a call of this moment, and who expires at it.
-    pub(crate) fn moment(&self, alloc: Global, moment: u64) -> Result<Moment, Memory>
+    /// A moment before which no client expires: this one, unless it has come.
+    pub(crate) fn awake_from(&self, until: u64) -> u64
+        requires awake { are_awake until self.now.clients ≡ true }
+        requires bound { until ≤ self.now.moment + most_idle }
+        ensures awake { are_awake result self.now.clients ≡ true }
+        ensures bound { result ≤ self.now.moment + most_idle }
+    {
+        if self.moment < until {
+            return until;
+        }
+        self.lines.awake_until(self.moment.saturating_add(MAX_IDLE))
+    }
+
+    /// What the present moment is at a call of this moment, and who expires at it. No client expires before `until`.
+    pub(crate) fn moment(&self, alloc: Global, moment: u64, until: u64) -> Result<Moment, Memory>
+        requires { are_awake until self.now.clients ≡ true }
         ensures present { IfOk result (λ m. m.present ≡ later self.now.moment moment) }
         ensures expired { IfOk result (λ m. m.expired.items ≡ expired_at moment self.now) }
         ensures nobody { nobody (expired_at moment self.now) ≡ true → IsOk result }
     {
         let present = later_of(self.moment, moment);
-        let expired = if self.lines.has_idle(present) {
+        let expired = if self.lines.has_idle(present, until) {
             self.lines.idle_among(alloc, present)?
         } else {
             Vec::new(alloc)

@@ -4,7 +4,9 @@ use crate::checks::{field, holds, is_answered, number};
 use amf_broker::Broker;
 use amf_rows::{Row, Table};
 use std::alloc::Global;
+use std::hash::RandomState;
 use std::process::Abort;
+use std::random::RandomSource;
 
 /// Calls with their answers: `open` and the destinations makes a new broker, and `queued` asks how many deliveries wait.
 /// Where the first field has two numbers, the call is made for each from the one to the other, and `#` stands for it.
@@ -144,14 +146,15 @@ fn sendable<T: Send>(value: T) -> T {
     value
 }
 
-/// A broker of the destinations that follow the first word.
-fn opened(rt: &impl Abort, alloc: Global, asked: &Asked<'_>) -> Broker {
+/// A broker of the destinations that follow the first word, with keys of the runtime.
+fn opened<R: Abort + RandomSource>(rt: &R, alloc: Global, asked: &Asked<'_>) -> Broker {
     let mut destinations = Vec::new(alloc);
     for word in asked.text.split_whitespace().skip(1) {
         let name = name_of(alloc, word).expect(rt, "a name");
         destinations.push(name).expect(rt, "memory");
     }
-    sendable(Broker::new(alloc, destinations).expect(rt, "a broker"))
+    let keys = RandomState::new(rt).expect(rt, "keys");
+    sendable(Broker::keyed(alloc, destinations, keys).expect(rt, "a broker"))
 }
 
 /// What a broker answers to a call.
@@ -169,8 +172,8 @@ fn answer(
 }
 
 /// What comes of a call, which may be one for a new broker.
-fn answered(
-    rt: &impl Abort,
+fn answered<R: Abort + RandomSource>(
+    rt: &R,
     alloc: Global,
     broker: &mut Broker,
     moment: u64,
@@ -210,7 +213,7 @@ fn wanted(rt: &impl Abort, alloc: Global, row: Row<'_>, number: u64) -> String {
 }
 
 /// Makes the calls of a row, and tells how many they are.
-fn ask(rt: &impl Abort, alloc: Global, broker: &mut Broker, row: Row<'_>) -> u64 {
+fn ask<R: Abort + RandomSource>(rt: &R, alloc: Global, broker: &mut Broker, row: Row<'_>) -> u64 {
     let (first, last) = numbers(rt, row);
     let moment = u64::from(number(rt, row, 1));
     let mut count = 0u64;
@@ -227,7 +230,7 @@ fn ask(rt: &impl Abort, alloc: Global, broker: &mut Broker, row: Row<'_>) -> u64
 }
 
 /// Makes the calls of a table, and tells how many they are.
-fn ask_all(rt: &impl Abort, alloc: Global, table: &Table) -> u64 {
+fn ask_all<R: Abort + RandomSource>(rt: &R, alloc: Global, table: &Table) -> u64 {
     let mut broker = Broker::new(alloc, Vec::new(alloc)).expect(rt, "a broker");
     let mut count = 0u64;
     for row in table.rows(alloc).expect(rt, "rows").iter() {

@@ -8,7 +8,9 @@ use amf_broker::{Answer, Call, ClientId, Deliveries, Reply, SubIds};
 use amf_desk::{Closed, Desk, DeskEnd, Pass};
 use amf_rows::{Row, Table};
 use std::alloc::Global;
+use std::hash::RandomState;
 use std::process::Abort;
+use std::random::RandomSource;
 use std::sync::Wait;
 use std::sync::atomic::{AtomicU64, Ordering};
 use std::thread;
@@ -595,9 +597,11 @@ fn play_at<R: Threads + Wait + Abort + Sync>(
     }
 }
 
-/// Plays at a new desk, and compares what it tells when it is closed.
-fn at_desk<R: Threads + Wait + Abort + Sync>(rt: &R, alloc: Global, what: Play) {
-    let (desk, mut first) = Desk::open(alloc, chat(rt, alloc)).expect(rt, "a desk");
+/// Plays at a new desk with keys of the runtime, and compares what it tells when it is closed.
+fn at_desk<R: RandomSource + Threads + Wait + Abort + Sync>(rt: &R, alloc: Global, what: Play) {
+    let keys = RandomState::new(rt).expect(rt, "keys");
+    let opened = Desk::open_keyed(alloc, chat(rt, alloc), keys);
+    let (desk, mut first) = opened.expect(rt, "a desk");
     let want = play_at(rt, alloc, &desk, &mut first, what);
     let budget = first.budget();
     assert!(rt; budget > 0, "no budget");

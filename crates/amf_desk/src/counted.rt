@@ -8,6 +8,7 @@ ghost use Rattle.amf_desk.specs.Histories.{publishes, hands_out, state_of, count
 use amf_broker::{Answer, Broker, Call, Reply};
 use amf_wire::{Memory, Name};
 use std::alloc::Global;
+use std::hash::RandomState;
 
 /// A broker, how many messages its answers published, and how many deliveries they handed out. Each count stops at 2^64 - 1.
 #[derive(Drop)]
@@ -45,6 +46,21 @@ impl CountedBroker {
     {
         Ok(CountedBroker {
             broker: Broker::new(alloc, destinations)?,
+            published: 0,
+            delivered: 0,
+        })
+    }
+
+    /// The same, and the broker looks topics up by hashes of these keys.
+    pub(crate) fn keyed(
+        alloc: Global,
+        destinations: Vec<Name>,
+        keys: RandomState,
+    ) -> Result<CountedBroker, Memory>
+        ensures { IfOk result (λ counted. counted ≡ counted_after destinations.items []) }
+    {
+        Ok(CountedBroker {
+            broker: Broker::keyed(alloc, destinations, keys)?,
             published: 0,
             delivered: 0,
         })

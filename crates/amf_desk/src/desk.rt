@@ -1,5 +1,5 @@
 ghost use Rattle.std.specs.Prelude.{◌≡◌, ◌≢◌, ◌+◌, ◌-◌, ◌^◌, ◌<◌, ◌≤◌, [], IfOk, IfErr};
-ghost use Rattle.amf_desk.specs.Histories.{NoneBy};
+ghost use Rattle.amf_desk.specs.Histories.{NoneBy, counted_after};
 ghost use Rattle.amf_desk.specs.Passes.{Called, JoinedTo, ClosedAs};
 ghost use Rattle.amf_desk.specs.Ends.{Ended};
 
@@ -11,6 +11,7 @@ use amf_broker::{Answer, Call};
 use amf_wire::{Memory, Name};
 use atomic_table::{Refused, Table};
 use std::alloc::Global;
+use std::hash::RandomState;
 use std::marker::{Brand, Model};
 use std::snapshot::Snapshot;
 use std::sync::Wait;
@@ -44,9 +45,34 @@ impl Desk {
     {
         let about = Snapshot::of(&destinations);
         let broker = CountedBroker::new(alloc, destinations)?;
+        Desk::with_broker(alloc, &about, broker)
+    }
+
+    /// The same, and topics are looked up by hashes of these keys. So whoever names topics should not know them.
+    pub fn open_keyed(
+        alloc: Global,
+        destinations: Vec<Name>,
+        keys: RandomState,
+    ) -> Result<(Desk, Pass), Memory>
+        ensures { IfOk result (λ r. r.1 ≡ record { desk = r.0; destinations = destinations.items; number = 0; seen = []; budget = 2 ^ 62; splits = 0 }) }
+    {
+        let about = Snapshot::of(&destinations);
+        let broker = CountedBroker::keyed(alloc, destinations, keys)?;
+        Desk::with_broker(alloc, &about, broker)
+    }
+
+    /// A desk with this broker, which is new and has these destinations.
+    fn with_broker(
+        alloc: Global,
+        about: &Snapshot<Vec<Name>>,
+        broker: CountedBroker,
+    ) -> Result<(Desk, Pass), Memory>
+        requires { broker ≡ counted_after about.now.value.items [] }
+        ensures { IfOk result (λ r. r.1 ≡ record { desk = r.0; destinations = about.now.value.items; number = 0; seen = []; budget = 2 ^ 62; splits = 0 }) }
+    {
         let mut slots = Vec::new(alloc);
         slots.push(Some(broker))?;
-        match Table::new(alloc, &[0, 0, 0], slots, &about) {
+        match Table::new(alloc, &[0, 0, 0], slots, about) {
             Ok((table, seat)) => {
                 Ok((
                     Desk { table },

@@ -4,6 +4,7 @@ ghost use Rattle.amf_workers.specs.Together.{destinations};
 use amf_desk::{Desk, Pass};
 use amf_wire::{Memory, Name};
 use std::alloc::Global;
+use std::hash::RandomState;
 
 /// The destinations of the gateway.
 fn destinations(alloc: Global) -> Result<Vec<Name>, Memory>
@@ -15,10 +16,13 @@ fn destinations(alloc: Global) -> Result<Vec<Name>, Memory>
     Ok(names)
 }
 
-/// A desk with these destinations, and its first pass.
-pub(crate) fn open_desk(alloc: Global) -> Result<(Desk, Pass), Memory>
+/// A desk with these destinations, and its first pass. Without keys topics are looked up by hashes that anyone can foresee.
+pub(crate) fn open_desk(alloc: Global, keys: Option<RandomState>) -> Result<(Desk, Pass), Memory>
     ensures { IfOk result (λ r. r.1 ≡ record { desk = r.0; destinations = destinations; number = 0; seen = []; budget = 2 ^ 62; splits = 0 }) }
 {
     let names = destinations(alloc)?;
-    Desk::open(alloc, names)
+    match keys {
+        Some(keys) => Desk::open_keyed(alloc, names, keys),
+        None => Desk::open(alloc, names),
+    }
 }

@@ -60,8 +60,8 @@ where
 /// and gives the halls back to the front. All links are served at one desk, with the destinations `chat` and `news`. It may
 /// wait for the links.
 ///
-/// The runtime gives the keys by which the workers' readers and writers look texts up, so that no request can be made that takes long; where
-/// it gives none, they are fixed.
+/// The runtime gives the keys by which the workers' readers and writers look texts up, and the broker topics, so that no request can be
+/// made that takes long; where it gives none, they are fixed.
 pub fn serve<R: Threads + Wait + RandomSource + Sync, F: Front, G: Gate>(
     rt: &R,
     alloc: Global,
@@ -77,7 +77,8 @@ where
     requires { workers ≤ 64 }
     ensures { let services : List Entry = services_by registry.now.services.entries (λ x. x.items) (λ s. knows (s.vtable, s.value)) (λ s. gives (s.vtable, s.value)) in Serves (record { tells = F.tells; asked = F.asked; to_open = F.to_open; halls = F.halls; faults = F.faults }) (record { tells_links = F.Hall.tells_links; coming = F.Hall.coming; served = F.Hall.served; faults = F.Hall.faults; tells_moments = F.Hall.tells_moments; moments = F.Hall.moments; tells_words = F.Hall.tells_words; words = F.Hall.words }) (record { tells_left = F.Hall.Link.tells_left; left = F.Hall.Link.left; tells_held = F.Hall.Link.tells_held; held = F.Hall.Link.held; read_faults = F.Hall.Link.read_faults; write_faults = F.Hall.Link.write_faults }) services port workers each front.old front.new result }
 {
-    let Ok((desk, first)) = open_desk(alloc) else {
+    let keys = RandomState::new(rt).ok();
+    let Ok((desk, first)) = open_desk(alloc, keys) else {
         return ServeAnswer::Memory;
     };
     match front.open(alloc, port, workers) {

@@ -2,7 +2,7 @@
 use Rattle.std.proofs.Common.{◌∙◌, sym, ap, refl}
 use Rattle.std.specs.Prelude.{◌==◌}
 use Rattle.std.specs.List.{list_any}
-use Rattle.amf_broker.specs.Members.{line_without, stopped}
+use Rattle.amf_broker.specs.Members.{stopped}
 use Rattle.amf_broker.proofs.Leavers.{empty-none}
 use Rattle.amf_broker.proofs.Rounds.{mapped}
 use Rattle.amf_broker.proofs.Lined.{logs-without}
@@ -12,20 +12,16 @@ use Rattle.amf_broker.proofs.lines.end_all.Goals as goal
 pub returns-then-is_empty-clause-logs : goal.returns-then-is_empty-clause-logs
 returns-then-is_empty-clause-logs c =
     let none = empty-none c.args.ended.now.subs.items (ap (λ n. n == 0) (sym c.args.ended.now.subs.ok.0) ∙ (sym c.is_empty.ensures ∙ c.if-is_empty.true)) in
-    rw none (sym (lines-same c.args.logs.now.items))
+    rw none (sym (lines-same c.args.logs.now))
 
 pub returns-then-is_empty-clause-places : goal.returns-then-is_empty-clause-places
 returns-then-is_empty-clause-places c =
     let none = empty-none c.args.ended.now.subs.items (ap (λ n. n == 0) (sym c.args.ended.now.subs.ok.0) ∙ (sym c.is_empty.ensures ∙ c.if-is_empty.true)) in
     rw none refl
 
-pub returns-clause-logs : goal.returns-clause-logs
-returns-clause-logs c = mapped (line_without (λ sub. list_any (λ id. id == sub) c.args.ended.now.subs.items)) c.args.logs.now.len c.args.logs.now.items c.drop_subs.new.logs (sym c.args.logs.now.ok.0) (rw c.deref_mut.ensures.value at c.drop_subs.ensures)
-
 pub returns-clause-places : goal.returns-clause-places
 returns-clause-places c =
     let some = ap (λ n. n == 0) (sym c.args.ended.now.subs.ok.0) ∙ (sym c.is_empty.ensures ∙ c.if-is_empty.false) in
-    let logs = mapped (line_without (λ sub. list_any (λ id. id == sub) c.args.ended.now.subs.items)) c.args.logs.now.len c.args.logs.now.items c.drop_subs.new.logs (sym c.args.logs.now.ok.0) (rw c.deref_mut.ensures.value at c.drop_subs.ensures) in
-    let places = mapped (stopped c.args.number (λ sub. list_any (λ id. id == sub) c.args.ended.now.subs.items)) c.args.places.now.len c.args.places.now.items c.stop_subs.new.places (sym c.args.places.now.ok.0) (rw c.deref_mut-2.ensures.value at c.stop_subs.ensures) in
-    rw (c.clear.ensures, c.deref.ensures.value, logs, places, logs-without (λ sub. list_any (λ id. id == sub) c.args.ended.now.subs.items) c.args.logs.now.items)
+    let places = mapped (stopped c.args.number (λ sub. list_any (λ id. id == sub) c.args.ended.now.subs.items)) c.args.places.now.len c.args.places.now.items c.stop_subs.new.places (sym c.args.places.now.ok.0) (rw c.deref_mut.ensures.value at c.stop_subs.ensures) in
+    rw (c.clear.ensures, c.drop_subs.ensures, places, logs-without (λ sub. list_any (λ id. id == sub) c.args.ended.now.subs.items) c.args.logs.now)
     (sym (some-ended c.args.ended.now.subs.items c.args.number _ c.args.places.now.items some))

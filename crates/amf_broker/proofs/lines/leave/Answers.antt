@@ -3,20 +3,18 @@ use Rattle.std.proofs.Common.{◌≡◌, ◌∙◌, sym, rules}
 use Rattle.std.proofs.lemmas.Fn.{filter_same}
 use Rattle.amf_broker.specs.Moments.{stays}
 use Rattle.amf_broker.specs.Lines.{Waiter, waiters_left}
-use Rattle.amf_broker.specs.Members.{line_left}
 use Rattle.amf_broker.proofs.Orders.{rises-part}
-use Rattle.amf_broker.proofs.Rounds.{mapped}
 use Rattle.amf_broker.proofs.Gone.{nobody-left, some-left}
 use Rattle.amf_broker.proofs.lines.leave.Goals as goal
 
 pub returns-then-is_empty-clause-clients : goal.returns-then-is_empty-clause-clients
-returns-then-is_empty-clause-clients c = (nobody-left c.args.left.now c.args.clients.now.items c.args.clients.now.items c.args.places.now.items c.args.logs.now.items (sym c.is_empty.ensures ∙ c.if-is_empty.true)).0
+returns-then-is_empty-clause-clients c = (nobody-left c.args.left.now c.args.clients.now.items c.args.clients.now.items c.args.places.now.items c.args.logs.now (sym c.is_empty.ensures ∙ c.if-is_empty.true)).0
 
 pub returns-then-is_empty-clause-places : goal.returns-then-is_empty-clause-places
-returns-then-is_empty-clause-places c = (nobody-left c.args.left.now c.args.clients.now.items c.args.clients.now.items c.args.places.now.items c.args.logs.now.items (sym c.is_empty.ensures ∙ c.if-is_empty.true)).1
+returns-then-is_empty-clause-places c = (nobody-left c.args.left.now c.args.clients.now.items c.args.clients.now.items c.args.places.now.items c.args.logs.now (sym c.is_empty.ensures ∙ c.if-is_empty.true)).1
 
 pub returns-then-is_empty-clause-logs : goal.returns-then-is_empty-clause-logs
-returns-then-is_empty-clause-logs c = (nobody-left c.args.left.now (waiters_left c.args.left.now c.args.clients.now.items) c.args.clients.now.items c.args.places.now.items c.args.logs.now.items (sym c.is_empty.ensures ∙ c.if-is_empty.true)).2
+returns-then-is_empty-clause-logs c = (nobody-left c.args.left.now (waiters_left c.args.left.now c.args.clients.now.items) c.args.clients.now.items c.args.places.now.items c.args.logs.now (sym c.is_empty.ensures ∙ c.if-is_empty.true)).2
 
 pub returns-clause-clients : goal.returns-clause-clients
 returns-clause-clients c = filter_same _ _ _ (λ x b f' k. search rules) _ _ c.retain.ensures.filtered
@@ -32,6 +30,4 @@ part_all-requires-clause-clients c =
 pub returns-clause-logs : goal.returns-clause-logs
 returns-clause-logs c =
     let stay : c.retain.new.self.items ≡ waiters_left c.args.left.now c.args.clients.now.items = filter_same _ _ _ (λ x b f' k. search rules) _ _ c.retain.ensures.filtered in
-    let parted = rw (c.deref_mut.ensures.value, c.deref.ensures.value, stay) at c.part_all.ensures in
-    mapped (line_left c.args.left.now (waiters_left c.args.left.now c.args.clients.now.items)) c.args.logs.now.len c.args.logs.now.items c.part_all.new.logs (sym c.args.logs.now.ok.0) parted
-    ∙ some-left c.args.left.now (waiters_left c.args.left.now c.args.clients.now.items) c.args.logs.now.items (sym c.is_empty.ensures ∙ c.if-is_empty.false)
+    (rw (c.deref.ensures.value, stay) at c.part_all.ensures) ∙ some-left c.args.left.now (waiters_left c.args.left.now c.args.clients.now.items) c.args.logs.now (sym c.is_empty.ensures ∙ c.if-is_empty.false)

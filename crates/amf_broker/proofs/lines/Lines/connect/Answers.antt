@@ -15,7 +15,7 @@ clients c =
     let pushed : c.push.new.self.items ≡ c.leave.new.clients.items ++ (new_waiter c.self.inside.next_client c.args.present ∷ []) = search rules in
     pushed ∙ ap (λ m. m ++ (new_waiter c.self.inside.next_client c.args.present ∷ [])) left
 
-logs : (c : After-push) → c.leave.new.logs.items ≡ lines_without c.args.left.now (waiters_left c.args.left.now c.self.inside.clients.items) c.self.inside.logs.items
+logs : (c : After-push) → c.leave.new.logs ≡ lines_without c.args.left.now (waiters_left c.args.left.now c.self.inside.clients.items) c.self.inside.logs
 logs c = c.leave.ensures.logs ∙ rw c.in_ok-reserve.ensures.items refl
 
 pub invariant_of-self-2 : goal.invariant_of-self-2

@@ -11,4 +11,4 @@ place_in_order-requires c = rw c.deref.ensures.value c.self.invariant.kept.rise
 pub returns : goal.returns
 returns c =
     let place = rw c.deref.ensures.value at c.place_in_order.ensures.place in
-    rw (← c.self.view_is) (c.is_some.ensures ∙ (ap is_some place ∙ connected-place (logs_of c.self.inside.logs.items) (map (raised c.self.inside.next_message) c.self.inside.places.items) c.args.client c.self.inside.clients.items))
+    rw (← c.self.view_is) (c.is_some.ensures ∙ (ap is_some place ∙ connected-place (logs_of c.self.inside.logs) (map (raised c.self.inside.next_message) c.self.inside.places.items) c.args.client c.self.inside.clients.items))

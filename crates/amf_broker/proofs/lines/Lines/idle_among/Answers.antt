@@ -10,7 +10,7 @@ use Rattle.amf_broker.proofs.lines.Lines.idle_among.Goals as goal
 
 pub returns : goal.returns
 returns c =
-    let logs = logs_of c.self.inside.logs.items in
+    let logs = logs_of c.self.inside.logs in
     let places = map (raised c.self.inside.next_message) c.self.inside.places.items in
     rw (← c.self.view_is) (IfOk-weaker c.idle_among.result
     (λ ids. ids.items ≡ map (λ w. w.id) (filter (λ w. is_idle c.args.present (bare w)) c.self.inside.clients.items))

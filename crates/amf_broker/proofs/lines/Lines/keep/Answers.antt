@@ -14,7 +14,7 @@ pub unwrap-place-requires : goal.unwrap-place-requires
 unwrap-place-requires c =
     let place = rw c.deref.ensures.value at c.place_in_order.ensures.place in
     let here = rw (← c.self.view_is) at c.requires.connected in
-    some-of _ (ap is_some place ∙ (connected-place (logs_of c.self.inside.logs.items) (map (raised c.self.inside.next_message) c.self.inside.places.items) c.args.client c.self.inside.clients.items ∙ here))
+    some-of _ (ap is_some place ∙ (connected-place (logs_of c.self.inside.logs) (map (raised c.self.inside.next_message) c.self.inside.places.items) c.args.client c.self.inside.clients.items ∙ here))
 
 pub invariant_of-self : goal.invariant_of-self
 invariant_of-self c =
@@ -28,5 +28,5 @@ returns c =
     let at = waiter-changed c.args.client c.unwrap-place.result (kept_waiter c.args.number c.args.queue) c.index_mut.result.now c.self.inside.clients.items (sym c.unwrap-place.ensures ∙ place) in
     let here = rw (← c.self.view_is) at c.requires.connected in
     let queue = rw (← c.self.view_is) at c.requires.queue in
-    let own = queue ∙ connected-waits (logs_of c.self.inside.logs.items) (map (raised c.self.inside.next_message) c.self.inside.places.items) c.args.client c.self.inside.clients.items here in
+    let own = queue ∙ connected-waits (logs_of c.self.inside.logs) (map (raised c.self.inside.next_message) c.self.inside.places.items) c.args.client c.self.inside.clients.items here in
     rw (← c.self.view_is, c.begin_anew.ensures, c.keep.ensures, c.index_mut.ensures.value) (rw at at (floor-kept _ _ _ _ _ c.self.invariant c.args.client c.args.number c.args.queue own))

@@ -13,28 +13,28 @@ pub leave-requires-clause-rise : goal.leave-requires-clause-rise
 leave-requires-clause-rise c = c.self.invariant.kept.rise
 
 -- the lines with the message, once they have left
-logs : (c : After-leave) → c.leave.new.logs.items ≡ put_now _ _ _ _ _ c.self.invariant c.args.left.now c.args.topic.now c.args.message
+logs : (c : After-leave) → c.leave.new.logs ≡ put_now _ _ _ _ _ c.self.invariant c.args.left.now c.args.topic.now c.args.message
 logs c = c.leave.ensures.logs ∙ ap (lines_without c.args.left.now (waiters_left c.args.left.now c.self.inside.clients.items)) c.in_ok-put_up_message.ensures.ok
 
-members : (c : After-leave) → members_at c.args.topic.now c.leave.new.logs.items ≡ listening _ _ _ _ _ c.self.invariant c.args.left.now c.args.topic.now c.args.message
+members : (c : After-leave) → members_at c.args.topic.now c.leave.new.logs ≡ listening _ _ _ _ _ c.self.invariant c.args.left.now c.args.topic.now c.args.message
 members c = ap (members_at c.args.topic.now) (logs c) ∙ listening-at _ _ _ _ _ c.self.invariant c.args.left.now c.args.topic.now c.args.message
 
 pub hand_round-ended-requires-clause-seated : goal.hand_round-ended-requires-clause-seated
 hand_round-ended-requires-clause-seated c =
     let at = (goal.at.hand_round-ended-requires-clause-seated c).After-leave in
-    rw (c.members_of-members.ensures, c.deref-2.ensures.value, members at, c.deref_mut.ensures.value, c.leave.ensures.clients) (listening-seated _ _ _ _ _ c.self.invariant c.args.left.now c.args.topic.now c.args.message)
+    rw (c.members_of-members.ensures, members at, c.deref_mut.ensures.value, c.leave.ensures.clients) (listening-seated _ _ _ _ _ c.self.invariant c.args.left.now c.args.topic.now c.args.message)
 
 pub hand_round-ended-requires-clause-places : goal.hand_round-ended-requires-clause-places
 hand_round-ended-requires-clause-places c =
     let at = (goal.at.hand_round-ended-requires-clause-places c).After-leave in
     let few = rw (← c.self.view_is) at c.requires.places in
-    rw (c.members_of-members.ensures, c.deref-2.ensures.value, members at, c.deref_mut.ensures.value, c.leave.ensures.clients) (listening-few _ _ _ _ _ c.self.invariant c.args.left.now c.args.topic.now c.args.message few)
+    rw (c.members_of-members.ensures, members at, c.deref_mut.ensures.value, c.leave.ensures.clients) (listening-few _ _ _ _ _ c.self.invariant c.args.left.now c.args.topic.now c.args.message few)
 
 pub hand_round-ended-requires-clause-room : goal.hand_round-ended-requires-clause-room
 hand_round-ended-requires-clause-room c =
     let at = (goal.at.hand_round-ended-requires-clause-room c).After-leave in
-    let now = ap length (c.members_of-members.ensures ∙ (ap (members_at c.args.topic.now) c.deref-2.ensures.value ∙ members at)) in
-    let before = ap length (c.members_of.ensures ∙ ap (members_at c.args.topic.now) c.deref.ensures.value) in
+    let now = ap length (c.members_of-members.ensures ∙ members at) in
+    let before = ap length c.members_of.ensures in
     let few = listening-room _ _ _ _ _ c.self.invariant c.args.left.now c.args.topic.now c.args.message in
     let room = c.in_ok-ended.ensures.capacity in
     omega arith
@@ -43,18 +43,18 @@ pub invariant_of-ended : goal.invariant_of-ended
 invariant_of-ended c =
     let at = (goal.at.invariant_of-ended c).After-leave in
     let rise = rw (← c.self.view_is) at c.requires.ordered in
-    let now = c.members_of-members.ensures ∙ (ap (members_at c.args.topic.now) c.deref-2.ensures.value ∙ members at) in
+    let now = c.members_of-members.ensures ∙ members at in
     let ended = c.hand_round-ended.ensures.ended ∙ (ap (λ ms. ended_after ms c.deref_mut.result.now) now
     ∙ ap (ended_after (listening _ _ _ _ _ c.self.invariant c.args.left.now c.args.topic.now c.args.message)) (c.deref_mut.ensures.value ∙ c.leave.ensures.clients)) in
     record { ordered = ap are_in_order ended ∙ ended-ordered _ _ _ _ _ c.self.invariant c.args.left.now c.args.topic.now c.args.message rise }
 
 -- What stands at the end.
 
-now : (c : After-end_all) → c.leave.new.logs.items ≡ put_now _ _ _ _ _ c.self.invariant c.args.left.now c.args.topic.now c.args.message
+now : (c : After-end_all) → c.leave.new.logs ≡ put_now _ _ _ _ _ c.self.invariant c.args.left.now c.args.topic.now c.args.message
 now c = c.leave.ensures.logs ∙ ap (lines_without c.args.left.now (waiters_left c.args.left.now c.self.inside.clients.items)) c.in_ok-put_up_message.ensures.ok
 
 heard : (c : After-end_all) → c.members_of-members.result.now ≡ listening _ _ _ _ _ c.self.invariant c.args.left.now c.args.topic.now c.args.message
-heard c = c.members_of-members.ensures ∙ (ap (members_at c.args.topic.now) (c.deref-2.ensures.value ∙ now c) ∙ listening-at _ _ _ _ _ c.self.invariant c.args.left.now c.args.topic.now c.args.message)
+heard c = c.members_of-members.ensures ∙ (ap (members_at c.args.topic.now) (now c) ∙ listening-at _ _ _ _ _ c.self.invariant c.args.left.now c.args.topic.now c.args.message)
 
 ended : (c : After-end_all) → c.hand_round-ended.result.items ≡ ended_now _ _ _ _ _ c.self.invariant c.args.left.now c.args.topic.now c.args.message
 ended c =
@@ -70,14 +70,14 @@ clients c =
     ∙ (told ∙ (ap (λ ms. waiters_after ms c.leave.new.clients.items) (heard c)
     ∙ ap (waiters_after (listening _ _ _ _ _ c.self.invariant c.args.left.now c.args.topic.now c.args.message)) c.leave.ensures.clients))
 
-lines : (c : After-end_all) → c.end_all.new.logs.items ≡ map (line_without (is_over (ended_now _ _ _ _ _ c.self.invariant c.args.left.now c.args.topic.now c.args.message))) (put_now _ _ _ _ _ c.self.invariant c.args.left.now c.args.topic.now c.args.message)
+lines : (c : After-end_all) → c.end_all.new.logs ≡ map (line_without (is_over (ended_now _ _ _ _ _ c.self.invariant c.args.left.now c.args.topic.now c.args.message))) (put_now _ _ _ _ _ c.self.invariant c.args.left.now c.args.topic.now c.args.message)
 lines c =
-    c.end_all.ensures.logs ∙ (ap (λ e. map (line_without (is_over e)) c.leave.new.logs.items) (ended c)
+    c.end_all.ensures.logs ∙ (ap (λ e. map (line_without (is_over e)) c.leave.new.logs) (ended c)
     ∙ ap (map (line_without (is_over (ended_now _ _ _ _ _ c.self.invariant c.args.left.now c.args.topic.now c.args.message)))) (now c))
 
 places : (c : After-end_all) → c.end_all.new.places.items ≡ places_end _ _ _ _ _ c.self.invariant c.args.left.now c.args.topic.now c.args.message
 places c =
-    c.end_all.ensures.places ∙ (ap (λ e. spans_ended e c.self.inside.next_message (logs_of c.leave.new.logs.items) c.leave.new.places.items) (ended c)
+    c.end_all.ensures.places ∙ (ap (λ e. spans_ended e c.self.inside.next_message (logs_of c.leave.new.logs) c.leave.new.places.items) (ended c)
     ∙ (ap (λ ls. spans_ended (ended_now _ _ _ _ _ c.self.invariant c.args.left.now c.args.topic.now c.args.message) c.self.inside.next_message (logs_of ls) c.leave.new.places.items) (now c)
     ∙ ap (spans_ended (ended_now _ _ _ _ _ c.self.invariant c.args.left.now c.args.topic.now c.args.message) c.self.inside.next_message (logs_of (put_now _ _ _ _ _ c.self.invariant c.args.left.now c.args.topic.now c.args.message))) c.leave.ensures.places))
 

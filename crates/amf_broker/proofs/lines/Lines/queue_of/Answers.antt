@@ -10,10 +10,10 @@ use Rattle.amf_broker.proofs.lines.Lines.queue_of.Goals as goal
 
 pub returns : goal.returns
 returns c =
-    let logs = logs_of c.self.inside.logs.items in
+    let logs = logs_of c.self.inside.logs in
     let places = map (raised c.self.inside.next_message) c.self.inside.places.items in
     let here = rw (← c.self.view_is) at c.requires in
     rw (← c.self.view_is) (IfOk-weaker c.waiting_for.result (λ queue. queue ≡ waits logs places c.args.client)
     (λ queue. queue ≡ queue_of c.args.client (clients_by logs places c.self.inside.clients.items))
     (λ queue is. is ∙ sym (connected-waits logs places c.args.client c.self.inside.clients.items here))
-    (rw (c.deref.ensures.value, c.deref-2.ensures.value) at c.waiting_for.ensures))
+    (rw c.deref.ensures.value at c.waiting_for.ensures))

@@ -34,5 +34,5 @@ returns-in_default c =
     let place = rw c.deref.ensures.value at c.place_in_order.ensures.place in
     let same = none-changed c.args.client (seen_waiter c.args.present) c.self.inside.clients.items (not-some c.place_in_order.result c.in_default.not-Some ∙ place) in
     rw (← c.self.view_is)
-    (ap (λ ws. floor_of c.self.inside.logs.items c.self.inside.places.items ws c.self.inside.next_client c.self.inside.next_message) same
+    (ap (λ ws. floor_of c.self.inside.logs c.self.inside.places.items ws c.self.inside.next_client c.self.inside.next_message) same
     ∙ floor-seen _ _ _ _ _ c.self.invariant c.args.client c.args.present)

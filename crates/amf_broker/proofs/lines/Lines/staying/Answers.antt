@@ -6,4 +6,4 @@ use Rattle.amf_broker.proofs.Waiters.{count-staying}
 use Rattle.amf_broker.proofs.lines.Lines.staying.Goals as goal
 
 pub returns : goal.returns
-returns c = rw (← c.self.view_is) ((rw c.deref.ensures.value at c.staying.ensures) ∙ count-staying c.args.expired.now (logs_of c.self.inside.logs.items) (map (raised c.self.inside.next_message) c.self.inside.places.items) c.self.inside.clients.items)
+returns c = rw (← c.self.view_is) ((rw c.deref.ensures.value at c.staying.ensures) ∙ count-staying c.args.expired.now (logs_of c.self.inside.logs) (map (raised c.self.inside.next_message) c.self.inside.places.items) c.self.inside.clients.items)

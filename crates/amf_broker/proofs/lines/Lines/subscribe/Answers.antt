@@ -14,7 +14,7 @@ pub leave-requires-clause-rise : goal.leave-requires-clause-rise
 leave-requires-clause-rise c = c.self.invariant.kept.rise
 
 -- the member as it joins
-logs : (c : After-push) → c.leave.new.logs.items ≡ lines_without c.args.left.now (waiters_left c.args.left.now c.self.inside.clients.items) (enlisted c.args.topic (record { sub = c.args.id; client = c.args.client; seat = seat_of c.args.client c.self.inside.clients.items }) c.self.inside.logs.items)
+logs : (c : After-push) → c.leave.new.logs ≡ lines_without c.args.left.now (waiters_left c.args.left.now c.self.inside.clients.items) (enlisted c.args.topic (record { sub = c.args.id; client = c.args.client; seat = seat_of c.args.client c.self.inside.clients.items }) c.self.inside.logs)
 logs c = c.leave.ensures.logs ∙ ap (lines_without c.args.left.now (waiters_left c.args.left.now c.self.inside.clients.items)) (c.in_ok-enlist.ensures.ok ∙ rw (c.new-member.ensures, c.seat_of.ensures, c.deref.ensures.value) refl)
 
 places : (c : After-push) → c.push.new.self.items ≡ spans_left c.args.left.now c.self.inside.places.items ++ (new_span c.args.id c.args.client c.args.topic c.self.inside.next_message ∷ [])

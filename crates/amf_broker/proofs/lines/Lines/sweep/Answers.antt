@@ -7,12 +7,12 @@ use Rattle.amf_broker.proofs.lines.Lines.sweep.Goals as goal
 
 pub invariant_of-self-2 : goal.invariant_of-self-2
 invariant_of-self-2 c =
-    let swept : c.sweep.new.logs.items ≡ filter (is_wanted c.self.inside.places.items) c.self.inside.logs.items =
+    let swept : c.sweep.new.self ≡ filter (is_wanted c.self.inside.places.items) c.self.inside.logs =
     rw c.deref.ensures.value at c.sweep.ensures ∙ swept-is _ _ _ _ _ c.self.invariant in
     rw swept (lined-swept _ _ _ _ _ c.self.invariant)
 
 pub returns : goal.returns
 returns c =
-    let swept : c.sweep.new.logs.items ≡ filter (is_wanted c.self.inside.places.items) c.self.inside.logs.items =
+    let swept : c.sweep.new.self ≡ filter (is_wanted c.self.inside.places.items) c.self.inside.logs =
     rw c.deref.ensures.value at c.sweep.ensures ∙ swept-is _ _ _ _ _ c.self.invariant in
     rw (← c.self.view_is, swept) (floor-swept _ _ _ _ _ c.self.invariant)

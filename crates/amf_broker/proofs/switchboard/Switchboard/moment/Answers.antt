@@ -31,3 +31,6 @@ invariant_of-result c =
       | else-has_idle w ↦ rw (w.expired-is, w.new-expired.ensures.items) refl
     ] in
     record { ordered = ordered }
+
+pub has_idle-requires : goal.has_idle-requires
+has_idle-requires c = let here = rw (← c.self.view_is) at c.requires in here

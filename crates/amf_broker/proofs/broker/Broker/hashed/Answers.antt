@@ -1,6 +1,6 @@
 -- A new broker is in the first state.
 use Rattle.amf_broker.specs.State.{first}
-use Rattle.amf_broker.proofs.broker.Broker.new.Goals as goal
+use Rattle.amf_broker.proofs.broker.Broker.hashed.Goals as goal
 
 pub returns : goal.returns
 unfolding first
