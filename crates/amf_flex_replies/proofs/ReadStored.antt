@@ -3,10 +3,7 @@ use Rattle.std.proofs.Common.{◌≡◌, ◌∙◌, ℕ, ◌+◌, ◌-◌, ◌<�
 use Rattle.std.specs.Prelude.{IfSome, IsNone}
 use Rattle.std.specs.Option.{option_map}
 use Rattle.std.proofs.lemmas.List.{append-nil}
-use Rattle.amf_io.specs.Cursor.{Counts, EndsByFault}
 use Rattle.amf_io.specs.ReadEnds.{Counts as CountsRead}
-use Rattle.amf_io.specs.declared.ends.CursorEnd.{CursorEnd}
-use Rattle.amf_io.specs.declared.ends.CursorEnd.TheVariants.{Ended, TooLarge, ReadFault as CursorFault, Memory as CursorMemory}
 use Rattle.amf_io.specs.declared.ends.ReadEnd.{ReadEnd}
 use Rattle.amf_io.specs.declared.ends.ReadEnd.TheVariants.{Refused, ReadFault, Memory}
 use Rattle.amf_io.specs.declared.reason.Reason.{Reason}
@@ -148,12 +145,6 @@ pub stored_none : (g : RootedArena) (b : List ℕ) → Spelled3 free (content g)
 stored_none g b s never h is = never (holds_stored g (async_alike h (content g) (same_bytes_isomorphic h (content g) b is.0 s) is.1))
 
 -- no read of bytes in memory fails
-pub no_fault : (T : Type 0) (e : CursorEnd) → EndsByFault {T = T} (Err e) → Counts {T = T} 0 0 (Err e) → ⊥
-no_fault T Ended h k = h
-no_fault T TooLarge h k = h
-no_fault T CursorFault h k = omega (arith, k.1)
-no_fault T CursorMemory h k = h
-
 pub no_read_fault : (T : Type 0) → CountsRead {T = T} 0 0 (Err ReadFault) → ⊥
 no_read_fault T k = omega (arith, k.1)
 

@@ -8,26 +8,29 @@ ghost use Rattle.amf_graph.specs.declared.value.Value.TheVariants.{Null};
 ghost use Rattle.flex_msgs.specs.Built.{IsReply, IsShortReply};
 ghost use Rattle.amf_plan.specs.Did.{Ran, Stopped};
 ghost use Rattle.amf_flex_replies.specs.Says.{AnswersFlex, Tells, Says};
+ghost use Rattle.amf_packet.specs.SpelledBodies.{IsBodySpelledAlike, TellsSpelling};
+ghost use Rattle.flex_msgs.specs.Answers.{error_graph};
 ghost use Rattle.amf_plan.specs.Kept.{context_in, Fits, ContextFits, FaultFits};
 ghost use Rattle.amf_plan.specs.Replies.{reply_with, fresh as fresh_plan, failed as failed_answer, answered as answered_plan, error as error_plan, acknowledge_null as acknowledge_null_plan};
 
-use amf_graph::{Rooted, Value, WriteEnd};
+use amf_graph::{Rooted, Value};
+use amf_packet::SpelledBody;
 use amf_plan::causes::no_form;
 use amf_plan::context::Context;
 use amf_plan::messages::{acknowledge_of, error_of};
 use amf_plan::numbers::identifier;
 use amf_plan::outside::Outside;
 use amf_wire::{Memory, Name};
-use amf3_write::write3_keyed;
+use amf0_spelling::Form;
 use flex_msgs::{FaultText, Reply};
 use std::alloc::Global;
 use std::hash::RandomState;
 
-/// What a Flex request is answered: a result or a status, and the graph of the message.
+/// What a Flex request is answered: a result or a status, and the spelling of the message, in AMF 3.
 #[derive(Drop)]
 pub struct FlexAnswer {
     pub well: bool,
-    pub graph: Rooted,
+    pub body: SpelledBody,
 }
 
 /// A reply of these words and this moment. It gives up where there is no memory.
@@ -73,6 +76,17 @@ pub fn fresh<O: Outside>(
     reply_of(alloc, context, client, high, low, moment)
 }
 
+/// The spelling of the error with this cause. It gives up where there is no memory.
+fn error_body(alloc: Global, reply: &Reply, fault: &FaultText) -> Result<SpelledBody, Memory>
+    requires texts { IsReply reply.now }
+    requires short { IsShortReply reply.now }
+    requires fault { FaultFits fault.now }
+    ensures { IfOk result (IsBodySpelledAlike (record { form = Form.Amf3; graph = error_graph reply.now fault.now })) }
+{
+    let graph = error_of(alloc, reply, fault)?;
+    SpelledBody::of_whole(alloc, Form::Amf3, &graph)
+}
+
 /// The error with this cause in the place of a reply. It gives up where there is no memory.
 pub fn failed(alloc: Global, mut reply: Reply, fault: &FaultText) -> Result<FlexAnswer, Memory>
     requires texts { IsReply reply }
@@ -81,10 +95,19 @@ pub fn failed(alloc: Global, mut reply: Reply, fault: &FaultText) -> Result<Flex
     ensures { IfOk result (λ a. AnswersFlex a (failed_answer reply fault.now)) }
 {
     reply.client = Name::of_bytes(alloc, b"")?;
-    Ok(FlexAnswer {
-        well: false,
-        graph: error_of(alloc, &reply, fault)?,
-    })
+    let body = error_body(alloc, &reply, fault)?;
+    Ok(FlexAnswer { well: false, body })
+}
+
+/// The spelling in AMF 3 of a graph that is then let go, if it has one. It gives up where there is no memory.
+fn spelling_of(
+    alloc: Global,
+    keys: Option<RandomState>,
+    graph: Rooted,
+) -> Result<Option<SpelledBody>, Memory>
+    ensures { IfOk result (TellsSpelling Form.Amf3 (content graph)) }
+{
+    SpelledBody::of(alloc, keys, Form::Amf3, &graph)
 }
 
 /// The answer with this graph, or where it has no spelling the error that says so. It gives up where there is no memory.
@@ -98,11 +121,10 @@ pub fn answered(
     requires short { IsShortReply reply }
     ensures { IfOk result (λ a. (g : Graph) → Isomorphic g (content graph) → Tells (answered_plan reply g) a) }
 {
-    let mut bytes = Vec::new(alloc);
-    match write3_keyed(alloc, keys, &graph, &mut bytes) {
-        Ok(()) => Ok(FlexAnswer { well: true, graph }),
-        Err(WriteEnd::NoSpelling(_)) => failed(alloc, reply, &no_form(alloc)?),
-        Err(WriteEnd::Memory) => Err(Memory),
+    let spelling = spelling_of(alloc, keys, graph)?;
+    match spelling {
+        Some(body) => Ok(FlexAnswer { well: true, body }),
+        None => failed(alloc, reply, &no_form(alloc)?),
     }
 }
 

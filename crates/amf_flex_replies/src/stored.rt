@@ -3,7 +3,7 @@
 ghost use Rattle.std.specs.Prelude.{◌≡◌, ◌+◌, ◌≤◌, ◌↔◌, [], length, IsTrue, IfOk, IfSome, IsNone};
 ghost use Rattle.std.specs.Option.{option_map};
 ghost use Rattle.amf_io.specs.Cursor.{source_of, place, bound, unread};
-ghost use Rattle.amf_io.specs.InMemory.{faultless_left};
+ghost use Rattle.amf_io.specs.InMemory.{nothing_left};
 ghost use Rattle.amf_io.specs.ReadEnds.{Goes};
 ghost use Rattle.amf_wire.specs.Style.{free};
 ghost use Rattle.amf_graph.specs.Bounds.{weight};
@@ -15,7 +15,7 @@ ghost use Rattle.amf_plan.specs.Runs.{Finds, IsStored};
 
 use amf_broker::MAX_MESSAGE;
 use amf_graph::{Builder, Rooted};
-use amf_io::{Cursor, FaultlessSource, ReadEnd, Source};
+use amf_io::{Cursor, Empty, ReadEnd, Source};
 use amf_plan::messages::finished;
 use amf_tables::Tables3;
 use amf_wire::Memory;
@@ -41,16 +41,6 @@ fn read_value<S: Source>(
     Ok(finished(builder, root))
 }
 
-/// Whether all bytes in memory were given.
-fn is_at_end(cursor: &mut Cursor<'_, FaultlessSource>) -> bool
-    ensures { IsTrue result ↔ (unread faultless_left cursor.old ≡ []) }
-{
-    match cursor.at_end() {
-        Ok(ended) => ended,
-        Err(_) => unreachable!(),
-    }
-}
-
 /// The graph that all of the bytes spell in AMF 3, if they spell one. It gives up where there is no memory.
 fn spelled_by(
     alloc: Global,
@@ -61,15 +51,16 @@ fn spelled_by(
     ensures finds { IfOk result (λ g. Finds (λ h. Spelled3 free h bytes.now) (option_map content g)) }
     ensures light { IfOk result (λ g. IfSome g (λ g. weight g.arena ≤ MAX_MESSAGE)) }
 {
-    let mut source = FaultlessSource::new(alloc, bytes, bytes.len(), 0)?;
-    let mut cursor = Cursor::new(alloc, &mut source, MAX_MESSAGE)?;
+    let mut end = Empty;
+    let mut cursor = Cursor::over_bytes(alloc, &mut end, bytes, MAX_MESSAGE)?;
     let graph = match read_value(alloc, keys, &mut cursor) {
         Ok(graph) => graph,
         Err(ReadEnd::Refused(_)) => return Ok(None),
         Err(ReadEnd::Memory) => return Err(Memory),
+        // No read of bytes in memory fails.
         Err(ReadEnd::ReadFault) => unreachable!(),
     };
-    if is_at_end(&mut cursor) {
+    if cursor.is_at_end() {
         Ok(Some(graph))
     } else {
         Ok(None)

@@ -6,25 +6,21 @@ use Rattle.amf_packet.specs.declared.packet.Packet.{Packet as KeptPacket}
 use Rattle.amf_packet.specs.Content.{packet_of}
 use Rattle.amf_packet.specs.Packet.{Packet}
 use Rattle.amf_service.specs.Registry.{Entry}
-use Rattle.amf_packet.specs.Alike.{PacketsMatch}
 use Rattle.amf_gateway.specs.Answered.{SaysPacket, Unpacks, packet_bytes, if_packet, body_bytes}
 use Rattle.amf_plan.specs.Did.{Drawn, Ran, Stopped}
 use Rattle.amf_plan.specs.Packets.{answers_to, has_long}
 use Rattle.amf_plan.specs.Plan.{Plan, gives, bytes_of, ◌>>=◌}
-use Rattle.amf_plan.specs.Runs.{IsPacked, IsUnpacked, Finds}
-use Rattle.amf_plan.proofs.Doing.{HandsNone, HandsBoth, ran_then, ran_nothing, stopped_first, stopped_between}
+use Rattle.amf_plan.specs.Runs.{IsUnpacked, Finds}
+use Rattle.amf_plan.proofs.Doing.{HandsNone, HandsBoth, ran_then, ran_nothing, stopped_first}
 
 abbrev written : Packet → Plan (Option (List ℕ))
 written back = ◌>>=◌ (bytes_of back) (λ bytes. gives (Some bytes))
 
 module _ {O : Type 0} (handed : O → O → Drawn → Type 0) (services : List Entry) (p : Packet) (a b : O) where
-  pub ran_bytes : HandsNone handed → HandsBoth handed → (back : KeptPacket) (bytes : List ℕ) → SaysPacket handed (answers_to services p) a b back → ((q : Packet) → PacketsMatch q (packet_of back) → IsPacked q bytes) → Ran handed (packet_bytes services p) a b (Some bytes)
-  ran_bytes none both back bytes s packed =
+  pub ran_bytes : HandsNone handed → HandsBoth handed → (bytes : List ℕ) → SaysPacket handed (answers_to services p) a b bytes → Ran handed (packet_bytes services p) a b (Some bytes)
+  ran_bytes none both bytes s =
       ran_then handed both (answers_to services p) written a b b s.packet (Some bytes) s.ran
-      (ran_nothing handed none (written s.packet) b (Some bytes) (bytes, packed s.packet s.match, (refl, refl)))
-
-  pub stopped_bytes : HandsNone handed → HandsBoth handed → (back : KeptPacket) → SaysPacket handed (answers_to services p) a b back → Stopped handed (packet_bytes services p) a b
-  stopped_bytes none both back s = stopped_between handed none both (answers_to services p) written a b s.packet s.ran
+      (ran_nothing handed none (written s.packet) b (Some bytes) (bytes, s.packed, (refl, refl)))
 
   pub stopped_answers : Stopped handed (answers_to services p) a b → Stopped handed (packet_bytes services p) a b
   stopped_answers s = stopped_first handed (answers_to services p) written a b s

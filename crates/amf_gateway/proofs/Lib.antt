@@ -2,7 +2,6 @@
 pub mod Handing
 mod SmallReplies
 pub mod Answering
-pub mod Writable
 pub mod MessageAnswers
 pub mod Unpacked
 pub mod BodyAnswers

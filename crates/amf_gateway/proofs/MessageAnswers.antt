@@ -1,7 +1,6 @@
 -- One message answered: a Flex request or a plain call.
 use Rattle.std.proofs.Common.{◌≡◌, ◌∙◌, Bool, true, false, List, sym, subst}
 use Rattle.std.specs.Prelude.{bytes_eq, if◌then◌else◌}
-use Rattle.amf_packet.specs.declared.body.Body.TheVariants as kept
 use Rattle.amf_packet.specs.Packet.{Message}
 use Rattle.amf_service.specs.Registry.{Entry}
 use Rattle.amf_plain_calls.specs.declared.plain_call.MessageAnswer.{MessageAnswer}
@@ -17,10 +16,10 @@ use Rattle.amf_plan.specs.PlainCalls.{at_last_dot, plain_call}
 use Rattle.amf_plan.specs.Replies.{Answer}
 use Rattle.amf_plan.proofs.Doing.{HandsNone, ran_nothing}
 
-flex_is : (x : FlexAnswer) (y : Answer) → AnswersFlex x y → AnswersMessage (record { well = x.well; body = kept.Amf3 x.graph }) y
-flex_is x y is = record { well = is.well; body = record { form = is.form; graph = is.graph }; spelled = is.spelled }
+flex_is : (x : FlexAnswer) (y : Answer) → AnswersFlex x y → AnswersMessage (record { well = x.well; body = x.body }) y
+flex_is x y is = record { well = is.well; body = is.body }
 
-pub said_flex : {O : Type 0} (handed : O → O → Drawn → Type 0) (p : Plan Answer) (a b : O) (x : FlexAnswer) → Says handed p a b x → SaysMessage handed p a b (record { well = x.well; body = kept.Amf3 x.graph })
+pub said_flex : {O : Type 0} (handed : O → O → Drawn → Type 0) (p : Plan Answer) (a b : O) (x : FlexAnswer) → Says handed p a b x → SaysMessage handed p a b (record { well = x.well; body = x.body })
 said_flex handed p a b x s = record { answer = s.answer; is = flex_is x s.answer s.is; ran = s.ran }
 
 abbrev choice : List Entry → Message → Bool → Plan Answer

@@ -1,21 +1,22 @@
 -- A device of proofs: what the messages of a packet were answered, as it is kept.
-use Rattle.std.specs.Prelude.{◌≡◌, ◌<◌, ◌≤◌, ◌^◌, ℕ, true, if◌then◌else◌, List, [], length, map, Option, Some, None}
+use Rattle.std.specs.Prelude.{◌≡◌, ◌<◌, ◌≤◌, ◌^◌, ℕ, true, if◌then◌else◌, List, [], length, Option, Some, None}
 use Rattle.std.specs.List.{AllByRecursion, AllZip}
 use Rattle.amf_wire.specs.Text.{IsText}
 use Rattle.amf_packet.specs.declared.packet.Message.{Message as KeptMessage}
 use Rattle.amf_packet.specs.declared.packet.Packet.{Packet as KeptPacket}
-use Rattle.amf_packet.specs.Content.{body_of, message_of, packet_of}
+use Rattle.amf_packet.specs.Content.{packet_of}
 use Rattle.amf_packet.specs.Packet.{Message, Packet, is_version}
 use Rattle.amf_packet.specs.PacketAnswer.{body_weight}
 use Rattle.amf_service.specs.Registry.{Entry}
 use Rattle.amf_plain_calls.specs.declared.plain_call.MessageAnswer.{MessageAnswer}
-use Rattle.amf_packet.specs.Alike.{MessagesMatch, PacketsMatch}
-use Rattle.amf_plain_calls.specs.TellsMessage.{LacksNothing, AnswersMessage}
+use Rattle.amf_packet.specs.declared.write_spelled.SpelledMessage.{SpelledMessage}
+use Rattle.amf_packet.specs.SpelledBodies.{IsBodySpelledAlike}
+use Rattle.amf_plain_calls.specs.TellsMessage.{AnswersMessage}
 use Rattle.amf_plan.specs.Did.{Drawn, Ran}
 use Rattle.amf_plan.specs.Packets.{answers_to, has_long}
 use Rattle.amf_plan.specs.Plan.{Plan, gives, ◌>>=◌, bytes_of, packet_in}
 use Rattle.amf_plan.specs.Replies.{Answer}
-use Rattle.amf_plan.specs.Runs.{IsUnpacked, Finds}
+use Rattle.amf_plan.specs.Runs.{IsPacked, IsUnpacked, Finds}
 
 -- the most bytes of a body
 abbrev pub most_body : ℕ
@@ -27,39 +28,28 @@ pub record SaysMessage {O : Type 0} (handed : O → O → Drawn → Type 0) (p :
   pub is : AnswersMessage x answer
   pub ran : Ran handed p old new answer
 
--- messages that can be written
-pub record IsWritable (m : KeptMessage) : Type 0 where
-  pub target : IsText m.target
-  pub response : IsText m.response
-  pub short_target : length m.target < 2 ^ 16
-  pub short_response : length m.response < 2 ^ 16
-  pub spelled : LacksNothing (body_of m.body)
+-- a message that is kept is the spelling of what the plan says, up to the numbers of nodes
+pub record AnswersBack (m : Message) (s : SpelledMessage) : Type 0 where
+  pub target : m.target ≡ s.target
+  pub response : m.response ≡ s.response
+  pub body : IsBodySpelledAlike m.body s.body
 
-abbrev pub AreWritable : List KeptMessage → Type 0
-AreWritable ms = AllByRecursion IsWritable ms
-
--- the plan was done, and gave these messages, up to the numbers of nodes
-pub record SaysMessages {O : Type 0} (handed : O → O → Drawn → Type 0) (p : Plan (List Message)) (old new : O) (back : List KeptMessage) : Type 0 where
+-- the plan was done, and gave these messages
+pub record SaysMessages {O : Type 0} (handed : O → O → Drawn → Type 0) (p : Plan (List Message)) (old new : O) (back : List SpelledMessage) : Type 0 where
   pub messages : List Message
-  pub match : AllZip MessagesMatch messages (map message_of back)
+  pub match : AllZip AnswersBack messages back
   pub ran : Ran handed p old new messages
 
-pub record SaysPacket {O : Type 0} (handed : O → O → Drawn → Type 0) (p : Plan Packet) (old new : O) (back : KeptPacket) : Type 0 where
+-- the plan was done, and gave a packet of which these are the bytes
+pub record SaysPacket {O : Type 0} (handed : O → O → Drawn → Type 0) (p : Plan Packet) (old new : O) (bytes : List ℕ) : Type 0 where
   pub packet : Packet
-  pub match : PacketsMatch packet (packet_of back)
+  pub packed : IsPacked packet bytes
   pub ran : Ran handed p old new packet
 
 -- a response URI that is a text with room for a suffix
 pub record HasRoom (m : KeptMessage) : Type 0 where
   pub text : IsText m.response
   pub short : length m.response < 65527
-
--- a packet that can be written
-pub record IsWritablePacket (p : KeptPacket) : Type 0 where
-  pub version : is_version p.version ≡ true
-  pub no_headers : p.headers ≡ []
-  pub few : length p.messages < 2 ^ 16
-  pub messages : AreWritable p.messages
 
 -- a packet that was read: a version, a count and URIs that its fields have, and graphs that are light
 pub record IsReadable (p : KeptPacket) : Type 0 where

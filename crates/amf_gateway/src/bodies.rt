@@ -2,61 +2,17 @@
 
 ghost use Rattle.std.specs.Prelude.{◌≤◌, List, length, Some, IfOk, OnErr};
 ghost use Rattle.std.specs.Option.{option_map};
-ghost use Rattle.amf_packet.specs.Alike.{PacketsMatch};
 ghost use Rattle.amf_packet.specs.Content.{packet_of};
-ghost use Rattle.amf_packet.specs.Packet.{Packet as PacketContent};
 ghost use Rattle.amf_service.specs.Registry.{Entry};
-ghost use Rattle.amf_gateway.specs.Answered.{IsWritablePacket, IsReadable, IsAnswerable, packet_bytes, if_packet, body_bytes, most_body};
+ghost use Rattle.amf_gateway.specs.Answered.{IsReadable, if_packet, body_bytes, most_body};
 ghost use Rattle.amf_plan.specs.Services.{services_by};
 ghost use Rattle.amf_plan.specs.Did.{Ran, Stopped};
-ghost use Rattle.amf_plan.specs.Runs.{IsPacked};
 
 use crate::packets::{answers_to, has_long_uri};
-use amf_packet::{Packet, PacketEnd, packet_in, write_packet_keyed};
+use amf_packet::{Packet, packet_in};
 use amf_plan::outside::{Outside, Unanswered};
 use amf_service::Registry;
-use amf_wire::Memory;
 use std::alloc::Global;
-use std::hash::RandomState;
-
-/// The bytes of a packet. It gives up where there is no memory.
-fn bytes_of(alloc: Global, keys: Option<RandomState>, packet: &Packet) -> Result<Vec<u8>, Memory>
-    requires { IsWritablePacket packet.now }
-    ensures { IfOk result (λ bytes. (p : PacketContent) → PacketsMatch p (packet_of packet.now) → IsPacked p bytes.items) }
-{
-    let mut bytes = Vec::new(alloc);
-    match write_packet_keyed(alloc, keys, packet, &mut bytes) {
-        Ok(()) => Ok(bytes),
-        Err(PacketEnd::Memory) => Err(Memory),
-        // Each value was written alone, and each count and URI has room.
-        Err(PacketEnd::TooMany) => unreachable!(),
-        Err(PacketEnd::LongText(_)) => unreachable!(),
-        Err(
-            PacketEnd::NoSpelling {
-                value: _value,
-                lack: _lack,
-            },
-        ) => unreachable!(),
-    }
-}
-
-/// Answers a packet by the bytes of one.
-fn answer_packet<O: Outside>(
-    alloc: Global,
-    outside: &mut O,
-    registry: &Registry,
-    packet: &Packet,
-) -> Result<Vec<u8>, Unanswered>
-    requires packet { IsAnswerable packet.now }
-    requires ready { O.may_call outside.old }
-    ensures ran { let services : List Entry = services_by registry.now.services.entries (λ x. x.items) (λ s. knows (s.vtable, s.value)) (λ s. gives (s.vtable, s.value)) in IfOk result (λ bytes. Ran O.handed (packet_bytes services (packet_of packet.now)) outside.old outside.new (Some bytes.items)) }
-    ensures stopped { let services : List Entry = services_by registry.now.services.entries (λ x. x.items) (λ s. knows (s.vtable, s.value)) (λ s. gives (s.vtable, s.value)) in OnErr result (Stopped O.handed (packet_bytes services (packet_of packet.now)) outside.old outside.new) }
-{
-    let keys = outside.keys();
-    let back = answers_to(alloc, outside, registry, packet)?;
-    let bytes = bytes_of(alloc, keys, &back)?;
-    Ok(bytes)
-}
 
 /// Answers a packet that was read, unless a response URI leaves no room for a suffix.
 fn answer_read<O: Outside>(
@@ -74,7 +30,7 @@ fn answer_read<O: Outside>(
     if is_long {
         return Ok(None);
     }
-    let bytes = answer_packet(alloc, outside, registry, packet)?;
+    let bytes = answers_to(alloc, outside, registry, packet)?;
     Ok(Some(bytes))
 }
 

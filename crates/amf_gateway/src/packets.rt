@@ -4,8 +4,9 @@ ghost use Rattle.std.specs.Prelude.{◌≡◌, ◌≤◌, ◌++◌, List, length
 ghost use Rattle.std.specs.List.{AllByRecursion};
 ghost use Rattle.amf_packet.specs.Content.{body_of, message_of, packet_of};
 ghost use Rattle.amf_packet.specs.PacketAnswer.{body_weight};
+ghost use Rattle.amf_packet.specs.SpelledBodies.{HasFitUris};
 ghost use Rattle.amf_service.specs.Registry.{Entry};
-ghost use Rattle.amf_gateway.specs.Answered.{SaysMessage, SaysMessages, SaysPacket, AreWritable, IsWritablePacket, IsAnswerable, HasRoom, most_body};
+ghost use Rattle.amf_gateway.specs.Answered.{SaysMessage, SaysMessages, SaysPacket, IsAnswerable, HasRoom, most_body};
 ghost use Rattle.amf_plan.specs.Services.{services_by};
 ghost use Rattle.amf_plain_calls.specs.TellsMessage.{TellsMessage};
 ghost use Rattle.amf_plan.specs.Did.{Stopped};
@@ -14,7 +15,7 @@ ghost use Rattle.amf_plan.specs.PlainCalls.{at_last_dot, plain_call as plain_pla
 ghost use Rattle.amf_plan.specs.Packets.{answer_to as answer_plan, answers_to as answers_plan, messages_back as messages_plan, suffix as suffix_of, null_uri, is_long as is_long_content, has_long as has_long_content};
 
 use amf_flex_replies::flex::flex;
-use amf_packet::{Body, Headers, Message, Messages, Packet};
+use amf_packet::{Body, Message, Packet, SpelledMessage, spelled_packet};
 use amf_plain_calls::plain_call::{MessageAnswer, plain_call};
 use amf_plan::outside::{Outside, Unanswered};
 use amf_service::Registry;
@@ -47,7 +48,7 @@ fn answer_flex<O: Outside>(
     let answer = flex(alloc, outside, registry, body)?;
     Ok(MessageAnswer {
         well: answer.well,
-        body: Body::Amf3(answer.graph),
+        body: answer.body,
     })
 }
 
@@ -101,12 +102,16 @@ fn answer_uri(alloc: Global, response: &Name, well: bool) -> Result<Name, Memory
 }
 
 /// The message that answers one with this response URI. It gives up where there is no memory.
-fn message_back(alloc: Global, response: &Name, answer: MessageAnswer) -> Result<Message, Memory>
+fn message_back(
+    alloc: Global,
+    response: &Name,
+    answer: MessageAnswer,
+) -> Result<SpelledMessage, Memory>
     ensures target { IfOk result (λ m. m.target ≡ response.now ++ suffix_of answer.well) }
     ensures response { IfOk result (λ m. m.response ≡ null_uri) }
     ensures body { IfOk result (λ m. m.body ≡ answer.body) }
 {
-    Ok(Message {
+    Ok(SpelledMessage {
         target: answer_uri(alloc, response, answer.well)?,
         response: Name::of_bytes(alloc, b"null")?,
         body: answer.body,
@@ -119,12 +124,12 @@ fn messages_back<O: Outside>(
     outside: &mut O,
     registry: &Registry,
     messages: &[Message],
-) -> Result<Vec<Message>, Unanswered>
+) -> Result<Vec<SpelledMessage>, Unanswered>
     requires light { AllByRecursion (λ m. body_weight m.body ≤ most_body) messages.now }
     requires uris { AllByRecursion HasRoom messages.now }
     requires ready { O.may_call outside.old }
     ensures says { let services : List Entry = services_by registry.now.services.entries (λ x. x.items) (λ s. knows (s.vtable, s.value)) (λ s. gives (s.vtable, s.value)) in IfOk result (λ back. SaysMessages O.handed (messages_plan services (map message_of messages.now)) outside.old outside.new back.items) }
-    ensures writable { IfOk result (λ back. AreWritable back.items) }
+    ensures uris { IfOk result (λ back. AllByRecursion HasFitUris back.items) }
     ensures count { IfOk result (λ back. length back.items ≡ length messages.now) }
     ensures stopped { let services : List Entry = services_by registry.now.services.entries (λ x. x.items) (λ s. knows (s.vtable, s.value)) (λ s. gives (s.vtable, s.value)) in OnErr result (Stopped O.handed (messages_plan services (map message_of messages.now)) outside.old outside.new) }
 {
@@ -137,25 +142,21 @@ fn messages_back<O: Outside>(
     Ok(back)
 }
 
-/// The packet that answers one: it has the same version, and no headers.
+/// The bytes of the packet that answers one: it has the same version, and no headers.
 pub(crate) fn answers_to<O: Outside>(
     alloc: Global,
     outside: &mut O,
     registry: &Registry,
     packet: &Packet,
-) -> Result<Packet, Unanswered>
+) -> Result<Vec<u8>, Unanswered>
     requires packet { IsAnswerable packet.now }
     requires ready { O.may_call outside.old }
-    ensures says { let services : List Entry = services_by registry.now.services.entries (λ x. x.items) (λ s. knows (s.vtable, s.value)) (λ s. gives (s.vtable, s.value)) in IfOk result (λ back. SaysPacket O.handed (answers_plan services (packet_of packet.now)) outside.old outside.new back) }
-    ensures writable { IfOk result (λ back. IsWritablePacket back) }
+    ensures says { let services : List Entry = services_by registry.now.services.entries (λ x. x.items) (λ s. knows (s.vtable, s.value)) (λ s. gives (s.vtable, s.value)) in IfOk result (λ bytes. SaysPacket O.handed (answers_plan services (packet_of packet.now)) outside.old outside.new bytes.items) }
     ensures stopped { let services : List Entry = services_by registry.now.services.entries (λ x. x.items) (λ s. knows (s.vtable, s.value)) (λ s. gives (s.vtable, s.value)) in OnErr result (Stopped O.handed (answers_plan services (packet_of packet.now)) outside.old outside.new) }
 {
-    let messages = messages_back(alloc, outside, registry, packet.messages.as_slice())?;
-    Ok(Packet {
-        version: packet.version,
-        headers: Headers::of_vec(Vec::new(alloc)),
-        messages: Messages::of_vec(messages),
-    })
+    let back = messages_back(alloc, outside, registry, packet.messages.as_slice())?;
+    let bytes = spelled_packet(alloc, packet.version, &back)?;
+    Ok(bytes)
 }
 
 /// Whether the response URI of a message leaves no room for a suffix.

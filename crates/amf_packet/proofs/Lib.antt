@@ -19,6 +19,7 @@ pub mod WriteLists
 pub mod WriteTexts
 pub mod WriteTold
 pub mod WritePackets
+pub mod SpelledParts
 pub mod Spelled
 pub mod SamePackets
 pub mod WholeReads

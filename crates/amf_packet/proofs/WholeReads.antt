@@ -1,17 +1,14 @@
 -- What all the bytes of an input spell: a packet that was read to its end, and no packet where one ends earlier or is refused.
-use Rattle.std.proofs.Common.{◌≡◌, ◌∙◌, ℕ, zero, suc, ◌+◌, ◌<◌, ◌≤◌, ◌^◌, Bool, true, false, List, [], ◌∷◌, ◌++◌, length, take, get_or, add-one, Option, Some, None, Err, refl, sym, ap, subst, arith}
+use Rattle.std.proofs.Common.{◌≡◌, ◌∙◌, ℕ, zero, suc, ◌+◌, ◌<◌, ◌≤◌, ◌^◌, Bool, true, false, List, [], ◌∷◌, ◌++◌, length, take, get_or, add-one, Option, Some, None, refl, sym, ap, subst, arith}
 use Rattle.std.specs.List.{AllByRecursion}
 use Rattle.std.specs.Bool.{then_some}
 use Rattle.std.proofs.lemmas.List.{append-nil}
-use Rattle.amf_io.specs.declared.ends.CursorEnd.{CursorEnd}
-use Rattle.amf_io.specs.declared.ends.CursorEnd.TheVariants.{Ended, TooLarge, ReadFault, Memory}
 use Rattle.amf_io.specs.declared.reason.Reason.{Reason}
 use Rattle.amf_io.specs.declared.reason.Reason.TheVariants.{Trailing}
 use Rattle.amf_io.specs.declared.ends.ReadEnd.{ReadEnd}
 use Rattle.amf_io.specs.declared.ends.ReadEnd.TheVariants.{Refused, ReadFault as Faulted, Memory as NoMemory}
-use Rattle.amf_io.specs.Cursor.{EndsByFault, Counts}
 use Rattle.amf_io.specs.ReadEnds.{CountsEnd}
-use Rattle.amf_io.specs.Field.{Field, flat}
+use Rattle.amf_io.specs.Field.{flat}
 use Rattle.amf_io.specs.Stretch.{IsTaken, stretch}
 use Rattle.amf_io.specs.Verdict.{IsInputRefused, trailing}
 use Rattle.amf_wire.specs.Style.{free}
@@ -23,13 +20,7 @@ use Rattle.amf_packet.specs.PacketAnswer.{packet_weight}
 use Rattle.amf_packet.specs.Unpacked.{IsNoPacket, Unpacks}
 use Rattle.amf_packet.proofs.PacketVerdicts.{packet_verdicts}
 
--- a source in memory never fails
-pub never_fails : (e : CursorEnd) → EndsByFault {T = Bool} (Err e) → Counts {T = Bool} 0 0 (Err e) → ⊥
-never_fails Ended ends counts = ends
-never_fails TooLarge ends counts = ends
-never_fails ReadFault ends counts = omega (arith, counts.1)
-never_fails Memory ends counts = ends
-
+-- no read of bytes in memory fails
 pub no_fault : (e : ReadEnd) → e ≡ Faulted → CountsEnd 0 0 e → ⊥
 no_fault (Refused f) same counts = absurd cc
 no_fault Faulted same counts = omega (arith, counts.1)

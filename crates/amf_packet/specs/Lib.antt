@@ -6,6 +6,7 @@ pub mod Alike
 pub mod Unpacked
 pub mod PacketAnswer
 pub mod WrittenPacket
+pub mod SpelledBodies
 pub mod WorkedPackets
 pub mod VerdictLaws
 pub mod WorkedVerdicts

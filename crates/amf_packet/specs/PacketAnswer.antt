@@ -3,7 +3,6 @@ use Rattle.std.specs.Prelude.{ℕ, ◌+◌, List, Result, sum_by}
 use Rattle.amf_io.specs.declared.window.Window.{Window}
 use Rattle.amf_io.specs.declared.cursor.Cursor.{Cursor}
 use Rattle.amf_io.specs.declared.ends.ReadEnd.{ReadEnd}
-use Rattle.amf_io.specs.Cursor.{source_of, place, bound, unread}
 use Rattle.amf_wire.specs.Style.{free}
 use Rattle.amf_graph.specs.Bounds.{weight}
 use Rattle.amf_io.specs.Stretch.{AnswersOf, between}

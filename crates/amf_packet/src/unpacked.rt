@@ -3,15 +3,13 @@
 ghost use Rattle.std.specs.Prelude.{◌≡◌, ◌↔◌, ◌<◌, ◌^◌, true, [], length, IfOk};
 ghost use Rattle.std.specs.List.{AllByRecursion};
 ghost use Rattle.amf_io.specs.Cursor.{place, bound, unread};
-ghost use Rattle.amf_io.specs.InMemory.{faultless_left};
+ghost use Rattle.amf_io.specs.InMemory.{nothing_left};
 ghost use Rattle.amf_graph.specs.Reached.{IsWhole};
-ghost use Rattle.amf_graph.specs.Rooted.{content};
 ghost use Rattle.amf_packet.specs.Content.{body_of};
 ghost use Rattle.amf_packet.specs.Unpacked.{Unpacks};
 
 use crate::{Body, Message, Packet, read_packet_keyed};
-use amf_graph::Rooted;
-use amf_io::{Cursor, FaultlessSource, ReadEnd, Window};
+use amf_io::{Cursor, Empty, ReadEnd};
 use amf_wire::Memory;
 use std::alloc::Global;
 use std::hash::RandomState;
@@ -19,22 +17,11 @@ use std::hash::RandomState;
 /// The most bytes of which a packet is read.
 const MOST_BYTES: u32 = 134_217_727;
 
-/// The graph of a body.
-fn graph(body: &Body) -> &Rooted
-    ensures { content result.now ≡ (body_of body.now).graph }
-{
-    match body {
-        Body::Call(graph) => graph,
-        Body::Amf3(graph) => graph,
-        Body::Plain(graph) => graph,
-    }
-}
-
 /// What is true of every body. It does nothing.
 fn is_whole(body: &Body)
     ensures { IsWhole (body_of body.now).graph }
 {
-    let graph = graph(body);
+    let graph = body.graph();
     graph.is_finished();
 }
 
@@ -47,33 +34,24 @@ fn are_whole(messages: &[Message])
     }
 }
 
-/// Whether nothing follows.
-fn is_at_end(cursor: &mut Cursor<'_, FaultlessSource>) -> bool
-    ensures { result ≡ true ↔ (unread faultless_left cursor.old ≡ []) }
-{
-    match cursor.at_end() {
-        Ok(ended) => ended,
-        Err(_) => unreachable!(),
-    }
-}
-
 /// The packet that is the whole of what a cursor is to give, if that is one. It gives up where there is no memory.
 fn whole_packet(
     alloc: Global,
     keys: Option<RandomState>,
-    cursor: &mut Cursor<'_, FaultlessSource>,
+    cursor: &mut Cursor<'_, Empty>,
 ) -> Result<Option<Packet>, Memory>
     requires start { place cursor.old ≡ 0 }
     requires limit { bound cursor.old ≡ 134217727 }
-    requires short { length (unread faultless_left cursor.old) < 2 ^ 27 }
-    ensures { IfOk result (λ packet. Unpacks (unread faultless_left cursor.old) packet) }
+    requires short { length (unread nothing_left cursor.old) < 2 ^ 27 }
+    ensures { IfOk result (λ packet. Unpacks (unread nothing_left cursor.old) packet) }
 {
     match read_packet_keyed(alloc, keys, cursor) {
         Ok(packet) => {
             are_whole(packet.messages.as_slice());
-            Ok(is_at_end(cursor).then_some(packet))
+            Ok(cursor.is_at_end().then_some(packet))
         }
         Err(ReadEnd::Refused(_)) => Ok(None),
+        // No read of bytes in memory fails.
         Err(ReadEnd::ReadFault) => unreachable!(),
         Err(ReadEnd::Memory) => Err(Memory),
     }
@@ -91,8 +69,7 @@ pub fn packet_in(
     requires { length bytes.now < 2 ^ 27 }
     ensures { IfOk result (λ packet. Unpacks bytes.now packet) }
 {
-    let mut source = FaultlessSource::new(alloc, bytes, bytes.len(), 0)?;
-    let window = Window::new(alloc, MOST_BYTES)?;
-    let mut cursor = Cursor::over(&mut source, window);
+    let mut end = Empty;
+    let mut cursor = Cursor::over_bytes(alloc, &mut end, bytes, MOST_BYTES)?;
     whole_packet(alloc, keys, &mut cursor)
 }

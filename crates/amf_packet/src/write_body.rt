@@ -3,7 +3,6 @@ ghost use Rattle.std.specs.Result.{IsErrOf};
 ghost use Rattle.amf_wire.specs.Style.{canonical};
 ghost use Rattle.amf_graph.specs.declared.lack.Lack.{Lack};
 ghost use Rattle.amf_graph.specs.Rooted.{content};
-ghost use Rattle.amf0_spelling.specs.declared.form.Form.TheVariants as form;
 ghost use Rattle.amf_packet.specs.Content.{body_of};
 ghost use Rattle.amf_packet.specs.Packet.{BodyBy};
 ghost use Rattle.amf_packet.specs.PacketLacks.{IsBodyLack};
@@ -11,7 +10,7 @@ ghost use Rattle.amf_packet.specs.WriteParts.{Grows, Appends, LacksHere, Writes}
 
 use crate::{Body, PacketEnd};
 use amf_graph::{Rooted, WriteEnd};
-use amf0_spelling::graphs_have_one_lowering;
+use amf0_spelling::Form;
 use amf0_write::{lower, write0};
 use amf3_write::write3_keyed;
 use std::alloc::Global;
@@ -27,8 +26,8 @@ fn append_call(
     graph: &Rooted,
     out: &mut Vec<u8>,
 ) -> Result<(), WriteEnd>
-    ensures written { OnOk result (Appends (BodyBy canonical form.Call (content graph.now)) out.old.items out.new.items) }
-    ensures lack { (l : Lack) → IsErrOf result (WriteEnd.NoSpelling l) → IsBodyLack form.Call (content graph.now) l.node l.kind }
+    ensures written { OnOk result (Appends (BodyBy canonical Form.Call (content graph.now)) out.old.items out.new.items) }
+    ensures lack { (l : Lack) → IsErrOf result (WriteEnd.NoSpelling l) → IsBodyLack Form.Call (content graph.now) l.node l.kind }
     ensures grows { Grows out.old.items out.new.items }
 {
     out.extend_from_slice(&CALL)?;
@@ -42,8 +41,8 @@ fn append_amf3(
     graph: &Rooted,
     out: &mut Vec<u8>,
 ) -> Result<(), WriteEnd>
-    ensures written { OnOk result (Appends (BodyBy canonical form.Amf3 (content graph.now)) out.old.items out.new.items) }
-    ensures lack { (l : Lack) → IsErrOf result (WriteEnd.NoSpelling l) → IsBodyLack form.Amf3 (content graph.now) l.node l.kind }
+    ensures written { OnOk result (Appends (BodyBy canonical Form.Amf3 (content graph.now)) out.old.items out.new.items) }
+    ensures lack { (l : Lack) → IsErrOf result (WriteEnd.NoSpelling l) → IsBodyLack Form.Amf3 (content graph.now) l.node l.kind }
     ensures grows { Grows out.old.items out.new.items }
 {
     out.push(0x11)?;
@@ -52,31 +51,30 @@ fn append_amf3(
 
 /// Appends a value in the kinds that AMF 0 has.
 fn append_plain(alloc: Global, graph: &Rooted, out: &mut Vec<u8>) -> Result<(), WriteEnd>
-    ensures written { OnOk result (Appends (BodyBy canonical form.Plain (content graph.now)) out.old.items out.new.items) }
-    ensures lack { (l : Lack) → IsErrOf result (WriteEnd.NoSpelling l) → IsBodyLack form.Plain (content graph.now) l.node l.kind }
+    ensures written { OnOk result (Appends (BodyBy canonical Form.Plain (content graph.now)) out.old.items out.new.items) }
+    ensures lack { (l : Lack) → IsErrOf result (WriteEnd.NoSpelling l) → IsBodyLack Form.Plain (content graph.now) l.node l.kind }
     ensures grows { Grows out.old.items out.new.items }
 {
-    // What is lowered is a lowered graph.
-    graphs_have_one_lowering();
     let low = lower(alloc, graph)?;
     write0(alloc, &low, out)
 }
 
-/// Appends a value in its form.
-fn append_formed(
+/// Appends a value in this form.
+pub fn append_formed(
     alloc: Global,
     keys: Option<RandomState>,
-    body: &Body,
+    form: Form,
+    graph: &Rooted,
     out: &mut Vec<u8>,
 ) -> Result<(), WriteEnd>
-    ensures written { OnOk result (Appends (BodyBy canonical (body_of body.now).form (body_of body.now).graph) out.old.items out.new.items) }
-    ensures lack { (l : Lack) → IsErrOf result (WriteEnd.NoSpelling l) → IsBodyLack (body_of body.now).form (body_of body.now).graph l.node l.kind }
+    ensures written { OnOk result (Appends (BodyBy canonical form (content graph.now)) out.old.items out.new.items) }
+    ensures lack { (l : Lack) → IsErrOf result (WriteEnd.NoSpelling l) → IsBodyLack form (content graph.now) l.node l.kind }
     ensures grows { Grows out.old.items out.new.items }
 {
-    match body {
-        Body::Call(graph) => append_call(alloc, keys, graph, out),
-        Body::Amf3(graph) => append_amf3(alloc, keys, graph, out),
-        Body::Plain(graph) => append_plain(alloc, graph, out),
+    match form {
+        Form::Call => append_call(alloc, keys, graph, out),
+        Form::Amf3 => append_amf3(alloc, keys, graph, out),
+        Form::Plain => append_plain(alloc, graph, out),
     }
 }
 
@@ -91,7 +89,7 @@ pub fn append_body(
     ensures writes { Writes (BodyBy canonical (body_of body.now).form (body_of body.now).graph) (LacksHere (body_of body.now) value) out.old.items out.new.items result }
     ensures grows { Grows out.old.items out.new.items }
 {
-    match append_formed(alloc, keys, body, out) {
+    match append_formed(alloc, keys, body.form(), body.graph(), out) {
         Ok(()) => Ok(()),
         Err(WriteEnd::Memory) => Err(PacketEnd::Memory),
         Err(WriteEnd::NoSpelling(lack)) => Err(PacketEnd::NoSpelling { value, lack }),

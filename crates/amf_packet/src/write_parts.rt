@@ -17,7 +17,7 @@ use std::hash::RandomState;
 const UNKNOWN: u32 = 0xFFFF_FFFF;
 
 /// Appends a number of 16 bits.
-fn append_number(number: u16, out: &mut Vec<u8>) -> Result<(), Memory>
+pub fn append_number(number: u16, out: &mut Vec<u8>) -> Result<(), Memory>
     ensures count { OnOk result (Appends (CountBy number) out.old.items out.new.items) }
     ensures version { is_version number ≡ true → OnOk result (Appends (VersionBy number) out.old.items out.new.items) }
     ensures grows { Grows out.old.items out.new.items }
@@ -27,7 +27,7 @@ fn append_number(number: u16, out: &mut Vec<u8>) -> Result<(), Memory>
 }
 
 /// Appends a text behind its length of 16 bits (AMF 0, 1.3.1).
-fn append_name(name: &Name, out: &mut Vec<u8>) -> Result<(), Memory>
+pub fn append_name(name: &Name, out: &mut Vec<u8>) -> Result<(), Memory>
     requires { FitTexts (name.now ∷ []) }
     ensures written { OnOk result (Appends (Short name.now) out.old.items out.new.items) }
     ensures grows { Grows out.old.items out.new.items }
@@ -48,7 +48,7 @@ fn append_must(must: bool, out: &mut Vec<u8>) -> Result<(), Memory>
 }
 
 /// Appends a length that is not known.
-fn append_length(out: &mut Vec<u8>) -> Result<(), Memory>
+pub fn append_length(out: &mut Vec<u8>) -> Result<(), Memory>
     ensures written { OnOk result (Appends (LengthBy canonical) out.old.items out.new.items) }
     ensures grows { Grows out.old.items out.new.items }
 {

@@ -1,8 +1,6 @@
--- What has a spelling lacks nothing, nor does a fault.
+-- What lacks something has no spelling; a fault lacks nothing.
 use Rattle.std.proofs.Common.{◌≡◌, ℕ, zero, suc, ◌<◌, List, [], length, slice_get, Option, Some, None, refl, sym, ap, subst, arith, inl, inr, codes}
 use Rattle.std.proofs.lemmas.Option.{slice_get_within}
-use Rattle.amf_io.specs.Field.{Field}
-use Rattle.amf_wire.specs.Style.{canonical}
 use Rattle.amf_graph.specs.declared.lack.LackKind.{LackKind}
 use Rattle.amf_graph.specs.declared.lack.LackKind.TheVariants.{EmptyName, NoForm, LongName, Shared, FarReference, LongFile}
 use Rattle.amf_graph.specs.Graph.{Value, leaf, node, text, Graph, node_at, AllNamed}
@@ -13,30 +11,24 @@ use Rattle.amf_graph.proofs.Isomorphisms.{isomorphic_sym, isomorphic_trans}
 use Rattle.amf_graph.proofs.Lists.{entry}
 use Rattle.amf_graph.proofs.OrderExists.{isomorphic_refl}
 use Rattle.amf_graph.proofs.Reaching.{order_once, order_reached}
-use Rattle.amf3_spelling.specs.Spells3.{IsSpelling3}
-use Rattle.amf3_spelling.proofs.FirstLack3.{nothing_lacks}
 use Rattle.amf0_spelling.specs.declared.form.Form.TheVariants.{Amf3, Plain}
 use Rattle.amf0_spelling.specs.Lacks0.{IsLack0, NodeLacks0}
 use Rattle.amf0_spelling.specs.Lowered.{Low, ends, IsLoweringOf}
-use Rattle.amf0_spelling.specs.Spells0.{IsSpelling0}
 use Rattle.amf0_spelling.proofs.Decides0.{same_canonical0}
 use Rattle.amf0_spelling.proofs.LackTwice0.{spelling_or_lack0}
 use Rattle.amf0_spelling.proofs.LacksAlike0.{lacks_alike0}
 use Rattle.amf0_spelling.proofs.Low.{lowered_alike}
 use Rattle.flex_msgs.specs.declared.reply.FaultText.{FaultText}
-use Rattle.amf_plain_calls.specs.TellsMessage.{LacksNothing}
+use Rattle.amf_packet.specs.Packet.{Body}
+use Rattle.amf_packet.specs.PacketLacks.{IsBodyLack}
 use Rattle.amf_plan.specs.Plan.{lowered}
 use Rattle.amf_plan.specs.PlainCalls.{fault_node, fault_graph}
 use Rattle.amf_plan.specs.Runs.{Finds, IsSpelling}
 use Rattle.amf_plan.proofs.Spelling.{all_named}
 
-pub lacks_none3 : (g : Graph) (fs : List Field) → IsSpelling3 canonical g fs → LacksNothing (record { form = Amf3; graph = g })
-lacks_none3 g fs s number kind l = (nothing_lacks canonical g fs s).1 number kind l
-
-pub lacks_none0 : (g low : Graph) (fs : List Field) → ((i : ℕ) → Reached g i → i < length g.nodes) → IsLoweringOf g low → IsSpelling0 canonical low fs → LacksNothing (record { form = Plain; graph = g })
-lacks_none0 g low fs there lo s number kind (h, other, l) =
-    let same = lowered_alike g g low h (isomorphic_refl g there) lo other in
-    spelling_or_lack0.not_both low fs number kind s (lacks_alike0 h low (isomorphic_sym low h same) number kind l)
+-- no node of the value is without a spelling
+abbrev pub LacksNothing : Body → Type 0
+LacksNothing b = (number : ℕ) (kind : LackKind) → IsBodyLack b.form b.graph number kind → ⊥
 
 -- a lowered graph with a lack has no spelling, nor has one that is isomorphic to what was lowered
 pub unspelled0 : (g h low : Graph) (number : ℕ) (kind : LackKind) → Isomorphic g h → IsLoweringOf h low → IsLack0 low number kind → Finds (IsSpelling lowered g) None

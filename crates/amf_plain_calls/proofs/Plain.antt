@@ -1,7 +1,11 @@
 -- How plain calls are answered, by what is known of their parts.
-use Rattle.std.proofs.Common.{◌≡◌, true, false, List, Option, Some, None, refl, sym, subst}
+use Rattle.std.proofs.Common.{◌≡◌, ℕ, true, false, List, Option, Some, None, refl, sym, subst}
+use Rattle.amf_io.specs.Field.{flat}
+use Rattle.amf_graph.specs.declared.lack.Lack.{Lack}
 use Rattle.amf_graph.specs.Graph.{Graph}
 use Rattle.amf_graph.specs.Isomorphic.{Isomorphic}
+use Rattle.amf_graph.proofs.Isomorphisms.{isomorphic_sym}
+use Rattle.amf3_spelling.proofs.Decides3.{same_canonical}
 use Rattle.amf0_spelling.specs.declared.form.Form.{Form}
 use Rattle.amf0_spelling.specs.declared.form.Form.TheVariants.{Call, Amf3, Plain}
 use Rattle.amf_packet.specs.declared.body.Body.{Body as KeptBody}
@@ -11,34 +15,51 @@ use Rattle.flex_msgs.specs.declared.reply.FaultText.{FaultText}
 use Rattle.amf_service.specs.Meaning.{Called, no_service, no_operation, given, result, fault}
 use Rattle.amf_service.specs.Registry.{Entry}
 use Rattle.amf_plain_calls.specs.declared.plain_call.MessageAnswer.{MessageAnswer}
-use Rattle.amf_packet.specs.Alike.{BodiesMatch}
+use Rattle.amf_packet.specs.PacketLacks.{IsBodyLack}
+use Rattle.amf_packet.specs.SpelledBodies.{IsBodySpelling, TellsSpelling}
 use Rattle.amf_plan.specs.Calls.{cause_of}
-use Rattle.amf_plain_calls.specs.TellsMessage.{TellsSpelled, LacksNothing, AnswersMessage, TellsMessage}
+use Rattle.amf_plain_calls.specs.TellsMessage.{FindsForm, AnswersMessage, TellsMessage}
 use Rattle.amf_plan.specs.Causes as causes
-use Rattle.amf_plan.specs.Plan.{Plan, whole, lowered, gives}
+use Rattle.amf_plan.specs.Plan.{Plan, lowered, gives}
 use Rattle.amf_plan.specs.PlainCalls.{Target, form_in_amf3, form_for, if_formed, if_array, answer_in, reply_form, failed, succeeded, outcome, arguments, call, plain_call, fault_graph}
 use Rattle.amf_plan.specs.Replies.{Answer}
-use Rattle.amf_plan.specs.Runs.{nothing, gave, Runs}
+use Rattle.amf_plan.specs.Runs.{Finds, IsSpelling, nothing, gave, Runs}
 use Rattle.amf_plan.specs.Serving.{none_left}
 use Rattle.amf_plan.proofs.Composed.{runs_then}
-use Rattle.amf_plain_calls.proofs.NoLacks.{fault_same, fault_lacks0, fault_lacks3}
+use Rattle.amf_plan.proofs.Spelling.{unspelled}
+use Rattle.amf_plain_calls.proofs.NoLacks.{LacksNothing, unspelled0, fault_same, fault_lacks0, fault_lacks3}
 
 abbrev pub body_with : Form → Graph → Body
 body_with form g = record { form = form; graph = g }
 
 -- The form of a value.
 
-pub amf3_well : (g : Graph) → TellsSpelled whole g true → Runs (form_in_amf3 g) none_left nothing (gave (Some Amf3) none_left)
-amf3_well g t = (Some t.0, t.1, (refl, refl))
+runs_amf3 : (g h : Graph) (b : List ℕ) → Isomorphic g h → IsBodySpelling (body_with Amf3 h) b → Runs (form_in_amf3 g) none_left nothing (gave (Some Amf3) none_left)
+runs_amf3 g h b i (fs, (item, e, s), is) = (Some (flat item), same_canonical h g (isomorphic_sym g h i) (flat item) (item, s, refl), (refl, refl))
 
-pub amf3_badly : (g : Graph) → TellsSpelled whole g false → Runs (form_in_amf3 g) none_left nothing (gave None none_left)
-amf3_badly g t = (None, t, (refl, refl))
+runs_none : (g h : Graph) (l : Lack) → Isomorphic g h → IsBodyLack Amf3 h l.node l.kind → Runs (form_in_amf3 g) none_left nothing (gave None none_left)
+runs_none g h l i lack = (None, unspelled g h l i lack, (refl, refl))
 
-pub plain_well : (g : Graph) → TellsSpelled lowered g true → Runs (form_for Plain g) none_left nothing (gave (Some Plain) none_left)
-plain_well g t = (Some t.0, t.1, (refl, refl))
+runs_plain : (g h : Graph) (b : List ℕ) → Isomorphic g h → IsBodySpelling (body_with Plain h) b → Runs (form_for Plain g) none_left nothing (gave (Some Plain) none_left)
+runs_plain g h b i (fs, (low, lo, s), is) = (Some b, (h, low, i, lo, (fs, s, is)), (refl, refl))
 
-pub plain_badly : (g : Graph) (found : Option Form) → TellsSpelled lowered g false → Runs (form_in_amf3 g) none_left nothing (gave found none_left) → Runs (form_for Plain g) none_left nothing (gave found none_left)
-plain_badly g found t r = (None, t, r)
+no_plain : (g h : Graph) (l : Lack) → Isomorphic g h → IsBodyLack Plain h l.node l.kind → Finds (IsSpelling lowered g) None
+no_plain g h l i (low, lo, lack) = unspelled0 g h low l.node l.kind i lo lack
+
+pub amf3_found : (h : Graph) (o : Option (List ℕ)) → TellsSpelling Amf3 h o → FindsForm Amf3 h o
+amf3_found h (Some b) s = (Amf3, s, λ g i. runs_amf3 g h b i s)
+amf3_found h None t = λ g i. runs_none g h t.0 i t.1
+
+pub call_found : (h : Graph) (o : Option (List ℕ)) → TellsSpelling Amf3 h o → FindsForm Call h o
+call_found h (Some b) s = (Amf3, s, λ g i. runs_amf3 g h b i s)
+call_found h None t = λ g i. runs_none g h t.0 i t.1
+
+pub plain_found : (h : Graph) (b : List ℕ) → TellsSpelling Plain h (Some b) → FindsForm Plain h (Some b)
+plain_found h b s = (Plain, s, λ g i. runs_plain g h b i s)
+
+pub plain_else : (h : Graph) (o : Option (List ℕ)) → TellsSpelling Plain h None → TellsSpelling Amf3 h o → FindsForm Plain h o
+plain_else h (Some b) n s = (Amf3, s, λ g i. (None, no_plain g h n.0 i n.1, runs_amf3 g h b i s))
+plain_else h None n t = λ g i. (None, no_plain g h n.0 i n.1, runs_none g h t.0 i t.1)
 
 -- Answers.
 
@@ -46,26 +67,18 @@ plain_badly g found t r = (None, t, r)
 pub told_at_once : (x : MessageAnswer) (y : Answer) → AnswersMessage x y → TellsMessage (gives y) x
 told_at_once x y is = record { answer = y; is = is; runs = (refl, refl) }
 
-fault_lacks : (form : Form) (f : FaultText) → LacksNothing (body_with (reply_form form) (fault_graph f))
+-- the object of a fault has a spelling in its form
+pub fault_lacks : (form : Form) (f : FaultText) → LacksNothing (body_with (reply_form form) (fault_graph f))
 fault_lacks Call f = fault_lacks3 f
 fault_lacks Amf3 f = fault_lacks3 f
 fault_lacks Plain f = fault_lacks0 f
 
--- the object of a fault in its form
-pub fault_is : (form : Form) (f : FaultText) (x : KeptBody) → body_of x ≡ body_with (reply_form form) (fault_graph f) → AnswersMessage (record { well = false; body = x }) (failed form f)
-fault_is form f x e = record {
-  well = refl;
-  body = subst (λ (z : Body). BodiesMatch (body_with (reply_form form) (fault_graph f)) z) (sym e) (record { form = refl; graph = fault_same f });
-  spelled = subst LacksNothing (sym e) (fault_lacks form f);
-}
+pub fault_is : (form : Form) (f : FaultText) (b : List ℕ) → IsBodySpelling (body_with (reply_form form) (fault_graph f)) b → AnswersMessage (record { well = false; body = b }) (failed form f)
+fault_is form f b s = record { well = refl; body = (body_with (reply_form form) (fault_graph f), record { form = refl; graph = fault_same f }, s) }
 
 -- a result in the form that was found
-pub result_is : (found : Form) (g h : Graph) (x : KeptBody) → Isomorphic g h → LacksNothing (body_with found h) → body_of x ≡ body_with found h → AnswersMessage (record { well = true; body = x }) (answer_in true found g)
-result_is found g h x i lacks e = record {
-  well = refl;
-  body = subst (λ (z : Body). BodiesMatch (body_with found g) z) (sym e) (record { form = refl; graph = i });
-  spelled = subst LacksNothing (sym e) lacks;
-}
+pub result_is : (found : Form) (g h : Graph) (b : List ℕ) → Isomorphic g h → IsBodySpelling (body_with found h) b → AnswersMessage (record { well = true; body = b }) (answer_in true found g)
+result_is found g h b i s = record { well = refl; body = (body_with found h, record { form = refl; graph = i }, s) }
 
 pub told_formed : (form : Form) (g : Graph) (found : Option Form) (x : MessageAnswer) → Runs (form_for form g) none_left nothing (gave found none_left) → AnswersMessage x (if_formed form g found) → TellsMessage (succeeded form g) x
 told_formed form g found x runs is = record {
@@ -112,10 +125,3 @@ with_target services b o t x e told = subst (λ (z : Option Target). TellsMessag
 
 pub without_target : (services : List Entry) (b : Body) (o : Option Target) (x : MessageAnswer) → o ≡ None → AnswersMessage x (failed b.form causes.no_service) → TellsMessage (plain_call services b o) x
 without_target services b o x e is = subst (λ (z : Option Target). TellsMessage (plain_call services b z) x) (sym e) (told_at_once x (failed b.form causes.no_service) is)
-
--- what is found is the very form
-pub in_some : {X : Type 0} (P : X → Type 0) (x y : X) → Some x ≡ Some y → P x → P y
-in_some P x y e p = let same : x ≡ y = cc in subst P same p
-
-abbrev pub RunsAs : Form → Graph → Option Form → Type 0
-RunsAs f x found = (g : Graph) → Isomorphic g x → Runs (form_for f g) none_left nothing (gave found none_left)

@@ -1,6 +1,6 @@
 //! How plain remoting is answered: a message of a packet whose target names a service and an operation.
 
-ghost use Rattle.std.specs.Prelude.{◌≡◌, ◌≤◌, ◌+◌, true, List, Some, IfOk};
+ghost use Rattle.std.specs.Prelude.{◌≡◌, ◌≤◌, ◌+◌, List, Some, IfOk};
 ghost use Rattle.amf_graph.specs.Bounds.{weight};
 ghost use Rattle.amf_graph.specs.Graph.{Graph};
 ghost use Rattle.amf_graph.specs.Isomorphic.{Isomorphic};
@@ -13,138 +13,61 @@ ghost use Rattle.amf_service.specs.Registry.{Entry};
 ghost use Rattle.amf_service.specs.Shipped.{items_of};
 ghost use Rattle.amf_plan.specs.Services.{services_by};
 ghost use Rattle.amf_plan.specs.Calls.{ComesTo, AnswerFits};
-ghost use Rattle.amf_plain_calls.specs.TellsMessage.{TellsSpelled, LacksNothing, AnswersMessage, TellsMessage};
+ghost use Rattle.amf_plain_calls.specs.TellsMessage.{FindsForm, AnswersMessage, TellsMessage};
 ghost use Rattle.amf_plan.specs.Kept.{FaultFits};
-ghost use Rattle.amf_plan.specs.Plan.{lowered, whole};
-ghost use Rattle.amf_plan.specs.PlainCalls.{at_last_dot, in_array as array_of, if_array, arguments, form_for as form_plan, form_in_amf3 as amf3_plan, reply_form as reply_form_of, failed as failed_answer, succeeded as succeeded_plan, outcome as outcome_plan, call as call_plan, plain_call as plain_plan};
-ghost use Rattle.amf_plan.specs.Runs.{nothing, gave, Runs};
-ghost use Rattle.amf_plan.specs.Serving.{none_left};
+ghost use Rattle.amf_plan.specs.PlainCalls.{at_last_dot, in_array as array_of, if_array, arguments, reply_form as reply_form_of, failed as failed_answer, succeeded as succeeded_plan, outcome as outcome_plan, call as call_plan, plain_call as plain_plan};
 
 use crate::faults::fault_graph;
 use crate::target::Target;
-use amf_graph::{Builder, Rooted, WriteEnd};
-use amf_packet::Body;
+use amf_graph::{Builder, Rooted};
+use amf_packet::{Body, SpelledBody};
 use amf_plan::arrays::add_array;
 use amf_plan::calling::{CallAnswer, call_service};
 use amf_plan::causes::{bad_message, no_form, no_service};
 use amf_plan::messages::{finished, kept};
 use amf_service::{Registry, items};
 use amf_wire::{Memory, Name};
-use amf0_spelling::{Form, graphs_have_one_lowering};
-use amf0_write::{lower, write0};
-use amf3_write::write3_keyed;
+use amf0_spelling::Form;
 use flex_msgs::FaultText;
 use std::alloc::Global;
 use std::hash::RandomState;
 
-/// What a message of a packet is answered: a result or a status, and a value.
+/// What a message of a packet is answered: a result or a status, and the spelling of a value.
 #[derive(Drop)]
 pub struct MessageAnswer {
     pub well: bool,
-    pub body: Body,
+    pub body: SpelledBody,
 }
 
-/// The way in which a body uses AMF 3.
-fn form_of(body: &Body) -> Form
-    ensures { result ≡ (body_of body.now).form }
-{
-    match body {
-        Body::Call(_) => Form::Call,
-        Body::Amf3(_) => Form::Amf3,
-        Body::Plain(_) => Form::Plain,
-    }
-}
-
-/// The body of this form with this graph.
-fn body_in(form: Form, graph: Rooted) -> Body
-    ensures { body_of result ≡ record { form = form; graph = content graph } }
-{
-    match form {
-        Form::Call => Body::Call(graph),
-        Form::Amf3 => Body::Amf3(graph),
-        Form::Plain => Body::Plain(graph),
-    }
-}
-
-/// Whether a graph has a spelling in AMF 3. It gives up where there is no memory.
-fn is_spelled3(alloc: Global, keys: Option<RandomState>, graph: &Rooted) -> Result<bool, Memory>
-    ensures tells { IfOk result (λ t. (g : Graph) → Isomorphic g (content graph.now) → TellsSpelled whole g t) }
-    ensures lacks { IfOk result (λ t. t ≡ true → LacksNothing (record { form = Form.Amf3; graph = content graph.now })) }
-{
-    let mut bytes = Vec::new(alloc);
-    match write3_keyed(alloc, keys, graph, &mut bytes) {
-        Ok(()) => Ok(true),
-        Err(WriteEnd::NoSpelling(_)) => Ok(false),
-        Err(WriteEnd::Memory) => Err(Memory),
-    }
-}
-
-/// Whether a graph has a spelling in AMF 0 where it is lowered. It gives up where there is no memory.
-fn is_spelled0(alloc: Global, graph: &Rooted) -> Result<bool, Memory>
-    ensures tells { IfOk result (λ t. (g : Graph) → Isomorphic g (content graph.now) → TellsSpelled lowered g t) }
-    ensures lacks { IfOk result (λ t. t ≡ true → LacksNothing (record { form = Form.Plain; graph = content graph.now })) }
-{
-    // What is true of every graph, and that what is lowered is a lowered graph.
-    graph.is_finished();
-    graphs_have_one_lowering();
-    let low = lower(alloc, graph)?;
-    let mut bytes = Vec::new(alloc);
-    match write0(alloc, &low, &mut bytes) {
-        Ok(()) => Ok(true),
-        Err(WriteEnd::NoSpelling(_)) => Ok(false),
-        Err(WriteEnd::Memory) => Err(Memory),
-    }
-}
-
-/// AMF 3 where a graph has a spelling in it. It gives up where there is no memory.
-fn amf3_form(
-    alloc: Global,
-    keys: Option<RandomState>,
-    graph: &Rooted,
-) -> Result<Option<Form>, Memory>
-    ensures found { IfOk result (λ found. (g : Graph) → Isomorphic g (content graph.now) → Runs (amf3_plan g) none_left nothing (gave found none_left)) }
-    ensures lacks { IfOk result (λ found. (f : Form) → found ≡ Some f → LacksNothing (record { form = f; graph = content graph.now })) }
-{
-    let spelled = is_spelled3(alloc, keys, graph)?;
-    if spelled {
-        Ok(Some(Form::Amf3))
-    } else {
-        Ok(None)
-    }
-}
-
-/// AMF 0 where a graph has a spelling in it, and else AMF 3 where it has one there. It gives up where there is no memory.
-fn plain_form(
-    alloc: Global,
-    keys: Option<RandomState>,
-    graph: &Rooted,
-) -> Result<Option<Form>, Memory>
-    ensures found { IfOk result (λ found. (g : Graph) → Isomorphic g (content graph.now) → Runs (form_plan Form.Plain g) none_left nothing (gave found none_left)) }
-    ensures lacks { IfOk result (λ found. (f : Form) → found ≡ Some f → LacksNothing (record { form = f; graph = content graph.now })) }
-{
-    let spelled = is_spelled0(alloc, graph)?;
-    if spelled {
-        Ok(Some(Form::Plain))
-    } else {
-        amf3_form(alloc, keys, graph)
-    }
-}
-
-/// The form in which a value is answered to a request of this form, if it has a spelling in one. It gives up where there is no
+/// The spelling of a graph in AMF 0 where it has one, and else that in AMF 3 if it has one there. It gives up where there is no
 /// memory.
-fn form_for(
+fn plain_spelling(
+    alloc: Global,
+    keys: Option<RandomState>,
+    graph: &Rooted,
+) -> Result<Option<SpelledBody>, Memory>
+    ensures { IfOk result (FindsForm Form.Plain (content graph.now)) }
+{
+    let spelling = SpelledBody::of(alloc, keys, Form::Plain, graph)?;
+    match spelling {
+        Some(body) => Ok(Some(body)),
+        None => SpelledBody::of(alloc, keys, Form::Amf3, graph),
+    }
+}
+
+/// The spelling of a value that answers a request of this form, if it has one. It gives up where there is no memory.
+fn spelling_for(
     alloc: Global,
     keys: Option<RandomState>,
     form: Form,
     graph: &Rooted,
-) -> Result<Option<Form>, Memory>
-    ensures found { IfOk result (λ found. (g : Graph) → Isomorphic g (content graph.now) → Runs (form_plan form g) none_left nothing (gave found none_left)) }
-    ensures lacks { IfOk result (λ found. (f : Form) → found ≡ Some f → LacksNothing (record { form = f; graph = content graph.now })) }
+) -> Result<Option<SpelledBody>, Memory>
+    ensures { IfOk result (FindsForm form (content graph.now)) }
 {
     match form {
-        Form::Plain => plain_form(alloc, keys, graph),
-        Form::Amf3 => amf3_form(alloc, keys, graph),
-        Form::Call => amf3_form(alloc, keys, graph),
+        Form::Plain => plain_spelling(alloc, keys, graph),
+        Form::Amf3 => SpelledBody::of(alloc, keys, Form::Amf3, graph),
+        Form::Call => SpelledBody::of(alloc, keys, Form::Amf3, graph),
     }
 }
 
@@ -164,10 +87,8 @@ fn failed(alloc: Global, form: Form, fault: &FaultText) -> Result<MessageAnswer,
     ensures { IfOk result (λ x. AnswersMessage x (failed_answer form fault.now)) }
 {
     let graph = fault_graph(alloc, fault)?;
-    Ok(MessageAnswer {
-        well: false,
-        body: body_in(reply_form(form), graph),
-    })
+    let body = SpelledBody::of_whole(alloc, reply_form(form), &graph)?;
+    Ok(MessageAnswer { well: false, body })
 }
 
 /// The answer with this result, or where it has no spelling the one that says so. It gives up where there is no memory.
@@ -175,16 +96,13 @@ fn succeeded(
     alloc: Global,
     keys: Option<RandomState>,
     form: Form,
-    graph: Rooted,
+    graph: &Rooted,
 ) -> Result<MessageAnswer, Memory>
-    ensures { IfOk result (λ x. (g : Graph) → Isomorphic g (content graph) → TellsMessage (succeeded_plan form g) x) }
+    ensures { IfOk result (λ x. (g : Graph) → Isomorphic g (content graph.now) → TellsMessage (succeeded_plan form g) x) }
 {
-    let found = form_for(alloc, keys, form, &graph)?;
+    let found = spelling_for(alloc, keys, form, graph)?;
     match found {
-        Some(found) => Ok(MessageAnswer {
-            well: true,
-            body: body_in(found, graph),
-        }),
+        Some(body) => Ok(MessageAnswer { well: true, body }),
         None => {
             let fault = no_form(alloc)?;
             failed(alloc, form, &fault)
@@ -197,14 +115,14 @@ fn outcome(
     alloc: Global,
     keys: Option<RandomState>,
     form: Form,
-    answer: CallAnswer,
+    answer: &CallAnswer,
 ) -> Result<MessageAnswer, Memory>
-    requires { AnswerFits answer }
-    ensures { IfOk result (λ x. (c : Called) → ComesTo c answer → TellsMessage (outcome_plan form c) x) }
+    requires { AnswerFits answer.now }
+    ensures { IfOk result (λ x. (c : Called) → ComesTo c answer.now → TellsMessage (outcome_plan form c) x) }
 {
     match answer {
         CallAnswer::Gave(graph) => succeeded(alloc, keys, form, graph),
-        CallAnswer::Failed(fault) => failed(alloc, form, &fault),
+        CallAnswer::Failed(fault) => failed(alloc, form, fault),
     }
 }
 
@@ -221,7 +139,7 @@ fn call(
     ensures { let services : List Entry = services_by registry.now.services.entries (λ x. x.items) (λ s. knows (s.vtable, s.value)) (λ s. gives (s.vtable, s.value)) in IfOk result (λ x. (g : Graph) → IsWhole g → Isomorphic g (content args.now) → TellsMessage (call_plan services form target.now (Some g)) x) }
 {
     let answer = call_service(alloc, registry, &target.service, &target.operation, args)?;
-    outcome(alloc, keys, form, answer)
+    outcome(alloc, keys, form, &answer)
 }
 
 /// An array whose one item is the root of a graph. It gives up where there is no memory.
@@ -298,7 +216,7 @@ pub fn plain_call(
         Some(target) => call_with_body(alloc, keys, registry, &target, body),
         None => {
             let fault = no_service(alloc)?;
-            failed(alloc, form_of(body), &fault)
+            failed(alloc, body.form(), &fault)
         }
     }
 }

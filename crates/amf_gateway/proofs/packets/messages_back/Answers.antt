@@ -6,7 +6,7 @@ use Rattle.amf_packet.specs.Content.{message_of}
 use Rattle.amf_packet.specs.Packet.{Message}
 use Rattle.amf_packet.specs.PacketAnswer.{body_weight}
 use Rattle.amf_gateway.specs.Answered.{HasRoom, most_body}
-use Rattle.amf_gateway.proofs.Answering.{answered_none, answered_more, answered_all, stopped_in, stopped_behind, back_matches, back_writable, next_told, none_told, at_item}
+use Rattle.amf_gateway.proofs.Answering.{answered_none, answered_more, answered_all, stopped_in, stopped_behind, back_matches, back_fits, next_told, none_told, at_item}
 use Rattle.amf_plan.proofs.Doing.{at_err}
 use Rattle.amf_gateway.proofs.packets.messages_back.Goals as goal
 
@@ -53,7 +53,7 @@ loop-message-preserved g c =
     let room = at_item HasRoom ms k m c.requires.uris (omega arith) c.message-item.is in
     record {
       so = answered_more g.O.Outside.handed g.met.O.Outside.hands_none g.met.O.Outside.hands_both _ c.args.outside.now c.loop-message.outside c.answer_to.new.outside (map message_of ms) _ (map message_of (drop (k + 1) ms)) c.loop-message.back.items c.push.new.self.items (message_of m) x y told c.in_ok-push.ensures.items c.loop-message.invariant.so says
-          (back_matches m.response x says.answer y says.is made.target made.response made.body) (back_writable m x y room says.is.spelled made.target made.response made.body);
+          (back_matches m.response x says.answer y says.is made.target made.response made.body) (back_fits m x y room made.target made.response);
       ready = g.met.O.Outside.may_still c.loop-message.outside c.answer_to.new.outside says.ran.took says.ran.was_handed c.loop-message.invariant.ready;
     }
 
@@ -62,8 +62,8 @@ returns-clause-says g c =
     let ms = c.args.messages.now in
     answered_all g.O.Outside.handed g.met.O.Outside.hands_none g.met.O.Outside.hands_both _ c.args.outside.now c.loop-message.outside (map message_of ms) _ c.loop-message.back.items (none_told ms c.loop-message.message-index (omega arith)) c.loop-message.invariant.so
 
-pub returns-clause-writable : goal.returns-clause-writable
-returns-clause-writable g c = c.loop-message.invariant.so.writable
+pub returns-clause-uris : goal.returns-clause-uris
+returns-clause-uris g c = c.loop-message.invariant.so.uris
 
 pub returns-clause-count : goal.returns-clause-count
 returns-clause-count g c =

@@ -1,4 +1,4 @@
-use Rattle.std.proofs.Common.{◌≡◌, subst}
+use Rattle.std.proofs.Common.{subst}
 use Rattle.amf_graph.specs.Reached.{IsWhole}
 use Rattle.amf_graph.proofs.Finished.{finished}
 use Rattle.amf_packet.proofs.unpacked.is_whole.Goals as goal

@@ -2,7 +2,7 @@
 use Rattle.std.proofs.Common.{◌≡◌, ◌≤◌, true, Option, List, ℕ, sym, subst, arith}
 use Rattle.std.specs.List.{AllByRecursion}
 use Rattle.amf_io.specs.Cursor.{place, bound, unread}
-use Rattle.amf_io.specs.InMemory.{faultless_left}
+use Rattle.amf_io.specs.InMemory.{nothing_left}
 use Rattle.amf_io.specs.Stretch.{IsTaken, stretch}
 use Rattle.amf_io.specs.Verdict.{IsRefused, refused}
 use Rattle.amf_wire.specs.Style.{free}
@@ -19,8 +19,8 @@ use Rattle.amf_packet.proofs.unpacked.whole_packet.Goals as goal
 pub returns-in-Ok : goal.returns-in-Ok
 returns-in-Ok c =
     let p = c.in-Ok.packet in
-    let input = unread faultless_left c.args.cursor.now in
-    let rest = unread faultless_left c.read_packet_keyed.new.cursor in
+    let input = unread nothing_left c.args.cursor.now in
+    let rest = unread nothing_left c.read_packet_keyed.new.cursor in
     let at = place c.read_packet_keyed.new.cursor in
     let begun = subst (λ (n : ℕ). IsTaken (λ fs. SpellsPacket free (packet_of p) fs) IsPacketReading (stretch (Unit {0}) input rest n at (bound c.args.cursor.now))) c.requires.start c.in-Ok.ensures.answers in
     let taken = subst (λ (n : ℕ). IsTaken (λ fs. SpellsPacket free (packet_of p) fs) IsPacketReading (stretch (Unit {0}) input rest 0 at n)) c.requires.limit begun in
@@ -34,7 +34,7 @@ returns-in-Ok c =
 pub returns-in-Err-Refused : goal.returns-in-Err-Refused
 returns-in-Err-Refused c =
     let f = c.in-Err-Refused.field-0-0 in
-    let input = unread faultless_left c.args.cursor.now in
+    let input = unread nothing_left c.args.cursor.now in
     let told = rw c.in-Err-Refused.field-0-is at c.in-Err-Refused.ensures.answers in
     let begun = subst (λ (n : ℕ). IsRefused IsPacketReading n (bound c.args.cursor.now) input f.reason f.at) c.requires.start (told tt) in
     none_spelled input f.reason f.at c.requires.short (refused (subst (λ (n : ℕ). IsRefused IsPacketReading 0 n input f.reason f.at) c.requires.limit begun))

@@ -1,5 +1,5 @@
 -- The texts of a fault, and the object that names them.
-use Rattle.std.proofs.Common.{◌≡◌, ◌∙◌, refl, sym, ap, subst, codes}
+use Rattle.std.proofs.Common.{◌∙◌, refl, sym, ap, subst, codes}
 use Rattle.amf_wire.specs.Text.{IsText}
 use Rattle.amf_graph.specs.Building.{kept_text}
 use Rattle.amf_graph.specs.Grafting.{node_value}

@@ -1,5 +1,5 @@
 -- What was built is the graph that is said.
-use Rattle.std.proofs.Common.{◌≡◌, ◌∙◌, ap}
+use Rattle.std.proofs.Common.{◌∙◌, ap}
 use Rattle.amf_graph.specs.Arena.{Arena, graph_of}
 use Rattle.amf_graph.specs.declared.value.Value.{Value as Stored}
 use Rattle.amf_graph.specs.Rooted.{content}

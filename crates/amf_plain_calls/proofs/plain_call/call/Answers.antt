@@ -1,4 +1,3 @@
-use Rattle.std.proofs.Common.{◌≡◌, IfOk}
 use Rattle.std.proofs.lemmas.Result.{IfOk-weaker}
 use Rattle.amf_graph.specs.Graph.{Graph}
 use Rattle.amf_plain_calls.proofs.plain_call.call.Goals as goal

@@ -1,4 +1,4 @@
-use Rattle.std.proofs.Common.{◌≡◌, ◌≤◌, IfOk, subst, arith}
+use Rattle.std.proofs.Common.{◌≤◌, subst, arith}
 use Rattle.std.proofs.lemmas.Result.{IfOk-weaker}
 use Rattle.amf_graph.specs.Rooted.{content}
 use Rattle.amf_graph.proofs.Finished.{finished}

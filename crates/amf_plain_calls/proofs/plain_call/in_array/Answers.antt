@@ -1,5 +1,5 @@
 -- The copy of a graph in an empty builder, and an array behind it.
-use Rattle.std.proofs.Common.{◌≡◌, ◌≤◌, ◌+◌, [], ◌∷◌, length, refl, sym, subst, arith}
+use Rattle.std.proofs.Common.{◌≤◌, ◌+◌, [], ◌∷◌, length, refl, sym, subst, arith}
 use Rattle.amf_graph.specs.declared.value.Value.{Value as Stored}
 use Rattle.amf_graph.specs.Arena.{Names, array}
 use Rattle.amf_graph.specs.Bounds.{weight}

@@ -1,8 +1,8 @@
-use Rattle.std.proofs.Common.{◌≡◌, IfOk, subst}
+use Rattle.std.proofs.Common.{subst}
 use Rattle.std.proofs.lemmas.Result.{IfOk-weaker}
 use Rattle.amf_service.specs.Meaning.{Called}
 use Rattle.amf_plan.specs.declared.calling.CallAnswer.{CallAnswer}
-use Rattle.amf_plan.specs.Calls.{ComesTo}
+use Rattle.amf_plan.specs.Calls.{AnswerFits, ComesTo}
 use Rattle.amf_plain_calls.proofs.Plain.{told_fault, told_result}
 use Rattle.amf_plain_calls.proofs.plain_call.outcome.Goals as goal
 
@@ -11,3 +11,6 @@ returns-in-Gave c = IfOk-weaker c.succeeded.result _ _ (λ x h (d : Called) k. l
 
 pub returns-in-Failed : goal.returns-in-Failed
 returns-in-Failed c = IfOk-weaker c.failed.result _ _ (λ x h (d : Called) k. told_fault c.args.form d c.in-Failed.fault x (subst (λ (z : CallAnswer). ComesTo d z) c.in-Failed.is k) h) c.failed.ensures
+
+pub failed-requires : goal.failed-requires
+failed-requires c = subst (λ (z : CallAnswer). AnswerFits z) c.in-Failed.is c.requires

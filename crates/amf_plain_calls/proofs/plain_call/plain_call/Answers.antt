@@ -1,4 +1,4 @@
-use Rattle.std.proofs.Common.{◌≡◌, ◌∙◌, IfOk, sym, subst}
+use Rattle.std.proofs.Common.{◌∙◌, sym, subst}
 use Rattle.std.proofs.lemmas.Result.{IfOk-weaker}
 use Rattle.amf0_spelling.specs.declared.form.Form.{Form}
 use Rattle.amf_packet.specs.Content.{body_of}
@@ -14,4 +14,4 @@ returns-in-Some g c = IfOk-weaker c.call_with_body.result _ _ (λ y h. with_targ
 pub returns-in_ok-fault-in-None : goal.returns-in_ok-fault-in-None
 returns-in_ok-fault-in-None g c =
     IfOk-weaker c.failed.result _ _ (λ y h. without_target _ (body_of c.args.body.now) _ y (sym c.in_ok-target.ensures ∙ c.in-None.is)
-    (subst (λ (z : FaultText). AnswersMessage y (failed_answer (body_of c.args.body.now).form z)) c.in_ok-fault-in-None.ensures.cause (subst (λ (z : Form). AnswersMessage y (failed_answer z c.in_ok-fault-in-None.fault)) c.form_of.ensures h))) c.failed.ensures
+    (subst (λ (z : FaultText). AnswersMessage y (failed_answer (body_of c.args.body.now).form z)) c.in_ok-fault-in-None.ensures.cause (subst (λ (z : Form). AnswersMessage y (failed_answer z c.in_ok-fault-in-None.fault)) c.form.ensures h))) c.failed.ensures

@@ -1,4 +1,4 @@
-use Rattle.std.proofs.Common.{◌≡◌, arith}
+use Rattle.std.proofs.Common.{arith}
 use Rattle.amf_plain_calls.proofs.Dots.{parted_none, parted_some}
 use Rattle.amf_plain_calls.proofs.target.parted.Goals as goal
 

@@ -1,4 +1,4 @@
-use Rattle.std.proofs.Common.{◌≡◌, length}
+use Rattle.std.proofs.Common.{length}
 use Rattle.amf_plain_calls.proofs.Dots.{Parts}
 use Rattle.amf_plain_calls.proofs.target.parted.Given as goal
 
