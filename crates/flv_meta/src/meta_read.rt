@@ -9,7 +9,7 @@ use crate::meta_end::MetaEnd;
 use crate::meta_part::value_part;
 use crate::tag::Tag;
 use amf_graph::{Builder, Rooted, Value};
-use amf_io::{Cursor, FaultlessSource, ReadEnd, Refusal};
+use amf_io::{Cursor, Empty, ReadEnd, Refusal};
 use amf0_read::read0;
 use amf0_spelling::Tables0;
 use std::alloc::Global;
@@ -17,9 +17,6 @@ use std::hash::RandomState;
 
 /// How many bytes of a tag stand before the value of its metadata: 11 before the data, and the 13 of the name.
 const BEFORE_VALUE: u32 = 24;
-
-/// In what pieces the bytes of a value are read.
-const PIECE: usize = 65_536;
 
 /// The value of a metadata tag (E.4.4 and E.5), read from empty tables and as if the input ended with the data. What stands behind
 /// it in the data counts for nothing. There is none exactly where it is no metadata tag.
@@ -71,8 +68,8 @@ fn read_value(alloc: Global, keys: Option<RandomState>, bytes: &[u8]) -> Result<
     requires { length bytes.now < 2 ^ 24 }
     ensures { AnswersValue bytes.now result }
 {
-    let mut source = FaultlessSource::new(alloc, bytes, PIECE, 0)?;
-    let mut cursor = Cursor::new(alloc, &mut source, bytes.len() as u32)?;
+    let mut end = Empty;
+    let mut cursor = Cursor::over_bytes(alloc, &mut end, bytes, bytes.len() as u32)?;
     let mut builder = Builder::keyed(alloc, keys)?;
     let mut tables = Tables0::new(alloc)?;
     let read = read0(alloc, &mut cursor, &mut builder, &mut tables)?;

@@ -55,14 +55,6 @@ bad_listed at input bytes before mid now reason k z same (l, s, e) d =
 pub whole_listed : (at : ℕ) (input bytes before now : List ℕ) → at ≡ 0 → input ≡ bytes → Appended (ShowsValues at input) before now → Appended (ShowsValues 0 bytes) before now
 whole_listed at input bytes before now z same (l, s, e) = (l, subst (λ w. ShowsValues 0 w l) same (subst (λ n. ShowsValues n input l) z s), e)
 
--- Looking whether there is more changes nothing.
-
-pub still_listed : (at : ℕ) (input : List ℕ) (place next : ℕ) (rest left before now : List ℕ) → ListedSoFar at input place rest before now → next ≡ place → left ≡ rest → ListedSoFar at input next left before now
-still_listed at input place next rest left before now s p q = subst (λ n. ListedSoFar at input n left before now) (sym p) (subst (λ w. ListedSoFar at input place w before now) (sym q) s)
-
-pub still_ends : (place next limit last : ℕ) (rest left : List ℕ) → place + length rest ≡ limit → next ≡ place → left ≡ rest → last ≡ limit → next + length left ≡ last
-still_ends place next limit last rest left e p q r = let s = ap length q in omega (arith, e, p, r, s)
-
 pub no_values : (over : Bool) (bytes out : List ℕ) → over ≡ eqb (length bytes) 0 → over ≡ true → Appended (ShowsValues 0 bytes) out out
 no_values over [] out e t = ([], no_more 0, sym (append-nil out))
 no_values over (b ∷ bytes) out e t = let none : length (b ∷ bytes) ≡ 0 = eqb-true (length (b ∷ bytes)) 0 (sym e ∙ t) in absurd (omega arith)

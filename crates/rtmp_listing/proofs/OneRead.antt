@@ -3,11 +3,8 @@ use Rattle.std.proofs.Common.{◌≡◌, ℕ, suc, ◌<◌, Bool, true, false, L
 use Rattle.std.specs.Prelude.{IsTrue}
 use Rattle.std.specs.List.{AllByRecursion}
 use Rattle.std.specs.Result.{IsErrAnd}
-use Rattle.amf_io.specs.declared.ends.CursorEnd.{CursorEnd}
-use Rattle.amf_io.specs.declared.ends.CursorEnd.TheVariants.{Ended, TooLarge, ReadFault as Fault, Memory as NoRoom}
 use Rattle.amf_io.specs.declared.ends.ReadEnd.{ReadEnd}
 use Rattle.amf_io.specs.declared.ends.ReadEnd.TheVariants.{Refused, ReadFault, Memory}
-use Rattle.amf_io.specs.Cursor.{EndsByFault, Counts}
 use Rattle.amf_io.specs.Field.{Field, flat}
 use Rattle.amf_io.specs.Stretch.{AnswersOf, stretch}
 use Rattle.amf_io.proofs.Ables.{path_some}
@@ -60,14 +57,6 @@ value_some (f ∷ fs) v =
     let r = values0_is_layout.complete (suc (length (flat (f ∷ fs)))) (f ∷ fs) v (omega arith) in
     let some = path_some (value0_layout (suc (length (flat (f ∷ fs)))) false (state0_of no_arena no_kept_tables0)) (give r.0) f fs r.1 in
     omega (arith, some)
-
--- No read of bytes in memory fails.
-
-pub never_ends : (e : CursorEnd) → EndsByFault {T = Bool} (Err e) → Counts {T = Bool} 0 0 (Err e) → ⊥
-never_ends Ended h k = h
-never_ends TooLarge h k = h
-never_ends Fault h k = let rose = k.1 in absurd (omega arith)
-never_ends NoRoom h k = h
 
 pub some_left : (over : Bool) (l : List ℕ) → over ≡ false → (l ≡ [] → IsTrue over) → 0 < length l
 some_left over [] e h = let clash : true ≡ false = sym (h refl) ∙ e in absurd cc

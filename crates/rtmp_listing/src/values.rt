@@ -1,7 +1,7 @@
 ghost use Rattle.std.specs.Prelude.{◌≡◌, ◌<◌, ◌^◌, ◌+◌, ◌↔◌, [], false, length, IsTrue, OnOk};
 ghost use Rattle.std.specs.List.{AllByRecursion};
 ghost use Rattle.amf_io.specs.Cursor.{place, bound, unread};
-ghost use Rattle.amf_io.specs.InMemory.{faultless_left};
+ghost use Rattle.amf_io.specs.InMemory.{nothing_left};
 ghost use Rattle.amf_io.specs.ReadEnds.{Goes};
 ghost use Rattle.amf_graph.specs.Arena.{Names};
 ghost use Rattle.rtmp_pass.specs.Pass.{Appended};
@@ -10,16 +10,13 @@ ghost use Rattle.rtmp_listing.specs.Values.{AnswersOne, Lists};
 
 use crate::lines::push_bad_line;
 use amf_graph::{Builder, Rooted, Value};
-use amf_io::{Cursor, FaultlessSource, ReadEnd};
+use amf_io::{Cursor, Empty, ReadEnd};
 use amf_show::show;
 use amf_wire::Memory;
 use amf0_read::read0;
 use amf0_spelling::Tables0;
 use std::alloc::Global;
 use std::hash::RandomState;
-
-/// In what pieces the bytes of a message are read.
-const PIECE: usize = 65_536;
 
 /// Appends the listing of each AMF 0 value that bytes are, with fresh tables for each; or of those before the first that is none,
 /// and the line that says why. It gives up where there is no memory.
@@ -35,8 +32,8 @@ pub(crate) fn push_values(
     if bytes.is_empty() {
         return Ok(());
     }
-    let mut source = FaultlessSource::new(alloc, bytes, PIECE, 0)?;
-    let mut cursor = Cursor::new(alloc, &mut source, bytes.len() as u32)?;
+    let mut end = Empty;
+    let mut cursor = Cursor::over_bytes(alloc, &mut end, bytes, bytes.len() as u32)?;
     match push_each(alloc, keys, &mut cursor, out) {
         Ok(()) => Ok(()),
         Err(ReadEnd::Refused(refusal)) => Ok(push_bad_line(refusal, out)?),
@@ -50,43 +47,29 @@ pub(crate) fn push_values(
 fn push_each(
     alloc: Global,
     keys: Option<RandomState>,
-    cursor: &mut Cursor<'_, FaultlessSource>,
+    cursor: &mut Cursor<'_, Empty>,
     out: &mut Vec<u8>,
 ) -> Result<(), ReadEnd>
-    requires end { place cursor.old + length (unread faultless_left cursor.old) ≡ bound cursor.old }
+    requires end { place cursor.old + length (unread nothing_left cursor.old) ≡ bound cursor.old }
     requires few { bound cursor.old < 2 ^ 24 }
-    ensures { Lists (place cursor.old) (unread faultless_left cursor.old) out.old.items out.new.items result }
+    ensures { Lists (place cursor.old) (unread nothing_left cursor.old) out.old.items out.new.items result }
 {
-    while !is_over(cursor) {
+    while !cursor.is_at_end() {
         let graph = read_one(alloc, keys, cursor)?;
         show(alloc, &graph, out)?;
     }
     Ok(())
 }
 
-/// Whether no byte follows.
-fn is_over(cursor: &mut Cursor<'_, FaultlessSource>) -> bool
-    ensures over { IsTrue result ↔ (unread faultless_left cursor.old ≡ []) }
-    ensures same { unread faultless_left cursor.new ≡ unread faultless_left cursor.old }
-    ensures stays { place cursor.new ≡ place cursor.old }
-    ensures same_bound { bound cursor.new ≡ bound cursor.old }
-{
-    match cursor.at_end() {
-        Ok(ended) => ended,
-        // No read of bytes in memory fails.
-        Err(_) => unreachable!(),
-    }
-}
-
 /// The graph that the next bytes of a cursor spell, from empty tables.
 fn read_one(
     alloc: Global,
     keys: Option<RandomState>,
-    cursor: &mut Cursor<'_, FaultlessSource>,
+    cursor: &mut Cursor<'_, Empty>,
 ) -> Result<Rooted, ReadEnd>
     requires { bound cursor.old < 2 ^ 24 }
-    ensures goes { Goes (λ s. Unit {0}) faultless_left (λ s. 0) cursor.old cursor.new result }
-    ensures answers { AnswersOne (unread faultless_left cursor.old) (unread faultless_left cursor.new) (place cursor.old) (place cursor.new)
+    ensures goes { Goes (λ s. Unit {0}) nothing_left (λ s. 0) cursor.old cursor.new result }
+    ensures answers { AnswersOne (unread nothing_left cursor.old) (unread nothing_left cursor.new) (place cursor.old) (place cursor.new)
         (bound cursor.old) result }
 {
     // What is true of every cursor.
