@@ -41,9 +41,17 @@ pub fn measurement(
     ensures { IfOk result (λ line. IsMeasured (made seed size) line.items) }
 {
     let graph = made_graph(alloc, seed, size)?;
-    let bytes = canonical(alloc, keys, &graph)?;
+    measured(alloc, keys, &graph)
+}
+
+/// The line that measures a graph without empty names.
+fn measured(alloc: Global, keys: Option<RandomState>, graph: &Rooted) -> Result<Vec<u8>, Memory>
+    requires { IsNamed (content graph.now) }
+    ensures { IfOk result (λ line. IsMeasured (content graph.now) line.items) }
+{
+    let bytes = canonical(alloc, keys, graph)?;
     if bytes.len() <= LIMIT as usize {
-        read_back(alloc, &graph, &bytes)?;
+        read_back(alloc, graph, &bytes)?;
     }
     Ok(measure_line(alloc, graph.node_count(), &bytes)?)
 }

@@ -1,8 +1,10 @@
-ghost use Rattle.std.specs.Prelude.{◌≡◌, ◌+◌, ◌≤◌, length, true};
+ghost use Rattle.std.specs.Prelude.{◌≡◌, ◌+◌, ◌≤◌, length, true, IfOk};
+ghost use Rattle.amf_graph.specs.Isomorphic.{Isomorphic};
+ghost use Rattle.amf_graph.specs.Rooted.{content};
 ghost use Rattle.amf_commands.specs.declared.command.Command.TheVariants.{Canon};
 ghost use Rattle.amf_commands.specs.Commands.{goes_to};
 ghost use Rattle.amf_commands.specs.Input.{most, one, two};
-ghost use Rattle.amf_commands.specs.Run.{TakesInput, Makes, IsConverted, IsUnconverted, IsChecked, IsShown, IsCompared, ReadsInput, NeverLacks, OutputEnds, CountsReads, IsReadEnd, IsOutputEnd};
+ghost use Rattle.amf_commands.specs.Run.{TakesInput, Makes, IsConverted, IsUnconverted, IsChecked, IsShown, IsCompared, ReadsInput, NeverLacks, OutputEnds, CountsReads, IsReadEnd, IsOutputEnd, Says};
 ghost use Rattle.amf_commands.specs.Askable.{IsAskable};
 
 use crate::command::Command;
@@ -12,9 +14,11 @@ use crate::lines::count_line;
 use crate::making::measurement;
 use crate::reading::{read_content, read_graphs};
 use crate::run_end::RunEnd;
-use crate::spelling::{SpellEnd, spell};
+use crate::spelling::{SpellEnd, spelled};
+use amf_graph::Rooted;
 use amf_io::Source;
 use amf_iso::isomorphic;
+use amf_wire::Memory;
 use std::alloc::Global;
 use std::hash::RandomState;
 
@@ -59,7 +63,7 @@ fn converted<I: Source>(
         Ok(content) => content,
         Err(end) => return Err(end),
     };
-    match spell(alloc, keys, to, &content) {
+    match spelled(alloc, keys, to, content) {
         Ok(bytes) => Ok(bytes),
         Err(SpellEnd::NoForm { value, lack }) => Err(RunEnd::NoForm { value, lack }),
         Err(SpellEnd::Memory) => Err(RunEnd::NoMemory),
@@ -78,7 +82,22 @@ fn comparison<I: Source>(
     ensures ends { IsReadEnd result }
 {
     let (left, right) = read_graphs(alloc, keys, input)?;
-    let line = if isomorphic(alloc, &left, &right)? {
+    Ok(compared(alloc, left, right)?)
+}
+
+/// The line that says whether two graphs are the same, which are let go then.
+fn compared(alloc: Global, left: Rooted, right: Rooted) -> Result<Vec<u8>, Memory>
+    ensures { IfOk result (λ line. Says (Isomorphic (content left) (content right)) line.items) }
+{
+    let is_same = isomorphic(alloc, &left, &right)?;
+    verdict_line(alloc, is_same)
+}
+
+/// The line that says whether two graphs are the same.
+fn verdict_line(alloc: Global, is_same: bool) -> Result<Vec<u8>, Memory>
+    ensures { IfOk result (λ line. Says (is_same ≡ true) line.items) }
+{
+    let line = if is_same {
         b"same\n".as_slice()
     } else {
         b"different\n"

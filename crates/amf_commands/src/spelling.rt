@@ -18,7 +18,6 @@ use amf_graph::{Lack, Rooted, WriteEnd};
 use amf_listings::{file_has_lowering, packet_has_lowering};
 use amf_packet::{Packet, PacketEnd, write_packet_keyed};
 use amf_sol::{SharedObject, write_sol_keyed};
-use amf0_spelling::graphs_have_one_lowering;
 use amf0_write::{lower, write0};
 use amf3_write::write3_keyed;
 use std::alloc::Global;
@@ -49,6 +48,20 @@ pub fn spell(
         Content::Packet(packet) => spell_packet(alloc, keys, packet),
         Content::File(file) => spell_file(alloc, keys, file),
     }
+}
+
+/// The canonical spelling of a content that is let go then.
+pub(crate) fn spelled(
+    alloc: Global,
+    keys: Option<RandomState>,
+    to: Format,
+    content: Content,
+) -> Result<Vec<u8>, SpellEnd>
+    requires { GoesInto to (content_of content) }
+    ensures written { IfOk result (λ bytes. IsWritten to (content_of content) bytes.items) }
+    ensures lack { (number : ℕ) (l : Lack) → IsErrOf result (SpellEnd.NoForm number l) → IsUnwritten to (content_of content) number l }
+{
+    spell(alloc, keys, to, &content)
 }
 
 /// The canonical spelling of one value, which has the number 0.
@@ -127,13 +140,12 @@ fn spell_file(
     }
 }
 
-/// The canonical spelling of a graph in AMF 0, in the kinds of nodes and values that it has.
+/// The canonical spelling of a graph in AMF 0, in the kinds of nodes and values that it has. What is lowered is a lowered graph
+/// (`lowering_is_lowered`).
 fn spell0(alloc: Global, graph: &Rooted) -> Result<Vec<u8>, WriteEnd>
     ensures written { IfOk result (λ bytes. IsWritten form.Amf0 (of_graph (graph_of graph.now)) bytes.items) }
     ensures lack { (l : Lack) → IsErrOf result (WriteEnd.NoSpelling l) → IsUnwritten form.Amf0 (of_graph (graph_of graph.now)) 0 l }
 {
-    // What is lowered is a lowered graph.
-    graphs_have_one_lowering();
     let low = match lower(alloc, graph) {
         Ok(low) => low,
         Err(_) => return Err(WriteEnd::Memory),

@@ -25,7 +25,6 @@ use amf_graph::{Lack, LackKind, NodeId, NodeView, Rooted, TextId, Value, WriteEn
 use amf_iso::ids_by_name;
 use amf_tables::WriterTables;
 use amf_wire::Memory;
-use amf0_spelling::graphs_have_one_lowering;
 use amf0_write::{first_lack0, lower, write0_part};
 use amf3_write::{GraphTables, write3_part_of, write3_text_of};
 use std::alloc::Global;
@@ -205,7 +204,7 @@ fn append_pairs0(alloc: Global, low: &Rooted, out: &mut Vec<u8>) -> Result<(), W
     }
 }
 
-/// Appends the pairs of a shared object in the format of its version.
+/// Appends the pairs of a shared object in the format of its version. A lowering is a lowered graph (`lowering_is_lowered`).
 pub(crate) fn append_pairs(
     alloc: Global,
     keys: Option<RandomState>,
@@ -220,8 +219,6 @@ pub(crate) fn append_pairs(
     match object.version() {
         SolVersion::Amf3 => append_pairs3(alloc, keys, holder, out),
         SolVersion::Amf0 => {
-            // What is lowered is a lowered graph.
-            graphs_have_one_lowering();
             let low = lower(alloc, holder)?;
             append_pairs0(alloc, &low, out)
         }

@@ -8,7 +8,6 @@ use crate::meta_bytes::append_whole;
 use crate::meta_end::MetaTagEnd;
 use crate::meta_part::NAME;
 use amf_graph::{Rooted, WriteEnd};
-use amf0_spelling::graphs_have_one_lowering;
 use amf0_write::{lower, write0};
 use std::alloc::Global;
 
@@ -38,13 +37,11 @@ pub fn meta_tag(alloc: Global, value: &Rooted, out: &mut Vec<u8>) -> Result<(), 
     Ok(())
 }
 
-/// The canonical AMF 0 of a graph's lowering.
+/// The canonical AMF 0 of a graph's lowering, which is a lowered graph (`lowering_is_lowered`).
 fn canonical0(alloc: Global, value: &Rooted) -> Result<Vec<u8>, WriteEnd>
     ensures written { IfOk result (λ bytes. IsLowCanonical (content value.now) bytes.items) }
     ensures lack { (l : Lack) → IsErrOf result (WriteEnd.NoSpelling l) → LacksMetadata (content value.now) l }
 {
-    // What is lowered is a lowered graph.
-    graphs_have_one_lowering();
     let low = match lower(alloc, value) {
         Ok(low) => low,
         Err(_) => return Err(WriteEnd::Memory),

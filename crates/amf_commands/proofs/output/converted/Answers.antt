@@ -3,8 +3,8 @@ use Rattle.amf_commands.specs.Content.{content_of}
 use Rattle.amf_commands.proofs.Spelled.{may_lack}
 use Rattle.amf_commands.proofs.output.converted.Goals as goal
 
-pub spell-requires : goal.spell-requires
-spell-requires g c = let s = c.in-Ok.ensures.spelled in (c.args.from, s.0, s.1, c.requires)
+pub spelled-requires : goal.spelled-requires
+spelled-requires g c = let s = c.in-Ok.ensures.spelled in (c.args.from, s.0, s.1, c.requires)
 
 pub returns-in-Err-NoForm-clause-ends : goal.returns-in-Err-NoForm-clause-ends
 returns-in-Err-NoForm-clause-ends g c =

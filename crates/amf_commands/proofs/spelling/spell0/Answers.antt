@@ -3,10 +3,11 @@ use Rattle.amf_io.specs.Field.{flat}
 use Rattle.amf_graph.specs.declared.write_end.WriteEnd.TheVariants as writer
 use Rattle.amf_graph.specs.Rooted.{content}
 use Rattle.amf_commands.specs.Content.{value}
+use Rattle.amf0_spelling.proofs.LoweredLow.{lowering_is_lowered}
 use Rattle.amf_commands.proofs.spelling.spell0.Goals as goal
 
 pub write0-requires : goal.write0-requires
-write0-requires c = c.graphs_have_one_lowering.ensures.lowered (content c.args.graph.now) (content c.in-Ok.low) c.in-Ok.ensures
+write0-requires c = lowering_is_lowered (content c.args.graph.now) (content c.in-Ok.low) c.in-Ok.ensures
 
 pub returns-in-Ok-write0-clause-written : goal.returns-in-Ok-write0-clause-written
 returns-in-Ok-write0-clause-written c =

@@ -3,6 +3,7 @@ use Rattle.amf_wire.specs.Style.{canonical}
 use Rattle.amf_graph.specs.Graph.{Graph}
 use Rattle.amf_graph.specs.Rooted.{RootedArena, content}
 use Rattle.amf0_spelling.specs.Lowered.{IsLoweringOf}
+use Rattle.amf0_spelling.proofs.LoweredLow.{lowering_is_lowered}
 use Rattle.amf3_write.proofs.Wrote.{on_ok}
 use Rattle.amf_sol.specs.declared.sol_version.SolVersion.TheVariants.{Amf0, Amf3}
 use Rattle.amf_sol.specs.FileLacks.{IsHolderLack}
@@ -20,7 +21,7 @@ append_pairs0-requires-clause-holder c =
     lowered_holder (content c.holder-holder.result.now) (content c.in_ok-low-in-Amf0.low) c.in_ok-low-in-Amf0.ensures (subst (λ (z : RootedArena). HasHolder (content z)) (sym c.holder-holder.ensures) c.is_stored.ensures.holder)
 
 pub append_pairs0-requires-clause-low : goal.append_pairs0-requires-clause-low
-append_pairs0-requires-clause-low c = c.graphs_have_one_lowering.ensures.lowered (content c.holder-holder.result.now) (content c.in_ok-low-in-Amf0.low) c.in_ok-low-in-Amf0.ensures
+append_pairs0-requires-clause-low c = lowering_is_lowered (content c.holder-holder.result.now) (content c.in_ok-low-in-Amf0.low) c.in_ok-low-in-Amf0.ensures
 
 pub returns-in-Amf3-clause-written : goal.returns-in-Amf3-clause-written
 returns-in-Amf3-clause-written c =
