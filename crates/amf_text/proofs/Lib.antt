@@ -1,0 +1,15 @@
+-- The lemmas.
+pub mod Behind
+pub mod Lexical
+pub mod Scalars
+pub mod Patterns
+pub mod Numbers
+pub mod ExactDigits
+pub mod Leaves
+pub mod Goals
+pub mod Tables
+pub mod Asked
+pub mod Complete
+pub mod CompleteMembers
+pub mod CompleteDocuments
+pub mod Faults

@@ -1,0 +1,85 @@
+-- The tables of worked graphs: none of an integer, and the one node of an array that holds itself.
+use Rattle.std.proofs.Common.{◌≡◌, ℕ, zero, suc, ◌<◌, pos, lit<, List, [], ◌∷◌, Option, Some, refl, ap, subst, inl, arith}
+use Rattle.std.specs.Prelude.{slice_get}
+use Rattle.std.specs.List.{AllZip}
+use Rattle.std.proofs.lemmas.Option.{same_Some}
+use Rattle.json.specs.Token.{Token}
+use Rattle.amf_graph.specs.Graph.{Value, integer, leaf, node, node_at}
+use Rattle.amf_graph.specs.Order.{IsOrder, over, past, again, first, values_met}
+use Rattle.amf_text.specs.Texts.{IsTokenOf, IsShared, Under, itself, step, InTable, shared, below_root, below, IsTable}
+use Rattle.amf_text.specs.WorkedVerdicts.{one, circle}
+use Rattle.amf_text.proofs.Goals.{no_answer}
+
+-- a token is one as it is
+pub same_tokens : (ts : List Token) → AllZip IsTokenOf ts ts
+same_tokens [] = tt
+same_tokens (t ∷ ts) = (inl refl, same_tokens ts)
+
+-- the number of a node
+abbrev numbered : Option Value → ℕ
+numbered (Some (node i)) = i
+numbered _ = 0
+
+abbrev is_leaf : Option Value → ℕ
+is_leaf (Some (leaf x)) = 1
+is_leaf _ = 0
+
+pub one_order : IsOrder one []
+one_order = past (integer (pos 1)) over
+
+no_node : (j i : ℕ) → slice_get (leaf (integer (pos 1)) ∷ []) j ≡ Some (node i) → ⊥
+no_node zero i e = let h : 1 ≡ 0 = ap is_leaf e in omega (arith, h)
+no_node (suc j) i e = no_answer (node i) e
+
+none_told : {i : ℕ} → InTable one [] i → ⊥
+none_told {i = i} (shared s) = no_node s.0 i s.3
+none_told (below_root {j = j} e u) = let h : 1 ≡ 0 = ap (λ v. is_leaf (Some v)) e in omega (arith, h)
+none_told (below t u) = none_told t
+
+pub one_table : IsTable one [] []
+one_table = record {
+  sound = λ i k e. no_answer i e;
+  complete = λ i t. absurd (none_told t);
+  in_order = λ j k m n a b l e f g h. no_answer a e;
+}
+
+pub circle_order : IsOrder circle (0 ∷ [])
+circle_order = first 0 (lit< tt) (λ k e. no_answer 0 e) (again 0 0 refl over)
+
+shared_zero : IsShared circle (0 ∷ []) 0
+shared_zero = (0, 1, lit< tt, refl, refl)
+
+met_zero : (j i : ℕ) → slice_get (node 0 ∷ node 0 ∷ []) j ≡ Some (node i) → 0 ≡ i
+met_zero zero i e = ap numbered e
+met_zero (suc zero) i e = ap numbered e
+met_zero (suc (suc j)) i e = no_answer (node i) e
+
+held_zero : (j n i : ℕ) → slice_get (values_met (node_at circle j)) n ≡ Some (node i) → 0 ≡ i
+held_zero zero zero i e = ap numbered e
+held_zero zero (suc n) i e = no_answer (node i) e
+held_zero (suc j) n i e = no_answer (node i) e
+
+-- no node is met once
+no_steps : {n j i : ℕ} → Under circle (0 ∷ []) n j i → n ≡ 32 → ⊥
+no_steps (itself i) e = omega (arith, e)
+no_steps (step {j = j} {k = k} u h once) e = once (subst (IsShared circle (0 ∷ [])) (held_zero j h.0 k h.1) shared_zero)
+
+in_circle : {i : ℕ} → InTable circle (0 ∷ []) i → 0 ≡ i
+in_circle {i = i} (shared s) = met_zero s.0 i s.3
+in_circle (below_root e u) = absurd (no_steps u refl)
+in_circle (below t u) = absurd (no_steps u refl)
+
+the_first : (i k : ℕ) → slice_get (0 ∷ []) k ≡ Some i → InTable circle (0 ∷ []) i
+the_first i zero e = subst (InTable circle (0 ∷ [])) (same_Some 0 i e) (shared shared_zero)
+the_first i (suc k) e = no_answer i e
+
+alone : (j k b : ℕ) → j < k → slice_get (0 ∷ []) k ≡ Some b → ⊥
+alone j zero b l e = omega (arith, l)
+alone j (suc k) b l e = no_answer b e
+
+pub circle_table : IsTable circle (0 ∷ []) (0 ∷ [])
+circle_table = record {
+  sound = the_first;
+  complete = λ i t. (0, ap Some (in_circle t));
+  in_order = λ j k m n a b l e f g h. absurd (alone j k b l f);
+}

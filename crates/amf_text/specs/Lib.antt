@@ -1,0 +1,21 @@
+-- The definitions that contracts cite.
+pub mod Tags
+pub mod Scalars
+pub mod Told
+pub mod Documents
+pub mod Texts
+pub mod Meant
+pub mod Linked
+pub mod Accepted
+pub mod Asks
+pub mod Scan
+pub mod Refused
+pub mod TextLaws
+pub mod NumberLaws
+pub mod LeafLaws
+pub mod AskLaws
+pub mod WorkedTexts
+pub mod WorkedMeanings
+pub mod WorkedRefusals
+pub mod WorkedVerdicts
+pub mod WorkedDocuments

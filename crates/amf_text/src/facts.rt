@@ -1,0 +1,59 @@
+ghost use Rattle.amf_text.specs.AskLaws.{FaultLawsHold};
+ghost use Rattle.amf_text.specs.LeafLaws.{LeafLaws};
+ghost use Rattle.amf_text.specs.NumberLaws.{DigitsExist, NumberLaws};
+ghost use Rattle.amf_text.specs.TextLaws.{TextLaws};
+ghost use Rattle.amf_text.specs.WorkedDocuments.{DocumentRows};
+ghost use Rattle.amf_text.specs.WorkedMeanings.{MeaningRows};
+ghost use Rattle.amf_text.specs.WorkedRefusals.{RefusalRows};
+ghost use Rattle.amf_text.specs.WorkedTexts.{TextRows};
+ghost use Rattle.amf_text.specs.WorkedVerdicts.{VerdictRows};
+
+/// Worked texts: a file, a packet, and values of each kind that differs.
+pub fn text_rows()
+    ensures { TextRows }
+{}
+
+/// Worked documents: their order, their table and their text.
+pub fn document_rows()
+    ensures { DocumentRows }
+{}
+
+/// What the worked texts mean.
+pub fn meaning_rows()
+    ensures { MeaningRows }
+{}
+
+/// Worked refusals: texts with one fault each, and where it is.
+pub fn refusal_rows()
+    ensures { RefusalRows }
+{}
+
+/// Worked verdicts: texts that are accepted, and a refusal of each kind.
+pub fn verdict_rows()
+    ensures { VerdictRows }
+{}
+
+/// What is laid out by lines is read as the JSON that was written, at any depth.
+pub fn text_laws()
+    ensures { TextLaws }
+{}
+
+/// The decimal digits of a whole number below 2^53 read as its double.
+pub fn number_laws()
+    ensures { NumberLaws }
+{}
+
+/// Each finite double has digits that read back.
+pub fn digits_exist()
+    ensures { DigitsExist }
+{}
+
+/// What is told of a leaf is meant: doubles by their digits or bits, integers and texts.
+pub fn leaf_laws()
+    ensures { LeafLaws }
+{}
+
+/// What is not asked for in a text cannot stand there: behind the tokens before it, no text that means something goes on so.
+pub fn fault_laws()
+    ensures { FaultLawsHold }
+{}
