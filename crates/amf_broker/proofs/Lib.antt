@@ -31,4 +31,5 @@ mod Gone
 mod Trims
 mod Rounds
 mod Noted
+mod Slots
 mod Awake

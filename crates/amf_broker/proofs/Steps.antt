@@ -167,7 +167,7 @@ pub record Live (n k : ℕ) (t : Topic) (s : Board) : Type 0 where
   pub quiet : (j : ℕ) → j ≢ k → waiting n j s.clients ≡ []
 
 -- it stays live: what is published to its topic comes behind what waits
-pub record Goes (n k : ℕ) (t : Topic) (c : Call) (r : Reply) (s s' : Board) : Type 0 where
+pub record GoesBy (n k : ℕ) (t : Topic) (c : Call) (r : Reply) (s s' : Board) : Type 0 where
   pub ended : ends n k c r ≡ false
   pub left : says_bye k c r ≡ false
   pub live : Live n k t s'
@@ -178,7 +178,7 @@ abbrev pub Ends : ℕ → ℕ → Call → Reply → Board → Board → Type 0
 Ends n k c r s s' = (ends n k c r ≡ true) × (Stays n k c r s s' ⊎ Departs n k c r s s')
 
 abbrev pub LiveStep : ℕ → ℕ → Topic → Call → Reply → Board → Board → Type 0
-LiveStep n k t c r s s' = Goes n k t c r s s' ⊎ Ends n k c r s s'
+LiveStep n k t c r s s' = GoesBy n k t c r s s' ⊎ Ends n k c r s s'
 
 -- the publish of a topic that is the subscription's, and of one that is not
 live-published : (n k : ℕ) (t at : Topic) (j : ℕ) (message : List ℕ) (s : Board) → Live n k t s → (b : Bool) → is_same_topic t at ≡ b

@@ -34,3 +34,7 @@ pub record Leaves (history : List Entry) (s : State) : Type 0 where
 -- the history and then this entry
 abbrev pub then_entry : List Entry → ℕ → ℕ → Call → Answer → List Entry
 then_entry history by at asked told = history ++ (record { caller = by; moment = at; call = asked; answer = told } ∷ [])
+
+-- the history and then the machine's answer to this call
+abbrev pub then_call : List Entry → State → (by moment : ℕ) → Call → List Entry
+then_call history s by moment asked = then_entry history by moment asked (answer_to s moment asked)

@@ -13,4 +13,5 @@ pub mod Lines
 pub mod Members
 pub mod Trims
 pub mod Index
+pub mod Slots
 pub mod Awake

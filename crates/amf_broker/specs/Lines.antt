@@ -1,11 +1,11 @@
 -- The clients and subscriptions of a board by logs and places. A device of proofs.
-use Rattle.std.specs.Prelude.{◌≡◌, ℕ, ◌+◌, Bool, true, false, not, ◌==◌, ◌&&◌, ◌||◌, nat_lt, nat_le, if◌then◌else◌, List, [], ◌∷◌, ◌++◌, length, map, filter}
+use Rattle.std.specs.Prelude.{◌≡◌, ℕ, ◌+◌, ◌≤◌, Bool, true, false, not, ◌==◌, ◌&&◌, ◌||◌, nat_lt, nat_le, if◌then◌else◌, List, [], ◌∷◌, ◌++◌, length, map, filter}
 use Rattle.std.specs.List.{list_all, flat_map}
-use Rattle.amf_broker.specs.declared.limits.TheConstants.{MAX_QUEUED}
+use Rattle.amf_broker.specs.declared.limits.TheConstants.{MAX_QUEUED, MAX_SUBS}
 use Rattle.amf_broker.specs.declared.topic.Topic.{Topic}
 use Rattle.amf_broker.specs.declared.reply.Delivery.{Delivery}
-use Rattle.amf_broker.specs.State.{Connection, Subscription}
-use Rattle.amf_broker.specs.Machine.{is_same_topic, spread, Spread, subscribers}
+use Rattle.amf_broker.specs.State.{Board, Connection, Subscription}
+use Rattle.amf_broker.specs.Machine.{is_same_topic, new_client, subs_of, ended_of, spread, Spread, subscribers, still_live}
 use Rattle.amf_broker.specs.Moments.{stays, clients_left, subs_left}
 use Rattle.amf_broker.specs.Delivery.{Message}
 use Rattle.amf_broker.specs.Sound.{rises_by}
@@ -206,3 +206,44 @@ setting_out ws = record { spans = []; waiters = ws; ended = [] }
 -- what the publish of a message comes to, once these clients have left
 abbrev pub reached_of : Floor → List ℕ → Topic → List ℕ → Spread
 reached_of f expired topic message = spread f.next_message message (subscribers topic (subs_left expired f.subs)) (clients_left expired f.clients)
+
+-- the floor once these clients have left and a new one has come at this moment
+abbrev pub with_client : List ℕ → ℕ → Floor → Floor
+with_client expired present f = record f {
+  clients = clients_left expired f.clients ++ (new_client f.next_client present ∷ []);
+  subs = subs_left expired f.subs;
+  next_client = f.next_client + 1;
+}
+
+-- once they have left and a subscription has begun
+abbrev pub with_sub : List ℕ → Subscription → Floor → Floor
+with_sub expired u f = record f { clients = clients_left expired f.clients; subs = subs_left expired f.subs ++ (u ∷ []) }
+
+-- once they have left and the message has come to its topic
+abbrev pub with_message : List ℕ → Topic → List ℕ → Floor → Floor
+with_message expired topic message f = record f {
+  clients = (reached_of f expired topic message).clients;
+  subs = still_live (reached_of f expired topic message).ended (subs_left expired f.subs);
+  next_message = f.next_message + 1;
+}
+
+-- once they have left no client has more than it may
+abbrev pub AreFew : List ℕ → Floor → Type 0
+AreFew expired f = (k : ℕ) → length (subs_of k (subs_left expired f.subs)) + length (ended_of k (clients_left expired f.clients)) ≤ MAX_SUBS
+
+-- a client of these parts
+abbrev pub waiter : ℕ → ℕ → List ℕ → ℕ → ℕ → List Delivery → List ℕ → Waiter
+waiter id waiting ended seen last kept kept_ended =
+    record { id = id; waiting = waiting; ended = ended; seen = seen; last = last; kept = kept; kept_ended = kept_ended }
+
+-- a board of these parts
+abbrev pub board_of : List (List ℕ) → ℕ → Floor → ℕ → Board
+board_of destinations moment f next_sub = record {
+  destinations = destinations;
+  moment = moment;
+  clients = f.clients;
+  subs = f.subs;
+  next_client = f.next_client;
+  next_sub = next_sub;
+  next_message = f.next_message;
+}

@@ -2,11 +2,12 @@
 use Rattle.std.specs.Prelude.{◌≡◌, ℕ, ◌+◌, Bool, true, false, not, ◌==◌, ◌&&◌, ◌||◌, if◌then◌else◌, List, [], ◌∷◌, ◌++◌, length, map, filter, Option, Some, None}
 use Rattle.std.specs.List.{list_all, list_any, cons_option, position_or_len}
 use Rattle.amf_broker.specs.declared.topic.Topic.{Topic}
+use Rattle.amf_broker.specs.declared.reply.Delivery.{Delivery}
 use Rattle.amf_broker.specs.declared.member.Member.{Member}
 use Rattle.amf_broker.specs.Machine.{is_same_topic}
 use Rattle.amf_broker.specs.Delivery.{Message}
 use Rattle.amf_broker.specs.Moments.{stays}
-use Rattle.amf_broker.specs.Lines.{TopicLog, Span, Waiter, Floor, floor, IsKept, is_reached_by, is_crowded, waiter_at, counted, noted, is_covered, posts_of}
+use Rattle.amf_broker.specs.Lines.{TopicLog, Span, Waiter, Floor, floor, IsKept, is_reached_by, is_crowded, waiter_at, counted, noted, is_covered, delivered, posts_of}
 
 -- the messages of a topic, each once, and the live subscriptions, in order of their numbers
 pub record Line : Type 0 where
@@ -55,6 +56,10 @@ is_seated ws m = is_present m.client ws && (m.seat == seat_of m.client ws)
 -- A live subscription has no stop: it is shown as if it stopped at the next message.
 abbrev pub raised : ℕ → Span → Span
 raised next u = if u.live then record u { stop = next } else u
+
+-- the deliveries of a place as it is shown, of these messages
+abbrev pub covered_in : ℕ → Span → List Message → List Delivery
+covered_in next u posts = map (delivered u.id) (filter (is_covered (raised next u).start (raised next u).stop) posts)
 
 -- what is so between calls
 pub record IsLined (ls : List Line) (us : List Span) (ws : List Waiter) (next_client next_message : ℕ) : Type 0 where

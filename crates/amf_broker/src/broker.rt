@@ -21,17 +21,14 @@ pub struct Broker {
 }
 
 impl Model for Broker {
-    ghost use Rattle.std.specs.Prelude.{◌≤◌, ◌+◌};
-    ghost use Rattle.std.specs.Prelude.{◌≡◌, true};
-    ghost use Rattle.amf_broker.specs.Limits.{most_idle};
     ghost use Rattle.amf_broker.specs.State.{State};
-    ghost use Rattle.amf_broker.specs.Awake.{are_awake};
+    ghost use Rattle.amf_broker.specs.Awake.{IsCounted};
 
     ghost Value = { State };
 
     ghost view = { λ b. record { board = b.board; calls = b.calls } };
 
-    ghost invariant = { λ b. (b.board.next_client ≤ b.calls + 1) × (b.board.next_sub ≤ b.calls + 1) × (b.board.next_message ≤ b.calls + 1) × (are_awake b.awake_until b.board.clients ≡ true) × (b.awake_until ≤ b.board.moment + most_idle) };
+    ghost invariant = { λ b. IsCounted b.board b.calls b.awake_until };
 }
 
 impl Broker {

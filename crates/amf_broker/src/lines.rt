@@ -1,21 +1,25 @@
-ghost use Rattle.std.specs.Prelude.{◌≡◌, ◌++◌, ◌∷◌, [], ◌+◌, ◌<◌, ◌≤◌, ◌^◌, ◌==◌, ◌&&◌, ℕ, not, true, length, map, filter, count_by, sum_by, vec_len, vec_capacity, IfOk, OnOk, OnErr};
+ghost use Rattle.std.specs.Prelude.{◌≡◌, [], ◌+◌, ◌<◌, ◌≤◌, ◌^◌, ◌==◌, ◌&&◌, not, true, length, map, filter, count_by, sum_by};
+ghost use Rattle.std.specs.Prelude.{vec_len, vec_capacity, IfOk, OnOk, OnErr};
 ghost use Rattle.std.specs.List.{list_any};
-ghost use Rattle.amf_broker.specs.declared.limits.TheConstants.{MAX_CLIENTS, MAX_SUBS};
-ghost use Rattle.amf_broker.specs.Machine.{new_client, at_client, emptied, kept_as, seen_at, is_idle, is_connected, queue_of, ended_of, last_of, kept_of, kept_ended_of, subs_of, still_live};
+ghost use Rattle.amf_broker.specs.declared.limits.TheConstants.{MAX_CLIENTS};
+ghost use Rattle.amf_broker.specs.Machine.{at_client, emptied, kept_as, seen_at, is_idle, is_connected, queue_of, ended_of, last_of, kept_of, kept_ended_of};
 ghost use Rattle.amf_broker.specs.Sound.{are_in_order, rises_by};
 ghost use Rattle.amf_broker.specs.Moments.{stays, clients_left, subs_left};
 ghost use Rattle.amf_broker.specs.Awake.{are_awake};
-ghost use Rattle.amf_broker.specs.Lines.{reached_of, waiters_rise, waiters_left, spans_left, begun_anew, cleared};
-ghost use Rattle.amf_broker.specs.Members.{stopped, remains, logs_of, lines_without, line_without, spans_ended};
+ghost use Rattle.amf_broker.specs.Lines.{with_client, with_sub, with_message, AreFew, reached_of, waiters_rise, waiters_left, spans_left};
+ghost use Rattle.amf_broker.specs.Members.{logs_of, lines_without, line_without, spans_ended};
+ghost use Rattle.amf_broker.specs.Slots.{standing};
 
 use crate::ended::Ended;
+use crate::log::copy_of;
 use crate::logs::Logs;
 use crate::mailbox::{Mailbox, awake_until, has_idle, idle_among, place_in_order, queued, staying};
 use crate::member::{Member, hand_round, seat_of};
-use crate::merge::{remains, remains_sub, shared, waiting_for};
+use crate::merge::shared;
 use crate::moment::is_in;
-use crate::place::{Place, is_live, live_of};
+use crate::place::Place;
 use crate::room::Room;
+use crate::roster::Roster;
 use crate::{ClientId, Deliveries, MAX_CLIENTS, SubId, SubIds, Topic};
 use amf_wire::{Memory, Name};
 use std::alloc::Global;
@@ -23,29 +27,31 @@ use std::hash::DefaultHasher;
 use std::marker::Model;
 
 /// The clients and subscriptions of a board. Each message is kept once, in the log of its topic, and each subscription has
-/// its place there. `turn` says which log was looked through last, and the two counts after how many calls more the next one
-/// is, and logs that nobody needs are looked for.
+/// its place there. `turn` says which log was looked through last, and the counts after how many calls more the next one is,
+/// logs that nobody needs are looked for, and empty slots are given up.
 #[derive(Drop)]
 pub(crate) struct Lines {
     clients: Vec<Mailbox>,
-    places: Vec<Place>,
+    places: Roster,
     logs: Logs,
     next_client: u64,
     next_message: u64,
     turn: usize,
     turn_in: usize,
     sweep_in: usize,
+    tidy_in: usize,
 }
 
 impl Model for Lines {
     ghost use Rattle.amf_broker.specs.Lines.{Floor};
     ghost use Rattle.amf_broker.specs.Members.{floor_of, IsLined};
+    ghost use Rattle.amf_broker.specs.Slots.{standing};
 
     ghost Value = { Floor };
 
-    ghost view = { λ l. floor_of l.logs l.places.items l.clients.items l.next_client l.next_message };
+    ghost view = { λ l. floor_of l.logs (standing l.places) l.clients.items l.next_client l.next_message };
 
-    ghost invariant = { λ l. IsLined l.logs l.places.items l.clients.items l.next_client l.next_message };
+    ghost invariant = { λ l. IsLined l.logs (standing l.places) l.clients.items l.next_client l.next_message };
 }
 
 impl Lines {
@@ -55,13 +61,14 @@ impl Lines {
     {
         Lines {
             clients: Vec::new(alloc),
-            places: Vec::new(alloc),
+            places: Roster::new(alloc),
             logs: Logs::new(alloc, start),
             next_client: 1,
             next_message: 1,
             turn: 0,
             turn_in: 0,
             sweep_in: 0,
+            tidy_in: 0,
         }
     }
 
@@ -144,14 +151,14 @@ impl Lines {
     pub(crate) fn live_of(&self, client: ClientId) -> usize
         ensures { result ≡ count_by (λ u. u.client == client) self.now.subs }
     {
-        live_of(&self.places, client)
+        self.places.live_of(client)
     }
 
     /// Whether the subscription is live, and the client's.
     pub(crate) fn is_live(&self, sub: SubId, client: ClientId) -> bool
         ensures { result ≡ list_any (λ u. u.id == sub && u.client == client) self.now.subs }
     {
-        is_live(&self.places, sub, client)
+        self.places.is_live(sub, client)
     }
 
     /// These clients leave, and their subscriptions end.
@@ -172,7 +179,7 @@ impl Lines {
         requires left { are_in_order left.now ≡ true }
         requires room { self.old.next_client < 2 ^ 63 }
         ensures id { IfOk result (λ id. id ≡ self.old.next_client) }
-        ensures ok { OnOk result (self.new ≡ record self.old { clients = clients_left left.now self.old.clients ++ (new_client self.old.next_client present ∷ []); subs = subs_left left.now self.old.subs; next_client = self.old.next_client + 1 }) }
+        ensures ok { OnOk result (self.new ≡ with_client left.now present self.old) }
         ensures err { OnErr result (self.new ≡ self.old) }
     {
         let id = ClientId(self.next_client);
@@ -195,16 +202,23 @@ impl Lines {
     ) -> Result<(), Memory>
         requires left { are_in_order left.now ≡ true }
         requires connected { is_connected client (clients_left left.now self.old.clients) ≡ true }
-        ensures ok { OnOk result (self.new ≡ record self.old { clients = clients_left left.now self.old.clients; subs = subs_left left.now self.old.subs ++ (record { id = id; client = client; topic = topic } ∷ []) }) }
+        ensures ok { OnOk result (self.new ≡ with_sub left.now (record { id = id; client = client; topic = topic }) self.old) }
         ensures err { OnErr result (self.new ≡ self.old) }
     {
-        self.places.reserve(1)?;
+        let own = copy_of(alloc, &topic)?;
+        let next = self.next_message;
+        self.places.push(alloc, Place::new(id, client, own, next))?;
         let member = Member::new(id, client, seat_of(&self.clients, client));
-        self.logs.enlist(alloc, &topic, member)?;
-        leave(&mut self.clients, &mut self.places, &mut self.logs, left);
-        let place = Place::new(id, client, topic, self.next_message);
-        self.places.push(place).unwrap();
-        Ok(())
+        match self.logs.enlist(alloc, &topic, member) {
+            Ok(()) => {
+                leave(&mut self.clients, &mut self.places, &mut self.logs, left);
+                Ok(())
+            }
+            Err(lack) => {
+                self.places.drop_last();
+                Err(lack)
+            }
+        }
     }
 
     /// The subscription ends. What waits for it stays.
@@ -212,8 +226,8 @@ impl Lines {
         ensures { self.new ≡ record self.old { subs = filter (λ u. not (u.id == sub)) self.old.subs } }
     {
         self.logs.drop_sub(sub);
-        stop_sub(&mut self.places, sub, self.next_message);
-        clear_sub(&mut self.places, &self.logs, sub, self.next_message);
+        let next = self.next_message;
+        self.places.end_sub(&self.logs, sub, next);
     }
 
     /// These clients leave, and the message comes to each subscription of the topic. Answers those that end by that. The
@@ -227,10 +241,10 @@ impl Lines {
     ) -> Result<Vec<SubId>, Memory>
         requires left { are_in_order left.now ≡ true }
         requires number { self.old.next_message < 2 ^ 63 }
-        requires places { (k : ℕ) → length (subs_of k (subs_left left.now self.old.subs)) + length (ended_of k (clients_left left.now self.old.clients)) ≤ MAX_SUBS }
+        requires places { AreFew left.now self.old }
         requires ordered { rises_by (λ u. u.id) 0 (subs_left left.now self.old.subs) ≡ true }
         ensures ended { IfOk result (λ ended. ended.items ≡ (reached_of self.old left.now topic.now message).ended) }
-        ensures ok { OnOk result (self.new ≡ record self.old { clients = (reached_of self.old left.now topic.now message).clients; subs = still_live (reached_of self.old left.now topic.now message).ended (subs_left left.now self.old.subs); next_message = self.old.next_message + 1 }) }
+        ensures ok { OnOk result (self.new ≡ with_message left.now topic.now message self.old) }
         ensures err { OnErr result (self.new ≡ self.old) }
     {
         let number = self.next_message;
@@ -250,7 +264,8 @@ impl Lines {
         requires { is_connected client self.now.clients ≡ true }
         ensures { IfOk result (λ queue. queue ≡ queue_of client self.now.clients) }
     {
-        waiting_for(alloc, &self.logs, &self.places, client, self.next_message)
+        self.places
+            .waiting_for(alloc, &self.logs, client, self.next_message)
     }
 
     /// The subscriptions of the client that ended and are not yet told.
@@ -288,7 +303,8 @@ impl Lines {
     {
         let place = place_in_order(&self.clients, client).unwrap();
         let ended = self.clients[place].empty(room);
-        begin_anew(&mut self.places, client, self.next_message);
+        let next = self.next_message;
+        self.places.begin_anew(client, next);
         ended
     }
 
@@ -300,7 +316,8 @@ impl Lines {
     {
         let place = place_in_order(&self.clients, client).unwrap();
         self.clients[place].keep(number, queue, room);
-        begin_anew(&mut self.places, client, self.next_message);
+        let next = self.next_message;
+        self.places.begin_anew(client, next);
     }
 
     /// The client was seen at this moment.
@@ -313,7 +330,7 @@ impl Lines {
     }
 
     /// Messages that nobody waits for go from the log whose turn it is and from the one to which a message came last, and logs
-    /// that nobody needs go. Nothing of that is seen.
+    /// that nobody needs go, and so do empty slots. Nothing of that is seen.
     pub(crate) fn settle(&mut self)
         ensures { self.new ≡ self.old }
     {
@@ -323,6 +340,7 @@ impl Lines {
         let last = self.logs.last();
         self.trim(last);
         self.sweep();
+        self.tidy();
     }
 
     /// The next log is to be looked through, however short it is. That takes a look at all places, so some calls pass before
@@ -334,7 +352,7 @@ impl Lines {
             self.turn_in -= 1;
             return;
         }
-        self.turn_in = self.places.len() / 16;
+        self.turn_in = self.places.slots().len() / 16;
         self.turn = turn_after(self.turn, self.logs.len());
         self.logs.call_up(self.turn);
     }
@@ -346,7 +364,8 @@ impl Lines {
         if at >= self.logs.len() {
             return;
         }
-        self.logs.trim(at, &self.places, self.next_message);
+        let next = self.next_message;
+        self.logs.trim(at, self.places.slots(), next);
     }
 
     /// Logs that nobody needs go. That takes a look at all logs, and for each one to which nobody listens at all places, so some
@@ -358,8 +377,20 @@ impl Lines {
             self.sweep_in -= 1;
             return;
         }
-        self.logs.sweep(&self.places);
+        self.logs.sweep(self.places.slots());
         self.sweep_in = (self.logs.len() / 16).saturating_add(self.logs.unheard());
+    }
+
+    /// The slots of places that have gone are given up. That takes a look at all, so as many calls pass before the next time.
+    fn tidy(&mut self)
+        ensures { self.new ≡ self.old }
+    {
+        if self.tidy_in > 0 {
+            self.tidy_in -= 1;
+            return;
+        }
+        self.places.tidy();
+        self.tidy_in = self.places.slots().len();
     }
 }
 
@@ -373,83 +404,32 @@ fn turn_after(turn: usize, count: usize) -> usize {
 }
 
 /// These clients leave, and their subscriptions end.
-fn leave(clients: &mut Vec<Mailbox>, places: &mut Vec<Place>, logs: &mut Logs, left: &[ClientId])
+fn leave(clients: &mut Vec<Mailbox>, places: &mut Roster, logs: &mut Logs, left: &[ClientId])
     requires left { are_in_order left.now ≡ true }
     requires rise { waiters_rise 0 clients.old.items ≡ true }
     ensures clients { clients.new.items ≡ waiters_left left.now clients.old.items }
-    ensures places { places.new.items ≡ spans_left left.now places.old.items }
+    ensures places { standing places.new ≡ spans_left left.now (standing places.old) }
     ensures logs { logs.new ≡ lines_without left.now (waiters_left left.now clients.old.items) logs.old }
     ensures clients_len { vec_len clients.new ≤ vec_len clients.old }
-    ensures places_len { vec_len places.new ≤ vec_len places.old }
     ensures clients_room { vec_capacity clients.new ≡ vec_capacity clients.old }
-    ensures places_room { vec_capacity places.new ≡ vec_capacity places.old }
 {
     if left.is_empty() {
         return;
     }
     clients.retain(|mailbox| !is_in(left, mailbox.id()));
-    places.retain(|place| !is_in(left, place.client()));
+    places.part(left);
     logs.part_all(left, clients);
 }
 
-/// The subscription ends, if it is live, before the message of this number.
-fn stop_sub(places: &mut [Place], sub: SubId, next: u64)
-    ensures { places.new ≡ map (stopped next (λ id. id == sub)) places.old }
-{
-    for place in places.iter_mut() {
-        place.stop_sub(sub, next);
-    }
-}
-
-/// These subscriptions end before the message of this number.
-fn stop_subs(places: &mut [Place], ended: &Ended, next: u64)
-    ensures { places.new ≡ map (stopped next (λ sub. list_any (λ id. id == sub) ended.now.subs.items)) places.old }
-{
-    for place in places.iter_mut() {
-        place.stop_among(ended, next);
-    }
-}
-
 /// These subscriptions, if there are any, end before the message of this number, which is the last one.
-fn end_all(places: &mut Vec<Place>, logs: &mut Logs, ended: &Ended, number: u64)
+fn end_all(places: &mut Roster, logs: &mut Logs, ended: &Ended, number: u64)
     requires { number < 2 ^ 63 }
     ensures logs { logs.new ≡ map (line_without (λ sub. list_any (λ id. id == sub) ended.now.subs.items)) logs.old }
-    ensures places { places.new.items ≡ spans_ended ended.now.subs.items number (logs_of logs.old) places.old.items }
+    ensures places { standing places.new ≡ spans_ended ended.now.subs.items number (logs_of logs.old) (standing places.old) }
 {
     if ended.subs.is_empty() {
         return;
     }
     logs.drop_subs(ended);
-    stop_subs(places, ended, number);
-    clear(places, logs, ended, number + 1);
-}
-
-/// The subscription goes, if it has ended and nothing waits for it.
-fn clear_sub(places: &mut Vec<Place>, logs: &Logs, sub: SubId, next: u64)
-    ensures { places.new.items ≡ filter (remains (λ id. id == sub) (logs_of logs.now) next) places.old.items }
-{
-    places.retain(|place| remains_sub(place, logs, sub, next));
-}
-
-/// Of these subscriptions go those that have ended, and for which nothing waits.
-fn clear(places: &mut Vec<Place>, logs: &Logs, ended: &Ended, next: u64)
-    ensures { places.new.items ≡ filter (remains (λ sub. list_any (λ id. id == sub) ended.now.subs.items) (logs_of logs.now) next) places.old.items }
-{
-    places.retain(|place| remains(place, logs, ended, next));
-}
-
-/// After a poll of the client what has ended is gone, and what is live begins anew at the message of this number.
-fn begin_anew(places: &mut Vec<Place>, client: ClientId, next: u64)
-    ensures { places.new.items ≡ cleared client next places.old.items }
-{
-    places.retain(|place| place.outlasts(client));
-    begin_all_anew(places, client, next);
-}
-
-fn begin_all_anew(places: &mut [Place], client: ClientId, next: u64)
-    ensures { places.new ≡ map (begun_anew client next) places.old }
-{
-    for place in places.iter_mut() {
-        place.begin_anew(client, next);
-    }
+    places.end_among(logs, ended, number, number + 1);
 }

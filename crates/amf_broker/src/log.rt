@@ -1,16 +1,18 @@
-ghost use Rattle.std.specs.Prelude.{◌≡◌, ◌++◌, ◌∷◌, ◌<◌, ◌≤◌, [], ℕ, IfOk, IfSome, OnOk, OnErr, position, ◌==◌, length, map, true};
+ghost use Rattle.std.specs.Prelude.{◌≡◌, ◌++◌, ◌∷◌, ◌<◌, ◌≤◌, [], ℕ, IfOk, IfSome, OnOk, OnErr};
+ghost use Rattle.std.specs.Prelude.{position, ◌==◌, ◌&&◌, length, map, true};
 ghost use Rattle.std.specs.List.{list_any};
 ghost use Rattle.amf_broker.specs.Machine.{is_same_topic};
 ghost use Rattle.amf_broker.specs.Sound.{are_in_order};
 ghost use Rattle.amf_broker.specs.Lines.{posts_of, waiters_rise};
 ghost use Rattle.amf_broker.specs.Members.{logs_of, seated_in, members_at, with_post, posted_line, with_member, enlisted, line_left, lines_left, line_without};
 ghost use Rattle.amf_broker.specs.Trims.{IsTrimmed, is_wanted, is_kept};
+ghost use Rattle.amf_broker.specs.Slots.{standing};
 
 use crate::ended::Ended;
 use crate::mailbox::Mailbox;
 use crate::member::Member;
 use crate::moment::is_in;
-use crate::place::Place;
+use crate::slot::Slot;
 use crate::trim::{debtors, first_of, keep_needed};
 use crate::{ClientId, Payload, SubId, Topic};
 use amf_wire::{Memory, Name};
@@ -181,8 +183,8 @@ impl Log {
 
     /// Messages that nobody waits for go, if it has come to its limit. These are the places of all subscriptions, and `next`
     /// is the number of the next message. The new limit is so far off that a message takes little of that time.
-    pub(crate) fn trim(&mut self, places: &[Place], next: u64)
-        ensures { IsTrimmed places.now self.old self.new }
+    pub(crate) fn trim(&mut self, places: &[Slot], next: u64)
+        ensures { IsTrimmed (standing places.now) self.old self.new }
     {
         if self.is_short() {
             return;
@@ -228,16 +230,23 @@ pub(crate) fn place_of_log(logs: &[Log], topic: &Topic) -> Option<usize>
     logs.iter().position(|log| log.is_of(topic))
 }
 
-/// Whether a subscription has its place in the log.
-fn is_wanted(log: &Log, places: &[Place]) -> bool
-    ensures { result ≡ is_wanted places.now log.now }
+/// Whether the place is there, and in the log.
+fn is_placed(slot: &Slot, log: &Log) -> bool
+    ensures { result ≡ (slot.now.kept && is_same_topic slot.now.place.topic log.now.topic) }
 {
-    places.iter().any(|place| log.is_of(place.topic()))
+    slot.kept && log.is_of(slot.place.topic())
+}
+
+/// Whether a subscription has its place in the log.
+fn is_wanted(log: &Log, places: &[Slot]) -> bool
+    ensures { result ≡ is_wanted (standing places.now) log.now }
+{
+    places.iter().any(|slot| is_placed(slot, log))
 }
 
 /// Whether someone listens to the log, or has a place in it.
-pub(crate) fn is_kept(log: &Log, places: &[Place]) -> bool
-    ensures { result ≡ is_kept places.now log.now }
+pub(crate) fn is_kept(log: &Log, places: &[Slot]) -> bool
+    ensures { result ≡ is_kept (standing places.now) log.now }
 {
     !log.is_unheard() || is_wanted(log, places)
 }
@@ -276,7 +285,8 @@ pub(crate) fn drop_subs(logs: &mut [Log], ended: &Ended)
     }
 }
 
-fn copy_of(alloc: Global, topic: &Topic) -> Result<Topic, Memory>
+/// The topic once more.
+pub(crate) fn copy_of(alloc: Global, topic: &Topic) -> Result<Topic, Memory>
     ensures { IfOk result (λ copy. copy ≡ topic.now) }
 {
     Ok(Topic {

@@ -7,13 +7,14 @@ ghost use Rattle.amf_broker.specs.Sound.{are_in_order};
 ghost use Rattle.amf_broker.specs.Lines.{posts_of, waiters_rise};
 ghost use Rattle.amf_broker.specs.Members.{logs_of, members_at, posted_line, enlisted, lines_left, line_without};
 ghost use Rattle.amf_broker.specs.Trims.{is_kept};
+ghost use Rattle.amf_broker.specs.Slots.{standing};
 ghost use Rattle.amf_broker.specs.Index.{topic_hash, is_noted, are_noted, IsTrimmedAt};
 
 use crate::ended::Ended;
 use crate::log::{Log, Post, drop_sub, drop_subs, is_kept, part_all, place_of_log, unheard};
 use crate::mailbox::Mailbox;
 use crate::member::Member;
-use crate::place::Place;
+use crate::slot::Slot;
 use crate::{ClientId, Payload, SubId, Topic};
 use amf_wire::{Memory, Name};
 use indexmap::IndexMap;
@@ -276,17 +277,17 @@ impl Logs {
     }
 
     /// Messages of the log at this place that nobody waits for go, if it has come to its limit.
-    pub(crate) fn trim(&mut self, at: usize, places: &[Place], next: u64)
+    pub(crate) fn trim(&mut self, at: usize, places: &[Slot], next: u64)
         requires { at < length self.old }
-        ensures { IsTrimmedAt places.now at self.old self.new }
+        ensures { IsTrimmedAt (standing places.now) at self.old self.new }
     {
         self.list[at].trim(places, next);
     }
 
     /// Logs to which nobody listens, and in which nobody has a place, go. The places of the others are noted anew, if there is
     /// room for that: else they are looked for.
-    pub(crate) fn sweep(&mut self, places: &[Place])
-        ensures { self.new ≡ filter (is_kept places.now) self.old }
+    pub(crate) fn sweep(&mut self, places: &[Slot])
+        ensures { self.new ≡ filter (is_kept (standing places.now)) self.old }
     {
         let before = self.list.len();
         self.list.retain(|log| is_kept(log, places));

@@ -34,11 +34,11 @@ pub(crate) struct Mailbox {
 impl Model for Mailbox {
     ghost use Rattle.std.specs.Prelude.{◌≤◌, vec_len, vec_capacity};
     ghost use Rattle.amf_broker.specs.declared.limits.TheConstants.{MAX_QUEUED, MAX_SUBS};
-    ghost use Rattle.amf_broker.specs.Lines.{Waiter};
+    ghost use Rattle.amf_broker.specs.Lines.{Waiter, waiter};
 
     ghost Value = { Waiter };
 
-    ghost view = { λ m. record { id = m.id; waiting = m.waiting; ended = m.ended.items; seen = m.seen; last = m.last; kept = m.kept; kept_ended = m.kept_ended.items } };
+    ghost view = { λ m. waiter m.id m.waiting m.ended.items m.seen m.last m.kept m.kept_ended.items };
 
     ghost invariant = { λ m. (m.waiting ≤ MAX_QUEUED) × (vec_len m.ended ≤ MAX_SUBS) × (MAX_SUBS ≤ vec_capacity m.ended) };
 }

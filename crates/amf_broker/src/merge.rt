@@ -1,7 +1,7 @@
-ghost use Rattle.std.specs.Prelude.{◌≡◌, ◌++◌, [], ◌==◌, ◌<◌, IfOk, ◌≤◌, OnOk, nat_lt, map, filter, length, position};
+ghost use Rattle.std.specs.Prelude.{◌≡◌, ◌==◌, ◌≤◌, IfOk, OnOk, nat_lt, map, length, position};
 ghost use Rattle.std.specs.List.{list_any, position_or_len};
-ghost use Rattle.amf_broker.specs.Lines.{put, put_all, covered, gathered, spans_of, waits, is_covered, delivered};
-ghost use Rattle.amf_broker.specs.Members.{raised, logs_of, is_waited, remains};
+ghost use Rattle.amf_broker.specs.Lines.{put, put_all, waits, is_covered, delivered};
+ghost use Rattle.amf_broker.specs.Members.{raised, covered_in, logs_of, is_waited, remains};
 
 use crate::ended::Ended;
 use crate::log::Post;
@@ -60,13 +60,13 @@ fn put_post(queue: &mut Vec<Delivery>, place: &Place, post: &Post) -> Result<(),
 
 /// Puts what waits for the subscription among the others.
 #[tactic(auto, using(crate::proofs::Merges::put_all_more))]
-fn put_covered(
+pub(crate) fn put_covered(
     queue: &mut Vec<Delivery>,
     place: &Place,
     posts: &[Post],
     next: u64,
 ) -> Result<(), Memory>
-    ensures { OnOk result (queue.new.items ≡ put_all (map (delivered place.now.id) (filter (is_covered (raised next place.now).start (raised next place.now).stop) posts.now)) queue.old.items) }
+    ensures { OnOk result (queue.new.items ≡ put_all (covered_in next place.now posts.now) queue.old.items) }
 {
     for post in posts {
         if place.covers(post, next) {
@@ -74,25 +74,6 @@ fn put_covered(
         }
     }
     Ok(())
-}
-
-/// What waits for the client: its subscriptions' parts of their logs, merged by message number and then by subscription.
-pub(crate) fn waiting_for(
-    alloc: Global,
-    logs: &Logs,
-    places: &[Place],
-    client: ClientId,
-    next: u64,
-) -> Result<Deliveries, Memory>
-    ensures { IfOk result (λ queue. queue ≡ waits (logs_of logs.now) (map (raised next) places.now) client) }
-{
-    let mut queue = Vec::new(alloc);
-    for place in places {
-        if place.client() == client {
-            put_covered(&mut queue, place, logs.posts_of(place.topic()), next)?;
-        }
-    }
-    Ok(Deliveries::of_vec(queue))
 }
 
 /// Whether the subscription is live, or something waits for it.

@@ -84,6 +84,13 @@ impl Place {
         self.start
     }
 
+    /// Whether it is live, and this subscription.
+    pub(crate) fn is_live_sub(&self, sub: SubId) -> bool
+        ensures { result ≡ (self.now.live && self.now.id == sub) }
+    {
+        self.live && self.id == sub
+    }
+
     /// Whether a message of the topic reaches it.
     pub(crate) fn is_reached_by(&self, topic: &Topic) -> bool
         ensures { result ≡ is_reached_by topic.now self.now }
@@ -148,21 +155,4 @@ impl Place {
             self.stop = next;
         }
     }
-}
-
-/// How many live subscriptions are the client's.
-pub(crate) fn live_of(places: &[Place], client: ClientId) -> usize
-    ensures { result ≡ count_by (λ u. u.live && u.client == client) places.now }
-{
-    places
-        .iter()
-        .filter(|place| place.is_live() && place.client() == client)
-        .count()
-}
-
-/// Whether the subscription is live, and the client's.
-pub(crate) fn is_live(places: &[Place], sub: SubId, client: ClientId) -> bool
-    ensures { result ≡ list_any (λ u. u.live && (u.id == sub && u.client == client)) places.now }
-{
-    places.iter().any(|place| place.is_live() && place.id() == sub && place.client() == client)
 }

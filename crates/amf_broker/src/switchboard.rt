@@ -33,12 +33,13 @@ pub(crate) struct Switchboard {
 impl Model for Switchboard {
     ghost use Rattle.amf_broker.specs.State.{Board};
     ghost use Rattle.amf_broker.specs.Sound.{IsSound};
+    ghost use Rattle.amf_broker.specs.Lines.{board_of};
 
     ghost Value = { Board };
 
-    ghost view = { λ b. record { destinations = b.destinations.items; moment = b.moment; clients = b.lines.clients; subs = b.lines.subs; next_client = b.lines.next_client; next_sub = b.next_sub; next_message = b.lines.next_message } };
+    ghost view = { λ b. board_of b.destinations.items b.moment b.lines b.next_sub };
 
-    ghost invariant = { λ b. IsSound (record { destinations = b.destinations.items; moment = b.moment; clients = b.lines.clients; subs = b.lines.subs; next_client = b.lines.next_client; next_sub = b.next_sub; next_message = b.lines.next_message }) };
+    ghost invariant = { λ b. IsSound (board_of b.destinations.items b.moment b.lines b.next_sub) };
 }
 
 impl Switchboard {

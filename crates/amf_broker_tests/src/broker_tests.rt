@@ -141,6 +141,36 @@ static FULL: Table = Table {
 ",
 };
 
+/// A client with as many subscriptions as it may have, among several hundred others.
+static OWN: Table = Table {
+    rows: 20,
+    fields: 4,
+    text: r"
+# for     | moment  | call                   | answer
+
+          | 0       | open chat              | open
+1 300     | 0       | connect                | client #
+          | 0       | subscribe 1 chat/a     | subscribed 1
+2 300     | 0       | subscribe # chat       | subscribed #
+301 315   | 0       | subscribe 1 chat/a     | subscribed #
+          | 0       | subscribe 1 chat/a     | too many 16
+          | 0       | publish 2 chat x       | published 1
+2 3       | 0       | publish 2 chat/a y     | published #
+          | 0       | poll 1                 | batch 32
+          | 0       | poll 2                 | batch 2:1:x
+301 315   | 0       | unsubscribe 1 #        | unsubscribed #
+          | 0       | publish 2 chat/a z     | published 4
+          | 0       | poll 1                 | batch 1:4:z
+          | 0       | unsubscribe 3 1        | no subscription 1
+          | 0       | subscribe 1 chat       | subscribed 316
+          | 0       | disconnect 2           | bye
+          | 0       | publish 1 chat w       | published 5
+          | 0       | poll 1                 | batch 316:5:w
+          | 0       | poll 300               | batch 300:1:x 300:5:w
+          | 0       | queued                 | queued 594
+",
+};
+
 /// What may go to another thread.
 fn sendable<T: Send>(value: T) -> T {
     value
@@ -255,4 +285,10 @@ fn keeps_to_its_limits(rt: HostRuntime) {
 fn fills_every_queue(rt: HostRuntime) {
     let count = ask_all(&rt, rt.alloc(), &FULL);
     holds(&rt, count == 3202, "calls");
+}
+
+#[test]
+fn gives_each_its_own(rt: HostRuntime) {
+    let count = ask_all(&rt, rt.alloc(), &OWN);
+    holds(&rt, count == 646, "calls");
 }

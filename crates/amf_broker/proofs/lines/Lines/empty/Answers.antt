@@ -4,6 +4,7 @@ use Rattle.std.specs.Prelude.{is_some, map}
 use Rattle.amf_broker.specs.Machine.{ended_in}
 use Rattle.amf_broker.specs.Lines.{Waiter, emptied_waiter}
 use Rattle.amf_broker.specs.Members.{logs_of, raised}
+use Rattle.amf_broker.specs.Slots.{standing}
 use Rattle.amf_broker.proofs.Waiters.{client-found, waiter-changed, connected-place, some-of}
 use Rattle.amf_broker.proofs.Lined.{lined-cleared, floor-emptied}
 use Rattle.amf_broker.proofs.lines.Lines.empty.Goals as goal
@@ -15,7 +16,7 @@ pub unwrap-place-requires : goal.unwrap-place-requires
 unwrap-place-requires c =
     let place = rw c.deref.ensures.value at c.place_in_order.ensures.place in
     let here = rw (← c.self.view_is) at c.requires in
-    some-of _ (ap is_some place ∙ (connected-place (logs_of c.self.inside.logs) (map (raised c.self.inside.next_message) c.self.inside.places.items) c.args.client c.self.inside.clients.items ∙ here))
+    some-of _ (ap is_some place ∙ (connected-place (logs_of c.self.inside.logs) (map (raised c.self.inside.next_message) (standing c.self.inside.places)) c.args.client c.self.inside.clients.items ∙ here))
 
 pub invariant_of-self : goal.invariant_of-self
 invariant_of-self c =
@@ -26,7 +27,7 @@ invariant_of-self c =
 pub returns-clause-ended : goal.returns-clause-ended
 returns-clause-ended c =
     let place = rw c.deref.ensures.value at c.place_in_order.ensures.place in
-    let found = client-found (logs_of c.self.inside.logs) (map (raised c.self.inside.next_message) c.self.inside.places.items) c.args.client c.unwrap-place.result c.self.inside.clients.items c.index_mut.result.now (sym c.unwrap-place.ensures ∙ place) in
+    let found = client-found (logs_of c.self.inside.logs) (map (raised c.self.inside.next_message) (standing c.self.inside.places)) c.args.client c.unwrap-place.result c.self.inside.clients.items c.index_mut.result.now (sym c.unwrap-place.ensures ∙ place) in
     rw (← c.self.view_is) (c.empty-ended.ensures.ended ∙ (ap (λ (w : Waiter). w.ended) c.index_mut.ensures.value ∙ sym (ap ended_in found)))
 
 pub returns-clause-state : goal.returns-clause-state

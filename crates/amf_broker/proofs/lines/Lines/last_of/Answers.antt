@@ -4,6 +4,7 @@ use Rattle.std.specs.Prelude.{map}
 use Rattle.amf_broker.specs.Machine.{last_in}
 use Rattle.amf_broker.specs.Lines.{Waiter}
 use Rattle.amf_broker.specs.Members.{logs_of, raised}
+use Rattle.amf_broker.specs.Slots.{standing}
 use Rattle.amf_broker.proofs.Waiters.{client-found, none-client}
 use Rattle.amf_broker.proofs.lines.Lines.last_of.Goals as goal
 
@@ -13,10 +14,10 @@ place_in_order-requires c = rw c.deref.ensures.value c.self.invariant.kept.rise
 pub returns-in-Some : goal.returns-in-Some
 returns-in-Some c =
     let place = rw c.deref.ensures.value at c.place_in_order.ensures.place in
-    let found = client-found (logs_of c.self.inside.logs) (map (raised c.self.inside.next_message) c.self.inside.places.items) c.args.client c.in-Some.place c.self.inside.clients.items c.index.result.now (sym c.in-Some.is ∙ place) in
+    let found = client-found (logs_of c.self.inside.logs) (map (raised c.self.inside.next_message) (standing c.self.inside.places)) c.args.client c.in-Some.place c.self.inside.clients.items c.index.result.now (sym c.in-Some.is ∙ place) in
     rw (← c.self.view_is) (c.last.ensures ∙ (ap (λ (w : Waiter). w.last) c.index.ensures ∙ sym (ap last_in found)))
 
 pub returns-in-None : goal.returns-in-None
 returns-in-None c =
     let place = rw c.deref.ensures.value at c.place_in_order.ensures.place in
-    rw (← c.self.view_is) (sym (ap last_in (none-client (logs_of c.self.inside.logs) (map (raised c.self.inside.next_message) c.self.inside.places.items) c.args.client c.self.inside.clients.items (sym c.in-None.is ∙ place))))
+    rw (← c.self.view_is) (sym (ap last_in (none-client (logs_of c.self.inside.logs) (map (raised c.self.inside.next_message) (standing c.self.inside.places)) c.args.client c.self.inside.clients.items (sym c.in-None.is ∙ place))))

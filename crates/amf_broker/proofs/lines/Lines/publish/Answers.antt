@@ -3,6 +3,7 @@ use Rattle.std.proofs.Common.{◌≡◌, ◌++◌, ◌∙◌, ap, sym, map, leng
 use Rattle.amf_broker.specs.Sound.{are_in_order}
 use Rattle.amf_broker.specs.Lines.{waiters_left}
 use Rattle.amf_broker.specs.Members.{members_at, lines_without, line_without, waiters_after, ended_after, spans_ended, logs_of}
+use Rattle.amf_broker.specs.Slots.{standing}
 use Rattle.amf_broker.proofs.Publishes.{is_over}
 use Rattle.amf_broker.proofs.Rounds.{refilled, length-after}
 use Rattle.amf_broker.proofs.Gone.{put_now, listening, ended_now, places_end, lined-all, floor-all, ended-all, ended-ordered, listening-at, listening-room, listening-seated, listening-few}
@@ -75,10 +76,10 @@ lines c =
     c.end_all.ensures.logs ∙ (ap (λ e. map (line_without (is_over e)) c.leave.new.logs) (ended c)
     ∙ ap (map (line_without (is_over (ended_now _ _ _ _ _ c.self.invariant c.args.left.now c.args.topic.now c.args.message)))) (now c))
 
-places : (c : After-end_all) → c.end_all.new.places.items ≡ places_end _ _ _ _ _ c.self.invariant c.args.left.now c.args.topic.now c.args.message
+places : (c : After-end_all) → standing c.end_all.new.places ≡ places_end _ _ _ _ _ c.self.invariant c.args.left.now c.args.topic.now c.args.message
 places c =
-    c.end_all.ensures.places ∙ (ap (λ e. spans_ended e c.self.inside.next_message (logs_of c.leave.new.logs) c.leave.new.places.items) (ended c)
-    ∙ (ap (λ ls. spans_ended (ended_now _ _ _ _ _ c.self.invariant c.args.left.now c.args.topic.now c.args.message) c.self.inside.next_message (logs_of ls) c.leave.new.places.items) (now c)
+    c.end_all.ensures.places ∙ (ap (λ e. spans_ended e c.self.inside.next_message (logs_of c.leave.new.logs) (standing c.leave.new.places)) (ended c)
+    ∙ (ap (λ ls. spans_ended (ended_now _ _ _ _ _ c.self.invariant c.args.left.now c.args.topic.now c.args.message) c.self.inside.next_message (logs_of ls) (standing c.leave.new.places)) (now c)
     ∙ ap (spans_ended (ended_now _ _ _ _ _ c.self.invariant c.args.left.now c.args.topic.now c.args.message) c.self.inside.next_message (logs_of (put_now _ _ _ _ _ c.self.invariant c.args.left.now c.args.topic.now c.args.message))) c.leave.ensures.places))
 
 pub invariant_of-self-2 : goal.invariant_of-self-2

@@ -5,15 +5,16 @@ use Rattle.std.proofs.lemmas.Result.{IfOk-weaker}
 use Rattle.amf_broker.specs.Machine.{queue_of}
 use Rattle.amf_broker.specs.Lines.{waits, clients_by}
 use Rattle.amf_broker.specs.Members.{logs_of, raised}
+use Rattle.amf_broker.specs.Slots.{standing}
 use Rattle.amf_broker.proofs.Waiters.{connected-waits}
 use Rattle.amf_broker.proofs.lines.Lines.queue_of.Goals as goal
 
 pub returns : goal.returns
 returns c =
     let logs = logs_of c.self.inside.logs in
-    let places = map (raised c.self.inside.next_message) c.self.inside.places.items in
+    let places = map (raised c.self.inside.next_message) (standing c.self.inside.places) in
     let here = rw (← c.self.view_is) at c.requires in
     rw (← c.self.view_is) (IfOk-weaker c.waiting_for.result (λ queue. queue ≡ waits logs places c.args.client)
     (λ queue. queue ≡ queue_of c.args.client (clients_by logs places c.self.inside.clients.items))
     (λ queue is. is ∙ sym (connected-waits logs places c.args.client c.self.inside.clients.items here))
-    (rw c.deref.ensures.value at c.waiting_for.ensures))
+    c.waiting_for.ensures)

@@ -3,6 +3,7 @@ use Rattle.std.proofs.Common.{◌≡◌, ◌∙◌, ap, sym}
 use Rattle.std.specs.Prelude.{slice_set}
 use Rattle.amf_broker.specs.Lines.{seen_waiter, waiter_at}
 use Rattle.amf_broker.specs.Members.{floor_of}
+use Rattle.amf_broker.specs.Slots.{standing}
 use Rattle.amf_broker.proofs.Firsts.{not-some}
 use Rattle.amf_broker.proofs.Waiters.{waiter-changed, none-changed}
 use Rattle.amf_broker.proofs.Lined.{lined-seen, floor-seen}
@@ -34,5 +35,5 @@ returns-in_default c =
     let place = rw c.deref.ensures.value at c.place_in_order.ensures.place in
     let same = none-changed c.args.client (seen_waiter c.args.present) c.self.inside.clients.items (not-some c.place_in_order.result c.in_default.not-Some ∙ place) in
     rw (← c.self.view_is)
-    (ap (λ ws. floor_of c.self.inside.logs c.self.inside.places.items ws c.self.inside.next_client c.self.inside.next_message) same
+    (ap (λ ws. floor_of c.self.inside.logs (standing c.self.inside.places) ws c.self.inside.next_client c.self.inside.next_message) same
     ∙ floor-seen _ _ _ _ _ c.self.invariant c.args.client c.args.present)

@@ -2,6 +2,7 @@
 use Rattle.std.proofs.Common.{◌∙◌, ap, subst, refl}
 use Rattle.amf_broker.specs.Members.{Line}
 use Rattle.amf_broker.specs.Trims.{IsTrimmed}
+use Rattle.amf_broker.specs.Slots.{standing}
 use Rattle.amf_broker.proofs.Noted.{apart-set, noted-set}
 use Rattle.amf_broker.proofs.logs.Logs.trim.Goals as goal
 
@@ -16,4 +17,4 @@ invariant_of-self c =
 pub returns : goal.returns
 returns c =
     let less = rw (← c.self.view_is) at c.requires in
-    rw (← c.self.view_is) (record { within = less; was = c.index_mut.result.now; line = c.trim.new.self; trimmed = subst (λ (l : Line). IsTrimmed c.args.places.now l c.trim.new.self) c.index_mut.ensures.value c.trim.ensures; is = refl })
+    rw (← c.self.view_is) (record { within = less; was = c.index_mut.result.now; line = c.trim.new.self; trimmed = subst (λ (l : Line). IsTrimmed (standing c.args.places.now) l c.trim.new.self) c.index_mut.ensures.value c.trim.ensures; is = refl })
