@@ -18,7 +18,7 @@ use Rattle.amf3_layout.proofs.Layout3Fills.{Filled, text_filled, raw_filled, abl
 use Rattle.amf0_spelling.specs.Segments0.{is_empty}
 use Rattle.amf0_spelling.specs.Refusals0.{marker0_kind, marker0_refusal, index0_kind}
 use Rattle.amf0_layout.specs.Layout0State.{State0, switched, with_text0, with_class, class_head, with_node0, changed0}
-use Rattle.amf0_layout.specs.Layout0.{new_text0, short_layout, long_layout, Read0, read0, end0, Reader0, items0, pairs0, shut0, with_pairs, with_items, whole0, with_members, behind0, value0_layout}
+use Rattle.amf0_layout.specs.Layout0.{new_text0, short_layout, long_layout, ValueRead0, read0, end0, Reader0, items0, pairs0, shut0, with_pairs, with_items, whole0, with_members, behind0, value0_layout}
 use Rattle.amf0_layout.proofs.Layout0Forms.{code0, code0_at, some_place}
 use Rattle.amf0_layout.proofs.Layout0Grows.{next_pair, named_value}
 use Rattle.amf0_spelling.specs.declared.marker.Marker0.{Marker0}
@@ -109,7 +109,7 @@ module _ (v : Reader0) (N : ℕ) (h : Inner v N) (e : Ends v N) where
   able_behind s (Some marker.Document) p = able_bind N (long_layout s) (λ x. give (whole0 x.state (arena.xml_document x.id))) (able_long N s) (λ x. able_give N (whole0 x.state (arena.xml_document x.id)))
   able_behind s (Some marker.Typed) p = able_bind N (short_layout s) (with_members v N) (able_short N s) (λ x. able_with_pairs (with_class x.state x.id) (class_head x.state))
   able_behind s (Some marker.Switch) p =
-      let after : ValueRead → Layout Read0 = λ x. give (read0 x.value (switched s x.state)) in
+      let after : ValueRead → Layout ValueRead0 = λ x. give (read0 x.value (switched s x.state)) in
       able_bind N (value_layout N s.amf3) after (value_able N s.amf3) (λ x. able_give N (read0 x.value (switched s x.state)))
 
 place_is : (may_end : Bool) (nodes m : ℕ) → marker0_refusal may_end nodes m ≡ None → marker0_at m ≡ Some marker.Reference → 7 ≡ m

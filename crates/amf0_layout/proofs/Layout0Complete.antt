@@ -27,7 +27,7 @@ use Rattle.amf0_spelling.specs.Refusals0.{marker0_kind, index0_kind}
 use Rattle.amf0_spelling.specs.Segments0.{marker0_field, Short, Long, LeafBy0, Values0, Pairs0, PairsBy0, is_empty}
 use Rattle.amf0_spelling.specs.Spells0.{NodeBy0, Named0, Begun0, Switched, SpellsIn0, Spells0}
 use Rattle.amf0_layout.specs.Layout0State.{State0, switched, with_text0, with_class, class_head, with_done0, with_node0, changed0}
-use Rattle.amf0_layout.specs.Layout0.{new_text0, short_layout, long_layout, Read0, read0, end0, Reader0, items0, pairs0, shut0, with_pairs, with_items, whole0, with_members, behind0, value0_layout}
+use Rattle.amf0_layout.specs.Layout0.{new_text0, short_layout, long_layout, ValueRead0, read0, end0, Reader0, items0, pairs0, shut0, with_pairs, with_items, whole0, with_members, behind0, value0_layout}
 use Rattle.amf0_spelling.proofs.Clean0.{clean0}
 use Rattle.amf0_layout.proofs.Layout0Grows.{next_pair, named_value}
 use Rattle.amf0_spelling.specs.Markers0.{marker0_at}
@@ -37,8 +37,8 @@ pub record Like0 (g : Graph) (t : Tables0) (s : State0) : Type 0 where
   pub amf3 : Like g t.amf3 s.amf3
   pub size : length t.nodes ≡ length s.nodes
 
-pub record Found0 (g : Graph) (l : Layout Read0) (fs : List Field) (u : Tables0) : Type 0 where
-  pub result : Read0
+pub record Found0 (g : Graph) (l : Layout ValueRead0) (fs : List Field) (u : Tables0) : Type 0 where
+  pub result : ValueRead0
   pub is_value : result.ended ≡ false
   pub runs : Runs l fs result
   pub like : Like0 g u result.state
@@ -244,7 +244,7 @@ module _ (g : Graph) (R : Bool → Value → Spelling Tables0) (v : Reader0) (N 
   node_found i (graph.values f k) names vs m t fs u s c like lt p = absurd p
   node_found i (graph.dictionary f) names vs m t fs u s c like lt p = absurd p
 
-abbrev Marked : Reader0 → ℕ → Bool → State0 → Layout Read0
+abbrev Marked : Reader0 → ℕ → Bool → State0 → Layout ValueRead0
 Marked v N b s = want (marker0_kind b (length s.nodes)) (λ m. behind0 v N s (marker0_at (slice_index m 0)))
 
 -- a marker, and what stands behind it

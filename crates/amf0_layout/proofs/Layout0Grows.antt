@@ -10,7 +10,7 @@ use Rattle.amf3_layout.specs.Layout3.{ValueRead, value_layout}
 use Rattle.amf3_layout.proofs.Layout3Grows.{value_grows}
 use Rattle.amf0_spelling.specs.Segments0.{is_empty}
 use Rattle.amf0_layout.specs.Layout0State.{State0, switched, with_class, class_head, with_node0, changed0}
-use Rattle.amf0_layout.specs.Layout0.{TextRead0, new_text0, short_layout, Read0, read0, Reader0, items0, pairs0, shut0, with_pairs, with_items, with_members, behind0, value0_layout}
+use Rattle.amf0_layout.specs.Layout0.{TextRead0, new_text0, short_layout, ValueRead0, read0, Reader0, items0, pairs0, shut0, with_pairs, with_items, with_members, behind0, value0_layout}
 use Rattle.amf0_spelling.specs.declared.marker.Marker0.{Marker0}
 use Rattle.amf0_spelling.specs.declared.marker.Marker0.TheVariants as marker
 use Rattle.amf0_spelling.specs.Markers0.{marker0_at}
@@ -23,7 +23,7 @@ items_grow t u i zero s h = refl
 items_grow t u i (suc n) s h =
     extends_bind (t false s) (u false s) (λ x. items0 t i n (changed0 (more_value x.value) i x.state)) (λ x. items0 u i n (changed0 (more_value x.value) i x.state)) (h false s) (λ x. items_grow t u i n (changed0 (more_value x.value) i x.state) h)
 
-abbrev pub next_pair : Reader0 → ℕ → ℕ → TextRead0 → Read0 → Layout State0
+abbrev pub next_pair : Reader0 → ℕ → ℕ → TextRead0 → ValueRead0 → Layout State0
 next_pair v f i x y = cond y.ended (give y.state) (pairs0 v f i (changed0 (more_name x.id y.value) i y.state))
 
 abbrev pub named_value : Reader0 → ℕ → ℕ → TextRead0 → Layout State0
@@ -64,7 +64,7 @@ behind_grow t u f h s (Some marker.Unsupported) le g = refl
 behind_grow t u f h s (Some marker.Document) le g = extends_same (behind0 t f s (Some marker.Document))
 behind_grow t u f h s (Some marker.Typed) le g = extends_bind (short_layout s) (short_layout s) (with_members t f) (with_members u h) (extends_same (short_layout s)) (λ x. with_pairs_grow t u f h (with_class x.state x.id) (class_head x.state) le g)
 behind_grow t u f h s (Some marker.Switch) le g =
-    let after : ValueRead → Layout Read0 = λ x. give (read0 x.value (switched s x.state)) in
+    let after : ValueRead → Layout ValueRead0 = λ x. give (read0 x.value (switched s x.state)) in
     extends_bind (value_layout f s.amf3) (value_layout h s.amf3) after after (value_grows f h le s.amf3) (λ x. refl)
 
 pub value0_grows : (n m : ℕ) → n ≤ m → Grow (value0_layout n) (value0_layout m)

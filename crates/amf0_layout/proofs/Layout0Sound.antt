@@ -32,7 +32,7 @@ use Rattle.amf0_spelling.specs.Refusals0.{marker0_kind, marker0_refusal, index0_
 use Rattle.amf0_spelling.specs.Segments0.{marker0_field, Short, Long, LeafBy0}
 use Rattle.amf0_spelling.specs.Spells0.{Switched, SpellsIn0}
 use Rattle.amf0_layout.specs.Layout0State.{State0, switched, with_text0}
-use Rattle.amf0_layout.specs.Layout0.{TextRead0, short_layout, long_layout, Read0, read0, end0, whole0, with_members, behind0, value0_layout}
+use Rattle.amf0_layout.specs.Layout0.{TextRead0, short_layout, long_layout, ValueRead0, read0, end0, whole0, with_members, behind0, value0_layout}
 use Rattle.amf0_layout.proofs.Layout0Forms.{code0, code0_at, end_may}
 use Rattle.amf0_layout.proofs.Layout0Contents.{Good0, table0, good0_moved, good_text0}
 use Rattle.amf0_layout.proofs.Layout0SoundParts.{empty_text, ValueSound0, EndSound0, Sounds0, TextSound0, short_sound, long_sound, u32_is, text_there, completed_larger, SoMany, ItemsSpelled, NoValues, PairsSpelled}
@@ -41,7 +41,7 @@ use Rattle.amf0_spelling.specs.declared.marker.Marker0.{Marker0}
 use Rattle.amf0_spelling.specs.declared.marker.Marker0.TheVariants as marker
 use Rattle.amf0_spelling.specs.Markers0.{marker0_at}
 
-abbrev Outcome : ℕ → Bool → State0 → List Field → Read0 → Type 0
+abbrev Outcome : ℕ → Bool → State0 → List Field → ValueRead0 → Type 0
 Outcome n b s fs x = ValueSound0 (spell0 n) b s fs x ⊎ EndSound0 b s fs x
 
 -- a value that is no node
@@ -59,12 +59,12 @@ leaf_sound n b s fs v l z g larger nodes named content by = record {
 }
 
 -- one that leaves the state as it is
-plain_sound : (n : ℕ) (b : Bool) (s : State0) (fs : List Field) (v : Stored) (l : Leaf) (x : Read0) → Good0 s → Names s.amf3.arena v → ((e : Arena) → value_content e v ≡ leaf l) → LeafBy0 free b l (table0 s) fs (table0 s) → read0 v s ≡ x → ValueSound0 (spell0 n) b s fs x
+plain_sound : (n : ℕ) (b : Bool) (s : State0) (fs : List Field) (v : Stored) (l : Leaf) (x : ValueRead0) → Good0 s → Names s.amf3.arena v → ((e : Arena) → value_content e v ≡ leaf l) → LeafBy0 free b l (table0 s) fs (table0 s) → read0 v s ≡ x → ValueSound0 (spell0 n) b s fs x
 plain_sound n b s fs v l x g named content by e =
     subst (λ y. ValueSound0 (spell0 n) b s fs y) e (leaf_sound n b s fs v l s g (larger_itself s.amf3.arena s.amf3.arena refl refl (omega arith)) refl named (λ e c. content e) by)
 
 -- a text
-text_value : (n : ℕ) (b : Bool) (s : State0) (fs rest : List Field) (y : TextRead0) (x : Read0) (P : List ℕ → List Field → Type 0) → Good0 s → TextSound0 P s rest y → ((k : List ℕ) → P k rest → LeafBy0 free b (graph.text k) (table0 s) fs (table0 s)) → read0 (TextRef (record { 0 = y.id })) y.state ≡ x → ValueSound0 (spell0 n) b s fs x
+text_value : (n : ℕ) (b : Bool) (s : State0) (fs rest : List Field) (y : TextRead0) (x : ValueRead0) (P : List ℕ → List Field → Type 0) → Good0 s → TextSound0 P s rest y → ((k : List ℕ) → P k rest → LeafBy0 free b (graph.text k) (table0 s) fs (table0 s)) → read0 (TextRef (record { 0 = y.id })) y.state ≡ x → ValueSound0 (spell0 n) b s fs x
 text_value n b s fs rest y x P g t by e =
     let k = t.bytes in
     let z = with_text0 s k in
@@ -137,7 +137,7 @@ switch_sound N b s f rest x g is bytes r =
     by e r (graph.node i) p = inr (tt, p)
 
 module _ (N : ℕ) (b : Bool) (s : State0) (ih : Sounds0 (spell0 N) (value0_layout N)) (g : Good0 s) (f : Field) where
-  form_sound : (y : Option Marker0) → f ≡ marker0_field b (table0 s) (code0 y) → marker0_refusal b (length s.nodes) (code0 y) ≡ None → (rest : List Field) (x : Read0) → AreBytes (flat rest) → Runs (behind0 (value0_layout N) N s y) rest x → Outcome (suc N) b s (f ∷ rest) x
+  form_sound : (y : Option Marker0) → f ≡ marker0_field b (table0 s) (code0 y) → marker0_refusal b (length s.nodes) (code0 y) ≡ None → (rest : List Field) (x : ValueRead0) → AreBytes (flat rest) → Runs (behind0 (value0_layout N) N s y) rest x → Outcome (suc N) b s (f ∷ rest) x
   form_sound (Some marker.Double) is ok [] x bytes r = absurd cc
   form_sound (Some marker.Double) is ok (h ∷ []) x bytes r =
       let p = from_be_bytes w64 h.bytes in

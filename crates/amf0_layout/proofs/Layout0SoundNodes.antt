@@ -23,7 +23,7 @@ use Rattle.amf0_spelling.specs.Tables0.{Tables0, add_node0, add_done0}
 use Rattle.amf0_spelling.specs.Segments0.{marker0_field, Pairs0, PairsBy0}
 use Rattle.amf0_spelling.specs.Spells0.{NodeBy0, SpellsIn0}
 use Rattle.amf0_layout.specs.Layout0State.{State0, with_text0, with_class, class_head, with_done0, with_node0, changed0}
-use Rattle.amf0_layout.specs.Layout0.{new_text0, Read0, Reader0, items0, pairs0, shut0, with_pairs, with_items, whole0, with_members}
+use Rattle.amf0_layout.specs.Layout0.{new_text0, ValueRead0, Reader0, items0, pairs0, shut0, with_pairs, with_items, whole0, with_members}
 use Rattle.amf0_layout.proofs.Layout0Contents.{Good0, table0, good0_moved, good_text0, good_class, good_done0, good_node0, traits_larger, loose_larger, table0_done, table0_node, table0_changed}
 use Rattle.amf0_layout.proofs.Layout0SoundParts.{Spell0, ValueSound0, Sounds0, AddsSound0, SoMany, ItemsSpelled, items_sound0, NoValues, PairsSpelled, pairs_sound0, completed_larger}
 
@@ -148,12 +148,12 @@ whole_sound N m b s g head named closed fits rest behind f is =
     }
 
 -- a run that ends with a node that is shut
-pub record Shut (C : List (ℕ × Stored) → List Stored → Type 0) (A : Arena → Stored → List (ℕ × Stored) → List Stored → Spelling Tables0) (s : State0) (head : StoredHead) (fs : List Field) (x : Read0) : Type 0 where
+pub record Shut (C : List (ℕ × Stored) → List Stored → Type 0) (A : Arena → Stored → List (ℕ × Stored) → List Stored → Spelling Tables0) (s : State0) (head : StoredHead) (fs : List Field) (x : ValueRead0) : Type 0 where
   pub state : State0
   pub adds : AddsSound0 C A s.amf3.arena.nodes [] (begun head) (with_node0 s head) fs state
   pub is : shut0 (length s.amf3.arena.nodes) state ≡ x
 
-shut_by : (C : List (ℕ × Stored) → List Stored → Type 0) (A : Arena → Stored → List (ℕ × Stored) → List Stored → Spelling Tables0) (s : State0) (head : StoredHead) (fs front back : List Field) (u : State0) (x : Read0) → fs ≡ front ++ back → AddsSound0 C A s.amf3.arena.nodes [] (begun head) (with_node0 s head) front u
+shut_by : (C : List (ℕ × Stored) → List Stored → Type 0) (A : Arena → Stored → List (ℕ × Stored) → List Stored → Spelling Tables0) (s : State0) (head : StoredHead) (fs front back : List Field) (u : State0) (x : ValueRead0) → fs ≡ front ++ back → AddsSound0 C A s.amf3.arena.nodes [] (begun head) (with_node0 s head) front u
     → Path (give (shut0 (length s.amf3.arena.nodes) u)) back (give x) → Shut C A s head fs x
 shut_by C A s head fs front [] u x e a p = record { state = u; adds = subst (λ l. AddsSound0 C A s.amf3.arena.nodes [] (begun head) (with_node0 s head) l u) (sym (e ∙ append-nil front)) a; is = give_is (shut0 (length s.amf3.arena.nodes) u) x p }
 shut_by C A s head fs front (f ∷ back) u x e a p = absurd p
@@ -161,14 +161,14 @@ shut_by C A s head fs front (f ∷ back) u x e a p = absurd p
 opened_good : (s : State0) (head : StoredHead) → Good0 s → HeadNames s.amf3.arena head → takes_parts head ≡ true → Good0 (with_node0 s head)
 opened_good s head g named o = good_node0 s head g named (λ e. absurd (let z : true ≡ false = sym o ∙ e in cc))
 
-pub pairs_shut : (sp : Spell0) (v : Reader0) (N : ℕ) → Sounds0 sp v → (s : State0) (head : StoredHead) (fs : List Field) (x : Read0) → Good0 s → HeadNames s.amf3.arena head → takes_parts head ≡ true → AreBytes (flat fs) → Runs (with_pairs v N s head) fs x → Shut NoValues (PairsSpelled sp) s head fs x
+pub pairs_shut : (sp : Spell0) (v : Reader0) (N : ℕ) → Sounds0 sp v → (s : State0) (head : StoredHead) (fs : List Field) (x : ValueRead0) → Good0 s → HeadNames s.amf3.arena head → takes_parts head ≡ true → AreBytes (flat fs) → Runs (with_pairs v N s head) fs x → Shut NoValues (PairsSpelled sp) s head fs x
 pairs_shut sp v N h s head fs x g named o b r =
     let i = length s.amf3.arena.nodes in
     let a = bind_runs (pairs0 v N i (with_node0 s head)) (λ u. give (shut0 i u)) fs x r in
     let ab = bytes_parts fs a.front a.back a.parts b in
     shut_by NoValues (PairsSpelled sp) s head fs a.front a.back a.value x a.parts (pairs_sound0 sp v h s.amf3.arena.nodes [] (begun head) N (with_node0 s head) a.front a.value o (opened_good s head g named o) refl ab.0 a.first) a.second
 
-pub items_shut : (sp : Spell0) (v : Reader0) (k : ℕ) → Sounds0 sp v → (s : State0) (head : StoredHead) (fs : List Field) (x : Read0) → Good0 s → HeadNames s.amf3.arena head → takes_parts head ≡ true → AreBytes (flat fs) → Runs (with_items v k s head) fs x → Shut (SoMany k) (ItemsSpelled sp) s head fs x
+pub items_shut : (sp : Spell0) (v : Reader0) (k : ℕ) → Sounds0 sp v → (s : State0) (head : StoredHead) (fs : List Field) (x : ValueRead0) → Good0 s → HeadNames s.amf3.arena head → takes_parts head ≡ true → AreBytes (flat fs) → Runs (with_items v k s head) fs x → Shut (SoMany k) (ItemsSpelled sp) s head fs x
 items_shut sp v k h s head fs x g named o b r =
     let i = length s.amf3.arena.nodes in
     let a = bind_runs (items0 v i k (with_node0 s head)) (λ u. give (shut0 i u)) fs x r in
@@ -211,7 +211,7 @@ module _ (N m : ℕ) (b : Bool) (v : Reader0) (h : Sounds0 (spell0 N) v) (s : St
       ap (λ t. graph.object (traits_content a t)) (get_or-append_seam s.amf3.arena.traits (record { class = id; dynamic = true; sealed = [] }) [] no_traits)
       ∙ ap (λ x. graph.object (class_traits x)) (get_or-append_seam s.amf3.arena.texts c [] [])
 
-  pub members_sound : (fs rest : List Field) (x : Read0) → AreBytes (flat fs) → Runs (with_members v N (new_text0 s c)) fs x
+  pub members_sound : (fs rest : List Field) (x : ValueRead0) → AreBytes (flat fs) → Runs (with_members v N (new_text0 s c)) fs x
       → ((e : Arena) (r : Stored) (ps : List (List ℕ × Value)) (u : Tables0) → Pairs0 (spell0 N e r) ps (add_node0 (table0 s) (length s.amf3.arena.nodes)) fs u → NodeBy0 (spell0 N e r) free (length s.amf3.arena.nodes) (graph.object (class_traits c)) ps [] m (table0 s) rest u)
       → (f : Field) → f ≡ marker0_field b (table0 s) m → ValueSound0 (spell0 (suc N)) b s (f ∷ rest) x
   members_sound fs rest x bytes r behind f is =

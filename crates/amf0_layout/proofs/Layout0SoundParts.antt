@@ -25,7 +25,7 @@ use Rattle.amf3_layout.proofs.Layout3SoundParts.{AllClosed, nodes_append, comple
 use Rattle.amf0_spelling.specs.Tables0.{Tables0}
 use Rattle.amf0_spelling.specs.Segments0.{marker0_field, Short, Long, Values0, Pairs0, is_empty}
 use Rattle.amf0_layout.specs.Layout0State.{State0, with_text0, changed0}
-use Rattle.amf0_layout.specs.Layout0.{TextRead0, new_text0, short_layout, long_layout, Read0, Reader0, items0, pairs0}
+use Rattle.amf0_layout.specs.Layout0.{TextRead0, new_text0, short_layout, long_layout, ValueRead0, Reader0, items0, pairs0}
 use Rattle.amf0_layout.proofs.Layout0Contents.{Good0, table0, good0_moved, good_text0, table0_changed}
 use Rattle.amf0_layout.proofs.Layout0Grows.{next_pair, named_value}
 
@@ -88,7 +88,7 @@ abbrev pub Spell0 : Type 1
 Spell0 = Arena → Stored → Bool → Value → Spelling Tables0
 
 -- a value that was read
-pub record ValueSound0 (sp : Spell0) (b : Bool) (s : State0) (fs : List Field) (x : Read0) : Type 0 where
+pub record ValueSound0 (sp : Spell0) (b : Bool) (s : State0) (fs : List Field) (x : ValueRead0) : Type 0 where
   pub is_value : x.ended ≡ false
   pub good : Good0 x.state
   pub larger : Larger s.amf3.arena x.state.amf3.arena
@@ -99,17 +99,17 @@ pub record ValueSound0 (sp : Spell0) (b : Bool) (s : State0) (fs : List Field) (
   pub spelled : (g : Arena) (r : Stored) → Completes x.state.amf3.arena g → sp g r b (value_content g x.value) (table0 s) fs (table0 x.state)
 
 -- the end of pairs that was read
-pub record EndSound0 (b : Bool) (s : State0) (fs : List Field) (x : Read0) : Type 0 where
+pub record EndSound0 (b : Bool) (s : State0) (fs : List Field) (x : ValueRead0) : Type 0 where
   pub is_end : x.ended ≡ true
   pub may : b ≡ true
   pub fields : fs ≡ marker0_field b (table0 s) 0x09 ∷ []
   pub same : x.state ≡ s
 
 abbrev pub Sounds0 : Spell0 → Reader0 → Type 0
-Sounds0 sp v = (b : Bool) (s : State0) (fs : List Field) (x : Read0) → Good0 s → AreBytes (flat fs) → Runs (v b s) fs x → ValueSound0 sp b s fs x ⊎ EndSound0 b s fs x
+Sounds0 sp v = (b : Bool) (s : State0) (fs : List Field) (x : ValueRead0) → Good0 s → AreBytes (flat fs) → Runs (v b s) fs x → ValueSound0 sp b s fs x ⊎ EndSound0 b s fs x
 
 -- where no end may stand
-pub only_value : (sp : Spell0) (s : State0) (fs : List Field) (x : Read0) → ValueSound0 sp false s fs x ⊎ EndSound0 false s fs x → ValueSound0 sp false s fs x
+pub only_value : (sp : Spell0) (s : State0) (fs : List Field) (x : ValueRead0) → ValueSound0 sp false s fs x ⊎ EndSound0 false s fs x → ValueSound0 sp false s fs x
 only_value sp s fs x (inl v) = v
 only_value sp s fs x (inr e) = absurd (let m = e.may in cc)
 
@@ -118,10 +118,10 @@ pub good_changed0 : (f : StoredNode → StoredNode) (ns : List (ℕ × Stored)) 
 good_changed0 f ns vs pre post q s is o g e hn hv =
     good0_moved s (changed0 f (length pre) s) (good_more f ns vs pre post q s.amf3 is o g.amf3 e hn hv) refl (omega (arith, length-set s.amf3.arena.nodes (length pre) (f (stored_at s.amf3.arena (length pre))))) g
 
-value_spot : (sp : Spell0) (b : Bool) (s : State0) (fs : List Field) (x : Read0) (pre post : List StoredNode) (q : StoredNode) → (v : ValueSound0 sp b s fs x) → s.amf3.arena.nodes ≡ pre ++ q ∷ post → x.state.amf3.arena.nodes ≡ pre ++ q ∷ (post ++ v.more)
+value_spot : (sp : Spell0) (b : Bool) (s : State0) (fs : List Field) (x : ValueRead0) (pre post : List StoredNode) (q : StoredNode) → (v : ValueSound0 sp b s fs x) → s.amf3.arena.nodes ≡ pre ++ q ∷ post → x.state.amf3.arena.nodes ≡ pre ++ q ∷ (post ++ v.more)
 value_spot sp b s fs x pre post q v e = v.nodes ∙ ap (λ l. l ++ v.more) e ∙ append_assoc pre (q ∷ post) v.more
 
-pub before_value0 : (sp : Spell0) (b : Bool) (s : State0) (fs : List Field) (x : Read0) (g : Arena) → ValueSound0 sp b s fs x → Completes x.state.amf3.arena g → Completes s.amf3.arena g
+pub before_value0 : (sp : Spell0) (b : Bool) (s : State0) (fs : List Field) (x : ValueRead0) (g : Arena) → ValueSound0 sp b s fs x → Completes x.state.amf3.arena g → Completes s.amf3.arena g
 before_value0 sp b s fs x g v c = completes_before s.amf3.arena x.state.amf3.arena g v.larger (subst (λ l. NodesComplete s.amf3.arena.nodes l) (sym v.nodes) (nodes_append s.amf3.arena.nodes v.more)) c
 
 -- parts that were added to an open node
@@ -197,7 +197,7 @@ pairs_sound0 sp v h pre post q (suc f) s fs z o g e b r =
     by t.bytes t.is_text a.front a.back a.parts t.spelled d.value d.front d.back d.parts gx (h (is_empty t.bytes) x.state d.front d.value gx db.0 d.first) db.1 d.second
     (λ post2 q2 u fs2 o2 g2 e2 b2 r2. pairs_sound0 sp v h pre post2 q2 f u fs2 z o2 g2 e2 b2 r2)
   where
-    by : (x : List ℕ) → IsText x → (front back : List Field) → fs ≡ front ++ back → Short x front → (y : Read0) (first last : List Field) → back ≡ first ++ last → Good0 (with_text0 s x) → ValueSound0 sp (is_empty x) (with_text0 s x) first y ⊎ EndSound0 (is_empty x) (with_text0 s x) first y
+    by : (x : List ℕ) → IsText x → (front back : List Field) → fs ≡ front ++ back → Short x front → (y : ValueRead0) (first last : List Field) → back ≡ first ++ last → Good0 (with_text0 s x) → ValueSound0 sp (is_empty x) (with_text0 s x) first y ⊎ EndSound0 (is_empty x) (with_text0 s x) first y
         → AreBytes (flat last) → Path (next_pair v f (length pre) (new_text0 s x) y) last (give z)
         → ((post2 : List StoredNode) (q2 : StoredNode) (u : State0) (fs2 : List Field) → q2.is_open ≡ true → Good0 u → u.amf3.arena.nodes ≡ pre ++ q2 ∷ post2 → AreBytes (flat fs2) → Runs (pairs0 v f (length pre) u) fs2 z → AddsSound0 NoValues (PairsSpelled sp) pre post2 q2 u fs2 z) → AddsSound0 NoValues (PairsSpelled sp) pre post q s fs z
     by x is_text front back joined name y first last parts gx (inr k) lb p again =

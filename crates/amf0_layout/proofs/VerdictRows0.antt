@@ -6,7 +6,7 @@ use Rattle.amf_io.proofs.Inputs.{outcome_decides}
 use Rattle.amf_graph.specs.Building.{no_arena}
 use Rattle.amf3_layout.proofs.VerdictRows.{all_bytes, both_hold, are_bytes, is_short}
 use Rattle.amf0_spelling.specs.KeptTables0.{no_kept_tables0}
-use Rattle.amf0_spelling.specs.Reads0.{IsValue0}
+use Rattle.amf0_spelling.specs.Values0.{IsValue0}
 use Rattle.amf0_layout.specs.Layout0State.{State0, state0_of}
 use Rattle.amf0_layout.specs.Layout0.{value0_layout}
 use Rattle.amf0_layout.specs.WorkedVerdicts0.{Verdicts0}

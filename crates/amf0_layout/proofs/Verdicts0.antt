@@ -9,11 +9,11 @@ use Rattle.amf3_layout.proofs.OneCut.{has_one_cut}
 use Rattle.amf0_spelling.specs.KeptTables0.{KeptTables0}
 use Rattle.amf0_spelling.specs.Reads0.{IsReading0}
 use Rattle.amf0_layout.specs.Layout0State.{state0_of}
-use Rattle.amf0_layout.specs.Layout0.{Read0, value0_layout}
+use Rattle.amf0_layout.specs.Layout0.{ValueRead0, value0_layout}
 use Rattle.amf0_layout.specs.VerdictLaws0.{OneCut0, NextKind0, FirstFault0, Judged0, JudgedOnce0, Ends0, ReadOnce0}
 use Rattle.amf0_layout.proofs.Layout0Format.{is_layout0}
 
-abbrev layouts : Arena → KeptTables0 → ℕ → Layout Read0
+abbrev layouts : Arena → KeptTables0 → ℕ → Layout ValueRead0
 layouts a t n = value0_layout n false (state0_of a t)
 
 pub one_cut : OneCut0

@@ -34,19 +34,19 @@ abbrev pub long_layout : State0 → Layout TextRead0
 long_layout s = want (u32_kind no_refusal) (λ b. chunk text_kind (from_be_bytes w32 b) (λ x. give (new_text0 s x)))
 
 -- a value that was read, or the end of pairs
-pub record Read0 : Type 0 where
+pub record ValueRead0 : Type 0 where
   pub ended : Bool
   pub value : Stored
   pub state : State0
 
-abbrev pub read0 : Stored → State0 → Read0
+abbrev pub read0 : Stored → State0 → ValueRead0
 read0 v s = record { ended = false; value = v; state = s }
 
-abbrev pub end0 : State0 → Read0
+abbrev pub end0 : State0 → ValueRead0
 end0 s = record { ended = true; value = Null; state = s }
 
 abbrev pub Reader0 : Type 0
-Reader0 = Bool → State0 → Layout Read0
+Reader0 = Bool → State0 → Layout ValueRead0
 
 -- so many values for an open node
 abbrev pub items0 : Reader0 → ℕ → ℕ → State0 → Layout State0
@@ -60,26 +60,26 @@ pairs0 value (suc n) i s =
     bind (short_layout s) (λ x. bind (value (is_empty x.bytes) x.state) (λ v. if v.ended then give v.state else pairs0 value n i (changed0 (more_name x.id v.value) i v.state)))
 
 -- a node whose parts are there is shut
-abbrev pub shut0 : ℕ → State0 → Read0
+abbrev pub shut0 : ℕ → State0 → ValueRead0
 shut0 i s = read0 (Node (record { 0 = i })) (changed0 shut i s)
 
 -- a node that is open until its pairs, or its items, are there
-abbrev pub with_pairs : Reader0 → ℕ → State0 → StoredHead → Layout Read0
+abbrev pub with_pairs : Reader0 → ℕ → State0 → StoredHead → Layout ValueRead0
 with_pairs value fuel s head = bind (pairs0 value fuel (length s.amf3.arena.nodes) (with_node0 s head)) (λ u. give (shut0 (length s.amf3.arena.nodes) u))
 
-abbrev pub with_items : Reader0 → ℕ → State0 → StoredHead → Layout Read0
+abbrev pub with_items : Reader0 → ℕ → State0 → StoredHead → Layout ValueRead0
 with_items value count s head = bind (items0 value (length s.amf3.arena.nodes) count (with_node0 s head)) (λ u. give (shut0 (length s.amf3.arena.nodes) u))
 
 -- a node that is whole at once, and that no index names
-abbrev pub whole0 : State0 → StoredHead → Read0
+abbrev pub whole0 : State0 → StoredHead → ValueRead0
 whole0 s head = read0 (Node (record { 0 = length s.amf3.arena.nodes })) (with_done0 s head)
 
 -- an object of the class that was read
-abbrev pub with_members : Reader0 → ℕ → TextRead0 → Layout Read0
+abbrev pub with_members : Reader0 → ℕ → TextRead0 → Layout ValueRead0
 with_members value fuel x = with_pairs value fuel (with_class x.state x.id) (class_head x.state)
 
 -- behind the marker of a value, or the end of pairs
-abbrev pub behind0 : Reader0 → ℕ → State0 → Option Marker0 → Layout Read0
+abbrev pub behind0 : Reader0 → ℕ → State0 → Option Marker0 → Layout ValueRead0
 behind0 value fuel s (Some marker.Double) = want (raw_kind 8) (λ b. give (read0 (Double (record { 0 = from_be_bytes w64 b })) s))
 behind0 value fuel s (Some marker.Boolean) = want (raw_kind 1) (λ b. give (read0 (Flag (not (slice_index b 0 == 0))) s))
 behind0 value fuel s (Some marker.Text) = bind (short_layout s) (λ x. give (read0 (Text (record { 0 = x.id })) x.state))
@@ -98,6 +98,6 @@ behind0 value fuel s (Some marker.Typed) = bind (short_layout s) (with_members v
 behind0 value fuel s (Some marker.Switch) = bind (value_layout fuel s.amf3) (λ x. give (read0 x.value (switched s x.state)))
 
 -- one value, or where it may stand the end of pairs, with fuel
-abbrev pub value0_layout : ℕ → Bool → State0 → Layout Read0
+abbrev pub value0_layout : ℕ → Bool → State0 → Layout ValueRead0
 value0_layout zero may_end s = stuck
 value0_layout (suc n) may_end s = want (marker0_kind may_end (length s.nodes)) (λ b. behind0 (value0_layout n) n s (marker0_at (slice_index b 0)))

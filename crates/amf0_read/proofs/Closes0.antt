@@ -12,7 +12,7 @@ use Rattle.amf_io.specs.ReadEnds.{IsPlaced}
 use Rattle.amf_io.specs.CursorReads.{Ends}
 use Rattle.amf0_spelling.specs.Segments0.{is_empty}
 use Rattle.amf0_layout.specs.Layout0State.{State0}
-use Rattle.amf0_layout.specs.Layout0.{Read0}
+use Rattle.amf0_layout.specs.Layout0.{ValueRead0}
 use Rattle.amf0_read.specs.declared.fill.Step.{Step}
 use Rattle.amf_graph.specs.Graph as graph
 use Rattle.amf_graph.specs.Arena.{Arena, StoredNode, IsBuilt, head_content}
@@ -30,7 +30,7 @@ use Rattle.amf3_read.proofs.PartPut.{stays, same_head}
 use Rattle.amf3_read.proofs.Stack.{opened_less, opened_grown}
 use Rattle.amf3_read.proofs.GoesOn.{suits_behind, closed_there, closed_fits, closed_still_ready, closed_holds}
 use Rattle.amf0_read.specs.declared.frame.Todo.TheVariants.{Items, Pairs}
-use Rattle.amf0_read.specs.declared.frame.Slot.TheVariants.{Item}
+use Rattle.amf0_read.specs.declared.frame.Role.TheVariants.{Item}
 use Rattle.amf0_spelling.specs.declared.marker.Marker0.{Marker0}
 use Rattle.amf0_read.specs.declared.fill.Step.TheVariants as step
 use Rattle.amf0_read.specs.Ready0.{Ready0, StillReady0}
@@ -122,7 +122,7 @@ module _ {S : Type 0} (a y : Arena) (t : KeptTables0) (x i : ℕ) (c d e : Curso
 
 -- An end that is passed on, and an empty text.
 
-pub step_ended : {S : Type 0} (tells : S → Type 0) (left : S → List ℕ) (t : Layout Read0) (i : ℕ) (z : State0) (c d : Cursor S Window) (r : Result Step ReadEnd) (e : ReadEnd) → IsErrAnd r (λ x. x ≡ e) → Ends tells left t c d e → GoesOn tells left t i z c d r
+pub step_ended : {S : Type 0} (tells : S → Type 0) (left : S → List ℕ) (t : Layout ValueRead0) (i : ℕ) (z : State0) (c d : Cursor S Window) (r : Result Step ReadEnd) (e : ReadEnd) → IsErrAnd r (λ x. x ≡ e) → Ends tells left t c d e → GoesOn tells left t i z c d r
 step_ended tells left t i z c d (Ok x) e is h = absurd is
 step_ended tells left t i z c d (Err x) e is h = subst (Ends tells left t c d) (sym is) h
 

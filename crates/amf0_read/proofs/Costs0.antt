@@ -20,7 +20,7 @@ use Rattle.amf3_layout.proofs.Reader3Costs.{value_costs}
 use Rattle.amf0_spelling.specs.Segments0.{is_empty}
 use Rattle.amf0_spelling.specs.Refusals0.{marker0_kind, index0_kind}
 use Rattle.amf0_layout.specs.Layout0State.{State0, with_class, class_head, with_node0, changed0, switched}
-use Rattle.amf0_layout.specs.Layout0.{TextRead0, new_text0, short_layout, long_layout, Read0, read0, end0, Reader0, items0, pairs0, shut0, with_pairs, with_items, whole0, with_members, behind0, value0_layout}
+use Rattle.amf0_layout.specs.Layout0.{TextRead0, new_text0, short_layout, long_layout, ValueRead0, read0, end0, Reader0, items0, pairs0, shut0, with_pairs, with_items, whole0, with_members, behind0, value0_layout}
 use Rattle.amf0_spelling.specs.declared.marker.Marker0.{Marker0}
 use Rattle.amf0_spelling.specs.declared.marker.Marker0.TheVariants as marker
 use Rattle.amf0_spelling.specs.Markers0.{marker0_at}
@@ -31,7 +31,7 @@ state_size s = weight s.amf3.arena
 abbrev text_size : TextRead0 → ℕ
 text_size x = weight x.state.amf3.arena + 1
 
-abbrev value_size : Read0 → ℕ
+abbrev value_size : ValueRead0 → ℕ
 value_size x = weight x.state.amf3.arena + 1
 
 -- A node changes in its place.
@@ -92,7 +92,7 @@ module _ (v : Reader0) (h : (e : Bool) (s : State0) → Costs value_size (state_
   abbrev two_more : State0 → ℕ
   two_more s = state_size s + 2
 
-  abbrev one_more : Read0 → ℕ
+  abbrev one_more : ValueRead0 → ℕ
   one_more x = value_size x + 1
 
   -- the end of pairs takes bytes too
@@ -105,14 +105,14 @@ module _ (v : Reader0) (h : (e : Bool) (s : State0) → Costs value_size (state_
       (costs_give two_more (one_more w) w.state (omega arith))
       (costs_within two_more (state_size t) (one_more w) (pairs0 v n id t) (let e = name_added x.id w.value id w.state in omega arith) (costs_pairs n id t))))
 
-  abbrev ending : ℕ → State0 → Layout Read0
+  abbrev ending : ℕ → State0 → Layout ValueRead0
   ending id u = give (shut0 id u)
 
   costs_with_pairs : (fuel : ℕ) (s : State0) (head : StoredHead) → bytes_of head ≡ 0 → Costs value_size (state_size s) (with_pairs v fuel s head)
   costs_with_pairs fuel s head none =
       let id = length s.amf3.arena.nodes in
       let t = with_node0 s head in
-      λ fs x r. let k = costs_bind two_more (λ (x : Read0). value_size x + 1) (state_size t) (pairs0 v fuel id t) (ending id) (costs_pairs fuel id t) (λ u. costs_give (λ (x : Read0). value_size x + 1) (two_more u) (shut0 id u) (let e = node_shut id u in omega arith)) fs x r in
+      λ fs x r. let k = costs_bind two_more (λ (x : ValueRead0). value_size x + 1) (state_size t) (pairs0 v fuel id t) (ending id) (costs_pairs fuel id t) (λ u. costs_give (λ (x : ValueRead0). value_size x + 1) (two_more u) (shut0 id u) (let e = node_shut id u in omega arith)) fs x r in
       omega (arith, weight_begun s.amf3.arena head)
 
   costs_with_items : (n : ℕ) (s : State0) → Costs value_size (state_size s + 2) (with_items v n s arena.array)
@@ -167,5 +167,5 @@ costs_value (suc n) e s =
     costs_want value_size (state_size s) (marker0_kind e (length s.nodes)) (λ b. behind0 (value0_layout n) n s (marker0_at (slice_index b 0)))
     (λ b some. costs_within value_size (state_size s + 1) (state_size s + length b) (behind0 (value0_layout n) n s (marker0_at (slice_index b 0))) (omega arith) (costs_behind (value0_layout n) (costs_value n) n s (marker0_at (slice_index b 0))))
 
-pub value0_costs : (n : ℕ) (e : Bool) (s : State0) (fs : List Field) (x : Read0) → Runs (value0_layout n e s) fs x → weight x.state.amf3.arena < weight s.amf3.arena + length (flat fs)
+pub value0_costs : (n : ℕ) (e : Bool) (s : State0) (fs : List Field) (x : ValueRead0) → Runs (value0_layout n e s) fs x → weight x.state.amf3.arena < weight s.amf3.arena + length (flat fs)
 value0_costs n e s fs x r = let c = costs_value n e s fs x r in omega arith

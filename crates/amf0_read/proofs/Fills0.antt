@@ -6,7 +6,7 @@ use Rattle.amf_io.specs.declared.cursor.Cursor.{Cursor}
 use Rattle.amf_io.specs.declared.ends.ReadEnd.{ReadEnd}
 use Rattle.amf_io.specs.declared.ends.ReadEnd.TheVariants as read_end
 use Rattle.amf_io.specs.Cursor.{place}
-use Rattle.amf_io.specs.ReadEnds.{Goes}
+use Rattle.amf_io.specs.ReadEnds.{GoesBy}
 use Rattle.amf_graph.specs.declared.value.Value.{Value as Stored}
 use Rattle.amf_graph.specs.declared.value.NodeId.{NodeId}
 use Rattle.amf_graph.specs.declared.value.Value.TheVariants as value
@@ -19,7 +19,7 @@ use Rattle.amf0_spelling.specs.declared.marker.Marker0.{Marker0}
 use Rattle.amf_fields.specs.Room.{left_of}
 use Rattle.amf3_read.specs.Frames.{Fuel, Enough}
 use Rattle.amf0_read.specs.declared.frame.Todo.{Todo}
-use Rattle.amf0_read.specs.declared.frame.Slot.{Slot}
+use Rattle.amf0_read.specs.declared.frame.Role.{Role}
 use Rattle.amf0_read.specs.declared.frame.Frame.{Frame}
 use Rattle.amf0_read.specs.declared.frame.Now.{Now}
 use Rattle.amf0_read.specs.declared.frame.Now.TheVariants as now
@@ -64,15 +64,15 @@ module _ {S : Type 0} (tells : S → Type 0) (left : S → List ℕ) (faults : S
     pub fills_end : (end : ReadEnd) → ((z : Fuel) → Enough (left_of e) z → GoesOn tells left (todo (value0_layout z.values) z.pairs i.0 q (state0_of b1 u1)) i.0 (state0_of b2 u1) e f (Err end)) → CarriesEnd tells left faults i p b u d f end
     fills_end end h = record { on = λ old es fs a t c s. go_end tells left faults old es a t c b1 u1 e fs i q (so.carries.on old es fs a t c s) b2 f end h }
 
-    pub fills_closed : StillReady0 0 0 b1 b2 u1 e f → left_of f ≤ left_of e → Goes tells left faults e f (Ok step.Closed) → ((z : Fuel) → Enough (left_of e) z → GoesOn tells left (todo (value0_layout z.values) z.pairs i.0 q (state0_of b1 u1)) i.0 (state0_of b2 u1) e f (Ok step.Closed)) → StepHolds b1 b2 i.0 step.Closed
+    pub fills_closed : StillReady0 0 0 b1 b2 u1 e f → left_of f ≤ left_of e → GoesBy tells left faults e f (Ok step.Closed) → ((z : Fuel) → Enough (left_of e) z → GoesOn tells left (todo (value0_layout z.values) z.pairs i.0 q (state0_of b1 u1)) i.0 (state0_of b2 u1) e f (Ok step.Closed)) → StepHolds b1 b2 i.0 step.Closed
         → From b2 u1 f (now.Given (value.Node i)) []
     fills_closed k same g h o = record { on = λ old es fs a t c s. go_closed tells left faults old es a t c b1 u1 e fs i q (so.carries.on old es fs a t c s) b2 f k same g h o }
 
     -- the marker of a value was read
-    module _ (x : Slot) (m : Marker0) (k : StillReady0 1 0 b1 b2 u1 e f) (less : suc (left_of f) ≤ left_of e) (g : Goes tells left faults e f (Ok (step.Wait x m)))
+    module _ (x : Role) (m : Marker0) (k : StillReady0 1 0 b1 b2 u1 e f) (less : suc (left_of f) ≤ left_of e) (g : GoesBy tells left faults e f (Ok (step.Wait x m)))
         (h : (z : Fuel) → Enough (left_of e) z → GoesOn tells left (todo (value0_layout z.values) z.pairs i.0 q (state0_of b1 u1)) i.0 (state0_of b2 u1) e f (Ok (step.Wait x m))) (o : StepHolds b1 b2 i.0 (step.Wait x m)) where
       abbrev frame : Frame
-      frame = record { node = i; slot = x }
+      frame = record { node = i; role = x }
 
       waits : (old : Now) (es fs : List Frame) (a : Arena) (t : KeptTables0) (c : Cursor S Window) → StackSo tells left faults old es a b1 t u1 c e (now.Open i q) fs → StackSo tells left faults old es a b2 t u1 c f (now.Begun m) (frame ∷ fs)
       waits old es fs a t c s = go_wait tells left faults old es a t c b1 u1 e fs i q s b2 f x m k less g h o
@@ -85,17 +85,17 @@ module _ {S : Type 0} (tells : S → Type 0) (left : S → List ℕ) (faults : S
         fills_start_end end y = record { on = λ old es fs a t c s. so_end tells left faults old es a t c b2 u1 f (frame ∷ fs) m (waits old es fs a t c (so.carries.on old es fs a t c s)) b3 u3 j end y }
 
         module _ (k3 : StillReady0 0 1 b2 b3 u3 f j) (same : left_of j ≤ left_of f) where
-          starts : (y : Start) → Goes tells left faults f j (Ok y) → ((v : Reader0) (n : ℕ) → left_of f < n → StartsBy tells left v n (behind0 v n (state0_of b2 u1) (Some m)) (state0_of b3 u3) f j (Ok y)) → StartHolds b2 b3 (left_of j) y
+          starts : (y : Start) → GoesBy tells left faults f j (Ok y) → ((v : Reader0) (n : ℕ) → left_of f < n → StartsBy tells left v n (behind0 v n (state0_of b2 u1) (Some m)) (state0_of b3 u3) f j (Ok y)) → StartHolds b2 b3 (left_of j) y
               → (old : Now) (es fs : List Frame) (a : Arena) (t : KeptTables0) (c : Cursor S Window) → StackSo tells left faults old es a b1 t u1 c e (now.Open i q) fs → StackSo tells left faults old es a b3 t u3 c j (now_of y) (frame ∷ fs)
           starts y g3 h3 o3 old es fs a t c s = so_start tells left faults old es a t c b2 u1 f (frame ∷ fs) m (waits old es fs a t c s) b3 u3 j k3 same y g3 h3 o3
 
           -- a node begins
-          pub fills_within : (n : NodeId) (r : Todo) → Goes tells left faults f j (Ok (start.Open n r)) → ((v : Reader0) (k : ℕ) → left_of f < k → StartsBy tells left v k (behind0 v k (state0_of b2 u1) (Some m)) (state0_of b3 u3) f j (Ok (start.Open n r))) → StartHolds b2 b3 (left_of j) (start.Open n r)
+          pub fills_within : (n : NodeId) (r : Todo) → GoesBy tells left faults f j (Ok (start.Open n r)) → ((v : Reader0) (k : ℕ) → left_of f < k → StartsBy tells left v k (behind0 v k (state0_of b2 u1) (Some m)) (state0_of b3 u3) f j (Ok (start.Open n r))) → StartHolds b2 b3 (left_of j) (start.Open n r)
               → From b3 u3 j (now.Open n r) (frame ∷ [])
           fills_within n r g3 h3 o3 = record { on = λ old es fs a t c s. starts (start.Open n r) g3 h3 o3 old es fs a t c (so.carries.on old es fs a t c s) }
 
           -- a value was read, and is put into the node
-          module _ (v : Stored) (g3 : Goes tells left faults f j (Ok (start.Value v))) (h3 : (w : Reader0) (n : ℕ) → left_of f < n → StartsBy tells left w n (behind0 w n (state0_of b2 u1) (Some m)) (state0_of b3 u3) f j (Ok (start.Value v))) (o3 : StartHolds b2 b3 (left_of j) (start.Value v)) where
+          module _ (v : Stored) (g3 : GoesBy tells left faults f j (Ok (start.Value v))) (h3 : (w : Reader0) (n : ℕ) → left_of f < n → StartsBy tells left w n (behind0 w n (state0_of b2 u1) (Some m)) (state0_of b3 u3) f j (Ok (start.Value v))) (o3 : StartHolds b2 b3 (left_of j) (start.Value v)) where
             given : (old : Now) (es fs : List Frame) (a : Arena) (t : KeptTables0) (c : Cursor S Window) → StackSo tells left faults old es a b1 t u1 c e (now.Open i q) fs → StackSo tells left faults old es a b3 t u3 c j (now.Given v) (frame ∷ fs)
             given = starts (start.Value v) g3 h3 o3
 

@@ -5,7 +5,7 @@ use Rattle.amf_io.specs.declared.window.Window.{Window}
 use Rattle.amf_io.specs.declared.cursor.Cursor.{Cursor}
 use Rattle.amf_io.specs.declared.ends.ReadEnd.{ReadEnd}
 use Rattle.amf_io.specs.Layout.{Layout, give, bind}
-use Rattle.amf_io.specs.ReadEnds.{IsPlaced, Goes}
+use Rattle.amf_io.specs.ReadEnds.{IsPlaced, GoesBy}
 use Rattle.amf_io.specs.CursorReads.{Answers, Ends, Leads}
 use Rattle.amf_io.proofs.CursorReads.{leads_nowhere, leads_behind, leads_on, leads_end, end_reads}
 use Rattle.amf_graph.specs.declared.value.TextId.{TextId}
@@ -17,13 +17,13 @@ use Rattle.amf3_layout.proofs.Reader3States.{shut_state}
 use Rattle.amf0_spelling.specs.KeptTables0.{KeptTables0}
 use Rattle.amf0_spelling.specs.Segments0.{is_empty}
 use Rattle.amf0_layout.specs.Layout0State.{State0, state0_of, changed0}
-use Rattle.amf0_layout.specs.Layout0.{TextRead0, Read0, read0, Reader0, short_layout, items0, pairs0, shut0, behind0, value0_layout}
+use Rattle.amf0_layout.specs.Layout0.{TextRead0, ValueRead0, read0, Reader0, short_layout, items0, pairs0, shut0, behind0, value0_layout}
 use Rattle.amf_fields.specs.Room.{left_of}
 use Rattle.amf3_read.specs.Frames.{Fuel, Enough}
 use Rattle.amf_fields.proofs.LayoutBinds.{bind_bind, bind_same}
 use Rattle.amf3_read.proofs.Stack.{leads_bound}
 use Rattle.amf0_read.specs.declared.frame.Todo.TheVariants.{Items, Pairs}
-use Rattle.amf0_read.specs.declared.frame.Slot.TheVariants.{Item, Named}
+use Rattle.amf0_read.specs.declared.frame.Role.TheVariants.{Item, Named}
 use Rattle.amf0_read.specs.declared.frame.Now.TheVariants as now
 use Rattle.amf0_spelling.specs.declared.marker.Marker0.{Marker0}
 use Rattle.amf0_read.specs.declared.fill.Step.TheVariants as step
@@ -41,7 +41,7 @@ bind_if : {X Y : Type 0} (b : Bool) (x : X) (t : Layout X) (f : X → Layout Y) 
 bind_if true x t f = refl
 bind_if false x t f = refl
 
-abbrev pair_behind : Reader0 → ℕ → ℕ → TextRead0 → Layout Read0
+abbrev pair_behind : Reader0 → ℕ → ℕ → TextRead0 → Layout ValueRead0
 pair_behind v q i x = bind (v (is_empty x.bytes) x.state) (resume v q i (Named (record { 0 = x.id })))
 
 -- a name, its value, and what is behind it
@@ -59,14 +59,14 @@ shut_is i a b t e = ap (λ z. read0 (value.Node (record { 0 = i })) (state_with 
 
 module _ {S : Type 0} (tells : S → Type 0) (left : S → List ℕ) (faults : S → ℕ) where
   -- a marker was read where a value comes next
-  pub marker_leads : (k : ℕ) (may_end : Bool) (s : State0) (next : Read0 → Layout Read0) {X : Type 0} (view : X → Option Marker0) (c d : Cursor S Window) (m : X) → Answers tells left view (marker_layout may_end (length s.nodes)) c d (Ok m)
+  pub marker_leads : (k : ℕ) (may_end : Bool) (s : State0) (next : ValueRead0 → Layout ValueRead0) {X : Type 0} (view : X → Option Marker0) (c d : Cursor S Window) (m : X) → Answers tells left view (marker_layout may_end (length s.nodes)) c d (Ok m)
       → Leads tells left (bind (value0_layout (suc k) may_end s) next) (bind (behind0 (value0_layout k) k s (view m)) next) c d
   marker_leads k may_end s next view c d m a =
       leads_bound tells left faults (value0_layout (suc k) may_end s) (behind0 (value0_layout k) k s (view m)) next c d
       (leads_behind tells left faults view (marker_layout may_end (length s.nodes)) (behind0 (value0_layout k) k s) c d m a)
 
   -- or nothing was
-  pub marker_ends : (k : ℕ) (may_end : Bool) (s : State0) (next : Read0 → Layout Read0) (c d : Cursor S Window) (e : ReadEnd) → Ends tells left (marker_layout may_end (length s.nodes)) c d e → Ends tells left (bind (value0_layout (suc k) may_end s) next) c d e
+  pub marker_ends : (k : ℕ) (may_end : Bool) (s : State0) (next : ValueRead0 → Layout ValueRead0) (c d : Cursor S Window) (e : ReadEnd) → Ends tells left (marker_layout may_end (length s.nodes)) c d e → Ends tells left (bind (value0_layout (suc k) may_end s) next) c d e
   marker_ends k may_end s next c d e a =
       end_reads tells left faults (value0_layout (suc k) may_end s) next c d e (end_reads tells left faults (marker_layout may_end (length s.nodes)) (behind0 (value0_layout k) k s) c d e a)
 
@@ -102,7 +102,7 @@ module _ {S : Type 0} (tells : S → Type 0) (left : S → List ℕ) (faults : S
         by zero l = absurd (omega arith)
         by (suc q) l = subst (λ l. Ends tells left l c d e) (sym (todo_pair (value0_layout f.values) q i (state0_of a t))) (end_reads tells left faults (short_layout (state0_of a t)) (pair_behind (value0_layout f.values) q i) c d e h)
 
-    module _ (x : TextId) (g : Goes tells left faults c d (Ok x)) (y : Answers tells left (text_read b t) (short_layout (state0_of a t)) c d (Ok x)) (may_end : Bool) (is : is_empty (text_at b x.0) ≡ may_end) (e : Cursor S Window) where
+    module _ (x : TextId) (g : GoesBy tells left faults c d (Ok x)) (y : Answers tells left (text_read b t) (short_layout (state0_of a t)) c d (Ok x)) (may_end : Bool) (is : is_empty (text_at b x.0) ≡ may_end) (e : Cursor S Window) where
       named_leads : (v : Reader0) (q : ℕ) → Leads tells left (todo v (suc q) i Pairs (state0_of a t)) (bind (v may_end (state0_of b t)) (resume v q i (Named x))) c d
       named_leads v q =
           subst (λ o. Leads tells left (todo v (suc q) i Pairs (state0_of a t)) (bind (v o (state0_of b t)) (resume v q i (Named x))) c d) is

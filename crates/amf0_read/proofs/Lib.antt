@@ -8,8 +8,8 @@ mod Starts0
 mod FieldReads0
 mod NodeStarts0
 mod Closes0
-mod Fronts0
-mod FrontStarts0
+mod Beginnings0
+mod BeginningStarts0
 pub mod Costs0
 mod ReadAnswers0
 pub mod ValueReads0

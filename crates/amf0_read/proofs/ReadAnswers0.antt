@@ -4,7 +4,7 @@ use Rattle.amf_io.specs.declared.window.Window.{Window}
 use Rattle.amf_io.specs.declared.cursor.Cursor.{Cursor}
 use Rattle.amf_io.specs.declared.ends.ReadEnd.{ReadEnd}
 use Rattle.amf_io.specs.Cursor.{source_of, place, bound, unread}
-use Rattle.amf_io.specs.ReadEnds.{Goes}
+use Rattle.amf_io.specs.ReadEnds.{GoesBy}
 use Rattle.amf_io.specs.CursorReads.{Answers, Ends}
 use Rattle.amf_io.specs.Field.{flat}
 use Rattle.amf_io.specs.Layout.{Layout, IsLayout, bind}
@@ -15,7 +15,7 @@ use Rattle.amf0_spelling.specs.KeptTables0.{KeptTables0, AreTables0In}
 use Rattle.amf0_spelling.specs.Reads0.{IsReading0}
 use Rattle.amf0_spelling.specs.Form.{IsForm}
 use Rattle.amf0_layout.specs.Layout0State.{state0_of}
-use Rattle.amf0_layout.specs.Layout0.{Read0, read0, value0_layout}
+use Rattle.amf0_layout.specs.Layout0.{ValueRead0, read0, value0_layout}
 use Rattle.amf0_layout.proofs.Layout0Format.{reads0, is_layout0}
 use Rattle.amf_io.specs.Stretch.{between}
 use Rattle.amf_fields.specs.Room.{Raises, left_of}
@@ -26,10 +26,10 @@ use Rattle.amf0_read.specs.declared.frame.Now.{Now}
 use Rattle.amf0_read.specs.declared.formed.Read0.{Read0 as Formed}
 use Rattle.amf0_read.specs.Answer0.{Answers0, IsReadWith}
 use Rattle.amf0_read.specs.Ready0.{StillReady0}
-use Rattle.amf0_read.specs.Fronts0.{TellsCall, BeginsBy, form_of}
+use Rattle.amf0_read.specs.Beginnings0.{TellsCall, BeginsBy, form_of}
 use Rattle.amf0_read.specs.Frames0.{current, rest}
 use Rattle.amf_io.proofs.CursorReads.{leads_end}
-use Rattle.amf0_read.proofs.Fronts0.{with_done}
+use Rattle.amf0_read.proofs.Beginnings0.{with_done}
 use Rattle.amf0_read.proofs.Costs0.{value0_costs}
 
 is_form : (is_call switched : Bool) (b more : List ℕ) → TellsCall is_call b → (x : List ℕ) → x ≡ b ++ more → IsForm (form_of is_call switched) switched x
@@ -38,7 +38,7 @@ is_form false true b more h x e = (refl, λ y. h more (sym (ap (take 6) e) ∙ y
 is_form false false b more h x e = refl
 
 module _ {S : Type 0} (tells : S → Type 0) (left : S → List ℕ) (faults : S → ℕ) (a b : Arena) (t u : KeptTables0) (built : IsBuilt a) (v : AreTables0In a t) (c d : Cursor S Window) where
-  abbrev first : ℕ → Layout Read0
+  abbrev first : ℕ → Layout ValueRead0
   first n = value0_layout n false (state0_of a t)
 
   layouts : IsLayout first (IsReading0 a t)
@@ -72,8 +72,8 @@ module _ {S : Type 0} (tells : S → Type 0) (left : S → List ℕ) (faults : S
   passed (Err x) e is h = subst (λ w. Answers0 a b t u (between tells left c d) (Err w)) (sym is) h
 
   -- what was read first, and then the rest
-  module _ {X : Type 0} (b1 : Arena) (u1 : KeptTables0) (x : X) (is_call : Bool) (now : Now) (fs : List Frame) (m : Cursor S Window) (n : ℕ) (g : Goes tells left faults c m (Ok x)) (y : BeginsBy tells left (first n) [] is_call now fs (state0_of b1 u1) c m) where
-    abbrev behind : Layout Read0
+  module _ {X : Type 0} (b1 : Arena) (u1 : KeptTables0) (x : X) (is_call : Bool) (now : Now) (fs : List Frame) (m : Cursor S Window) (n : ℕ) (g : GoesBy tells left faults c m (Ok x)) (y : BeginsBy tells left (first n) [] is_call now fs (state0_of b1 u1) c m) where
+    abbrev behind : Layout ValueRead0
     behind = bind (current y.fuel now (state0_of b1 u1)) (rest y.fuels fs)
 
     pub whole_ended : place c ≤ bound c → left_of c < n → (e : ReadEnd) → Ends tells left behind m d e → Answers0 a b t u (between tells left c d) (Err e)

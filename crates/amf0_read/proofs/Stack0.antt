@@ -6,7 +6,7 @@ use Rattle.amf_io.specs.declared.window.Window.{Window}
 use Rattle.amf_io.specs.declared.cursor.Cursor.{Cursor}
 use Rattle.amf_io.specs.declared.ends.ReadEnd.{ReadEnd}
 use Rattle.amf_io.specs.Layout.{Layout, give, bind}
-use Rattle.amf_io.specs.ReadEnds.{Goes}
+use Rattle.amf_io.specs.ReadEnds.{GoesBy}
 use Rattle.amf_io.specs.CursorReads.{Answers, Ends, Leads}
 use Rattle.amf_io.proofs.CursorReads.{goes_nowhere, goes_then, goes_other, leads_nowhere, leads_answers, leads_behind, leads_on, leads_end, end_reads}
 use Rattle.amf_graph.specs.declared.value.Value.{Value as Stored}
@@ -22,9 +22,9 @@ use Rattle.amf3_layout.proofs.Reader3Tables.{grows_itself, text_id_after_growth}
 use Rattle.amf3_layout.proofs.Reader3States.{more_value_state, more_name_state}
 use Rattle.amf0_spelling.specs.KeptTables0.{KeptTables0, AreTables0In}
 use Rattle.amf0_layout.specs.Layout0State.{State0, state0_of}
-use Rattle.amf0_layout.specs.Layout0.{Read0, read0, Reader0, behind0, value0_layout}
+use Rattle.amf0_layout.specs.Layout0.{ValueRead0, read0, Reader0, behind0, value0_layout}
 use Rattle.amf3_read.specs.declared.opening.Parts.TheVariants as parts
-use Rattle.amf3_read.specs.declared.frame.Slot.TheVariants as slot3
+use Rattle.amf3_read.specs.declared.frame.Role.TheVariants as role3
 use Rattle.amf3_read.specs.Filling.{with_more, IsOpened}
 use Rattle.amf_fields.specs.Room.{left_of}
 use Rattle.amf3_read.specs.Frames.{Fuel, Enough}
@@ -32,8 +32,8 @@ use Rattle.amf_fields.proofs.LayoutBinds.{bind_bind}
 use Rattle.amf3_read.proofs.PartPut.{part_names, part_values, more_size, stays, same_head, put_node, put_built, put_tables, put_opened, put_head, put_nodes}
 use Rattle.amf3_read.proofs.Stack.{opened_less, opened_grown, suits_more, takes, enough_less, leads_bound}
 use Rattle.amf0_read.specs.declared.frame.Todo.{Todo}
-use Rattle.amf0_read.specs.declared.frame.Slot.{Slot}
-use Rattle.amf0_read.specs.declared.frame.Slot.TheVariants.{Item, Named}
+use Rattle.amf0_read.specs.declared.frame.Role.{Role}
+use Rattle.amf0_read.specs.declared.frame.Role.TheVariants.{Item, Named}
 use Rattle.amf0_read.specs.declared.frame.Frame.{Frame}
 use Rattle.amf0_read.specs.declared.frame.Now.{Now}
 use Rattle.amf0_read.specs.declared.frame.Now.TheVariants as now
@@ -42,7 +42,7 @@ use Rattle.amf0_read.specs.declared.node.Start.{Start}
 use Rattle.amf0_read.specs.declared.node.Start.TheVariants as start
 use Rattle.amf0_read.specs.declared.fill.Step.TheVariants as step
 use Rattle.amf0_read.specs.Ready0.{Ready0, StillReady0}
-use Rattle.amf0_read.specs.Frames0.{part_of, todo_behind, todo, resume, rest, current, HaveFuel, Lacks, LacksFor, SlotNames, Nested, Holds, now_of, StartsBy, StartHolds, GoesOn, StepHolds, owed, IsAt, StackSo}
+use Rattle.amf0_read.specs.Frames0.{part_of, todo_behind, todo, resume, rest, current, HaveFuel, Lacks, LacksFor, RoleNames, Nested, Holds, now_of, StartsBy, StartHolds, GoesOn, StepHolds, owed, IsAt, StackSo}
 
 -- The frames below are left alone.
 
@@ -58,9 +58,9 @@ nested_less left more (f ∷ fs) b le h = record {
   lacks = h.lacks;
 }
 
-slot_names : (a b : Arena) → Grows a b → (x : Slot) → SlotNames a x → SlotNames b x
-slot_names a b g (Item n) h = tt
-slot_names a b g (Named x) h = text_id_after_growth a b g x.0 h
+role_names : (a b : Arena) → Grows a b → (x : Role) → RoleNames a x → RoleNames b x
+role_names a b g (Item n) h = tt
+role_names a b g (Named x) h = text_id_after_growth a b g x.0 h
 
 -- what is closed and new behind the innermost node leaves all of them
 pub nested_grows : (left : ℕ) (fs : List Frame) (b b1 : Arena) → IsBuilt b → Grows b b1 → Nested left fs b → Nested left fs b1
@@ -70,8 +70,8 @@ nested_grows left (f ∷ fs) b b1 k g h =
     let o = h.over.opened in
     record {
       over = record { opened = opened_grown b b1 i left g o; below = h.over.below; built = h.over.built };
-      names = slot_names b b1 g f.slot h.names;
-      lacks = subst (λ x. LacksFor x (stored_at b1 i) f.slot) (sym (same_head i left b b1 o g k)) (subst (λ m. LacksFor (head_content b (stored_at b i).head) m f.slot) (sym (stays i left b b1 o g)) h.lacks);
+      names = role_names b b1 g f.role h.names;
+      lacks = subst (λ x. LacksFor x (stored_at b1 i) f.role) (sym (same_head i left b b1 o g k)) (subst (λ m. LacksFor (head_content b (stored_at b i).head) m f.role) (sym (stays i left b b1 o g)) h.lacks);
     }
 
 fueled_less : (left more : ℕ) (us : List Fuel) (fs : List Frame) → left ≤ more → HaveFuel more us fs → HaveFuel left us fs
@@ -82,19 +82,19 @@ fueled_less left more (u ∷ us) (f ∷ fs) le h = (enough_less left more u le h
 -- A value is put into its node.
 
 -- what the node lacks then
-lacks_more : (h : graph.Head) (m : StoredNode) (x : Slot) (v : Stored) → LacksFor h m x → Lacks h (with_more m (part_names (part_of x v)) (part_values (part_of x v))) (todo_behind x)
-lacks_more h m (Item n) v w = suits_more h m slot3.Item (parts.Items n) v (part.Item v) refl w
-lacks_more h m (Named y) v (inl w) = inl (suits_more h m (slot3.Named y) (parts.Array 0) v (part.Named y v) refl w)
-lacks_more h m (Named y) v (inr w) = inr (suits_more h m (slot3.Named y) (parts.Object 0 true) v (part.Named y v) refl w)
+lacks_more : (h : graph.Head) (m : StoredNode) (x : Role) (v : Stored) → LacksFor h m x → Lacks h (with_more m (part_names (part_of x v)) (part_values (part_of x v))) (todo_behind x)
+lacks_more h m (Item n) v w = suits_more h m role3.Item (parts.Items n) v (part.Item v) refl w
+lacks_more h m (Named y) v (inl w) = inl (suits_more h m (role3.Named y) (parts.Array 0) v (part.Named y v) refl w)
+lacks_more h m (Named y) v (inr w) = inr (suits_more h m (role3.Named y) (parts.Object 0 true) v (part.Named y v) refl w)
 
 -- its kind takes the part
-takes_part : (h : graph.Head) (m : StoredNode) (x : Slot) (v : Stored) → LacksFor h m x → Takes h (length m.values) (part_of x v)
-takes_part h m (Item n) v w = takes h m slot3.Item (parts.Items n) v (part.Item v) refl w
-takes_part h m (Named y) v (inl w) = takes h m (slot3.Named y) (parts.Array 0) v (part.Named y v) refl w
-takes_part h m (Named y) v (inr w) = takes h m (slot3.Named y) (parts.Object 0 true) v (part.Named y v) refl w
+takes_part : (h : graph.Head) (m : StoredNode) (x : Role) (v : Stored) → LacksFor h m x → Takes h (length m.values) (part_of x v)
+takes_part h m (Item n) v w = takes h m role3.Item (parts.Items n) v (part.Item v) refl w
+takes_part h m (Named y) v (inl w) = takes h m (role3.Named y) (parts.Array 0) v (part.Named y v) refl w
+takes_part h m (Named y) v (inr w) = takes h m (role3.Named y) (parts.Object 0 true) v (part.Named y v) refl w
 
 -- which is no more than a byte
-part_small : (x : Slot) (v : Stored) → length (part_names (part_of x v)) + length (part_values (part_of x v)) ≡ 1
+part_small : (x : Role) (v : Stored) → length (part_names (part_of x v)) + length (part_values (part_of x v)) ≡ 1
 part_small (Item n) v = refl
 part_small (Named y) v = refl
 
@@ -103,11 +103,11 @@ abbrev state_with : KeptTables0 → State3 → State0
 state_with u z = record { amf3 = z; nodes = u.nodes; switched = u.switched }
 
 -- what follows the value is what follows the part
-resumed : (b : Arena) (u : KeptTables0) (v : Stored) (b2 : Arena) (i : ℕ) (x : Slot) → b2 ≡ changed_arena (more_part (part_of x v)) i b → (w : Reader0) (m : ℕ) → resume w m i x (read0 v (state0_of b u)) ≡ todo w m i (todo_behind x) (state0_of b2 u)
+resumed : (b : Arena) (u : KeptTables0) (v : Stored) (b2 : Arena) (i : ℕ) (x : Role) → b2 ≡ changed_arena (more_part (part_of x v)) i b → (w : Reader0) (m : ℕ) → resume w m i x (read0 v (state0_of b u)) ≡ todo w m i (todo_behind x) (state0_of b2 u)
 resumed b u v b2 i (Item n) e w m = ap (λ z. todo w m i (todo_behind (Item n)) (state_with u z)) (sym (ap (λ z. state_of z u.amf3) e ∙ more_value_state v i b u.amf3))
 resumed b u v b2 i (Named y) e w m = ap (λ z. todo w m i (todo_behind (Named y)) (state_with u z)) (sym (ap (λ z. state_of z u.amf3) e ∙ more_name_state y.0 v i b u.amf3))
 
-part_names_there : (b : Arena) (x : Slot) (v : Stored) → SlotNames b x → Names b v → PartNames b (part_of x v)
+part_names_there : (b : Arena) (x : Role) (v : Stored) → RoleNames b x → Names b v → PartNames b (part_of x v)
 part_names_there b (Item n) v h k = k
 part_names_there b (Named y) v h k = (h, k)
 
@@ -155,7 +155,7 @@ are_tables o a t c r = record { amf3 = r.amf3.tables; nodes = r.nodes; distinct 
 
 module _ {S : Type 0} (tells : S → Type 0) (left : S → List ℕ) (faults : S → ℕ) (old : Now) (es : List Frame) (a : Arena) (t : KeptTables0) (c : Cursor S Window) where
   -- what was to be read first
-  abbrev first : Fuel → List Fuel → Layout Read0
+  abbrev first : Fuel → List Fuel → Layout ValueRead0
   first fuel fuels = bind (current fuel old (state0_of a t)) (rest fuels es)
 
   pub so_begin : Ready0 (owed old) a t c → Holds (left_of c) old es a → StackSo tells left faults old es a a t t c c old es
@@ -178,7 +178,7 @@ module _ {S : Type 0} (tells : S → Type 0) (left : S → List ℕ) (faults : S
           (end_reads tells left faults w (rest y.fuels fs) d e end (h (value0_layout y.fuel.values) y.fuel.pairs y.enough.1))
 
       module _ (k : StillReady0 0 1 b b1 u1 d e) (same : left_of e ≤ left_of d) where
-        so_value : (v : Stored) → Goes tells left faults d e (Ok (start.Value v)) → ((w : Reader0) (n : ℕ) → left_of d < n → StartsBy tells left w n (behind0 w n (state0_of b u) (Some m)) (state0_of b1 u1) d e (Ok (start.Value v))) → StartHolds b b1 (left_of e) (start.Value v)
+        so_value : (v : Stored) → GoesBy tells left faults d e (Ok (start.Value v)) → ((w : Reader0) (n : ℕ) → left_of d < n → StartsBy tells left w n (behind0 w n (state0_of b u) (Some m)) (state0_of b1 u1) d e (Ok (start.Value v))) → StartHolds b b1 (left_of e) (start.Value v)
             → StackSo tells left faults old es a b1 t u1 c e (now.Given v) fs
         so_value v g h (names, grows) = record {
           goes = goes_then tells left faults c d e tt (Ok tt) so.goes (goes_other tells left faults d e (start.Value v) tt g);
@@ -198,7 +198,7 @@ module _ {S : Type 0} (tells : S → Type 0) (left : S → List ℕ) (faults : S
               };
         }
 
-        so_open : (i : NodeId) (p : Todo) → Goes tells left faults d e (Ok (start.Open i p)) → ((w : Reader0) (n : ℕ) → left_of d < n → StartsBy tells left w n (behind0 w n (state0_of b u) (Some m)) (state0_of b1 u1) d e (Ok (start.Open i p))) → StartHolds b b1 (left_of e) (start.Open i p)
+        so_open : (i : NodeId) (p : Todo) → GoesBy tells left faults d e (Ok (start.Open i p)) → ((w : Reader0) (n : ℕ) → left_of d < n → StartsBy tells left w n (behind0 w n (state0_of b u) (Some m)) (state0_of b1 u1) d e (Ok (start.Open i p))) → StartHolds b b1 (left_of e) (start.Open i p)
             → StackSo tells left faults old es a b1 t u1 c e (now.Open i p) fs
         so_open i p g h o = record {
           goes = goes_then tells left faults c d e tt (Ok tt) so.goes (goes_other tells left faults d e (start.Open i p) tt g);
@@ -226,14 +226,14 @@ module _ {S : Type 0} (tells : S → Type 0) (left : S → List ℕ) (faults : S
               };
         }
 
-        pub so_start : (x : Start) → Goes tells left faults d e (Ok x) → ((w : Reader0) (n : ℕ) → left_of d < n → StartsBy tells left w n (behind0 w n (state0_of b u) (Some m)) (state0_of b1 u1) d e (Ok x)) → StartHolds b b1 (left_of e) x
+        pub so_start : (x : Start) → GoesBy tells left faults d e (Ok x) → ((w : Reader0) (n : ℕ) → left_of d < n → StartsBy tells left w n (behind0 w n (state0_of b u) (Some m)) (state0_of b1 u1) d e (Ok x)) → StartHolds b b1 (left_of e) x
             → StackSo tells left faults old es a b1 t u1 c e (now_of x) fs
         so_start (start.Value v) g h o = so_value v g h o
         so_start (start.Open i p) g h o = so_open i p g h o
 
     -- a node is open
     module _ (i : NodeId) (p : Todo) (so : StackSo tells left faults old es a b t u c d (now.Open i p) fs) (b1 : Arena) (e : Cursor S Window) where
-      abbrev still : Fuel → Layout Read0
+      abbrev still : Fuel → Layout ValueRead0
       still f = todo (value0_layout f.values) f.pairs i.0 p (state0_of b u)
 
       pub go_end : (end : ReadEnd) → ((f : Fuel) → Enough (left_of d) f → GoesOn tells left (still f) i.0 (state0_of b1 u) d e (Err end)) → (fuel : Fuel) (fuels : List Fuel) → Enough (left_of c) fuel → HaveFuel (left_of c) fuels es → Ends tells left (first fuel fuels) c e end
@@ -242,8 +242,8 @@ module _ {S : Type 0} (tells : S → Type 0) (left : S → List ℕ) (faults : S
           leads_end tells left faults (first fuel fuels) (bind (still y.fuel) (rest y.fuels fs)) c d e tt end so.goes y.leads
           (end_reads tells left faults (still y.fuel) (rest y.fuels fs) d e end (h y.fuel y.enough))
 
-      pub go_wait : (x : Slot) (m : Marker0) → StillReady0 1 0 b b1 u d e → suc (left_of e) ≤ left_of d → Goes tells left faults d e (Ok (step.Wait x m)) → ((f : Fuel) → Enough (left_of d) f → GoesOn tells left (still f) i.0 (state0_of b1 u) d e (Ok (step.Wait x m))) → StepHolds b b1 i.0 (step.Wait x m)
-          → StackSo tells left faults old es a b1 t u c e (now.Begun m) (record { node = i; slot = x } ∷ fs)
+      pub go_wait : (x : Role) (m : Marker0) → StillReady0 1 0 b b1 u d e → suc (left_of e) ≤ left_of d → GoesBy tells left faults d e (Ok (step.Wait x m)) → ((f : Fuel) → Enough (left_of d) f → GoesOn tells left (still f) i.0 (state0_of b1 u) d e (Ok (step.Wait x m))) → StepHolds b b1 i.0 (step.Wait x m)
+          → StackSo tells left faults old es a b1 t u c e (now.Begun m) (record { node = i; role = x } ∷ fs)
       go_wait x m k less g h (grows, names, lacks) = record {
         goes = goes_then tells left faults c d e tt (Ok tt) so.goes (goes_other tells left faults d e (step.Wait x m) tt g);
         ready = ready_on 0 1 b b1 u u d e so.ready k;
@@ -272,7 +272,7 @@ module _ {S : Type 0} (tells : S → Type 0) (left : S → List ℕ) (faults : S
             };
       }
 
-      pub go_closed : StillReady0 0 0 b b1 u d e → left_of e ≤ left_of d → Goes tells left faults d e (Ok step.Closed) → ((f : Fuel) → Enough (left_of d) f → GoesOn tells left (still f) i.0 (state0_of b1 u) d e (Ok step.Closed)) → StepHolds b b1 i.0 step.Closed
+      pub go_closed : StillReady0 0 0 b b1 u d e → left_of e ≤ left_of d → GoesBy tells left faults d e (Ok step.Closed) → ((f : Fuel) → Enough (left_of d) f → GoesOn tells left (still f) i.0 (state0_of b1 u) d e (Ok step.Closed)) → StepHolds b b1 i.0 step.Closed
           → StackSo tells left faults old es a b1 t u c e (now.Given (value.Node i)) fs
       go_closed k same g h (there, closes) =
           let o = so.holds.over in
@@ -283,7 +283,7 @@ module _ {S : Type 0} (tells : S → Type 0) (left : S → List ℕ) (faults : S
             holds = (nested_grows (suc (left_of e)) fs o.opened.before b1 o.built (closes o.opened.before (stored_at b i.0) o.opened.place o.opened.within) (nested_less (suc (left_of e)) (suc (left_of d)) fs o.opened.before (omega arith) o.below), there);
             at = λ fuel fuels lt f.
                 let y = so.at fuel fuels lt f in
-                let next : Layout Read0 = give (read0 (value.Node (record { 0 = i.0 })) (state0_of b1 u)) in
+                let next : Layout ValueRead0 = give (read0 (value.Node (record { 0 = i.0 })) (state0_of b1 u)) in
                 record {
                   fuel = y.fuel;
                   fuels = y.fuels;
@@ -298,16 +298,16 @@ module _ {S : Type 0} (tells : S → Type 0) (left : S → List ℕ) (faults : S
       abbrev o : IsOpened b f.node.0 (suc (left_of d))
       o = so.holds.0.over.opened
 
-      pub put_room : HasRoom b (stored_at b f.node.0) (part_of f.slot v)
-      put_room = takes_part (head_content b (stored_at b f.node.0).head) (stored_at b f.node.0) f.slot v so.holds.0.lacks
+      pub put_room : HasRoom b (stored_at b f.node.0) (part_of f.role v)
+      put_room = takes_part (head_content b (stored_at b f.node.0).head) (stored_at b f.node.0) f.role v so.holds.0.lacks
 
-      pub put_there : PartNames b (part_of f.slot v)
-      put_there = part_names_there b f.slot v so.holds.0.names so.holds.1
+      pub put_there : PartNames b (part_of f.role v)
+      put_there = part_names_there b f.role v so.holds.0.names so.holds.1
 
-      pub so_put : (b2 : Arena) → b2 ≡ changed_arena (more_part (part_of f.slot v)) f.node.0 b → StackSo tells left faults old es a b2 t u c d (now.Open f.node (todo_behind f.slot)) fs
+      pub so_put : (b2 : Arena) → b2 ≡ changed_arena (more_part (part_of f.role v)) f.node.0 b → StackSo tells left faults old es a b2 t u c d (now.Open f.node (todo_behind f.role)) fs
       so_put b2 e =
           let i = f.node.0 in
-          let p = part_of f.slot v in
+          let p = part_of f.role v in
           let l = suc (left_of d) in
           let g = grows_itself b in
           let node = put_node i l b b o g p b2 e in
@@ -328,23 +328,23 @@ module _ {S : Type 0} (tells : S → Type 0) (left : S → List ℕ) (faults : S
             still_ready = record { built = built; tables = whole; placed = so.ready.amf3.placed; texts = let x = so.still_ready.texts in omega arith; traits = let x = so.still_ready.traits in omega arith; nodes = let x = so.still_ready.nodes in omega arith };
             holds = record {
               over = record {
-                opened = put_opened i l b b o g p b2 e (left_of d) (let s = more_size (stored_at b i) (part_names p) (part_values p) in let n = ap size_of node in let k = part_small f.slot v in omega arith);
+                opened = put_opened i l b b o g p b2 e (left_of d) (let s = more_size (stored_at b i) (part_names p) (part_values p) in let n = ap size_of node in let k = part_small f.role v in omega arith);
                 below = nested_less (suc (left_of d)) (suc (suc (left_of d))) fs o.before (omega arith) so.holds.0.over.below;
                 built = so.holds.0.over.built;
               };
-              lacks = subst (λ h. Lacks h (stored_at b2 i) (todo_behind f.slot)) (sym (put_head i l b b o g p b2 e so.ready.amf3.built)) (subst (λ m. Lacks (head_content b (stored_at b i).head) m (todo_behind f.slot)) (sym node) (lacks_more (head_content b (stored_at b i).head) (stored_at b i) f.slot v so.holds.0.lacks));
+              lacks = subst (λ h. Lacks h (stored_at b2 i) (todo_behind f.role)) (sym (put_head i l b b o g p b2 e so.ready.amf3.built)) (subst (λ m. Lacks (head_content b (stored_at b i).head) m (todo_behind f.role)) (sym node) (lacks_more (head_content b (stored_at b i).head) (stored_at b i) f.role v so.holds.0.lacks));
             };
             at = λ fuel fuels lt h. let y = so.at fuel fuels lt h in by fuel fuels y.fuels y.fueled y.leads;
           }
         where
-          by : (fuel : Fuel) (fuels us : List Fuel) → HaveFuel (left_of d) us (f ∷ fs) → Leads tells left (first fuel fuels) (rest us (f ∷ fs) (read0 v (state0_of b u))) c d → IsAt tells left (first fuel fuels) (now.Open f.node (todo_behind f.slot)) fs (state0_of b2 u) c d
+          by : (fuel : Fuel) (fuels us : List Fuel) → HaveFuel (left_of d) us (f ∷ fs) → Leads tells left (first fuel fuels) (rest us (f ∷ fs) (read0 v (state0_of b u))) c d → IsAt tells left (first fuel fuels) (now.Open f.node (todo_behind f.role)) fs (state0_of b2 u) c d
           by fuel fuels [] h l = absurd h
           by fuel fuels (z ∷ us) h l = record {
             fuel = z;
             fuels = us;
             enough = h.0;
             fueled = h.1;
-            leads = subst (λ w. Leads tells left (first fuel fuels) (bind w (rest us fs)) c d) (resumed b u v b2 f.node.0 f.slot e (value0_layout z.values) z.pairs) l;
+            leads = subst (λ w. Leads tells left (first fuel fuels) (bind w (rest us fs)) c d) (resumed b u v b2 f.node.0 f.role e (value0_layout z.values) z.pairs) l;
           }
 
   -- a value was read, and no node is open

@@ -7,7 +7,7 @@ use Rattle.amf_io.specs.declared.ends.ReadEnd.{ReadEnd}
 use Rattle.amf_io.specs.Cursor.{place, bound}
 use Rattle.amf_io.specs.Field.{text_kind}
 use Rattle.amf_io.specs.Layout.{give}
-use Rattle.amf_io.specs.ReadEnds.{IsPlaced, Goes}
+use Rattle.amf_io.specs.ReadEnds.{IsPlaced, GoesBy}
 use Rattle.amf_io.specs.CursorReads.{Answers}
 use Rattle.amf_graph.specs.declared.value.TextId.{TextId}
 use Rattle.amf_graph.specs.Graph as graph
@@ -30,7 +30,7 @@ use Rattle.amf3_read.proofs.TextReads.{new_text_there}
 use Rattle.amf3_read.proofs.PartPut.{stays, same_head}
 use Rattle.amf3_read.proofs.GoesOn.{suits_name}
 use Rattle.amf0_read.specs.declared.frame.Todo.TheVariants.{Pairs}
-use Rattle.amf0_read.specs.declared.frame.Slot.TheVariants.{Named}
+use Rattle.amf0_read.specs.declared.frame.Role.TheVariants.{Named}
 use Rattle.amf0_spelling.specs.declared.marker.Marker0.{Marker0}
 use Rattle.amf0_read.specs.declared.fill.Step.TheVariants as step
 use Rattle.amf0_read.specs.Frames0.{Lacks, LacksFor, StepHolds}
@@ -46,7 +46,7 @@ text_is a z t x b v k =
     ∙ ap (λ i. let y : TextRead0 = record { id = i; bytes = c; state = (new_text0 (state0_of a t) c).state } in y) k.place
 
 module _ {S : Type 0} (tells : S → Type 0) (left : S → List ℕ) (faults : S → ℕ) (a z : Arena) (t : KeptTables0) (b : IsBuilt a) (v : AreTablesIn a t.amf3) (size : ℕ) (c d : Cursor S Window) where
-  pub text_reads : (r : Result TextId ReadEnd) → Goes tells left faults c d r → Answers tells left (λ (x : TextId). text_at z x.0) (chunk text_kind size (λ y. give y)) c d r → IfOk r (λ x. KeptText a z x.0) → OnOk r (IsPlaced d)
+  pub text_reads : (r : Result TextId ReadEnd) → GoesBy tells left faults c d r → Answers tells left (λ (x : TextId). text_at z x.0) (chunk text_kind size (λ y. give y)) c d r → IfOk r (λ x. KeptText a z x.0) → OnOk r (IsPlaced d)
       → Answers tells left (text_read z t) (chunk text_kind size (λ y. give (new_text0 (state0_of a t) y))) c d r
   text_reads (Ok x) g h k p = chunk_reads tells left faults (λ (x : TextId). text_at z x.0) (text_read z t) text_kind size (new_text0 (state0_of a t)) c d x x g h p (text_is a z t x b v k)
   text_reads (Err e) g h k p = chunk_ends tells left faults text_kind size (new_text0 (state0_of a t)) c d e h

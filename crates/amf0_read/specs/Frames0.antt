@@ -1,11 +1,11 @@
 -- What a stack of open nodes is: what is still to be read, as a layout, and what holds of the arena. A device by which verdicts are proved.
-use Rattle.std.specs.Prelude.{◌≡◌, ℕ, suc, ◌<◌, ◌≤◌, true, List, [], ◌∷◌, ◌++◌, length, ◌⊎◌, Result, Ok, Err, if◌then◌else◌, Some}
+use Rattle.std.specs.Prelude.{◌≡◌, ℕ, suc, ◌<◌, ◌≤◌, true, false, List, [], ◌∷◌, ◌++◌, length, ◌⊎◌, Result, Ok, Err, if◌then◌else◌, Some}
 use Rattle.amf_io.specs.declared.window.Window.{Window}
 use Rattle.amf_io.specs.declared.cursor.Cursor.{Cursor}
 use Rattle.amf_io.specs.declared.ends.ReadEnd.{ReadEnd}
 use Rattle.amf_io.specs.Layout.{Layout, give, stuck, bind}
 use Rattle.amf_io.specs.Cursor.{place}
-use Rattle.amf_io.specs.ReadEnds.{Goes}
+use Rattle.amf_io.specs.ReadEnds.{GoesBy}
 use Rattle.amf_io.specs.CursorReads.{Answers, Ends, Leads}
 use Rattle.amf_graph.specs.declared.value.Value.{Value}
 use Rattle.amf_graph.specs.declared.value.Value.TheVariants as value
@@ -16,18 +16,21 @@ use Rattle.amf_graph.specs.Graph as graph
 use Rattle.amf_graph.specs.Arena.{Arena, StoredNode, IsBuilt, IsTextId, Names, head_content}
 use Rattle.amf_graph.specs.Building.{kept_node, stored_at, more_value, more_name}
 use Rattle.amf3_spelling.specs.Reads3.{Grows}
+use Rattle.amf0_spelling.specs.declared.marker.Marker0.{Marker0}
+use Rattle.amf0_spelling.specs.declared.tables0.Tables0.{Tables0}
+use Rattle.amf0_spelling.specs.TableParts0.{shown_tables}
 use Rattle.amf0_spelling.specs.KeptTables0.{KeptTables0}
 use Rattle.amf0_layout.specs.Layout0State.{State0, state0_of, changed0}
-use Rattle.amf0_layout.specs.Layout0.{Read0, read0, Reader0, items0, pairs0, shut0, behind0, value0_layout}
+use Rattle.amf0_layout.specs.Layout0.{ValueRead0, read0, Reader0, items0, pairs0, shut0, behind0, value0_layout}
 use Rattle.amf3_read.specs.declared.opening.Parts.TheVariants as parts
-use Rattle.amf3_read.specs.declared.frame.Slot.TheVariants as slot3
+use Rattle.amf3_read.specs.declared.frame.Role.TheVariants as role3
 use Rattle.amf3_read.specs.Filling.{IsOpened}
 use Rattle.amf_fields.specs.Room.{left_of}
 use Rattle.amf3_read.specs.Frames.{Fuel, Enough, Suits, WaitsFor}
 use Rattle.amf0_read.specs.declared.frame.Todo.{Todo}
 use Rattle.amf0_read.specs.declared.frame.Todo.TheVariants.{Items, Pairs}
-use Rattle.amf0_read.specs.declared.frame.Slot.{Slot}
-use Rattle.amf0_read.specs.declared.frame.Slot.TheVariants.{Item, Named}
+use Rattle.amf0_read.specs.declared.frame.Role.{Role}
+use Rattle.amf0_read.specs.declared.frame.Role.TheVariants.{Item, Named}
 use Rattle.amf0_read.specs.declared.frame.Frame.{Frame}
 use Rattle.amf0_read.specs.declared.frame.Now.{Now}
 use Rattle.amf0_read.specs.declared.frame.Now.TheVariants as now
@@ -41,34 +44,38 @@ use Rattle.amf0_read.specs.Ready0.{Ready0, StillReady0}
 
 -- The part that a value is, and what is still to be read behind it.
 
-abbrev pub part_of : Slot → Value → Part
+abbrev pub part_of : Role → Value → Part
 part_of (Item n) v = part.Item v
 part_of (Named x) v = part.Named x v
 
-abbrev pub todo_behind : Slot → Todo
+abbrev pub todo_behind : Role → Todo
 todo_behind (Item n) = Items n
 todo_behind (Named x) = Pairs
 
 -- Layouts.
 
+-- the state that a builder and its tables are
+abbrev pub state_in : Arena → Tables0 → State0
+state_in a t = state0_of a (shown_tables t)
+
 -- what is still to be read of an open node, and then it is closed
-abbrev pub todo : Reader0 → ℕ → ℕ → Todo → State0 → Layout Read0
+abbrev pub todo : Reader0 → ℕ → ℕ → Todo → State0 → Layout ValueRead0
 todo v m i (Items n) s = bind (items0 v i n s) (λ u. give (shut0 i u))
 todo v m i Pairs s = bind (pairs0 v m i s) (λ u. give (shut0 i u))
 
 -- what follows the value that a frame waits for
-abbrev pub resume : Reader0 → ℕ → ℕ → Slot → Read0 → Layout Read0
+abbrev pub resume : Reader0 → ℕ → ℕ → Role → ValueRead0 → Layout ValueRead0
 resume v m i (Item n) x = todo v m i (Items n) (changed0 (more_value x.value) i x.state)
 resume v m i (Named y) x = if x.ended then give (shut0 i x.state) else todo v m i Pairs (changed0 (more_name y.0 x.value) i x.state)
 
 -- what follows a value, by the frames that wait, the innermost first
-abbrev pub rest : List Fuel → List Frame → Read0 → Layout Read0
+abbrev pub rest : List Fuel → List Frame → ValueRead0 → Layout ValueRead0
 rest us [] x = give x
 rest [] (f ∷ fs) x = stuck
-rest (u ∷ us) (f ∷ fs) x = bind (resume (value0_layout u.values) u.pairs f.node.0 f.slot x) (rest us fs)
+rest (u ∷ us) (f ∷ fs) x = bind (resume (value0_layout u.values) u.pairs f.node.0 f.role x) (rest us fs)
 
 -- what is read now
-abbrev pub current : Fuel → Now → State0 → Layout Read0
+abbrev pub current : Fuel → Now → State0 → Layout ValueRead0
 current u (now.Begun m) s = behind0 (value0_layout u.values) u.pairs s (Some m)
 current u (now.Given v) s = give (read0 v s)
 current u (now.Open node p) s = todo (value0_layout u.values) u.pairs node.0 p s
@@ -87,13 +94,13 @@ Lacks h m (Items n) = Suits h m (parts.Items n)
 Lacks h m Pairs = Suits h m (parts.Array 0) ⊎ Suits h m (parts.Object 0 true)
 
 -- with the value that it waits for
-abbrev pub LacksFor : graph.Head → StoredNode → Slot → Type 0
-LacksFor h m (Item n) = WaitsFor h m slot3.Item (parts.Items n)
-LacksFor h m (Named x) = WaitsFor h m (slot3.Named x) (parts.Array 0) ⊎ WaitsFor h m (slot3.Named x) (parts.Object 0 true)
+abbrev pub LacksFor : graph.Head → StoredNode → Role → Type 0
+LacksFor h m (Item n) = WaitsFor h m role3.Item (parts.Items n)
+LacksFor h m (Named x) = WaitsFor h m (role3.Named x) (parts.Array 0) ⊎ WaitsFor h m (role3.Named x) (parts.Object 0 true)
 
-abbrev pub SlotNames : Arena → Slot → Type 0
-SlotNames a (Item n) = Unit {0}
-SlotNames a (Named x) = IsTextId a x.0
+abbrev pub RoleNames : Arena → Role → Type 0
+RoleNames a (Item n) = Unit {0}
+RoleNames a (Named x) = IsTextId a x.0
 
 -- an open node, and what held before it was opened
 pub record IsOver (Below : Arena → Type 0) (left : ℕ) (b : Arena) (i : ℕ) : Type 0 where
@@ -103,8 +110,8 @@ pub record IsOver (Below : Arena → Type 0) (left : ℕ) (b : Arena) (i : ℕ) 
 
 pub record Waits (Below : Arena → Type 0) (left : ℕ) (b : Arena) (f : Frame) : Type 0 where
   pub over : IsOver Below left b f.node.0
-  pub names : SlotNames b f.slot
-  pub lacks : LacksFor (head_content b (stored_at b f.node.0).head) (stored_at b f.node.0) f.slot
+  pub names : RoleNames b f.role
+  pub lacks : LacksFor (head_content b (stored_at b f.node.0).head) (stored_at b f.node.0) f.role
 
 -- the frames' nodes were opened one after another. Each node but the innermost has a byte to spare
 abbrev pub Nested : ℕ → List Frame → Arena → Type 0
@@ -132,10 +139,14 @@ now_of (start.Value v) = now.Given v
 now_of (start.Open node p) = now.Open node p
 
 -- a layout of a value is read as far as a value, or as the parts of an open node
-abbrev pub StartsBy : {S : Type 0} → (S → Type 0) → (S → List ℕ) → Reader0 → ℕ → Layout Read0 → State0 → Cursor S Window → Cursor S Window → Result Start ReadEnd → Type 0
+abbrev pub StartsBy : {S : Type 0} → (S → Type 0) → (S → List ℕ) → Reader0 → ℕ → Layout ValueRead0 → State0 → Cursor S Window → Cursor S Window → Result Start ReadEnd → Type 0
 StartsBy tells left v m t z c d (Ok (start.Value x)) = Answers tells left (λ x. read0 x z) t c d (Ok x)
 StartsBy tells left v m t z c d (Ok (start.Open node p)) = Leads tells left t (todo v m node.0 p z) c d
 StartsBy tells left v m t z c d (Err e) = Ends tells left t c d e
+
+-- what stands behind a marker is read so, whatever reads the values within
+abbrev pub StartsBehind : {S : Type 0} → (S → Type 0) → (S → List ℕ) → Marker0 → State0 → State0 → Cursor S Window → Cursor S Window → Result Start ReadEnd → Type 0
+StartsBehind tells left m z z' c d r = (v : Reader0) (n : ℕ) → left_of c < n → StartsBy tells left v n (behind0 v n z (Some m)) z' c d r
 
 -- an open node that was read as far as its parts
 pub record OpenedFrom (a b : Arena) (left i : ℕ) (p : Todo) : Type 0 where
@@ -150,20 +161,24 @@ StartHolds a b left (start.Open node p) = OpenedFrom a b left node.0 p
 
 -- How an open node goes on: up to the marker of its next value, or to its end.
 
-pub record LeadsToValue {S : Type 0} (tells : S → Type 0) (left : S → List ℕ) (t : Layout Read0) (i : ℕ) (x : Slot) (now : Now) (z : State0) (c d : Cursor S Window) : Type 0 where
+pub record LeadsToValue {S : Type 0} (tells : S → Type 0) (left : S → List ℕ) (t : Layout ValueRead0) (i : ℕ) (x : Role) (now : Now) (z : State0) (c d : Cursor S Window) : Type 0 where
   pub fuel : Fuel
   pub waiting : Fuel
   pub enough : Enough (left_of d) fuel
   pub enough_waiting : Enough (left_of d) waiting
   pub leads : Leads tells left t (bind (current fuel now z) (resume (value0_layout waiting.values) waiting.pairs i x)) c d
 
-abbrev pub GoesOn : {S : Type 0} → (S → Type 0) → (S → List ℕ) → Layout Read0 → ℕ → State0 → Cursor S Window → Cursor S Window → Result Step ReadEnd → Type 0
+abbrev pub GoesOn : {S : Type 0} → (S → Type 0) → (S → List ℕ) → Layout ValueRead0 → ℕ → State0 → Cursor S Window → Cursor S Window → Result Step ReadEnd → Type 0
 GoesOn tells left t i z c d (Ok (step.Wait x m)) = LeadsToValue tells left t i x (now.Begun m) z c d
 GoesOn tells left t i z c d (Ok step.Closed) = Leads tells left t (give (read0 (value.Node (record { 0 = i })) z)) c d
 GoesOn tells left t i z c d (Err e) = Ends tells left t c d e
 
+-- with enough fuel an open node, of which so much is still to be read, goes on so
+abbrev pub GoesOnWith : {S : Type 0} → (S → Type 0) → (S → List ℕ) → ℕ → Todo → State0 → State0 → Cursor S Window → Cursor S Window → Result Step ReadEnd → Type 0
+GoesOnWith tells left i p z z' c d r = (fuel : Fuel) → Enough (left_of c) fuel → GoesOn tells left (todo (value0_layout fuel.values) fuel.pairs i p z) i z' c d r
+
 abbrev pub StepHolds : Arena → Arena → ℕ → Step → Type 0
-StepHolds a b i (step.Wait x m) = Grows a b × SlotNames b x × LacksFor (head_content b (stored_at b i).head) (stored_at b i) x
+StepHolds a b i (step.Wait x m) = Grows a b × RoleNames b x × LacksFor (head_content b (stored_at b i).head) (stored_at b i) x
 StepHolds a b i step.Closed = (i < length b.nodes) × ((before : Arena) (n : StoredNode) → i ≡ length before.nodes → Grows (kept_node before n) a → Grows before b)
 
 -- the marker of the value that is waited for adds nothing
@@ -190,7 +205,7 @@ weight_of (now.Given v) = 0
 weight_of (now.Open node p) = 1
 
 -- what is read leads from what was to be read to what is still to be read
-pub record IsAt {S : Type 0} (tells : S → Type 0) (left : S → List ℕ) (t : Layout Read0) (now : Now) (fs : List Frame) (z : State0) (c d : Cursor S Window) : Type 0 where
+pub record IsAt {S : Type 0} (tells : S → Type 0) (left : S → List ℕ) (t : Layout ValueRead0) (now : Now) (fs : List Frame) (z : State0) (c d : Cursor S Window) : Type 0 where
   pub fuel : Fuel
   pub fuels : List Fuel
   pub enough : Enough (left_of d) fuel
@@ -199,7 +214,7 @@ pub record IsAt {S : Type 0} (tells : S → Type 0) (left : S → List ℕ) (t :
 
 -- the loop's invariant, the innermost frame first: from what was read first, with these frames
 pub record StackSo {S : Type 0} (tells : S → Type 0) (left : S → List ℕ) (faults : S → ℕ) (old : Now) (es : List Frame) (a b : Arena) (t u : KeptTables0) (c d : Cursor S Window) (now : Now) (fs : List Frame) : Type 0 where
-  pub goes : Goes {X = Unit {0}} tells left faults c d (Ok tt)
+  pub goes : GoesBy {X = Unit {0}} tells left faults c d (Ok tt)
   pub ready : Ready0 (owed now) b u d
   pub still_ready : StillReady0 (owed now) (owed old) a b u c d
   pub holds : Holds (left_of d) now fs b
@@ -217,7 +232,7 @@ pub record CarriesEnd {S : Type 0} (tells : S → Type 0) (left : S → List ℕ
 
 abbrev pub Fills : {S : Type 0} → (S → Type 0) → (S → List ℕ) → (S → ℕ) → NodeId → Todo → Arena → Arena → KeptTables0 → KeptTables0 → Cursor S Window → Cursor S Window → Result Filled ReadEnd → Type 0
 Fills tells left faults i p b b1 u u1 d e (Ok filled.Closed) = Carries tells left faults i p b b1 u u1 d e (now.Given (value.Node i)) []
-Fills tells left faults i p b b1 u u1 d e (Ok (filled.Within x j q)) = Carries tells left faults i p b b1 u u1 d e (now.Open j q) (record { node = i; slot = x } ∷ [])
+Fills tells left faults i p b b1 u u1 d e (Ok (filled.Within x j q)) = Carries tells left faults i p b b1 u u1 d e (now.Open j q) (record { node = i; role = x } ∷ [])
 Fills tells left faults i p b b1 u u1 d e (Err end) = CarriesEnd tells left faults i p b u d e end
 
 -- where a node begins within it, a marker was read
@@ -230,3 +245,11 @@ pub record FilledSo {S : Type 0} (tells : S → Type 0) (left : S → List ℕ) 
   pub here : StackSo tells left faults (now.Open i p) [] b b1 u u1 d e (now.Open i q) []
   pub carries : Carries tells left faults i p b b1 u u1 d e (now.Open i q) []
   pub stays : place d ≤ place e
+
+-- with fuel enough for an open node and those around it, a value is read so
+abbrev pub ReadsOn : {S : Type 0} → (S → Type 0) → (S → List ℕ) → Now → List Frame → State0 → State0 → Cursor S Window → Cursor S Window → Result Value ReadEnd → Type 0
+ReadsOn tells left now fs z z' c d r = (fuel : Fuel) (fuels : List Fuel) → Enough (left_of c) fuel → HaveFuel (left_of c) fuels fs → Answers tells left (λ v. read0 v z') (bind (current fuel now z) (rest fuels fs)) c d r
+
+-- a value is read by its layout, with more fuel than bytes that are left
+abbrev pub AnswersValue0 : {S : Type 0} → (S → Type 0) → (S → List ℕ) → State0 → State0 → Cursor S Window → Cursor S Window → Result Value ReadEnd → Type 0
+AnswersValue0 tells left z z' c d r = (n : ℕ) → left_of c < n → Answers tells left (λ v. read0 v z') (value0_layout n false z) c d r

@@ -7,4 +7,4 @@ pub mod Markers0
 pub mod Leaves0
 pub mod Opens0
 pub mod Frames0
-pub mod Fronts0
+pub mod Beginnings0

@@ -1,15 +1,19 @@
 -- What a reader of AMF 0 needs of its builder, its tables and its cursor, and what it leaves. A device by which verdicts are proved.
-use Rattle.std.specs.Prelude.{ℕ, ◌+◌, ◌<◌, ◌≤◌, length}
+use Rattle.std.specs.Prelude.{ℕ, ◌+◌, ◌<◌, ◌≤◌, List, length, Result}
 use Rattle.std.specs.List.{AllByRecursion}
 use Rattle.amf_io.specs.declared.window.Window.{Window}
 use Rattle.amf_io.specs.declared.cursor.Cursor.{Cursor}
+use Rattle.amf_io.specs.declared.ends.ReadEnd.{ReadEnd}
+use Rattle.amf_io.specs.CursorReads.{Answers}
+use Rattle.amf_io.specs.Layout.{Layout}
 use Rattle.amf_io.specs.ReadEnds.{IsPlaced}
 use Rattle.amf_graph.specs.declared.value.TextId.{TextId}
 use Rattle.amf_graph.specs.Arena.{Arena, IsBuilt, text_at}
 use Rattle.amf_graph.specs.Order.{IsDistinct}
+use Rattle.amf3_spelling.specs.KeptTables.{AreTablesIn}
 use Rattle.amf0_spelling.specs.KeptTables0.{KeptTables0, AreTables0In}
 use Rattle.amf0_layout.specs.Layout0.{TextRead0}
-use Rattle.amf0_layout.specs.Layout0State.{state0_of}
+use Rattle.amf0_layout.specs.Layout0State.{State0, state0_of}
 use Rattle.amf_fields.specs.Room.{left_of}
 use Rattle.amf3_read.specs.Ready.{Ready}
 
@@ -31,3 +35,7 @@ pub record StillReady0 {S : Type 0} (owed spare : ℕ) (a b : Arena) (t : KeptTa
 -- a text of the builder, as it was read
 abbrev pub text_read : Arena → KeptTables0 → TextId → TextRead0
 text_read a t x = record { id = x.0; bytes = text_at a x.0; state = state0_of a t }
+
+-- it is read by its layout, whatever the tables are, which it does not enter
+abbrev pub AnswersText0 : {S : Type 0} → (S → Type 0) → (S → List ℕ) → (State0 → Layout TextRead0) → Arena → Arena → Cursor S Window → Cursor S Window → Result TextId ReadEnd → Type 0
+AnswersText0 tells left layout a b c d r = (t : KeptTables0) → AreTablesIn a t.amf3 → Answers tells left (λ x. text_read b t x) (layout (state0_of a t)) c d r

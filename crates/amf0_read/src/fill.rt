@@ -3,16 +3,13 @@ ghost use Rattle.amf_io.specs.Cursor.{place};
 ghost use Rattle.amf_io.specs.ReadEnds.{Goes};
 ghost use Rattle.amf_graph.specs.Arena.{head_content};
 ghost use Rattle.amf_graph.specs.Building.{stored_at};
-ghost use Rattle.amf0_layout.specs.Layout0.{value0_layout};
-ghost use Rattle.amf0_layout.specs.Layout0State.{state0_of};
 ghost use Rattle.amf0_spelling.specs.TableParts0.{shown_tables};
 ghost use Rattle.amf3_read.specs.Filling.{IsOpened};
 ghost use Rattle.amf_fields.specs.Room.{left_of};
-ghost use Rattle.amf3_read.specs.Frames.{Fuel, Enough};
 ghost use Rattle.amf0_read.specs.Ready0.{Ready0, StillReady0};
-ghost use Rattle.amf0_read.specs.Frames0.{todo as still, Lacks, GoesOn, StepHolds, StepMoves, owed_at, IsOpenAlone, Fills, FilledMoves};
+ghost use Rattle.amf0_read.specs.Frames0.{Lacks, GoesOnWith, state_in, StepHolds, StepMoves, owed_at, IsOpenAlone, Fills, FilledMoves};
 
-use crate::frame::{Slot, Todo};
+use crate::frame::{Role, Todo};
 use crate::marker::{read_marker, read_marker_or_end};
 use crate::node::{Start, start_value};
 use crate::text::read_short_text;
@@ -27,15 +24,15 @@ use std::alloc::Global;
 pub enum Filled {
     /// It has all of its parts, and is closed.
     Closed,
-    /// In this slot of it a node begins, which is open, and of which so much is still to be read.
-    Within(Slot, NodeId, Todo),
+    /// In this role of it a node begins, which is open, and of which so much is still to be read.
+    Within(Role, NodeId, Todo),
 }
 
 /// How an open node went on.
 #[derive(Clone, Copy, Debug, PartialEq, Eq)]
 pub enum Step {
-    /// It waits for a value for this slot, whose marker was read.
-    Wait(Slot, Marker0),
+    /// It waits for a value for this role, whose marker was read.
+    Wait(Role, Marker0),
     /// It is closed.
     Closed,
 }
@@ -51,7 +48,7 @@ pub fn fill<S: Source>(
 ) -> Result<Filled, ReadEnd>
     requires ready { Ready0 0 builder.old (shown_tables tables.old) cursor.old }
     requires opened { IsOpenAlone (left_of cursor.old) builder.old node.0 todo }
-    ensures goes { Goes S.tells S.left S.faults cursor.old cursor.new result }
+    ensures goes { Goes S.Source cursor.old cursor.new result }
     ensures fills { Fills S.tells S.left S.faults node todo builder.old builder.new (shown_tables tables.old) (shown_tables tables.new) cursor.old cursor.new result }
     ensures moves { IfOk result (FilledMoves (place cursor.old) (place cursor.new)) }
 {
@@ -74,20 +71,20 @@ fn fill_by<S: Source>(
 ) -> Result<Filled, ReadEnd>
     requires ready { Ready0 0 builder.old (shown_tables tables.old) cursor.old }
     requires opened { IsOpenAlone (left_of cursor.old) builder.old node.0 todo }
-    ensures goes { Goes S.tells S.left S.faults cursor.old cursor.new result }
+    ensures goes { Goes S.Source cursor.old cursor.new result }
     ensures fills { Fills S.tells S.left S.faults node todo builder.old builder.new (shown_tables tables.old) (shown_tables tables.new) cursor.old cursor.new result }
     ensures moves { IfOk result (FilledMoves (place cursor.old) (place cursor.new)) }
 {
     loop {
         match go_on(alloc, cursor, builder, tables, node, todo)? {
             Step::Closed => return Ok(Filled::Closed),
-            Step::Wait(slot, marker) => {
+            Step::Wait(role, marker) => {
                 match start_value(alloc, cursor, builder, tables, marker)? {
                     Start::Value(value) => {
-                        kept(builder.put(node, slot.part_of(value)))?;
-                        todo = slot.todo_behind();
+                        kept(builder.put(node, role.part_of(value)))?;
+                        todo = role.todo_behind();
                     }
-                    Start::Open(child, more) => return Ok(Filled::Within(slot, child, more)),
+                    Start::Open(child, more) => return Ok(Filled::Within(role, child, more)),
                 }
             }
         }
@@ -107,8 +104,8 @@ fn go_on<S: Source>(
     requires ready { Ready0 0 builder.old (shown_tables tables.now) cursor.old }
     requires opened { IsOpened builder.old node.0 (left_of cursor.old) }
     requires lacks { Lacks (head_content builder.old (stored_at builder.old node.0).head) (stored_at builder.old node.0) todo }
-    ensures goes { Goes S.tells S.left S.faults cursor.old cursor.new result }
-    ensures answers { (fuel : Fuel) → Enough (left_of cursor.old) fuel → GoesOn S.tells S.left (still (value0_layout fuel.values) fuel.pairs node.0 todo (state0_of builder.old (shown_tables tables.now))) node.0 (state0_of builder.new (shown_tables tables.now)) cursor.old cursor.new result }
+    ensures goes { Goes S.Source cursor.old cursor.new result }
+    ensures answers { GoesOnWith S.tells S.left node.0 todo (state_in builder.old tables.now) (state_in builder.new tables.now) cursor.old cursor.new result }
     ensures still_ready { IfOk result (λ step. StillReady0 (owed_at step) 0 builder.old builder.new (shown_tables tables.now) cursor.old cursor.new) }
     ensures holds { IfOk result (StepHolds builder.old builder.new node.0) }
     ensures moves { IfOk result (StepMoves (place cursor.old) (place cursor.new)) }
@@ -120,7 +117,7 @@ fn go_on<S: Source>(
         }
         Todo::Items(more) => {
             let marker = read_marker(cursor, tables)?;
-            Ok(Step::Wait(Slot::Item(more - 1), marker))
+            Ok(Step::Wait(Role::Item(more - 1), marker))
         }
         Todo::Pairs => {
             let name = read_short_text(alloc, cursor, builder)?;
@@ -128,10 +125,10 @@ fn go_on<S: Source>(
             builder.is_built();
             if !builder.text_of(name).is_empty() {
                 let marker = read_marker(cursor, tables)?;
-                return Ok(Step::Wait(Slot::Named(name), marker));
+                return Ok(Step::Wait(Role::Named(name), marker));
             }
             match read_marker_or_end(cursor, tables)? {
-                Some(marker) => Ok(Step::Wait(Slot::Named(name), marker)),
+                Some(marker) => Ok(Step::Wait(Role::Named(name), marker)),
                 None => {
                     builder.close_node(node);
                     Ok(Step::Closed)

@@ -15,7 +15,7 @@ pub enum Todo {
 
 /// Where the value goes that is read next.
 #[derive(Clone, Copy, Debug, PartialEq, Eq)]
-pub enum Slot {
+pub enum Role {
     /// It is an item, behind which so many follow.
     Item(u32),
     /// It stands behind this name.
@@ -26,7 +26,7 @@ pub enum Slot {
 #[derive(Clone, Copy, Debug, PartialEq, Eq)]
 pub struct Frame {
     pub node: NodeId,
-    pub slot: Slot,
+    pub role: Role,
 }
 
 /// What was read last.
@@ -40,14 +40,14 @@ pub enum Now {
     Open(NodeId, Todo),
 }
 
-impl Slot {
+impl Role {
     /// The part that a value is there.
     pub fn part_of(self, value: Value) -> Part
         ensures { result ≡ part_of self value }
     {
         match self {
-            Slot::Item(_) => Part::Item(value),
-            Slot::Named(name) => Part::Named(name, value),
+            Role::Item(_) => Part::Item(value),
+            Role::Named(name) => Part::Named(name, value),
         }
     }
 
@@ -56,8 +56,8 @@ impl Slot {
         ensures { result ≡ todo_behind self }
     {
         match self {
-            Slot::Item(more) => Todo::Items(more),
-            Slot::Named(_) => Todo::Pairs,
+            Role::Item(more) => Todo::Items(more),
+            Role::Named(_) => Todo::Pairs,
         }
     }
 }

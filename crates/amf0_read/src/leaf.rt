@@ -15,7 +15,7 @@ pub fn read_reference<S: Source>(
     cursor: &mut Cursor<'_, S>,
     tables: &Tables0,
 ) -> Result<NodeId, ReadEnd>
-    ensures goes { Goes S.tells S.left S.faults cursor.old cursor.new result }
+    ensures goes { Goes S.Source cursor.old cursor.new result }
     ensures answers { Answers S.tells S.left (λ node. node.0) (place_layout (shown_tables tables.now).nodes) cursor.old cursor.new result }
     ensures there { IfOk result (λ node. (i : ℕ) × (slice_get (shown_tables tables.now).nodes i ≡ Some node.0)) }
     ensures placed { OnOk result (IsPlaced cursor.new) }
@@ -30,7 +30,7 @@ pub fn read_reference<S: Source>(
 
 /// Reads the time of a date, behind which stands a zone that counts for nothing (AMF 0, 2.13).
 pub fn read_time<S: Source>(cursor: &mut Cursor<'_, S>) -> Result<Pattern, ReadEnd>
-    ensures goes { Goes S.tells S.left S.faults cursor.old cursor.new result }
+    ensures goes { Goes S.Source cursor.old cursor.new result }
     ensures answers { Answers S.tells S.left (λ p. p.0) time_layout cursor.old cursor.new result }
     ensures placed { OnOk result (IsPlaced cursor.new) }
 {
@@ -41,7 +41,7 @@ pub fn read_time<S: Source>(cursor: &mut Cursor<'_, S>) -> Result<Pattern, ReadE
 
 /// Reads a count (AMF 0, 2.10 and 2.12).
 pub fn read_count<S: Source>(cursor: &mut Cursor<'_, S>) -> Result<u32, ReadEnd>
-    ensures goes { Goes S.tells S.left S.faults cursor.old cursor.new result }
+    ensures goes { Goes S.Source cursor.old cursor.new result }
     ensures answers { Answers S.tells S.left (λ n. n) count_layout cursor.old cursor.new result }
     ensures placed { OnOk result (IsPlaced cursor.new) }
 {

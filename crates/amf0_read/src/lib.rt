@@ -1,10 +1,10 @@
 //! Reads AMF 0 values.
 #![tactic(auto)]
 
+mod beginning;
 mod fill;
 mod formed;
 mod frame;
-mod front;
 mod leaf;
 mod marker;
 mod node;

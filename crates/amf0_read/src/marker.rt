@@ -32,7 +32,7 @@ pub fn read_marker<S: Source>(
     cursor: &mut Cursor<'_, S>,
     tables: &Tables0,
 ) -> Result<Marker0, ReadEnd>
-    ensures goes { Goes S.tells S.left S.faults cursor.old cursor.new result }
+    ensures goes { Goes S.Source cursor.old cursor.new result }
     ensures answers { Answers S.tells S.left (λ m. Some m) (marker_layout false (length (shown_tables tables.now).nodes)) cursor.old cursor.new result }
     ensures moves { OnOk result (place cursor.old < place cursor.new) }
     ensures placed { OnOk result (IsPlaced cursor.new) }
@@ -50,7 +50,7 @@ pub fn read_marker_or_end<S: Source>(
     cursor: &mut Cursor<'_, S>,
     tables: &Tables0,
 ) -> Result<Option<Marker0>, ReadEnd>
-    ensures goes { Goes S.tells S.left S.faults cursor.old cursor.new result }
+    ensures goes { Goes S.Source cursor.old cursor.new result }
     ensures answers { Answers S.tells S.left (λ m. m) (marker_layout true (length (shown_tables tables.now).nodes)) cursor.old cursor.new result }
     ensures moves { OnOk result (place cursor.old < place cursor.new) }
     ensures placed { OnOk result (IsPlaced cursor.new) }

@@ -1,4 +1,4 @@
-ghost use Rattle.std.specs.Prelude.{◌≡◌, ℕ, ◌+◌, ◌<◌, ◌≤◌, length, Some, OnOk, IfOk, IfErr};
+ghost use Rattle.std.specs.Prelude.{◌≡◌, ◌+◌, ◌<◌, ◌≤◌, length, OnOk, IfOk, IfErr};
 ghost use Rattle.amf_io.specs.Cursor.{place};
 ghost use Rattle.amf_io.specs.ReadEnds.{Goes};
 ghost use Rattle.amf_graph.specs.Arena.{HeadNames, IsBuilt, IsTextId, array};
@@ -6,12 +6,10 @@ ghost use Rattle.amf_graph.specs.Bounds.{items_of};
 ghost use Rattle.amf_graph.specs.Building.{leaf_head};
 ghost use Rattle.amf_fields.specs.Room.{room_end, left_of};
 ghost use Rattle.amf0_spelling.specs.declared.marker.Marker0.TheVariants as marker0;
-ghost use Rattle.amf0_layout.specs.Layout0.{Reader0, behind0};
-ghost use Rattle.amf0_layout.specs.Layout0State.{state0_of};
 ghost use Rattle.amf0_spelling.specs.TableParts0.{shown_tables};
 ghost use Rattle.amf0_read.specs.Opens0.{KeepsLeaf, Opens, OpensObject};
 ghost use Rattle.amf0_read.specs.Ready0.{Ready0, StillReady0};
-ghost use Rattle.amf0_read.specs.Frames0.{now_of, StartsBy, StartHolds};
+ghost use Rattle.amf0_read.specs.Frames0.{now_of, StartsBehind, StartHolds, state_in};
 
 use crate::frame::{Now, Todo};
 use crate::leaf::{read_count, read_reference, read_time};
@@ -54,8 +52,8 @@ pub fn start_value<S: Source>(
     marker: Marker0,
 ) -> Result<Start, ReadEnd>
     requires { Ready0 1 builder.old (shown_tables tables.old) cursor.old }
-    ensures goes { Goes S.tells S.left S.faults cursor.old cursor.new result }
-    ensures starts { (v : Reader0) (n : ℕ) → left_of cursor.old < n → StartsBy S.tells S.left v n (behind0 v n (state0_of builder.old (shown_tables tables.old)) (Some marker)) (state0_of builder.new (shown_tables tables.new)) cursor.old cursor.new result }
+    ensures goes { Goes S.Source cursor.old cursor.new result }
+    ensures starts { StartsBehind S.tells S.left marker (state_in builder.old tables.old) (state_in builder.new tables.new) cursor.old cursor.new result }
     ensures still_ready { OnOk result (StillReady0 0 1 builder.old builder.new (shown_tables tables.new) cursor.old cursor.new) }
     ensures holds { IfOk result (StartHolds builder.old builder.new (left_of cursor.new)) }
     ensures stays { OnOk result (place cursor.old ≤ place cursor.new) }
@@ -95,8 +93,8 @@ pub fn start_apart<S: Source>(
     marker: Marker0,
 ) -> Result<Start, ReadEnd>
     requires { Ready0 1 builder.old (shown_tables tables.old) cursor.old }
-    ensures goes { Goes S.tells S.left S.faults cursor.old cursor.new result }
-    ensures starts { (v : Reader0) (n : ℕ) → left_of cursor.old < n → StartsBy S.tells S.left v n (behind0 v n (state0_of builder.old (shown_tables tables.old)) (Some marker)) (state0_of builder.new (shown_tables tables.new)) cursor.old cursor.new result }
+    ensures goes { Goes S.Source cursor.old cursor.new result }
+    ensures starts { StartsBehind S.tells S.left marker (state_in builder.old tables.old) (state_in builder.new tables.new) cursor.old cursor.new result }
     ensures still_ready { OnOk result (StillReady0 0 1 builder.old builder.new (shown_tables tables.new) cursor.old cursor.new) }
     ensures holds { IfOk result (StartHolds builder.old builder.new (left_of cursor.new)) }
     ensures stays { OnOk result (place cursor.old ≤ place cursor.new) }
@@ -138,8 +136,8 @@ fn read_date<S: Source>(
     tables: &Tables0,
 ) -> Result<Start, ReadEnd>
     requires { Ready0 1 builder.old (shown_tables tables.now) cursor.old }
-    ensures goes { Goes S.tells S.left S.faults cursor.old cursor.new result }
-    ensures starts { (v : Reader0) (n : ℕ) → left_of cursor.old < n → StartsBy S.tells S.left v n (behind0 v n (state0_of builder.old (shown_tables tables.now)) (Some marker0.Date)) (state0_of builder.new (shown_tables tables.now)) cursor.old cursor.new result }
+    ensures goes { Goes S.Source cursor.old cursor.new result }
+    ensures starts { StartsBehind S.tells S.left marker0.Date (state_in builder.old tables.now) (state_in builder.new tables.now) cursor.old cursor.new result }
     ensures still_ready { OnOk result (StillReady0 0 1 builder.old builder.new (shown_tables tables.now) cursor.old cursor.new) }
     ensures holds { IfOk result (StartHolds builder.old builder.new (left_of cursor.new)) }
     ensures stays { OnOk result (place cursor.old ≤ place cursor.new) }
@@ -157,8 +155,8 @@ fn read_document<S: Source>(
     tables: &Tables0,
 ) -> Result<Start, ReadEnd>
     requires { Ready0 1 builder.old (shown_tables tables.now) cursor.old }
-    ensures goes { Goes S.tells S.left S.faults cursor.old cursor.new result }
-    ensures starts { (v : Reader0) (n : ℕ) → left_of cursor.old < n → StartsBy S.tells S.left v n (behind0 v n (state0_of builder.old (shown_tables tables.now)) (Some marker0.Document)) (state0_of builder.new (shown_tables tables.now)) cursor.old cursor.new result }
+    ensures goes { Goes S.Source cursor.old cursor.new result }
+    ensures starts { StartsBehind S.tells S.left marker0.Document (state_in builder.old tables.now) (state_in builder.new tables.now) cursor.old cursor.new result }
     ensures still_ready { OnOk result (StillReady0 0 1 builder.old builder.new (shown_tables tables.now) cursor.old cursor.new) }
     ensures holds { IfOk result (StartHolds builder.old builder.new (left_of cursor.new)) }
     ensures stays { OnOk result (place cursor.old ≤ place cursor.new) }
@@ -178,8 +176,8 @@ fn start_typed<S: Source>(
     tables: &mut Tables0,
 ) -> Result<Start, ReadEnd>
     requires { Ready0 1 builder.old (shown_tables tables.old) cursor.old }
-    ensures goes { Goes S.tells S.left S.faults cursor.old cursor.new result }
-    ensures starts { (v : Reader0) (n : ℕ) → left_of cursor.old < n → StartsBy S.tells S.left v n (behind0 v n (state0_of builder.old (shown_tables tables.old)) (Some marker0.Typed)) (state0_of builder.new (shown_tables tables.new)) cursor.old cursor.new result }
+    ensures goes { Goes S.Source cursor.old cursor.new result }
+    ensures starts { StartsBehind S.tells S.left marker0.Typed (state_in builder.old tables.old) (state_in builder.new tables.new) cursor.old cursor.new result }
     ensures still_ready { OnOk result (StillReady0 0 1 builder.old builder.new (shown_tables tables.new) cursor.old cursor.new) }
     ensures holds { IfOk result (StartHolds builder.old builder.new (left_of cursor.new)) }
     ensures stays { OnOk result (place cursor.old ≤ place cursor.new) }
@@ -198,8 +196,8 @@ fn start_names<S: Source>(
     tables: &mut Tables0,
 ) -> Result<Start, ReadEnd>
     requires { Ready0 1 builder.old (shown_tables tables.old) cursor.old }
-    ensures goes { Goes S.tells S.left S.faults cursor.old cursor.new result }
-    ensures starts { (v : Reader0) (n : ℕ) → left_of cursor.old < n → StartsBy S.tells S.left v n (behind0 v n (state0_of builder.old (shown_tables tables.old)) (Some marker0.Names)) (state0_of builder.new (shown_tables tables.new)) cursor.old cursor.new result }
+    ensures goes { Goes S.Source cursor.old cursor.new result }
+    ensures starts { StartsBehind S.tells S.left marker0.Names (state_in builder.old tables.old) (state_in builder.new tables.new) cursor.old cursor.new result }
     ensures still_ready { OnOk result (StillReady0 0 1 builder.old builder.new (shown_tables tables.new) cursor.old cursor.new) }
     ensures holds { IfOk result (StartHolds builder.old builder.new (left_of cursor.new)) }
     ensures stays { OnOk result (place cursor.old ≤ place cursor.new) }
@@ -216,8 +214,8 @@ fn start_strict<S: Source>(
     tables: &mut Tables0,
 ) -> Result<Start, ReadEnd>
     requires { Ready0 1 builder.old (shown_tables tables.old) cursor.old }
-    ensures goes { Goes S.tells S.left S.faults cursor.old cursor.new result }
-    ensures starts { (v : Reader0) (n : ℕ) → left_of cursor.old < n → StartsBy S.tells S.left v n (behind0 v n (state0_of builder.old (shown_tables tables.old)) (Some marker0.Strict)) (state0_of builder.new (shown_tables tables.new)) cursor.old cursor.new result }
+    ensures goes { Goes S.Source cursor.old cursor.new result }
+    ensures starts { StartsBehind S.tells S.left marker0.Strict (state_in builder.old tables.old) (state_in builder.new tables.new) cursor.old cursor.new result }
     ensures still_ready { OnOk result (StillReady0 0 1 builder.old builder.new (shown_tables tables.new) cursor.old cursor.new) }
     ensures holds { IfOk result (StartHolds builder.old builder.new (left_of cursor.new)) }
     ensures stays { OnOk result (place cursor.old ≤ place cursor.new) }
@@ -235,8 +233,8 @@ fn read_switched<S: Source>(
     tables: &mut Tables0,
 ) -> Result<Start, ReadEnd>
     requires { Ready0 1 builder.old (shown_tables tables.old) cursor.old }
-    ensures goes { Goes S.tells S.left S.faults cursor.old cursor.new result }
-    ensures starts { (v : Reader0) (n : ℕ) → left_of cursor.old < n → StartsBy S.tells S.left v n (behind0 v n (state0_of builder.old (shown_tables tables.old)) (Some marker0.Switch)) (state0_of builder.new (shown_tables tables.new)) cursor.old cursor.new result }
+    ensures goes { Goes S.Source cursor.old cursor.new result }
+    ensures starts { StartsBehind S.tells S.left marker0.Switch (state_in builder.old tables.old) (state_in builder.new tables.new) cursor.old cursor.new result }
     ensures still_ready { OnOk result (StillReady0 0 1 builder.old builder.new (shown_tables tables.new) cursor.old cursor.new) }
     ensures holds { IfOk result (StartHolds builder.old builder.new (left_of cursor.new)) }
     ensures stays { OnOk result (place cursor.old ≤ place cursor.new) }

@@ -1,15 +1,11 @@
 ghost use Rattle.std.specs.Prelude.{◌≡◌, ◌+◌, ◌<◌, ◌≤◌, [], length, OnOk, IfOk, IfErr};
 ghost use Rattle.amf_graph.specs.Arena.{IsBuilt, text_at};
 ghost use Rattle.amf_io.specs.ReadEnds.{IsPlaced, Goes};
-ghost use Rattle.amf_io.specs.CursorReads.{Answers};
 ghost use Rattle.amf_io.specs.Cursor.{place};
 ghost use Rattle.amf_fields.specs.Room.{room_end, left_of};
-ghost use Rattle.amf3_spelling.specs.KeptTables.{AreTablesIn};
-ghost use Rattle.amf0_spelling.specs.KeptTables0.{KeptTables0};
 ghost use Rattle.amf0_layout.specs.Layout0.{short_layout, long_layout};
-ghost use Rattle.amf0_layout.specs.Layout0State.{state0_of};
 ghost use Rattle.amf_fields.specs.KeptText.{KeptText};
-ghost use Rattle.amf0_read.specs.Ready0.{text_read};
+ghost use Rattle.amf0_read.specs.Ready0.{AnswersText0};
 
 use amf_fields::{FieldSize, kept, read_field, read_loose_text};
 use amf_graph::{Builder, TextId};
@@ -24,8 +20,8 @@ pub fn read_short_text<S: Source>(
     builder: &mut Builder,
 ) -> Result<TextId, ReadEnd>
     requires { length builder.old.texts + left_of cursor.old < room_end }
-    ensures goes { Goes S.tells S.left S.faults cursor.old cursor.new result }
-    ensures answers { (t : KeptTables0) → AreTablesIn builder.old t.amf3 → Answers S.tells S.left (λ x. text_read builder.new t x) (short_layout (state0_of builder.old t)) cursor.old cursor.new result }
+    ensures goes { Goes S.Source cursor.old cursor.new result }
+    ensures answers { AnswersText0 S.tells S.left short_layout builder.old builder.new cursor.old cursor.new result }
     ensures kept { IfOk result (λ x. KeptText builder.old builder.new x.0) }
     ensures moves { OnOk result (place cursor.old + 2 ≤ place cursor.new) }
     ensures placed { OnOk result (IsPlaced cursor.new) }
@@ -43,8 +39,8 @@ pub fn read_long_text<S: Source>(
     builder: &mut Builder,
 ) -> Result<TextId, ReadEnd>
     requires { length builder.old.texts + left_of cursor.old < room_end }
-    ensures goes { Goes S.tells S.left S.faults cursor.old cursor.new result }
-    ensures answers { (t : KeptTables0) → AreTablesIn builder.old t.amf3 → Answers S.tells S.left (λ x. text_read builder.new t x) (long_layout (state0_of builder.old t)) cursor.old cursor.new result }
+    ensures goes { Goes S.Source cursor.old cursor.new result }
+    ensures answers { AnswersText0 S.tells S.left long_layout builder.old builder.new cursor.old cursor.new result }
     ensures kept { IfOk result (λ x. KeptText builder.old builder.new x.0) }
     ensures moves { OnOk result (place cursor.old + 4 ≤ place cursor.new) }
     ensures placed { OnOk result (IsPlaced cursor.new) }

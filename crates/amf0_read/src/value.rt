@@ -1,24 +1,19 @@
-ghost use Rattle.std.specs.Prelude.{◌≡◌, ◌<◌, ◌-◌, ℕ, false, List, reverse, OnOk};
+ghost use Rattle.std.specs.Prelude.{◌≡◌, ◌-◌, reverse, OnOk};
 ghost use Rattle.amf_io.specs.Cursor.{place};
 ghost use Rattle.amf_io.specs.ReadEnds.{Goes};
-ghost use Rattle.amf_io.specs.CursorReads.{Answers};
-ghost use Rattle.amf_io.specs.Layout.{bind};
 ghost use Rattle.amf0_spelling.specs.KeptTables0.{AreTables0In};
-ghost use Rattle.amf0_layout.specs.Layout0.{read0, value0_layout};
-ghost use Rattle.amf0_layout.specs.Layout0State.{state0_of};
 ghost use Rattle.amf0_spelling.specs.TableParts0.{shown_tables};
 ghost use Rattle.amf_io.specs.Stretch.{between};
 ghost use Rattle.amf_fields.specs.Room.{HasRoomFor, Raises, left_of};
-ghost use Rattle.amf3_read.specs.Frames.{Fuel, Enough};
 ghost use Rattle.amf0_read.specs.Answer0.{Answers0};
-ghost use Rattle.amf0_read.specs.Fronts0.{form_of};
+ghost use Rattle.amf0_read.specs.Beginnings0.{form_of};
 ghost use Rattle.amf0_read.specs.Ready0.{Ready0, StillReady0};
-ghost use Rattle.amf0_read.specs.Frames0.{current, rest, HaveFuel, Holds, owed};
+ghost use Rattle.amf0_read.specs.Frames0.{Holds, owed, state_in, AnswersValue0, ReadsOn};
 
+use crate::beginning::{Beginning, read_beginning};
 use crate::fill::{Filled, fill};
 use crate::formed::Read0;
 use crate::frame::{Frame, Now};
-use crate::front::{Front, read_front};
 use crate::node::start_apart;
 use amf_fields::kept;
 use amf_graph::{Builder, Value};
@@ -45,7 +40,7 @@ pub fn read0<S: Source>(
 ) -> Result<Read0, ReadEnd>
     requires tables { AreTables0In builder.old (shown_tables tables.old) }
     requires room { HasRoomFor builder.old (left_of cursor.old) }
-    ensures goes { Goes S.tells S.left S.faults cursor.old cursor.new result }
+    ensures goes { Goes S.Source cursor.old cursor.new result }
     ensures answers { Answers0 builder.old builder.new (shown_tables tables.old) (shown_tables tables.new) (between S.tells S.left cursor.old cursor.new) result }
     ensures tables { OnOk result (AreTables0In builder.new (shown_tables tables.new)) }
     ensures raises { OnOk result (Raises builder.old builder.new (place cursor.new - place cursor.old)) }
@@ -53,11 +48,11 @@ pub fn read0<S: Source>(
     // What is true of every builder and every cursor.
     builder.is_built();
     let _start = cursor.at();
-    let Front {
+    let Beginning {
         frames,
         now,
         is_call,
-    } = read_front(alloc, cursor, builder, tables)?;
+    } = read_beginning(alloc, cursor, builder, tables)?;
     let value = read_on(alloc, cursor, builder, tables, frames, now)?;
     let form = form_of(is_call, tables.has_switched());
     Ok(Read0 { value, form })
@@ -72,11 +67,11 @@ pub fn read_value0<S: Source>(
     tables: &mut Tables0,
 ) -> Result<Value, ReadEnd>
     requires { Ready0 0 builder.old (shown_tables tables.old) cursor.old }
-    ensures goes { Goes S.tells S.left S.faults cursor.old cursor.new result }
-    ensures answers { (n : ℕ) → left_of cursor.old < n → Answers S.tells S.left (λ v. read0 v (state0_of builder.new (shown_tables tables.new))) (value0_layout n false (state0_of builder.old (shown_tables tables.old))) cursor.old cursor.new result }
+    ensures goes { Goes S.Source cursor.old cursor.new result }
+    ensures answers { AnswersValue0 S.tells S.left (state_in builder.old tables.old) (state_in builder.new tables.new) cursor.old cursor.new result }
     ensures still_ready { OnOk result (StillReady0 0 0 builder.old builder.new (shown_tables tables.new) cursor.old cursor.new) }
 {
-    let Front { frames, now, .. } = read_front(alloc, cursor, builder, tables)?;
+    let Beginning { frames, now, .. } = read_beginning(alloc, cursor, builder, tables)?;
     read_on(alloc, cursor, builder, tables, frames, now)
 }
 
@@ -102,8 +97,8 @@ fn read_on<S: Source>(
 ) -> Result<Value, ReadEnd>
     requires ready { Ready0 (owed now) builder.old (shown_tables tables.old) cursor.old }
     requires holds { Holds (left_of cursor.old) now (reverse frames.items) builder.old }
-    ensures goes { Goes S.tells S.left S.faults cursor.old cursor.new result }
-    ensures answers { (fuel : Fuel) (fuels : List Fuel) → Enough (left_of cursor.old) fuel → HaveFuel (left_of cursor.old) fuels (reverse frames.items) → Answers S.tells S.left (λ v. read0 v (state0_of builder.new (shown_tables tables.new))) (bind (current fuel now (state0_of builder.old (shown_tables tables.old))) (rest fuels (reverse frames.items))) cursor.old cursor.new result }
+    ensures goes { Goes S.Source cursor.old cursor.new result }
+    ensures answers { ReadsOn S.tells S.left now (reverse frames.items) (state_in builder.old tables.old) (state_in builder.new tables.new) cursor.old cursor.new result }
     ensures still_ready { OnOk result (StillReady0 0 (owed now) builder.old builder.new (shown_tables tables.new) cursor.old cursor.new) }
 {
     loop {
@@ -115,12 +110,12 @@ fn read_on<S: Source>(
                 let Some(frame) = frames.pop() else {
                     return Ok(value);
                 };
-                kept(builder.put(frame.node, frame.slot.part_of(value)))?;
-                now = Now::Open(frame.node, frame.slot.todo_behind());
+                kept(builder.put(frame.node, frame.role.part_of(value)))?;
+                now = Now::Open(frame.node, frame.role.todo_behind());
             }
             Now::Open(node, todo) => match fill(alloc, cursor, builder, tables, node, todo)? {
-                Filled::Within(slot, child, more) => {
-                    frames.push(Frame { node, slot })?;
+                Filled::Within(role, child, more) => {
+                    frames.push(Frame { node, role })?;
                     now = Now::Open(child, more);
                 }
                 Filled::Closed => now = Now::Given(Value::Node(node)),

@@ -33,3 +33,4 @@ pub mod NodeRows0
 pub mod LoweringRows
 pub mod LackRows0
 pub mod Forms0
+pub mod Bytes0

@@ -4,6 +4,7 @@ pub mod Markers0
 pub mod Refusals0
 pub mod Segments0
 pub mod Spells0
+pub mod Values0
 pub mod Lowered
 pub mod Met
 pub mod Meets

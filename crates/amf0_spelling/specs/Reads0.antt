@@ -4,9 +4,8 @@ use Rattle.amf_io.specs.Field.{Field}
 use Rattle.amf_wire.specs.Style.{free}
 use Rattle.amf_graph.specs.declared.value.Value.{Value as Stored}
 use Rattle.amf_graph.specs.Arena.{Arena, value_content, graph_of, Names, IsBuilt, Completes}
-use Rattle.amf_graph.specs.Building.{no_arena}
 use Rattle.amf3_spelling.specs.Reads3.{Grows}
-use Rattle.amf0_spelling.specs.KeptTables0.{KeptTables0, no_kept_tables0, tables0_of, AreTables0In}
+use Rattle.amf0_spelling.specs.KeptTables0.{KeptTables0, tables0_of, AreTables0In}
 use Rattle.amf0_spelling.specs.Spells0.{Spells0}
 use Rattle.amf0_spelling.specs.Tables0.{Tables0}
 
@@ -26,7 +25,3 @@ pub record IsReading0 (a : Arena) (t : KeptTables0) (fs : List Field) : Type 0 w
   pub names : Names graph value
   pub after : Tables0
   pub spelled : Spells0 free (graph_of graph value) (value_content graph value) (tables0_of a t) fs after
-
--- the accepted lists of one value, from nothing
-abbrev pub IsValue0 : List Field → Type 0
-IsValue0 = IsReading0 no_arena no_kept_tables0

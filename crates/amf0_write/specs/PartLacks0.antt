@@ -1,5 +1,6 @@
 -- Why a part of a lowered graph has no canonical spelling in AMF 0 (1.3.1, 2.9), by the canonical numbers of the whole graph.
-use Rattle.std.specs.Prelude.{◌≡◌, ℕ, ◌<◌, ◌≤◌, ◌^◌, ◌-◌, ◌⊎◌, true, List, [], ◌∷◌, length, take, slice_get, Some}
+use Rattle.std.specs.Prelude.{◌≡◌, ℕ, ◌<◌, ◌≤◌, ◌^◌, ◌-◌, ◌⊎◌, true, List, [], ◌∷◌, length, take, slice_get, Option, Some, MatchOption}
+use Rattle.amf_graph.specs.declared.lack.Lack.{Lack}
 use Rattle.amf_graph.specs.declared.lack.LackKind.{LackKind}
 use Rattle.amf_graph.specs.declared.lack.LackKind.TheVariants.{NoForm, LongName, Shared, FarReference}
 use Rattle.amf_graph.specs.Graph.{Value, Graph, node_at}
@@ -40,3 +41,7 @@ LacksOutside g outside number kind = (order : List ℕ) × IsOrder g order × La
 -- the first node of the graph that has no spelling, where of those that an index could name the first so many are in no table
 abbrev pub IsLackOutside : Graph → ℕ → ℕ → LackKind → Type 0
 IsLackOutside g outside number kind = (order : List ℕ) × IsOrder g order × IsFirstLack (Lacks0 g outside order) number kind
+
+-- that node and why, or that each node has a spelling
+abbrev pub TellsLackOutside : Graph → ℕ → Option Lack → Type 0
+TellsLackOutside g outside lack = MatchOption lack ((number : ℕ) (kind : LackKind) → LacksOutside g outside number kind → ⊥) (λ l. IsLackOutside g outside l.node l.kind)

@@ -1,23 +1,26 @@
 -- How the first lack of a part is looked for. A device of proofs.
-use Rattle.std.specs.Prelude.{◌≡◌, ℕ, ◌+◌, ◌<◌, ◌≤◌, ◌^◌, ◌⊎◌, Bool, true, false, List, [], ◌∷◌, ◌++◌, length, take, set, slice_get, Option, Some, None}
+use Rattle.std.specs.Prelude.{◌≡◌, ℕ, ◌+◌, ◌<◌, ◌≤◌, ◌^◌, ◌⊎◌, Bool, true, false, List, [], ◌∷◌, ◌++◌, length, take, set, slice_get, Option, Some, None, Result, OnOk}
 use Rattle.amf_graph.specs.declared.lack.Lack.{Lack}
 use Rattle.amf_graph.specs.declared.lack.LackKind.{LackKind}
 use Rattle.amf_graph.specs.declared.lack.LackKind.TheVariants.{NoForm, LongName, Shared, FarReference}
-use Rattle.amf_graph.specs.Graph.{Value, Graph, node_at}
+use Rattle.amf_graph.specs.declared.value.Value.{Value as Stored}
+use Rattle.amf_graph.specs.Arena.{value_content}
+use Rattle.amf_graph.specs.Graph.{Value, node, Graph, node_at}
 use Rattle.amf_graph.specs.Lacks.{IsFirstLack}
 use Rattle.amf_graph.specs.Order.{Absent, IsDistinct, values_met}
+use Rattle.amf_graph.specs.Rooted.{RootedArena, content}
 use Rattle.amf0_spelling.specs.Lacks0.{HasNoForm, HasShortNames, enters0, is_loose0, entered}
 use Rattle.amf0_spelling.specs.Meets.{Meets}
 use Rattle.amf0_spelling.specs.Tables0.{Tables0}
 use Rattle.amf3_spelling.specs.Tables.{Tables}
-use Rattle.amf0_write.specs.Written0.{AreTables0}
+use Rattle.amf0_write.specs.Written0.{tables0, AreTables0}
 use Rattle.amf0_write.specs.Writes0.{unentered}
 use Rattle.amf0_write.specs.declared.part_lack.Search.{Search}
 use Rattle.amf_graph.specs.Renumbered.{numbers_of}
 use Rattle.amf_graph.specs.declared.value.NodeId.{NodeId}
 use Rattle.amf0_write.specs.declared.meeting.Meeting.{Meeting}
 use Rattle.amf0_write.specs.declared.meeting.Meeting.TheVariants.{Never, Alone, At}
-use Rattle.amf0_write.specs.PartLacks0.{outside_of, PlaceLacks0, PartLacks0}
+use Rattle.amf0_write.specs.PartLacks0.{outside_of, PlaceLacks0, PartLacks0, IsPartLack0}
 
 -- the next index and the nodes that were never met are together no more
 abbrev pub places_end : ℕ
@@ -58,6 +61,20 @@ pub record AreMetAs (g : Graph) (outside : ℕ) (met : List ℕ) (meetings : Lis
   pub told : (i : ℕ) (m : Meeting) → slice_get meetings i ≡ Some m → IsMetAs g outside met i m
   pub level : length (entered g met) ≡ outside + next
   pub all : length meetings ≡ length g.nodes
+
+-- The same by a writer's tables.
+
+abbrev pub HasLackBehind : RootedArena → Stored → Tables → Type 0
+HasLackBehind g v t = HasPartLack0 (content g) (value_content g.arena v) (tables0 t)
+
+abbrev pub IsLackBehind : RootedArena → Stored → Tables → Lack → Type 0
+IsLackBehind g v t l = IsPartLack0 (content g) (value_content g.arena v) (tables0 t) l.node l.kind
+
+abbrev pub HaveGrown : RootedArena → (old new : Tables) → (since : List NodeId) → Type 0
+HaveGrown g old new since = AreGrownTables (content g) (tables0 old) (tables0 new) since
+
+abbrev pub AreMetBefore : RootedArena → Tables → List Meeting → (next : ℕ) → Type 0
+AreMetBefore g t meetings next = AreMetAs (content g) (outside_of (content g) (tables0 t)) t.done meetings next
 
 -- how many were never met
 abbrev pub unmet : List Meeting → ℕ
@@ -117,3 +134,11 @@ pub record Searched (g : Graph) (outside : ℕ) (before : List ℕ) (from : List
 abbrev pub left_of : Graph → Bool → ℕ → List Value → List Value
 left_of g true i left = values_met (node_at g i) ++ left
 left_of g false i left = left
+
+-- the search goes on by a node, whatever else is left to be met
+abbrev pub SearchesNode : Graph → (order : List ℕ) → (i : ℕ) → (is_new : Bool) → (old new : Search) → Type 0
+SearchesNode g order i is_new old new = (outside : ℕ) (before : List ℕ) (from left : List Value) → Searched g outside before from order old (node i ∷ left) → Searched g outside before from order new (left_of g is_new i left)
+
+-- the search goes on by a value that alone is left, and by all behind it
+abbrev pub SearchesAll : {X E : Type 0} → Graph → (order : List ℕ) → Value → (old new : Search) → Result X E → Type 0
+SearchesAll g order v old new result = (outside : ℕ) (before : List ℕ) (from : List Value) → Searched g outside before from order old (v ∷ []) → OnOk result (Searched g outside before from order new [])

@@ -5,8 +5,9 @@ use Rattle.amf_graph.specs.declared.value.NodeId.{NodeId}
 use Rattle.amf_graph.specs.declared.value.TextId.{TextId}
 use Rattle.amf_graph.specs.declared.value.Value.{Value as Stored}
 use Rattle.amf_graph.specs.declared.value.Value.TheVariants.{Node as NodeRef}
-use Rattle.amf_graph.specs.Graph.{node}
-use Rattle.amf_graph.specs.Arena.{Arena, Names, IsTextId, text_at, value_content}
+use Rattle.amf_graph.specs.ByName.{by_name}
+use Rattle.amf_graph.specs.Graph.{node, array, object, Node, Value, Graph}
+use Rattle.amf_graph.specs.Arena.{Arena, Names, IsTextId, text_at, traits_at, value_content}
 use Rattle.amf_graph.specs.Order.{Absent}
 use Rattle.amf_graph.specs.Reached.{IsReachedValue}
 use Rattle.amf_graph.specs.Rooted.{RootedArena, content}
@@ -14,7 +15,8 @@ use Rattle.amf_iso.specs.Contents.{values_of, pairs_of, ArePairs}
 use Rattle.amf0_spelling.specs.Lacks0.{IsShortName}
 use Rattle.amf0_write.specs.declared.unwritten.Unwritten.{Unwritten}
 use Rattle.amf0_write.specs.declared.unwritten.Unwritten.TheVariants.{One, Values, Pairs, Sorted}
-use Rattle.amf0_write.specs.Writes0.{Segment, value, values_then, pairs_then}
+use Rattle.amf0_write.specs.declared.output.Output.{Output}
+use Rattle.amf0_write.specs.Writes0.{Segment, value, values_then, pairs_then, Leads, Stops, Opened}
 
 -- the segments of a run
 abbrev pub run_segments : Arena → Unwritten → List Segment
@@ -86,3 +88,42 @@ node_turns = 2 ^ 30
 -- no more turns are left than before; or one of so many nodes is new among those written, and no more turns came than a node has
 abbrev pub Falls : ℕ → List ℕ → List ℕ → ℕ → ℕ → Type 0
 Falls count old new before after = ((new ≡ old) × (after ≤ before)) ⊎ ((i : ℕ) × (i < count) × Absent old i × (new ≡ old ++ i ∷ []) × (after ≤ before + node_turns))
+
+-- What is to be written of values and of pairs, and what is opened.
+
+abbrev pub values_ahead : Arena → List Stored → List Segment
+values_ahead a vs = values_then (values_of a vs)
+
+abbrev pub pairs_ahead : Arena → List (TextId × Stored) → List Segment
+pairs_ahead a ps = pairs_then (pairs_of a ps)
+
+abbrev pub sorted_ahead : Arena → List (TextId × Stored) → List Segment
+sorted_ahead a ps = pairs_then (by_name (pairs_of a ps))
+
+abbrev pub array_node : Arena → List (TextId × Stored) → List Stored → Node
+array_node a names items = record { head = array; names = pairs_of a names; values = values_of a items }
+
+abbrev pub object_node : Arena → ℕ → List (TextId × Stored) → Node
+object_node a traits members = record { head = object (traits_at a traits); names = pairs_of a members; values = [] }
+
+-- segments are written up to the next node, with a stack before and behind
+abbrev pub LeadsToNext : RootedArena → List Segment → (waiting left : List Unwritten) → Option NodeId → Output → Output → Type 0
+LeadsToNext g ps waiting left next old new = Leads (content g) (ps ++ segments_left g.arena waiting) (next_segments next ++ segments_left g.arena left) old new
+
+-- they are written, or wait
+abbrev pub LeadsToRest : RootedArena → List Segment → (waiting left : List Unwritten) → Output → Output → Type 0
+LeadsToRest g ps waiting left old new = Leads (content g) (ps ++ segments_left g.arena waiting) (segments_left g.arena left) old new
+
+abbrev pub StopsWithin : RootedArena → List Segment → List Unwritten → Output → Type 0
+StopsWithin g ps waiting old = Stops (content g) (ps ++ segments_left g.arena waiting) old
+
+abbrev pub OpenedOn : RootedArena → Node → (waiting left : List Unwritten) → Output → Output → Type 0
+OpenedOn g n waiting left old new = Opened n (segments_left g.arena waiting) (segments_left g.arena left) old new
+
+-- a value is written, or it is the next node, whatever stands behind it
+abbrev pub LeadsValue : Graph → Value → Option NodeId → Output → Output → Type 0
+LeadsValue g v next old new = (ps : List Segment) → Leads g (value v ∷ ps) (next_segments next ++ ps) old new
+
+-- a writer of a value stops, whatever stands behind it
+abbrev pub StopsAt : Graph → Value → Output → Type 0
+StopsAt g v old = (ps : List Segment) → Stops g (value v ∷ ps) old

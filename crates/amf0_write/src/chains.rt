@@ -1,4 +1,4 @@
-ghost use Rattle.std.specs.Prelude.{◌≡◌, ◌⊎◌, ℕ, ◌+◌, ◌<◌, ◌≤◌, true, false, length, get_or, IfOk};
+ghost use Rattle.std.specs.Prelude.{◌≡◌, ℕ, ◌+◌, ◌<◌, true, false, length, IfOk};
 ghost use Rattle.std.specs.List.{AllByRecursion};
 ghost use Rattle.amf_graph.specs.Arena.{Names, value_content};
 ghost use Rattle.amf_graph.specs.Graph as graph_of_values;
@@ -6,8 +6,8 @@ ghost use Rattle.amf_graph.specs.Graph.{node_at};
 ghost use Rattle.amf_graph.specs.Rooted.{RootedArena, content};
 ghost use Rattle.amf_wire.specs.Integer.{IsInteger};
 ghost use Rattle.amf_wire.specs.Whole.{IsPatternOf};
-ghost use Rattle.amf0_spelling.specs.Lowered.{is_wrapper, wraps, unwrapped, Low, unwrapped_times};
-ghost use Rattle.amf0_write.specs.Chained.{AreAfter, HasNoWrapper, AreLow};
+ghost use Rattle.amf0_spelling.specs.Lowered.{is_wrapper, wraps, unwrapped};
+ghost use Rattle.amf0_write.specs.Chained.{AreAfter, IsFurther, AreUnwrapped, AreChainEnds, IsLowEnd, HasNoWrapper, AreLow};
 
 use amf_graph::{NodeId, NodeKind, NodeView, Rooted, Value};
 use amf_wire::{Memory, Pattern, pattern_of};
@@ -67,7 +67,7 @@ fn first_steps(alloc: Global, graph: &Rooted) -> Result<Vec<Value>, Memory>
 fn further(value: Value, ends: &[Value]) -> Value
     requires { (g : RootedArena) × (length ends.now ≡ length g.arena.nodes) × Names g.arena value }
     ensures names { (g : RootedArena) (steps : ℕ) → AreAfter g steps ends.now → Names g.arena value → Names g.arena result }
-    ensures content { (g : RootedArena) (steps : ℕ) → AreAfter g steps ends.now → Names g.arena value → value_content g.arena result ≡ unwrapped_times (content g) steps (value_content g.arena value) }
+    ensures content { IsFurther ends.now value result }
 {
     match value {
         Value::Node(node) => ends[node.0 as usize],
@@ -90,7 +90,7 @@ fn doubled(alloc: Global, ends: &[Value]) -> Result<Vec<Value>, Memory>
 /// Whether one of the values is a wrapper.
 fn lead_on(ends: &[Value], graph: &Rooted) -> bool
     requires { AllByRecursion (Names graph.now.arena) ends.now }
-    ensures { result ≡ false → AllByRecursion (λ v. wraps (content graph.now) (value_content graph.now.arena v) ≡ false) ends.now }
+    ensures { result ≡ false → AreUnwrapped graph.now ends.now }
 {
     for end in ends {
         if wraps(*end, graph) {
@@ -103,7 +103,7 @@ fn lead_on(ends: &[Value], graph: &Rooted) -> bool
 /// For each node the value at which its chain of wrappers ends. Where that is a wrapper, the chain never ends: it is longer
 /// than there are nodes.
 fn chain_ends(alloc: Global, graph: &Rooted) -> Result<Vec<Value>, Memory>
-    ensures { IfOk result (λ ends. (steps : ℕ) × AreAfter graph.now steps ends.items × ((length graph.now.arena.nodes ≤ steps) ⊎ AllByRecursion (λ v. wraps (content graph.now) (value_content graph.now.arena v) ≡ false) ends.items)) }
+    ensures { IfOk result (λ ends. AreChainEnds graph.now ends.items) }
 {
     graph.is_finished();
     let mut ends = first_steps(alloc, graph)?;
@@ -130,7 +130,7 @@ fn double_of(integer: i32) -> Pattern
 fn low(end: Value, graph: &Rooted) -> Value
     requires { Names graph.now.arena end }
     ensures names { Names graph.now.arena result }
-    ensures low { (steps : ℕ) (i : ℕ) → value_content graph.now.arena end ≡ unwrapped_times (content graph.now) steps (graph_of_values.node i) → (length graph.now.arena.nodes ≤ steps) ⊎ (wraps (content graph.now) (value_content graph.now.arena end) ≡ false) → Low (content graph.now) (graph_of_values.node i) (value_content graph.now.arena result) }
+    ensures low { IsLowEnd graph.now end result }
 {
     if wraps(end, graph) {
         return Value::Null;

@@ -1,13 +1,10 @@
-ghost use Rattle.std.specs.Prelude.{◌≡◌, ◌<◌, ◌↔◌, ℕ, List, true, length, MatchOption, IfOk};
-ghost use Rattle.amf_graph.specs.Graph as graph_of_values;
-ghost use Rattle.amf_graph.specs.declared.lack.LackKind.{LackKind};
-ghost use Rattle.amf_graph.specs.Lacks.{IsFirstLack};
+ghost use Rattle.std.specs.Prelude.{◌<◌, length, IfOk};
 ghost use Rattle.amf_graph.specs.Order.{IsOrder};
 ghost use Rattle.amf_graph.specs.Rooted.{content};
-ghost use Rattle.amf0_spelling.specs.Lacks0.{Lacks0, NodeLacks0, place0};
-ghost use Rattle.amf0_spelling.specs.Met.{all_met, IsTwice};
-ghost use Rattle.amf0_write.specs.PartLacks0.{LacksOutside, IsLackOutside};
-ghost use Rattle.amf0_write.specs.Meetings.{AreMarked, IsFirstReason};
+ghost use Rattle.amf0_spelling.specs.Lacks0.{Lacks0};
+ghost use Rattle.amf0_spelling.specs.Met.{all_met};
+ghost use Rattle.amf0_write.specs.PartLacks0.{TellsLackOutside};
+ghost use Rattle.amf0_write.specs.Meetings.{AreMarked, IsReasonAt, TellsFirst};
 
 use crate::meetings::met_again;
 use crate::nodes::{enters, has_no_form, has_short_names, is_loose};
@@ -21,7 +18,7 @@ use std::alloc::Global;
 /// can name, if it is one of those.
 fn reason(node: NodeId, place: u32, is_again: bool, graph: &Rooted) -> Option<LackKind>
     requires { node.0 < length graph.now.arena.nodes }
-    ensures { (outside : ℕ) (order : List ℕ) (number : ℕ) → place ≡ place0 (content graph.now) outside order number → (is_again ≡ true) ↔ IsTwice (all_met (content graph.now) order) (graph_of_values.node node.0) → IsFirstReason (NodeLacks0 (content graph.now) outside order number node.0) result }
+    ensures { IsReasonAt (content graph.now) node.0 place is_again result }
 {
     let view = graph.node(node);
     if has_no_form(node, view, graph) {
@@ -43,7 +40,7 @@ fn reason(node: NodeId, place: u32, is_again: bool, graph: &Rooted) -> Option<La
 fn first_of(numbering: &Numbering, again: &[bool], outside: u32, graph: &Rooted) -> Option<Lack>
     requires order { IsOrder (content graph.now) numbering.now }
     requires again { AreMarked (length graph.now.arena.nodes) (all_met (content graph.now) numbering.now) again.now }
-    ensures { MatchOption result ((number : ℕ) (kind : LackKind) → Lacks0 (content graph.now) outside numbering.now number kind → ⊥) (λ l. IsFirstLack (Lacks0 (content graph.now) outside numbering.now) l.node l.kind) }
+    ensures { TellsFirst (Lacks0 (content graph.now) outside numbering.now) result }
 {
     graph.is_finished();
     let mut entered: u32 = 0;
@@ -64,7 +61,7 @@ fn first_of(numbering: &Numbering, again: &[bool], outside: u32, graph: &Rooted)
 /// canonical order are in no table: none of them in a message, and one in a file, whose pairs are the members of an object
 /// that is not written itself. It gives up where there is no memory.
 pub fn first_lack0(alloc: Global, graph: &Rooted, outside: u32) -> Result<Option<Lack>, Memory>
-    ensures { IfOk result (λ lack. MatchOption lack ((number : ℕ) (kind : LackKind) → LacksOutside (content graph.now) outside number kind → ⊥) (λ l. IsLackOutside (content graph.now) outside l.node l.kind)) }
+    ensures { IfOk result (TellsLackOutside (content graph.now) outside) }
 {
     let numbering = Numbering::of(alloc, graph)?;
     let again = met_again(alloc, &numbering, graph)?;

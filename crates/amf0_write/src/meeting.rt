@@ -1,10 +1,7 @@
 ghost use Rattle.std.specs.Prelude.{◌≡◌, ◌<◌, length, IfOk};
 ghost use Rattle.std.specs.List.{AllByRecursion};
-ghost use Rattle.amf_graph.specs.Rooted.{content};
 ghost use Rattle.amf3_spelling.specs.Tables.{Tables};
-ghost use Rattle.amf0_write.specs.PartLacks0.{outside_of};
-ghost use Rattle.amf0_write.specs.Searched.{WasMet, AreGrownTables, AreMetAs};
-ghost use Rattle.amf0_write.specs.Written0.{tables0};
+ghost use Rattle.amf0_write.specs.Searched.{WasMet, HaveGrown, AreMetBefore};
 
 use amf_graph::{NodeId, Rooted};
 use amf_tables::WriterTables;
@@ -53,7 +50,7 @@ pub(crate) fn meetings_before(
     graph: &Rooted,
 ) -> Result<Vec<Meeting>, Memory>
     requires within { AllByRecursion (λ n. n.0 < length graph.now.arena.nodes) loose.now }
-    ensures { (t : Tables) → AreGrownTables (content graph.now) (tables0 t) (tables0 tables.now) loose.now → count ≡ length t.nodes → IfOk result (λ meetings. AreMetAs (content graph.now) (outside_of (content graph.now) (tables0 t)) t.done meetings.items count) }
+    ensures { (t : Tables) → HaveGrown graph.now t tables.now loose.now → count ≡ length t.nodes → IfOk result (λ meetings. AreMetBefore graph.now t meetings.items count) }
 {
     graph.is_finished();
     let mut meetings = Vec::new(alloc);

@@ -1,10 +1,9 @@
-ghost use Rattle.std.specs.Prelude.{◌≡◌, ◌∷◌, ◌++◌, [], List, length, IfOk};
-ghost use Rattle.amf_graph.specs.Arena.{Arena, Names, value_content};
-ghost use Rattle.amf_graph.specs.Graph as graph;
+ghost use Rattle.std.specs.Prelude.{◌≡◌, [], length, IfOk};
+ghost use Rattle.amf_graph.specs.Arena.{Arena, Names};
 ghost use Rattle.amf_graph.specs.Order.{IsOrder};
 ghost use Rattle.amf_graph.specs.Rooted.{content};
 ghost use Rattle.amf0_spelling.specs.Met.{all_met};
-ghost use Rattle.amf0_write.specs.Meetings.{AreMet, AreMarked};
+ghost use Rattle.amf0_write.specs.Meetings.{AreMet, MeetsValue, AreMarked};
 
 use amf_graph::{Rooted, Value};
 use amf_iso::{Numbering, values_met};
@@ -32,7 +31,7 @@ impl Meetings {
     /// One more value is met.
     fn meet(&mut self, value: Value)
         requires room { (a : Arena) × (length self.old.seen.items ≡ length a.nodes) × (length self.old.again.items ≡ length a.nodes) × Names a value }
-        ensures met { (a : Arena) (met : List graph.Value) → Names a value → AreMet (length a.nodes) met self.old.seen.items self.old.again.items → AreMet (length a.nodes) (met ++ value_content a value ∷ []) self.new.seen.items self.new.again.items }
+        ensures met { MeetsValue value self.old self.new }
     {
         if let Value::Node(node) = value {
             let place = node.0 as usize;

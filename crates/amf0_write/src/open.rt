@@ -3,19 +3,18 @@ ghost use Rattle.std.specs.List.{AllByRecursion};
 ghost use Rattle.amf_graph.specs.declared.value.Value.TheVariants.{Node as NodeRef};
 ghost use Rattle.amf_graph.specs.Arena.{traits_at};
 ghost use Rattle.amf_graph.specs.Building.{stored_at};
-ghost use Rattle.amf_graph.specs.ByName.{by_name};
 ghost use Rattle.amf_graph.specs.Graph as graph_of_values;
 ghost use Rattle.amf_graph.specs.Graph.{node_at};
 ghost use Rattle.amf_graph.specs.Order.{Absent};
 ghost use Rattle.amf_graph.specs.Rooted.{content};
 ghost use Rattle.amf_graph.specs.Views.{Shows};
-ghost use Rattle.amf_iso.specs.Contents.{values_of, pairs_of};
 ghost use Rattle.amf0_spelling.specs.Lacks0.{HasNoForm, HasShortNames, IsShortName};
 ghost use Rattle.amf0_spelling.specs.Lowered.{IsLowered};
 ghost use Rattle.amf0_spelling.specs.Spells0.{IsOpenTraits};
 ghost use Rattle.amf0_write.specs.Unwritten0.{IsMetValue, AreMetPairs, AreRunsOf, segments_left, turns_left, Falls, opened_turns};
+ghost use Rattle.amf0_write.specs.Unwritten0.{LeadsToRest, OpenedOn, array_node, object_node, sorted_ahead};
 ghost use Rattle.amf0_write.specs.Writes0 as segment;
-ghost use Rattle.amf0_write.specs.Writes0.{pairs_then, done_of, Leads, Keeps, Opened};
+ghost use Rattle.amf0_write.specs.Writes0.{done_of, Keeps};
 ghost use Rattle.amf_graph.specs.Bounds.{count_end};
 
 use crate::output::Output;
@@ -43,7 +42,7 @@ impl Output {
         requires form { HasNoForm (node_at (content graph.now) node.0) (node_at (content graph.now) node.0).head → ⊥ }
         requires short { HasShortNames (node_at (content graph.now) node.0) }
         requires runs { AreRunsOf graph.now waiting.old.items }
-        ensures leads { OnOk result (Leads (content graph.now) (segment.value (graph_of_values.node node.0) ∷ segments_left graph.now.arena waiting.old.items) (segments_left graph.now.arena waiting.new.items) self.old self.new) }
+        ensures leads { OnOk result (LeadsToRest graph.now (segment.value (graph_of_values.node node.0) ∷ []) waiting.old.items waiting.new.items self.old self.new) }
         ensures runs { OnOk result (AreRunsOf graph.now waiting.new.items) }
         ensures falls { OnOk result (Falls (length graph.now.arena.nodes) (done_of self.old) (done_of self.new) (turns_left waiting.old.items) (turns_left waiting.new.items)) }
         ensures keeps { Keeps self.old self.new }
@@ -90,7 +89,7 @@ impl Output {
         requires form { names.now ≢ [] → items.now ≡ [] }
         requires items { AllByRecursion (IsMetValue graph.now) items.now }
         requires names { AreMetPairs graph.now names.now }
-        ensures opened { OnOk result (Opened (record { head = graph_of_values.array; names = pairs_of graph.now.arena names.now; values = values_of graph.now.arena items.now }) (segments_left graph.now.arena waiting.old.items) (segments_left graph.now.arena waiting.new.items) self.old self.new) }
+        ensures opened { OnOk result (OpenedOn graph.now (array_node graph.now.arena names.now items.now) waiting.old.items waiting.new.items self.old self.new) }
         ensures runs { AreRunsOf graph.now waiting.old.items → OnOk result (AreRunsOf graph.now waiting.new.items) }
         ensures turns { OnOk result (turns_left waiting.new.items ≤ turns_left waiting.old.items + opened_turns) }
         ensures keeps { Keeps self.old self.new }
@@ -119,7 +118,7 @@ impl Output {
         requires class { IsShortName (traits_at graph.now.arena traits.0).class }
         requires few_names { length members.now < count_end }
         requires names { AreMetPairs graph.now members.now }
-        ensures opened { OnOk result (Opened (record { head = graph_of_values.object (traits_at graph.now.arena traits.0); names = pairs_of graph.now.arena members.now; values = [] }) (segments_left graph.now.arena waiting.old.items) (segments_left graph.now.arena waiting.new.items) self.old self.new) }
+        ensures opened { OnOk result (OpenedOn graph.now (object_node graph.now.arena traits.0 members.now) waiting.old.items waiting.new.items self.old self.new) }
         ensures runs { AreRunsOf graph.now waiting.old.items → OnOk result (AreRunsOf graph.now waiting.new.items) }
         ensures turns { OnOk result (turns_left waiting.new.items ≤ turns_left waiting.old.items + opened_turns) }
         ensures keeps { Keeps self.old self.new }
@@ -145,7 +144,7 @@ fn push_pairs<'g>(
     waiting: &mut Vec<Unwritten<'g>>,
 ) -> Result<(), Memory>
     requires { AreMetPairs graph.now pairs.now }
-    ensures left { OnOk result (segments_left graph.now.arena waiting.new.items ≡ pairs_then (by_name (pairs_of graph.now.arena pairs.now)) ++ segments_left graph.now.arena waiting.old.items) }
+    ensures left { OnOk result (segments_left graph.now.arena waiting.new.items ≡ sorted_ahead graph.now.arena pairs.now ++ segments_left graph.now.arena waiting.old.items) }
     ensures runs { AreRunsOf graph.now waiting.old.items → OnOk result (AreRunsOf graph.now waiting.new.items) }
     ensures turns { OnOk result (turns_left waiting.new.items ≡ turns_left waiting.old.items + (length pairs.now + 1)) }
 {

@@ -1,15 +1,11 @@
-ghost use Rattle.std.specs.Prelude.{◌≡◌, ◌↔◌, ◌+◌, ◌<◌, ◌≤◌, ◌^◌, ◌∷◌, [], ℕ, List, true, false, length, IsTrue, OnOk, IfOk};
+ghost use Rattle.std.specs.Prelude.{◌≡◌, ◌↔◌, ◌+◌, ◌<◌, ◌≤◌, ◌^◌, true, false, length, IsTrue, IfOk};
 ghost use Rattle.amf_graph.specs.Arena.{Names, value_content};
-ghost use Rattle.amf_graph.specs.Graph as graph_of_values;
-ghost use Rattle.amf_graph.specs.Graph.{Value as ValueContent, node_at};
 ghost use Rattle.amf_graph.specs.Order.{IsOrder};
 ghost use Rattle.amf_graph.specs.Reached.{IsReachedValue};
 ghost use Rattle.amf_graph.specs.Rooted.{content};
 ghost use Rattle.amf3_spelling.specs.Tables.{Tables};
 ghost use Rattle.amf0_write.specs.Meetings.{IsFirstReason};
-ghost use Rattle.amf0_write.specs.PartLacks0.{outside_of, IsPartLack0};
-ghost use Rattle.amf0_write.specs.Searched.{HasPartLack0, AreMetAs, MeetingLacks, IsBefore, Notes, IsEntered, Searched, left_of, unmet, places_end};
-ghost use Rattle.amf0_write.specs.Written0.{tables0};
+ghost use Rattle.amf0_write.specs.Searched.{HasLackBehind, IsLackBehind, AreMetBefore, MeetingLacks, IsBefore, Notes, IsEntered, SearchesNode, SearchesAll, unmet, places_end};
 ghost use Rattle.amf_graph.specs.Bounds.{count_end};
 
 use crate::meeting::Meeting;
@@ -84,7 +80,7 @@ impl Search {
         requires there { node.0 < length graph.now.arena.nodes }
         requires room { length self.old.meetings.items ≡ length graph.now.arena.nodes }
         requires few { self.old.next + unmet self.old.meetings.items ≤ places_end }
-        ensures searched { (outside : ℕ) (before : List ℕ) (from left : List ValueContent) → Searched (content graph.now) outside before from numbering.now self.old (graph_of_values.node node.0 ∷ left) → Searched (content graph.now) outside before from numbering.now self.new (left_of (content graph.now) result node.0 left) }
+        ensures searched { SearchesNode (content graph.now) numbering.now node.0 result self.old self.new }
         ensures room { length self.new.meetings.items ≡ length self.old.meetings.items }
         ensures few { self.new.next + unmet self.new.meetings.items ≤ places_end }
         ensures less { result ≡ true → unmet self.new.meetings.items < unmet self.old.meetings.items }
@@ -145,7 +141,7 @@ impl Search {
         requires value { Names graph.now.arena value }
         requires room { length self.old.meetings.items ≡ length graph.now.arena.nodes }
         requires few { self.old.next + unmet self.old.meetings.items ≤ places_end }
-        ensures { (outside : ℕ) (before : List ℕ) (from : List ValueContent) → Searched (content graph.now) outside before from numbering.now self.old (value_content graph.now.arena value ∷ []) → OnOk result (Searched (content graph.now) outside before from numbering.now self.new []) }
+        ensures { SearchesAll (content graph.now) numbering.now (value_content graph.now.arena value) self.old self.new result }
     {
         let mut waiting = vec![in alloc; value]?;
         while let Some(value) = waiting.pop() {
@@ -174,8 +170,8 @@ pub(crate) fn part_lack(
     requires reached { IsReachedValue (content graph.now) (value_content graph.now.arena value) }
     requires room { length meetings.items ≡ length graph.now.arena.nodes }
     requires few { next ≤ count_end }
-    requires lacking { (t : Tables) × AreMetAs (content graph.now) (outside_of (content graph.now) (tables0 t)) t.done meetings.items next × HasPartLack0 (content graph.now) (value_content graph.now.arena value) (tables0 t) }
-    ensures { (t : Tables) → AreMetAs (content graph.now) (outside_of (content graph.now) (tables0 t)) t.done meetings.items next → IfOk result (λ l. IsPartLack0 (content graph.now) (value_content graph.now.arena value) (tables0 t) l.node l.kind) }
+    requires lacking { (t : Tables) × AreMetBefore graph.now t meetings.items next × HasLackBehind graph.now value t }
+    ensures { (t : Tables) → AreMetBefore graph.now t meetings.items next → IfOk result (IsLackBehind graph.now value t) }
 {
     graph.is_finished();
     let numbering = Numbering::of(alloc, graph)?;

@@ -4,13 +4,13 @@ ghost use Rattle.std.specs.Result.{IsErrOf};
 ghost use Rattle.amf_graph.specs.Arena.{Arena, text_at};
 ghost use Rattle.amf_graph.specs.Graph as graph_of_values;
 ghost use Rattle.amf_graph.specs.Rooted.{RootedArena, content};
-ghost use Rattle.amf_iso.specs.Contents.{values_of, pairs_of};
 ghost use Rattle.amf0_spelling.specs.Lacks0.{IsShortName};
 ghost use Rattle.amf0_spelling.specs.Lowered.{IsLowered};
 ghost use Rattle.amf0_write.specs.declared.stop.Stop.TheVariants.{Lack};
-ghost use Rattle.amf0_write.specs.Unwritten0.{IsMetValue, IsMetPair, IsRunOf, AreRunsOf, IsNextOf, run_segments, next_segments, segments_left, run_turns, turns_left};
+ghost use Rattle.amf0_write.specs.Unwritten0.{IsMetValue, IsMetPair, IsRunOf, AreRunsOf, IsNextOf, run_segments, segments_left, run_turns, turns_left};
+ghost use Rattle.amf0_write.specs.Unwritten0.{LeadsToNext, StopsWithin, values_ahead, pairs_ahead};
 ghost use Rattle.amf0_write.specs.Writes0 as segment;
-ghost use Rattle.amf0_write.specs.Writes0.{values_then, pairs_then, tables_of, done_of, Still, Leads, Keeps, Stops};
+ghost use Rattle.amf0_write.specs.Writes0.{tables_of, done_of, Still, Leads, Keeps};
 ghost use Rattle.amf0_write.specs.Written0.{AreTables0};
 
 use crate::output::Output;
@@ -43,8 +43,8 @@ impl Output {
         requires low { IsLowered (content graph.now) }
         requires run { IsRunOf graph.now run }
         requires tables { AreTables0 (content graph.now) (tables_of self.old) }
-        ensures leads { IfOk result (λ next. Leads (content graph.now) (run_segments graph.now.arena run.entry ++ segments_left graph.now.arena waiting.old.items) (next_segments next ++ segments_left graph.now.arena waiting.new.items) self.old self.new) }
-        ensures lack { IsErrOf result Lack → Stops (content graph.now) (run_segments graph.now.arena run.entry ++ segments_left graph.now.arena waiting.old.items) self.old }
+        ensures leads { IfOk result (λ next. LeadsToNext graph.now (run_segments graph.now.arena run.entry) waiting.old.items waiting.new.items next self.old self.new) }
+        ensures lack { IsErrOf result Lack → StopsWithin graph.now (run_segments graph.now.arena run.entry) waiting.old.items self.old }
         ensures next { IfOk result (IsNextOf graph.now (done_of self.new)) }
         ensures runs { AreRunsOf graph.now waiting.old.items → OnOk result (AreRunsOf graph.now waiting.new.items) }
         ensures turns { OnOk result (turns_left waiting.new.items + 1 ≤ run_turns run.entry + turns_left waiting.old.items) }
@@ -70,8 +70,8 @@ impl Output {
         requires low { IsLowered (content graph.now) }
         requires run { AllByRecursion (IsMetValue graph.now) values.now }
         requires tables { AreTables0 (content graph.now) (tables_of self.old) }
-        ensures leads { IfOk result (λ next. Leads (content graph.now) (values_then (values_of graph.now.arena values.now) ++ segments_left graph.now.arena waiting.old.items) (next_segments next ++ segments_left graph.now.arena waiting.new.items) self.old self.new) }
-        ensures lack { IsErrOf result Lack → Stops (content graph.now) (values_then (values_of graph.now.arena values.now) ++ segments_left graph.now.arena waiting.old.items) self.old }
+        ensures leads { IfOk result (λ next. LeadsToNext graph.now (values_ahead graph.now.arena values.now) waiting.old.items waiting.new.items next self.old self.new) }
+        ensures lack { IsErrOf result Lack → StopsWithin graph.now (values_ahead graph.now.arena values.now) waiting.old.items self.old }
         ensures next { IfOk result (IsNextOf graph.now (done_of self.new)) }
         ensures runs { AreRunsOf graph.now waiting.old.items → OnOk result (AreRunsOf graph.now waiting.new.items) }
         ensures turns { OnOk result (turns_left waiting.new.items ≤ length values.now + turns_left waiting.old.items) }
@@ -100,8 +100,8 @@ impl Output {
         requires low { IsLowered (content graph.now) }
         requires run { AllByRecursion (IsMetPair graph.now) pairs.now }
         requires tables { AreTables0 (content graph.now) (tables_of self.old) }
-        ensures leads { IfOk result (λ next. Leads (content graph.now) (pairs_then (pairs_of graph.now.arena pairs.now) ++ segments_left graph.now.arena waiting.old.items) (next_segments next ++ segments_left graph.now.arena waiting.new.items) self.old self.new) }
-        ensures lack { IsErrOf result Lack → Stops (content graph.now) (pairs_then (pairs_of graph.now.arena pairs.now) ++ segments_left graph.now.arena waiting.old.items) self.old }
+        ensures leads { IfOk result (λ next. LeadsToNext graph.now (pairs_ahead graph.now.arena pairs.now) waiting.old.items waiting.new.items next self.old self.new) }
+        ensures lack { IsErrOf result Lack → StopsWithin graph.now (pairs_ahead graph.now.arena pairs.now) waiting.old.items self.old }
         ensures next { IfOk result (IsNextOf graph.now (done_of self.new)) }
         ensures runs { AreRunsOf graph.now waiting.old.items → OnOk result (AreRunsOf graph.now waiting.new.items) }
         ensures turns { OnOk result (turns_left waiting.new.items ≤ length pairs.now + turns_left waiting.old.items) }
@@ -133,8 +133,8 @@ impl Output {
         requires low { IsLowered (content graph.now) }
         requires run { AllByRecursion (IsMetPair graph.now) pairs.items }
         requires tables { AreTables0 (content graph.now) (tables_of self.old) }
-        ensures leads { IfOk result (λ next. Leads (content graph.now) (pairs_then (pairs_of graph.now.arena (reverse pairs.items)) ++ segments_left graph.now.arena waiting.old.items) (next_segments next ++ segments_left graph.now.arena waiting.new.items) self.old self.new) }
-        ensures lack { IsErrOf result Lack → Stops (content graph.now) (pairs_then (pairs_of graph.now.arena (reverse pairs.items)) ++ segments_left graph.now.arena waiting.old.items) self.old }
+        ensures leads { IfOk result (λ next. LeadsToNext graph.now (pairs_ahead graph.now.arena (reverse pairs.items)) waiting.old.items waiting.new.items next self.old self.new) }
+        ensures lack { IsErrOf result Lack → StopsWithin graph.now (pairs_ahead graph.now.arena (reverse pairs.items)) waiting.old.items self.old }
         ensures next { IfOk result (IsNextOf graph.now (done_of self.new)) }
         ensures runs { AreRunsOf graph.now waiting.old.items → OnOk result (AreRunsOf graph.now waiting.new.items) }
         ensures turns { OnOk result (turns_left waiting.new.items ≤ length pairs.items + turns_left waiting.old.items) }
@@ -183,7 +183,7 @@ pub(crate) fn push_values<'g>(
     values: &'g [Value],
     waiting: &mut Vec<Unwritten<'g>>,
 ) -> Result<(), Memory>
-    ensures left { (a : Arena) → OnOk result (segments_left a waiting.new.items ≡ values_then (values_of a values.now) ++ segments_left a waiting.old.items) }
+    ensures left { (a : Arena) → OnOk result (segments_left a waiting.new.items ≡ values_ahead a values.now ++ segments_left a waiting.old.items) }
     ensures runs { (g : RootedArena) → AllByRecursion (IsMetValue g) values.now → AreRunsOf g waiting.old.items → OnOk result (AreRunsOf g waiting.new.items) }
     ensures turns { OnOk result (turns_left waiting.new.items ≤ turns_left waiting.old.items + (length values.now + 1)) }
 {

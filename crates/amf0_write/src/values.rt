@@ -1,4 +1,4 @@
-ghost use Rattle.std.specs.Prelude.{◌≡◌, ◌≢◌, ◌<◌, ◌≤◌, ◌^◌, ◌∷◌, ◌++◌, List, [], length, IfOk, OnOk};
+ghost use Rattle.std.specs.Prelude.{◌≡◌, ◌≢◌, ◌<◌, ◌≤◌, ◌^◌, ◌∷◌, ◌++◌, [], length, IfOk, OnOk};
 ghost use Rattle.std.specs.Int.{to_be_bytes, w16};
 ghost use Rattle.std.specs.Result.{IsErrOf};
 ghost use Rattle.amf_graph.specs.declared.value.NodeId.{NodeId};
@@ -10,7 +10,7 @@ ghost use Rattle.amf_graph.specs.Rooted.{RootedArena, content};
 ghost use Rattle.amf_wire.specs.Text.{IsText};
 ghost use Rattle.amf0_spelling.specs.Lowered.{IsLowered};
 ghost use Rattle.amf0_write.specs.declared.stop.Stop.TheVariants.{Lack};
-ghost use Rattle.amf0_write.specs.Unwritten0.{IsMetValue, AreRunsOf, IsNextOf, next_segments, segments_left, turns_left, Falls};
+ghost use Rattle.amf0_write.specs.Unwritten0.{IsMetValue, AreRunsOf, IsNextOf, turns_left, Falls, LeadsToRest, LeadsValue, StopsAt, StopsWithin};
 ghost use Rattle.amf0_write.specs.Writes0 as segment;
 ghost use Rattle.amf0_write.specs.Writes0.{tables_of, done_of, IsLeafSpelled, Adds, AddsBy, Still, Grown, Leads, Keeps, Stops};
 ghost use Rattle.amf0_write.specs.Written0.{AreTables0};
@@ -56,8 +56,8 @@ impl Output {
         requires low { IsLowered (content graph.now) }
         requires met { IsMetValue graph.now value }
         requires tables { AreTables0 (content graph.now) (tables_of self.old) }
-        ensures leads { IfOk result (λ next. (ps : List segment.Segment) → Leads (content graph.now) (segment.value (value_content graph.now.arena value) ∷ ps) (next_segments next ++ ps) self.old self.new) }
-        ensures lack { IsErrOf result Lack → (ps : List segment.Segment) → Stops (content graph.now) (segment.value (value_content graph.now.arena value) ∷ ps) self.old }
+        ensures leads { IfOk result (λ next. LeadsValue (content graph.now) (value_content graph.now.arena value) next self.old self.new) }
+        ensures lack { IsErrOf result Lack → StopsAt (content graph.now) (value_content graph.now.arena value) self.old }
         ensures next { IfOk result (IsNextOf graph.now (done_of self.new)) }
         ensures still { OnOk result (Still self.old self.new) }
         ensures stopped { IsErrOf result Lack → Still self.old self.new }
@@ -118,8 +118,8 @@ impl Output {
     /// Writes a node by its index (2.9). One that has not been written is given back. It stops where no index can say the place.
     #[inline(always)]
     fn known_node(&mut self, node: NodeId) -> Result<Option<NodeId>, Stop>
-        ensures leads { (g : graph_of_values.Graph) → AreTables0 g (tables_of self.old) → IfOk result (λ next. (ps : List segment.Segment) → Leads g (segment.value (graph_of_values.node node.0) ∷ ps) (next_segments next ++ ps) self.old self.new) }
-        ensures lack { (g : graph_of_values.Graph) → AreTables0 g (tables_of self.old) → IsErrOf result Lack → (ps : List segment.Segment) → Stops g (segment.value (graph_of_values.node node.0) ∷ ps) self.old }
+        ensures leads { (g : graph_of_values.Graph) → AreTables0 g (tables_of self.old) → IfOk result (λ next. LeadsValue g (graph_of_values.node node.0) next self.old self.new) }
+        ensures lack { (g : graph_of_values.Graph) → AreTables0 g (tables_of self.old) → IsErrOf result Lack → StopsAt g (graph_of_values.node node.0) self.old }
         ensures next { (g : RootedArena) → IsMetValue g (NodeRef node) → IfOk result (IsNextOf g (done_of self.new)) }
         ensures still { OnOk result (Still self.old self.new) }
         ensures stopped { IsErrOf result Lack → Still self.old self.new }
@@ -165,8 +165,8 @@ impl Output {
         requires met { IsMetValue graph.now (NodeRef node) }
         requires new { Absent (done_of self.old) node.0 }
         requires runs { AreRunsOf graph.now waiting.old.items }
-        ensures leads { OnOk result (Leads (content graph.now) (segment.value (graph_of_values.node node.0) ∷ segments_left graph.now.arena waiting.old.items) (segments_left graph.now.arena waiting.new.items) self.old self.new) }
-        ensures lack { IsErrOf result Lack → Stops (content graph.now) (segment.value (graph_of_values.node node.0) ∷ segments_left graph.now.arena waiting.old.items) self.old }
+        ensures leads { OnOk result (LeadsToRest graph.now (segment.value (graph_of_values.node node.0) ∷ []) waiting.old.items waiting.new.items self.old self.new) }
+        ensures lack { IsErrOf result Lack → StopsWithin graph.now (segment.value (graph_of_values.node node.0) ∷ []) waiting.old.items self.old }
         ensures still { IsErrOf result Lack → Still self.old self.new }
         ensures runs { OnOk result (AreRunsOf graph.now waiting.new.items) }
         ensures falls { OnOk result (Falls (length graph.now.arena.nodes) (done_of self.old) (done_of self.new) (turns_left waiting.old.items) (turns_left waiting.new.items)) }

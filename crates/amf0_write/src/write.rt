@@ -9,7 +9,7 @@ ghost use Rattle.amf0_spelling.specs.Lowered.{IsLowered};
 ghost use Rattle.amf3_spelling.specs.Tables.{Tables};
 ghost use Rattle.amf0_write.specs.declared.stop.Stop.TheVariants.{Lack as Stopped};
 ghost use Rattle.amf0_write.specs.PartLacks0.{IsPartLack0};
-ghost use Rattle.amf0_write.specs.Searched.{HasPartLack0, AreGrownTables};
+ghost use Rattle.amf0_write.specs.Searched.{HasPartLack0, HasLackBehind, IsLackBehind, AreGrownTables, HaveGrown};
 ghost use Rattle.amf0_write.specs.Unwritten0.{IsMetValue};
 ghost use Rattle.amf0_write.specs.Written0.{tables0, AreTables0, AppendsCanonical0, AppendsPart0};
 ghost use Rattle.amf_graph.specs.Bounds.{count_end};
@@ -61,8 +61,8 @@ fn lack_of(
 ) -> Result<Lack, Memory>
     requires met { IsMetValue graph.now value }
     requires few { count ≤ count_end }
-    requires lacking { (t : Tables) × HasPartLack0 (content graph.now) (value_content graph.now.arena value) (tables0 t) × AreGrownTables (content graph.now) (tables0 t) (tables0 tables.now) loose.now × (count ≡ length t.nodes) }
-    ensures { (t : Tables) → AreGrownTables (content graph.now) (tables0 t) (tables0 tables.now) loose.now → count ≡ length t.nodes → IfOk result (λ l. IsPartLack0 (content graph.now) (value_content graph.now.arena value) (tables0 t) l.node l.kind) }
+    requires lacking { (t : Tables) × HasLackBehind graph.now value t × HaveGrown graph.now t tables.now loose.now × (count ≡ length t.nodes) }
+    ensures { (t : Tables) → HaveGrown graph.now t tables.now loose.now → count ≡ length t.nodes → IfOk result (IsLackBehind graph.now value t) }
 {
     graph.is_finished();
     let meetings = meetings_before(alloc, tables, count, loose, graph)?;

@@ -22,7 +22,6 @@ pub mod OneCut
 pub mod MiddleVerdicts
 pub mod Values3Layout
 pub mod VerdictRows
-pub mod ValuesAreSpellings
 pub mod Reader3States
 pub mod Reader3Tables
 pub mod Reader3Weight

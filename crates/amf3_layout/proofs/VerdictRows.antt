@@ -4,7 +4,7 @@ use Rattle.std.proofs.lemmas.List.{length-take}
 use Rattle.amf_io.specs.Field.{AreBytes}
 use Rattle.amf_io.specs.Outcomes.{Decides, read}
 use Rattle.amf_io.proofs.Inputs.{outcome_decides}
-use Rattle.amf3_spelling.specs.Reads3.{IsValue3}
+use Rattle.amf3_spelling.specs.Values3.{IsValue3}
 use Rattle.amf3_layout.specs.Layout3State.{no_state}
 use Rattle.amf3_layout.specs.Layout3.{value_layout}
 use Rattle.amf3_layout.specs.WorkedVerdicts3.{Verdicts}

@@ -2,12 +2,11 @@
 use Rattle.std.specs.Prelude.{ℕ, ◌<◌, ◌≤◌, List, length, ◌↔◌}
 use Rattle.amf_io.specs.Field.{Field, AreBytes, flat}
 use Rattle.amf_io.specs.Layout.{Layout, Path, Runs, Extends, Able, IsLayout}
-use Rattle.amf_wire.specs.Style.{free}
-use Rattle.amf_graph.specs.Graph.{Graph}
 use Rattle.amf_graph.specs.Arena.{Arena, IsBuilt}
-use Rattle.amf3_spelling.specs.KeptTables.{KeptTables, AreTablesIn}
-use Rattle.amf3_spelling.specs.Reads3.{IsRead3, IsReading3, IsValue3}
-use Rattle.amf3_spelling.specs.Spells3.{IsSpelling3}
+use Rattle.amf_graph.specs.Building.{no_arena}
+use Rattle.amf3_spelling.specs.KeptTables.{KeptTables, no_kept_tables, AreTablesIn}
+use Rattle.amf3_spelling.specs.Reads3.{IsRead3, IsReading3}
+use Rattle.amf3_spelling.specs.Values3.{IsValue3}
 use Rattle.amf3_layout.specs.Layout3State.{State3, state_of}
 use Rattle.amf3_layout.specs.Layout3.{ValueRead, value_layout}
 
@@ -35,10 +34,6 @@ Layout3Reads = (n : ℕ) (a : Arena) (t : KeptTables) (fs : List Field) (x : Val
 abbrev pub Layout3OfSpellings : Type 0
 Layout3OfSpellings = (a : Arena) (t : KeptTables) → IsBuilt a → AreTablesIn a t → IsLayout (λ n. value_layout n (state_of a t)) (IsReading3 a t)
 
--- the fields spell some graph
-abbrev pub SpellsSome : List Field → Type 0
-SpellsSome fs = (g : Graph) × IsSpelling3 free g fs
-
--- from nothing, the fields of bytes that are accepted are exactly those that spell some graph
+-- from nothing, what is accepted is exactly what spells some graph
 abbrev pub ValuesAreSpellings3 : Type 0
-ValuesAreSpellings3 = (fs : List Field) → AreBytes (flat fs) → IsValue3 fs ↔ SpellsSome fs
+ValuesAreSpellings3 = (fs : List Field) → IsReading3 no_arena no_kept_tables fs ↔ IsValue3 fs

@@ -3,7 +3,7 @@ use Rattle.std.specs.Prelude.{ℕ, List, [], ◌∷◌, replicate}
 use Rattle.amf_io.specs.declared.reason.Reason.{Reason}
 use Rattle.amf_io.specs.declared.reason.Reason.TheVariants.{Truncated, BadMarker, BadReference, BadTraits, BadTextIndex, BadText, WrongKind, UnknownExternal, Trailing}
 use Rattle.amf_io.specs.Verdict.{IsInputRefused, IsInputAccepted}
-use Rattle.amf3_spelling.specs.Reads3.{IsValue3}
+use Rattle.amf3_spelling.specs.Values3.{IsValue3}
 
 -- within 2^26 bytes
 

@@ -6,7 +6,7 @@ use Rattle.amf_io.specs.declared.cursor.Cursor.{Cursor}
 use Rattle.amf_io.specs.declared.ends.ReadEnd.{ReadEnd}
 use Rattle.amf_io.specs.Cursor.{place}
 use Rattle.amf_io.specs.Layout.{Layout, give, bind}
-use Rattle.amf_io.specs.ReadEnds.{IsPlaced, Goes}
+use Rattle.amf_io.specs.ReadEnds.{IsPlaced, GoesBy}
 use Rattle.amf_io.specs.CursorReads.{Answers, Ends, Leads}
 use Rattle.amf_io.proofs.CursorReads.{leads_nowhere, leads_behind, end_reads}
 use Rattle.amf_graph.specs.declared.value.TextId.{TextId}
@@ -26,15 +26,15 @@ use Rattle.amf3_layout.proofs.Reader3Calls.{node_closed}
 use Rattle.amf3_layout.proofs.Reader3States.{shut_state}
 use Rattle.amf3_read.specs.declared.opening.Parts.{Parts}
 use Rattle.amf3_read.specs.declared.opening.Parts.TheVariants.{Array, Object, Items, Entries}
-use Rattle.amf3_read.specs.declared.frame.Slot.{Slot}
-use Rattle.amf3_read.specs.declared.frame.Slot.TheVariants as slot
+use Rattle.amf3_read.specs.declared.frame.Role.{Role}
+use Rattle.amf3_read.specs.declared.frame.Role.TheVariants as role
 use Rattle.amf3_read.specs.declared.fill.Next.{Next}
 use Rattle.amf3_read.specs.declared.fill.Next.TheVariants as next
 use Rattle.amf3_read.specs.declared.fill.Step.TheVariants as step
 use Rattle.amf3_read.specs.Filling.{IsOpened}
 use Rattle.amf_fields.specs.Room.{left_of}
 use Rattle.amf3_read.specs.Ready.{Ready, Continues, text_read}
-use Rattle.amf3_read.specs.Frames.{todo, resume, closed_node, LacksItems, Suits, WaitsFor, SlotNames, spare, StillReady, GoesOn, StepHolds, IsNext, IsBehindPairs}
+use Rattle.amf3_read.specs.Frames.{todo, resume, closed_node, LacksItems, Suits, WaitsFor, RoleNames, spare, StillReady, GoesOn, StepHolds, IsNext, IsBehindPairs}
 use Rattle.amf_fields.proofs.LayoutBinds.{bind_bind, bind_same}
 use Rattle.amf3_read.proofs.PartPut.{there, stays, same_head}
 
@@ -63,7 +63,7 @@ behind_is (Items n) = refl
 behind_is (Entries n) = refl
 
 -- Where a value comes next, it is followed by the rest.
-todo_value : (v : State3 → Layout ValueRead) (m i : ℕ) (p : Parts) (x : Slot) (q : Parts) → IsNext p (next.Value x q) → (s : State3) → todo v m i p s ≡ bind (v s) (resume v m i x q)
+todo_value : (v : State3 → Layout ValueRead) (m i : ℕ) (p : Parts) (x : Role) (q : Parts) → IsNext p (next.Value x q) → (s : State3) → todo v m i p s ≡ bind (v s) (resume v m i x q)
 todo_value v m i (Array n) x q is s = absurd cc
 todo_value v m i (Object zero true) x q is s = absurd cc
 todo_value v m i (Object zero false) x q is s = absurd cc
@@ -83,7 +83,7 @@ todo_value v m i (Items (suc n)) x q is s = bind_bind (v s) (λ y. items v i n (
 todo_value v m i (Entries zero) x q is s = absurd cc
 todo_value v m i (Entries (suc n)) x q is s =
     bind_bind (v s) (λ k. bind (v k.state) (λ y. entries v i n (changed (more_entry k.value y.value) i y.state))) (λ w. give (closed_node i w))
-    ∙ bind_same (v s) (λ k. bind (bind (v k.state) (λ y. entries v i n (changed (more_entry k.value y.value) i y.state))) (λ w. give (closed_node i w))) (λ k. resume v m i slot.Key (Entries n) k)
+    ∙ bind_same (v s) (λ k. bind (bind (v k.state) (λ y. entries v i n (changed (more_entry k.value y.value) i y.state))) (λ w. give (closed_node i w))) (λ k. resume v m i role.Key (Entries n) k)
     (λ k. bind_bind (v k.state) (λ y. entries v i n (changed (more_entry k.value y.value) i y.state)) (λ w. give (closed_node i w)))
     ∙ ap (λ z. bind (v s) (next_resume v m i z)) (sym is)
   where
@@ -105,7 +105,7 @@ todo_nothing v m i (Entries (suc n)) is s = absurd cc
 
 -- What the node lacks.
 
-pub suits_name : (h : graph.Head) (n : StoredNode) (p : Parts) (x : TextId) → IsNext p next.Name → Suits h n p → WaitsFor h n (slot.Named x) p
+pub suits_name : (h : graph.Head) (n : StoredNode) (p : Parts) (x : TextId) → IsNext p next.Name → Suits h n p → WaitsFor h n (role.Named x) p
 suits_name h n (Array k) x is s = s
 suits_name h n (Object zero true) x is s = (s, refl)
 suits_name h n (Object zero false) x is s = absurd cc
@@ -125,9 +125,9 @@ suits_behind h n (Items (suc k)) q is e s = absurd cc
 suits_behind h n (Entries zero) q is e s = absurd cc
 suits_behind h n (Entries (suc k)) q is e s = absurd cc
 
--- a slot and what follows it, of what comes next
+-- a role and what follows it, of what comes next
 abbrev NextWaits : Arena → graph.Head → StoredNode → Next → Type 0
-NextWaits a h n (next.Value x q) = (spare x ≡ 0) × SlotNames a x × WaitsFor h n x q
+NextWaits a h n (next.Value x q) = (spare x ≡ 0) × RoleNames a x × WaitsFor h n x q
 NextWaits a h n _ = Unit {0}
 
 suits_value : (a : Arena) (h : graph.Head) (n : StoredNode) (p : Parts) (x : Next) → IsNext p x → Suits h n p → NextWaits a h n x
@@ -182,7 +182,7 @@ module _ {S : Type 0} (tells : S → Type 0) (left : S → List ℕ) (faults : S
       subst (λ l. Ends tells left l c d e) (sym (todo_named v (suc m) 0 i p (behind p) is (behind_is p) (state_of a t)))
       (end_reads tells left faults (pairs v (suc m) i (state_of a t)) (todo v 0 i (behind p)) c d e (end_reads tells left faults (text_layout (state_of a t)) (λ x. cond (is_empty x.bytes) (give x.state) (bind (v x.state) (λ y. pairs v m i (changed (more_name x.id y.value) i y.state)))) c d e h))
 
-  module _ (x : TextId) (g : Goes tells left faults c d (Ok x)) (y : Answers tells left (λ z. text_read b u z) (text_layout (state_of a t)) c d (Ok x)) (w : Continues 0 a b u c d) (moves : place c < place d) where
+  module _ (x : TextId) (g : GoesBy tells left faults c d (Ok x)) (y : Answers tells left (λ z. text_read b u z) (text_layout (state_of a t)) c d (Ok x)) (w : Continues 0 a b u c d) (moves : place c < place d) where
     less : suc (left_of d) ≤ left_of c
     less = let p = w.placed.within in let q = g.same_bound in omega arith
 
@@ -213,7 +213,7 @@ module _ {S : Type 0} (tells : S → Type 0) (left : S → List ℕ) (faults : S
         by (Items n) q e = e
         by (Entries n) q e = e
 
-    pub name_some : is_empty (text_at b x.0) ≡ false → (v : State3 → Layout ValueRead) (m : ℕ) → left_of c < m → GoesOn tells left v m i p (state_of a t) (state_of b u) c d (Ok (step.Wait (slot.Named x) p))
+    pub name_some : is_empty (text_at b x.0) ≡ false → (v : State3 → Layout ValueRead) (m : ℕ) → left_of c < m → GoesOn tells left v m i p (state_of a t) (state_of b u) c d (Ok (step.Wait (role.Named x) p))
     name_some some v zero lt = absurd (omega arith)
     name_some some v (suc m) lt =
         let l = less in
@@ -223,7 +223,7 @@ module _ {S : Type 0} (tells : S → Type 0) (left : S → List ℕ) (faults : S
           enough = omega arith;
           leads = subst (λ l. Leads tells left (todo v (suc m) i p (state_of a t)) l c d)
               (bind_bind (v z) (λ y. pairs v m i (changed (more_name x.0 y.value) i y.state)) (todo v m i (behind p))
-              ∙ bind_same (v z) (λ y. bind (pairs v m i (changed (more_name x.0 y.value) i y.state)) (todo v m i (behind p))) (resume v m i (slot.Named x) p) (λ y. sym (todo_named v m m i p (behind p) is (behind_is p) (changed (more_name x.0 y.value) i y.state))))
+              ∙ bind_same (v z) (λ y. bind (pairs v m i (changed (more_name x.0 y.value) i y.state)) (todo v m i (behind p))) (resume v m i (role.Named x) p) (λ y. sym (todo_named v m m i p (behind p) is (behind_is p) (changed (more_name x.0 y.value) i y.state))))
               (subst (λ o. Leads tells left (todo v (suc m) i p (state_of a t)) (bind (cond o (give z) (bind (v z) (λ y. pairs v m i (changed (more_name x.0 y.value) i y.state)))) (todo v m i (behind p))) c d) some (name_leads v m));
         }
 
@@ -231,7 +231,7 @@ module _ {S : Type 0} (tells : S → Type 0) (left : S → List ℕ) (faults : S
       still : Suits (head_content b (stored_at b i).head) (stored_at b i) p
       still = subst (λ h. Suits h (stored_at b i) p) (sym (same_head i (left_of c) a b o w.grows built)) (subst (λ n. Suits (head_content a (stored_at a i).head) n p) (sym (stays i (left_of c) a b o w.grows)) s)
 
-      pub name_waits : IsTextId b x.0 → StepHolds a b i (step.Wait (slot.Named x) p)
+      pub name_waits : IsTextId b x.0 → StepHolds a b i (step.Wait (role.Named x) p)
       name_waits id = (refl, w.grows, id, suits_name (head_content b (stored_at b i).head) (stored_at b i) p x is still)
 
       pub name_opens : (q : Parts) → IsBehindPairs p q → StepHolds a b i (step.Open q)
@@ -239,7 +239,7 @@ module _ {S : Type 0} (tells : S → Type 0) (left : S → List ℕ) (faults : S
 
 -- A value comes next, and nothing was read.
 module _ {S : Type 0} (tells : S → Type 0) (left : S → List ℕ) (faults : S → ℕ) (i : ℕ) (p : Parts) (a : Arena) (t : KeptTables) (c : Cursor S Window) (placed : IsPlaced c) where
-  pub value_waits : (x : Slot) (q : Parts) → IsNext p (next.Value x q) → (v : State3 → Layout ValueRead) (m : ℕ) → left_of c < m → GoesOn tells left v m i p (state_of a t) (state_of a t) c c (Ok (step.Wait x q))
+  pub value_waits : (x : Role) (q : Parts) → IsNext p (next.Value x q) → (v : State3 → Layout ValueRead) (m : ℕ) → left_of c < m → GoesOn tells left v m i p (state_of a t) (state_of a t) c c (Ok (step.Wait x q))
   value_waits x q is v m lt = record {
     fuel = m;
     enough = lt;
@@ -251,7 +251,7 @@ module _ {S : Type 0} (tells : S → Type 0) (left : S → List ℕ) (faults : S
       subst (λ l. Leads tells left (todo v m i p (state_of a t)) l c c) (todo_nothing v m i p is (state_of a t) ∙ ap (λ s. give (read (value.Node (record { 0 = i })) s)) (sym (ap (λ z. state_of z t) e ∙ shut_state i a t)))
       (leads_nowhere tells left faults (todo v m i p (state_of a t)) c placed)
 
-pub value_holds : (i : ℕ) (p : Parts) (a : Arena) (x : Slot) (q : Parts) → IsNext p (next.Value x q) → Suits (head_content a (stored_at a i).head) (stored_at a i) p → StepHolds a a i (step.Wait x q)
+pub value_holds : (i : ℕ) (p : Parts) (a : Arena) (x : Role) (q : Parts) → IsNext p (next.Value x q) → Suits (head_content a (stored_at a i).head) (stored_at a i) p → StepHolds a a i (step.Wait x q)
 value_holds i p a x q is s = let h = suits_value a (head_content a (stored_at a i).head) (stored_at a i) p (next.Value x q) is s in (h.0, grows_itself a, h.1, h.2)
 
 -- The node is closed.

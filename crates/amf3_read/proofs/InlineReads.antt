@@ -6,7 +6,7 @@ use Rattle.amf_io.specs.declared.window.Window.{Window}
 use Rattle.amf_io.specs.declared.cursor.Cursor.{Cursor}
 use Rattle.amf_io.specs.declared.ends.ReadEnd.{ReadEnd}
 use Rattle.amf_io.specs.Layout.{Layout, give, bind}
-use Rattle.amf_io.specs.ReadEnds.{IsPlaced, Goes}
+use Rattle.amf_io.specs.ReadEnds.{IsPlaced, GoesBy}
 use Rattle.amf_io.specs.CursorReads.{Answers, Ends}
 use Rattle.amf_io.proofs.CursorReads.{gives, then_reads, end_reads}
 use Rattle.amf_graph.specs.declared.value.Value.TheVariants as value
@@ -64,7 +64,7 @@ module _ {S : Type 0} (tells : S → Type 0) (left : S → List ℕ) (faults : S
           nodes = is.nodes;
         }
 
-    module _ (v : State3 → Layout ValueRead) (n : ℕ) (g : Goes tells left faults c d (Ok x)) where
+    module _ (v : State3 → Layout ValueRead) (n : ℕ) (g : GoesBy tells left faults c d (Ok x)) where
       pub parts_are : parts_at v n x.node.0 is.opened (state_of b u) ≡ parts v n is.opened
       parts_are = ap (λ i. parts_at v n i is.opened (state_of b u)) is.place ∙ ap (parts_at v n (length is.opened.state.arena.nodes) is.opened) is.state
 

@@ -8,7 +8,7 @@ use Rattle.std.specs.Result.{IsErrAnd}
 use Rattle.amf_io.specs.Cursor.{place, bound}
 use Rattle.amf_io.specs.Field.{u29}
 use Rattle.amf_io.specs.Layout.{Layout, give, want, bind}
-use Rattle.amf_io.specs.ReadEnds.{IsPlaced, Goes}
+use Rattle.amf_io.specs.ReadEnds.{IsPlaced, GoesBy}
 use Rattle.amf_io.specs.CursorReads.{Answers, AnswersField, Ends, Leads}
 use Rattle.amf_io.proofs.CursorReads.{gives, leads_behind, leads_on, leads_end, leads_answers, end_reads, then_reads, field_reads}
 use Rattle.amf_graph.specs.declared.value.Value.{Value as Stored}
@@ -42,7 +42,7 @@ use Rattle.amf3_read.proofs.InlineReads.{parts_at, whole_continues, parts_are}
 use Rattle.amf3_read.proofs.TextReads.{odd_test}
 
 -- what leads on gives what it leads to
-pub answers_on : {S X Y Z : Type 0} (tells : S → Type 0) (left : S → List ℕ) (faults : S → ℕ) (view : Z → Y) (t u : Layout Y) (c d e : Cursor S Window) (x : X) (z : Z) → Goes tells left faults c d (Ok x) → Leads tells left t u c d → Answers tells left view u d e (Ok z) → Answers tells left view t c e (Ok z)
+pub answers_on : {S X Y Z : Type 0} (tells : S → Type 0) (left : S → List ℕ) (faults : S → ℕ) (view : Z → Y) (t u : Layout Y) (c d e : Cursor S Window) (x : X) (z : Z) → GoesBy tells left faults c d (Ok x) → Leads tells left t u c d → Answers tells left view u d e (Ok z) → Answers tells left view t c e (Ok z)
 answers_on tells left faults view t u c d e x z g l a =
     leads_answers tells left faults view t (view z) c e z refl
     (leads_on tells left faults t u (give (view z)) c d e x g l (subst (λ w. Leads tells left w (give (view z)) d e) (bind_give u) (leads_behind tells left faults view u (λ y. give y) d e z a)))
@@ -88,7 +88,7 @@ module _ {S : Type 0} (tells : S → Type 0) (left : S → List ℕ) (faults : S
   pub inline_still_ready : StillReady 1 a b u c d
   inline_still_ready = record { built = r.built; tables = r.tables; placed = r.placed; texts = is.texts; traits = is.traits; nodes = is.nodes }
 
-  pub inline_leads : (p : Parts) → x.parts ≡ Some p → (v : State3 → Layout ValueRead) (n : ℕ) → Goes tells left faults c d (Ok x) → Leads tells left (inline_node v n f h (state_of a t)) (todo v n x.node.0 p (state_of b u)) c d
+  pub inline_leads : (p : Parts) → x.parts ≡ Some p → (v : State3 → Layout ValueRead) (n : ℕ) → GoesBy tells left faults c d (Ok x) → Leads tells left (inline_node v n f h (state_of a t)) (todo v n x.node.0 p (state_of b u)) c d
   inline_leads p e v n g =
       subst (λ l. Leads tells left (inline_node v n f h (state_of a t)) l c d) (sym (parts_are tells left faults f h a b t u c d x is v n g) ∙ todo_is v n x.node.0 is.opened p (state_of b u) (subst (has_parts is.opened) e is.parts))
       (leads_behind tells left faults (λ (y : Entered). is.opened) (opening f h (state_of a t)) (parts v n) c d x is.done)
@@ -118,7 +118,7 @@ module _ {S : Type 0} (tells : S → Type 0) (left : S → List ℕ) (faults : S
 
 -- Behind a header.
 module _ {S : Type 0} (tells : S → Type 0) (left : S → List ℕ) (faults : S → ℕ) (v : State3 → Layout ValueRead) (n : ℕ) (f : NodeKind) (s : State3) (c d : Cursor S Window) (b : List ℕ) (h : ℕ) (fd : AnswersField {X = List ℕ} tells left (λ x. x) u29 c d (Ok b)) (is : h ≡ u29_value b)
-    (g : Goes {X = List ℕ} tells left faults c d (Ok b)) (placed : IsPlaced d) (clean : header_refusal s.marks (length s.words.traits) (node_marker f) h ≡ None) (odd : h % 2 ≡ 1) where
+    (g : GoesBy {X = List ℕ} tells left faults c d (Ok b)) (placed : IsPlaced d) (clean : header_refusal s.marks (length s.words.traits) (node_marker f) h ≡ None) (odd : h % 2 ≡ 1) where
   abbrev behind_header : ℕ → Layout ValueRead
   behind_header k = cond (eqb (k % 2) 0) (give (known_node s (k / 2))) (inline_node v n f k s)
 
@@ -149,7 +149,7 @@ module _ {S : Type 0} (tells : S → Type 0) (left : S → List ℕ) (faults : S
     starts = subst (Ends tells left (value_layout (suc k) s) c d) (sym i) (end_reads tells left faults marker_layout (λ f. behind_marker (value_layout k) k s f) c d e a);
   }
 
-  module _ (s : State3) (c d : Cursor S Window) (m f : Marker) (is : m ≡ f) (g : Goes tells left faults c d (Ok m)) (a : Answers tells left (λ (m : Marker). m) marker_layout c d (Ok m)) (moves : place c < place d) where
+  module _ (s : State3) (c d : Cursor S Window) (m f : Marker) (is : m ≡ f) (g : GoesBy tells left faults c d (Ok m)) (a : Answers tells left (λ (m : Marker). m) marker_layout c d (Ok m)) (moves : place c < place d) where
     marker_leads : (k : ℕ) → Leads tells left (value_layout (suc k) s) (behind_marker (value_layout k) k s f) c d
     marker_leads k = subst (λ f. Leads tells left (value_layout (suc k) s) (behind_marker (value_layout k) k s f) c d) is (leads_behind tells left faults (λ (m : Marker). m) marker_layout (λ f. behind_marker (value_layout k) k s f) c d m a)
 
@@ -167,10 +167,10 @@ module _ {S : Type 0} (tells : S → Type 0) (left : S → List ℕ) (faults : S
     }
     value_starts z e (Err end) stays within same h (suc k) lt = record { fuel = k; enough = tt; starts = leads_end tells left faults (value_layout (suc k) s) (behind_marker (value_layout k) k s f) c d e m end g (marker_leads k) (h k) }
 
-  pub made : {X Y : Type 0} (view : X → Y) (t : Layout Y) (make : Y → ValueRead) (z : State3) (v : Stored) (d e : Cursor S Window) (x : X) → Goes tells left faults d e (Ok x) → Answers tells left view t d e (Ok x) → IsPlaced e → read v z ≡ make (view x) → Answers tells left (λ y. read y z) (bind t (λ y. give (make y))) d e (Ok v)
+  pub made : {X Y : Type 0} (view : X → Y) (t : Layout Y) (make : Y → ValueRead) (z : State3) (v : Stored) (d e : Cursor S Window) (x : X) → GoesBy tells left faults d e (Ok x) → Answers tells left view t d e (Ok x) → IsPlaced e → read v z ≡ make (view x) → Answers tells left (λ y. read y z) (bind t (λ y. give (make y))) d e (Ok v)
   made view t make z v d e x g a p q = then_reads tells left faults view (λ y. read y z) t (λ y. give (make y)) d e e x (Ok v) g a (gives tells left faults (λ y. read y z) e v (make (view x)) p q)
 
-  pub unmade : {Y : Type 0} (n : ℕ) (s z : State3) (c d e : Cursor S Window) (m f : Marker) → m ≡ f → Goes tells left faults c d (Ok m) → Answers tells left (λ (m : Marker). m) marker_layout c d (Ok m) → place c < place d → bound e ≡ bound d → (t : Layout Y) (make : Y → ValueRead) → ((k : ℕ) → behind_marker (value_layout k) k s f ≡ bind t (λ y. give (make y)))
+  pub unmade : {Y : Type 0} (n : ℕ) (s z : State3) (c d e : Cursor S Window) (m f : Marker) → m ≡ f → GoesBy tells left faults c d (Ok m) → Answers tells left (λ (m : Marker). m) marker_layout c d (Ok m) → place c < place d → bound e ≡ bound d → (t : Layout Y) (make : Y → ValueRead) → ((k : ℕ) → behind_marker (value_layout k) k s f ≡ bind t (λ y. give (make y)))
       → left_of c < n → (r : Result Start ReadEnd) (end : ReadEnd) → IsErrAnd r (λ x. x ≡ end) → Ends tells left t d e end → Starts tells left n s z c e r
   unmade n s z c d e m f is g a moves same t make eq lt (Ok x) end i h = absurd i
   unmade n s z c d e m f is g a moves same t make eq lt (Err x) end i h =

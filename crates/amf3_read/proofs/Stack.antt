@@ -8,7 +8,7 @@ use Rattle.amf_io.specs.declared.cursor.Cursor.{Cursor}
 use Rattle.amf_io.specs.declared.ends.ReadEnd.{ReadEnd}
 use Rattle.amf_io.specs.Cursor.{place}
 use Rattle.amf_io.specs.Layout.{Layout, give, bind}
-use Rattle.amf_io.specs.ReadEnds.{Goes}
+use Rattle.amf_io.specs.ReadEnds.{GoesBy}
 use Rattle.amf_io.specs.CursorReads.{Answers, Ends, Leads}
 use Rattle.amf_io.proofs.Paths.{path_bind}
 use Rattle.amf_io.proofs.CursorReads.{goes_nowhere, goes_then, goes_other, leads_nowhere, leads_answers, leads_behind, leads_on, leads_end, end_reads}
@@ -29,19 +29,19 @@ use Rattle.amf3_layout.proofs.Reader3Tables.{grows_itself, grows_twice, names_af
 use Rattle.amf3_layout.proofs.Reader3States.{more_value_state, more_name_state, more_entry_state}
 use Rattle.amf3_read.specs.declared.opening.Parts.{Parts}
 use Rattle.amf3_read.specs.declared.opening.Parts.TheVariants.{Array, Object, Items, Entries}
-use Rattle.amf3_read.specs.declared.frame.Slot.{Slot}
-use Rattle.amf3_read.specs.declared.frame.Slot.TheVariants as slot
+use Rattle.amf3_read.specs.declared.frame.Role.{Role}
+use Rattle.amf3_read.specs.declared.frame.Role.TheVariants as role
 use Rattle.amf3_read.specs.declared.frame.Frame.{Frame}
 use Rattle.amf3_read.specs.Now.{Now}
-use Rattle.amf3_read.specs.declared.frame.Unfinished.{Unfinished}
+use Rattle.amf3_read.specs.declared.frame.OpenNode.{OpenNode}
 use Rattle.amf3_read.specs.Now as now
 use Rattle.amf3_read.specs.declared.node.Start.TheVariants as start
 use Rattle.amf3_read.specs.declared.fill.Step.TheVariants as step
-use Rattle.amf3_read.specs.Slots.{IsPart}
+use Rattle.amf3_read.specs.Roles.{IsPart}
 use Rattle.amf3_read.specs.Filling.{with_more, IsOpened}
 use Rattle.amf_fields.specs.Room.{left_of}
 use Rattle.amf3_read.specs.Ready.{Ready, Continues}
-use Rattle.amf3_read.specs.Frames.{todo, resume, Fuel, rest, Enough, HaveFuel, LacksItems, Suits, WaitsFor, SlotNames, spare, Waits, Nested, IsAt, StillReady, Starts, StartHolds, GoesOn, StepHolds, StackSo}
+use Rattle.amf3_read.specs.Frames.{todo, resume, Fuel, rest, Enough, HaveFuel, LacksItems, Suits, WaitsFor, RoleNames, spare, Waits, Nested, IsAt, StillReady, Starts, StartHolds, GoesOn, StepHolds, StackSo}
 use Rattle.amf3_read.specs.Follows.{Follows, IsWaiting, entry_of}
 use Rattle.amf_fields.proofs.LayoutBinds.{bind_give, bind_bind}
 use Rattle.amf3_read.proofs.PartPut.{part_names, part_values, more_size, there, stays, still_open, same_head, put_node, put_built, put_tables, put_opened, put_head, put_nodes}
@@ -55,7 +55,7 @@ pub nested_less : (a : Arena) (left more : ℕ) (fs : List Frame) (b : Arena) �
 nested_less a left more [] b le h = h
 nested_less a left more (f ∷ fs) b le h = record {
   over = record {
-    opened = opened_less b f.node.0 (left + spare f.slot) (more + spare f.slot) (omega arith) h.over.opened;
+    opened = opened_less b f.node.0 (left + spare f.role) (more + spare f.role) (omega arith) h.over.opened;
     below = nested_less a (suc left) (suc more) fs h.over.opened.before (omega arith) h.over.below;
     built = h.over.built;
   };
@@ -63,11 +63,11 @@ nested_less a left more (f ∷ fs) b le h = record {
   suits = h.suits;
 }
 
-slot_names : (a b : Arena) → Grows a b → (x : Slot) → SlotNames a x → SlotNames b x
-slot_names a b g slot.Item h = tt
-slot_names a b g (slot.Named x) h = text_id_after_growth a b g x.0 h
-slot_names a b g slot.Key h = tt
-slot_names a b g (slot.Entry k) h = names_after_growth a b g k h
+role_names : (a b : Arena) → Grows a b → (x : Role) → RoleNames a x → RoleNames b x
+role_names a b g role.Item h = tt
+role_names a b g (role.Named x) h = text_id_after_growth a b g x.0 h
+role_names a b g role.Key h = tt
+role_names a b g (role.Entry k) h = names_after_growth a b g k h
 
 abbrev pub opened_grown : (b b1 : Arena) (i left : ℕ) → Grows b b1 → IsOpened b i left → IsOpened b1 i left
 opened_grown b b1 i left g o = record {
@@ -83,12 +83,12 @@ pub nested_grows : (a : Arena) (left : ℕ) (fs : List Frame) (b b1 : Arena) →
 nested_grows a left [] b b1 k g h = grows_twice a b b1 h g
 nested_grows a left (f ∷ fs) b b1 k g h =
     let i = f.node.0 in
-    let l = left + spare f.slot in
+    let l = left + spare f.role in
     let o = h.over.opened in
     record {
       over = record { opened = opened_grown b b1 i l g o; below = h.over.below; built = h.over.built };
-      names = slot_names b b1 g f.slot h.names;
-      suits = subst (λ x. WaitsFor x (stored_at b1 i) f.slot f.todo) (sym (same_head i l b b1 o g k)) (subst (λ m. WaitsFor (head_content b (stored_at b i).head) m f.slot f.todo) (sym (stays i l b b1 o g)) h.suits);
+      names = role_names b b1 g f.role h.names;
+      suits = subst (λ x. WaitsFor x (stored_at b1 i) f.role f.todo) (sym (same_head i l b b1 o g k)) (subst (λ m. WaitsFor (head_content b (stored_at b i).head) m f.role f.todo) (sym (stays i l b b1 o g)) h.suits);
     }
 
 fueled_less : (left more : ℕ) (us : List Fuel) (fs : List Frame) → left ≤ more → HaveFuel more us fs → HaveFuel left us fs
@@ -107,16 +107,16 @@ some_part : (p r : Part) → Some p ≡ Some r → p ≡ r
 some_part p r e = cc
 
 -- and what it lacks then
-pub suits_more : (h : graph.Head) (m : StoredNode) (x : Slot) (q : Parts) (v : Stored) (p : Part) → IsPart x v (Some p) → WaitsFor h m x q → Suits h (with_more m (part_names p) (part_values p)) q
+pub suits_more : (h : graph.Head) (m : StoredNode) (x : Role) (q : Parts) (v : Stored) (p : Part) → IsPart x v (Some p) → WaitsFor h m x q → Suits h (with_more m (part_names p) (part_values p)) q
 suits_more h m x q v p is w = by p x q is w
   where
-    item : (p : Part) (q : Parts) → p ≡ part.Item v → WaitsFor h m slot.Item q → Suits h (with_more m (part_names p) (part_values p)) q
+    item : (p : Part) (q : Parts) → p ≡ part.Item v → WaitsFor h m role.Item q → Suits h (with_more m (part_names p) (part_values p)) q
     item p (Object n d) e (t, is, k, dy, z) = subst (λ p. Suits h (with_more m (part_names p) (part_values p)) (Object n d)) (sym e) (t, is, omega (arith, length-append m.values (v ∷ [])), dy, λ f. append-nil m.names ∙ z f)
     item p (Items n) e w = subst (λ p. Suits h (with_more m (part_names p) (part_values p)) (Items n)) (sym e) (lacks_more h m n v w)
     item p (Array n) e w = absurd w
     item p (Entries n) e w = absurd w
 
-    named : (y : TextId) (p : Part) (q : Parts) → p ≡ part.Named y v → WaitsFor h m (slot.Named y) q → Suits h (with_more m (part_names p) (part_values p)) q
+    named : (y : TextId) (p : Part) (q : Parts) → p ≡ part.Named y v → WaitsFor h m (role.Named y) q → Suits h (with_more m (part_names p) (part_values p)) q
     named y p (Array n) e w = w
     named y p (Object n d) e ((t, is, k, dy, z), on) = subst (λ p. Suits h (with_more m (part_names p) (part_values p)) (Object n d)) (sym e) (t, is, omega (arith, length-append m.values []), dy, λ f. absurd (no f (dy on)))
       where
@@ -125,20 +125,20 @@ suits_more h m x q v p is w = by p x q is w
     named y p (Items n) e w = absurd w
     named y p (Entries n) e w = absurd w
 
-    entry : (k : Stored) (p : Part) (q : Parts) → p ≡ part.Entry k v → WaitsFor h m (slot.Entry k) q → Suits h (with_more m (part_names p) (part_values p)) q
+    entry : (k : Stored) (p : Part) (q : Parts) → p ≡ part.Entry k v → WaitsFor h m (role.Entry k) q → Suits h (with_more m (part_names p) (part_values p)) q
     entry k p (Entries n) e (f, is, z, j, l) = subst (λ p. Suits h (with_more m (part_names p) (part_values p)) (Entries n)) (sym e) (f, is, append-nil m.names ∙ z, suc j, omega (arith, length-append m.values (k ∷ v ∷ [])))
     entry k p (Array n) e w = absurd w
     entry k p (Object n d) e w = absurd w
     entry k p (Items n) e w = absurd w
 
-    by : (p : Part) (x : Slot) (q : Parts) → IsPart x v (Some p) → WaitsFor h m x q → Suits h (with_more m (part_names p) (part_values p)) q
-    by p slot.Item q is w = item p q (some_part p _ is) w
-    by p (slot.Named y) q is w = named y p q (some_part p _ is) w
-    by p slot.Key q is w = absurd cc
-    by p (slot.Entry k) q is w = entry k p q (some_part p _ is) w
+    by : (p : Part) (x : Role) (q : Parts) → IsPart x v (Some p) → WaitsFor h m x q → Suits h (with_more m (part_names p) (part_values p)) q
+    by p role.Item q is w = item p q (some_part p _ is) w
+    by p (role.Named y) q is w = named y p q (some_part p _ is) w
+    by p role.Key q is w = absurd cc
+    by p (role.Entry k) q is w = entry k p q (some_part p _ is) w
 
 -- the node's kind takes it
-pub takes : (h : graph.Head) (m : StoredNode) (x : Slot) (q : Parts) (v : Stored) (p : Part) → IsPart x v (Some p) → WaitsFor h m x q → Takes h (length m.values) p
+pub takes : (h : graph.Head) (m : StoredNode) (x : Role) (q : Parts) (v : Stored) (p : Part) → IsPart x v (Some p) → WaitsFor h m x q → Takes h (length m.values) p
 takes h m x q v p is w = by x q is w
   where
     lacks : (n : ℕ) → LacksItems h m (suc n) → Takes h (length m.values) (part.Item v)
@@ -146,49 +146,49 @@ takes h m x q v p is w = by x q is w
     lacks n (inr (inl (c, e, k, z))) = subst (λ h. Takes h (length m.values) (part.Item v)) (sym e) (omega arith)
     lacks n (inr (inr (f, x, e, z))) = subst (λ h. Takes h (length m.values) (part.Item v)) (sym e) tt
 
-    item : (q : Parts) → WaitsFor h m slot.Item q → Takes h (length m.values) (part.Item v)
+    item : (q : Parts) → WaitsFor h m role.Item q → Takes h (length m.values) (part.Item v)
     item (Object n d) (t, e, k, dy, z) = subst (λ h. Takes h (length m.values) (part.Item v)) (sym e) (omega arith)
     item (Items n) w = lacks n w
     item (Array n) w = absurd w
     item (Entries n) w = absurd w
 
-    named : (y : TextId) (q : Parts) → WaitsFor h m (slot.Named y) q → Takes h (length m.values) (part.Named y v)
+    named : (y : TextId) (q : Parts) → WaitsFor h m (role.Named y) q → Takes h (length m.values) (part.Named y v)
     named y (Array n) e = subst (λ h. Takes h (length m.values) (part.Named y v)) (sym e) tt
     named y (Object n d) ((t, e, k, dy, z), on) = subst (λ h. Takes h (length m.values) (part.Named y v)) (sym e) (dy on)
     named y (Items n) w = absurd w
     named y (Entries n) w = absurd w
 
-    entry : (k : Stored) (q : Parts) → WaitsFor h m (slot.Entry k) q → Takes h (length m.values) (part.Entry k v)
+    entry : (k : Stored) (q : Parts) → WaitsFor h m (role.Entry k) q → Takes h (length m.values) (part.Entry k v)
     entry k (Entries n) (f, e, z, j, l) = subst (λ h. Takes h (length m.values) (part.Entry k v)) (sym e) tt
     entry k (Array n) w = absurd w
     entry k (Object n d) w = absurd w
     entry k (Items n) w = absurd w
 
-    by : (x : Slot) (q : Parts) → IsPart x v (Some p) → WaitsFor h m x q → Takes h (length m.values) p
-    by slot.Item q is w = subst (Takes h (length m.values)) (sym (some_part p (part.Item v) is)) (item q w)
-    by (slot.Named y) q is w = subst (Takes h (length m.values)) (sym (some_part p (part.Named y v) is)) (named y q w)
-    by slot.Key q is w = absurd cc
-    by (slot.Entry k) q is w = subst (Takes h (length m.values)) (sym (some_part p (part.Entry k v) is)) (entry k q w)
+    by : (x : Role) (q : Parts) → IsPart x v (Some p) → WaitsFor h m x q → Takes h (length m.values) p
+    by role.Item q is w = subst (Takes h (length m.values)) (sym (some_part p (part.Item v) is)) (item q w)
+    by (role.Named y) q is w = subst (Takes h (length m.values)) (sym (some_part p (part.Named y v) is)) (named y q w)
+    by role.Key q is w = absurd cc
+    by (role.Entry k) q is w = subst (Takes h (length m.values)) (sym (some_part p (part.Entry k v) is)) (entry k q w)
 
 -- and it is no more than the bytes that came
-part_small : (x : Slot) (v : Stored) (p : Part) → IsPart x v (Some p) → length (part_names p) + length (part_values p) ≤ suc (spare x)
-part_small slot.Item v p is = let e = ap (λ p. length (part_names p) + length (part_values p)) (some_part p (part.Item v) is) in omega arith
-part_small (slot.Named y) v p is = let e = ap (λ p. length (part_names p) + length (part_values p)) (some_part p (part.Named y v) is) in omega arith
-part_small slot.Key v p is = absurd cc
-part_small (slot.Entry k) v p is = let e = ap (λ p. length (part_names p) + length (part_values p)) (some_part p (part.Entry k v) is) in omega arith
+part_small : (x : Role) (v : Stored) (p : Part) → IsPart x v (Some p) → length (part_names p) + length (part_values p) ≤ suc (spare x)
+part_small role.Item v p is = let e = ap (λ p. length (part_names p) + length (part_values p)) (some_part p (part.Item v) is) in omega arith
+part_small (role.Named y) v p is = let e = ap (λ p. length (part_names p) + length (part_values p)) (some_part p (part.Named y v) is) in omega arith
+part_small role.Key v p is = absurd cc
+part_small (role.Entry k) v p is = let e = ap (λ p. length (part_names p) + length (part_values p)) (some_part p (part.Entry k v) is) in omega arith
 
 -- what follows the value is what follows the part
-resumed : (b : Arena) (u : KeptTables) (v : Stored) (p : Part) (b2 : Arena) (i : ℕ) (q : Parts) → b2 ≡ changed_arena (more_part p) i b → (x : Slot) → IsPart x v (Some p) → (w : State3 → Layout ValueRead) (m : ℕ) → resume w m i x q (read v (state_of b u)) ≡ todo w m i q (state_of b2 u)
-resumed b u v p b2 i q e slot.Item h w m = ap (todo w m i q) (sym (ap (λ z. state_of z u) (e ∙ ap (λ p. changed_arena (more_part p) i b) (some_part p (part.Item v) h)) ∙ more_value_state v i b u))
-resumed b u v p b2 i q e (slot.Named y) h w m = ap (todo w m i q) (sym (ap (λ z. state_of z u) (e ∙ ap (λ p. changed_arena (more_part p) i b) (some_part p (part.Named y v) h)) ∙ more_name_state y.0 v i b u))
-resumed b u v p b2 i q e slot.Key h w m = absurd cc
-resumed b u v p b2 i q e (slot.Entry k) h w m = ap (todo w m i q) (sym (ap (λ z. state_of z u) (e ∙ ap (λ p. changed_arena (more_part p) i b) (some_part p (part.Entry k v) h)) ∙ more_entry_state k v i b u))
+resumed : (b : Arena) (u : KeptTables) (v : Stored) (p : Part) (b2 : Arena) (i : ℕ) (q : Parts) → b2 ≡ changed_arena (more_part p) i b → (x : Role) → IsPart x v (Some p) → (w : State3 → Layout ValueRead) (m : ℕ) → resume w m i x q (read v (state_of b u)) ≡ todo w m i q (state_of b2 u)
+resumed b u v p b2 i q e role.Item h w m = ap (todo w m i q) (sym (ap (λ z. state_of z u) (e ∙ ap (λ p. changed_arena (more_part p) i b) (some_part p (part.Item v) h)) ∙ more_value_state v i b u))
+resumed b u v p b2 i q e (role.Named y) h w m = ap (todo w m i q) (sym (ap (λ z. state_of z u) (e ∙ ap (λ p. changed_arena (more_part p) i b) (some_part p (part.Named y v) h)) ∙ more_name_state y.0 v i b u))
+resumed b u v p b2 i q e role.Key h w m = absurd cc
+resumed b u v p b2 i q e (role.Entry k) h w m = ap (todo w m i q) (sym (ap (λ z. state_of z u) (e ∙ ap (λ p. changed_arena (more_part p) i b) (some_part p (part.Entry k v) h)) ∙ more_entry_state k v i b u))
 
-pub key_of : (x : Slot) (v : Stored) (o : Option Part) → o ≡ None → IsPart x v o → x ≡ slot.Key
-key_of slot.Item v o e h = absurd cc
-key_of (slot.Named y) v o e h = absurd cc
-key_of slot.Key v o e h = refl
-key_of (slot.Entry k) v o e h = absurd cc
+pub key_of : (x : Role) (v : Stored) (o : Option Part) → o ≡ None → IsPart x v o → x ≡ role.Key
+key_of role.Item v o e h = absurd cc
+key_of (role.Named y) v o e h = absurd cc
+key_of role.Key v o e h = refl
+key_of (role.Entry k) v o e h = absurd cc
 
 pub done : {T E : Type 0} (P : Type 0) (r : Result T E) (x : T) → r ≡ Ok x → OnOk r P → P
 done P (Ok y) x e h = h
@@ -203,23 +203,23 @@ waits_any B left b f h = record { over = record { opened = h.over.opened; below 
 pub waits_grown : (left more : ℕ) (b b1 : Arena) (f : Frame) → left ≤ more → IsBuilt b → Grows b b1 → IsWaiting more b f → IsWaiting left b1 f
 waits_grown left more b b1 f le k g h =
     let i = f.node.0 in
-    let l = more + spare f.slot in
+    let l = more + spare f.role in
     let o = h.over.opened in
     record {
-      over = record { opened = opened_less b1 i (left + spare f.slot) l (omega arith) (opened_grown b b1 i l g o); below = tt; built = h.over.built };
-      names = slot_names b b1 g f.slot h.names;
-      suits = subst (λ x. WaitsFor x (stored_at b1 i) f.slot f.todo) (sym (same_head i l b b1 o g k)) (subst (λ m. WaitsFor (head_content b (stored_at b i).head) m f.slot f.todo) (sym (stays i l b b1 o g)) h.suits);
+      over = record { opened = opened_less b1 i (left + spare f.role) l (omega arith) (opened_grown b b1 i l g o); below = tt; built = h.over.built };
+      names = role_names b b1 g f.role h.names;
+      suits = subst (λ x. WaitsFor x (stored_at b1 i) f.role f.todo) (sym (same_head i l b b1 o g k)) (subst (λ m. WaitsFor (head_content b (stored_at b i).head) m f.role f.todo) (sym (stays i l b b1 o g)) h.suits);
     }
 
 -- a key that was given waits for its value
-pub key_waits : (left : ℕ) (b : Arena) (f : Frame) (v : Stored) → f.slot ≡ slot.Key → Names b v → IsWaiting (suc left) b f → IsWaiting left b (entry_of f.node v f.todo)
+pub key_waits : (left : ℕ) (b : Arena) (f : Frame) (v : Stored) → f.role ≡ role.Key → Names b v → IsWaiting (suc left) b f → IsWaiting left b (entry_of f.node v f.todo)
 key_waits left b f v is names h = record {
-  over = record { opened = opened_less b f.node.0 (left + 1) (suc left + spare f.slot) (omega arith) h.over.opened; below = tt; built = h.over.built };
+  over = record { opened = opened_less b f.node.0 (left + 1) (suc left + spare f.role) (omega arith) h.over.opened; below = tt; built = h.over.built };
   names = names;
   suits = entry_waits (head_content b (stored_at b f.node.0).head) (stored_at b f.node.0) v f.todo (subst (λ x. WaitsFor (head_content b (stored_at b f.node.0).head) (stored_at b f.node.0) x f.todo) is h.suits);
 }
   where
-    entry_waits : (h : graph.Head) (m : StoredNode) (v : Stored) (q : Parts) → WaitsFor h m slot.Key q → WaitsFor h m (slot.Entry v) q
+    entry_waits : (h : graph.Head) (m : StoredNode) (v : Stored) (q : Parts) → WaitsFor h m role.Key q → WaitsFor h m (role.Entry v) q
     entry_waits h m v (Entries n) w = w
     entry_waits h m v (Array n) w = absurd w
     entry_waits h m v (Object n x) w = absurd w
@@ -228,20 +228,20 @@ key_waits left b f v is names h = record {
 -- the part that its value is can be put into its node
 module _ (left : ℕ) (b : Arena) (f : Frame) (h : IsWaiting left b f) where
   pub part_there : f.node.0 < length b.nodes
-  part_there = there f.node.0 (left + spare f.slot) b b h.over.opened (grows_itself b)
+  part_there = there f.node.0 (left + spare f.role) b b h.over.opened (grows_itself b)
 
-  module _ (v : Stored) (p : Part) (is : IsPart f.slot v (Some p)) where
+  module _ (v : Stored) (p : Part) (is : IsPart f.role v (Some p)) where
     pub part_room : HasRoom b (stored_at b f.node.0) p
-    part_room = takes (head_content b (stored_at b f.node.0).head) (stored_at b f.node.0) f.slot f.todo v p is h.suits
+    part_room = takes (head_content b (stored_at b f.node.0).head) (stored_at b f.node.0) f.role f.todo v p is h.suits
 
     pub part_named : Names b v → PartNames b p
-    part_named n = by f.slot h.names is
+    part_named n = by f.role h.names is
       where
-        by : (x : Slot) → SlotNames b x → IsPart x v (Some p) → PartNames b p
-        by slot.Item s e = subst (PartNames b) (sym (some_part p _ e)) n
-        by (slot.Named y) s e = subst (PartNames b) (sym (some_part p _ e)) (s, n)
-        by slot.Key s e = absurd cc
-        by (slot.Entry k) s e = subst (PartNames b) (sym (some_part p _ e)) (s, n)
+        by : (x : Role) → RoleNames b x → IsPart x v (Some p) → PartNames b p
+        by role.Item s e = subst (PartNames b) (sym (some_part p _ e)) n
+        by (role.Named y) s e = subst (PartNames b) (sym (some_part p _ e)) (s, n)
+        by role.Key s e = absurd cc
+        by (role.Entry k) s e = subst (PartNames b) (sym (some_part p _ e)) (s, n)
 
 -- The steps of the loop.
 
@@ -298,7 +298,7 @@ module _ {S : Type 0} (tells : S → Type 0) (left : S → List ℕ) (faults : S
           leads_end tells left faults (value_layout n (state_of a t)) (bind (value_layout y.fuel.values (state_of b u)) (rest y.fuels fs)) c d e tt end so.goes y.leads
           (end_reads tells left faults (value_layout y.fuel.values (state_of b u)) (rest y.fuels fs) d e end (h y.fuel.values y.enough.0).starts)
 
-      pub so_value : (v : Stored) → Goes tells left faults d e (Ok (start.Value v)) → ((n : ℕ) → left_of d < n → Starts tells left n (state_of b u) (state_of b1 u1) d e (Ok (start.Value v))) → StillReady 0 b b1 u1 d e → StartHolds b b1 (left_of e) (start.Value v) → place d < place e
+      pub so_value : (v : Stored) → GoesBy tells left faults d e (Ok (start.Value v)) → ((n : ℕ) → left_of d < n → Starts tells left n (state_of b u) (state_of b1 u1) d e (Ok (start.Value v))) → StillReady 0 b b1 u1 d e → StartHolds b b1 (left_of e) (start.Value v) → place d < place e
           → StackSo tells left faults a b1 t u1 c e (now.given v) fs
       so_value v g h k (names, grows) lt1 =
           let less : suc (left_of e) ≤ left_of d = let p = k.placed.within in let q = g.same_bound in omega arith in
@@ -320,7 +320,7 @@ module _ {S : Type 0} (tells : S → Type 0) (left : S → List ℕ) (faults : S
             moved = let m = so.moved in omega arith;
           }
 
-      pub so_open : (i : NodeId) (p : Parts) → Goes tells left faults d e (Ok (start.Open i p)) → ((n : ℕ) → left_of d < n → Starts tells left n (state_of b u) (state_of b1 u1) d e (Ok (start.Open i p))) → StillReady 0 b b1 u1 d e → StartHolds b b1 (left_of e) (start.Open i p) → place d < place e
+      pub so_open : (i : NodeId) (p : Parts) → GoesBy tells left faults d e (Ok (start.Open i p)) → ((n : ℕ) → left_of d < n → Starts tells left n (state_of b u) (state_of b1 u1) d e (Ok (start.Open i p))) → StillReady 0 b b1 u1 d e → StartHolds b b1 (left_of e) (start.Open i p) → place d < place e
           → StackSo tells left faults a b1 t u1 c e (now.unfinished i p) fs
       so_open i p g h k o lt1 =
           let less : suc (left_of e) ≤ left_of d = let p = k.placed.within in let q = g.same_bound in omega arith in
@@ -360,8 +360,8 @@ module _ {S : Type 0} (tells : S → Type 0) (left : S → List ℕ) (faults : S
           (end_reads tells left faults w (rest y.fuels fs) d e end (h (value_layout y.fuel.values) y.fuel.pairs y.enough.1))
 
       module _ (k : StillReady 0 b b1 u1 d e) (stays : place d ≤ place e) (same : left_of e ≤ left_of d) where
-        pub go_wait : (x : Slot) (q : Parts) → Goes tells left faults d e (Ok (step.Wait x q)) → ((v : State3 → Layout ValueRead) (m : ℕ) → left_of d < m → GoesOn tells left v m i.0 p (state_of b u) (state_of b1 u1) d e (Ok (step.Wait x q))) → StepHolds b b1 i.0 (step.Wait x q)
-            → StackSo tells left faults a b1 t u1 c e now.wanted (record { node = i; slot = x; todo = q } ∷ fs)
+        pub go_wait : (x : Role) (q : Parts) → GoesBy tells left faults d e (Ok (step.Wait x q)) → ((v : State3 → Layout ValueRead) (m : ℕ) → left_of d < m → GoesOn tells left v m i.0 p (state_of b u) (state_of b1 u1) d e (Ok (step.Wait x q))) → StepHolds b b1 i.0 (step.Wait x q)
+            → StackSo tells left faults a b1 t u1 c e now.wanted (record { node = i; role = x; todo = q } ∷ fs)
         go_wait x q g h (none, grows, names, suits) =
             record {
               goes = goes_then tells left faults c d e tt (Ok tt) so.goes (goes_other tells left faults d e (step.Wait x q) tt g);
@@ -395,7 +395,7 @@ module _ {S : Type 0} (tells : S → Type 0) (left : S → List ℕ) (faults : S
               moved = let m = so.moved in omega arith;
             }
 
-        pub go_open : (q : Parts) → Goes tells left faults d e (Ok (step.Open q)) → ((v : State3 → Layout ValueRead) (m : ℕ) → left_of d < m → GoesOn tells left v m i.0 p (state_of b u) (state_of b1 u1) d e (Ok (step.Open q))) → StepHolds b b1 i.0 (step.Open q)
+        pub go_open : (q : Parts) → GoesBy tells left faults d e (Ok (step.Open q)) → ((v : State3 → Layout ValueRead) (m : ℕ) → left_of d < m → GoesOn tells left v m i.0 p (state_of b u) (state_of b1 u1) d e (Ok (step.Open q))) → StepHolds b b1 i.0 (step.Open q)
             → StackSo tells left faults a b1 t u1 c e (now.unfinished i q) fs
         go_open q g h (grows, suits) =
             record {
@@ -426,7 +426,7 @@ module _ {S : Type 0} (tells : S → Type 0) (left : S → List ℕ) (faults : S
               moved = let m = so.moved in omega arith;
             }
 
-        pub go_closed : Goes tells left faults d e (Ok step.Closed) → ((v : State3 → Layout ValueRead) (m : ℕ) → left_of d < m → GoesOn tells left v m i.0 p (state_of b u) (state_of b1 u1) d e (Ok step.Closed)) → StepHolds b b1 i.0 step.Closed
+        pub go_closed : GoesBy tells left faults d e (Ok step.Closed) → ((v : State3 → Layout ValueRead) (m : ℕ) → left_of d < m → GoesOn tells left v m i.0 p (state_of b u) (state_of b1 u1) d e (Ok step.Closed)) → StepHolds b b1 i.0 step.Closed
             → StackSo tells left faults a b1 t u1 c e (now.given (value.Node i)) fs
         go_closed g h (there, closes) =
             let o = so.holds.over in
@@ -460,7 +460,7 @@ module _ {S : Type 0} (tells : S → Type 0) (left : S → List ℕ) (faults : S
 
   module _ (a b : Arena) (t u : KeptTables) (c d : Cursor S Window) (fs : List Frame) (v : Stored) where
     -- it is a key, and its value is wanted
-    pub so_key : (i : NodeId) (q : Parts) → StackSo tells left faults a b t u c d (now.given v) (record { node = i; slot = slot.Key; todo = q } ∷ fs) → StackSo tells left faults a b t u c d now.wanted (record { node = i; slot = slot.Entry v; todo = q } ∷ fs)
+    pub so_key : (i : NodeId) (q : Parts) → StackSo tells left faults a b t u c d (now.given v) (record { node = i; role = role.Key; todo = q } ∷ fs) → StackSo tells left faults a b t u c d now.wanted (record { node = i; role = role.Entry v; todo = q } ∷ fs)
     so_key i q so = record {
       goes = so.goes;
       ready = so.ready;
@@ -478,47 +478,47 @@ module _ {S : Type 0} (tells : S → Type 0) (left : S → List ℕ) (faults : S
       moved = let m = so.moved in omega arith;
     }
       where
-        waits : (q : Parts) → WaitsFor (head_content b (stored_at b i.0).head) (stored_at b i.0) slot.Key q → WaitsFor (head_content b (stored_at b i.0).head) (stored_at b i.0) (slot.Entry v) q
+        waits : (q : Parts) → WaitsFor (head_content b (stored_at b i.0).head) (stored_at b i.0) role.Key q → WaitsFor (head_content b (stored_at b i.0).head) (stored_at b i.0) (role.Entry v) q
         waits (Entries n) h = h
         waits (Array n) h = absurd h
         waits (Object n x) h = absurd h
         waits (Items n) h = absurd h
 
-        by : (n : ℕ) (us : List Fuel) → HaveFuel (left_of d) us (record { node = i; slot = slot.Key; todo = q } ∷ fs) → Leads tells left (value_layout n (state_of a t)) (rest us (record { node = i; slot = slot.Key; todo = q } ∷ fs) (read v (state_of b u))) c d
-            → IsAt tells left n (state_of a t) now.wanted (record { node = i; slot = slot.Entry v; todo = q } ∷ fs) (state_of b u) c d
+        by : (n : ℕ) (us : List Fuel) → HaveFuel (left_of d) us (record { node = i; role = role.Key; todo = q } ∷ fs) → Leads tells left (value_layout n (state_of a t)) (rest us (record { node = i; role = role.Key; todo = q } ∷ fs) (read v (state_of b u))) c d
+            → IsAt tells left n (state_of a t) now.wanted (record { node = i; role = role.Entry v; todo = q } ∷ fs) (state_of b u) c d
         by n [] h l = absurd h
         by n (f ∷ us) h l = record {
           fuel = f;
           fuels = f ∷ us;
           enough = h.0;
           fueled = h;
-          leads = subst (λ w. Leads tells left (value_layout n (state_of a t)) w c d) (bind_bind (value_layout f.values (state_of b u)) (resume (value_layout f.values) f.pairs i.0 (slot.Entry v) q) (rest us fs)) l;
+          leads = subst (λ w. Leads tells left (value_layout n (state_of a t)) w c d) (bind_bind (value_layout f.values (state_of b u)) (resume (value_layout f.values) f.pairs i.0 (role.Entry v) q) (rest us fs)) l;
         }
 
     -- it is a part of the innermost node
-    module _ (f : Frame) (so : StackSo tells left faults a b t u c d (now.given v) (f ∷ fs)) (p : Part) (is : IsPart f.slot v (Some p)) where
-      abbrev o : IsOpened b f.node.0 (suc (left_of d) + spare f.slot)
+    module _ (f : Frame) (so : StackSo tells left faults a b t u c d (now.given v) (f ∷ fs)) (p : Part) (is : IsPart f.role v (Some p)) where
+      abbrev o : IsOpened b f.node.0 (suc (left_of d) + spare f.role)
       o = so.holds.0.over.opened
 
       pub put_names : PartNames b p
-      put_names = by f.slot so.holds.0.names is
+      put_names = by f.role so.holds.0.names is
         where
           some : (p r : Part) → Some p ≡ Some r → p ≡ r
           some p r e = cc
 
-          by : (x : Slot) → SlotNames b x → IsPart x v (Some p) → PartNames b p
-          by slot.Item h e = subst (PartNames b) (sym (some p _ e)) so.holds.1
-          by (slot.Named y) h e = subst (PartNames b) (sym (some p _ e)) (h, so.holds.1)
-          by slot.Key h e = absurd cc
-          by (slot.Entry k) h e = subst (PartNames b) (sym (some p _ e)) (h, so.holds.1)
+          by : (x : Role) → RoleNames b x → IsPart x v (Some p) → PartNames b p
+          by role.Item h e = subst (PartNames b) (sym (some p _ e)) so.holds.1
+          by (role.Named y) h e = subst (PartNames b) (sym (some p _ e)) (h, so.holds.1)
+          by role.Key h e = absurd cc
+          by (role.Entry k) h e = subst (PartNames b) (sym (some p _ e)) (h, so.holds.1)
 
       pub put_room : HasRoom b (stored_at b f.node.0) p
-      put_room = takes (head_content b (stored_at b f.node.0).head) (stored_at b f.node.0) f.slot f.todo v p is so.holds.0.suits
+      put_room = takes (head_content b (stored_at b f.node.0).head) (stored_at b f.node.0) f.role f.todo v p is so.holds.0.suits
 
       pub so_put : (b2 : Arena) → b2 ≡ changed_arena (more_part p) f.node.0 b → StackSo tells left faults a b2 t u c d (now.unfinished f.node f.todo) fs
       so_put b2 e =
           let i = f.node.0 in
-          let l = suc (left_of d) + spare f.slot in
+          let l = suc (left_of d) + spare f.role in
           let g = grows_itself b in
           let node = put_node i l b b o g p b2 e in
           let same_texts : length b2.texts ≡ length b.texts = ap (λ z. length z.texts) e in
@@ -532,17 +532,17 @@ module _ {S : Type 0} (tells : S → Type 0) (left : S → List ℕ) (faults : S
             still_ready = record { built = built; tables = tables; placed = so.ready.placed; texts = let x = so.still_ready.texts in omega arith; traits = let x = so.still_ready.traits in omega arith; nodes = let x = so.still_ready.nodes in omega arith };
             holds = record {
               over = record {
-                opened = put_opened i l b b o g p b2 e (left_of d) (let s = more_size (stored_at b i) (part_names p) (part_values p) in let n = ap size_of node in let k = part_small f.slot v p is in omega arith);
+                opened = put_opened i l b b o g p b2 e (left_of d) (let s = more_size (stored_at b i) (part_names p) (part_values p) in let n = ap size_of node in let k = part_small f.role v p is in omega arith);
                 below = nested_less a (suc (left_of d)) (suc (suc (left_of d))) fs o.before (omega arith) so.holds.0.over.below;
                 built = so.holds.0.over.built;
               };
-              suits = subst (λ h. Suits h (stored_at b2 i) f.todo) (sym (put_head i l b b o g p b2 e so.ready.built)) (subst (λ m. Suits (head_content b (stored_at b i).head) m f.todo) (sym node) (suits_more (head_content b (stored_at b i).head) (stored_at b i) f.slot f.todo v p is so.holds.0.suits));
+              suits = subst (λ h. Suits h (stored_at b2 i) f.todo) (sym (put_head i l b b o g p b2 e so.ready.built)) (subst (λ m. Suits (head_content b (stored_at b i).head) m f.todo) (sym node) (suits_more (head_content b (stored_at b i).head) (stored_at b i) f.role f.todo v p is so.holds.0.suits));
             };
             at = λ n lt. let y = so.at n lt in by n y.fuels y.fueled y.leads;
             moved = so.moved;
           }
         where
-          state_is : (x : Slot) → IsPart x v (Some p) → (w : State3 → Layout ValueRead) (m : ℕ) → resume w m f.node.0 x f.todo (read v (state_of b u)) ≡ todo w m f.node.0 f.todo (state_of b2 u)
+          state_is : (x : Role) → IsPart x v (Some p) → (w : State3 → Layout ValueRead) (m : ℕ) → resume w m f.node.0 x f.todo (read v (state_of b u)) ≡ todo w m f.node.0 f.todo (state_of b2 u)
           state_is x h w m = resumed b u v p b2 f.node.0 f.todo e x h w m
 
           by : (n : ℕ) (us : List Fuel) → HaveFuel (left_of d) us (f ∷ fs) → Leads tells left (value_layout n (state_of a t)) (rest us (f ∷ fs) (read v (state_of b u))) c d → IsAt tells left n (state_of a t) (now.unfinished f.node f.todo) fs (state_of b2 u) c d
@@ -552,15 +552,15 @@ module _ {S : Type 0} (tells : S → Type 0) (left : S → List ℕ) (faults : S
             fuels = us;
             enough = h.0;
             fueled = h.1;
-            leads = subst (λ w. Leads tells left (value_layout n (state_of a t)) (bind w (rest us fs)) c d) (state_is f.slot is (value_layout z.values) z.pairs) l;
+            leads = subst (λ w. Leads tells left (value_layout n (state_of a t)) (bind w (rest us fs)) c d) (state_is f.role is (value_layout z.values) z.pairs) l;
           }
 
   -- An end is passed on.
-  pub follows_end : (b b1 : Arena) (u u1 : KeptTables) (d e : Cursor S Window) (w : Now) (fs gs : List Frame) (r : Result Unfinished ReadEnd) (end : ReadEnd) → IsErrAnd r (λ x. x ≡ end)
+  pub follows_end : (b b1 : Arena) (u u1 : KeptTables) (d e : Cursor S Window) (w : Now) (fs gs : List Frame) (r : Result OpenNode ReadEnd) (end : ReadEnd) → IsErrAnd r (λ x. x ≡ end)
       → ((a : Arena) (t : KeptTables) (c : Cursor S Window) → StackSo tells left faults a b t u c d w fs → (n : ℕ) → left_of c < n → Ends tells left (value_layout n (state_of a t)) c e end) → Follows tells left faults b b1 u u1 d e w fs gs r
   follows_end b b1 u u1 d e w fs gs (Ok x) end i h = absurd i
   follows_end b b1 u u1 d e w fs gs (Err x) end i h = record { goes_on = λ a t c so. tt; ends = λ a t c so n lt. subst (Ends tells left (value_layout n (state_of a t)) c e) (sym i) (h a t c so n lt) }
 
-  pub goes_passed : {X Z : Type 0} (c d e : Cursor S Window) (r : Result Z ReadEnd) (end : ReadEnd) → IsErrAnd r (λ x. x ≡ end) → Goes {X = Unit {0}} tells left faults c d (Ok tt) → Goes {X = X} tells left faults d e (Err end) → Goes {X = Z} tells left faults c e r
+  pub goes_passed : {X Z : Type 0} (c d e : Cursor S Window) (r : Result Z ReadEnd) (end : ReadEnd) → IsErrAnd r (λ x. x ≡ end) → GoesBy {X = Unit {0}} tells left faults c d (Ok tt) → GoesBy {X = X} tells left faults d e (Err end) → GoesBy {X = Z} tells left faults c e r
   goes_passed c d e (Ok x) end i g h = absurd i
-  goes_passed {X} {Z} c d e (Err x) end i g h = goes_then tells left faults c d e tt (Err x) g (subst (λ y. Goes {X = Z} tells left faults d e (Err y)) (sym i) (record { told = h.told; same_source = h.same_source; same_bound = h.same_bound; one_past = h.one_past; cause = h.cause; none_ahead = h.none_ahead; total = h.total }))
+  goes_passed {X} {Z} c d e (Err x) end i g h = goes_then tells left faults c d e tt (Err x) g (subst (λ y. GoesBy {X = Z} tells left faults d e (Err y)) (sym i) (record { told = h.told; same_source = h.same_source; same_bound = h.same_bound; one_past = h.one_past; cause = h.cause; none_ahead = h.none_ahead; total = h.total }))

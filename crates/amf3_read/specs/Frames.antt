@@ -5,9 +5,11 @@ use Rattle.amf_io.specs.declared.cursor.Cursor.{Cursor}
 use Rattle.amf_io.specs.declared.ends.ReadEnd.{ReadEnd}
 use Rattle.amf_io.specs.Cursor.{place}
 use Rattle.amf_io.specs.Layout.{Layout, give, stuck, bind}
-use Rattle.amf_io.specs.ReadEnds.{IsPlaced, Goes}
+use Rattle.amf_io.specs.ReadEnds.{IsPlaced, GoesBy}
 use Rattle.amf_io.specs.CursorReads.{Answers, Ends, Leads}
+use Rattle.amf_graph.specs.declared.kind.NodeKind.{NodeKind}
 use Rattle.amf_graph.specs.declared.wrapped.Wrapped.{Wrapped}
+use Rattle.amf_graph.specs.declared.value.Value.{Value}
 use Rattle.amf_graph.specs.declared.value.Value.TheVariants as value
 use Rattle.amf_graph.specs.Graph as graph
 use Rattle.amf_graph.specs.Arena.{Arena, StoredNode, IsBuilt, IsTextId, Names, head_content}
@@ -15,11 +17,11 @@ use Rattle.amf_graph.specs.Building.{stored_at, kept_node, shut, more_value, mor
 use Rattle.amf3_spelling.specs.KeptTables.{KeptTables, AreTablesIn}
 use Rattle.amf3_spelling.specs.Reads3.{Grows}
 use Rattle.amf3_layout.specs.Layout3State.{State3, state_of, changed}
-use Rattle.amf3_layout.specs.Layout3.{ValueRead, read, items, entries, pairs, pairs_if, value_layout}
+use Rattle.amf3_layout.specs.Layout3.{ValueRead, read, items, entries, pairs, pairs_if, value_layout, node_layout, inline_node}
 use Rattle.amf3_read.specs.declared.opening.Parts.{Parts}
 use Rattle.amf3_read.specs.declared.opening.Parts.TheVariants.{Array, Object, Items, Entries}
-use Rattle.amf3_read.specs.declared.frame.Slot.{Slot}
-use Rattle.amf3_read.specs.declared.frame.Slot.TheVariants as slot
+use Rattle.amf3_read.specs.declared.frame.Role.{Role}
+use Rattle.amf3_read.specs.declared.frame.Role.TheVariants as role
 use Rattle.amf3_read.specs.declared.frame.Frame.{Frame}
 use Rattle.amf3_read.specs.Now.{Now}
 use Rattle.amf3_read.specs.Now as now
@@ -46,11 +48,11 @@ todo v m i (Items n) s = bind (items v i n s) (λ w. give (closed_node i w))
 todo v m i (Entries n) s = bind (entries v i n s) (λ w. give (closed_node i w))
 
 -- what follows the value that a frame waits for
-abbrev pub resume : (State3 → Layout ValueRead) → ℕ → ℕ → Slot → Parts → ValueRead → Layout ValueRead
-resume v m i slot.Item p x = todo v m i p (changed (more_value x.value) i x.state)
-resume v m i (slot.Named y) p x = todo v m i p (changed (more_name y.0 x.value) i x.state)
-resume v m i slot.Key p x = bind (v x.state) (λ y. todo v m i p (changed (more_entry x.value y.value) i y.state))
-resume v m i (slot.Entry k) p x = todo v m i p (changed (more_entry k x.value) i x.state)
+abbrev pub resume : (State3 → Layout ValueRead) → ℕ → ℕ → Role → Parts → ValueRead → Layout ValueRead
+resume v m i role.Item p x = todo v m i p (changed (more_value x.value) i x.state)
+resume v m i (role.Named y) p x = todo v m i p (changed (more_name y.0 x.value) i x.state)
+resume v m i role.Key p x = bind (v x.state) (λ y. todo v m i p (changed (more_entry x.value y.value) i y.state))
+resume v m i (role.Entry k) p x = todo v m i p (changed (more_entry k x.value) i x.state)
 
 -- the fuel of an open node: for each of its values, and for its pairs
 pub record Fuel : Type 0 where
@@ -61,7 +63,7 @@ pub record Fuel : Type 0 where
 abbrev pub rest : List Fuel → List Frame → ValueRead → Layout ValueRead
 rest us [] x = give x
 rest [] (f ∷ fs) x = stuck
-rest (u ∷ us) (f ∷ fs) x = bind (resume (value_layout u.values) u.pairs f.node.0 f.slot f.todo x) (rest us fs)
+rest (u ∷ us) (f ∷ fs) x = bind (resume (value_layout u.values) u.pairs f.node.0 f.role f.todo x) (rest us fs)
 
 -- what is read now
 abbrev pub current : Fuel → Now → State3 → Layout ValueRead
@@ -92,23 +94,23 @@ Suits h m (Items n) = LacksItems h m n
 Suits h m (Entries n) = (f : Bool) × (h ≡ graph.dictionary f) × (m.names ≡ []) × (k : ℕ) × (length m.values ≡ 2 * k)
 
 -- with the value that it waits for
-abbrev pub WaitsFor : graph.Head → StoredNode → Slot → Parts → Type 0
-WaitsFor h m slot.Item (Object n d) = Suits h m (Object (suc n) d)
-WaitsFor h m slot.Item (Items n) = Suits h m (Items (suc n))
-WaitsFor h m (slot.Named x) (Array n) = Suits h m (Array n)
-WaitsFor h m (slot.Named x) (Object n d) = Suits h m (Object n d) × (d ≡ true)
-WaitsFor h m slot.Key (Entries n) = Suits h m (Entries n)
-WaitsFor h m (slot.Entry k) (Entries n) = Suits h m (Entries n)
+abbrev pub WaitsFor : graph.Head → StoredNode → Role → Parts → Type 0
+WaitsFor h m role.Item (Object n d) = Suits h m (Object (suc n) d)
+WaitsFor h m role.Item (Items n) = Suits h m (Items (suc n))
+WaitsFor h m (role.Named x) (Array n) = Suits h m (Array n)
+WaitsFor h m (role.Named x) (Object n d) = Suits h m (Object n d) × (d ≡ true)
+WaitsFor h m role.Key (Entries n) = Suits h m (Entries n)
+WaitsFor h m (role.Entry k) (Entries n) = Suits h m (Entries n)
 WaitsFor h m _ p = ⊥
 
-abbrev pub SlotNames : Arena → Slot → Type 0
-SlotNames a (slot.Named x) = IsTextId a x.0
-SlotNames a (slot.Entry k) = Names a k
-SlotNames a _ = Unit {0}
+abbrev pub RoleNames : Arena → Role → Type 0
+RoleNames a (role.Named x) = IsTextId a x.0
+RoleNames a (role.Entry k) = Names a k
+RoleNames a _ = Unit {0}
 
 -- a key takes its place with its value
-abbrev pub spare : Slot → ℕ
-spare (slot.Entry k) = 1
+abbrev pub spare : Role → ℕ
+spare (role.Entry k) = 1
 spare _ = 0
 
 -- an open node, and what held before it was opened
@@ -118,9 +120,9 @@ pub record IsOver (Below : Arena → Type 0) (left : ℕ) (b : Arena) (i : ℕ) 
   pub built : IsBuilt opened.before
 
 pub record Waits (Below : Arena → Type 0) (left : ℕ) (b : Arena) (f : Frame) : Type 0 where
-  pub over : IsOver Below (left + spare f.slot) b f.node.0
-  pub names : SlotNames b f.slot
-  pub suits : WaitsFor (head_content b (stored_at b f.node.0).head) (stored_at b f.node.0) f.slot f.todo
+  pub over : IsOver Below (left + spare f.role) b f.node.0
+  pub names : RoleNames b f.role
+  pub suits : WaitsFor (head_content b (stored_at b f.node.0).head) (stored_at b f.node.0) f.role f.todo
 
 -- the frames' nodes were opened one after another; what else is new is closed. Each node but the innermost has a byte to spare
 abbrev pub Nested : Arena → ℕ → List Frame → Arena → Type 0
@@ -163,6 +165,14 @@ StartsBy tells left v m t z c d (Ok (start.Value x)) = Answers tells left (λ x.
 StartsBy tells left v m t z c d (Ok (start.Open node p)) = Leads tells left t (todo v m node.0 p z) c d
 StartsBy tells left v m t z c d (Err e) = Ends tells left t c d e
 
+-- a node of this kind behind its marker is read so, whatever reads the values within
+abbrev pub StartsNode : {S : Type 0} → (S → Type 0) → (S → List ℕ) → NodeKind → State3 → State3 → Cursor S Window → Cursor S Window → Result Start ReadEnd → Type 0
+StartsNode tells left k z z' c d r = (v : State3 → Layout ValueRead) (n : ℕ) → StartsBy tells left v n (node_layout v n k z) z' c d r
+
+-- and one that is given inline, behind its header
+abbrev pub StartsInline : {S : Type 0} → (S → Type 0) → (S → List ℕ) → NodeKind → ℕ → State3 → State3 → Cursor S Window → Cursor S Window → Result Start ReadEnd → Type 0
+StartsInline tells left k header z z' c d r = (v : State3 → Layout ValueRead) (n : ℕ) → StartsBy tells left v n (inline_node v n k header z) z' c d r
+
 -- with some fuel that is left
 pub record Starts {S : Type 0} (tells : S → Type 0) (left : S → List ℕ) (n : ℕ) (s z : State3) (c d : Cursor S Window) (result : Result Start ReadEnd) : Type 0 where
   pub fuel : ℕ
@@ -193,8 +203,12 @@ GoesOn tells left v m i p s z c d (Ok (step.Open q)) = LeadsWithFuel tells left 
 GoesOn tells left v m i p s z c d (Ok step.Closed) = Leads tells left (todo v m i p s) (give (read (value.Node (record { 0 = i })) z)) c d
 GoesOn tells left v m i p s z c d (Err e) = Ends tells left (todo v m i p s) c d e
 
+-- with more fuel than bytes that are left an open node, of which so much is still to be read, goes on so
+abbrev pub GoesOnWith : {S : Type 0} → (S → Type 0) → (S → List ℕ) → ℕ → Parts → State3 → State3 → Cursor S Window → Cursor S Window → Result Step ReadEnd → Type 0
+GoesOnWith tells left i p z z' c d r = (v : State3 → Layout ValueRead) (m : ℕ) → left_of c < m → GoesOn tells left v m i p z z' c d r
+
 abbrev pub StepHolds : Arena → Arena → ℕ → Step → Type 0
-StepHolds a b i (step.Wait x q) = (spare x ≡ 0) × Grows a b × SlotNames b x × WaitsFor (head_content b (stored_at b i).head) (stored_at b i) x q
+StepHolds a b i (step.Wait x q) = (spare x ≡ 0) × Grows a b × RoleNames b x × WaitsFor (head_content b (stored_at b i).head) (stored_at b i) x q
 StepHolds a b i (step.Open q) = Grows a b × Suits (head_content b (stored_at b i).head) (stored_at b i) q
 StepHolds a b i step.Closed = (i < length b.nodes) × ((before : Arena) (n : StoredNode) → i ≡ length before.nodes → Grows (kept_node before n) a → Grows before b)
 
@@ -208,11 +222,11 @@ abbrev pub IsNext : Parts → Next → Type 0
 IsNext (Array n) x = x ≡ next.Name
 IsNext (Object zero true) x = x ≡ next.Name
 IsNext (Object zero false) x = x ≡ next.Nothing
-IsNext (Object (suc n) d) x = x ≡ next.Value slot.Item (Object n d)
+IsNext (Object (suc n) d) x = x ≡ next.Value role.Item (Object n d)
 IsNext (Items zero) x = x ≡ next.Nothing
-IsNext (Items (suc n)) x = x ≡ next.Value slot.Item (Items n)
+IsNext (Items (suc n)) x = x ≡ next.Value role.Item (Items n)
 IsNext (Entries zero) x = x ≡ next.Nothing
-IsNext (Entries (suc n)) x = x ≡ next.Value slot.Key (Entries n)
+IsNext (Entries (suc n)) x = x ≡ next.Value role.Key (Entries n)
 
 abbrev pub IsBehindPairs : Parts → Parts → Type 0
 IsBehindPairs (Array n) p = p ≡ Items n
@@ -227,9 +241,13 @@ Moved _ old new = old < new
 
 -- the loop's invariant, the innermost frame first
 pub record StackSo {S : Type 0} (tells : S → Type 0) (left : S → List ℕ) (faults : S → ℕ) (a b : Arena) (t u : KeptTables) (c d : Cursor S Window) (now : Now) (fs : List Frame) : Type 0 where
-  pub goes : Goes {X = Unit {0}} tells left faults c d (Ok tt)
+  pub goes : GoesBy {X = Unit {0}} tells left faults c d (Ok tt)
   pub ready : Ready 0 b u d
   pub still_ready : StillReady 0 a b u c d
   pub holds : Holds a (left_of d) now fs b
   pub at : (n : ℕ) → left_of c < n → IsAt tells left n (state_of a t) now fs (state_of b u) c d
   pub moved : Moved now (place c) (place d)
+
+-- a value is read by its layout, with more fuel than bytes that are left
+abbrev pub AnswersValue3 : {S : Type 0} → (S → Type 0) → (S → List ℕ) → State3 → State3 → Cursor S Window → Cursor S Window → Result Value ReadEnd → Type 0
+AnswersValue3 tells left z z' c d r = (n : ℕ) → left_of c < n → Answers tells left (λ v. read v z') (value_layout n z) c d r

@@ -8,7 +8,7 @@ pub mod VerdictLaws
 pub mod Ready
 pub mod Begins
 pub mod Filling
-pub mod Slots
+pub mod Roles
 pub mod Now
 pub mod Frames
 pub mod FrameRows

@@ -1,7 +1,7 @@
 ghost use Rattle.std.specs.Prelude.{◌≡◌, ◌∷◌, [], reverse, IfOk, OnOk, MatchOption};
-ghost use Rattle.amf3_read.specs.FrameRows.{slot_with, keys_below};
+ghost use Rattle.amf3_read.specs.FrameRows.{role_with, keys_below};
 
-use crate::frame::{Frame, Slot};
+use crate::frame::{Frame, Role};
 use crate::opening::Parts;
 use amf_graph::{NodeId, TextId, Value};
 use amf_wire::Memory;
@@ -11,7 +11,7 @@ use std::mem::size_of;
 
 /// Where a value goes, without the key.
 #[derive(Clone, Copy, Debug, PartialEq, Eq)]
-pub enum BareSlot {
+pub enum BareRole {
     /// It is an item.
     Item,
     /// It stands behind this name.
@@ -26,7 +26,7 @@ pub enum BareSlot {
 #[derive(Clone, Copy, Debug, PartialEq, Eq)]
 pub struct Row {
     pub node: NodeId,
-    pub slot: BareSlot,
+    pub role: BareRole,
     pub todo: Parts,
 }
 
@@ -66,9 +66,9 @@ impl Frames {
     pub fn push(&mut self, frame: Frame) -> Result<(), Memory>
         ensures { OnOk result (self.new ≡ frame ∷ self.old) }
     {
-        let Frame { node, slot, todo } = frame;
-        let slot = put_key(&mut self.keys, slot)?;
-        self.rows.push(Row { node, slot, todo })?;
+        let Frame { node, role, todo } = frame;
+        let role = put_key(&mut self.keys, role)?;
+        self.rows.push(Row { node, role, todo })?;
         Ok(())
     }
 
@@ -77,39 +77,39 @@ impl Frames {
     pub fn pop(&mut self) -> Option<Frame>
         ensures { MatchOption result (self.old ≡ []) (λ frame. self.old ≡ frame ∷ self.new) }
     {
-        let Row { node, slot, todo } = self.rows.pop()?;
-        let slot = take_key(&mut self.keys, slot);
-        Some(Frame { node, slot, todo })
+        let Row { node, role, todo } = self.rows.pop()?;
+        let role = take_key(&mut self.keys, role);
+        Some(Frame { node, role, todo })
     }
 }
 
-/// Puts the key of a slot, if it has one, on top of the others.
+/// Puts the key of a role, if it has one, on top of the others.
 #[inline(always)]
-fn put_key(keys: &mut Vec<Value>, slot: Slot) -> Result<BareSlot, Memory>
-    ensures slot { IfOk result (λ bare. slot_with (reverse keys.new.items) bare ≡ slot) }
+fn put_key(keys: &mut Vec<Value>, role: Role) -> Result<BareRole, Memory>
+    ensures role { IfOk result (λ bare. role_with (reverse keys.new.items) bare ≡ role) }
     ensures keys { IfOk result (λ bare. keys_below (reverse keys.new.items) bare ≡ reverse keys.old.items) }
 {
-    match slot {
-        Slot::Item => Ok(BareSlot::Item),
-        Slot::Named(name) => Ok(BareSlot::Named(name)),
-        Slot::Key => Ok(BareSlot::Key),
-        Slot::Entry(key) => {
+    match role {
+        Role::Item => Ok(BareRole::Item),
+        Role::Named(name) => Ok(BareRole::Named(name)),
+        Role::Key => Ok(BareRole::Key),
+        Role::Entry(key) => {
             keys.push(key)?;
-            Ok(BareSlot::Entry)
+            Ok(BareRole::Entry)
         }
     }
 }
 
-/// Gives a slot its key, which is taken from the top: there is one for each entry.
+/// Gives a role its key, which is taken from the top: there is one for each entry.
 #[inline(always)]
-fn take_key(keys: &mut Vec<Value>, slot: BareSlot) -> Slot
-    ensures slot { result ≡ slot_with (reverse keys.old.items) slot }
-    ensures keys { reverse keys.new.items ≡ keys_below (reverse keys.old.items) slot }
+fn take_key(keys: &mut Vec<Value>, role: BareRole) -> Role
+    ensures role { result ≡ role_with (reverse keys.old.items) role }
+    ensures keys { reverse keys.new.items ≡ keys_below (reverse keys.old.items) role }
 {
-    match slot {
-        BareSlot::Item => Slot::Item,
-        BareSlot::Named(name) => Slot::Named(name),
-        BareSlot::Key => Slot::Key,
-        BareSlot::Entry => Slot::Entry(keys.pop().unwrap_or(Value::Undefined)),
+    match role {
+        BareRole::Item => Role::Item,
+        BareRole::Named(name) => Role::Named(name),
+        BareRole::Key => Role::Key,
+        BareRole::Entry => Role::Entry(keys.pop().unwrap_or(Value::Undefined)),
     }
 }

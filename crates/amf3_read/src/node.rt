@@ -1,16 +1,15 @@
-ghost use Rattle.std.specs.Prelude.{ℕ, ◌≤◌, OnOk, IfOk, IfErr};
+ghost use Rattle.std.specs.Prelude.{◌≤◌, OnOk, IfOk, IfErr};
 ghost use Rattle.amf_io.specs.Cursor.{place};
-ghost use Rattle.amf_io.specs.Layout.{Layout};
 ghost use Rattle.amf_io.specs.ReadEnds.{Goes};
 ghost use Rattle.amf_io.specs.CursorReads.{Ends};
 ghost use Rattle.amf3_spelling.specs.Markers3.{node_marker};
-ghost use Rattle.amf3_layout.specs.Layout3State.{State3, state_of};
-ghost use Rattle.amf3_layout.specs.Layout3.{ValueRead, node_layout, inline_node, opening};
+ghost use Rattle.amf3_layout.specs.Layout3State.{state_of};
+ghost use Rattle.amf3_layout.specs.Layout3.{opening};
 ghost use Rattle.amf_fields.specs.Room.{left_of};
 ghost use Rattle.amf3_read.specs.Ready.{Ready};
 ghost use Rattle.amf3_read.specs.Opened.{IsOpening};
 ghost use Rattle.amf3_read.specs.Begins.{Begins};
-ghost use Rattle.amf3_read.specs.Frames.{StartsBy, StartHolds, StillReady};
+ghost use Rattle.amf3_read.specs.Frames.{StartsNode, StartsInline, StartHolds, StillReady};
 
 use crate::header::{Header, judge_header};
 use crate::opening::{Opening, Parts, read_opening};
@@ -46,8 +45,8 @@ pub fn start_node<S: Source>(
     kind: NodeKind,
 ) -> Result<Start, ReadEnd>
     requires { Ready 0 builder.old tables.old cursor.old }
-    ensures goes { Goes S.tells S.left S.faults cursor.old cursor.new result }
-    ensures starts { (v : State3 → Layout ValueRead) (n : ℕ) → StartsBy S.tells S.left v n (node_layout v n kind (state_of builder.old tables.old)) (state_of builder.new tables.new) cursor.old cursor.new result }
+    ensures goes { Goes S.Source cursor.old cursor.new result }
+    ensures starts { StartsNode S.tells S.left kind (state_of builder.old tables.old) (state_of builder.new tables.new) cursor.old cursor.new result }
     ensures still_ready { OnOk result (StillReady 0 builder.old builder.new tables.new cursor.old cursor.new) }
     ensures holds { IfOk result (StartHolds builder.old builder.new (left_of cursor.new)) }
     ensures stays { OnOk result (place cursor.old ≤ place cursor.new) }
@@ -73,8 +72,8 @@ fn start_inline<S: Source>(
 ) -> Result<Start, ReadEnd>
     requires ready { Ready 1 builder.old tables.old cursor.old }
     requires known { IsOpening tables.old (node_marker kind) header }
-    ensures goes { Goes S.tells S.left S.faults cursor.old cursor.new result }
-    ensures starts { (v : State3 → Layout ValueRead) (n : ℕ) → StartsBy S.tells S.left v n (inline_node v n kind header (state_of builder.old tables.old)) (state_of builder.new tables.new) cursor.old cursor.new result }
+    ensures goes { Goes S.Source cursor.old cursor.new result }
+    ensures starts { StartsInline S.tells S.left kind header (state_of builder.old tables.old) (state_of builder.new tables.new) cursor.old cursor.new result }
     ensures still_ready { OnOk result (StillReady 1 builder.old builder.new tables.new cursor.old cursor.new) }
     ensures holds { IfOk result (StartHolds builder.old builder.new (left_of cursor.new)) }
     ensures stays { OnOk result (place cursor.old ≤ place cursor.new) }
@@ -98,7 +97,7 @@ fn begin_node<S: Source>(
 ) -> Result<Entered, ReadEnd>
     requires ready { Ready 1 builder.old tables.old cursor.old }
     requires known { IsOpening tables.old (node_marker kind) header }
-    ensures goes { Goes S.tells S.left S.faults cursor.old cursor.new result }
+    ensures goes { Goes S.Source cursor.old cursor.new result }
     ensures begins { IfOk result (Begins S.tells S.left kind header builder.old builder.new tables.old tables.new cursor.old cursor.new) }
     ensures ends { IfErr result (Ends S.tells S.left (opening kind header (state_of builder.old tables.old)) cursor.old cursor.new) }
     ensures ready { OnOk result (Ready 0 builder.new tables.new cursor.new) }
@@ -125,7 +124,7 @@ fn enter_apart<S: Source>(
 ) -> Result<Entered, ReadEnd>
     requires ready { Ready 1 builder.old tables.old cursor.old }
     requires known { IsOpening tables.old (node_marker kind) header }
-    ensures goes { Goes S.tells S.left S.faults cursor.old cursor.new result }
+    ensures goes { Goes S.Source cursor.old cursor.new result }
     ensures begins { IfOk result (Begins S.tells S.left kind header builder.old builder.new tables.old tables.new cursor.old cursor.new) }
     ensures ends { IfErr result (Ends S.tells S.left (opening kind header (state_of builder.old tables.old)) cursor.old cursor.new) }
     ensures ready { OnOk result (Ready 0 builder.new tables.new cursor.new) }
@@ -146,7 +145,7 @@ fn enter_node<S: Source>(
 ) -> Result<Entered, ReadEnd>
     requires ready { Ready 1 builder.old tables.old cursor.old }
     requires known { IsOpening tables.old (node_marker kind) header }
-    ensures goes { Goes S.tells S.left S.faults cursor.old cursor.new result }
+    ensures goes { Goes S.Source cursor.old cursor.new result }
     ensures begins { IfOk result (Begins S.tells S.left kind header builder.old builder.new tables.old tables.new cursor.old cursor.new) }
     ensures ends { IfErr result (Ends S.tells S.left (opening kind header (state_of builder.old tables.old)) cursor.old cursor.new) }
     ensures ready { OnOk result (Ready 0 builder.new tables.new cursor.new) }

@@ -7,20 +7,19 @@ ghost use Rattle.amf_io.specs.Cursor.{place};
 ghost use Rattle.amf_io.specs.ReadEnds.{IsPlaced, Goes};
 ghost use Rattle.amf_io.specs.CursorReads.{Answers};
 ghost use Rattle.amf3_layout.specs.Layout3State.{state_of};
-ghost use Rattle.amf3_layout.specs.Layout3.{read, value_layout};
 ghost use Rattle.amf3_read.specs.Ready.{Ready, Continues};
 ghost use Rattle.amf3_spelling.specs.KeptTables.{AreTablesIn};
 ghost use Rattle.amf_io.specs.Stretch.{between};
 ghost use Rattle.amf_fields.specs.Room.{HasRoomFor, Raises, left_of};
 ghost use Rattle.amf3_read.specs.Answer.{Answers3};
 ghost use Rattle.amf3_read.specs.Steps.{marker_layout};
-ghost use Rattle.amf3_read.specs.Frames.{Starts, StartHolds, StillReady};
-ghost use Rattle.amf3_read.specs.Follows.{Follows, IsWaiting, entry_of};
+ghost use Rattle.amf3_read.specs.Frames.{Starts, StartHolds, StillReady, AnswersValue3};
+ghost use Rattle.amf3_read.specs.Follows.{FollowsOver, IsWaiting, entry_of};
 ghost use Rattle.amf3_read.specs.Now as now;
 ghost use Rattle.amf_graph.specs.Arena.{Names};
 
 use crate::fill::{Step, go_on};
-use crate::frame::{Frame, Slot, Unfinished, part_of};
+use crate::frame::{Frame, OpenNode, Role, part_of};
 use crate::frames::Frames;
 use crate::node::{Start, start_node};
 use crate::opening::Parts;
@@ -49,7 +48,7 @@ pub fn read3<S: Source>(
 ) -> Result<Value, ReadEnd>
     requires tables { AreTablesIn builder.old tables.old }
     requires room { HasRoomFor builder.old (left_of cursor.old) }
-    ensures goes { Goes S.tells S.left S.faults cursor.old cursor.new result }
+    ensures goes { Goes S.Source cursor.old cursor.new result }
     ensures answers { Answers3 builder.old builder.new tables.old tables.new (between S.tells S.left cursor.old cursor.new) result }
     ensures tables { OnOk result (AreTablesIn builder.new tables.new) }
     ensures raises { OnOk result (Raises builder.old builder.new (place cursor.new - place cursor.old)) }
@@ -69,28 +68,28 @@ pub fn read_value<S: Source>(
     tables: &mut Tables3,
 ) -> Result<Value, ReadEnd>
     requires { Ready 0 builder.old tables.old cursor.old }
-    ensures goes { Goes S.tells S.left S.faults cursor.old cursor.new result }
-    ensures answers { (n : ℕ) → left_of cursor.old < n → Answers S.tells S.left (λ v. read v (state_of builder.new tables.new)) (value_layout n (state_of builder.old tables.old)) cursor.old cursor.new result }
+    ensures goes { Goes S.Source cursor.old cursor.new result }
+    ensures answers { AnswersValue3 S.tells S.left (state_of builder.old tables.old) (state_of builder.new tables.new) cursor.old cursor.new result }
     ensures continues { OnOk result (Continues 0 builder.old builder.new tables.new cursor.old cursor.new) }
     ensures moves { OnOk result (place cursor.old < place cursor.new) }
 {
     let mut innermost = match start_apart(alloc, cursor, builder, tables)? {
         Start::Value(value) => return Ok(value),
-        Start::Open(node, todo) => Unfinished { node, todo },
+        Start::Open(node, todo) => OpenNode { node, todo },
     };
     let mut frames = Frames::new(alloc);
     loop {
-        let Unfinished { node, todo } = innermost;
+        let OpenNode { node, todo } = innermost;
         match go_on(alloc, cursor, builder, tables, node, todo)? {
-            Step::Open(todo) => innermost = Unfinished { node, todo },
+            Step::Open(todo) => innermost = OpenNode { node, todo },
             // Most values are items: these have code of their own.
-            Step::Wait(Slot::Item, todo) => {
-                let slot = Slot::Item;
-                let frame = Frame { node, slot, todo };
+            Step::Wait(Role::Item, todo) => {
+                let role = Role::Item;
+                let frame = Frame { node, role, todo };
                 innermost = read_part(alloc, cursor, builder, tables, &mut frames, frame)?;
             }
-            Step::Wait(slot, todo) => {
-                let frame = Frame { node, slot, todo };
+            Step::Wait(role, todo) => {
+                let frame = Frame { node, role, todo };
                 innermost = read_part(alloc, cursor, builder, tables, &mut frames, frame)?;
             }
             Step::Closed => {
@@ -114,18 +113,18 @@ fn read_part<S: Source>(
     tables: &mut Tables3,
     frames: &mut Frames,
     frame: Frame,
-) -> Result<Unfinished, ReadEnd>
+) -> Result<OpenNode, ReadEnd>
     requires ready { Ready 0 builder.old tables.old cursor.old }
     requires waits { IsWaiting (left_of cursor.old) builder.old frame }
-    ensures goes { Goes S.tells S.left S.faults cursor.old cursor.new result }
-    ensures follows { Follows S.tells S.left S.faults builder.old builder.new tables.old tables.new cursor.old cursor.new now.wanted (frame ∷ frames.old) frames.new result }
+    ensures goes { Goes S.Source cursor.old cursor.new result }
+    ensures follows { FollowsOver S.Source builder.old builder.new tables.old tables.new cursor.old cursor.new now.wanted (frame ∷ frames.old) frames.new result }
     ensures less { OnOk result (2 * left_of cursor.new + length frames.new < 2 * left_of cursor.old + length frames.old) }
 {
     match start_value(alloc, cursor, builder, tables)? {
         Start::Value(value) => give(alloc, cursor, builder, tables, frames, frame, value),
         Start::Open(node, todo) => {
             frames.push(frame)?;
-            Ok(Unfinished { node, todo })
+            Ok(OpenNode { node, todo })
         }
     }
 }
@@ -140,19 +139,19 @@ fn give<S: Source>(
     frames: &mut Frames,
     frame: Frame,
     value: Value,
-) -> Result<Unfinished, ReadEnd>
+) -> Result<OpenNode, ReadEnd>
     requires ready { Ready 0 builder.old tables.old cursor.old }
     requires waits { IsWaiting (suc (left_of cursor.old)) builder.old frame }
     requires names { Names builder.old value }
-    ensures goes { Goes S.tells S.left S.faults cursor.old cursor.new result }
-    ensures follows { Follows S.tells S.left S.faults builder.old builder.new tables.old tables.new cursor.old cursor.new (now.given value) (frame ∷ frames.old) frames.new result }
+    ensures goes { Goes S.Source cursor.old cursor.new result }
+    ensures follows { FollowsOver S.Source builder.old builder.new tables.old tables.new cursor.old cursor.new (now.given value) (frame ∷ frames.old) frames.new result }
     ensures no_more { OnOk result (2 * left_of cursor.new + length frames.new ≤ 2 * left_of cursor.old + length frames.old) }
 {
-    let Frame { node, slot, todo } = frame;
-    match part_of(slot, value) {
+    let Frame { node, role, todo } = frame;
+    match part_of(role, value) {
         Some(part) => {
             kept(builder.put(node, part))?;
-            Ok(Unfinished { node, todo })
+            Ok(OpenNode { node, todo })
         }
         None => {
             let inner = read_entry(alloc, cursor, builder, tables, frames, node, value, todo)?;
@@ -171,22 +170,22 @@ fn read_entry<S: Source>(
     node: NodeId,
     key: Value,
     todo: Parts,
-) -> Result<Unfinished, ReadEnd>
+) -> Result<OpenNode, ReadEnd>
     requires ready { Ready 0 builder.old tables.old cursor.old }
     requires waits { IsWaiting (left_of cursor.old) builder.old (entry_of node key todo) }
-    ensures goes { Goes S.tells S.left S.faults cursor.old cursor.new result }
-    ensures follows { Follows S.tells S.left S.faults builder.old builder.new tables.old tables.new cursor.old cursor.new now.wanted (entry_of node key todo ∷ frames.old) frames.new result }
+    ensures goes { Goes S.Source cursor.old cursor.new result }
+    ensures follows { FollowsOver S.Source builder.old builder.new tables.old tables.new cursor.old cursor.new now.wanted (entry_of node key todo ∷ frames.old) frames.new result }
     ensures less { OnOk result (2 * left_of cursor.new + length frames.new < 2 * left_of cursor.old + length frames.old) }
 {
     match start_apart(alloc, cursor, builder, tables)? {
         Start::Value(value) => {
             kept(builder.put(node, Part::Entry(key, value)))?;
-            Ok(Unfinished { node, todo })
+            Ok(OpenNode { node, todo })
         }
         Start::Open(child, parts) => {
-            let slot = Slot::Entry(key);
-            frames.push(Frame { node, slot, todo })?;
-            Ok(Unfinished {
+            let role = Role::Entry(key);
+            frames.push(Frame { node, role, todo })?;
+            Ok(OpenNode {
                 node: child,
                 todo: parts,
             })
@@ -203,7 +202,7 @@ fn start_apart<S: Source>(
     tables: &mut Tables3,
 ) -> Result<Start, ReadEnd>
     requires { Ready 0 builder.old tables.old cursor.old }
-    ensures goes { Goes S.tells S.left S.faults cursor.old cursor.new result }
+    ensures goes { Goes S.Source cursor.old cursor.new result }
     ensures starts { (n : ℕ) → left_of cursor.old < n → Starts S.tells S.left n (state_of builder.old tables.old) (state_of builder.new tables.new) cursor.old cursor.new result }
     ensures still_ready { OnOk result (StillReady 0 builder.old builder.new tables.new cursor.old cursor.new) }
     ensures holds { IfOk result (StartHolds builder.old builder.new (left_of cursor.new)) }
@@ -221,7 +220,7 @@ fn start_value<S: Source>(
     tables: &mut Tables3,
 ) -> Result<Start, ReadEnd>
     requires { Ready 0 builder.old tables.old cursor.old }
-    ensures goes { Goes S.tells S.left S.faults cursor.old cursor.new result }
+    ensures goes { Goes S.Source cursor.old cursor.new result }
     ensures starts { (n : ℕ) → left_of cursor.old < n → Starts S.tells S.left n (state_of builder.old tables.old) (state_of builder.new tables.new) cursor.old cursor.new result }
     ensures still_ready { OnOk result (StillReady 0 builder.old builder.new tables.new cursor.old cursor.new) }
     ensures holds { IfOk result (StartHolds builder.old builder.new (left_of cursor.new)) }
@@ -245,7 +244,7 @@ fn start_value<S: Source>(
 /// Reads a marker.
 #[inline(always)]
 fn read_marker<S: Source>(cursor: &mut Cursor<'_, S>) -> Result<Marker, ReadEnd>
-    ensures goes { Goes S.tells S.left S.faults cursor.old cursor.new result }
+    ensures goes { Goes S.Source cursor.old cursor.new result }
     ensures answers { Answers S.tells S.left (λ m. m) marker_layout cursor.old cursor.new result }
     ensures moves { OnOk result (place cursor.old < place cursor.new) }
     ensures placed { OnOk result (IsPlaced cursor.new) }
@@ -261,7 +260,7 @@ fn read_marker<S: Source>(cursor: &mut Cursor<'_, S>) -> Result<Marker, ReadEnd>
 /// Reads an integer (AMF 3 specification, 3.6).
 #[inline(always)]
 fn read_integer<S: Source>(cursor: &mut Cursor<'_, S>) -> Result<i32, ReadEnd>
-    ensures goes { Goes S.tells S.left S.faults cursor.old cursor.new result }
+    ensures goes { Goes S.Source cursor.old cursor.new result }
     ensures answers { Answers S.tells S.left (λ n. n) (want (u29_kind no_refusal) (λ b. give (integer_of (u29_value b)))) cursor.old cursor.new result }
     ensures own { IfOk result IsInteger }
     ensures placed { OnOk result (IsPlaced cursor.new) }

@@ -29,3 +29,4 @@ pub mod FirstLack3
 pub mod Stops3
 pub mod Aside3
 pub mod Markers
+pub mod Lighter3

@@ -9,6 +9,7 @@ pub mod Segments3
 pub mod Headers3
 pub mod Nodes3
 pub mod Spells3
+pub mod Values3
 pub mod Lacks3
 pub mod Reads3
 pub mod WorkedRows3

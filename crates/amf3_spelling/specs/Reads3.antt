@@ -5,9 +5,8 @@ use Rattle.amf_io.specs.Field.{Field}
 use Rattle.amf_wire.specs.Style.{free}
 use Rattle.amf_graph.specs.declared.value.Value.{Value as Stored}
 use Rattle.amf_graph.specs.Arena.{Arena, StoredTraits, StoredNode, value_content, graph_of, Names, IsBuilt, Completes}
-use Rattle.amf_graph.specs.Building.{no_arena}
 use Rattle.amf3_spelling.specs.Tables.{Tables}
-use Rattle.amf3_spelling.specs.KeptTables.{KeptTables, no_kept_tables, tables_of, AreTablesIn}
+use Rattle.amf3_spelling.specs.KeptTables.{KeptTables, tables_of, AreTablesIn}
 use Rattle.amf3_spelling.specs.Spells3.{Spells3}
 
 -- what was there is as it was, and what is new is closed
@@ -36,7 +35,3 @@ pub record IsReading3 (a : Arena) (t : KeptTables) (fs : List Field) : Type 0 wh
   pub names : Names graph value
   pub after : Tables
   pub spelled : Spells3 free (graph_of graph value) (value_content graph value) (tables_of a t) fs after
-
--- the accepted lists of one value, from nothing
-abbrev pub IsValue3 : List Field → Type 0
-IsValue3 = IsReading3 no_arena no_kept_tables

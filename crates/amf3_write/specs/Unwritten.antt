@@ -4,15 +4,19 @@ use Rattle.std.specs.List.{AllByRecursion}
 use Rattle.amf_graph.specs.declared.value.Value.{Value as Stored}
 use Rattle.amf_graph.specs.declared.value.NodeId.{NodeId}
 use Rattle.amf_graph.specs.declared.value.TextId.{TextId}
-use Rattle.amf_graph.specs.Graph.{node}
-use Rattle.amf_graph.specs.Arena.{Arena, Names, IsTextId, value_content}
+use Rattle.amf_graph.specs.declared.lack.Lack.{Lack}
+use Rattle.amf_graph.specs.ByName.{by_name}
+use Rattle.amf_graph.specs.Graph.{node, array, object, Value, Graph}
+use Rattle.amf_graph.specs.Arena.{Arena, Names, IsTextId, traits_at, value_content}
 use Rattle.amf_graph.specs.Order.{Absent}
+use Rattle.amf_graph.specs.Rooted.{RootedArena, content}
 use Rattle.amf_graph.specs.Views.{flat}
-use Rattle.amf3_spelling.specs.ByteSpelling.{Segment, value, values_then, pairs_then}
+use Rattle.amf3_spelling.specs.ByteSpelling.{Segment, value, values_then, pairs_then, segments_of}
 use Rattle.amf_iso.specs.Contents.{values_of, pairs_of, AreValues}
 use Rattle.amf3_write.specs.declared.unwritten.Unwritten.{Unwritten}
 use Rattle.amf3_write.specs.declared.unwritten.Unwritten.TheVariants.{One, Values, Entries, Pairs, Sorted}
-use Rattle.amf3_write.specs.Writes.{BeginsWith}
+use Rattle.amf3_write.specs.declared.output.Output.{Output}
+use Rattle.amf3_write.specs.Writes.{BeginsWith, Leads, Stops}
 
 -- the segments of a run
 abbrev pub run_segments : Arena → Unwritten → List Segment
@@ -73,3 +77,35 @@ node_turns = 2 ^ 30
 -- no more turns are left than before; or one of so many nodes is new in the table, and no more turns came than a node has
 abbrev pub Falls : ℕ → List ℕ → List ℕ → ℕ → ℕ → Type 0
 Falls count old new before after = (after ≤ before) ⊎ ((i : ℕ) × (i < count) × Absent old i × BeginsWith (old ++ i ∷ []) new × (after ≤ before + node_turns))
+
+-- What is to be written of values, of pairs, of an array and of an object.
+
+abbrev pub values_ahead : Arena → List Stored → List Segment
+values_ahead a vs = values_then (values_of a vs) []
+
+abbrev pub pairs_ahead : Arena → List (TextId × Stored) → List Segment
+pairs_ahead a ps = pairs_then (pairs_of a ps) []
+
+abbrev pub sorted_ahead : Arena → List (TextId × Stored) → List Segment
+sorted_ahead a ps = pairs_then (by_name (pairs_of a ps)) []
+
+abbrev pub array_ahead : Arena → List (TextId × Stored) → List Stored → List Segment
+array_ahead a names items = segments_of array (by_name (pairs_of a names)) (values_of a items)
+
+abbrev pub object_ahead : Arena → ℕ → List (TextId × Stored) → List Stored → List Segment
+object_ahead a traits members sealed = segments_of (object (traits_at a traits)) (by_name (pairs_of a members)) (values_of a sealed)
+
+-- segments are written up to the next node, with a stack before and behind
+abbrev pub LeadsToNext : RootedArena → List Segment → (waiting left : List Unwritten) → Option NodeId → Output → Output → Type 0
+LeadsToNext g ps waiting left next old new = Leads (content g) (ps ++ segments_left g.arena waiting) (next_segments next ++ segments_left g.arena left) old new
+
+-- they are written, or wait
+abbrev pub LeadsToRest : RootedArena → List Segment → (waiting left : List Unwritten) → Output → Output → Type 0
+LeadsToRest g ps waiting left old new = Leads (content g) (ps ++ segments_left g.arena waiting) (segments_left g.arena left) old new
+
+abbrev pub StopsWithin : RootedArena → List Segment → List Unwritten → Output → Lack → Type 0
+StopsWithin g ps waiting old lack = Stops (content g) (ps ++ segments_left g.arena waiting) old lack
+
+-- a value is written, or it is the next node, whatever stands behind it
+abbrev pub LeadsValue : Graph → Value → Option NodeId → Output → Output → Type 0
+LeadsValue g v next old new = (ps : List Segment) → Leads g (value v ∷ ps) (next_segments next ++ ps) old new

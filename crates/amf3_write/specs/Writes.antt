@@ -1,5 +1,5 @@
 -- What each part of a writer appends, by its bytes, and where it stops. A device of proofs.
-use Rattle.std.specs.Prelude.{◌≡◌, ℕ, ◌≤◌, List, ◌++◌, length, slice_get, Some}
+use Rattle.std.specs.Prelude.{◌≡◌, ℕ, ◌+◌, ◌*◌, ◌≤◌, Bool, List, [], ◌∷◌, ◌++◌, length, slice_get, Some}
 use Rattle.amf_wire.specs.Style.{canonical}
 use Rattle.amf_graph.specs.declared.lack.Lack.{Lack}
 use Rattle.amf_graph.specs.declared.lack.LackKind.TheVariants.{EmptyName}
@@ -8,7 +8,7 @@ use Rattle.amf_graph.specs.Arena.{Arena}
 use Rattle.amf_graph.specs.Order.{Walks}
 use Rattle.amf_tables.specs.KnownWords.{Known, AreKnownOf}
 use Rattle.amf3_spelling.specs.Tables.{Tables}
-use Rattle.amf3_spelling.specs.ByteSpelling.{Texts, Step, StepOf, Segment, Lifted, Segments, Spells}
+use Rattle.amf3_spelling.specs.ByteSpelling.{Texts, Step, number, flag, raw, StepOf, Segment, step, Lifted, Segments, Spells}
 use Rattle.amf3_write.specs.declared.output.Output.{Output}
 use Rattle.amf3_write.specs.Contents.{segment_values}
 
@@ -28,6 +28,10 @@ WritesStep x = Writes (Lifted (StepOf canonical x))
 
 abbrev pub WritesSteps : List Segment → Output → Output → Type 0
 WritesSteps ps = Writes (Segments (λ v t b t'. ⊥) canonical ps)
+
+-- a vector of numbers: its count, whether its length is fixed, and the bytes of the numbers
+abbrev pub vector_steps : ℕ → Bool → List ℕ → List Segment
+vector_steps count fixed bytes = step (number (2 * count + 1)) ∷ step (flag fixed) ∷ step (raw bytes) ∷ []
 
 abbrev pub WritesValue : Graph → Value → Output → Output → Type 0
 WritesValue g v = Writes (IsCanonical g v)

@@ -3,7 +3,7 @@ ghost use Rattle.std.specs.Int.{to_be_bytes, w32, w64};
 ghost use Rattle.std.specs.List.{AllByRecursion};
 ghost use Rattle.amf_graph.specs.Bounds.{count_end};
 ghost use Rattle.amf3_spelling.specs.ByteSpelling as spell;
-ghost use Rattle.amf3_write.specs.Writes.{WritesStep, WritesSteps, Keeps};
+ghost use Rattle.amf3_write.specs.Writes.{WritesStep, WritesSteps, Keeps, vector_steps};
 
 use crate::output::Output;
 use amf_wire::{Memory, Pattern};
@@ -52,7 +52,7 @@ impl Output {
     pub(crate) fn ints(&mut self, fixed: bool, items: &[i32]) -> Result<(), Memory>
         requires few { length items.now < count_end }
         requires in_range { AllByRecursion (FitsSigned w32) items.now }
-        ensures ok { OnOk result (WritesSteps (spell.step (spell.number (2 * length items.now + 1)) ∷ spell.step (spell.flag fixed) ∷ spell.step (spell.raw (spell.signed_bytes items.now)) ∷ []) self.old self.new) }
+        ensures ok { OnOk result (WritesSteps (vector_steps (length items.now) fixed (spell.signed_bytes items.now)) self.old self.new) }
         ensures keeps { Keeps self.old self.new }
         ensures tables { self.new.tables ≡ self.old.tables }
         ensures known { self.new.known ≡ self.old.known }
@@ -78,7 +78,7 @@ impl Output {
     /// A vector of uints (3.15).
     pub(crate) fn uints(&mut self, fixed: bool, items: &[u32]) -> Result<(), Memory>
         requires { length items.now < count_end }
-        ensures ok { OnOk result (WritesSteps (spell.step (spell.number (2 * length items.now + 1)) ∷ spell.step (spell.flag fixed) ∷ spell.step (spell.raw (spell.four_bytes items.now)) ∷ []) self.old self.new) }
+        ensures ok { OnOk result (WritesSteps (vector_steps (length items.now) fixed (spell.four_bytes items.now)) self.old self.new) }
         ensures keeps { Keeps self.old self.new }
         ensures tables { self.new.tables ≡ self.old.tables }
         ensures known { self.new.known ≡ self.old.known }
@@ -103,7 +103,7 @@ impl Output {
     /// A vector of doubles (3.15).
     pub(crate) fn doubles(&mut self, fixed: bool, items: &[Pattern]) -> Result<(), Memory>
         requires { length items.now < count_end }
-        ensures ok { OnOk result (WritesSteps (spell.step (spell.number (2 * length (map (λ p. p.0) items.now) + 1)) ∷ spell.step (spell.flag fixed) ∷ spell.step (spell.raw (spell.eight_bytes (map (λ p. p.0) items.now))) ∷ []) self.old self.new) }
+        ensures ok { OnOk result (WritesSteps (vector_steps (length (map (λ p. p.0) items.now)) fixed (spell.eight_bytes (map (λ p. p.0) items.now))) self.old self.new) }
         ensures keeps { Keeps self.old self.new }
         ensures tables { self.new.tables ≡ self.old.tables }
         ensures known { self.new.known ≡ self.old.known }

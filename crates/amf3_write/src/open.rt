@@ -1,17 +1,14 @@
 ghost use Rattle.std.specs.Prelude.{◌≡◌, ◌+◌, ◌<◌, ◌≤◌, [], ◌++◌, length, OnOk};
-ghost use Rattle.amf_graph.specs.Arena.{traits_at};
 ghost use Rattle.amf_graph.specs.Building.{stored_at};
-ghost use Rattle.amf_graph.specs.ByName.{by_name};
-ghost use Rattle.amf_graph.specs.Graph as graph_of_values;
 ghost use Rattle.amf_graph.specs.Graph.{node_at};
 ghost use Rattle.amf_graph.specs.Rooted.{content};
 ghost use Rattle.amf_graph.specs.Views.{Shows};
 ghost use Rattle.amf_graph.specs.Bounds.{count_end};
-ghost use Rattle.amf3_spelling.specs.ByteSpelling as spell;
-ghost use Rattle.amf_iso.specs.Contents.{values_of, pairs_of, AreValues, ArePairs};
+ghost use Rattle.amf_iso.specs.Contents.{AreValues, ArePairs};
 ghost use Rattle.amf3_write.specs.Contents.{node_segments};
 ghost use Rattle.amf3_write.specs.Unwritten.{AreRunsOf, segments_left, turns_left, node_turns};
-ghost use Rattle.amf3_write.specs.Writes.{Leads, Keeps, IsReady};
+ghost use Rattle.amf3_write.specs.Unwritten.{LeadsToRest, sorted_ahead, array_ahead, object_ahead};
+ghost use Rattle.amf3_write.specs.Writes.{Keeps, IsReady};
 
 use crate::output::Output;
 use crate::unwritten::{Unwritten, push_values};
@@ -35,7 +32,7 @@ impl Output {
         requires shown { Shows graph.now.arena (stored_at graph.now.arena node.0) view }
         requires runs { AreRunsOf graph.now.arena waiting.old.items }
         requires ready { IsReady graph.now.arena self.old.tables self.old.known }
-        ensures leads { OnOk result (Leads (content graph.now) (node_segments (node_at (content graph.now) node.0) ++ segments_left graph.now.arena waiting.old.items) (segments_left graph.now.arena waiting.new.items) self.old self.new) }
+        ensures leads { OnOk result (LeadsToRest graph.now (node_segments (node_at (content graph.now) node.0)) waiting.old.items waiting.new.items self.old self.new) }
         ensures runs { OnOk result (AreRunsOf graph.now.arena waiting.new.items) }
         ensures turns { OnOk result (turns_left waiting.new.items ≤ turns_left waiting.old.items + node_turns) }
         ensures keeps { Keeps self.old self.new }
@@ -87,7 +84,7 @@ impl Output {
         requires pairs { ArePairs graph.now.arena names.now }
         requires runs { AreRunsOf graph.now.arena waiting.old.items }
         requires ready { IsReady graph.now.arena self.old.tables self.old.known }
-        ensures leads { OnOk result (Leads (content graph.now) (spell.segments_of graph_of_values.array (by_name (pairs_of graph.now.arena names.now)) (values_of graph.now.arena items.now) ++ segments_left graph.now.arena waiting.old.items) (segments_left graph.now.arena waiting.new.items) self.old self.new) }
+        ensures leads { OnOk result (LeadsToRest graph.now (array_ahead graph.now.arena names.now items.now) waiting.old.items waiting.new.items self.old self.new) }
         ensures runs { OnOk result (AreRunsOf graph.now.arena waiting.new.items) }
         ensures turns { OnOk result (turns_left waiting.new.items ≤ turns_left waiting.old.items + (length names.now + length items.now + 2)) }
         ensures keeps { Keeps self.old self.new }
@@ -107,7 +104,7 @@ impl Output {
     ) -> Result<(), Memory>
         requires pairs { ArePairs graph.now.arena pairs.now }
         requires ready { IsReady graph.now.arena self.old.tables self.old.known }
-        ensures leads { OnOk result (Leads (content graph.now) (spell.pairs_then (by_name (pairs_of graph.now.arena pairs.now)) [] ++ segments_left graph.now.arena waiting.old.items) (segments_left graph.now.arena waiting.new.items) self.old self.new) }
+        ensures leads { OnOk result (LeadsToRest graph.now (sorted_ahead graph.now.arena pairs.now) waiting.old.items waiting.new.items self.old self.new) }
         ensures runs { AreRunsOf graph.now.arena waiting.old.items → OnOk result (AreRunsOf graph.now.arena waiting.new.items) }
         ensures turns { OnOk result (turns_left waiting.new.items ≤ turns_left waiting.old.items + (length pairs.now + 1)) }
         ensures keeps { Keeps self.old self.new }
@@ -134,7 +131,7 @@ impl Output {
         requires pairs { ArePairs graph.now.arena members.now }
         requires runs { AreRunsOf graph.now.arena waiting.old.items }
         requires ready { IsReady graph.now.arena self.old.tables self.old.known }
-        ensures leads { OnOk result (Leads (content graph.now) (spell.segments_of (graph_of_values.object (traits_at graph.now.arena traits.0)) (by_name (pairs_of graph.now.arena members.now)) (values_of graph.now.arena sealed.now) ++ segments_left graph.now.arena waiting.old.items) (segments_left graph.now.arena waiting.new.items) self.old self.new) }
+        ensures leads { OnOk result (LeadsToRest graph.now (object_ahead graph.now.arena traits.0 members.now sealed.now) waiting.old.items waiting.new.items self.old self.new) }
         ensures runs { OnOk result (AreRunsOf graph.now.arena waiting.new.items) }
         ensures turns { OnOk result (turns_left waiting.new.items ≤ turns_left waiting.old.items + (length members.now + length sealed.now + 2)) }
         ensures keeps { Keeps self.old self.new }
@@ -159,7 +156,7 @@ fn push_pairs<'g>(
     waiting: &mut Vec<Unwritten<'g>>,
 ) -> Result<(), Memory>
     requires { ArePairs graph.now.arena pairs.now }
-    ensures left { OnOk result (segments_left graph.now.arena waiting.new.items ≡ spell.pairs_then (by_name (pairs_of graph.now.arena pairs.now)) [] ++ segments_left graph.now.arena waiting.old.items) }
+    ensures left { OnOk result (segments_left graph.now.arena waiting.new.items ≡ sorted_ahead graph.now.arena pairs.now ++ segments_left graph.now.arena waiting.old.items) }
     ensures runs { AreRunsOf graph.now.arena waiting.old.items → OnOk result (AreRunsOf graph.now.arena waiting.new.items) }
     ensures turns { OnOk result (turns_left waiting.new.items ≡ turns_left waiting.old.items + (length pairs.now + 1)) }
 {

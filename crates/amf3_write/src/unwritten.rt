@@ -1,11 +1,10 @@
 ghost use Rattle.std.specs.Prelude.{◌≡◌, ◌+◌, ◌*◌, ◌≤◌, [], ◌++◌, length, reverse, IfOk, OnOk};
 ghost use Rattle.amf_graph.specs.Arena.{Arena};
-ghost use Rattle.amf_graph.specs.Rooted.{content};
 ghost use Rattle.amf_graph.specs.Views.{flat};
-ghost use Rattle.amf3_spelling.specs.ByteSpelling as spell;
-ghost use Rattle.amf_iso.specs.Contents.{values_of, pairs_of, AreValues};
-ghost use Rattle.amf3_write.specs.Unwritten.{IsRunOf, AreRunsOf, AreStoredPairs, IsNextOf, run_segments, next_segments, segments_left, run_turns, turns_left};
-ghost use Rattle.amf3_write.specs.Writes.{Leads, Keeps, IsReady};
+ghost use Rattle.amf_iso.specs.Contents.{AreValues};
+ghost use Rattle.amf3_write.specs.Unwritten.{IsRunOf, AreRunsOf, AreStoredPairs, IsNextOf, run_segments, segments_left, run_turns, turns_left};
+ghost use Rattle.amf3_write.specs.Unwritten.{LeadsToNext, values_ahead, pairs_ahead};
+ghost use Rattle.amf3_write.specs.Writes.{Keeps, IsReady};
 
 use crate::output::Output;
 use amf_graph::{NodeId, Rooted, TextId, Value};
@@ -37,7 +36,7 @@ impl Output {
     ) -> Result<Option<NodeId>, Memory>
         requires run { IsRunOf graph.now.arena run }
         requires ready { IsReady graph.now.arena self.old.tables self.old.known }
-        ensures leads { IfOk result (λ next. Leads (content graph.now) (run_segments graph.now.arena run.entry ++ segments_left graph.now.arena waiting.old.items) (next_segments next ++ segments_left graph.now.arena waiting.new.items) self.old self.new) }
+        ensures leads { IfOk result (λ next. LeadsToNext graph.now (run_segments graph.now.arena run.entry) waiting.old.items waiting.new.items next self.old self.new) }
         ensures next { IfOk result (IsNextOf graph.now.arena self.new.tables.nodes) }
         ensures runs { AreRunsOf graph.now.arena waiting.old.items → OnOk result (AreRunsOf graph.now.arena waiting.new.items) }
         ensures turns { OnOk result (turns_left waiting.new.items + 1 ≤ run_turns run.entry + turns_left waiting.old.items) }
@@ -62,7 +61,7 @@ impl Output {
     ) -> Result<Option<NodeId>, Memory>
         requires run { AreValues graph.now.arena values.now }
         requires ready { IsReady graph.now.arena self.old.tables self.old.known }
-        ensures leads { IfOk result (λ next. Leads (content graph.now) (spell.values_then (values_of graph.now.arena values.now) [] ++ segments_left graph.now.arena waiting.old.items) (next_segments next ++ segments_left graph.now.arena waiting.new.items) self.old self.new) }
+        ensures leads { IfOk result (λ next. LeadsToNext graph.now (values_ahead graph.now.arena values.now) waiting.old.items waiting.new.items next self.old self.new) }
         ensures next { IfOk result (IsNextOf graph.now.arena self.new.tables.nodes) }
         ensures runs { AreRunsOf graph.now.arena waiting.old.items → OnOk result (AreRunsOf graph.now.arena waiting.new.items) }
         ensures turns { OnOk result (turns_left waiting.new.items ≤ length values.now + turns_left waiting.old.items) }
@@ -89,7 +88,7 @@ impl Output {
     ) -> Result<Option<NodeId>, Memory>
         requires run { AreValues graph.now.arena (flat entries.now) }
         requires ready { IsReady graph.now.arena self.old.tables self.old.known }
-        ensures leads { IfOk result (λ next. Leads (content graph.now) (spell.values_then (values_of graph.now.arena (flat entries.now)) [] ++ segments_left graph.now.arena waiting.old.items) (next_segments next ++ segments_left graph.now.arena waiting.new.items) self.old self.new) }
+        ensures leads { IfOk result (λ next. LeadsToNext graph.now (values_ahead graph.now.arena (flat entries.now)) waiting.old.items waiting.new.items next self.old self.new) }
         ensures next { IfOk result (IsNextOf graph.now.arena self.new.tables.nodes) }
         ensures runs { AreRunsOf graph.now.arena waiting.old.items → OnOk result (AreRunsOf graph.now.arena waiting.new.items) }
         ensures turns { OnOk result (turns_left waiting.new.items ≤ 2 * length entries.now + turns_left waiting.old.items) }
@@ -122,7 +121,7 @@ impl Output {
     ) -> Result<Option<NodeId>, Memory>
         requires run { AreStoredPairs graph.now.arena pairs.now }
         requires ready { IsReady graph.now.arena self.old.tables self.old.known }
-        ensures leads { IfOk result (λ next. Leads (content graph.now) (spell.pairs_then (pairs_of graph.now.arena pairs.now) [] ++ segments_left graph.now.arena waiting.old.items) (next_segments next ++ segments_left graph.now.arena waiting.new.items) self.old self.new) }
+        ensures leads { IfOk result (λ next. LeadsToNext graph.now (pairs_ahead graph.now.arena pairs.now) waiting.old.items waiting.new.items next self.old self.new) }
         ensures next { IfOk result (IsNextOf graph.now.arena self.new.tables.nodes) }
         ensures runs { AreRunsOf graph.now.arena waiting.old.items → OnOk result (AreRunsOf graph.now.arena waiting.new.items) }
         ensures turns { OnOk result (turns_left waiting.new.items ≤ length pairs.now + turns_left waiting.old.items) }
@@ -152,7 +151,7 @@ impl Output {
     ) -> Result<Option<NodeId>, Memory>
         requires run { AreStoredPairs graph.now.arena pairs.items }
         requires ready { IsReady graph.now.arena self.old.tables self.old.known }
-        ensures leads { IfOk result (λ next. Leads (content graph.now) (spell.pairs_then (pairs_of graph.now.arena (reverse pairs.items)) [] ++ segments_left graph.now.arena waiting.old.items) (next_segments next ++ segments_left graph.now.arena waiting.new.items) self.old self.new) }
+        ensures leads { IfOk result (λ next. LeadsToNext graph.now (pairs_ahead graph.now.arena (reverse pairs.items)) waiting.old.items waiting.new.items next self.old self.new) }
         ensures next { IfOk result (IsNextOf graph.now.arena self.new.tables.nodes) }
         ensures runs { AreRunsOf graph.now.arena waiting.old.items → OnOk result (AreRunsOf graph.now.arena waiting.new.items) }
         ensures turns { OnOk result (turns_left waiting.new.items ≤ length pairs.items + turns_left waiting.old.items) }
@@ -177,7 +176,7 @@ pub(crate) fn push_values<'g>(
     values: &'g [Value],
     waiting: &mut Vec<Unwritten<'g>>,
 ) -> Result<(), Memory>
-    ensures left { (a : Arena) → OnOk result (segments_left a waiting.new.items ≡ spell.values_then (values_of a values.now) [] ++ segments_left a waiting.old.items) }
+    ensures left { (a : Arena) → OnOk result (segments_left a waiting.new.items ≡ values_ahead a values.now ++ segments_left a waiting.old.items) }
     ensures runs { (a : Arena) → AreValues a values.now → AreRunsOf a waiting.old.items → OnOk result (AreRunsOf a waiting.new.items) }
     ensures turns { OnOk result (turns_left waiting.new.items ≤ turns_left waiting.old.items + (length values.now + 1)) }
 {

@@ -1,4 +1,4 @@
-ghost use Rattle.std.specs.Prelude.{◌≡◌, ◌<◌, List, [], ◌∷◌, ◌++◌, length, IfOk, OnOk};
+ghost use Rattle.std.specs.Prelude.{◌≡◌, ◌<◌, [], ◌∷◌, ◌++◌, length, IfOk, OnOk};
 ghost use Rattle.std.specs.Result.{IsErrOf};
 ghost use Rattle.amf_graph.specs.declared.lack.Lack.{Lack};
 ghost use Rattle.amf_graph.specs.Arena.{Names, value_content};
@@ -7,8 +7,8 @@ ghost use Rattle.amf_graph.specs.Order.{Absent};
 ghost use Rattle.amf_graph.specs.Rooted.{content};
 ghost use Rattle.amf_wire.specs.Integer.{IsInteger};
 ghost use Rattle.amf3_spelling.specs.ByteSpelling as spell;
-ghost use Rattle.amf3_write.specs.Unwritten.{AreRunsOf, IsNextOf, next_segments, segments_left, turns_left, Falls};
-ghost use Rattle.amf3_write.specs.Writes.{WritesSteps, WritesValue, Leads, Keeps, Stops, IsReady};
+ghost use Rattle.amf3_write.specs.Unwritten.{AreRunsOf, IsNextOf, turns_left, Falls, LeadsToRest, LeadsValue, StopsWithin};
+ghost use Rattle.amf3_write.specs.Writes.{Stops, WritesSteps, WritesValue, Keeps, IsReady};
 
 use crate::nodes::is_unnamed;
 use crate::output::Output;
@@ -73,7 +73,7 @@ impl Output {
     pub(crate) fn whole(&mut self, value: Value, graph: &Rooted) -> Result<Option<NodeId>, Memory>
         requires value { Names graph.now.arena value }
         requires ready { IsReady graph.now.arena self.old.tables self.old.known }
-        ensures leads { IfOk result (λ next. (ps : List spell.Segment) → Leads (content graph.now) (spell.value (value_content graph.now.arena value) ∷ ps) (next_segments next ++ ps) self.old self.new) }
+        ensures leads { IfOk result (λ next. LeadsValue (content graph.now) (value_content graph.now.arena value) next self.old self.new) }
         ensures next { IfOk result (IsNextOf graph.now.arena self.new.tables.nodes) }
         ensures keeps { Keeps self.old self.new }
         ensures ready { OnOk result (IsReady graph.now.arena self.new.tables self.new.known) }
@@ -99,7 +99,7 @@ impl Output {
     fn known_node(&mut self, node: NodeId, graph: &Rooted) -> Result<Option<NodeId>, Memory>
         requires there { node.0 < length graph.now.arena.nodes }
         requires ready { IsReady graph.now.arena self.old.tables self.old.known }
-        ensures leads { IfOk result (λ next. (ps : List spell.Segment) → Leads (content graph.now) (spell.value (graph_of_values.node node.0) ∷ ps) (next_segments next ++ ps) self.old self.new) }
+        ensures leads { IfOk result (λ next. LeadsValue (content graph.now) (graph_of_values.node node.0) next self.old self.new) }
         ensures next { IfOk result (IsNextOf graph.now.arena self.new.tables.nodes) }
         ensures keeps { Keeps self.old self.new }
         ensures ready { OnOk result (IsReady graph.now.arena self.new.tables self.new.known) }
@@ -126,8 +126,8 @@ impl Output {
         requires new { Absent self.old.tables.nodes node.0 }
         requires runs { AreRunsOf graph.now.arena waiting.old.items }
         requires ready { IsReady graph.now.arena self.old.tables self.old.known }
-        ensures leads { OnOk result (Leads (content graph.now) (spell.value (graph_of_values.node node.0) ∷ segments_left graph.now.arena waiting.old.items) (segments_left graph.now.arena waiting.new.items) self.old self.new) }
-        ensures lack { (l : Lack) → IsErrOf result (WriteEnd.NoSpelling l) → Stops (content graph.now) (spell.value (graph_of_values.node node.0) ∷ segments_left graph.now.arena waiting.old.items) self.old l }
+        ensures leads { OnOk result (LeadsToRest graph.now (spell.value (graph_of_values.node node.0) ∷ []) waiting.old.items waiting.new.items self.old self.new) }
+        ensures lack { (l : Lack) → IsErrOf result (WriteEnd.NoSpelling l) → StopsWithin graph.now (spell.value (graph_of_values.node node.0) ∷ []) waiting.old.items self.old l }
         ensures runs { OnOk result (AreRunsOf graph.now.arena waiting.new.items) }
         ensures falls { OnOk result (Falls (length graph.now.arena.nodes) self.old.tables.nodes self.new.tables.nodes (turns_left waiting.old.items) (turns_left waiting.new.items)) }
         ensures keeps { Keeps self.old self.new }

@@ -1,15 +1,13 @@
-ghost use Rattle.std.specs.Prelude.{◌≡◌, OnOk, OnErr, IfOk};
+ghost use Rattle.std.specs.Prelude.{◌≡◌, OnOk, OnErr};
 ghost use Rattle.std.specs.Result.{IsErrOf};
 ghost use Rattle.amf_graph.specs.declared.lack.Lack.{Lack};
 ghost use Rattle.amf_graph.specs.Rooted.{content};
 ghost use Rattle.amf3_spelling.specs.Lacks3.{IsLack3};
-ghost use Rattle.amf3_spelling.specs.Tables.{no_tables};
 ghost use Rattle.amf3_write.specs.Written.{AppendsCanonical};
 
 use crate::{GraphTables, write3_part_of};
 use amf_graph::{Rooted, WriteEnd};
 use amf_tables::WriterTables;
-use amf_wire::Memory;
 use std::alloc::Global;
 use std::hash::RandomState;
 
@@ -41,17 +39,7 @@ pub fn write3_keyed(
     ensures untouched { OnErr result (out.new.items ≡ out.old.items) }
 {
     graph.is_finished();
-    let made = tables_with(alloc, keys)?;
+    let made = WriterTables::keyed(alloc, keys)?;
     let mut tables = GraphTables::of(alloc, made);
     write3_part_of(alloc, graph, graph.root(), &mut tables, out)
-}
-
-/// Tables without entries, that are looked up by these keys.
-fn tables_with(alloc: Global, keys: Option<RandomState>) -> Result<WriterTables, Memory>
-    ensures { IfOk result (λ tables. tables ≡ no_tables) }
-{
-    match keys {
-        Some(keys) => Ok(WriterTables::keyed(alloc, keys)),
-        None => WriterTables::new(alloc),
-    }
 }

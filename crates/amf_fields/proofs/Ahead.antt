@@ -10,7 +10,7 @@ use Rattle.amf_io.specs.Cursor.{source_of, place, bound, ahead, unread}
 use Rattle.amf_io.specs.declared.ends.ReadEnd.{ReadEnd}
 use Rattle.amf_io.specs.declared.ends.ReadEnd.TheVariants.{Memory}
 use Rattle.amf_io.specs.Field.{Size, fixed, whole, AreBytes}
-use Rattle.amf_io.specs.ReadEnds.{IsPlaced, Goes}
+use Rattle.amf_io.specs.ReadEnds.{IsPlaced, GoesBy}
 use Rattle.amf_io.specs.CursorReads.{AnswersField}
 use Rattle.amf_io.proofs.Whole.{whole_alone}
 use Rattle.amf_io.proofs.CursorReads.{goes_spent}
@@ -37,7 +37,7 @@ pub front_of : (bytes all : List ℕ) (n : ℕ) → bytes ≡ take (length bytes
 front_of bytes all n e le = ap (take n) e ∙ take-take n (length bytes) all le
 
 module _ {S : Type 0} (tells : S → Type 0) (left : S → List ℕ) (faults : S → ℕ) (c d : Cursor S Window) (bytes : List ℕ) (n : ℕ) (p : Passed left c d bytes n) where
-  pub passed_goes : {X : Type 0} (x : X) → Goes tells left faults c d (Ok x)
+  pub passed_goes : {X : Type 0} (x : X) → GoesBy tells left faults c d (Ok x)
   passed_goes x = record {
     told = λ t. subst tells (sym p.source) t;
     same_source = p.name;
@@ -91,9 +91,9 @@ number_bytes n bytes (four a b d g p q r t e f) = subst AreBytes (sym f) (omega 
 
 -- What is kept of them, where there is memory.
 
-pub passed_still_ready : {S X : Type 0} (tells : S → Type 0) (left : S → List ℕ) (faults : S → ℕ) (c d : Cursor S Window) (bytes : List ℕ) (n : ℕ) → Passed left c d bytes n → (r : Result X ReadEnd) → IfErr r (λ e. e ≡ Memory) → Goes tells left faults c d r
+pub passed_still_ready : {S X : Type 0} (tells : S → Type 0) (left : S → List ℕ) (faults : S → ℕ) (c d : Cursor S Window) (bytes : List ℕ) (n : ℕ) → Passed left c d bytes n → (r : Result X ReadEnd) → IfErr r (λ e. e ≡ Memory) → GoesBy tells left faults c d r
 passed_still_ready tells left faults c d bytes n p (Ok x) m = passed_goes tells left faults c d bytes n p x
-passed_still_ready {X = X} tells left faults c d bytes n p (Err e) m = subst (λ z. Goes {X = X} tells left faults c d (Err z)) (sym m) (goes_spent tells left faults c d n (passed_goes tells left faults c d bytes n p n))
+passed_still_ready {X = X} tells left faults c d bytes n p (Err e) m = subst (λ z. GoesBy {X = X} tells left faults c d (Err z)) (sym m) (goes_spent tells left faults c d n (passed_goes tells left faults c d bytes n p n))
 
 pub on_ok : {X : Type 0} (P : Type 0) (r : Result X ReadEnd) → P → OnOk r P
 on_ok P (Ok x) p = p

@@ -7,7 +7,7 @@ use Rattle.amf_io.specs.declared.cursor.Cursor.{Cursor}
 use Rattle.amf_io.specs.declared.ends.ReadEnd.{ReadEnd}
 use Rattle.amf_io.specs.declared.reason.Reason.{Reason}
 use Rattle.amf_io.specs.Field.{Size, fixed, u29, Kind, raw_kind, text_kind, AreBytes}
-use Rattle.amf_io.specs.ReadEnds.{Goes}
+use Rattle.amf_io.specs.ReadEnds.{GoesBy}
 use Rattle.amf_io.specs.CursorReads.{AnswersField, EndsField}
 use Rattle.amf3_spelling.specs.Refusals3.{class_kind}
 use Rattle.amf_fields.specs.declared.field.FieldSize.{FieldSize}
@@ -33,7 +33,7 @@ contents_refusal c bytes = (contents_kind c 0).refusal bytes
 -- the bytes of one U29 came, which are the number
 pub record IsNumberRead {S : Type 0} (tells : S → Type 0) (left : S → List ℕ) (faults : S → ℕ) (c d : Cursor S Window) (n : ℕ) : Type 0 where
   pub bytes : List ℕ
-  pub goes : Goes {X = List ℕ} tells left faults c d (Ok bytes)
+  pub goes : GoesBy {X = List ℕ} tells left faults c d (Ok bytes)
   pub field : AnswersField {X = List ℕ} tells left (λ x. x) u29 c d (Ok bytes)
   pub value : n ≡ u29_value bytes
 

@@ -1,4 +1,4 @@
-ghost use Rattle.std.specs.Prelude.{◌≡◌, ℕ, length, IfOk, OnOk};
+ghost use Rattle.std.specs.Prelude.{◌≡◌, OnOk};
 ghost use Rattle.amf_io.specs.Field.{AreBytes};
 ghost use Rattle.amf_io.specs.Layout.{give};
 ghost use Rattle.amf_io.specs.ReadEnds.{IsPlaced, Goes};
@@ -46,7 +46,7 @@ pub fn read_contents<S: Source>(
     contents: Contents,
     size: u32,
 ) -> Result<Vec<u8>, ReadEnd>
-    ensures goes { Goes S.tells S.left S.faults cursor.old cursor.new result }
+    ensures goes { Goes S.Source cursor.old cursor.new result }
     ensures answers { Answers S.tells S.left (λ bytes. bytes.items) (chunk (contents_kind contents) size (λ x. give x)) cursor.old cursor.new result }
     ensures placed { OnOk result (IsPlaced cursor.new) }
 {

@@ -1,5 +1,5 @@
 ghost use Rattle.std.specs.Prelude.{◌≡◌, ◌<◌, ◌≤◌, ◌↔◌, IsTrue, IsSome, Some, IfOk, OnOk, length};
-ghost use Rattle.amf_io.specs.Cursor.{place, bound};
+ghost use Rattle.amf_io.specs.Cursor.{place};
 ghost use Rattle.amf_io.specs.Field.{whole};
 ghost use Rattle.amf_io.specs.ReadEnds.{IsPlaced, Goes};
 ghost use Rattle.amf_io.specs.CursorReads.{AnswersField};
@@ -68,7 +68,7 @@ pub fn read_field<S: Source>(
     cursor: &mut Cursor<'_, S>,
     size: FieldSize,
 ) -> Result<FieldBytes, ReadEnd>
-    ensures goes { Goes S.tells S.left S.faults cursor.old cursor.new result }
+    ensures goes { Goes S.Source cursor.old cursor.new result }
     ensures field { AnswersField S.tells S.left (λ bytes. bytes) (size_of size) cursor.old cursor.new result }
     ensures is_whole { IfOk result (λ bytes. whole (size_of size) bytes ≡ Some (length bytes)) }
     ensures placed { OnOk result (IsPlaced cursor.new) }
@@ -88,7 +88,7 @@ pub fn read_field<S: Source>(
 /// Reads the number of the next field, a U29 (AMF 3 specification, 1.3.1). Its ends are those of [`read_field`].
 #[inline(always)]
 pub fn read_number<S: Source>(cursor: &mut Cursor<'_, S>) -> Result<U29, ReadEnd>
-    ensures goes { Goes S.tells S.left S.faults cursor.old cursor.new result }
+    ensures goes { Goes S.Source cursor.old cursor.new result }
     ensures number { AnswersNumber S.tells S.left S.faults cursor.old cursor.new result }
     ensures moves { OnOk result (place cursor.old < place cursor.new) }
     ensures placed { OnOk result (IsPlaced cursor.new) }
@@ -111,7 +111,7 @@ fn read_by_bytes<S: Source>(
     cursor: &mut Cursor<'_, S>,
     size: FieldSize,
 ) -> Result<FieldBytes, ReadEnd>
-    ensures goes { Goes S.tells S.left S.faults cursor.old cursor.new result }
+    ensures goes { Goes S.Source cursor.old cursor.new result }
     ensures field { AnswersField S.tells S.left (λ bytes. bytes) (size_of size) cursor.old cursor.new result }
     ensures is_whole { IfOk result (λ bytes. whole (size_of size) bytes ≡ Some (length bytes)) }
     ensures placed { OnOk result (IsPlaced cursor.new) }

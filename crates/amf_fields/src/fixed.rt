@@ -9,7 +9,7 @@ use amf_wire::Pattern;
 
 /// Reads a byte that counts as true unless it is 0. Its ends are those of [`read_field`].
 pub fn read_flag<S: Source>(cursor: &mut Cursor<'_, S>) -> Result<bool, ReadEnd>
-    ensures goes { Goes S.tells S.left S.faults cursor.old cursor.new result }
+    ensures goes { Goes S.Source cursor.old cursor.new result }
     ensures answers { Answers S.tells S.left (λ flag. flag) flag_layout cursor.old cursor.new result }
     ensures placed { OnOk result (IsPlaced cursor.new) }
 {
@@ -18,7 +18,7 @@ pub fn read_flag<S: Source>(cursor: &mut Cursor<'_, S>) -> Result<bool, ReadEnd>
 
 /// Reads a double, by its bits. Its ends are those of [`read_field`].
 pub fn read_double<S: Source>(cursor: &mut Cursor<'_, S>) -> Result<Pattern, ReadEnd>
-    ensures goes { Goes S.tells S.left S.faults cursor.old cursor.new result }
+    ensures goes { Goes S.Source cursor.old cursor.new result }
     ensures answers { Answers S.tells S.left (λ p. p.0) eight_layout cursor.old cursor.new result }
     ensures own { IfOk result (λ p. p.0 < 2 ^ 64) }
     ensures placed { OnOk result (IsPlaced cursor.new) }

@@ -26,7 +26,7 @@ pub fn read_loose_text<S: Source>(
     size: u32,
 ) -> Result<TextId, ReadEnd>
     requires { length builder.old.texts + left_of cursor.old < room_end }
-    ensures goes { Goes S.tells S.left S.faults cursor.old cursor.new result }
+    ensures goes { Goes S.Source cursor.old cursor.new result }
     ensures answers { Answers S.tells S.left (λ x. text_at builder.new x.0) (chunk text_kind size (λ x. give x)) cursor.old cursor.new result }
     ensures kept { IfOk result (λ x. KeptText builder.old builder.new x.0) }
     ensures placed { OnOk result (IsPlaced cursor.new) }

@@ -26,6 +26,10 @@ bucket_at mask hashes i = bit_and (hash_at hashes i) mask
 abbrev pub AreNexts : ℕ → ℕ → List ℕ → List ℕ → Type 0
 AreNexts mask n hashes next = (i : ℕ) → i < n → LeadsTo (bucket_at mask hashes) i (bucket_at mask hashes i) (get_or next i 0)
 
+-- from a link of a hash's chain on, this is the first one that leads to the hash
+abbrev pub LeadsFrom : (hashes nexts : List ℕ) → (n hash from found : ℕ) → Type 0
+LeadsFrom hashes nexts n hash from found = (mask bound : ℕ) → AreNexts mask n hashes nexts → LeadsTo (bucket_at mask hashes) bound (bit_and hash mask) from → bound ≤ n → LeadsTo (hash_at hashes) bound hash found
+
 -- and the link of each bucket to its greatest number of them
 pub record AreLinked (mask n : ℕ) (hashes next buckets : List ℕ) : Type 0 where
   pub heads : (b : ℕ) → b < length buckets → LeadsTo (bucket_at mask hashes) n b (get_or buckets b 0)

@@ -1,5 +1,5 @@
 -- What is gathered to be copied, and the numbers that the copies get. A device of proofs.
-use Rattle.std.specs.Prelude.{◌≡◌, ℕ, ◌<◌, ◌++◌, length}
+use Rattle.std.specs.Prelude.{◌≡◌, ℕ, ◌+◌, ◌<◌, ◌⊎◌, ◌++◌, length}
 use Rattle.std.specs.List.{AllByRecursion}
 use Rattle.amf_graph.specs.declared.value.Value.{Value as Stored}
 use Rattle.amf_graph.specs.declared.value.Value.TheVariants.{Text, Node as NodeRef}
@@ -20,6 +20,10 @@ cut_of c = record { texts = c.texts.items; traits = c.traits.items; nodes = c.no
 
 abbrev pub renaming_of : Plan → Renaming
 renaming_of c = renaming_from c.first_text c.first_traits c.first_node (cut_of c)
+
+-- the copies pass what a graph has room for: so many texts, nodes and traits
+abbrev pub IsTooMuch : (most most_traits : ℕ) → Plan → Type 0
+IsTooMuch most most_traits c = (most < c.first_text + length c.texts.items) ⊎ (most_traits < c.first_traits + length c.traits.items) ⊎ (most < c.first_node + length c.nodes.items)
 
 -- The texts, traits and nodes that are named are below the counts.
 

@@ -88,3 +88,7 @@ traits_of_nodes a = flat_map (λ i. head_traits (stored_at a i).head)
 
 abbrev pub texts_of_traits : Arena → List ℕ → List ℕ
 texts_of_traits a = flat_map (λ t. traits_texts (get_or a.traits t no_traits))
+
+-- the texts that values, nodes and traits use, each once
+abbrev pub texts_used : Arena → List Stored → (nodes traits : List ℕ) → Placed
+texts_used a vs ns ts = placed (length a.texts) (with_all (texts_in vs ++ (texts_of_nodes a ns ++ texts_of_traits a ts)) [])

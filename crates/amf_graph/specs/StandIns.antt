@@ -1,5 +1,5 @@
 -- A graph with doubles for integers, members for sealed values, and other values in the place of its nodes (AMF 0, 2.2, 2.5, 2.18).
-use Rattle.std.specs.Prelude.{◌≡◌, ℕ, true, List, [], ◌++◌, map, slice_get, get_or, Some}
+use Rattle.std.specs.Prelude.{◌≡◌, ℕ, true, List, [], ◌++◌, map, slice_get, get_or, Some, Result, OnOk}
 use Rattle.std.specs.List.{AllZip, zip}
 use Rattle.amf_wire.specs.Whole.{IsPatternOf}
 use Rattle.amf_graph.specs.declared.value.Value.{Value as Stored}
@@ -16,6 +16,13 @@ StandsFor ins v w = w ≡ v
 
 abbrev pub PairStandsFor : List Stored → ℕ × Stored → ℕ × Stored → Type 0
 PairStandsFor ins p q = (q.0 ≡ p.0) × StandsFor ins p.1 q.1
+
+-- where the copies stood for some values, they stand for these too behind them, unless memory runs out
+abbrev pub StandBehind : {X E : Type 0} → List Stored → (old new values : List Stored) → Result X E → Type 0
+StandBehind ins old new values result = (before : List Stored) → AllZip (StandsFor ins) before old → OnOk result (AllZip (StandsFor ins) (before ++ values) new)
+
+abbrev pub PairsStandBehind : {X E : Type 0} → List Stored → (old new pairs : List (ℕ × Stored)) → Result X E → Type 0
+PairsStandBehind ins old new pairs result = (before : List (ℕ × Stored)) → AllZip (PairStandsFor ins) before old → OnOk result (AllZip (PairStandsFor ins) (before ++ pairs) new)
 
 -- a class that takes further members, and has no sealed ones
 abbrev pub opened_traits : StoredTraits → StoredTraits

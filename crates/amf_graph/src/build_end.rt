@@ -2,28 +2,18 @@ ghost use Rattle.std.specs.Prelude.{◌≡◌};
 ghost use Rattle.amf_graph.specs.declared.build_end.BuildEnd.TheVariants.{Memory};
 
 use std::alloc::{AllocError, AllocFailed};
-use std::error::Error;
-use std::fmt;
+use thiserror::Error;
 
 /// Why a builder did not take what it was given. It is as before.
-#[derive(Clone, Copy, Debug, PartialEq, Eq)]
+#[derive(Clone, Copy, Debug, PartialEq, Eq, Error)]
 pub enum BuildEnd {
     /// There was no memory left for it.
+    #[error("no memory")]
     Memory,
     /// It is more than the headers of the formats have room for.
+    #[error("the graph is full")]
     Full,
 }
-
-impl fmt::Display for BuildEnd {
-    fn fmt<W: fmt::Write>(&self, f: &mut fmt::Formatter<W>) -> fmt::Result {
-        match self {
-            BuildEnd::Memory => f.write_str("no memory"),
-            BuildEnd::Full => f.write_str("the graph is full"),
-        }
-    }
-}
-
-impl Error for BuildEnd {}
 
 impl From<AllocError> for BuildEnd {
     ghost from_gives = { λ _ e. e ≡ Memory };

@@ -1,4 +1,4 @@
-ghost use Rattle.std.specs.Prelude.{◌≡◌, ◌<◌, ◌≤◌, ◌↔◌, ◌⊎◌, [], ◌∷◌, length, get_or, true, IfOk, IfErr, OnOk, OnErr, IsErrOf};
+ghost use Rattle.std.specs.Prelude.{◌≡◌, ◌<◌, ◌≤◌, ◌↔◌, ◌⊎◌, [], ◌∷◌, length, get_or, true, false, IfOk, IfErr, OnOk, OnErr, IsErrOf};
 ghost use Rattle.std.specs.List.{AllByRecursion};
 ghost use Rattle.amf_wire.specs.Text.{IsText};
 ghost use Rattle.amf_graph.specs.Arena.{IsBuilt, IsFinished, IsTraitsIn, HeadNames, Names, text_at, no_traits};
@@ -316,6 +316,18 @@ impl Builder {
                 let ranks = TextRanks::of(self.alloc, &store);
                 Ok(Rooted::new(store, root, ranks))
             }
+        }
+    }
+
+    /// The graph with this root, of which all nodes are closed.
+    pub fn whole(self, root: Value) -> Rooted
+        requires names { Names self root }
+        requires closed { AllByRecursion (λ n. n.is_open ≡ false) self.nodes }
+        ensures { result ≡ record { arena = self; root = root } }
+    {
+        match self.finish(root) {
+            Ok(graph) => graph,
+            Err(_) => unreachable!(),
         }
     }
 }

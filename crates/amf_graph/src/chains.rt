@@ -1,7 +1,7 @@
 //! Numbers by their hashes.
 
 ghost use Rattle.std.specs.Prelude.{◌≡◌, ℕ, ◌+◌, ◌-◌, ◌<◌, ◌≤◌, ◌^◌, [], ◌∷◌, ◌++◌, length, take, set, get_or, bit_and, false, IfOk, OnOk, OnErr};
-ghost use Rattle.amf_graph.specs.Chains.{LeadsTo, hash_at, bucket_at, hash_mark, hashes_of, nexts_of, with_mark, IsMarked, AreMarked, AreNexts, AreLinked, AreChains, AreFound};
+ghost use Rattle.amf_graph.specs.Chains.{LeadsTo, LeadsFrom, hash_at, hash_mark, hashes_of, nexts_of, with_mark, IsMarked, AreMarked, AreLinked, AreChains, AreFound};
 
 use amf_wire::Memory;
 use std::alloc::Global;
@@ -119,7 +119,7 @@ fn link_all(links: &mut [Link], buckets: &mut [u32])
 fn link_of(links: &[Link], from: u32, hash: u32) -> u32
     requires from { from ≤ length links.now }
     requires lower { (i : ℕ) → i < length links.now → get_or (nexts_of links.now) i 0 ≤ i }
-    ensures { (mask bound : ℕ) → AreNexts mask (length links.now) (hashes_of links.now) (nexts_of links.now) → LeadsTo (bucket_at mask (hashes_of links.now)) bound (bit_and hash mask) from → bound ≤ length links.now → LeadsTo (hash_at (hashes_of links.now)) bound hash result }
+    ensures { LeadsFrom (hashes_of links.now) (nexts_of links.now) (length links.now) hash from result }
 {
     let mut link = from;
     while link > 0 {

@@ -1,13 +1,13 @@
 //! Copies of texts, traits and nodes, under the numbers of the copies.
 
-ghost use Rattle.std.specs.Prelude.{◌≡◌, ◌+◌, ◌<◌, ◌↔◌, ◌⊎◌, [], ◌∷◌, ◌++◌, length, get_or, IsTrue, IfOk, OnOk};
+ghost use Rattle.std.specs.Prelude.{◌≡◌, ◌<◌, ◌↔◌, [], ◌∷◌, ◌++◌, length, get_or, IsTrue, IfOk, OnOk};
 ghost use Rattle.std.specs.List.{AllByRecursion};
 ghost use Rattle.amf_graph.specs.Arena.{Names, no_traits};
 ghost use Rattle.amf_graph.specs.Bodies.{body_head, body_names, body_values};
 ghost use Rattle.amf_graph.specs.Bounds.{IsWithinBounds};
 ghost use Rattle.amf_graph.specs.Building.{leaf_head};
 ghost use Rattle.amf_graph.specs.Held.{form_head, held_head, held_names, held_values};
-ghost use Rattle.amf_graph.specs.Copying.{cut_of, renaming_of, copies_of, ValueCounted, PairCounted, HeadCounted, TraitsCounted, AreCounts, IsBehind};
+ghost use Rattle.amf_graph.specs.Copying.{IsTooMuch, cut_of, renaming_of, copies_of, ValueCounted, PairCounted, HeadCounted, TraitsCounted, AreCounts, IsBehind};
 ghost use Rattle.amf_graph.specs.Grafting.{IsCut, renamed_value, renamed_values, renamed_names, renamed_head, renamed_traits, copied_texts, copied_traits, copied_nodes};
 ghost use Rattle.amf_graph.specs.Views.{named, flat};
 
@@ -256,7 +256,7 @@ impl Copying {
 
     /// Whether the copies pass what a graph has room for.
     pub(crate) fn is_too_much(&self) -> bool
-        ensures { IsTrue result ↔ ((MAX_COUNT < self.now.first_text + length self.now.texts.items) ⊎ (MAX_TRAITS < self.now.first_traits + length self.now.traits.items) ⊎ (MAX_COUNT < self.now.first_node + length self.now.nodes.items)) }
+        ensures { IsTrue result ↔ IsTooMuch MAX_COUNT MAX_TRAITS self.now }
     {
         let texts = self.first_text as usize + self.texts.len();
         let traits = self.first_traits as usize + self.traits.len();

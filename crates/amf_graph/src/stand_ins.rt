@@ -1,15 +1,14 @@
 //! Copies of nodes with doubles for integers, members for sealed values, and for each node the value that stands in for it.
 
-ghost use Rattle.std.specs.Prelude.{◌≡◌, ℕ, ◌<◌, ◌++◌, List, [], ◌∷◌, false, length, map, IfOk, OnOk};
+ghost use Rattle.std.specs.Prelude.{◌≡◌, ◌<◌, ◌++◌, [], ◌∷◌, false, length, map, IfOk, OnOk};
 ghost use Rattle.std.specs.List.{AllByRecursion, AllZip, zip};
 ghost use Rattle.amf_wire.specs.Integer.{IsInteger};
 ghost use Rattle.amf_wire.specs.Whole.{IsPatternOf};
-ghost use Rattle.amf_graph.specs.declared.value.Value.{Value as Stored};
 ghost use Rattle.amf_graph.specs.Arena.{StoredNode};
 ghost use Rattle.amf_graph.specs.Graph.{IsPattern};
 ghost use Rattle.amf_graph.specs.Held.{form_head, held_head, held_names, held_values, held_node};
 ghost use Rattle.amf_graph.specs.HaveStandIns.{HasStandIn, HasSealed, NodeHasStandIns};
-ghost use Rattle.amf_graph.specs.StandIns.{StandsFor, PairStandsFor, NodeStandsFor, sealed_of, unsealed_of};
+ghost use Rattle.amf_graph.specs.StandIns.{StandsFor, PairStandsFor, StandBehind, PairsStandBehind, NodeStandsFor, sealed_of, unsealed_of};
 ghost use Rattle.amf_graph.specs.Views.{named, flat};
 
 use crate::body::Body;
@@ -47,7 +46,7 @@ pub(crate) fn stand_in(value: Value, stand_ins: &[Value]) -> Value
 /// Puts what stands for each of the values behind the copies.
 fn push_values(values: &[Value], stand_ins: &[Value], copies: &mut Vec<Value>) -> Result<(), Memory>
     requires { AllByRecursion (HasStandIn stand_ins.now) values.now }
-    ensures { (before : List Stored) → AllZip (StandsFor stand_ins.now) before copies.old.items → OnOk result (AllZip (StandsFor stand_ins.now) (before ++ values.now) copies.new.items) }
+    ensures { StandBehind stand_ins.now copies.old.items copies.new.items values.now result }
 {
     for value in values {
         copies.push(stand_in(*value, stand_ins))?;
@@ -62,7 +61,7 @@ fn push_pairs(
     copies: &mut Vec<(TextId, Value)>,
 ) -> Result<(), Memory>
     requires { AllByRecursion (λ p. HasStandIn stand_ins.now p.1) (named pairs.now) }
-    ensures { (before : List (ℕ × Stored)) → AllZip (PairStandsFor stand_ins.now) before (named copies.old.items) → OnOk result (AllZip (PairStandsFor stand_ins.now) (before ++ named pairs.now) (named copies.new.items)) }
+    ensures { PairsStandBehind stand_ins.now (named copies.old.items) (named copies.new.items) (named pairs.now) result }
 {
     for (name, value) in pairs {
         copies.push((*name, stand_in(*value, stand_ins)))?;
@@ -79,7 +78,7 @@ fn push_sealed(
 ) -> Result<(), Memory>
     requires all { length values.now ≡ length names.now }
     requires values { AllByRecursion (HasStandIn stand_ins.now) values.now }
-    ensures { (before : List (ℕ × Stored)) → AllZip (PairStandsFor stand_ins.now) before (named copies.old.items) → OnOk result (AllZip (PairStandsFor stand_ins.now) (before ++ zip (map (λ x. x.0) names.now) values.now) (named copies.new.items)) }
+    ensures { PairsStandBehind stand_ins.now (named copies.old.items) (named copies.new.items) (zip (map (λ x. x.0) names.now) values.now) result }
 {
     for (place, name) in names.iter().enumerate() {
         copies.push((*name, stand_in(values[place], stand_ins)))?;

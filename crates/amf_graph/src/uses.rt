@@ -4,7 +4,7 @@ ghost use Rattle.std.specs.Prelude.{◌≡◌, ◌<◌, ◌++◌, [], false, len
 ghost use Rattle.std.specs.List.{AllByRecursion};
 ghost use Rattle.amf_graph.specs.Arena.{Names, no_traits};
 ghost use Rattle.amf_graph.specs.Building.{stored_at, leaf_head};
-ghost use Rattle.amf_graph.specs.Gather.{placed, with_all, text_in, texts_in, pair_texts, head_texts, node_texts, traits_texts, head_traits, texts_of_nodes, traits_of_nodes, texts_of_traits};
+ghost use Rattle.amf_graph.specs.Gather.{placed, texts_used, with_all, text_in, texts_in, pair_texts, head_texts, node_texts, traits_texts, head_traits, traits_of_nodes};
 ghost use Rattle.amf_graph.specs.Held.{form_head, held_head, held_node};
 ghost use Rattle.amf_graph.specs.Views.{named, flat};
 
@@ -148,7 +148,7 @@ pub(crate) fn used_texts(
     requires values { AllByRecursion (Names graph.now.arena) values.now }
     requires nodes { nodes.now.count ≡ length graph.now.arena.nodes }
     requires traits { traits.now.count ≡ length graph.now.arena.traits }
-    ensures { IfOk result (λ texts. texts ≡ placed (length graph.now.arena.texts) (with_all (texts_in values.now ++ (texts_of_nodes graph.now.arena nodes.now.items ++ texts_of_traits graph.now.arena traits.now.items)) [])) }
+    ensures { IfOk result (λ texts. texts ≡ texts_used graph.now.arena values.now nodes.now.items traits.now.items) }
 {
     graph.is_finished();
     let mut used = Vec::new(alloc);

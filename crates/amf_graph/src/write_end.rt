@@ -3,28 +3,18 @@ ghost use Rattle.amf_graph.specs.declared.write_end.WriteEnd.TheVariants.{Memory
 
 use crate::Lack;
 use std::alloc::{AllocError, AllocFailed};
-use std::error::Error;
-use std::fmt;
+use thiserror::Error;
 
 /// Why a graph was not written.
-#[derive(Clone, Copy, Debug, PartialEq, Eq)]
+#[derive(Clone, Copy, Debug, PartialEq, Eq, Error)]
 pub enum WriteEnd {
     /// The format has no spelling of the graph.
+    #[error("no spelling from node {}", .0.node)]
     NoSpelling(Lack),
     /// There was no memory left for it.
+    #[error("no memory")]
     Memory,
 }
-
-impl fmt::Display for WriteEnd {
-    fn fmt<W: fmt::Write>(&self, f: &mut fmt::Formatter<W>) -> fmt::Result {
-        match self {
-            WriteEnd::NoSpelling(lack) => write!(f, "no spelling from node {}", lack.node),
-            WriteEnd::Memory => f.write_str("no memory"),
-        }
-    }
-}
-
-impl Error for WriteEnd {}
 
 impl From<AllocError> for WriteEnd {
     ghost from_gives = { λ _ e. e ≡ Memory };

@@ -1,5 +1,5 @@
 -- One walk over two graphs. A device of proofs.
-use Rattle.std.specs.Prelude.{◌≡◌, ℕ, suc, Bool, true, List, [], ◌∷◌, length, map, slice_get, Option, Some, None, IsTrue}
+use Rattle.std.specs.Prelude.{◌≡◌, ℕ, suc, Bool, true, List, [], ◌∷◌, length, map, slice_get, Option, Some, None, IsTrue, Result, IfOk}
 use Rattle.std.specs.List.{AllZip}
 use Rattle.amf_graph.specs.declared.value.Value.{Value as Stored}
 use Rattle.amf_graph.specs.declared.value.TextId.{TextId}
@@ -7,6 +7,8 @@ use Rattle.amf_graph.specs.Graph.{Value, Graph, node_at}
 use Rattle.amf_graph.specs.ByName.{by_name}
 use Rattle.amf_graph.specs.Isomorphic.{ValuesMatch, PairsMatch, NodesMatch, StandIn}
 use Rattle.amf_graph.specs.Arena.{Arena, Names, IsTextId, text_at, value_content}
+use Rattle.amf_graph.specs.Rooted.{RootedArena}
+use Rattle.amf_iso.specs.declared.walk.Graphs.{Graphs}
 use Rattle.amf_iso.specs.declared.walk.Walk.{Walk}
 use Rattle.amf_iso.specs.Contents.{values_of, pairs_of}
 use Rattle.amf_iso.specs.Joined.{AreJoined}
@@ -49,6 +51,14 @@ pub record Met (a b : Arena) (old new : Walk) (M : List (ℕ × ℕ) → Type 0)
   pub grown : (k : ℕ) (p : ℕ × ℕ) → slice_get (met old) k ≡ Some p → slice_get (met new) k ≡ Some p
   pub alike : IsTrue same → M (met new)
   pub forced : (pairs : List (ℕ × ℕ)) → ArePaired pairs → AreAmong (met old) pairs → M pairs → IsTrue same × AreAmong (met new) pairs
+
+-- the answer of a part of the walk, over things of the two graphs
+abbrev pub Meets : {E : Type 0} → (g h : RootedArena) (old new : Walk) → (RootedArena → RootedArena → List (ℕ × ℕ) → Type 0) → Result Bool E → Type 0
+Meets g h old new M result = IfOk result (λ same. Met g.arena h.arena old new (M g h) same)
+
+-- of the two graphs that are compared
+abbrev pub MeetsIn : {E : Type 0} → Graphs → (old new : Walk) → (RootedArena → RootedArena → List (ℕ × ℕ) → Type 0) → Result Bool E → Type 0
+MeetsIn graphs old new M result = Meets graphs.left.now graphs.right.now old new M result
 
 -- What matches under a list of pairs.
 

@@ -5,7 +5,7 @@ ghost use Rattle.amf_graph.specs.Isomorphic.{Isomorphic};
 ghost use Rattle.amf_graph.specs.Rooted.{content};
 ghost use Rattle.amf_graph.specs.Views.{Shows};
 ghost use Rattle.amf_iso.specs.Contents.{AreValues, ArePairs};
-ghost use Rattle.amf_iso.specs.Walking.{IsSound, Met, NamedMatch, PartsMatch, NodePair, AllNodesMatch};
+ghost use Rattle.amf_iso.specs.Walking.{IsSound, Meets, MeetsIn, NamedMatch, PartsMatch, NodePair, AllNodesMatch};
 
 use crate::heads::heads_match;
 use crate::matches::{all_entries_meet, all_meet, names_match, seconds_meet, values_meet};
@@ -28,7 +28,7 @@ fn named_meet(
     requires left { ArePairs graphs.now.left.now.arena ps.now }
     requires right { ArePairs graphs.now.right.now.arena qs.now }
     requires sound { IsSound graphs.now.left.now.arena graphs.now.right.now.arena walk.old }
-    ensures { IfOk result (λ same. Met graphs.now.left.now.arena graphs.now.right.now.arena walk.old walk.new (NamedMatch graphs.now.left.now.arena graphs.now.right.now.arena ps.now qs.now) same) }
+    ensures { Meets graphs.now.left.now graphs.now.right.now walk.old walk.new (λ g h. NamedMatch g.arena h.arena ps.now qs.now) result }
 {
     if names_match(ps, qs, graphs, &mut walk.texts) {
         return seconds_meet(ps, qs, graphs, walk);
@@ -55,7 +55,7 @@ fn both_meet(
     requires left_pairs { ArePairs graphs.now.left.now.arena pairs.0.now }
     requires right_pairs { ArePairs graphs.now.right.now.arena pairs.1.now }
     requires sound { IsSound graphs.now.left.now.arena graphs.now.right.now.arena walk.old }
-    ensures { IfOk result (λ same. Met graphs.now.left.now.arena graphs.now.right.now.arena walk.old walk.new (PartsMatch graphs.now.left.now.arena graphs.now.right.now.arena pairs.entry.0.now pairs.entry.1.now values.entry.0.now values.entry.1.now) same) }
+    ensures { MeetsIn graphs.now walk.old walk.new (λ g h. PartsMatch g.arena h.arena pairs.entry.0.now pairs.entry.1.now values.entry.0.now values.entry.1.now) result }
 {
     if !all_meet(values.0, values.1, graphs, walk)? {
         return Ok(false);
@@ -83,7 +83,7 @@ fn parts_meet(
     requires right_view { Shows graphs.now.right.now.arena (stored_at graphs.now.right.now.arena j.0) right }
     requires head { (node_at (content graphs.now.left.now) i.0).head ≡ (node_at (content graphs.now.right.now) j.0).head }
     requires sound { IsSound graphs.now.left.now.arena graphs.now.right.now.arena walk.old }
-    ensures { IfOk result (λ same. Met graphs.now.left.now.arena graphs.now.right.now.arena walk.old walk.new (NodePair (content graphs.now.left.now) (content graphs.now.right.now) i.0 j.0) same) }
+    ensures { Meets graphs.now.left.now graphs.now.right.now walk.old walk.new (λ g h. NodePair (content g) (content h) i.0 j.0) result }
 {
     graphs.left.is_finished();
     graphs.right.is_finished();
@@ -134,7 +134,7 @@ fn node_pair_meets(
     requires left { i.0 < length graphs.now.left.now.arena.nodes }
     requires right { j.0 < length graphs.now.right.now.arena.nodes }
     requires sound { IsSound graphs.now.left.now.arena graphs.now.right.now.arena walk.old }
-    ensures { IfOk result (λ same. Met graphs.now.left.now.arena graphs.now.right.now.arena walk.old walk.new (NodePair (content graphs.now.left.now) (content graphs.now.right.now) i.0 j.0) same) }
+    ensures { Meets graphs.now.left.now graphs.now.right.now walk.old walk.new (λ g h. NodePair (content g) (content h) i.0 j.0) result }
 {
     graphs.left.is_finished();
     graphs.right.is_finished();
@@ -149,7 +149,7 @@ fn node_pair_meets(
 /// Whether the nodes of each pair are alike, of those that were met and of those that are met on the way.
 fn all_pairs_meet(alloc: Global, graphs: &Graphs<'_>, walk: &mut Walk) -> Result<bool, Memory>
     requires sound { IsSound graphs.now.left.now.arena graphs.now.right.now.arena walk.old }
-    ensures { IfOk result (λ same. Met graphs.now.left.now.arena graphs.now.right.now.arena walk.old walk.new (AllNodesMatch (content graphs.now.left.now) (content graphs.now.right.now)) same) }
+    ensures { Meets graphs.now.left.now graphs.now.right.now walk.old walk.new (λ g h. AllNodesMatch (content g) (content h)) result }
 {
     let mut next = 0;
     while next < walk.pairs.len() {

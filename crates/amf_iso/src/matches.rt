@@ -1,10 +1,10 @@
-ghost use Rattle.std.specs.Prelude.{◌≡◌, ◌↔◌, length, IsTrue, IfOk};
+ghost use Rattle.std.specs.Prelude.{◌≡◌, ◌↔◌, length, IsTrue};
 ghost use Rattle.amf_graph.specs.Arena.{Names, value_content};
 ghost use Rattle.amf_graph.specs.Isomorphic.{ValuesMatch};
 ghost use Rattle.amf_graph.specs.Views.{flat};
 ghost use Rattle.amf_iso.specs.Contents.{AreValues, ArePairs};
 ghost use Rattle.amf_iso.specs.Joined.{AreJoined};
-ghost use Rattle.amf_iso.specs.Walking.{IsSound, Met, NoNodes, StoredMatch, AllMatch, SecondsMatch, NamesMatch, IsEntry, EntriesMatch};
+ghost use Rattle.amf_iso.specs.Walking.{IsSound, Meets, NoNodes, StoredMatch, AllMatch, SecondsMatch, NamesMatch, IsEntry, EntriesMatch};
 
 use crate::equal_texts::EqualTexts;
 use crate::walk::{Graphs, Walk};
@@ -38,7 +38,7 @@ pub(crate) fn values_meet(
     requires left { Names graphs.now.left.now.arena v }
     requires right { Names graphs.now.right.now.arena w }
     requires sound { IsSound graphs.now.left.now.arena graphs.now.right.now.arena walk.old }
-    ensures { IfOk result (λ same. Met graphs.now.left.now.arena graphs.now.right.now.arena walk.old walk.new (StoredMatch graphs.now.left.now.arena graphs.now.right.now.arena v w) same) }
+    ensures { Meets graphs.now.left.now graphs.now.right.now walk.old walk.new (λ g h. StoredMatch g.arena h.arena v w) result }
 {
     match (v, w) {
         (Value::Node(i), Value::Node(j)) => walk.nodes_meet(i, j),
@@ -57,7 +57,7 @@ pub(crate) fn all_meet(
     requires left { AreValues graphs.now.left.now.arena vs.now }
     requires right { AreValues graphs.now.right.now.arena ws.now }
     requires sound { IsSound graphs.now.left.now.arena graphs.now.right.now.arena walk.old }
-    ensures { IfOk result (λ same. Met graphs.now.left.now.arena graphs.now.right.now.arena walk.old walk.new (AllMatch graphs.now.left.now.arena graphs.now.right.now.arena vs.now ws.now) same) }
+    ensures { Meets graphs.now.left.now graphs.now.right.now walk.old walk.new (λ g h. AllMatch g.arena h.arena vs.now ws.now) result }
 {
     if vs.len() != ws.len() {
         return Ok(false);
@@ -107,7 +107,7 @@ pub(crate) fn seconds_meet(
     requires right { ArePairs graphs.now.right.now.arena qs.now }
     requires long { length ps.now ≡ length qs.now }
     requires sound { IsSound graphs.now.left.now.arena graphs.now.right.now.arena walk.old }
-    ensures { IfOk result (λ same. Met graphs.now.left.now.arena graphs.now.right.now.arena walk.old walk.new (SecondsMatch graphs.now.left.now.arena graphs.now.right.now.arena ps.now qs.now) same) }
+    ensures { Meets graphs.now.left.now graphs.now.right.now walk.old walk.new (λ g h. SecondsMatch g.arena h.arena ps.now qs.now) result }
 {
     for (p, q) in ps.iter().zip(qs) {
         if !values_meet(p.1, q.1, graphs, walk)? {
@@ -127,7 +127,7 @@ fn entry_meets(
     requires left { IsEntry graphs.now.left.now.arena e }
     requires right { IsEntry graphs.now.right.now.arena f }
     requires sound { IsSound graphs.now.left.now.arena graphs.now.right.now.arena walk.old }
-    ensures { IfOk result (λ same. Met graphs.now.left.now.arena graphs.now.right.now.arena walk.old walk.new (EntriesMatch graphs.now.left.now.arena graphs.now.right.now.arena e f) same) }
+    ensures { Meets graphs.now.left.now graphs.now.right.now walk.old walk.new (λ g h. EntriesMatch g.arena h.arena e f) result }
 {
     if !values_meet(e.0, f.0, graphs, walk)? {
         return Ok(false);
@@ -146,7 +146,7 @@ pub(crate) fn all_entries_meet(
     requires left { AreValues graphs.now.left.now.arena (flat es.now) }
     requires right { AreValues graphs.now.right.now.arena (flat fs.now) }
     requires sound { IsSound graphs.now.left.now.arena graphs.now.right.now.arena walk.old }
-    ensures { IfOk result (λ same. Met graphs.now.left.now.arena graphs.now.right.now.arena walk.old walk.new (AllMatch graphs.now.left.now.arena graphs.now.right.now.arena (flat es.now) (flat fs.now)) same) }
+    ensures { Meets graphs.now.left.now graphs.now.right.now walk.old walk.new (λ g h. AllMatch g.arena h.arena (flat es.now) (flat fs.now)) result }
 {
     if es.len() != fs.len() {
         return Ok(false);

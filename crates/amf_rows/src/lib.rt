@@ -2,9 +2,11 @@
 #![tactic(auto)]
 
 mod bytes;
+mod parts;
 mod row;
 mod table;
 
 pub use bytes::bytes_of;
+pub use parts::push_part;
 pub use row::{Row, Wrong};
 pub use table::Table;

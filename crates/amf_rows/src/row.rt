@@ -1,4 +1,5 @@
 use crate::bytes::bytes_of;
+use crate::parts::push_part;
 use std::alloc::{AllocError, AllocFailed, Global};
 
 /// What is wrong with a table, and the number of its line, or 0.
@@ -86,5 +87,17 @@ impl<'t> Row<'t> {
             Some(bytes) => Ok(bytes),
             None => Err(self.wrong("no bytes")),
         }
+    }
+
+    /// The bytes of a field whose parts have `+` between, one behind the other, as [`push_part`] reads them.
+    pub fn parts(&self, alloc: Global, place: usize) -> Result<Vec<u8>, Wrong> {
+        let mut bytes = Vec::new(alloc);
+        for part in self.field(place)?.split('+') {
+            match push_part(alloc, &mut bytes, part) {
+                Ok(()) => {}
+                Err(wrong) => return Err(self.wrong(wrong.what)),
+            }
+        }
+        Ok(bytes)
     }
 }

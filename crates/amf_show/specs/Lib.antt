@@ -6,3 +6,4 @@ pub mod ListingLaws
 pub mod WorkedListings
 -- Devices of the proofs: no clause of a public call needs them.
 pub mod Joining
+pub mod ByLister

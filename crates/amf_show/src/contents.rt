@@ -1,11 +1,10 @@
-ghost use Rattle.std.specs.Prelude.{◌≡◌, ◌<◌, ◌++◌, [], codes, cond, length, map, OnOk};
+ghost use Rattle.std.specs.Prelude.{◌≡◌, ◌<◌, ◌++◌, [], codes, cond, length, OnOk};
 ghost use Rattle.std.specs.List.{flat_map};
-ghost use Rattle.amf_graph.specs.Arena.{Names, IsTextId, text_at, traits_at, value_content};
-ghost use Rattle.amf_graph.specs.ByName.{by_name};
+ghost use Rattle.amf_graph.specs.Arena.{Names, IsTextId, traits_at};
 ghost use Rattle.amf_graph.specs.Graph.{class_name};
-ghost use Rattle.amf_iso.specs.Contents.{values_of, AreValues, pairs_of, ArePairs};
-ghost use Rattle.amf_show.specs.Listing.{shown_value, shown_values, shown_pairs, shown_object};
-ghost use Rattle.amf_show.specs.Shown.{hex_byte, shown_text, shown_double, shown_fixed};
+ghost use Rattle.amf_iso.specs.Contents.{AreValues, ArePairs};
+ghost use Rattle.amf_show.specs.ByLister.{value_by, values_by, pairs_by, object_by, vector_by};
+ghost use Rattle.amf_show.specs.Shown.{hex_byte, shown_text, shown_double};
 
 use crate::lister::Lister;
 use crate::numbers::{push_double, push_word};
@@ -48,7 +47,7 @@ impl Lister<'_> {
     ) -> Result<(), Memory>
         requires items { AreValues self.now.graph.now.arena items.now }
         requires names { ArePairs self.now.graph.now.arena names.now }
-        ensures { OnOk result (out.new.items ≡ out.old.items ++ (codes "array " ++ shown_values self.now.numbering.now (values_of self.now.graph.now.arena items.now) ++ codes " " ++ shown_pairs self.now.numbering.now (by_name (pairs_of self.now.graph.now.arena names.now)))) }
+        ensures { OnOk result (out.new.items ≡ out.old.items ++ (codes "array " ++ values_by self.now items.now ++ codes " " ++ pairs_by self.now names.now)) }
     {
         push_word(b"array ", out)?;
         self.push_values(items, out)?;
@@ -68,7 +67,7 @@ impl Lister<'_> {
         requires sealed { AreValues self.now.graph.now.arena sealed.now }
         requires each { length sealed.now ≡ length (traits_at self.now.graph.now.arena traits.0).sealed }
         requires members { ArePairs self.now.graph.now.arena members.now }
-        ensures { OnOk result (out.new.items ≡ out.old.items ++ shown_object self.now.numbering.now (traits_at self.now.graph.now.arena traits.0) (pairs_of self.now.graph.now.arena members.now) (values_of self.now.graph.now.arena sealed.now)) }
+        ensures { OnOk result (out.new.items ≡ out.old.items ++ object_by self.now traits.0 members.now sealed.now) }
     {
         self.graph.is_finished();
         let class = self.graph.traits(traits);
@@ -86,7 +85,7 @@ impl Lister<'_> {
         out: &mut Vec<u8>,
     ) -> Result<(), Memory>
         requires { ArePairs self.now.graph.now.arena members.now }
-        ensures { OnOk result (out.new.items ≡ out.old.items ++ cond dynamic (codes " dynamic " ++ shown_pairs self.now.numbering.now (by_name (pairs_of self.now.graph.now.arena members.now))) []) }
+        ensures { OnOk result (out.new.items ≡ out.old.items ++ cond dynamic (codes " dynamic " ++ pairs_by self.now members.now) []) }
     {
         if !dynamic {
             return Ok(());
@@ -103,7 +102,7 @@ impl Lister<'_> {
         out: &mut Vec<u8>,
     ) -> Result<(), Memory>
         requires { Names self.now.graph.now.arena value }
-        ensures { OnOk result (out.new.items ≡ out.old.items ++ (codes "wrapper " ++ shown_text (class_name class) ++ codes " " ++ shown_value self.now.numbering.now (value_content self.now.graph.now.arena value))) }
+        ensures { OnOk result (out.new.items ≡ out.old.items ++ (codes "wrapper " ++ shown_text (class_name class) ++ codes " " ++ value_by self.now value)) }
     {
         push_worded(b"wrapper ", class.class_name(), out)?;
         push_word(b" ", out)?;
@@ -120,7 +119,7 @@ impl Lister<'_> {
     ) -> Result<(), Memory>
         requires of { IsTextId self.now.graph.now.arena of.0 }
         requires items { AreValues self.now.graph.now.arena items.now }
-        ensures { OnOk result (out.new.items ≡ out.old.items ++ (codes "values " ++ shown_text (text_at self.now.graph.now.arena of.0) ++ codes " " ++ shown_fixed fixed ++ codes " " ++ shown_values self.now.numbering.now (values_of self.now.graph.now.arena items.now))) }
+        ensures { OnOk result (out.new.items ≡ out.old.items ++ vector_by self.now fixed of items.now) }
     {
         push_worded(b"values ", self.graph.text(of), out)?;
         push_word(b" ", out)?;

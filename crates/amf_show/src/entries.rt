@@ -1,8 +1,9 @@
 ghost use Rattle.std.specs.Prelude.{◌≡◌, ◌++◌, codes, OnOk};
-ghost use Rattle.amf_graph.specs.Arena.{Names, value_content};
+ghost use Rattle.amf_graph.specs.Arena.{Names};
 ghost use Rattle.amf_graph.specs.Views.{flat};
 ghost use Rattle.amf_iso.specs.Contents.{values_of, AreValues};
-ghost use Rattle.amf_show.specs.Listing.{shown_value, entries_in, shown_entries};
+ghost use Rattle.amf_show.specs.ByLister.{value_by, entries_by};
+ghost use Rattle.amf_show.specs.Listing.{entries_in};
 ghost use Rattle.amf_show.specs.Shown.{joined, shown_weak};
 
 use crate::lister::Lister;
@@ -22,7 +23,7 @@ impl Lister<'_> {
     fn push_entry(&self, key: Value, value: Value, out: &mut Vec<u8>) -> Result<(), Memory>
         requires key { Names self.now.graph.now.arena key }
         requires value { Names self.now.graph.now.arena value }
-        ensures { OnOk result (out.new.items ≡ out.old.items ++ (shown_value self.now.numbering.now (value_content self.now.graph.now.arena key) ++ codes "=" ++ shown_value self.now.numbering.now (value_content self.now.graph.now.arena value))) }
+        ensures { OnOk result (out.new.items ≡ out.old.items ++ (value_by self.now key ++ codes "=" ++ value_by self.now value)) }
     {
         self.push_value(key, out)?;
         push_word(b"=", out)?;
@@ -44,7 +45,7 @@ impl Lister<'_> {
     /// Appends keys and values between braces.
     fn push_braced(&self, entries: &[(Value, Value)], out: &mut Vec<u8>) -> Result<(), Memory>
         requires { AreValues self.now.graph.now.arena (flat entries.now) }
-        ensures { OnOk result (out.new.items ≡ out.old.items ++ shown_entries self.now.numbering.now (values_of self.now.graph.now.arena (flat entries.now))) }
+        ensures { OnOk result (out.new.items ≡ out.old.items ++ entries_by self.now entries.now) }
     {
         push_word(b"{", out)?;
         self.push_entries(entries, out)?;
@@ -59,7 +60,7 @@ impl Lister<'_> {
         out: &mut Vec<u8>,
     ) -> Result<(), Memory>
         requires { AreValues self.now.graph.now.arena (flat entries.now) }
-        ensures { OnOk result (out.new.items ≡ out.old.items ++ (codes "dict " ++ shown_weak weak ++ codes " " ++ shown_entries self.now.numbering.now (values_of self.now.graph.now.arena (flat entries.now)))) }
+        ensures { OnOk result (out.new.items ≡ out.old.items ++ (codes "dict " ++ shown_weak weak ++ codes " " ++ entries_by self.now entries.now)) }
     {
         push_word(b"dict ", out)?;
         push_word(weak_word(weak), out)?;

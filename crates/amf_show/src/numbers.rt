@@ -1,4 +1,4 @@
-ghost use Rattle.std.specs.Prelude.{◌≡◌, ◌++◌, codes, decimal, OnOk};
+ghost use Rattle.std.specs.Prelude.{◌≡◌, ◌++◌, decimal, OnOk};
 ghost use Rattle.std.specs.Fmt.{signed_decimal};
 ghost use Rattle.amf_show.specs.Joining.{separator_before};
 ghost use Rattle.amf_show.specs.Shown.{shown_double};
@@ -7,8 +7,8 @@ use crate::text::push_hex;
 use amf_wire::{Memory, Pattern};
 use itoa::Buffer;
 
-/// Appends a word.
-pub(crate) fn push_word(word: &[u8], out: &mut Vec<u8>) -> Result<(), Memory>
+/// Appends a word. It gives up where there is no memory.
+pub fn push_word(word: &[u8], out: &mut Vec<u8>) -> Result<(), Memory>
     ensures { OnOk result (out.new.items ≡ out.old.items ++ word.now) }
 {
     out.extend_from_slice(word)?;

@@ -1,11 +1,10 @@
-ghost use Rattle.std.specs.Prelude.{◌≡◌, ◌++◌, codes, length, map, OnOk};
-ghost use Rattle.std.specs.List.{zip};
+ghost use Rattle.std.specs.Prelude.{◌≡◌, ◌++◌, length, map, OnOk};
 ghost use Rattle.amf_graph.specs.Arena.{Names, value_content};
-ghost use Rattle.amf_graph.specs.ByName.{by_name};
-ghost use Rattle.amf_iso.specs.Contents.{values_of, AreValues, pairs_of, ArePairs};
+ghost use Rattle.amf_iso.specs.Contents.{AreValues, pairs_of, ArePairs};
+ghost use Rattle.amf_show.specs.ByLister.{pairs_by, zipped};
 ghost use Rattle.amf_show.specs.Listing.{shown_pair, shown_pairs};
 ghost use Rattle.amf_show.specs.Shown.{joined};
-ghost use Rattle.amf_tables.specs.ShownTraits.{AreTextIds, texts_at};
+ghost use Rattle.amf_tables.specs.ShownTraits.{AreTextIds};
 
 use crate::lister::Lister;
 use crate::numbers::{push_separator, push_word};
@@ -54,7 +53,7 @@ impl Lister<'_> {
         out: &mut Vec<u8>,
     ) -> Result<(), Memory>
         requires { ArePairs self.now.graph.now.arena pairs.now }
-        ensures { OnOk result (out.new.items ≡ out.old.items ++ shown_pairs self.now.numbering.now (by_name (pairs_of self.now.graph.now.arena pairs.now))) }
+        ensures { OnOk result (out.new.items ≡ out.old.items ++ pairs_by self.now pairs.now) }
     {
         let sorted = ids_by_name(self.alloc, pairs, self.graph)?;
         self.push_pairs(&sorted, out)
@@ -70,7 +69,7 @@ impl Lister<'_> {
         requires names { AreTextIds self.now.graph.now.arena names.now }
         requires values { AreValues self.now.graph.now.arena values.now }
         requires each { length values.now ≡ length names.now }
-        ensures { OnOk result (out.new.items ≡ out.old.items ++ joined (map (shown_pair self.now.numbering.now) (zip (texts_at self.now.graph.now.arena names.now) (values_of self.now.graph.now.arena values.now)))) }
+        ensures { OnOk result (out.new.items ≡ out.old.items ++ joined (map (shown_pair self.now.numbering.now) (zipped self.now names.now values.now))) }
     {
         for (place, name) in names.iter().enumerate() {
             push_separator(place, out)?;
@@ -89,7 +88,7 @@ impl Lister<'_> {
         requires names { AreTextIds self.now.graph.now.arena names.now }
         requires values { AreValues self.now.graph.now.arena values.now }
         requires each { length values.now ≡ length names.now }
-        ensures { OnOk result (out.new.items ≡ out.old.items ++ shown_pairs self.now.numbering.now (zip (texts_at self.now.graph.now.arena names.now) (values_of self.now.graph.now.arena values.now))) }
+        ensures { OnOk result (out.new.items ≡ out.old.items ++ shown_pairs self.now.numbering.now (zipped self.now names.now values.now)) }
     {
         push_word(b"{", out)?;
         self.push_each_sealed(names, values, out)?;

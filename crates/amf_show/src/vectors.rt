@@ -1,6 +1,7 @@
 ghost use Rattle.std.specs.Prelude.{◌≡◌, ◌++◌, codes, decimal, map, OnOk};
 ghost use Rattle.std.specs.Fmt.{signed_decimal};
-ghost use Rattle.amf_show.specs.Shown.{joined, bracketed, shown_double, shown_fixed};
+ghost use Rattle.amf_show.specs.ByLister.{joined_doubles};
+ghost use Rattle.amf_show.specs.Shown.{joined, bracketed, shown_fixed};
 
 use crate::numbers::{push_double, push_int, push_separator, push_uint, push_word};
 use amf_wire::{Memory, Pattern};
@@ -45,7 +46,7 @@ fn push_each_uint(uints: &[u32], out: &mut Vec<u8>) -> Result<(), Memory>
 
 /// Appends doubles, joined.
 fn push_each_double(doubles: &[Pattern], out: &mut Vec<u8>) -> Result<(), Memory>
-    ensures { OnOk result (out.new.items ≡ out.old.items ++ joined (map shown_double (map (λ p. p.0) doubles.now))) }
+    ensures { OnOk result (out.new.items ≡ out.old.items ++ joined_doubles doubles.now) }
 {
     for (place, double) in doubles.iter().enumerate() {
         push_separator(place, out)?;
@@ -76,7 +77,7 @@ pub(crate) fn push_uints(fixed: bool, items: &[u32], out: &mut Vec<u8>) -> Resul
 
 /// Appends a vector of doubles.
 pub(crate) fn push_doubles(fixed: bool, items: &[Pattern], out: &mut Vec<u8>) -> Result<(), Memory>
-    ensures { OnOk result (out.new.items ≡ out.old.items ++ (codes "doubles " ++ shown_fixed fixed ++ codes " " ++ bracketed (joined (map shown_double (map (λ p. p.0) items.now))))) }
+    ensures { OnOk result (out.new.items ≡ out.old.items ++ (codes "doubles " ++ shown_fixed fixed ++ codes " " ++ bracketed (joined_doubles items.now))) }
 {
     push_kind(b"doubles ", fixed, out)?;
     push_word(b"[", out)?;

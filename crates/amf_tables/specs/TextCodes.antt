@@ -1,6 +1,8 @@
 -- Texts by their codes: the first place in a writer's table of texts, and one number for the empty text, which has no place there (1.3.2). A device of proofs.
-use Rattle.std.specs.Prelude.{◌≡◌, ◌≢◌, ℕ, List, [], ◌∷◌, cond, nat_eq, get_or, map, slice_get, Some}
+use Rattle.std.specs.Prelude.{◌≡◌, ◌≢◌, ℕ, List, [], ◌∷◌, cond, nat_eq, get_or, map, slice_get, Option, Some, MatchOption}
 use Rattle.std.specs.List.{AllByRecursion}
+use Rattle.std.specs.declared.vec.Vec.{Vec}
+use Rattle.std.specs.declared.alloc.Global.{Global}
 use Rattle.amf_tables.specs.FirstPlace.{IsFirstPlace}
 use Rattle.amf_tables.specs.declared.text_codes.TheConstants.{EMPTY}
 
@@ -29,3 +31,7 @@ pub record AreCodesOf (texts xs : List (List ℕ)) (ks : List ℕ) : Type 0 wher
 -- one of these texts has none
 abbrev pub HasUncoded : List (List ℕ) → List (List ℕ) → Type 0
 HasUncoded texts xs = (i : ℕ) × (x : List ℕ) × (slice_get xs i ≡ Some x) × IsUncoded texts x
+
+-- the codes of these texts, or none where one of them has none
+abbrev pub AreCodesFound : (texts xs : List (List ℕ)) → Option (Vec ℕ Global) → Type 0
+AreCodesFound texts xs found = MatchOption found (HasUncoded texts xs) (λ codes. AreCodesOf texts xs codes.items)

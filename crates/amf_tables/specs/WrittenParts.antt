@@ -1,5 +1,5 @@
 -- What a writer's table of traits keeps, and the entries by content that it stands for. A device of proofs.
-use Rattle.std.specs.Prelude.{◌≡◌, ℕ, Bool, List, [], ◌∷◌, ◌++◌, map}
+use Rattle.std.specs.Prelude.{◌≡◌, ℕ, Bool, List, [], ◌∷◌, ◌++◌, map, Option, MatchOption}
 use Rattle.std.specs.List.{AllByRecursion}
 use Rattle.amf_graph.specs.declared.views.TraitsView.{TraitsView}
 use Rattle.amf_graph.specs.declared.wrapped.Wrapped.{Wrapped}
@@ -45,6 +45,10 @@ pub record IsWrittenFor (texts : List (List ℕ)) (e : Entry) (w : Written) : Ty
 -- nothing does
 abbrev pub IsUnwritten : List (List ℕ) → Entry → Type 0
 IsUnwritten texts e = (w : Written) → IsWrittenFor texts e w → ⊥
+
+-- what stands for it by codes alone, or none where nothing does
+abbrev pub IsFoundFor : List (List ℕ) → Entry → Option Written → Type 0
+IsFoundFor texts e found = MatchOption found (IsUnwritten texts e) (IsWrittenFor texts e)
 
 -- one more entry behind all stands for this one
 abbrev pub IsPushed : List (List ℕ) → List Written → Entry → List Written → Type 0

@@ -4,7 +4,7 @@ ghost use Rattle.amf_graph.specs.Order.{Absent};
 ghost use Rattle.amf_tables.specs.FirstPlace.{IsFirstPlace};
 ghost use Rattle.amf_tables.specs.KnownTexts.{AreNotedOf};
 ghost use Rattle.amf_tables.specs.ShownTraits.{AreTextIds, texts_at};
-ghost use Rattle.amf_tables.specs.TextCodes.{IsCodeOf, IsUncoded, AreCodesOf, HasUncoded};
+ghost use Rattle.amf_tables.specs.TextCodes.{IsCodeOf, IsUncoded, AreCodesFound};
 
 use crate::known_texts::KnownTexts;
 use crate::text_table::TextTable;
@@ -60,7 +60,7 @@ pub(crate) fn codes_of(
 ) -> Result<Option<Vec<u32>>, Memory>
     requires ids { AreTextIds graph.now.arena ids.now }
     requires known { AreNotedOf graph.now.arena texts.now known.now }
-    ensures { IfOk result (λ found. MatchOption found (HasUncoded texts.now (texts_at graph.now.arena ids.now)) (λ codes. AreCodesOf texts.now (texts_at graph.now.arena ids.now) codes.items)) }
+    ensures { IfOk result (AreCodesFound texts.now (texts_at graph.now.arena ids.now)) }
 {
     let mut codes = Vec::new(alloc);
     for id in ids {

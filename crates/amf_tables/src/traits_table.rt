@@ -31,20 +31,15 @@ pub(crate) struct TraitsTable {
 }
 
 impl Model for TraitsTable {
-    ghost use Rattle.std.specs.Prelude.{◌≡◌, ◌≤◌, false, List, map, length};
-    ghost use Rattle.std.specs.List.{AllByRecursion};
-    ghost use Rattle.amf_tables.specs.ContentHash.{written_hash};
-    ghost use Rattle.amf_tables.specs.HashedPlaces.{AreFirstPlaces};
-    ghost use Rattle.amf_tables.specs.WrittenParts.{Written, IsNoCopy};
-    ghost use Rattle.amf_tables.specs.declared.first_places.TheConstants.{MAX_ENTRIES};
+    ghost use Rattle.std.specs.Prelude.{List};
+    ghost use Rattle.amf_tables.specs.ContentHash.{AreHashed};
+    ghost use Rattle.amf_tables.specs.WrittenParts.{Written};
 
     ghost Value = { List Written };
 
     ghost view = { λ t. t.entries.items };
 
-    ghost invariant = { λ t. (length t.entries.items ≤ MAX_ENTRIES)
-        × AreFirstPlaces (map (written_hash t.start) t.entries.items) t.places
-        × (t.has_copies ≡ false → AllByRecursion IsNoCopy t.entries.items) };
+    ghost invariant = { λ t. AreHashed t.start t.entries.items t.places t.has_copies };
 }
 
 /// The first place of this entry, which has no copies, among these.

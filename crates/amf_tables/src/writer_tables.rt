@@ -53,14 +53,18 @@ impl WriterTables {
     pub fn new(alloc: Global) -> Result<WriterTables, Memory>
         ensures { IfOk result (λ tables. tables ≡ no_tables) }
     {
-        Ok(WriterTables::hashed(alloc, DefaultHasher::new(), None))
+        WriterTables::keyed(alloc, None)
     }
 
-    /// Tables without entries, whose hashes go by keys that the maker of an input does not know.
-    pub fn keyed(alloc: Global, keys: RandomState) -> WriterTables
-        ensures { result ≡ no_tables }
+    /// Tables without entries, whose hashes go by these keys, which the maker of an input does not know, or by fixed ones where
+    /// there are none. It gives up where there is no memory.
+    pub fn keyed(alloc: Global, keys: Option<RandomState>) -> Result<WriterTables, Memory>
+        ensures { IfOk result (λ tables. tables ≡ no_tables) }
     {
-        WriterTables::hashed(alloc, keys.build_hasher(), Some(keys))
+        Ok(match keys {
+            Some(keys) => WriterTables::hashed(alloc, keys.build_hasher(), Some(keys)),
+            None => WriterTables::hashed(alloc, DefaultHasher::new(), None),
+        })
     }
 
     /// Tables without entries: the hash of traits begins so, and texts are looked up by these keys or by none.

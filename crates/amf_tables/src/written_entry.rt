@@ -1,8 +1,8 @@
-ghost use Rattle.std.specs.Prelude.{◌≡◌, ◌↔◌, false, IfOk, IsTrue, MatchOption};
+ghost use Rattle.std.specs.Prelude.{◌≡◌, ◌↔◌, false, IfOk, IsTrue};
 ghost use Rattle.amf_tables.specs.ContentHash.{written_hash};
 ghost use Rattle.amf_tables.specs.KnownTexts.{AreNotedOf};
 ghost use Rattle.amf_tables.specs.ShownTraits.{AreTraitsOf, shown_entry};
-ghost use Rattle.amf_tables.specs.WrittenParts.{copied, wrapped, entry_of, shown_traits, IsNoCopy, IsWrittenFor, IsUnwritten};
+ghost use Rattle.amf_tables.specs.WrittenParts.{copied, wrapped, entry_of, shown_traits, IsNoCopy, IsFoundFor};
 
 use crate::content_hash::{hash_of_class, hash_of_codes};
 use crate::known_texts::KnownTexts;
@@ -61,7 +61,7 @@ impl WrittenEntry {
     ) -> Result<Option<WrittenEntry>, Memory>
         requires shown { AreTraitsOf graph.now.arena traits.now }
         requires known { AreNotedOf graph.now.arena texts.now known.now }
-        ensures { IfOk result (λ found. MatchOption found (IsUnwritten texts.now (shown_entry graph.now.arena traits.now)) (IsWrittenFor texts.now (shown_entry graph.now.arena traits.now))) }
+        ensures { IfOk result (IsFoundFor texts.now (shown_entry graph.now.arena traits.now)) }
     {
         let Some(class) = code_of(traits.class, graph, texts, known) else {
             return Ok(None);

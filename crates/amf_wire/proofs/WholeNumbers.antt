@@ -1,11 +1,12 @@
 -- Whole numbers and their doubles as functions are those that the relation names.
 use Rattle.std.proofs.Common.{◌≡◌, ◌≢◌, ℕ, zero, suc, ◌+◌, ◌-◌, ◌/◌, ◌%◌, ◌^◌, ◌<◌, ◌≤◌, nat_lt, Bool, true, false, if◌then◌else◌, ℤ, pos, negsuc, Option, Some, None, refl, ap, sym, ◌∙◌, subst, inl, inr, arith}
-use Rattle.std.specs.Prelude.{nat_le, ◌==◌, ◌&&◌, IfSome, IsNone}
+use Rattle.std.specs.Prelude.{nat_le, ◌==◌, ◌&&◌, ◌≤ℤ◌, IfSome, IsNone}
+use Rattle.std.proofs.lemmas.Int.{ints}
 use Rattle.std.proofs.Math.Nat.{mul-mod_left}
 use Rattle.std.proofs.lemmas.Bool.{cases_eq, cases_lt}
 use Rattle.std.proofs.lemmas.Option.{same_Some}
 use Rattle.amf_wire.specs.Whole.{IsSize, HasParts, IsPatternOf, HasPattern}
-use Rattle.amf_wire.proofs.Doubles.{scaled, scaled_parts, size_few, one_size, its_size, some_size, bits_of, positive_is, negative_is, positive_pattern}
+use Rattle.amf_wire.proofs.Doubles.{inverse, scaled, scaled_parts, size_few, one_size, its_size, some_size, bits_of, positive_is, negative_is, positive_pattern}
 use Rattle.amf_wire.specs.WholeNumbers.{size_of, below_zero, signed, whole_of, shift_of, pattern_of, signed_pattern, WholeNumbers}
 
 all_true : (a b c : Bool) → a ≡ true → b ≡ true → c ≡ true → (a && (b && c)) ≡ true
@@ -139,3 +140,12 @@ answered p None b s n = go (whole_of p) refl
     go : (o : Option ℤ) → whole_of p ≡ o → None ≡ o
     go None e = refl
     go (Some v) e = absurd (n refl v (is_whole p v b e))
+
+-- a whole number of a double is below 2^53 in size
+in_range : (n : ℤ) → HasPattern n → (negsuc 9007199254740990 ≤ℤ n) × (n ≤ℤ pos 9007199254740991)
+in_range (pos n) l = (omega (arith, ints, l), omega (arith, ints, l))
+in_range (negsuc n) l = (omega (arith, ints, l), omega (arith, ints, l))
+
+pub bounded : (p : ℕ) (o : Option ℤ) → IfSome o (λ v. IsPatternOf p v) → IfSome o (λ v. (negsuc 9007199254740990 ≤ℤ v) × (v ≤ℤ pos 9007199254740991))
+bounded p (Some v) s = in_range v (inverse.below p v s)
+bounded p None s = s

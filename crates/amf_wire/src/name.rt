@@ -8,9 +8,8 @@ ghost use Rattle.amf_wire.specs.declared.name.NameEnd.TheVariants.{Memory};
 use crate::memory::Memory;
 use crate::text::first_bad;
 use std::alloc::{AllocError, AllocFailed, Global};
-use std::error::Error;
-use std::fmt;
 use std::marker::Model;
+use thiserror::Error;
 
 /// A name, seen as its list of bytes: a text where `from_bytes` made it.
 #[derive(Debug, Drop)]
@@ -39,24 +38,15 @@ impl Eq for Name {
 }
 
 /// Why there is no name.
-#[derive(Clone, Copy, Debug, PartialEq, Eq)]
+#[derive(Clone, Copy, Debug, PartialEq, Eq, Error)]
 pub enum NameEnd {
     /// The bytes are no text: the longest front of whole characters ends here.
+    #[error("no text from byte {0}")]
     BadText(usize),
     /// There was no memory left for it.
+    #[error("no memory")]
     Memory,
 }
-
-impl fmt::Display for NameEnd {
-    fn fmt<W: fmt::Write>(&self, f: &mut fmt::Formatter<W>) -> fmt::Result {
-        match self {
-            NameEnd::BadText(at) => write!(f, "no text from byte {at}"),
-            NameEnd::Memory => f.write_str("no memory"),
-        }
-    }
-}
-
-impl Error for NameEnd {}
 
 impl From<AllocError> for NameEnd {
     ghost from_gives = { λ _ e. e ≡ Memory };

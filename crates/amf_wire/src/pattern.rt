@@ -1,6 +1,6 @@
-ghost use Rattle.std.specs.Prelude.{◌≡◌, ◌<◌, ◌^◌, ◌/◌, ◌%◌, ℕ, ℤ, ◌↔◌, IfSome, IsSome, IsNone};
+ghost use Rattle.std.specs.Prelude.{◌≡◌, ◌≤ℤ◌, ◌<◌, ◌^◌, ◌/◌, ◌%◌, ℕ, ℤ, pos, negsuc, ◌↔◌, IfSome, IsSome, IsNone};
 ghost use Rattle.amf_wire.specs.Whole.{IsPatternOf, HasPattern, HasParts, IsSize, PatternsAreInverse};
-ghost use Rattle.amf_wire.specs.WholeNumbers.{WholeNumbers};
+ghost use Rattle.amf_wire.specs.WholeNumbers.{WholeNumbers, whole_of};
 
 /// The bits of a 64-bit double (AMF 3 specification, 3.7; AMF 0 specification, 2.2).
 #[derive(Clone, Copy, Debug, PartialEq, Eq)]
@@ -15,14 +15,24 @@ const SIGN: u64 = 1 << 63;
 /// The whole number that the double is (IEEE 754, 3.4, binary64), or `None` where it is none, where its size is 2^53 or more,
 /// and for minus zero.
 pub fn whole_of(p: Pattern) -> Option<i64>
+    ensures value { result ≡ whole_of p.0 }
     ensures some { IfSome result (λ v. IsPatternOf p.0 v) }
     ensures none { IsNone result → (v : ℤ) → IsPatternOf p.0 v → ⊥ }
+    ensures bound { IfSome result (λ v. (negsuc 9007199254740990 ≤ℤ v) × (v ≤ℤ pos 9007199254740991)) }
 {
-    if p.0 == 0 {
+    whole_in(p.0)
+}
+
+/// The whole number of these bits.
+fn whole_in(bits: u64) -> Option<i64>
+    ensures some { IfSome result (λ v. IsPatternOf bits v) }
+    ensures none { IsNone result → (v : ℤ) → IsPatternOf bits v → ⊥ }
+{
+    if bits == 0 {
         return Some(0);
     }
-    let size = size_of(p.0 / UNIT % 2048, p.0 % UNIT)?;
-    Some(signed(p.0, size))
+    let size = size_of(bits / UNIT % 2048, bits % UNIT)?;
+    Some(signed(bits, size))
 }
 
 /// This size with the sign of the double.

@@ -8,7 +8,7 @@ use Rattle.amf0_spelling.specs.Segments0.{is_empty}
 use Rattle.amf0_layout.specs.Layout0State.{state0_of}
 use Rattle.amf0_layout.specs.Layout0.{value0_layout}
 use Rattle.amf0_read.specs.declared.frame.Todo.TheVariants.{Items, Pairs}
-use Rattle.amf0_read.specs.declared.frame.Slot.TheVariants.{Item, Named}
+use Rattle.amf0_read.specs.declared.frame.Role.TheVariants.{Item, Named}
 use Rattle.amf0_read.specs.declared.fill.Step.TheVariants as step
 use Rattle.amf0_read.specs.Frames0.{todo, Lacks, GoesOn}
 use Rattle.amf0_read.proofs.GoesOn0.{item_goes, item_ends, name_ends, pair_goes, pair_ends, pairs_closed, items_closed}

@@ -1,7 +1,7 @@
 use Rattle.std.proofs.Common.{suc, reverse, ap, ◌∙◌, arith}
 use Rattle.amf0_spelling.specs.TableParts0.{shown_tables}
 use Rattle.amf_fields.specs.Room.{left_of}
-use Rattle.amf0_read.specs.Fronts0.{form_of}
+use Rattle.amf0_read.specs.Beginnings0.{form_of}
 use Rattle.amf0_read.specs.Frames0.{owed}
 use Rattle.amf0_read.proofs.Stack0.{ready_twice}
 use Rattle.amf0_read.proofs.ReadAnswers0.{passed, ended, whole_ended, whole_answered, whole_raised}
@@ -12,7 +12,7 @@ returns-in_err-frames-clause-answers g c =
     let S = g.S.Source in
     let a = c.args.builder.now in let t = shown_tables c.args.tables.now in let k = c.args.cursor.now in
     let n = suc (left_of k) in
-    let b = c.read_front.new.builder in let u = shown_tables c.read_front.new.tables in let d = c.read_front.new.cursor in
+    let b = c.read_beginning.new.builder in let u = shown_tables c.read_beginning.new.tables in let d = c.read_beginning.new.cursor in
     let end = c.in_err-frames.field-0.0 in
     passed S.tells S.left S.faults a b t u c.is_built.ensures.built c.requires.tables k d c.from_residual.result end c.from_residual.ensures.1
     (ended S.tells S.left S.faults a b t u c.is_built.ensures.built c.requires.tables k d c.at-start.ensures.within n (omega arith) end (c.in_err-frames.ensures.leads n (omega arith)))
@@ -22,7 +22,7 @@ returns-in_err-value-clause-answers g c =
     let S = g.S.Source in
     let a = c.args.builder.now in let t = shown_tables c.args.tables.now in let k = c.args.cursor.now in
     let n = suc (left_of k) in
-    let b1 = c.read_front.new.builder in let u1 = shown_tables c.read_front.new.tables in let m = c.read_front.new.cursor in
+    let b1 = c.read_beginning.new.builder in let u1 = shown_tables c.read_beginning.new.tables in let m = c.read_beginning.new.cursor in
     let b = c.read_on.new.builder in let u = shown_tables c.read_on.new.tables in let d = c.read_on.new.cursor in
     let e = c.in_ok-frames.ensures in
     let x = c.in_ok-frames.field-0 in
@@ -38,7 +38,7 @@ returns-clause-answers g c =
     let S = g.S.Source in
     let a = c.args.builder.now in let t = shown_tables c.args.tables.now in let k = c.args.cursor.now in
     let n = suc (left_of k) in
-    let b1 = c.read_front.new.builder in let u1 = shown_tables c.read_front.new.tables in let m = c.read_front.new.cursor in
+    let b1 = c.read_beginning.new.builder in let u1 = shown_tables c.read_beginning.new.tables in let m = c.read_beginning.new.cursor in
     let b = c.read_on.new.builder in let u = shown_tables c.read_on.new.tables in let d = c.read_on.new.cursor in
     let e = c.in_ok-frames.ensures in
     let x = c.in_ok-frames.field-0 in
@@ -51,7 +51,7 @@ returns-clause-raises g c =
     let S = g.S.Source in
     let a = c.args.builder.now in let t = shown_tables c.args.tables.now in let k = c.args.cursor.now in
     let n = suc (left_of k) in
-    let b1 = c.read_front.new.builder in let u1 = shown_tables c.read_front.new.tables in let m = c.read_front.new.cursor in
+    let b1 = c.read_beginning.new.builder in let u1 = shown_tables c.read_beginning.new.tables in let m = c.read_beginning.new.cursor in
     let b = c.read_on.new.builder in let u = shown_tables c.read_on.new.tables in let d = c.read_on.new.cursor in
     let e = c.in_ok-frames.ensures in
     let x = c.in_ok-frames.field-0 in

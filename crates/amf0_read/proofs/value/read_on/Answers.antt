@@ -47,21 +47,21 @@ fill-requires-clause-opened g c =
     let so = subst (λ (w : Now). StackSo S.tells S.left S.faults old es a b t u c.args.cursor.now d w fs) c.in-Open.is c.loop-now.invariant in
     alone S.tells S.left S.faults old es a b t u c.args.cursor.now d c.in-Open.node c.in-Open.todo fs so
 
-pub returns-in_err-slot-in-Open-clause-answers : goal.returns-in_err-slot-in-Open-clause-answers
-returns-in_err-slot-in-Open-clause-answers g c = λ fuel fuels lt f.
+pub returns-in_err-role-in-Open-clause-answers : goal.returns-in_err-role-in-Open-clause-answers
+returns-in_err-role-in-Open-clause-answers g c = λ fuel fuels lt f.
     let S = g.S.Source in
     let old = c.args.now in let es = reverse c.args.frames.items in let a = c.args.builder.now in let t = shown_tables c.args.tables.now in let b = c.loop-now.builder in let u = shown_tables c.loop-now.tables in let d = c.loop-now.cursor in let fs = reverse c.loop-now.frames.items in
     let so = subst (λ (w : Now). StackSo S.tells S.left S.faults old es a b t u c.args.cursor.now d w fs) c.in-Open.is c.loop-now.invariant in
-    passed_on S.tells S.left S.faults _ _ c.args.cursor.now c.fill.new.cursor c.from_residual-in_err-slot-in-Open.result c.in_err-slot-in-Open.field-0.0 c.from_residual-in_err-slot-in-Open.ensures.1
-    (c.in_err-slot-in-Open.ensures.fills.on old es fs a t c.args.cursor.now so fuel fuels lt f)
+    passed_on S.tells S.left S.faults _ _ c.args.cursor.now c.fill.new.cursor c.from_residual-in_err-role-in-Open.result c.in_err-role-in-Open.field-0.0 c.from_residual-in_err-role-in-Open.ensures.1
+    (c.in_err-role-in-Open.ensures.fills.on old es fs a t c.args.cursor.now so fuel fuels lt f)
 
 pub loop-now-preserved-in-Within : goal.loop-now-preserved-in-Within
 loop-now-preserved-in-Within g c =
     let S = g.S.Source in
     let old = c.args.now in let es = reverse c.args.frames.items in let a = c.args.builder.now in let t = shown_tables c.args.tables.now in let b = c.loop-now.builder in let u = shown_tables c.loop-now.tables in let d = c.loop-now.cursor in let fs = reverse c.loop-now.frames.items in
     let so = subst (λ (w : Now). StackSo S.tells S.left S.faults old es a b t u c.args.cursor.now d w fs) c.in-Open.is c.loop-now.invariant in
-    let h = rw c.in-Within.is at c.in_ok-slot-in-Open.ensures in
-    subst (StackSo S.tells S.left S.faults old es a c.fill.new.builder t (shown_tables c.fill.new.tables) c.args.cursor.now c.fill.new.cursor (now.Open c.in-Within.child c.in-Within.more)) (sym (pushed c.push.new.self.items c.loop-now.frames.items c.push.result c.in_ok-push-in-Within.field-0 (record { node = c.in-Open.node; slot = c.in-Within.slot }) c.in_ok-push-in-Within.was c.push.ensures.items))
+    let h = rw c.in-Within.is at c.in_ok-role-in-Open.ensures in
+    subst (StackSo S.tells S.left S.faults old es a c.fill.new.builder t (shown_tables c.fill.new.tables) c.args.cursor.now c.fill.new.cursor (now.Open c.in-Within.child c.in-Within.more)) (sym (pushed c.push.new.self.items c.loop-now.frames.items c.push.result c.in_ok-push-in-Within.field-0 (record { node = c.in-Open.node; role = c.in-Within.role }) c.in_ok-push-in-Within.was c.push.ensures.items))
     (h.fills.on old es fs a t c.args.cursor.now so)
 
 pub loop-now-preserved : goal.loop-now-preserved
@@ -69,7 +69,7 @@ loop-now-preserved g c =
     let S = g.S.Source in
     let old = c.args.now in let es = reverse c.args.frames.items in let a = c.args.builder.now in let t = shown_tables c.args.tables.now in let b = c.loop-now.builder in let u = shown_tables c.loop-now.tables in let d = c.loop-now.cursor in let fs = reverse c.loop-now.frames.items in
     let so = subst (λ (w : Now). StackSo S.tells S.left S.faults old es a b t u c.args.cursor.now d w fs) c.in-Open.is c.loop-now.invariant in
-    let h = rw c.in-Closed.is at c.in_ok-slot-in-Open.ensures in
+    let h = rw c.in-Closed.is at c.in_ok-role-in-Open.ensures in
     h.fills.on old es fs a t c.args.cursor.now so
 
 pub loop-now-preserved-in-Given : goal.loop-now-preserved-in-Given

@@ -12,12 +12,12 @@ use Rattle.amf0_read.proofs.value.read_value0.Goals as goal
 pub returns-in_err-frames-clause-answers : goal.returns-in_err-frames-clause-answers
 returns-in_err-frames-clause-answers g c = λ n lt.
     let S = g.S.Source in
-    passed_on S.tells S.left S.faults _ _ c.args.cursor.now c.read_front.new.cursor c.from_residual.result c.in_err-frames.field-0.0 c.from_residual.ensures.1 (c.in_err-frames.ensures.leads n lt)
+    passed_on S.tells S.left S.faults _ _ c.args.cursor.now c.read_beginning.new.cursor c.from_residual.result c.in_err-frames.field-0.0 c.from_residual.ensures.1 (c.in_err-frames.ensures.leads n lt)
 
 pub returns-clause-answers : goal.returns-clause-answers
 returns-clause-answers g c = λ n lt.
     let S = g.S.Source in
-    let b1 = c.read_front.new.builder in let u1 = shown_tables c.read_front.new.tables in let m = c.read_front.new.cursor in
+    let b1 = c.read_beginning.new.builder in let u1 = shown_tables c.read_beginning.new.tables in let m = c.read_beginning.new.cursor in
     let b = c.read_on.new.builder in let u = shown_tables c.read_on.new.tables in let d = c.read_on.new.cursor in
     let e = c.in_ok-frames.ensures in
     let x = c.in_ok-frames.field-0 in
@@ -29,4 +29,4 @@ pub returns-clause-still_ready : goal.returns-clause-still_ready
 returns-clause-still_ready g c =
     let e = c.in_ok-frames.ensures in
     let x = c.in_ok-frames.field-0 in
-    ready_on 0 (owed x.now) 0 c.args.builder.now c.read_front.new.builder c.read_on.new.builder (shown_tables c.read_front.new.tables) (shown_tables c.read_on.new.tables) c.args.cursor.now c.read_front.new.cursor c.read_on.new.cursor c.read_on.result e.still_ready c.read_on.ensures.still_ready
+    ready_on 0 (owed x.now) 0 c.args.builder.now c.read_beginning.new.builder c.read_on.new.builder (shown_tables c.read_beginning.new.tables) (shown_tables c.read_on.new.tables) c.args.cursor.now c.read_beginning.new.cursor c.read_on.new.cursor c.read_on.result e.still_ready c.read_on.ensures.still_ready

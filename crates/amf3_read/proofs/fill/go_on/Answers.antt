@@ -41,10 +41,10 @@ returns-else-is_empty-clause-holds g c =
 pub returns-in-Value-clause-answers : goal.returns-in-Value-clause-answers
 returns-in-Value-clause-answers g c =
     let S = g.S.Source in
-    value_waits S.tells S.left S.faults c.args.node.0 c.args.todo c.args.builder.now c.args.tables.now c.args.cursor.now c.requires.ready.placed c.in-Value.slot c.in-Value.rest c.in-Value.ensures
+    value_waits S.tells S.left S.faults c.args.node.0 c.args.todo c.args.builder.now c.args.tables.now c.args.cursor.now c.requires.ready.placed c.in-Value.role c.in-Value.rest c.in-Value.ensures
 
 pub returns-in-Value-clause-holds : goal.returns-in-Value-clause-holds
-returns-in-Value-clause-holds g c = value_holds c.args.node.0 c.args.todo c.args.builder.now c.in-Value.slot c.in-Value.rest c.in-Value.ensures c.requires.suits
+returns-in-Value-clause-holds g c = value_holds c.args.node.0 c.args.todo c.args.builder.now c.in-Value.role c.in-Value.rest c.in-Value.ensures c.requires.suits
 
 pub returns-in-Nothing-clause-answers : goal.returns-in-Nothing-clause-answers
 returns-in-Nothing-clause-answers g c =

@@ -3,7 +3,7 @@ use Rattle.amf_graph.specs.declared.value.Value.TheVariants as value
 use Rattle.amf3_layout.specs.Layout3State.{state_of}
 use Rattle.amf3_layout.specs.Layout3.{value_layout}
 use Rattle.amf3_read.specs.declared.frame.Frame.{Frame}
-use Rattle.amf3_read.specs.declared.frame.Slot.TheVariants as slot
+use Rattle.amf3_read.specs.declared.frame.Role.TheVariants as role
 use Rattle.amf3_read.specs.Now as now
 use Rattle.amf_fields.specs.Room.{left_of}
 use Rattle.amf3_read.specs.Frames.{Nested, StackSo}
@@ -85,7 +85,7 @@ read_part-requires-clause-ready g c =
     let i = c.loop-frames.innermost.node in let p = c.loop-frames.innermost.todo in
     let b1 = c.go_on.new.builder in let u1 = c.go_on.new.tables in let e = c.go_on.new.cursor in
     let h = rw (c.in-Wait-Item-default.is, c.in-Wait-Item-default.field-0-is) at c.in_ok-todo.ensures in
-    let so = go_wait S.tells S.left S.faults a b t u k d fs i p c.loop-frames.invariant b1 u1 e h.still_ready h.stays (let x = h.goes.same_bound in let y = h.stays in omega arith) slot.Item c.in-Wait-Item-default.todo h.goes h.answers h.holds in
+    let so = go_wait S.tells S.left S.faults a b t u k d fs i p c.loop-frames.invariant b1 u1 e h.still_ready h.stays (let x = h.goes.same_bound in let y = h.stays in omega arith) role.Item c.in-Wait-Item-default.todo h.goes h.answers h.holds in
     so.ready
 
 pub read_part-requires-in-Wait-clause-ready : goal.read_part-requires-in-Wait-clause-ready
@@ -95,7 +95,7 @@ read_part-requires-in-Wait-clause-ready g c =
     let i = c.loop-frames.innermost.node in let p = c.loop-frames.innermost.todo in
     let b1 = c.go_on.new.builder in let u1 = c.go_on.new.tables in let e = c.go_on.new.cursor in
     let h = rw c.in-Wait.is at c.in_ok-todo.ensures in
-    let so = go_wait S.tells S.left S.faults a b t u k d fs i p c.loop-frames.invariant b1 u1 e h.still_ready h.stays (let x = h.goes.same_bound in let y = h.stays in omega arith) c.in-Wait.slot c.in-Wait.todo h.goes h.answers h.holds in
+    let so = go_wait S.tells S.left S.faults a b t u k d fs i p c.loop-frames.invariant b1 u1 e h.still_ready h.stays (let x = h.goes.same_bound in let y = h.stays in omega arith) c.in-Wait.role c.in-Wait.todo h.goes h.answers h.holds in
     so.ready
 
 pub read_part-requires-clause-waits : goal.read_part-requires-clause-waits
@@ -105,8 +105,8 @@ read_part-requires-clause-waits g c =
     let i = c.loop-frames.innermost.node in let p = c.loop-frames.innermost.todo in
     let b1 = c.go_on.new.builder in let u1 = c.go_on.new.tables in let e = c.go_on.new.cursor in
     let h = rw (c.in-Wait-Item-default.is, c.in-Wait-Item-default.field-0-is) at c.in_ok-todo.ensures in
-    let so = go_wait S.tells S.left S.faults a b t u k d fs i p c.loop-frames.invariant b1 u1 e h.still_ready h.stays (let x = h.goes.same_bound in let y = h.stays in omega arith) slot.Item c.in-Wait-Item-default.todo h.goes h.answers h.holds in
-    let f : Frame = record { node = i; slot = slot.Item; todo = c.in-Wait-Item-default.todo } in
+    let so = go_wait S.tells S.left S.faults a b t u k d fs i p c.loop-frames.invariant b1 u1 e h.still_ready h.stays (let x = h.goes.same_bound in let y = h.stays in omega arith) role.Item c.in-Wait-Item-default.todo h.goes h.answers h.holds in
+    let f : Frame = record { node = i; role = role.Item; todo = c.in-Wait-Item-default.todo } in
     waits_any (Nested a (suc (left_of e)) fs) (left_of e) b1 f so.holds
 
 pub read_part-requires-in-Wait-clause-waits : goal.read_part-requires-in-Wait-clause-waits
@@ -116,8 +116,8 @@ read_part-requires-in-Wait-clause-waits g c =
     let i = c.loop-frames.innermost.node in let p = c.loop-frames.innermost.todo in
     let b1 = c.go_on.new.builder in let u1 = c.go_on.new.tables in let e = c.go_on.new.cursor in
     let h = rw c.in-Wait.is at c.in_ok-todo.ensures in
-    let so = go_wait S.tells S.left S.faults a b t u k d fs i p c.loop-frames.invariant b1 u1 e h.still_ready h.stays (let x = h.goes.same_bound in let y = h.stays in omega arith) c.in-Wait.slot c.in-Wait.todo h.goes h.answers h.holds in
-    let f : Frame = record { node = i; slot = c.in-Wait.slot; todo = c.in-Wait.todo } in
+    let so = go_wait S.tells S.left S.faults a b t u k d fs i p c.loop-frames.invariant b1 u1 e h.still_ready h.stays (let x = h.goes.same_bound in let y = h.stays in omega arith) c.in-Wait.role c.in-Wait.todo h.goes h.answers h.holds in
+    let f : Frame = record { node = i; role = c.in-Wait.role; todo = c.in-Wait.todo } in
     waits_any (Nested a (suc (left_of e)) fs) (left_of e) b1 f so.holds
 
 pub returns-in_err-innermost-in-Wait-Item-default-clause-goes : goal.returns-in_err-innermost-in-Wait-Item-default-clause-goes
@@ -127,7 +127,7 @@ returns-in_err-innermost-in-Wait-Item-default-clause-goes g c =
     let i = c.loop-frames.innermost.node in let p = c.loop-frames.innermost.todo in
     let b1 = c.go_on.new.builder in let u1 = c.go_on.new.tables in let e = c.go_on.new.cursor in
     let h = rw (c.in-Wait-Item-default.is, c.in-Wait-Item-default.field-0-is) at c.in_ok-todo.ensures in
-    let so = go_wait S.tells S.left S.faults a b t u k d fs i p c.loop-frames.invariant b1 u1 e h.still_ready h.stays (let x = h.goes.same_bound in let y = h.stays in omega arith) slot.Item c.in-Wait-Item-default.todo h.goes h.answers h.holds in
+    let so = go_wait S.tells S.left S.faults a b t u k d fs i p c.loop-frames.invariant b1 u1 e h.still_ready h.stays (let x = h.goes.same_bound in let y = h.stays in omega arith) role.Item c.in-Wait-Item-default.todo h.goes h.answers h.holds in
     goes_passed S.tells S.left S.faults k e c.read_part.new.cursor c.from_residual-in_err-innermost-in-Wait-Item-default.result c.in_err-innermost-in-Wait-Item-default.field-0.0 c.from_residual-in_err-innermost-in-Wait-Item-default.ensures.1 so.goes c.in_err-innermost-in-Wait-Item-default.ensures.goes
 
 pub returns-in_err-innermost-in-Wait-clause-goes : goal.returns-in_err-innermost-in-Wait-clause-goes
@@ -137,7 +137,7 @@ returns-in_err-innermost-in-Wait-clause-goes g c =
     let i = c.loop-frames.innermost.node in let p = c.loop-frames.innermost.todo in
     let b1 = c.go_on.new.builder in let u1 = c.go_on.new.tables in let e = c.go_on.new.cursor in
     let h = rw c.in-Wait.is at c.in_ok-todo.ensures in
-    let so = go_wait S.tells S.left S.faults a b t u k d fs i p c.loop-frames.invariant b1 u1 e h.still_ready h.stays (let x = h.goes.same_bound in let y = h.stays in omega arith) c.in-Wait.slot c.in-Wait.todo h.goes h.answers h.holds in
+    let so = go_wait S.tells S.left S.faults a b t u k d fs i p c.loop-frames.invariant b1 u1 e h.still_ready h.stays (let x = h.goes.same_bound in let y = h.stays in omega arith) c.in-Wait.role c.in-Wait.todo h.goes h.answers h.holds in
     goes_passed S.tells S.left S.faults k e c.read_part-in-Wait.new.cursor c.from_residual-in_err-innermost-in-Wait.result c.in_err-innermost-in-Wait.field-0.0 c.from_residual-in_err-innermost-in-Wait.ensures.1 so.goes c.in_err-innermost-in-Wait.ensures.goes
 
 pub returns-in_err-innermost-in-Wait-Item-default-clause-answers : goal.returns-in_err-innermost-in-Wait-Item-default-clause-answers
@@ -147,7 +147,7 @@ returns-in_err-innermost-in-Wait-Item-default-clause-answers g c = λ n lt.
     let i = c.loop-frames.innermost.node in let p = c.loop-frames.innermost.todo in
     let b1 = c.go_on.new.builder in let u1 = c.go_on.new.tables in let e = c.go_on.new.cursor in
     let h = rw (c.in-Wait-Item-default.is, c.in-Wait-Item-default.field-0-is) at c.in_ok-todo.ensures in
-    let so = go_wait S.tells S.left S.faults a b t u k d fs i p c.loop-frames.invariant b1 u1 e h.still_ready h.stays (let x = h.goes.same_bound in let y = h.stays in omega arith) slot.Item c.in-Wait-Item-default.todo h.goes h.answers h.holds in
+    let so = go_wait S.tells S.left S.faults a b t u k d fs i p c.loop-frames.invariant b1 u1 e h.still_ready h.stays (let x = h.goes.same_bound in let y = h.stays in omega arith) role.Item c.in-Wait-Item-default.todo h.goes h.answers h.holds in
     let x = c.in_err-innermost-in-Wait-Item-default.ensures.follows in
     passed_on S.tells S.left S.faults _ (value_layout n (state_of a t)) k c.read_part.new.cursor c.from_residual-in_err-innermost-in-Wait-Item-default.result c.in_err-innermost-in-Wait-Item-default.field-0.0 c.from_residual-in_err-innermost-in-Wait-Item-default.ensures.1 (x.ends a t k so n lt)
 
@@ -158,7 +158,7 @@ returns-in_err-innermost-in-Wait-clause-answers g c = λ n lt.
     let i = c.loop-frames.innermost.node in let p = c.loop-frames.innermost.todo in
     let b1 = c.go_on.new.builder in let u1 = c.go_on.new.tables in let e = c.go_on.new.cursor in
     let h = rw c.in-Wait.is at c.in_ok-todo.ensures in
-    let so = go_wait S.tells S.left S.faults a b t u k d fs i p c.loop-frames.invariant b1 u1 e h.still_ready h.stays (let x = h.goes.same_bound in let y = h.stays in omega arith) c.in-Wait.slot c.in-Wait.todo h.goes h.answers h.holds in
+    let so = go_wait S.tells S.left S.faults a b t u k d fs i p c.loop-frames.invariant b1 u1 e h.still_ready h.stays (let x = h.goes.same_bound in let y = h.stays in omega arith) c.in-Wait.role c.in-Wait.todo h.goes h.answers h.holds in
     let x = c.in_err-innermost-in-Wait.ensures.follows in
     passed_on S.tells S.left S.faults _ (value_layout n (state_of a t)) k c.read_part-in-Wait.new.cursor c.from_residual-in_err-innermost-in-Wait.result c.in_err-innermost-in-Wait.field-0.0 c.from_residual-in_err-innermost-in-Wait.ensures.1 (x.ends a t k so n lt)
 
@@ -169,7 +169,7 @@ loop-frames-preserved-in-Wait-Item-default g c =
     let i = c.loop-frames.innermost.node in let p = c.loop-frames.innermost.todo in
     let b1 = c.go_on.new.builder in let u1 = c.go_on.new.tables in let e = c.go_on.new.cursor in
     let h = rw (c.in-Wait-Item-default.is, c.in-Wait-Item-default.field-0-is) at c.in_ok-todo.ensures in
-    let so = go_wait S.tells S.left S.faults a b t u k d fs i p c.loop-frames.invariant b1 u1 e h.still_ready h.stays (let x = h.goes.same_bound in let y = h.stays in omega arith) slot.Item c.in-Wait-Item-default.todo h.goes h.answers h.holds in
+    let so = go_wait S.tells S.left S.faults a b t u k d fs i p c.loop-frames.invariant b1 u1 e h.still_ready h.stays (let x = h.goes.same_bound in let y = h.stays in omega arith) role.Item c.in-Wait-Item-default.todo h.goes h.answers h.holds in
     let x = c.in_ok-innermost-in-Wait-Item-default.ensures.follows in
     x.goes_on a t k so
 
@@ -180,7 +180,7 @@ loop-frames-preserved-in-Wait g c =
     let i = c.loop-frames.innermost.node in let p = c.loop-frames.innermost.todo in
     let b1 = c.go_on.new.builder in let u1 = c.go_on.new.tables in let e = c.go_on.new.cursor in
     let h = rw c.in-Wait.is at c.in_ok-todo.ensures in
-    let so = go_wait S.tells S.left S.faults a b t u k d fs i p c.loop-frames.invariant b1 u1 e h.still_ready h.stays (let x = h.goes.same_bound in let y = h.stays in omega arith) c.in-Wait.slot c.in-Wait.todo h.goes h.answers h.holds in
+    let so = go_wait S.tells S.left S.faults a b t u k d fs i p c.loop-frames.invariant b1 u1 e h.still_ready h.stays (let x = h.goes.same_bound in let y = h.stays in omega arith) c.in-Wait.role c.in-Wait.todo h.goes h.answers h.holds in
     let x = c.in_ok-innermost-in-Wait.ensures.follows in
     x.goes_on a t k so
 

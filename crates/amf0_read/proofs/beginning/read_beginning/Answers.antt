@@ -7,9 +7,9 @@ use Rattle.amf0_read.specs.declared.frame.Frame.{Frame}
 use Rattle.amf0_read.specs.declared.frame.Now.{Now}
 use Rattle.amf0_read.specs.Ready0.{StillReady0}
 use Rattle.amf0_read.specs.Frames0.{Holds, owed}
-use Rattle.amf0_read.specs.Fronts0.{BeginsBy}
-use Rattle.amf0_read.proofs.FrontStarts0.{front_ended, first_ended, front_items, front_not, front_other, marker_still_ready, begun_holds, owes_nothing}
-use Rattle.amf0_read.proofs.front.read_front.Goals as goal
+use Rattle.amf0_read.specs.Beginnings0.{BeginsBy}
+use Rattle.amf0_read.proofs.BeginningStarts0.{beginning_ended, first_ended, beginning_items, front_not, front_other, marker_still_ready, begun_holds, owes_nothing}
+use Rattle.amf0_read.proofs.beginning.read_beginning.Goals as goal
 
 pub returns-in_err-marker-clause-leads : goal.returns-in_err-marker-clause-leads
 returns-in_err-marker-clause-leads g c = λ n lt.
@@ -17,7 +17,7 @@ returns-in_err-marker-clause-leads g c = λ n lt.
     let a = c.args.builder.now in let t = shown_tables c.args.tables.now in let k = c.args.cursor.now in
     let s = state0_of a t in
     let e = c.in_err-marker.field-0.0 in
-    front_ended S.tells S.left S.faults (value0_layout n false s) [] s k c.read_marker.new.cursor c.from_residual.result e c.from_residual.ensures.1 (first_ended S.tells S.left S.faults n s k c.read_marker.new.cursor e lt c.in_err-marker.ensures.answers)
+    beginning_ended S.tells S.left S.faults (value0_layout n false s) [] s k c.read_marker.new.cursor c.from_residual.result e c.from_residual.ensures.1 (first_ended S.tells S.left S.faults n s k c.read_marker.new.cursor e lt c.in_err-marker.ensures.answers)
 
 pub returns-in-Strict-clause-leads : goal.returns-in-Strict-clause-leads
 returns-in-Strict-clause-leads g c = λ n lt.
@@ -26,7 +26,7 @@ returns-in-Strict-clause-leads g c = λ n lt.
     let m = c.in_ok-marker.marker in
     let h = c.in_ok-marker.ensures in
     let d = c.read_marker.new.cursor in
-    front_items S.tells S.left S.faults (state0_of a t) k d m h.goes h.answers h.moves c.in-Strict.is (state0_of c.read_items.new.builder (shown_tables c.read_items.new.tables)) c.read_items.new.cursor c.read_items.result c.read_items.ensures.leads n lt
+    beginning_items S.tells S.left S.faults (state0_of a t) k d m h.goes h.answers h.moves c.in-Strict.is (state0_of c.read_items.new.builder (shown_tables c.read_items.new.tables)) c.read_items.new.cursor c.read_items.result c.read_items.ensures.leads n lt
 
 pub returns-in_err-start-in_default-clause-leads : goal.returns-in_err-start-in_default-clause-leads
 returns-in_err-start-in_default-clause-leads g c = λ n lt.
@@ -37,7 +37,7 @@ returns-in_err-start-in_default-clause-leads g c = λ n lt.
     let d = c.read_marker.new.cursor in
     let z = state0_of c.start_apart.new.builder (shown_tables c.start_apart.new.tables) in
     let e = c.in_err-start-in_default.field-0.0 in
-    front_ended S.tells S.left S.faults (value0_layout n false (state0_of a t)) [] z k c.start_apart.new.cursor c.from_residual-in_err-start-in_default.result e c.from_residual-in_err-start-in_default.ensures.1
+    beginning_ended S.tells S.left S.faults (value0_layout n false (state0_of a t)) [] z k c.start_apart.new.cursor c.from_residual-in_err-start-in_default.result e c.from_residual-in_err-start-in_default.ensures.1
     (front_not S.tells S.left S.faults (state0_of a t) k d m h.goes h.answers h.moves z c.start_apart.new.cursor e c.in_err-start-in_default.ensures.starts n lt)
 
 pub returns-in_ok-start-in_default-clause-leads : goal.returns-in_ok-start-in_default-clause-leads

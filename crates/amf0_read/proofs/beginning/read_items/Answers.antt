@@ -6,17 +6,17 @@ use Rattle.amf_fields.specs.Room.{left_of}
 use Rattle.amf0_read.specs.declared.frame.Frame.{Frame}
 use Rattle.amf0_read.specs.declared.frame.Now.TheVariants as now
 use Rattle.amf0_read.specs.declared.frame.Todo.TheVariants.{Items}
-use Rattle.amf0_read.specs.declared.frame.Slot.TheVariants.{Item}
+use Rattle.amf0_read.specs.declared.frame.Role.TheVariants.{Item}
 use Rattle.amf0_read.proofs.Stack0.{pushed}
 use Rattle.amf0_read.specs.Frames0.{Holds, OpenedFrom}
-use Rattle.amf0_read.specs.Fronts0.{BeginsBy}
-use Rattle.amf0_read.proofs.FrontStarts0.{front_ended, items_open, item_not, item_begins, item_holds, marker_owed, begun_holds}
+use Rattle.amf0_read.specs.Beginnings0.{BeginsBy}
+use Rattle.amf0_read.proofs.BeginningStarts0.{beginning_ended, items_open, item_not, item_begins, item_holds, marker_owed, begun_holds}
 use Rattle.amf0_read.proofs.NodeStarts0.{array_still_ready, array_items}
 use Rattle.amf0_read.specs.declared.node.Start.TheVariants as start
 use denote.Enum.Bare.{same_true, sameb}
 use Rattle.amf0_spelling.specs.declared.marker.Marker0.TheVariants as marker
 use Rattle.amf0_spelling.specs.contracts.marker.Marker0.{the_type}
-use Rattle.amf0_read.proofs.front.read_items.Goals as goal
+use Rattle.amf0_read.proofs.beginning.read_items.Goals as goal
 
 pub returns-then-count-ne1-clause-leads : goal.returns-then-count-ne1-clause-leads
 returns-then-count-ne1-clause-leads g c = λ n lt.
@@ -69,7 +69,7 @@ returns-in_err-item-clause-leads g c = λ n lt.
     let e = c.read_marker.new.cursor in
     let one : count ≡ 1 = omega arith in
     let end = c.in_err-item.field-0.0 in
-    front_ended S.tells S.left S.faults (behind0 (value0_layout n) n (state0_of a t) (Some marker.Strict)) (0x0A ∷ []) (state0_of b u) k e c.from_residual-in_err-item.result end c.from_residual-in_err-item.ensures.1
+    beginning_ended S.tells S.left S.faults (behind0 (value0_layout n) n (state0_of a t) (Some marker.Strict)) (0x0A ∷ []) (state0_of b u) k e c.from_residual-in_err-item.result end c.from_residual-in_err-item.ensures.1
     (item_not S.tells S.left S.faults a b t u k d node c.requires o count h.goes h.answers one e end c.in_err-item.ensures.answers n lt)
 
 pub returns-clause-leads : goal.returns-clause-leads
@@ -86,7 +86,7 @@ returns-clause-leads g c = λ n lt.
     let one : count ≡ 1 = omega arith in
     let m = c.in_ok-item.item in
     let w = c.in_ok-item.ensures in
-    subst (λ (fs : List Frame). BeginsBy S.tells S.left (behind0 (value0_layout n) n (state0_of a t) (Some marker.Strict)) (0x0A ∷ []) c.eq.result (now.Begun m) fs (state0_of b u) k e) (sym (pushed c.push.new.self.items c.new-frames.result.items c.push.result c.in_ok-push.field-0 (record { node = node; slot = Item 0 }) c.in_ok-push.was c.push.ensures.items ∙ ap (λ (l : List Frame). (let f : Frame = record { node = node; slot = Item 0 } in f) ∷ reverse l) c.new-frames.ensures.items))
+    subst (λ (fs : List Frame). BeginsBy S.tells S.left (behind0 (value0_layout n) n (state0_of a t) (Some marker.Strict)) (0x0A ∷ []) c.eq.result (now.Begun m) fs (state0_of b u) k e) (sym (pushed c.push.new.self.items c.new-frames.result.items c.push.result c.in_ok-push.field-0 (record { node = node; role = Item 0 }) c.in_ok-push.was c.push.ensures.items ∙ ap (λ (l : List Frame). (let f : Frame = record { node = node; role = Item 0 } in f) ∷ reverse l) c.new-frames.ensures.items))
     (item_begins S.tells S.left S.faults a b t u k d node c.requires o count h.goes h.answers one e m w.answers (let p = w.goes.same_bound in let q = w.moves in let r = w.placed.within in omega arith) c.eq.result (λ h. same_true the_type (search rules) m marker.Switch (sym c.eq.ensures ∙ h)) (λ h s. let x : c.eq.result ≡ true = c.eq.ensures ∙ ap (λ v. sameb the_type v marker.Switch) s in cc) n lt)
 
 pub returns-clause-still_ready : goal.returns-clause-still_ready
@@ -119,5 +119,5 @@ returns-clause-holds g c =
     let one : count ≡ 1 = omega arith in
     let m = c.in_ok-item.item in
     let w = c.in_ok-item.ensures in
-    subst (λ (fs : List Frame). Holds (left_of e) (now.Begun m) fs b) (sym (pushed c.push.new.self.items c.new-frames.result.items c.push.result c.in_ok-push.field-0 (record { node = node; slot = Item 0 }) c.in_ok-push.was c.push.ensures.items ∙ ap (λ (l : List Frame). (let f : Frame = record { node = node; slot = Item 0 } in f) ∷ reverse l) c.new-frames.ensures.items))
+    subst (λ (fs : List Frame). Holds (left_of e) (now.Begun m) fs b) (sym (pushed c.push.new.self.items c.new-frames.result.items c.push.result c.in_ok-push.field-0 (record { node = node; role = Item 0 }) c.in_ok-push.was c.push.ensures.items ∙ ap (λ (l : List Frame). (let f : Frame = record { node = node; role = Item 0 } in f) ∷ reverse l) c.new-frames.ensures.items))
     (item_holds a b (left_of e) (left_of d) node m (let p = w.goes.same_bound in let q = w.moves in let r = w.placed.within in omega arith) c.requires.amf3.built (subst (λ j. OpenedFrom a b (left_of d) node.0 (Items j)) one (array_items a b t u k d node.0 c.requires o (let x = h.goes.same_bound in let y = h.answers.taken in omega arith) count)))

@@ -9,7 +9,7 @@ use Rattle.amf_io.specs.declared.cursor.Cursor.{Cursor}
 use Rattle.amf_io.specs.Cursor.{place, unread}
 use Rattle.amf_io.specs.Field.{Field, flat, AreBytes}
 use Rattle.amf_io.specs.Layout.{Layout, give, bind, Runs}
-use Rattle.amf_io.specs.ReadEnds.{Goes}
+use Rattle.amf_io.specs.ReadEnds.{GoesBy}
 use Rattle.amf_io.specs.CursorReads.{Answers, Leads}
 use Rattle.amf_io.proofs.Whole.{whole_fixed}
 use Rattle.amf_io.proofs.Paths.{path_join, path_bind, flat-append}
@@ -21,7 +21,7 @@ use Rattle.amf0_spelling.specs.declared.marker.Marker0.{Marker0}
 use Rattle.amf0_spelling.specs.declared.marker.Marker0.TheVariants as marker
 use Rattle.amf0_read.specs.Markers0.{marker_layout}
 use Rattle.amf0_read.specs.Leaves0.{count_layout}
-use Rattle.amf0_read.specs.Fronts0.{LeadsWith, TellsCall}
+use Rattle.amf0_read.specs.Beginnings0.{LeadsWith, TellsCall}
 use Rattle.amf0_spelling.specs.Markers0.{marker0_at}
 
 module _ {S : Type 0} (tells : S → Type 0) (left : S → List ℕ) (faults : S → ℕ) where
@@ -40,7 +40,7 @@ module _ {S : Type 0} (tells : S → Type 0) (left : S → List ℕ) (faults : S
       let l = w.leads in
       record { leads = record { fields = l.fields; path = path_bind t u f l.fields l.path; bytes = l.bytes; taken = l.taken; within = l.within; parts = l.parts }; are = w.are }
 
-  pub with_on : {X Y : Type 0} (t u v : Layout Y) (a b : List ℕ) (c d e : Cursor S Window) (x : X) → Goes tells left faults c d (Ok x) → LeadsWith tells left t u a c d → LeadsWith tells left u v b d e → LeadsWith tells left t v (a ++ b) c e
+  pub with_on : {X Y : Type 0} (t u v : Layout Y) (a b : List ℕ) (c d e : Cursor S Window) (x : X) → GoesBy tells left faults c d (Ok x) → LeadsWith tells left t u a c d → LeadsWith tells left u v b d e → LeadsWith tells left t v (a ++ b) c e
   with_on t u v a b c d e x g p q =
       let l = p.leads in
       let m = q.leads in
@@ -59,7 +59,7 @@ module _ {S : Type 0} (tells : S → Type 0) (left : S → List ℕ) (faults : S
       }
 
   -- what was read first, and then the rest
-  pub with_done : {X Z Y : Type 0} (view : Z → Y) (t u : Layout Y) (b : List ℕ) (c d e : Cursor S Window) (x : X) (z : Z) → Goes tells left faults c d (Ok x) → LeadsWith tells left t u b c d → Answers tells left view u d e (Ok z)
+  pub with_done : {X Z Y : Type 0} (view : Z → Y) (t u : Layout Y) (b : List ℕ) (c d e : Cursor S Window) (x : X) (z : Z) → GoesBy tells left faults c d (Ok x) → LeadsWith tells left t u b c d → Answers tells left view u d e (Ok z)
       → (a : Answers tells left view t c e (Ok z)) × (more : List ℕ) × (flat a.fields ≡ b ++ more)
   with_done view t u b c d e x z g w m =
       let y = with_on t u (give (view z)) b (flat m.fields) c d e x g w (record { leads = record { fields = m.fields; path = m.runs; bytes = m.bytes; taken = m.taken; within = m.within; parts = m.parts }; are = refl }) in

@@ -7,23 +7,23 @@ use Rattle.amf_io.specs.declared.ends.ReadEnd.{ReadEnd}
 use Rattle.amf_io.specs.Cursor.{place, bound}
 use Rattle.amf_io.specs.Field.{flat}
 use Rattle.amf_io.specs.Layout.{Layout, bind, Runs}
-use Rattle.amf_io.specs.ReadEnds.{IsPlaced, Goes}
+use Rattle.amf_io.specs.ReadEnds.{IsPlaced, GoesBy}
 use Rattle.amf_io.specs.CursorReads.{Answers, Ends}
 use Rattle.amf_io.proofs.CursorReads.{leads_end, end_reads}
 use Rattle.amf_graph.specs.declared.value.NodeId.{NodeId}
 use Rattle.amf_graph.specs.Arena.{Arena, IsBuilt, array}
 use Rattle.amf0_spelling.specs.KeptTables0.{KeptTables0}
 use Rattle.amf0_layout.specs.Layout0State.{State0, state0_of}
-use Rattle.amf0_layout.specs.Layout0.{Read0, Reader0, with_items, behind0, value0_layout}
+use Rattle.amf0_layout.specs.Layout0.{ValueRead0, Reader0, with_items, behind0, value0_layout}
 use Rattle.amf_fields.specs.Room.{left_of}
 use Rattle.amf3_read.specs.Frames.{Fuel}
 use Rattle.amf_fields.proofs.LayoutBinds.{bind_give, bind_same}
 use Rattle.amf3_read.proofs.Stack.{opened_less}
-use Rattle.amf0_read.specs.declared.front.Front.{Front}
+use Rattle.amf0_read.specs.declared.beginning.Beginning.{Beginning}
 use Rattle.amf0_read.specs.declared.frame.Frame.{Frame}
 use Rattle.amf0_read.specs.declared.frame.Now.{Now}
 use Rattle.amf0_read.specs.declared.frame.Now.TheVariants as now
-use Rattle.amf0_read.specs.declared.frame.Slot.TheVariants.{Item}
+use Rattle.amf0_read.specs.declared.frame.Role.TheVariants.{Item}
 use Rattle.amf0_read.specs.declared.frame.Todo.TheVariants.{Items}
 use Rattle.amf0_spelling.specs.declared.marker.Marker0.{Marker0}
 use Rattle.amf0_spelling.specs.declared.marker.Marker0.TheVariants as marker
@@ -34,9 +34,9 @@ use Rattle.amf0_read.specs.Leaves0.{count_layout}
 use Rattle.amf0_read.specs.Opens0.{Opens}
 use Rattle.amf0_read.specs.Ready0.{Ready0, StillReady0}
 use Rattle.amf0_read.specs.Frames0.{todo, resume, rest, current, Holds, now_of, owed, StartsBy, StartHolds, OpenedFrom}
-use Rattle.amf0_read.specs.Fronts0.{LeadsWith, TellsCall, BeginsBy, LeadsBy, LeadsFront, LeadsItems}
+use Rattle.amf0_read.specs.Beginnings0.{LeadsWith, TellsCall, BeginsBy, LeadsBy, LeadsOn, LeadsItems}
 use Rattle.amf0_read.proofs.GoesOn0.{todo_item, marker_ends}
-use Rattle.amf0_read.proofs.Fronts0.{with_answer, with_leads, with_bound, with_on, other_call, count_call, item_call, strict_byte}
+use Rattle.amf0_read.proofs.Beginnings0.{with_answer, with_leads, with_bound, with_on, other_call, count_call, item_call, strict_byte}
 use Rattle.amf0_read.proofs.NodeStarts0.{items_are}
 
 -- The builder and its tables behind a marker.
@@ -74,7 +74,7 @@ owes_nothing (start.Value v) = refl
 owes_nothing (start.Open i p) = refl
 
 -- an array that waits for its one item
-pub item_holds : (a b : Arena) (left more : ℕ) (i : NodeId) (m : Marker0) → suc left ≤ more → IsBuilt a → OpenedFrom a b more i.0 (Items 1) → Holds left (now.Begun m) (record { node = i; slot = Item 0 } ∷ []) b
+pub item_holds : (a b : Arena) (left more : ℕ) (i : NodeId) (m : Marker0) → suc left ≤ more → IsBuilt a → OpenedFrom a b more i.0 (Items 1) → Holds left (now.Begun m) (record { node = i; role = Item 0 } ∷ []) b
 item_holds a b left more i m le k h = record {
   over = record { opened = opened_less b i.0 (suc left) more le h.opened; below = tt; built = h.built k };
   names = tt;
@@ -82,12 +82,12 @@ item_holds a b left more i m le k h = record {
 }
 
 module _ {S : Type 0} (tells : S → Type 0) (left : S → List ℕ) (faults : S → ℕ) where
-  pub front_ended : (t : Layout Read0) (b : List ℕ) (z : State0) (c d : Cursor S Window) (r : Result Front ReadEnd) (e : ReadEnd) → IsErrAnd r (λ x. x ≡ e) → Ends tells left t c d e → LeadsBy tells left t b z c d r
-  front_ended t b z c d (Ok x) e is h = absurd is
-  front_ended t b z c d (Err x) e is h = subst (Ends tells left t c d) (sym is) h
+  pub beginning_ended : (t : Layout ValueRead0) (b : List ℕ) (z : State0) (c d : Cursor S Window) (r : Result Beginning ReadEnd) (e : ReadEnd) → IsErrAnd r (λ x. x ≡ e) → Ends tells left t c d e → LeadsBy tells left t b z c d r
+  beginning_ended t b z c d (Ok x) e is h = absurd is
+  beginning_ended t b z c d (Err x) e is h = subst (Ends tells left t c d) (sym is) h
 
   -- with nothing behind it
-  alone : (t u : Layout Read0) (b : List ℕ) (c d : Cursor S Window) → LeadsWith tells left t u b c d → LeadsWith tells left t (bind u (rest [] [])) b c d
+  alone : (t u : Layout ValueRead0) (b : List ℕ) (c d : Cursor S Window) → LeadsWith tells left t u b c d → LeadsWith tells left t (bind u (rest [] [])) b c d
   alone t u b c d w = subst (λ l. LeadsWith tells left t l b c d) (sym (bind_give u)) w
 
   pub first_ended : (n : ℕ) (s : State0) (c d : Cursor S Window) (e : ReadEnd) → left_of c < n → Ends tells left (marker_layout false (length s.nodes)) c d e → Ends tells left (value0_layout n false s) c d e
@@ -95,7 +95,7 @@ module _ {S : Type 0} (tells : S → Type 0) (left : S → List ℕ) (faults : S
   first_ended (suc k) s c d e lt h = end_reads tells left faults (marker_layout false (length s.nodes)) (behind0 (value0_layout k) k s) c d e h
 
   -- Behind the marker.
-  module _ (s : State0) (c d : Cursor S Window) (m : Marker0) (g : Goes tells left faults c d (Ok m)) (a : Answers tells left (λ m. Some m) (marker_layout false (length s.nodes)) c d (Ok m)) (moves : place c < place d) where
+  module _ (s : State0) (c d : Cursor S Window) (m : Marker0) (g : GoesBy tells left faults c d (Ok m)) (a : Answers tells left (λ m. Some m) (marker_layout false (length s.nodes)) c d (Ok m)) (moves : place c < place d) where
     first_with : (k : ℕ) → LeadsWith tells left (value0_layout (suc k) false s) (behind0 (value0_layout k) k s (Some m)) (flat a.fields) c d
     first_with k = with_answer tells left faults (λ m. Some m) (marker_layout false (length s.nodes)) (behind0 (value0_layout k) k s) c d m a
 
@@ -103,12 +103,12 @@ module _ {S : Type 0} (tells : S → Type 0) (left : S → List ℕ) (faults : S
     less = let p = a.within in let q = g.same_bound in omega arith
 
     -- of an array with items
-    pub front_items : m ≡ marker.Strict → (z : State0) (e : Cursor S Window) (r : Result Front ReadEnd) → ((k : ℕ) → left_of d < k → LeadsItems tells left k s z d e r) → (n : ℕ) → left_of c < n → LeadsFront tells left n s z c e r
-    front_items is z e r h zero lt = absurd (omega arith)
-    front_items is z e (Err end) h (suc k) lt =
+    pub beginning_items : m ≡ marker.Strict → (z : State0) (e : Cursor S Window) (r : Result Beginning ReadEnd) → ((k : ℕ) → left_of d < k → LeadsItems tells left k s z d e r) → (n : ℕ) → left_of c < n → LeadsOn tells left n s z c e r
+    beginning_items is z e r h zero lt = absurd (omega arith)
+    beginning_items is z e (Err end) h (suc k) lt =
         let l = less in
         leads_end tells left faults (value0_layout (suc k) false s) (behind0 (value0_layout k) k s (Some m)) c d e m end g (first_with k).leads (subst (λ w. Ends tells left (behind0 (value0_layout k) k s (Some w)) d e end) (sym is) (h k (omega arith)))
-    front_items is z e (Ok x) h (suc k) lt =
+    beginning_items is z e (Ok x) h (suc k) lt =
         let l = less in
         let y = h k (omega arith) in
         let goal = bind (current y.fuel x.now z) (rest y.fuels (reverse x.frames.items)) in
@@ -158,8 +158,8 @@ module _ {S : Type 0} (tells : S → Type 0) (left : S → List ℕ) (faults : S
           begins k (now.Open i p) (flat y.fields) lt (alone t u (flat y.fields) d e (with_leads tells left faults t u d e y))
 
   -- Behind the count of an array with items.
-  module _ (a b : Arena) (t u : KeptTables0) (c d : Cursor S Window) (i : NodeId) (r : Ready0 1 a t c) (o : Opens a b t u array i.0) (count : ℕ) (g : Goes tells left faults c d (Ok count)) (h : Answers tells left (λ (k : ℕ). k) count_layout c d (Ok count)) where
-    abbrev items : ℕ → Layout Read0
+  module _ (a b : Arena) (t u : KeptTables0) (c d : Cursor S Window) (i : NodeId) (r : Ready0 1 a t c) (o : Opens a b t u array i.0) (count : ℕ) (g : GoesBy tells left faults c d (Ok count)) (h : Answers tells left (λ (k : ℕ). k) count_layout c d (Ok count)) where
+    abbrev items : ℕ → Layout ValueRead0
     items n = behind0 (value0_layout n) n (state0_of a t) (Some marker.Strict)
 
     items_with : (n : ℕ) → LeadsWith tells left (items n) (todo (value0_layout n) n i.0 (Items count) (state0_of b u)) (flat h.fields) c d
@@ -196,7 +196,7 @@ module _ {S : Type 0} (tells : S → Type 0) (left : S → List ℕ) (faults : S
 
       module _ (m : Marker0) (k : Answers tells left (λ m. Some m) (marker_layout false (length u.nodes)) d e (Ok m)) (less : left_of e < left_of d) (is_call : Bool) (so : is_call ≡ true → m ≡ marker.Switch) (not_so : is_call ≡ false → m ≡ marker.Switch → ⊥) where
         abbrev frame : Frame
-        frame = record { node = i; slot = Item 0 }
+        frame = record { node = i; role = Item 0 }
 
         pub item_begins : (n : ℕ) → left_of c < n → BeginsBy tells left (items n) (0x0A ∷ []) is_call (now.Begun m) (frame ∷ []) (state0_of b u) c e
         item_begins zero lt = absurd (omega arith)
