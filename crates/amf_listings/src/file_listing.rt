@@ -2,7 +2,7 @@ ghost use Rattle.std.specs.Prelude.{◌≡◌, ◌++◌, OnOk, OnErr};
 ghost use Rattle.amf_sol.specs.StoredFile.{shared};
 ghost use Rattle.amf_listings.specs.FileListing.{AppendsFileListing, file_line, shown_version};
 
-use amf_show::{show, show_text};
+use amf_show::{push_word, show, show_text};
 use amf_sol::{SharedObject, SolVersion};
 use amf_wire::Memory;
 use std::alloc::Global;
@@ -41,12 +41,4 @@ fn version_word(version: SolVersion) -> &'static [u8]
         SolVersion::Amf0 => b"0",
         SolVersion::Amf3 => b"3",
     }
-}
-
-/// Appends a word.
-fn push_word(word: &[u8], out: &mut Vec<u8>) -> Result<(), Memory>
-    ensures { OnOk result (out.new.items ≡ out.old.items ++ word.now) }
-{
-    out.extend_from_slice(word)?;
-    Ok(())
 }

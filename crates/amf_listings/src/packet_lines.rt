@@ -3,18 +3,10 @@ ghost use Rattle.amf_packet.specs.Content.{body_of, header_of, message_of};
 ghost use Rattle.amf_listings.specs.PacketListing.{form_name, header_line, message_line, packet_line, shown_must};
 
 use amf_packet::{Body, Header, Message};
-use amf_show::show_text;
+use amf_show::{push_word, show_text};
 use amf_wire::Memory;
 use itoa::Buffer;
 use std::alloc::Global;
-
-/// Appends a word.
-fn push_word(word: &[u8], out: &mut Vec<u8>) -> Result<(), Memory>
-    ensures { OnOk result (out.new.items ≡ out.old.items ++ word.now) }
-{
-    out.extend_from_slice(word)?;
-    Ok(())
-}
 
 /// Appends the first line of a packet: its version.
 #[tactic(auto, unfolding(crate::specs::PacketListing::packet_line))]

@@ -35,7 +35,8 @@ use Rattle.amf_media.specs.FlvValues.{IsValueRefused}
 use Rattle.amf_media.specs.FlvOutput.{Work, Makes}
 use Rattle.amf_media.specs.FlvRuns.{most, NoHead, NoTag, Gives, nothing, whole_tags, StopsAt, in_file, in_value, GivesSome, none_yet, so_far, FileEnds, WrittenBy, FileRuns, IsFileEnd}
 use Rattle.amf_media.specs.FlvSteps.{TagsGive, GoesOn, EndsTags, StopsAtTag, head_put, work_of, IsStart, FileCopies, Closes, ClosesBy, CopiesTags, ended, PutBy}
-use Rattle.amf_media.specs.Written.{WritesFront, IsPut, Puts, IsPutEnd, CountsWrites, CountsPuts}
+use Rattle.amf_io.specs.Written.{WritesFront}
+use Rattle.amf_media.specs.Written.{IsPut, Puts, IsPutEnd, CountsWrites, CountsPuts}
 use Rattle.amf_io.specs.Outside.{Rose}
 use Rattle.amf_media.proofs.FlvTags.{put_by, give_none as gives_none}
 use Rattle.amf_media.proofs.Puts.{none_front, put_none, put_join, put_closed, front_closed}

@@ -3,7 +3,7 @@ use Rattle.std.proofs.Common.{◌≡◌, ℕ, ◌+◌, ◌≤◌, List, Ok, Err,
 use Rattle.amf_io.specs.declared.window.Window.{Window}
 use Rattle.amf_io.specs.declared.cursor.Cursor.{Cursor}
 use Rattle.amf_io.specs.Cursor.{source_of, place, bound, ahead, unread}
-use Rattle.amf_io.specs.ReadEnds.{Goes}
+use Rattle.amf_io.specs.ReadEnds.{GoesBy}
 use Rattle.amf_io.specs.declared.ends.ReadEnd.{ReadEnd}
 use Rattle.amf_io.specs.declared.ends.ReadEnd.TheVariants as reader
 use Rattle.amf_io.specs.Stretch.{stretch, between}
@@ -43,10 +43,10 @@ module _ {S : Type 0} (tells : S → Type 0) (left : S → List ℕ) (faults : S
       on_then_ends j (tells (source_of c).now) (tells (source_of d).now) m.told (unread left c) (unread left d) (unread left e) (place c) (place d) (place e) (bound c) told_now told_mid back held half now waiting waited waits end g
       (subst (λ n. EndsTags j (stretch (tells (source_of d).now) (unread left d) (unread left e) (place d) (place e) n) told_now half now waited waits end) m.same_bound h)
 
-  pub moves_of : {X : Type 0} (c d : Cursor S Window) (x : X) → Goes tells left faults c d (Ok x) → Moves tells left faults c d Done
+  pub moves_of : {X : Type 0} (c d : Cursor S Window) (x : X) → GoesBy tells left faults c d (Ok x) → Moves tells left faults c d Done
   moves_of c d x g = record { told = g.told; same_source = g.same_source; same_bound = g.same_bound; one_past = g.one_past; cause = g.cause; none_ahead = λ e. absurd cc; total = g.total }
 
-  pub moves_ends : {X : Type 0} (c d : Cursor S Window) (e : ReadEnd) → Goes {X = X} tells left faults c d (Err e) → Moves tells left faults c d (end_of e)
+  pub moves_ends : {X : Type 0} (c d : Cursor S Window) (e : ReadEnd) → GoesBy {X = X} tells left faults c d (Err e) → Moves tells left faults c d (end_of e)
   moves_ends c d (reader.Refused f) g = record { told = g.told; same_source = g.same_source; same_bound = g.same_bound; one_past = g.one_past; cause = g.cause; none_ahead = λ e. absurd cc; total = g.total }
   moves_ends c d reader.ReadFault g = record { told = g.told; same_source = g.same_source; same_bound = g.same_bound; one_past = g.one_past; cause = g.cause; none_ahead = λ e. g.none_ahead; total = g.total }
   moves_ends c d reader.Memory g = record { told = g.told; same_source = g.same_source; same_bound = g.same_bound; one_past = g.one_past; cause = g.cause; none_ahead = λ e. absurd cc; total = g.total }
@@ -71,7 +71,7 @@ module _ {S : Type 0} (tells : S → Type 0) (left : S → List ℕ) (faults : S
   IsStop LongData = Unit {0}
   IsStop _ = ⊥
 
-  pub moves_stopped : {X : Type 0} (c d : Cursor S Window) (e : MediaEnd) (x : X) → Goes tells left faults c d (Ok x) → IsStop e → Moves tells left faults c d e
+  pub moves_stopped : {X : Type 0} (c d : Cursor S Window) (e : MediaEnd) (x : X) → GoesBy tells left faults c d (Ok x) → IsStop e → Moves tells left faults c d e
   moves_stopped c d Memory x g s = ends_as c d Memory (moves_of c d x g) g.cause (λ h. cc)
   moves_stopped c d (NoForm l) x g s = ends_as c d (NoForm l) (moves_of c d x g) g.cause (λ h. cc)
   moves_stopped c d LongData x g s = ends_as c d LongData (moves_of c d x g) g.cause (λ h. cc)

@@ -21,7 +21,8 @@ use Rattle.amf_media.specs.FlvValues.{IsShown, IsValueRefused}
 use Rattle.amf_media.specs.FlvOutput.{AreShown}
 use Rattle.amf_media.specs.FlvRuns.{IsFileEnd}
 use Rattle.amf_media.specs.FlvSteps.{ended, Keeps, TagsGive, ReadsTags, GoesOn, EndsTags, EndsAt, PutBy, PutsTag, StepsTag, CopiesTags}
-use Rattle.amf_media.specs.Written.{WritesFront, IsPut, Puts, IsPutEnd}
+use Rattle.amf_io.specs.Written.{WritesFront}
+use Rattle.amf_media.specs.Written.{IsPut, Puts, IsPutEnd}
 use Rattle.amf_media.proofs.Puts.{none_front, put_none, put_join, front_join}
 
 -- Lists of tags.

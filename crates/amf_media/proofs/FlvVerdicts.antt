@@ -1,19 +1,18 @@
 -- A job on a file ends by the verdict on it.
-use Rattle.std.proofs.Common.{◌≡◌, ℕ, ◌+◌, false, List, [], ◌++◌, ◌⊎◌, length, take, drop, refl, sym, ap, ◌∙◌, arith, subst, inl, inr, length-append}
-use Rattle.std.proofs.lemmas.List.{append-nil, take-append-drop}
+use Rattle.std.proofs.Common.{◌≡◌, ℕ, ◌+◌, false, List, [], ◌++◌, ◌⊎◌, length, refl, sym, ap, ◌∙◌, arith, inl, inr, length-append}
+use Rattle.std.proofs.lemmas.List.{append-nil}
 use Rattle.amf_io.specs.declared.ends.Refusal.{Refusal}
-use Rattle.amf_io.specs.Field.{flat, AreBytes}
+use Rattle.amf_io.specs.Field.{flat}
 use Rattle.amf_io.specs.Repeated.{IsAcceptedToEnd}
 use Rattle.amf_io.specs.Verdict.{IsAccepted}
-use Rattle.amf_io.proofs.Bytes.{bytes_front, bytes_back}
 use Rattle.amf_io.proofs.Inputs.{not_refused}
 use Rattle.amf_graph.specs.Building.{no_arena}
 use Rattle.amf0_spelling.specs.KeptTables0.{no_kept_tables0}
-use Rattle.amf0_spelling.specs.Reads0.{IsValue0}
+use Rattle.amf0_spelling.specs.Values0.{IsValue0}
 use Rattle.amf0_layout.specs.Layout0.{value0_layout}
 use Rattle.amf0_layout.specs.Layout0State.{state0_of}
-use Rattle.amf0_layout.proofs.Layout0Format.{values0_is_layout, values_are_spellings0}
-use Rattle.flv_meta.specs.File.{Tag, IsTag, value_bytes}
+use Rattle.amf0_layout.proofs.Layout0Format.{values0_is_layout}
+use Rattle.flv_meta.specs.File.{value_bytes}
 use Rattle.flv_meta.specs.Fields.{file_fields, IsFileReading}
 use Rattle.flv_meta.specs.MetadataAnswer.{value_place}
 use Rattle.flv_meta.proofs.FileVerdicts.{files_judged_once}
@@ -47,18 +46,9 @@ pub accepted_files : AcceptedFiles
 accepted_files w base later rest bytes f a (in_file r g) = absurd ((files_judged_once base most later).not_both a f.reason f.at r)
 accepted_files w base later rest bytes f a (in_value shows s) = (shows, s)
 
-bytes_dropped : (n : ℕ) (l : List ℕ) → AreBytes l → AreBytes (drop n l)
-bytes_dropped n l b = bytes_back (take n l) (drop n l) (subst AreBytes (sym (take-append-drop n l)) b)
-
-value_bytes_are : (t : Tag) → IsTag t → AreBytes (value_bytes t)
-value_bytes_are t is =
-    let body = bytes_front t.body t.number (bytes_back t.stream (t.body ++ t.number) (bytes_back t.time (t.stream ++ (t.body ++ t.number)) (bytes_back t.size (t.time ++ (t.stream ++ (t.body ++ t.number))) is.bytes.1))) in
-    bytes_dropped 13 t.body body
-
 pub spelled_values : SpelledValues
 spelled_values t g at f is s x =
-    let bytes = subst AreBytes s.parts (value_bytes_are t is) in
-    let p : IsValue0 s.fields = (values_are_spellings0 s.fields (bytes_front (flat s.fields) s.rest bytes)).1 (g, s.spelled) in
+    let p : IsValue0 s.fields = (g, s.spelled) in
     let n : length (value_bytes t) ≡ length (flat s.fields) + length s.rest = ap length s.parts ∙ length-append (flat s.fields) s.rest in
     let base = value_place at in
     let limit = value_place at + length (value_bytes t) in

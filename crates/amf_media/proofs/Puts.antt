@@ -1,7 +1,8 @@
 -- What was put, step after step.
 use Rattle.std.proofs.Common.{◌≡◌, ℕ, List, [], ◌++◌, Result, Ok, Err, refl, sym, ap, ◌∙◌, append_assoc}
 use Rattle.std.proofs.lemmas.List.{append-nil}
-use Rattle.amf_media.specs.Written.{WritesFront, IsPut, Puts}
+use Rattle.amf_io.specs.Written.{WritesFront}
+use Rattle.amf_media.specs.Written.{IsPut, Puts}
 use Rattle.amf_media.specs.declared.ending.MediaEnd.{MediaEnd}
 use Rattle.amf_media.specs.declared.ending.MediaEnd.TheVariants.{Done, Refused, ReadFault, WriteFault, NoForm, LongData, Memory}
 

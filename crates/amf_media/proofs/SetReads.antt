@@ -13,8 +13,10 @@ use Rattle.amf_graph.specs.Rooted.{RootedArena, content}
 use Rattle.amf_graph.proofs.FinishedSmall.{completes_itself}
 use Rattle.amf3_layout.proofs.Values3Layout.{no_arena_built}
 use Rattle.amf0_spelling.specs.KeptTables0.{KeptTables0, no_kept_tables0, tables0_of}
-use Rattle.amf0_spelling.specs.Reads0.{IsValue0}
+use Rattle.amf0_spelling.specs.Values0.{IsValue0}
 use Rattle.amf0_spelling.specs.Spells0.{IsSpelling0}
+use Rattle.amf0_layout.proofs.Layout0Format.{reading_is_value0, answered0}
+use Rattle.amf0_read.specs.Answer0.{IsReadWith}
 use Rattle.amf0_read.specs.declared.formed.Read0.{Read0}
 use Rattle.flv_meta.specs.File.{tag_bytes, metadata_tag}
 use Rattle.flv_meta.specs.MetadataAnswer.{AppendsMetadata}
@@ -30,11 +32,11 @@ pub one_read : (told : Type 0) (b : Arena) (u : KeptTables0) (x : Read0) (input 
 one_read told b u x input rest at place limit r =
     let read = r.read.read in
     let finished : IsFinished b = record { built = read.built no_arena_built; closed = closed_behind told b u x input rest at place limit r } in
-    record { fields = r.fields; read = (tables0_of b u, read.spelled b (completes_itself b finished)); accepted = r.accepted; parts = r.parts; taken = r.taken; within = r.within }
+    record { fields = r.fields; read = (tables0_of b u, read.spelled b (completes_itself b finished)); accepted = reading_is_value0 r.fields r.accepted; parts = r.parts; taken = r.taken; within = r.within }
 
 pub one_ends : (told : Type 0) (b : Arena) (u : KeptTables0) (input rest : List ℕ) (at place limit : ℕ) (e : ReadEnd) → Answered told no_arena no_kept_tables0 b u input rest at place limit (Err e) → AnswersOf Spells IsValue0 (stretch told input rest at place limit) (Err e)
-one_ends told b u input rest at place limit (reader.Refused f) h = h
-one_ends told b u input rest at place limit reader.ReadFault h = h
+one_ends told b u input rest at place limit (reader.Refused f) h = answered0 (λ x fs. IsReadWith no_arena no_kept_tables0 fs b u x) (stretch told input rest at place limit) (Err (reader.Refused f)) h
+one_ends told b u input rest at place limit reader.ReadFault h = answered0 (λ x fs. IsReadWith no_arena no_kept_tables0 fs b u x) (stretch told input rest at place limit) (Err reader.ReadFault) h
 one_ends told b u input rest at place limit reader.Memory h = tt
 
 pub value_ends : (told : Type 0) (y : told) (input rest : List ℕ) (at place limit : ℕ) (e : ReadEnd) → at ≡ 0 → limit ≡ most_of_value → AnswersOf Spells IsValue0 (stretch told input rest at place limit) (Err e) → ValueEnds input rest (end_of e)

@@ -1,10 +1,9 @@
 -- A value that is set has one form, or one reason why it has none.
-use Rattle.std.proofs.Common.{◌≡◌, ℕ, ◌+◌, ◌≤◌, false, List, ◌++◌, length, take, refl, sym, ap, ◌∙◌, arith, subst}
+use Rattle.std.proofs.Common.{◌≡◌, ℕ, ◌+◌, ◌≤◌, false, List, ◌++◌, length, take, refl, sym, ap, ◌∙◌, arith}
 use Rattle.std.proofs.lemmas.List.{take_at}
 use Rattle.amf_wire.specs.Style.{free}
 use Rattle.amf_io.specs.Field.{Field, flat, AreBytes}
 use Rattle.amf_io.specs.Verdict.{IsAccepted}
-use Rattle.amf_io.proofs.Bytes.{bytes_front}
 use Rattle.amf_io.proofs.Inputs.{not_refused, one_end}
 use Rattle.amf_graph.specs.Building.{no_arena}
 use Rattle.amf_graph.specs.Graph.{Graph}
@@ -13,14 +12,14 @@ use Rattle.amf_graph.specs.declared.lack.Lack.{Lack}
 use Rattle.amf0_spelling.specs.KeptTables0.{no_kept_tables0}
 use Rattle.amf0_spelling.specs.Lacks0.{IsLack0}
 use Rattle.amf0_spelling.specs.Lowered.{IsLoweringOf}
-use Rattle.amf0_spelling.specs.Reads0.{IsValue0}
+use Rattle.amf0_spelling.specs.Values0.{IsValue0}
 use Rattle.amf0_spelling.specs.Spells0.{IsSpelling0}
 use Rattle.amf0_spelling.proofs.Decides0.{same_bytes_isomorphic0, same_canonical0, alone0}
 use Rattle.amf0_spelling.proofs.LackTwice0.{spelling_or_lack0}
 use Rattle.amf0_spelling.proofs.Low.{lowered_alike}
 use Rattle.amf0_layout.specs.Layout0.{value0_layout}
 use Rattle.amf0_layout.specs.Layout0State.{state0_of}
-use Rattle.amf0_layout.proofs.Layout0Format.{values0_is_layout, values_are_spellings0}
+use Rattle.amf0_layout.proofs.Layout0Format.{values0_is_layout}
 use Rattle.flv_meta.specs.MetadataAnswer.{LacksMetadata, IsTooLong}
 use Rattle.amf_media.specs.FlvValues.{most_of_value, IsValueThere, BeginsWith}
 use Rattle.amf_media.specs.FlvLaws.{SetValuesHaveOneForm}
@@ -28,7 +27,7 @@ use Rattle.amf_media.specs.FlvLaws.{SetValuesHaveOneForm}
 accepted : (input more : List ℕ) (g : Graph) (fs : List Field) → AreBytes input → IsSpelling0 free g fs → input ≡ flat fs ++ more → length (flat fs) ≤ most_of_value → IsAccepted IsValue0 0 most_of_value input (0 + length (flat fs)) more
 accepted input more g fs b s e le = record {
   fields = fs;
-  accepted = (values_are_spellings0 fs (bytes_front (flat fs) more (subst AreBytes e b))).1 (g, s);
+  accepted = (g, s);
   parts = e;
   place = refl;
   within = omega arith;

@@ -7,7 +7,7 @@ use Rattle.amf_io.specs.Repeated.{IsAcceptedToEnd}
 use Rattle.amf_io.specs.Verdict.{IsRefused}
 use Rattle.amf_graph.specs.Graph.{Graph}
 use Rattle.amf_graph.specs.declared.lack.Lack.{Lack}
-use Rattle.amf0_spelling.specs.Reads0.{IsValue0}
+use Rattle.amf0_spelling.specs.Values0.{IsValue0}
 use Rattle.flv_meta.specs.File.{Tag, IsTag, value_bytes}
 use Rattle.flv_meta.specs.Fields.{IsFileReading}
 use Rattle.flv_meta.specs.MetadataAnswer.{SpellsFront, LacksMetadata, IsTooLong}

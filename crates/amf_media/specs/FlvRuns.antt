@@ -11,7 +11,7 @@ use Rattle.amf_media.specs.declared.ending.MediaEnd.{MediaEnd}
 use Rattle.amf_media.specs.declared.ending.MediaEnd.TheVariants.{Done, Refused, ReadFault, WriteFault, NoForm, LongData, Memory}
 use Rattle.amf_media.specs.FlvValues.{IsValueRefused, IsValueThere, ValueEnds, most_of_value}
 use Rattle.amf_media.specs.FlvOutput.{Work, show, drop as dropping, set, Makes}
-use Rattle.amf_media.specs.Written.{WritesFront}
+use Rattle.amf_io.specs.Written.{WritesFront}
 
 -- how many bytes an input may have
 abbrev pub most : ℕ

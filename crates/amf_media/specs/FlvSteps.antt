@@ -2,22 +2,28 @@
 use Rattle.std.specs.Prelude.{◌≡◌, ℕ, ◌+◌, ◌≤◌, ◌<◌, ◌⊎◌, Bool, true, false, List, [], ◌∷◌, ◌++◌, length, map, filter, flat_map, Result, Ok, Err}
 use Rattle.std.specs.List.{AllByRecursion}
 use Rattle.amf_io.specs.declared.ends.Refusal.{Refusal}
+use Rattle.amf_io.specs.declared.source.Source.{Ghosts as SourceMembers}
+use Rattle.amf_io.specs.declared.sink.Sink.{Ghosts as SinkMembers}
 use Rattle.amf_io.specs.declared.window.Window.{Window}
 use Rattle.amf_io.specs.declared.cursor.Cursor.{Cursor}
 use Rattle.amf_io.specs.Cursor.{source_of, place, bound, ahead, unread}
 use Rattle.amf_io.specs.Outside.{Rose}
 use Rattle.amf_io.specs.Stretch.{Stretch, IsInterrupted}
 use Rattle.amf_io.specs.Verdict.{IsRefused}
+use Rattle.amf_graph.specs.Graph.{Graph}
 use Rattle.flv_meta.specs.File.{Tag, IsTag, tag_bytes, is_metadata, value_bytes, other_tags, metadata_tag}
 use Rattle.flv_meta.specs.Fields.{IsTagReading}
+use Rattle.flv_meta.specs.MetadataAnswer.{SpellsFront}
+use Rattle.flv_meta.specs.declared.tag.Tag.{Tag as StoredTag}
 use Rattle.flv_meta.specs.declared.flv_job.FlvJob.{FlvJob}
 use Rattle.flv_meta.specs.declared.flv_job.FlvJob.TheVariants as job
 use Rattle.amf_media.specs.declared.ending.MediaEnd.{MediaEnd}
 use Rattle.amf_media.specs.declared.ending.MediaEnd.TheVariants.{Done, Refused, ReadFault, WriteFault, NoForm, LongData, Memory}
 use Rattle.amf_media.specs.FlvValues.{IsValueRefused}
 use Rattle.amf_media.specs.FlvOutput.{AreShown, Work, show, drop as dropping, set}
-use Rattle.amf_media.specs.FlvRuns.{CountsReads, FileEnds}
-use Rattle.amf_media.specs.Written.{WritesFront, IsPut}
+use Rattle.amf_media.specs.FlvRuns.{CountsReads, FileEnds, FileRuns, SetRuns, Runs}
+use Rattle.amf_io.specs.Written.{WritesFront}
+use Rattle.amf_media.specs.Written.{IsPut}
 
 -- a call that gives something has not ended
 abbrev pub ended : {X : Type 0} → Result X MediaEnd → MediaEnd
@@ -113,6 +119,15 @@ PutsTag j t at told held now waiting waits (Err WriteFault) = (bytes : List ℕ)
 PutsTag j t at told held now waiting waits (Err Memory) = ((bytes : List ℕ) × TagsGive j (t ∷ []) bytes × (told → WritesFront held now (waiting ++ bytes))) ⊎ (told → now ≡ held)
 PutsTag j t at told held now waiting waits (Err _) = ⊥
 
+-- the same of the tag of a file that a stored tag is, by the members of the output
+abbrev pub PutsStoredTag : {O : Type 0} → SinkMembers O → FlvJob → StoredTag → (old new : O) → (waiting waits : List ℕ) → Result (Unit {0}) MediaEnd → Type 0
+PutsStoredTag o j tag old new waiting waits result = (t : Tag) → IsTag t → tag.bytes ≡ tag_bytes t → PutsTag j t tag.at (o.tells new) (o.held old) (o.held new) waiting waits result
+
+-- the same with `show` of a metadata tag whose value spells this graph
+abbrev pub PutsValue : {O : Type 0} → SinkMembers O → Graph → (old new : O) → (waiting waits : List ℕ) → Result (Unit {0}) MediaEnd → Type 0
+PutsValue o g old new waiting waits result =
+    (t : Tag) (at : ℕ) → is_metadata t ≡ true → SpellsFront g (value_bytes t) → PutsTag job.Show t at (o.tells new) (o.held old) (o.held new) waiting waits result
+
 -- what is put of a head: with `set` the tag of the value stands behind it
 abbrev pub head_put : FlvJob → List ℕ → List ℕ → List ℕ
 head_put job.Show start head = []
@@ -136,6 +151,25 @@ pub record FileCopies (w : Work) (base : ℕ) (later rest : List ℕ) (told : Ty
   pub bytes : List ℕ
   pub ends : FileEnds w base later rest bytes e
   pub put : told → PutBy held now [] waits bytes e
+
+-- the same from one cursor to another, with this put behind the head, by the members of the input and of the output
+abbrev pub CopiesFile : {S O : Type 0} → SourceMembers S → SinkMembers O → FlvJob → (start : List ℕ) → (a b : Cursor S Window) → (old new : O) → (waits : List ℕ) → MediaEnd → Type 0
+CopiesFile s o j start a b old new waits e =
+    (value : List ℕ) → IsStart j value start → s.tells (source_of a).now
+    → FileCopies (work_of j value) (place a) (unread s.left a) (unread s.left b) (o.tells new) (o.held old) (o.held new) waits e
+
+-- how the work on the file ends, once what waits is written
+abbrev pub RunsFile : {S O : Type 0} → SourceMembers S → SinkMembers O → FlvJob → (start : List ℕ) → (a b : Cursor S Window) → (old new : O) → MediaEnd → Type 0
+RunsFile s o j start a b old new e =
+    (value : List ℕ) → IsStart j value start → s.tells (source_of a).now
+    → FileRuns (work_of j value) (place a) (unread s.left a) (unread s.left b) (o.tells new) (o.held old) (o.held new) e
+
+-- how a job ends, and how `set` ends, on what a cursor has ahead and its source has left
+abbrev pub RunsWhole : {S O : Type 0} → SourceMembers S → SinkMembers O → FlvJob → (a b : Cursor S Window) → (old new : O) → MediaEnd → Type 0
+RunsWhole s o j a b old new e = s.tells (source_of a).now → Runs j (unread s.left a) (s.left (source_of b).now) (o.tells new) (o.held old) (o.held new) e
+
+abbrev pub SetsWhole : {S O : Type 0} → SourceMembers S → SinkMembers O → (a b : Cursor S Window) → (old new : O) → MediaEnd → Type 0
+SetsWhole s o a b old new e = s.tells (source_of a).now → SetRuns (unread s.left a) (s.left (source_of b).now) (o.tells new) (o.held old) (o.held new) e
 
 -- what waited was written, and so the work ends as it did; or it ends by a write fault
 abbrev pub Closes : MediaEnd → MediaEnd → Type 0 → List ℕ → List ℕ → List ℕ → ℕ → ℕ → Type 0

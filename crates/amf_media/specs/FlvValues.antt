@@ -10,7 +10,7 @@ use Rattle.amf_media.specs.declared.ending.MediaEnd.TheVariants.{Done, Refused, 
 use Rattle.amf_graph.specs.Graph.{Graph}
 use Rattle.amf_show.specs.Listing.{AppendsListing}
 use Rattle.amf0_spelling.specs.Lowered.{IsLoweringOf}
-use Rattle.amf0_spelling.specs.Reads0.{IsValue0}
+use Rattle.amf0_spelling.specs.Values0.{IsValue0}
 use Rattle.amf0_spelling.specs.Spells0.{IsSpelling0}
 use Rattle.flv_meta.specs.File.{Tag, value_bytes}
 use Rattle.flv_meta.specs.MetadataAnswer.{SpellsFront, value_place, IsTooLong, LacksMetadata}

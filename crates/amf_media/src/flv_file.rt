@@ -1,15 +1,15 @@
 //! The work on a whole FLV file.
 
-ghost use Rattle.std.specs.Prelude.{◌≡◌, ◌++◌, [], List, ℕ};
-ghost use Rattle.amf_io.specs.Cursor.{source_of, place, bound, unread};
-ghost use Rattle.amf_media.specs.FlvRuns.{most, FileRuns, IsFileEnd};
-ghost use Rattle.amf_media.specs.FlvSteps.{Moves, ended, head_put, work_of, IsStart, FileCopies, Closes, ClosesBy};
+ghost use Rattle.std.specs.Prelude.{◌≡◌, ◌++◌, []};
+ghost use Rattle.amf_io.specs.Cursor.{bound};
+ghost use Rattle.amf_media.specs.FlvRuns.{most, IsFileEnd};
+ghost use Rattle.amf_media.specs.FlvSteps.{Moves, ended, head_put, CopiesFile, RunsFile, Closes, ClosesBy};
 ghost use Rattle.amf_media.specs.Written.{Puts, IsPutEnd, CountsPuts, CountsWrites};
 
 use crate::ending::MediaEnd;
 use crate::flv_tags::copy_tags;
-use crate::gather::{put, write_whole};
-use amf_io::{Cursor, Sink, Source};
+use crate::gather::put;
+use amf_io::{Cursor, Sink, Source, write_whole};
 use flv_meta::{FlvJob, read_head};
 use std::alloc::Global;
 use std::hash::RandomState;
@@ -66,9 +66,7 @@ fn copy_file<S: Source, O: Sink>(
     requires none { waiting.old.items ≡ [] }
     ensures moves { Moves S.tells S.left S.faults cursor.old cursor.new (ended result) }
     ensures tells { O.tells out.new → O.tells out.old }
-    ensures copies { (value : List ℕ) → IsStart job value start.now → S.tells (source_of cursor.old).now
-        → FileCopies (work_of job value) (place cursor.old) (unread S.left cursor.old) (unread S.left cursor.new)
-        (O.tells out.new) (O.held out.old) (O.held out.new) waiting.new.items (ended result) }
+    ensures copies { CopiesFile S.Source O.Sink job start.now cursor.old cursor.new out.old out.new waiting.new.items (ended result) }
     ensures ends { IsFileEnd (ended result) }
     ensures counts { CountsPuts (O.faults out.old) (O.faults out.new) result }
 {
@@ -129,9 +127,7 @@ pub(crate) fn run_file<S: Source, O: Sink>(
     requires limit { bound cursor.old ≡ most }
     ensures moves { Moves S.tells S.left S.faults cursor.old cursor.new result }
     ensures tells { O.tells out.new → O.tells out.old }
-    ensures runs { (value : List ℕ) → IsStart job value start.now → S.tells (source_of cursor.old).now
-        → FileRuns (work_of job value) (place cursor.old) (unread S.left cursor.old) (unread S.left cursor.new)
-        (O.tells out.new) (O.held out.old) (O.held out.new) result }
+    ensures runs { RunsFile S.Source O.Sink job start.now cursor.old cursor.new out.old out.new result }
     ensures ends { IsFileEnd result }
     ensures counts { CountsWrites (O.faults out.old) (O.faults out.new) result }
 {

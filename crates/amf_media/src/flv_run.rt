@@ -1,6 +1,7 @@
 ghost use Rattle.std.specs.Prelude.{◌≡◌, ◌≢◌, ◌+◌, ◌≤◌, length};
 ghost use Rattle.amf_io.specs.Cursor.{source_of, place, bound, unread};
 ghost use Rattle.amf_media.specs.FlvRuns.{most, first_limit, Runs, MayEnd, IsUntouched, CountsReads};
+ghost use Rattle.amf_media.specs.FlvSteps.{RunsWhole};
 ghost use Rattle.amf_media.specs.Written.{CountsWrites};
 
 use crate::ending::MediaEnd;
@@ -86,8 +87,7 @@ fn run_whole<S: Source, O: Sink>(
     requires limit { bound cursor.old ≡ first_limit job }
     ensures same_reference { (source_of cursor.new).ghost_name ≡ (source_of cursor.old).ghost_name }
     ensures tells { O.tells out.new → O.tells out.old }
-    ensures runs { S.tells (source_of cursor.old).now
-        → Runs job (unread S.left cursor.old) (S.left (source_of cursor.new).now) (O.tells out.new) (O.held out.old) (O.held out.new) result }
+    ensures runs { RunsWhole S.Source O.Sink job cursor.old cursor.new out.old out.new result }
     ensures taken { S.tells (source_of cursor.old).now
         → length (unread S.left cursor.old) ≤ length (S.left (source_of cursor.new).now) + (most + 1) }
     ensures ends { MayEnd job result }
@@ -114,8 +114,7 @@ fn run_plain<S: Source, O: Sink>(
     requires limit { bound cursor.old ≡ most }
     ensures same_reference { (source_of cursor.new).ghost_name ≡ (source_of cursor.old).ghost_name }
     ensures tells { O.tells out.new → O.tells out.old }
-    ensures runs { S.tells (source_of cursor.old).now
-        → Runs job (unread S.left cursor.old) (S.left (source_of cursor.new).now) (O.tells out.new) (O.held out.old) (O.held out.new) result }
+    ensures runs { RunsWhole S.Source O.Sink job cursor.old cursor.new out.old out.new result }
     ensures taken { S.tells (source_of cursor.old).now
         → length (unread S.left cursor.old) ≤ length (S.left (source_of cursor.new).now) + (most + 1) }
     ensures ends { MayEnd job result }

@@ -1,24 +1,22 @@
 //! The value that is set, which stands before the file.
 
-ghost use Rattle.std.specs.Prelude.{◌≡◌, ◌+◌, ◌≤◌, length, false};
-ghost use Rattle.std.specs.List.{AllByRecursion};
+ghost use Rattle.std.specs.Prelude.{◌≡◌, ◌+◌, ◌≤◌, length};
 ghost use Rattle.amf_io.specs.Cursor.{source_of, place, bound, unread};
 ghost use Rattle.amf_io.specs.ReadEnds.{Goes};
 ghost use Rattle.amf_io.specs.Stretch.{AnswersOf, between};
 ghost use Rattle.amf_wire.specs.Style.{free};
-ghost use Rattle.amf_graph.specs.Arena.{Names};
 ghost use Rattle.amf_graph.specs.Rooted.{content};
-ghost use Rattle.amf0_spelling.specs.Reads0.{IsValue0};
+ghost use Rattle.amf0_spelling.specs.Values0.{IsValue0};
 ghost use Rattle.amf0_spelling.specs.Spells0.{IsSpelling0};
-ghost use Rattle.amf_media.specs.FlvRuns.{most, SetRuns, IsUntouched, CountsReads};
-ghost use Rattle.amf_media.specs.FlvSteps.{Moves, ended};
+ghost use Rattle.amf_media.specs.FlvRuns.{most, IsUntouched, CountsReads};
+ghost use Rattle.amf_media.specs.FlvSteps.{Moves, ended, SetsWhole};
 ghost use Rattle.amf_media.specs.FlvValues.{most_of_value};
 ghost use Rattle.amf_media.specs.SetSteps.{MakesStart, IsStartEnd};
 ghost use Rattle.amf_media.specs.Written.{CountsWrites};
 
 use crate::ending::MediaEnd;
 use crate::flv_file::run_file;
-use amf_graph::{Builder, Rooted, Value};
+use amf_graph::{Builder, Rooted};
 use amf_io::{Cursor, ReadEnd, Sink, Source};
 use amf0_read::read0;
 use amf0_spelling::Tables0;
@@ -39,25 +37,13 @@ fn read_value<S: Source>(
     cursor: &mut Cursor<'_, S>,
 ) -> Result<Rooted, ReadEnd>
     requires { bound cursor.old ≡ most_of_value }
-    ensures goes { Goes S.tells S.left S.faults cursor.old cursor.new result }
+    ensures goes { Goes S.Source cursor.old cursor.new result }
     ensures answers { AnswersOf (λ g fs. IsSpelling0 free (content g) fs) IsValue0 (between S.tells S.left cursor.old cursor.new) result }
 {
     let mut builder = Builder::keyed(alloc, keys)?;
     let mut tables = Tables0::new(alloc)?;
     let read = read0(alloc, cursor, &mut builder, &mut tables)?;
-    Ok(whole(builder, read.value))
-}
-
-/// The graph with this root, of which all nodes are closed.
-fn whole(builder: Builder, root: Value) -> Rooted
-    requires names { Names builder root }
-    requires closed { AllByRecursion (λ n. n.is_open ≡ false) builder.nodes }
-    ensures { result ≡ record { arena = builder; root = root } }
-{
-    match builder.finish(root) {
-        Ok(graph) => graph,
-        Err(_) => unreachable!(),
-    }
+    Ok(builder.whole(read.value))
 }
 
 /// The metadata tag of the value that the next bytes spell.
@@ -94,8 +80,7 @@ pub(crate) fn set_metadata<S: Source, O: Sink>(
     requires limit { bound cursor.old ≡ most_of_value }
     ensures same_reference { (source_of cursor.new).ghost_name ≡ (source_of cursor.old).ghost_name }
     ensures tells { O.tells out.new → O.tells out.old }
-    ensures runs { S.tells (source_of cursor.old).now
-        → SetRuns (unread S.left cursor.old) (S.left (source_of cursor.new).now) (O.tells out.new) (O.held out.old) (O.held out.new) result }
+    ensures runs { SetsWhole S.Source O.Sink cursor.old cursor.new out.old out.new result }
     ensures untouched { IsUntouched out.old out.new result }
     ensures taken { S.tells (source_of cursor.old).now
         → length (unread S.left cursor.old) ≤ length (S.left (source_of cursor.new).now) + (most + 1) }

@@ -1,12 +1,10 @@
-ghost use Rattle.std.specs.Prelude.{◌≡◌, ℕ, true, codes, IfOk};
+ghost use Rattle.std.specs.Prelude.{◌≡◌, codes, IfOk};
 ghost use Rattle.amf_graph.specs.Rooted.{content};
 ghost use Rattle.amf_show.specs.Listing.{AppendsListing};
-ghost use Rattle.flv_meta.specs.File.{Tag as FileTag, IsTag, tag_bytes, is_metadata, value_bytes};
 ghost use Rattle.flv_meta.specs.FileAnswers.{IsStoredTag};
-ghost use Rattle.flv_meta.specs.MetadataAnswer.{SpellsFront};
 ghost use Rattle.flv_meta.specs.declared.flv_job.FlvJob.TheVariants.{Show};
 ghost use Rattle.amf_media.specs.Ends.{end_at_value};
-ghost use Rattle.amf_media.specs.FlvSteps.{PutsTag};
+ghost use Rattle.amf_media.specs.FlvSteps.{PutsStoredTag, PutsValue};
 ghost use Rattle.amf_media.specs.Written.{CountsPuts};
 
 use crate::ending::MediaEnd;
@@ -36,8 +34,7 @@ fn put_lines<O: Sink>(
     waiting: &mut Vec<u8>,
 ) -> Result<(), MediaEnd>
     ensures tells { O.tells out.new → O.tells out.old }
-    ensures puts { (t : FileTag) (at : ℕ) → is_metadata t ≡ true → SpellsFront (content value.now) (value_bytes t)
-        → PutsTag Show t at (O.tells out.new) (O.held out.old) (O.held out.new) waiting.old.items waiting.new.items result }
+    ensures puts { PutsValue O.Sink (content value.now) out.old out.new waiting.old.items waiting.new.items result }
     ensures counts { CountsPuts (O.faults out.old) (O.faults out.new) result }
 {
     let lines = lines_of(alloc, value)?;
@@ -64,8 +61,7 @@ pub(crate) fn show_tag<O: Sink>(
 ) -> Result<(), MediaEnd>
     requires { IsStoredTag tag.now }
     ensures tells { O.tells out.new → O.tells out.old }
-    ensures puts { (t : FileTag) → IsTag t → tag.now.bytes ≡ tag_bytes t
-        → PutsTag Show t tag.now.at (O.tells out.new) (O.held out.old) (O.held out.new) waiting.old.items waiting.new.items result }
+    ensures puts { PutsStoredTag O.Sink Show tag.now out.old out.new waiting.old.items waiting.new.items result }
     ensures counts { CountsPuts (O.faults out.old) (O.faults out.new) result }
 {
     match metadata_keyed(alloc, keys, tag) {

@@ -1,10 +1,8 @@
 //! From tag to tag of an FLV file: one is held at a time.
 
-ghost use Rattle.std.specs.Prelude.{◌≡◌};
 ghost use Rattle.amf_io.specs.Stretch.{between};
-ghost use Rattle.flv_meta.specs.File.{Tag as FileTag, IsTag, tag_bytes};
 ghost use Rattle.flv_meta.specs.FileAnswers.{IsStoredTag};
-ghost use Rattle.amf_media.specs.FlvSteps.{Moves, ended, Keeps, PutsTag, StepsTag, CopiesTags};
+ghost use Rattle.amf_media.specs.FlvSteps.{Moves, ended, Keeps, PutsStoredTag, StepsTag, CopiesTags};
 ghost use Rattle.amf_media.specs.Written.{CountsPuts};
 
 use crate::ending::MediaEnd;
@@ -25,8 +23,7 @@ fn keep_tag<O: Sink>(
     requires keeps { Keeps job }
     requires stored { IsStoredTag tag.now }
     ensures tells { O.tells out.new → O.tells out.old }
-    ensures puts { (t : FileTag) → IsTag t → tag.now.bytes ≡ tag_bytes t
-        → PutsTag job t tag.now.at (O.tells out.new) (O.held out.old) (O.held out.new) waiting.old.items waiting.new.items result }
+    ensures puts { PutsStoredTag O.Sink job tag.now out.old out.new waiting.old.items waiting.new.items result }
     ensures counts { CountsPuts (O.faults out.old) (O.faults out.new) result }
 {
     if is_metadata(tag) {
@@ -46,8 +43,7 @@ fn put_tag<O: Sink>(
 ) -> Result<(), MediaEnd>
     requires { IsStoredTag tag.now }
     ensures tells { O.tells out.new → O.tells out.old }
-    ensures puts { (t : FileTag) → IsTag t → tag.now.bytes ≡ tag_bytes t
-        → PutsTag job t tag.now.at (O.tells out.new) (O.held out.old) (O.held out.new) waiting.old.items waiting.new.items result }
+    ensures puts { PutsStoredTag O.Sink job tag.now out.old out.new waiting.old.items waiting.new.items result }
     ensures counts { CountsPuts (O.faults out.old) (O.faults out.new) result }
 {
     match job {

@@ -1,38 +1,13 @@
 //! Writing in pieces of some size: many parts of an output are short, and each write of a real sink is a call of the system.
 
 ghost use Rattle.std.specs.Prelude.{◌≡◌, [], OnOk};
-ghost use Rattle.amf_io.specs.Outside.{HasCause};
-ghost use Rattle.amf_media.specs.Written.{Writes, Puts, IsPutEnd, CountsPuts};
+ghost use Rattle.amf_media.specs.Written.{Puts, IsPutEnd, CountsPuts};
 
 use crate::ending::MediaEnd;
-use amf_io::{Failed, Sink};
+use amf_io::{Sink, write_all};
 
 /// How many bytes are gathered before they are written. As many are written at once without being gathered.
 const MOST: usize = 65_536;
-
-/// Writes all the bytes, in as many pieces as the sink takes.
-fn write_all<O: Sink>(sink: &mut O, bytes: &[u8]) -> Result<(), Failed>
-    ensures tells { O.tells sink.new → O.tells sink.old }
-    ensures writes { O.tells sink.new → Writes (O.held sink.old) (O.held sink.new) bytes.now result }
-    ensures cause { HasCause (O.faults sink.old) (O.faults sink.new) result }
-{
-    let mut rest = bytes;
-    while !rest.is_empty() {
-        let taken = sink.write(rest)?;
-        rest = &rest[taken..];
-    }
-    Ok(())
-}
-
-/// Writes all the bytes, and has the sink hand them on.
-pub(crate) fn write_whole<O: Sink>(sink: &mut O, bytes: &[u8]) -> Result<(), Failed>
-    ensures tells { O.tells sink.new → O.tells sink.old }
-    ensures writes { O.tells sink.new → Writes (O.held sink.old) (O.held sink.new) bytes.now result }
-    ensures cause { HasCause (O.faults sink.old) (O.faults sink.new) result }
-{
-    write_all(sink, bytes)?;
-    sink.flush()
-}
 
 /// Puts bytes behind those that wait to be written, and writes what waits where it is much. It ends only with `WriteFault` and
 /// `Memory`.

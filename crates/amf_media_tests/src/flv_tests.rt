@@ -1,5 +1,7 @@
 use crate::checks::{is, is_at};
-use crate::runs::{Link, job_of, pieces, run, runs_in_any_pieces, wanted};
+use crate::runs::{
+    failing, front, job_of, pieces, reads_fail, run, runs_in_any_pieces, wanted, writes_fail,
+};
 use amf_media::FlvJob;
 use amf_rows::Table;
 use std::alloc::Global;
@@ -113,14 +115,6 @@ static READ_FAULTS: Table = Table {
 ",
 };
 
-/// The first bytes of the file.
-fn front_of(length: usize) -> &'static [u8] {
-    match length < FILE.len() {
-        true => &FILE[..length],
-        false => FILE,
-    }
-}
-
 /// The head, and these bytes behind it.
 fn behind_head(alloc: Global, bytes: &[u8]) -> Result<Vec<u8>, Fail> {
     let mut file = Vec::new(alloc);
@@ -165,10 +159,10 @@ fn metadata_are_dropped(rt: HostRuntime) -> Result<(), Fail> {
 #[test]
 fn files_are_cut_at_each_byte(rt: HostRuntime) -> Result<(), Fail> {
     for row in CUTS.rows(rt.alloc())?.iter() {
-        let output = front_of(row.number(3)? as usize);
+        let output = front(FILE, row.number(3)? as usize);
         let want = wanted(rt.alloc(), row.field(2)?, output)?;
         for cut in row.number(0)?..=row.number(1)? {
-            let bytes = front_of(cut as usize);
+            let bytes = front(FILE, cut as usize);
             is(
                 &rt,
                 *row,
@@ -185,7 +179,7 @@ fn metadata_are_listed_of_files_that_are_cut(rt: HostRuntime) -> Result<(), Fail
     for row in CUTS.rows(rt.alloc())?.iter() {
         for cut in row.number(0)?..=row.number(1)? {
             let want = wanted(rt.alloc(), row.field(2)?, shown_of(cut))?;
-            let bytes = front_of(cut as usize);
+            let bytes = front(FILE, cut as usize);
             is(
                 &rt,
                 *row,
@@ -198,59 +192,21 @@ fn metadata_are_listed_of_files_that_are_cut(rt: HostRuntime) -> Result<(), Fail
 }
 
 #[test]
-fn reads_fail(rt: HostRuntime) -> Result<(), Fail> {
-    for row in READ_FAULTS.rows(rt.alloc())?.iter() {
-        let output = front_of(row.number(2)? as usize);
-        let want = wanted(rt.alloc(), "ReadFault", output)?;
-        for read in row.number(0)?..=row.number(1)? {
-            let link = Link {
-                most: 1,
-                cut: 0,
-                reads: &[read as u64],
-                writes: &[],
-            };
-            is(
-                &rt,
-                *row,
-                &run(rt.alloc(), FlvJob::Drop, FILE, &link)?,
-                &want,
-            );
-        }
-    }
-    Ok(())
+fn a_read_fails(rt: HostRuntime) -> Result<(), Fail> {
+    reads_fail(&rt, rt.alloc(), &READ_FAULTS, FlvJob::Drop, FILE, FILE)
 }
 
 /// The job drops, and this write of one byte fails: the bytes before were written. Behind the 29 bytes comes the flush.
 #[test]
-fn writes_fail(rt: HostRuntime) -> Result<(), Fail> {
-    for write in 0..30_usize {
-        let want = wanted(rt.alloc(), "WriteFault", front_of(write))?;
-        let link = Link {
-            most: 1,
-            cut: 0,
-            reads: &[],
-            writes: &[write as u64],
-        };
-        is_at(
-            &rt,
-            write,
-            &run(rt.alloc(), FlvJob::Drop, FILE, &link)?,
-            &want,
-        );
-    }
-    Ok(())
+fn a_write_fails(rt: HostRuntime) -> Result<(), Fail> {
+    writes_fail(&rt, rt.alloc(), 30, FlvJob::Drop, FILE, FILE)
 }
 
 /// The read that would come behind the end fails, and does not come.
 #[test]
 fn no_read_follows_the_end(rt: HostRuntime) -> Result<(), Fail> {
-    let link = Link {
-        most: 1,
-        cut: 0,
-        reads: &[59],
-        writes: &[],
-    };
-    let want = wanted(rt.alloc(), "Done", front_of(29))?;
+    let link = failing(&[59], &[]);
+    let want = wanted(rt.alloc(), "Done", front(FILE, 29))?;
     is_at(&rt, 59, &run(rt.alloc(), FlvJob::Drop, FILE, &link)?, &want);
     Ok(())
 }

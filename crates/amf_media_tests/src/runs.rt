@@ -1,7 +1,7 @@
-use crate::checks::is;
+use crate::checks::{is, is_at};
 use amf_io::{MemorySink, MemorySource};
 use amf_media::{FlvJob, MediaEnd, flv};
-use amf_rows::Row;
+use amf_rows::{Row, Table};
 use std::alloc::Global;
 use std::process::Abort;
 use std::test::Fail;
@@ -97,6 +97,61 @@ pub(crate) fn runs_in_any_pieces(
             &run(alloc, job, bytes, &pieces(65_536, cut))?,
             want,
         );
+    }
+    Ok(())
+}
+
+/// The first of some bytes.
+pub(crate) fn front(bytes: &[u8], length: usize) -> &[u8] {
+    match length < bytes.len() {
+        true => &bytes[..length],
+        false => bytes,
+    }
+}
+
+/// In pieces of one byte, where these reads and these writes fail.
+pub(crate) fn failing<'a>(reads: &'a [u64], writes: &'a [u64]) -> Link<'a> {
+    Link {
+        most: 1,
+        cut: 0,
+        reads,
+        writes,
+    }
+}
+
+/// Runs a job in which a read of one byte fails, by rows that say from which to which read, and how many bytes of the output are
+/// written before.
+pub(crate) fn reads_fail(
+    rt: &impl Abort,
+    alloc: Global,
+    rows: &Table,
+    job: FlvJob,
+    input: &[u8],
+    output: &[u8],
+) -> Result<(), Fail> {
+    for row in rows.rows(alloc)?.iter() {
+        let want = wanted(alloc, "ReadFault", front(output, row.number(2)? as usize))?;
+        for read in row.number(0)?..=row.number(1)? {
+            let got = run(alloc, job, input, &failing(&[read as u64], &[]))?;
+            is(rt, *row, &got, &want);
+        }
+    }
+    Ok(())
+}
+
+/// Runs a job in which each of so many writes of one byte fails: the bytes before were written.
+pub(crate) fn writes_fail(
+    rt: &impl Abort,
+    alloc: Global,
+    writes: usize,
+    job: FlvJob,
+    input: &[u8],
+    output: &[u8],
+) -> Result<(), Fail> {
+    for write in 0..writes {
+        let want = wanted(alloc, "WriteFault", front(output, write))?;
+        let got = run(alloc, job, input, &failing(&[], &[write as u64]))?;
+        is_at(rt, write, &got, &want);
     }
     Ok(())
 }

@@ -1,5 +1,5 @@
-use crate::checks::{is, is_at};
-use crate::runs::{Link, pieces, run, runs_in_any_pieces, wanted};
+use crate::checks::is_at;
+use crate::runs::{failing, pieces, reads_fail, run, runs_in_any_pieces, wanted, writes_fail};
 use amf_media::FlvJob;
 use amf_rows::Table;
 use amf_wire::{U29, write_u29};
@@ -59,14 +59,6 @@ static READ_FAULTS: Table = Table {
 ",
 };
 
-/// The first bytes of the output.
-fn front_of(length: usize) -> &'static [u8] {
-    match length < OUTPUT.len() {
-        true => &OUTPUT[..length],
-        false => OUTPUT,
-    }
-}
-
 #[test]
 fn values_are_set(rt: HostRuntime) -> Result<(), Fail> {
     for row in SET.rows(rt.alloc())?.iter() {
@@ -79,46 +71,13 @@ fn values_are_set(rt: HostRuntime) -> Result<(), Fail> {
 
 #[test]
 fn reads_fail_in_the_value_and_behind_it(rt: HostRuntime) -> Result<(), Fail> {
-    for row in READ_FAULTS.rows(rt.alloc())?.iter() {
-        let output = front_of(row.number(2)? as usize);
-        let want = wanted(rt.alloc(), "ReadFault", output)?;
-        for read in row.number(0)?..=row.number(1)? {
-            let link = Link {
-                most: 1,
-                cut: 0,
-                reads: &[read as u64],
-                writes: &[],
-            };
-            is(
-                &rt,
-                *row,
-                &run(rt.alloc(), FlvJob::Set, INPUT, &link)?,
-                &want,
-            );
-        }
-    }
-    Ok(())
+    reads_fail(&rt, rt.alloc(), &READ_FAULTS, FlvJob::Set, INPUT, OUTPUT)
 }
 
 /// This write of one byte fails: the bytes before were written. Behind the 58 bytes comes the flush.
 #[test]
 fn writes_of_what_is_set_fail(rt: HostRuntime) -> Result<(), Fail> {
-    for write in 0..59_usize {
-        let want = wanted(rt.alloc(), "WriteFault", front_of(write))?;
-        let link = Link {
-            most: 1,
-            cut: 0,
-            reads: &[],
-            writes: &[write as u64],
-        };
-        is_at(
-            &rt,
-            write,
-            &run(rt.alloc(), FlvJob::Set, INPUT, &link)?,
-            &want,
-        );
-    }
-    Ok(())
+    writes_fail(&rt, rt.alloc(), 59, FlvJob::Set, INPUT, OUTPUT)
 }
 
 /// An array of AMF 3 with one text of 65,277 bytes 257 times and 238 nulls: in AMF 0 the data of its tag would have 16,777,216
@@ -154,12 +113,7 @@ fn a_value_is_too_long_for_a_tag(rt: HostRuntime) -> Result<(), Fail> {
 /// The read that would come behind the end fails, and does not come.
 #[test]
 fn no_read_follows_the_end_of_what_is_set(rt: HostRuntime) -> Result<(), Fail> {
-    let link = Link {
-        most: 1,
-        cut: 0,
-        reads: &[60],
-        writes: &[],
-    };
+    let link = failing(&[60], &[]);
     let want = wanted(rt.alloc(), "Done", OUTPUT)?;
     let told = run(rt.alloc(), FlvJob::Set, INPUT, &link)?;
     is_at(&rt, 60, &told, &want);

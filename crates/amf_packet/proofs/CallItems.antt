@@ -19,13 +19,13 @@ use Rattle.amf0_spelling.specs.Segments0.{marker0_field, Values0}
 use Rattle.amf0_spelling.specs.Spells0.{NodeBy0, Switched, SpellsIn0, Spells0}
 use Rattle.amf0_spelling.specs.Tables0.{Tables0, no_tables0, add_node0}
 use Rattle.amf0_layout.specs.Layout0State.{State0, with_node0, switched, changed0}
-use Rattle.amf0_layout.specs.Layout0.{Read0, read0, shut0, value0_layout}
+use Rattle.amf0_layout.specs.Layout0.{ValueRead0, read0, shut0, value0_layout}
 use Rattle.amf0_spelling.proofs.Alike0.{first_kind, Start, start_leaf, start_named, start_inline}
 use Rattle.amf_graph.specs.Building.{more_value}
 use Rattle.amf_graph.specs.Arena as arena
 use Rattle.amf_packet.specs.Packet.{call_fields}
 use Rattle.amf_packet.specs.LayoutPacket.{no_state0}
-use Rattle.amf_packet.proofs.Lighter.{rooted, lighter3}
+use Rattle.amf3_spelling.proofs.Lighter3.{rooted, lighter3}
 
 -- The item of a call.
 
@@ -154,16 +154,16 @@ call_item ns q v fs t' p e = let o = front_is (flat fs) e in call_in p.0 ns q v 
 abbrev in_array : State0
 in_array = with_node0 no_state0 arena.array
 
-pub call_runs : (n : ℕ) (g : Graph) (rest : List Field) → IsSpelling3 free g rest → length (flat (call_fields ++ rest)) < n → (y : Read0) × Runs (value0_layout n false no_state0) (call_fields ++ rest) y
+pub call_runs : (n : ℕ) (g : Graph) (rest : List Field) → IsSpelling3 free g rest → length (flat (call_fields ++ rest)) < n → (y : ValueRead0) × Runs (value0_layout n false no_state0) (call_fields ++ rest) y
 call_runs zero g rest s lt = absurd (omega (arith, lt))
 call_runs (suc zero) g rest s lt = absurd (let e = flat-append call_fields rest in omega (arith, lt, ap length e, length-append (flat call_fields) (flat rest)))
 call_runs (suc (suc k)) g rest (t, s) lt =
     let f : Found g (value_layout k) in_array.amf3 rest t = spelled_read g k g.root no_tables rest t in_array.amf3 (record { words = refl; marks = refl }) (omega (arith, lt, ap length (flat-append call_fields rest), length-append (flat call_fields) (flat rest))) s in
-    let a : Read0 = read0 f.result.value (switched in_array f.result.state) in
+    let a : ValueRead0 = read0 f.result.value (switched in_array f.result.state) in
     let b : State0 = changed0 (more_value a.value) 0 a.state in
-    let read : ValueRead → Layout Read0 = λ x. give (read0 x.value (switched in_array x.state)) in
-    let kept : Read0 → Layout State0 = λ x. give (changed0 (more_value x.value) 0 x.state) in
-    let shut : State0 → Layout Read0 = λ u. give (shut0 0 u) in (
+    let read : ValueRead → Layout ValueRead0 = λ x. give (read0 x.value (switched in_array x.state)) in
+    let kept : ValueRead0 → Layout State0 = λ x. give (changed0 (more_value x.value) 0 x.state) in
+    let shut : State0 → Layout ValueRead0 = λ u. give (shut0 0 u) in (
       shut0 0 b,
       (
         record { is_kind = refl; is_whole = refl; clean = refl },

@@ -10,7 +10,7 @@ use Rattle.amf_io.specs.declared.reason.Reason.TheVariants.{BadVersion}
 use Rattle.amf_io.specs.declared.ends.ReadEnd.{ReadEnd}
 use Rattle.amf_io.specs.declared.ends.ReadEnd.TheVariants.{Refused}
 use Rattle.amf_io.specs.Cursor.{place, unread}
-use Rattle.amf_io.specs.ReadEnds.{Goes}
+use Rattle.amf_io.specs.ReadEnds.{GoesBy}
 use Rattle.amf_io.specs.CursorReads.{Answers, AnswersField, Ends}
 use Rattle.amf_io.specs.Field.{Size, Kind, Field, flat, field, whole, contents, raw_kind, text_kind, u16_kind, u32_kind, no_refusal, AreBytes}
 use Rattle.amf_io.specs.Layout.{Layout, give, want, Runs}
@@ -133,7 +133,7 @@ module _ {S : Type 0} (tells : S → Type 0) (left : S → List ℕ) (faults : S
       subst (λ t. Took tells left t tt (IsChars n x) c d) (bind_chunk text_kind n (λ y. tt))
       (took_of tells left faults (λ (y : List ℕ). y) (chunk text_kind n (λ y. give y)) tt (λ y. done) (IsChars n x) c d x refl a (chars_are n x a.fields a.bytes a.runs))
 
-  pub took_name : (c d e : Cursor S Window) (b x : List ℕ) → Goes tells left faults c d (Ok b) → AnswersField tells left (λ (x : List ℕ). x) (u16_kind no_refusal).size c d (Ok b) → Answers tells left (λ (y : List ℕ). y) (chunk text_kind (from_be_bytes w16 b) (λ y. give y)) d e (Ok x) → Took tells left name_layout tt (Short x) c e
+  pub took_name : (c d e : Cursor S Window) (b x : List ℕ) → GoesBy tells left faults c d (Ok b) → AnswersField tells left (λ (x : List ℕ). x) (u16_kind no_refusal).size c d (Ok b) → Answers tells left (λ (y : List ℕ). y) (chunk text_kind (from_be_bytes w16 b) (λ y. give y)) d e (Ok x) → Took tells left name_layout tt (Short x) c e
   took_name c d e b x g a r =
       let n = from_be_bytes w16 b in
       let P : List Field → Type 0 = λ fs. (fs ≡ field (u16_kind no_refusal) (to_be_bytes w16 n) ∷ []) × (n < 65536) in
@@ -148,6 +148,6 @@ module _ {S : Type 0} (tells : S → Type 0) (left : S → List ℕ) (faults : S
       ))
 
   -- what ends inside the contents of a name
-  pub name_ended : (c d e : Cursor S Window) (b : List ℕ) (end : ReadEnd) → Goes tells left faults c d (Ok b) → AnswersField tells left (λ (x : List ℕ). x) (u16_kind no_refusal).size c d (Ok b) → Ends tells left (chunk text_kind (from_be_bytes w16 b) (λ y. give y)) d e end → Ends tells left name_layout c e end
+  pub name_ended : (c d e : Cursor S Window) (b : List ℕ) (end : ReadEnd) → GoesBy tells left faults c d (Ok b) → AnswersField tells left (λ (x : List ℕ). x) (u16_kind no_refusal).size c d (Ok b) → Ends tells left (chunk text_kind (from_be_bytes w16 b) (λ y. give y)) d e end → Ends tells left name_layout c e end
   name_ended c d e b end g a r =
       field_reads tells left faults {Z = Unit {0}} (λ (x : List ℕ). x) (λ (x : Unit {0}). x) (u16_kind no_refusal) (λ b. chunk text_kind (from_be_bytes w16 b) (λ y. done)) c d e b (Err end) g a refl (chunk_ends tells left faults text_kind (from_be_bytes w16 b) (λ y. tt) d e end r)

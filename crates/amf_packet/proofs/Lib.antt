@@ -1,7 +1,5 @@
 -- The lemmas that several proofs share.
 pub mod PacketRows
-pub mod Lighter
-pub mod Bytes0
 pub mod CallItems
 pub mod PacketLayout
 pub mod PacketVerdicts

@@ -24,17 +24,16 @@ use Rattle.amf0_spelling.specs.declared.form.Form.{Form}
 use Rattle.amf0_spelling.specs.declared.form.Form.TheVariants.{Call, Amf3, Plain}
 use Rattle.amf0_spelling.specs.Form.{IsForm}
 use Rattle.amf0_spelling.specs.Segments0.{Short}
-use Rattle.amf0_spelling.specs.Reads0.{IsValue0}
+use Rattle.amf0_spelling.specs.Values0.{IsValue0}
 use Rattle.amf0_spelling.specs.Spells0.{Spells0}
 use Rattle.amf0_spelling.specs.Tables0.{Tables0, no_tables0}
-use Rattle.amf0_layout.specs.Layout0.{Read0, value0_layout}
+use Rattle.amf0_layout.specs.Layout0.{ValueRead0, value0_layout}
 use Rattle.amf0_spelling.proofs.Forms0.{forms}
-use Rattle.amf0_layout.proofs.Layout0Format.{values0_is_layout, values_are_spellings0}
+use Rattle.amf0_layout.proofs.Layout0Format.{values0_is_layout}
 use Rattle.amf0_layout.proofs.Layout0SoundParts.{u32_is, empty_text}
 use Rattle.amf_packet.specs.Packet.{Body, Header, Message, Each, call_fields, CallBy, FormBy, BodyBy, LengthBy, MustBy, HeaderBy, MessageBy, is_version, version_refusal, VersionBy, ListBy, IsPacketReading}
 use Rattle.amf_packet.specs.LayoutPacket.{BareLayout, done, and_then, name_layout, must_layout, length_layout, no_state0, body_layout, header_layout, message_layout, version_layout, times, list_layout, packet_layout}
-use Rattle.amf_packet.proofs.Lighter.{flat_bytes, bytes_joined, bytes3}
-use Rattle.amf_packet.proofs.Bytes0.{bytes0}
+use Rattle.amf3_spelling.proofs.Lighter3.{flat_bytes, bytes_joined, bytes3}
 use Rattle.amf_packet.proofs.CallItems.{CallItem, call_item, call_runs}
 
 -- the same lists, of bytes
@@ -186,7 +185,7 @@ spelled_body g t fs s Plain f = (record { form = Plain; graph = g }, (t, s, f))
 
 body_read : (fs : List Field) → AreBytes (flat fs) → IsValue0 fs → BodyRead fs
 body_read fs b p =
-    let s = (values_are_spellings0 fs b).0 p in
+    let s = p in
     let f = forms.some_form s.1.0.switched (flat fs) in
     spelled_body s.0 s.1.0 fs s.1.1 f.0 f.1
 
@@ -194,12 +193,12 @@ call_bytes : (g : Graph) (fs : List Field) → CallBy free g fs → AreBytes (fl
 call_bytes g fs (item, e, (t, s)) = subst (λ l. AreBytes (flat l)) (sym e) (flat_bytes (call_fields ++ item) (bytes_joined call_fields item ((omega arith, tt), ((omega arith, (omega arith, (omega arith, (omega arith, tt)))), ((omega arith, tt), tt))) (bytes3 free g g.root _ item t s)))
 
 form_value : (g : Graph) (form : Form) (fs : List Field) → FormBy form g fs → IsValue0 fs
-form_value g form fs (t, s, f) = (values_are_spellings0 fs (bytes0 free g g.root no_tables0 fs t s)).1 (g, (t, s))
+form_value g form fs (t, s, f) = (g, (t, s))
 
 call_value : (g : Graph) (fs : List Field) → CallBy free g fs → IsValue0 fs
 call_value g fs c =
     let n = suc (length (flat fs)) in
-    let r : (y : Read0) × Runs (value0_layout n false no_state0) fs y = subst (λ l. (y : Read0) × Runs (value0_layout n false no_state0) l y) (sym c.1) (call_runs n g c.0 c.2 (subst (λ (l : List Field). length (flat l) < n) c.1 (omega arith))) in
+    let r : (y : ValueRead0) × Runs (value0_layout n false no_state0) fs y = subst (λ l. (y : ValueRead0) × Runs (value0_layout n false no_state0) l y) (sym c.1) (call_runs n g c.0 c.2 (subst (λ (l : List Field). length (flat l) < n) c.1 (omega arith))) in
     values0_is_layout.sound n fs r.0 (call_bytes g fs c) r.1
 
 body_value : (form : Form) (g : Graph) (fs : List Field) → BodyBy free form g fs → IsValue0 fs

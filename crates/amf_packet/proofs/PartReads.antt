@@ -5,7 +5,7 @@ use Rattle.amf_io.specs.declared.window.Window.{Window}
 use Rattle.amf_io.specs.declared.cursor.Cursor.{Cursor}
 use Rattle.amf_io.specs.declared.ends.ReadEnd.{ReadEnd}
 use Rattle.amf_io.specs.Cursor.{source_of, place, bound, unread}
-use Rattle.amf_io.specs.ReadEnds.{Goes}
+use Rattle.amf_io.specs.ReadEnds.{GoesBy}
 use Rattle.amf_io.specs.CursorReads.{Ends}
 use Rattle.amf_io.specs.Field.{Field}
 use Rattle.amf_io.proofs.CursorReads.{end_reads, goes_end}
@@ -47,21 +47,21 @@ module _ {S : Type 0} (tells : S → Type 0) (left : S → List ℕ) (faults : S
   fueled_passed P t c d (Err x) e h a n lt = subst (Ends tells left (t n) c d) (sym h) (a n lt)
 
   -- the cursor of a reader whose error is passed on
-  pub goes_passed : {X Z : Type 0} (c d : Cursor S Window) (r : Result Z ReadEnd) (e : ReadEnd) → IsErrAnd r (λ x. x ≡ e) → Goes {X = X} tells left faults c d (Err e) → Goes {X = Z} tells left faults c d r
+  pub goes_passed : {X Z : Type 0} (c d : Cursor S Window) (r : Result Z ReadEnd) (e : ReadEnd) → IsErrAnd r (λ x. x ≡ e) → GoesBy {X = X} tells left faults c d (Err e) → GoesBy {X = Z} tells left faults c d r
   goes_passed c d (Ok x) e h a = absurd h
-  goes_passed {Z = Z} c d (Err x) e h a = subst (λ z. Goes {X = Z} tells left faults c d (Err z)) (sym h) (goes_end tells left faults c d e a)
+  goes_passed {Z = Z} c d (Err x) e h a = subst (λ z. GoesBy {X = Z} tells left faults c d (Err z)) (sym h) (goes_end tells left faults c d e a)
 
   -- a part, and then another
-  pub reads_then : {X Z : Type 0} (P : List Field → Type 0) (Q : Z → List Field → Type 0) (t : BareLayout) (u : ℕ → BareLayout) (c d e : Cursor S Window) (x : X) (r : Result Z ReadEnd) → Goes tells left faults c d (Ok x) → Took tells left t tt P c d → ReadsFueled tells left Q u d e r → ReadsFueled tells left (λ z. Beside P (Q z)) (λ n. and_then t (u n)) c e r
+  pub reads_then : {X Z : Type 0} (P : List Field → Type 0) (Q : Z → List Field → Type 0) (t : BareLayout) (u : ℕ → BareLayout) (c d e : Cursor S Window) (x : X) (r : Result Z ReadEnd) → GoesBy tells left faults c d (Ok x) → Took tells left t tt P c d → ReadsFueled tells left Q u d e r → ReadsFueled tells left (λ z. Beside P (Q z)) (λ n. and_then t (u n)) c e r
   reads_then P Q t u c d e x (Ok z) g a b n lt = took_then tells left faults t (λ y. u n) tt tt P (Q z) c d e x g a (b n (let l = took_less tells left faults t tt P c d g.same_bound a in omega arith))
   reads_then P Q t u c d e x (Err end) g a b n lt = took_end tells left faults t (λ y. u n) tt P c d e x end g a (b n (let l = took_less tells left faults t tt P c d g.same_bound a in omega arith))
 
   -- a part, and then another that ends inside
-  pub reads_end : {X : Type 0} (P : List Field → Type 0) (t v : BareLayout) (u : ℕ → BareLayout) (c d e : Cursor S Window) (x : X) (end : ReadEnd) → Goes tells left faults c d (Ok x) → Took tells left t tt P c d → Ends tells left v d e end → (n : ℕ) → left_of c < n → Ends tells left (and_then t (and_then v (u n))) c e end
+  pub reads_end : {X : Type 0} (P : List Field → Type 0) (t v : BareLayout) (u : ℕ → BareLayout) (c d e : Cursor S Window) (x : X) (end : ReadEnd) → GoesBy tells left faults c d (Ok x) → Took tells left t tt P c d → Ends tells left v d e end → (n : ℕ) → left_of c < n → Ends tells left (and_then t (and_then v (u n))) c e end
   reads_end P t v u c d e x end g a b n lt = took_end tells left faults t (λ y. and_then v (u n)) tt P c d e x end g a (end_reads tells left faults v (λ y. u n) d e end b)
 
   -- two parts, and then another
-  pub reads_three : {X Y Z : Type 0} (P Q : List Field → Type 0) (R : Z → List Field → Type 0) (t v : BareLayout) (u : ℕ → BareLayout) (c d e f : Cursor S Window) (x : X) (y : Y) (r : Result Z ReadEnd) → Goes tells left faults c d (Ok x) → Took tells left t tt P c d → Goes tells left faults d e (Ok y) → Took tells left v tt Q d e → ReadsFueled tells left R u e f r
+  pub reads_three : {X Y Z : Type 0} (P Q : List Field → Type 0) (R : Z → List Field → Type 0) (t v : BareLayout) (u : ℕ → BareLayout) (c d e f : Cursor S Window) (x : X) (y : Y) (r : Result Z ReadEnd) → GoesBy tells left faults c d (Ok x) → Took tells left t tt P c d → GoesBy tells left faults d e (Ok y) → Took tells left v tt Q d e → ReadsFueled tells left R u e f r
       → ReadsFueled tells left (λ z. Beside P (Beside Q (R z))) (λ n. and_then t (and_then v (u n))) c f r
   reads_three P Q R t v u c d e f x y r g a h b l = reads_then P (λ z. Beside Q (R z)) t (λ n. and_then v (u n)) c d f x r g a (reads_then Q R v u d e f y r h b l)
 
@@ -70,7 +70,7 @@ module _ {S : Type 0} (tells : S → Type 0) (left : S → List ℕ) (faults : S
   pub count_end : (t : ℕ → BareLayout) (c d : Cursor S Window) (end : ReadEnd) → Ends tells left count_layout c d end → (n : ℕ) → left_of c < n → Ends tells left (list_layout (t n)) c d end
   count_end t c d end a n lt = end_reads tells left faults count_layout (λ k. times k (t n)) c d end a
 
-  module _ {X : Type 0} (P : X → List Field → Type 0) (heavy : X → ℕ) (t : ℕ → BareLayout) (count : ℕ) (c d : Cursor S Window) (g : Goes tells left faults c d (Ok count)) (a : Took tells left count_layout count (CountBy count) c d) where
+  module _ {X : Type 0} (P : X → List Field → Type 0) (heavy : X → ℕ) (t : ℕ → BareLayout) (count : ℕ) (c d : Cursor S Window) (g : GoesBy tells left faults c d (Ok count)) (a : Took tells left count_layout count (CountBy count) c d) where
     less : left_of d ≤ left_of c
     less = took_less tells left faults count_layout count (CountBy count) c d g.same_bound a
 
@@ -91,7 +91,7 @@ module _ {S : Type 0} (tells : S → Type 0) (left : S → List ℕ) (faults : S
   -- Packets.
 
   -- version and headers, and then the messages, all with fuel
-  pub versioned : (c d e f : Cursor S Window) (v : ℕ) (hs : List KeptHeader) (r : Result (List KeptMessage) ReadEnd) → Goes tells left faults c d (Ok v) → Took tells left version_layout tt (VersionBy v) c d → Goes tells left faults d e (Ok hs) → ReadsFueled tells left KeptHeaders (λ n. list_layout (header_layout n)) d e (Ok hs) → ReadsFueled tells left KeptMessages (λ n. list_layout (message_layout n)) e f r
+  pub versioned : (c d e f : Cursor S Window) (v : ℕ) (hs : List KeptHeader) (r : Result (List KeptMessage) ReadEnd) → GoesBy tells left faults c d (Ok v) → Took tells left version_layout tt (VersionBy v) c d → GoesBy tells left faults d e (Ok hs) → ReadsFueled tells left KeptHeaders (λ n. list_layout (header_layout n)) d e (Ok hs) → ReadsFueled tells left KeptMessages (λ n. list_layout (message_layout n)) e f r
       → ReadsFueled tells left (λ ms. Beside (VersionBy v) (Beside (KeptHeaders hs) (KeptMessages ms))) packet_layout c f r
   versioned c d e f v hs (Ok ms) g a h b k n lt =
       let less = took_less tells left faults version_layout tt (VersionBy v) c d g.same_bound a in
@@ -107,7 +107,7 @@ module _ {S : Type 0} (tells : S → Type 0) (left : S → List ℕ) (faults : S
       (took_end tells left faults (list_layout (header_layout n)) (λ y. list_layout (message_layout n)) tt (KeptHeaders hs) d e f hs end h hb (k n (omega arith)))
 
   -- it ends inside the headers
-  pub headed_end : (c d e : Cursor S Window) (v : ℕ) (end : ReadEnd) → Goes tells left faults c d (Ok v) → Took tells left version_layout tt (VersionBy v) c d → ((n : ℕ) → left_of d < n → Ends tells left (list_layout (header_layout n)) d e end) → (n : ℕ) → left_of c < n → Ends tells left (packet_layout n) c e end
+  pub headed_end : (c d e : Cursor S Window) (v : ℕ) (end : ReadEnd) → GoesBy tells left faults c d (Ok v) → Took tells left version_layout tt (VersionBy v) c d → ((n : ℕ) → left_of d < n → Ends tells left (list_layout (header_layout n)) d e end) → (n : ℕ) → left_of c < n → Ends tells left (packet_layout n) c e end
   headed_end c d e v end g a k n lt =
       let less = took_less tells left faults version_layout tt (VersionBy v) c d g.same_bound a in
       took_end tells left faults version_layout (λ y. and_then (list_layout (header_layout n)) (list_layout (message_layout n))) tt (VersionBy v) c d e v end g a

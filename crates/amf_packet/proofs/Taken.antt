@@ -5,7 +5,7 @@ use Rattle.amf_io.specs.declared.window.Window.{Window}
 use Rattle.amf_io.specs.declared.cursor.Cursor.{Cursor}
 use Rattle.amf_io.specs.declared.ends.ReadEnd.{ReadEnd}
 use Rattle.amf_io.specs.Cursor.{place, bound, unread}
-use Rattle.amf_io.specs.ReadEnds.{IsPlaced, Goes}
+use Rattle.amf_io.specs.ReadEnds.{IsPlaced, GoesBy}
 use Rattle.amf_io.specs.CursorReads.{Answers, Ends}
 use Rattle.amf_io.specs.Field.{Field, flat}
 use Rattle.amf_io.specs.Layout.{Layout, give, bind, Path}
@@ -19,7 +19,7 @@ use Rattle.amf_packet.specs.ReadParts.{Took, ListSo}
 
 module _ {S : Type 0} (tells : S → Type 0) (left : S → List ℕ) (faults : S → ℕ) where
   -- one after the other
-  pub took_then : {X Y Z : Type 0} (t : Layout Y) (next : Y → Layout Z) (y : Y) (z : Z) (P Q : List Field → Type 0) (c d e : Cursor S Window) (x : X) → Goes tells left faults c d (Ok x) → Took tells left t y P c d → Took tells left (next y) z Q d e → Took tells left (bind t next) z (Beside P Q) c e
+  pub took_then : {X Y Z : Type 0} (t : Layout Y) (next : Y → Layout Z) (y : Y) (z : Z) (P Q : List Field → Type 0) (c d e : Cursor S Window) (x : X) → GoesBy tells left faults c d (Ok x) → Took tells left t y P c d → Took tells left (next y) z Q d e → Took tells left (bind t next) z (Beside P Q) c e
   took_then t next y z P Q c d e x g (a, p) (b, q) = (
     record {
       fields = a.fields ++ b.fields;
@@ -34,7 +34,7 @@ module _ {S : Type 0} (tells : S → Type 0) (left : S → List ℕ) (faults : S
   )
 
   -- an end behind what was taken
-  pub took_end : {X Y Z : Type 0} (t : Layout Y) (next : Y → Layout Z) (y : Y) (P : List Field → Type 0) (c d e : Cursor S Window) (x : X) (end : ReadEnd) → Goes tells left faults c d (Ok x) → Took tells left t y P c d → Ends tells left (next y) d e end → Ends tells left (bind t next) c e end
+  pub took_end : {X Y Z : Type 0} (t : Layout Y) (next : Y → Layout Z) (y : Y) (P : List Field → Type 0) (c d e : Cursor S Window) (x : X) (end : ReadEnd) → GoesBy tells left faults c d (Ok x) → Took tells left t y P c d → Ends tells left (next y) d e end → Ends tells left (bind t next) c e end
   took_end {X} {Y} {Z} t next y P c d e x end g a b = then_reads tells left faults {X = Y} {Y = Y} {Z = Z} {W = Z} (λ u. u) (λ u. u) t next c d e y (Err end) (record { told = g.told; same_source = g.same_source; same_bound = g.same_bound; one_past = g.one_past; cause = g.cause; none_ahead = tt; total = g.total }) a.0 b
 
   -- what was taken leaves no more than there was
@@ -42,7 +42,7 @@ module _ {S : Type 0} (tells : S → Type 0) (left : S → List ℕ) (faults : S
   took_less t y P c d same (a, p) = let u = a.taken in omega (arith, same)
 
   -- it is placed where it ends
-  pub took_placed : {X Y : Type 0} (t : Layout Y) (y : Y) (P : List Field → Type 0) (c d : Cursor S Window) (x : X) → Goes tells left faults c d (Ok x) → Took tells left t y P c d → IsPlaced d
+  pub took_placed : {X Y : Type 0} (t : Layout Y) (y : Y) (P : List Field → Type 0) (c d : Cursor S Window) (x : X) → GoesBy tells left faults c d (Ok x) → Took tells left t y P c d → IsPlaced d
   took_placed t y P c d x g (a, p) = record { within = subst (λ n. place d ≤ n) (sym g.same_bound) a.within; one_past = g.one_past }
 
   -- what a reader answered, of which the fields are known
@@ -77,7 +77,7 @@ module _ {S : Type 0} (tells : S → Type 0) (left : S → List ℕ) (faults : S
     }
 
     -- one more was read
-    pub list_more : (more : ℕ) (xs : List X) (w : ℕ) (c d e : Cursor S Window) (x : X) → ListSo tells left faults P heavy t count (suc more) xs w c d → Goes tells left faults d e (Ok x) → IsPlaced e → ((n : ℕ) → left_of d < n → Took tells left (t n) tt (P x) d e) → place d + heavy x ≤ place e
+    pub list_more : (more : ℕ) (xs : List X) (w : ℕ) (c d e : Cursor S Window) (x : X) → ListSo tells left faults P heavy t count (suc more) xs w c d → GoesBy tells left faults d e (Ok x) → IsPlaced e → ((n : ℕ) → left_of d < n → Took tells left (t n) tt (P x) d e) → place d + heavy x ≤ place e
         → ListSo tells left faults P heavy t count more (xs ++ x ∷ []) (w + heavy x) c e
     list_more more xs w c d e x l g p a h = record {
       goes = goes_then tells left faults c d e tt (Ok tt) l.goes (record { told = g.told; same_source = g.same_source; same_bound = g.same_bound; one_past = g.one_past; cause = g.cause; none_ahead = tt; total = g.total });

@@ -5,12 +5,12 @@ use Rattle.amf_io.specs.declared.window.Window.{Window}
 use Rattle.amf_io.specs.declared.cursor.Cursor.{Cursor}
 use Rattle.amf_io.specs.declared.ends.ReadEnd.{ReadEnd}
 use Rattle.amf_io.specs.Cursor.{source_of, place, bound, unread}
-use Rattle.amf_io.specs.ReadEnds.{IsPlaced, Goes}
+use Rattle.amf_io.specs.ReadEnds.{IsPlaced, GoesBy}
 use Rattle.amf_io.specs.CursorReads.{Ends}
 use Rattle.amf_io.specs.Field.{Field, flat, AreBytes}
 use Rattle.amf_io.proofs.CursorReads.{end_reads}
 use Rattle.amf_wire.specs.Style.{free}
-use Rattle.amf_graph.specs.Arena.{Arena, Names, graph_of, value_content}
+use Rattle.amf_graph.specs.Arena.{Arena, Names}
 use Rattle.amf_graph.specs.Bounds.{weight}
 use Rattle.amf_graph.specs.Building.{no_arena}
 use Rattle.amf_graph.specs.Rooted.{RootedArena}
@@ -18,10 +18,11 @@ use Rattle.amf_graph.specs.declared.value.Value.{Value as Stored}
 use Rattle.amf0_spelling.specs.declared.form.Form.{Form}
 use Rattle.amf0_spelling.specs.declared.form.Form.TheVariants as form
 use Rattle.amf0_spelling.specs.KeptTables0.{KeptTables0, no_kept_tables0}
-use Rattle.amf0_spelling.specs.Reads0.{IsReading0, IsValue0}
+use Rattle.amf0_spelling.specs.Reads0.{IsReading0}
+use Rattle.amf0_spelling.specs.Values0.{IsValue0}
 use Rattle.amf0_spelling.specs.Tables0.{no_tables0}
 use Rattle.amf0_layout.specs.Layout0.{value0_layout}
-use Rattle.amf0_layout.proofs.Layout0Format.{values0_is_layout}
+use Rattle.amf0_layout.proofs.Layout0Format.{values0_is_layout, answered0}
 use Rattle.amf0_read.specs.declared.formed.Read0.{Read0}
 use Rattle.amf0_read.specs.Answer0.{IsReadWith, Answers0}
 use Rattle.amf_io.specs.Stretch.{AnswersOf, between}
@@ -34,13 +35,13 @@ use Rattle.amf_packet.specs.Packet.{BodyBy}
 use Rattle.amf_packet.specs.PacketAnswer.{body_weight}
 use Rattle.amf_packet.specs.LayoutPacket.{done, no_state0, body_layout}
 use Rattle.amf_packet.specs.ReadParts.{Took}
-use Rattle.amf_packet.proofs.Bytes0.{bytes0}
+use Rattle.amf0_spelling.proofs.Bytes0.{bytes0}
 use Rattle.amf_packet.proofs.ReadValues.{all_closed, has_item, body_spelled}
 use Rattle.amf_packet.proofs.Taken.{took_of}
 use Rattle.amf_io.proofs.VerdictLayouts.{taken_done, ended_ends}
 
 value_bytes : (fs : List Field) → IsValue0 fs → AreBytes (flat fs)
-value_bytes fs p = bytes0 free (graph_of p.graph p.value) (value_content p.graph p.value) no_tables0 fs p.after p.spelled
+value_bytes fs (g, (t, spelled)) = bytes0 free g g.root no_tables0 fs t spelled
 
 -- how large the graph of a body is
 pub body_weighs : (g : RootedArena) (f : Form) (body : Body) → IsBodyOf g f body → body_weight body ≡ weight g.arena
@@ -82,7 +83,7 @@ module _ {S : Type 0} (tells : S → Type 0) (left : S → List ℕ) (faults : S
   pub call_has_item : (b : Arena) (u : KeptTables0) (x : Read0) (g : RootedArena) → Answered b u (Ok x) → g ≡ record { arena = b; root = x.value } → x.form ≡ form.Call → (item : Stored) × IsCallOf g item
   call_has_item b u x g a is e = subst (λ (z : RootedArena). (item : Stored) × IsCallOf z item) (sym is) (has_item b u x a.fields a.read e)
 
-  pub value_placed : {X : Type 0} (b : Arena) (u : KeptTables0) (x : Read0) (z : X) → Answered b u (Ok x) → Goes tells left faults c d (Ok z) → IsPlaced d
+  pub value_placed : {X : Type 0} (b : Arena) (u : KeptTables0) (x : Read0) (z : X) → Answered b u (Ok x) → GoesBy tells left faults c d (Ok z) → IsPlaced d
   value_placed b u x z a g = record { within = subst (λ n. place d ≤ n) (sym g.same_bound) a.within; one_past = g.one_past }
 
   pub value_stays : (b : Arena) (u : KeptTables0) (x : Read0) → Answered b u (Ok x) → place c ≤ place d
@@ -91,7 +92,7 @@ module _ {S : Type 0} (tells : S → Type 0) (left : S → List ℕ) (faults : S
   -- a value
   pub value_took : (b : Arena) (u : KeptTables0) (x : Read0) (g : RootedArena) (body : Body) → place c ≤ bound c → Answered b u (Ok x) → g ≡ record { arena = b; root = x.value } → IsBodyOf g x.form body → (n : ℕ) → left_of c < n → Took tells left (body_layout n) tt (BodyBy free (body_of body).form (body_of body).graph) c d
   value_took b u x g body le a is i n lt =
-      let k = taken_done (λ m. value0_layout m false no_state0) IsValue0 values0_is_layout value_bytes (place c) (bound c) le {X = Read0} (λ y fs. IsReadWith no_arena no_kept_tables0 fs b u y) (tells (source_of c).now) (unread left c) (unread left d) (place d) n x lt a in
+      let k = taken_done (λ m. value0_layout m false no_state0) IsValue0 values0_is_layout value_bytes (place c) (bound c) le {X = Read0} (λ y fs. IsReadWith no_arena no_kept_tables0 fs b u y) (tells (source_of c).now) (unread left c) (unread left d) (place d) n x lt (answered0 (λ y fs. IsReadWith no_arena no_kept_tables0 fs b u y) (between tells left c d) (Ok x) a) in
       took_of tells left faults {X = Unit {0}} (λ y. k.0) (value0_layout n false no_state0) tt (λ y. done) (BodyBy free (body_of body).form (body_of body).graph) c d tt refl k.1
       (body_spelled b u x k.1.fields k.2 body (subst (λ (z : RootedArena). IsBodyOf z x.form body) is i))
 
@@ -99,4 +100,4 @@ module _ {S : Type 0} (tells : S → Type 0) (left : S → List ℕ) (faults : S
   pub value_ended : (b : Arena) (u : KeptTables0) (e : ReadEnd) → place c ≤ bound c → Answered b u (Err e) → (n : ℕ) → left_of c < n → Ends tells left (body_layout n) c d e
   value_ended b u e le a n lt =
       end_reads tells left faults (value0_layout n false no_state0) (λ y. done) c d e
-      (ended_ends (λ m. value0_layout m false no_state0) IsValue0 values0_is_layout value_bytes (place c) (bound c) le {X = Read0} (λ y fs. IsReadWith no_arena no_kept_tables0 fs b u y) (tells (source_of c).now) (unread left c) (unread left d) (place d) n lt e a)
+      (ended_ends (λ m. value0_layout m false no_state0) IsValue0 values0_is_layout value_bytes (place c) (bound c) le {X = Read0} (λ y fs. IsReadWith no_arena no_kept_tables0 fs b u y) (tells (source_of c).now) (unread left c) (unread left d) (place d) n lt e (answered0 (λ y fs. IsReadWith no_arena no_kept_tables0 fs b u y) (between tells left c d) (Err e) a))

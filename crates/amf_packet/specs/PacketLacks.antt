@@ -42,3 +42,7 @@ pub record IsPacketLack (p : Packet) (value number : ℕ) (kind : LackKind) : Ty
   pub at : slice_get (bodies p) value ≡ Some body
   pub lack : IsBodyLack body.form body.graph number kind
   pub least : (k n : ℕ) (b : Body) (other : LackKind) → k < value → slice_get (bodies p) k ≡ Some b → IsBodyLack b.form b.graph n other → ⊥
+
+-- the counts and texts fit their fields, and of the first value that has no spelling this is the first lack
+abbrev pub IsOnlyLack : Packet → ℕ → ℕ → LackKind → Type 0
+IsOnlyLack p value number kind = (IsTooMany p → ⊥) × ((v : ℕ) → IsLongText p v → ⊥) × IsPacketLack p value number kind

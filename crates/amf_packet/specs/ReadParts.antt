@@ -4,7 +4,7 @@ use Rattle.amf_io.specs.declared.window.Window.{Window}
 use Rattle.amf_io.specs.declared.cursor.Cursor.{Cursor}
 use Rattle.amf_io.specs.declared.ends.ReadEnd.{ReadEnd}
 use Rattle.amf_io.specs.Cursor.{source_of, place, bound, unread}
-use Rattle.amf_io.specs.ReadEnds.{IsPlaced, Goes}
+use Rattle.amf_io.specs.ReadEnds.{IsPlaced, GoesBy}
 use Rattle.amf_io.specs.CursorReads.{Ends}
 use Rattle.amf_io.specs.Field.{Field, u16_kind, no_refusal}
 use Rattle.amf_io.specs.Layout.{Layout, give, want}
@@ -35,7 +35,7 @@ count_layout = want (u16_kind no_refusal) (λ b. give (from_be_bytes w16 b))
 
 -- what was read of a list so far: each item, and so many are still to come
 pub record ListSo {S X : Type 0} (tells : S → Type 0) (left : S → List ℕ) (faults : S → ℕ) (P : X → List Field → Type 0) (heavy : X → ℕ) (t : ℕ → BareLayout) (count more : ℕ) (xs : List X) (weight : ℕ) (c d : Cursor S Window) : Type 0 where
-  pub goes : Goes {X = Unit {0}} tells left faults c d (Ok tt)
+  pub goes : GoesBy {X = Unit {0}} tells left faults c d (Ok tt)
   pub placed : IsPlaced d
   pub leads : (n : ℕ) → left_of c < n → (l : LeadsBy (tells (source_of c).now) (times count (t n)) (times more (t n)) (unread left c) (unread left d) (place c) (place d) (bound c)) × Each P xs l.fields
   pub size : length xs + more ≡ count

@@ -7,7 +7,7 @@ use Rattle.amf_wire.specs.Text.{IsText}
 use Rattle.amf_graph.specs.declared.lack.LackKind.{LackKind}
 use Rattle.amf_packet.specs.declared.packet_end.PacketEnd.{PacketEnd}
 use Rattle.amf_packet.specs.declared.packet_end.PacketEnd.TheVariants.{NoSpelling, Memory}
-use Rattle.amf_packet.specs.Packet.{Body, Header, Message, BodyBy}
+use Rattle.amf_packet.specs.Packet.{Body, Header, Message, BodyBy, HeaderBy, MessageBy, ListBy}
 use Rattle.amf_packet.specs.PacketLacks.{IsBodyLack, AreShort}
 
 -- bytes stand behind those that were there
@@ -57,6 +57,14 @@ Writes P L old new (Ok u) = Appends P old new
 Writes P L old new (Err Memory) = Unit {0}
 Writes P L old new (Err (NoSpelling value lack)) = L value lack.node lack.kind
 Writes P L old new (Err _) = ⊥
+
+-- so it writes how many headers there are, and then each
+abbrev pub WritesHeaders : List Header → List ℕ → List ℕ → Result (Unit {0}) PacketEnd → Type 0
+WritesHeaders hs old new result = Writes (ListBy (HeaderBy canonical) hs) (LacksFirst 0 (header_bodies hs)) old new result
+
+-- and so how many messages there are, and then each; the value of the first has this number
+abbrev pub WritesMessages : ℕ → List Message → List ℕ → List ℕ → Result (Unit {0}) PacketEnd → Type 0
+WritesMessages first ms old new result = Writes (ListBy (MessageBy canonical) ms) (LacksFirst first (message_bodies ms)) old new result
 
 -- the first of the lists with a text that is too long, where there is one
 abbrev pub IsFirstLong : List (List (List ℕ)) → Option ℕ → Type 0

@@ -26,7 +26,7 @@ use std::hash::RandomState;
 /// Texts are looked up by fixed keys, so whoever knows them can make a packet that takes long: `read_packet_keyed` is passed others.
 pub fn read_packet<S: Source>(alloc: Global, cursor: &mut Cursor<'_, S>) -> Result<Packet, ReadEnd>
     requires room { left_of cursor.old < 2 ^ 27 }
-    ensures goes { Goes S.tells S.left S.faults cursor.old cursor.new result }
+    ensures goes { Goes S.Source cursor.old cursor.new result }
     ensures answers { AnswersPacket S.tells S.left cursor.old cursor.new result }
     ensures weighs { IfOk result (λ packet. place cursor.old + packet_weight packet ≤ place cursor.new) }
 {
@@ -41,7 +41,7 @@ pub fn read_packet_keyed<S: Source>(
     cursor: &mut Cursor<'_, S>,
 ) -> Result<Packet, ReadEnd>
     requires room { left_of cursor.old < 2 ^ 27 }
-    ensures goes { Goes S.tells S.left S.faults cursor.old cursor.new result }
+    ensures goes { Goes S.Source cursor.old cursor.new result }
     ensures answers { AnswersPacket S.tells S.left cursor.old cursor.new result }
     ensures weighs { IfOk result (λ packet. place cursor.old + packet_weight packet ≤ place cursor.new) }
 {
@@ -64,7 +64,7 @@ fn read_headers<S: Source>(
     cursor: &mut Cursor<'_, S>,
 ) -> Result<Headers, ReadEnd>
     requires room { left_of cursor.old < 2 ^ 27 }
-    ensures goes { Goes S.tells S.left S.faults cursor.old cursor.new result }
+    ensures goes { Goes S.Source cursor.old cursor.new result }
     ensures reads { ReadsFueled S.tells S.left (λ hs. ListBy (λ h. HeaderBy free (header_of h)) hs) (λ n. list_layout (header_layout n)) cursor.old cursor.new result }
     ensures placed { OnOk result (IsPlaced cursor.new) }
     ensures weighs { IfOk result (λ hs. place cursor.old + headers_weight hs ≤ place cursor.new) }
@@ -84,7 +84,7 @@ fn read_header<S: Source>(
     cursor: &mut Cursor<'_, S>,
 ) -> Result<Header, ReadEnd>
     requires room { left_of cursor.old < 2 ^ 27 }
-    ensures goes { Goes S.tells S.left S.faults cursor.old cursor.new result }
+    ensures goes { Goes S.Source cursor.old cursor.new result }
     ensures reads { ReadsFueled S.tells S.left (λ h. HeaderBy free (header_of h)) header_layout cursor.old cursor.new result }
     ensures placed { OnOk result (IsPlaced cursor.new) }
     ensures weighs { IfOk result (λ h. place cursor.old + body_weight h.body ≤ place cursor.new) }
@@ -102,7 +102,7 @@ fn read_messages<S: Source>(
     cursor: &mut Cursor<'_, S>,
 ) -> Result<Messages, ReadEnd>
     requires room { left_of cursor.old < 2 ^ 27 }
-    ensures goes { Goes S.tells S.left S.faults cursor.old cursor.new result }
+    ensures goes { Goes S.Source cursor.old cursor.new result }
     ensures reads { ReadsFueled S.tells S.left (λ ms. ListBy (λ m. MessageBy free (message_of m)) ms) (λ n. list_layout (message_layout n)) cursor.old cursor.new result }
     ensures placed { OnOk result (IsPlaced cursor.new) }
     ensures weighs { IfOk result (λ ms. place cursor.old + messages_weight ms ≤ place cursor.new) }
@@ -122,7 +122,7 @@ fn read_message<S: Source>(
     cursor: &mut Cursor<'_, S>,
 ) -> Result<Message, ReadEnd>
     requires room { left_of cursor.old < 2 ^ 27 }
-    ensures goes { Goes S.tells S.left S.faults cursor.old cursor.new result }
+    ensures goes { Goes S.Source cursor.old cursor.new result }
     ensures reads { ReadsFueled S.tells S.left (λ m. MessageBy free (message_of m)) message_layout cursor.old cursor.new result }
     ensures placed { OnOk result (IsPlaced cursor.new) }
     ensures weighs { IfOk result (λ m. place cursor.old + body_weight m.body ≤ place cursor.new) }

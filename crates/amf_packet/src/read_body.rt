@@ -1,8 +1,6 @@
-ghost use Rattle.std.specs.Prelude.{◌≡◌, ℕ, ◌+◌, ◌<◌, ◌≤◌, ◌^◌, List, [], ◌∷◌, length, IfOk, OnOk, false};
-ghost use Rattle.std.specs.List.{AllByRecursion};
+ghost use Rattle.std.specs.Prelude.{◌≡◌, ◌+◌, ◌<◌, ◌≤◌, ◌^◌, ◌∷◌, IfOk, OnOk};
 ghost use Rattle.amf_io.specs.Cursor.{place};
 ghost use Rattle.amf_io.specs.ReadEnds.{IsPlaced, Goes};
-ghost use Rattle.amf_graph.specs.Arena.{Names};
 ghost use Rattle.amf_graph.specs.declared.value.Value.{Value as Stored};
 ghost use Rattle.amf_wire.specs.Style.{free};
 ghost use Rattle.amf_fields.specs.Room.{left_of};
@@ -29,7 +27,7 @@ pub fn read_body<S: Source>(
     cursor: &mut Cursor<'_, S>,
 ) -> Result<Body, ReadEnd>
     requires room { left_of cursor.old < 2 ^ 27 }
-    ensures goes { Goes S.tells S.left S.faults cursor.old cursor.new result }
+    ensures goes { Goes S.Source cursor.old cursor.new result }
     ensures reads { ReadsFueled S.tells S.left (λ b. SizedBy free (body_of b)) sized_layout cursor.old cursor.new result }
     ensures placed { OnOk result (IsPlaced cursor.new) }
     ensures weighs { IfOk result (λ b. place cursor.old + body_weight b ≤ place cursor.new) }
@@ -45,7 +43,7 @@ fn read_value<S: Source>(
     cursor: &mut Cursor<'_, S>,
 ) -> Result<Body, ReadEnd>
     requires room { left_of cursor.old < 2 ^ 27 }
-    ensures goes { Goes S.tells S.left S.faults cursor.old cursor.new result }
+    ensures goes { Goes S.Source cursor.old cursor.new result }
     ensures reads { ReadsFueled S.tells S.left (λ b. BodyBy free (body_of b).form (body_of b).graph) body_layout cursor.old cursor.new result }
     ensures placed { OnOk result (IsPlaced cursor.new) }
     ensures weighs { IfOk result (λ b. place cursor.old + body_weight b ≤ place cursor.new) }
@@ -55,20 +53,8 @@ fn read_value<S: Source>(
     let mut builder = Builder::keyed(alloc, keys)?;
     let mut tables = Tables0::new(alloc)?;
     let read = read0(alloc, cursor, &mut builder, &mut tables)?;
-    let graph = whole(builder, read.value);
+    let graph = builder.whole(read.value);
     Ok(formed(graph, read.form))
-}
-
-/// The graph with this root, of which all nodes are closed.
-fn whole(builder: Builder, root: Value) -> Rooted
-    requires names { Names builder root }
-    requires closed { AllByRecursion (λ n. n.is_open ≡ false) builder.nodes }
-    ensures { result ≡ record { arena = builder; root = root } }
-{
-    match builder.finish(root) {
-        Ok(graph) => graph,
-        Err(_) => unreachable!(),
-    }
 }
 
 /// The body of a graph in this form: of a call the graph is that of the one item.

@@ -14,7 +14,7 @@ use std::alloc::Global;
 
 /// Reads the version of a packet: `BadVersion` where it is not 0, 1 or 3.
 pub fn read_version<S: Source>(cursor: &mut Cursor<'_, S>) -> Result<u16, ReadEnd>
-    ensures goes { Goes S.tells S.left S.faults cursor.old cursor.new result }
+    ensures goes { Goes S.Source cursor.old cursor.new result }
     ensures reads { ReadsBare S.tells S.left VersionBy version_layout cursor.old cursor.new result }
     ensures stays { OnOk result (place cursor.old ≤ place cursor.new) }
 {
@@ -36,7 +36,7 @@ fn is_served(version: u16) -> bool
 
 /// Reads how many headers or messages follow.
 pub fn read_count<S: Source>(cursor: &mut Cursor<'_, S>) -> Result<u16, ReadEnd>
-    ensures goes { Goes S.tells S.left S.faults cursor.old cursor.new result }
+    ensures goes { Goes S.Source cursor.old cursor.new result }
     ensures reads { Reads S.tells S.left CountBy (λ count. count) count_layout cursor.old cursor.new result }
     ensures stays { OnOk result (place cursor.old ≤ place cursor.new) }
     ensures placed { OnOk result (IsPlaced cursor.new) }
@@ -46,7 +46,7 @@ pub fn read_count<S: Source>(cursor: &mut Cursor<'_, S>) -> Result<u16, ReadEnd>
 
 /// Reads whether a header must be understood: any byte but 0 says that it must.
 pub fn read_must<S: Source>(cursor: &mut Cursor<'_, S>) -> Result<bool, ReadEnd>
-    ensures goes { Goes S.tells S.left S.faults cursor.old cursor.new result }
+    ensures goes { Goes S.Source cursor.old cursor.new result }
     ensures reads { ReadsBare S.tells S.left (MustBy free) must_layout cursor.old cursor.new result }
     ensures stays { OnOk result (place cursor.old ≤ place cursor.new) }
 {
@@ -55,7 +55,7 @@ pub fn read_must<S: Source>(cursor: &mut Cursor<'_, S>) -> Result<bool, ReadEnd>
 
 /// Reads the length of a value, which is not checked.
 pub fn read_length<S: Source>(cursor: &mut Cursor<'_, S>) -> Result<(), ReadEnd>
-    ensures goes { Goes S.tells S.left S.faults cursor.old cursor.new result }
+    ensures goes { Goes S.Source cursor.old cursor.new result }
     ensures reads { ReadsBare S.tells S.left (λ _. LengthBy free) length_layout cursor.old cursor.new result }
     ensures stays { OnOk result (place cursor.old ≤ place cursor.new) }
 {
@@ -65,7 +65,7 @@ pub fn read_length<S: Source>(cursor: &mut Cursor<'_, S>) -> Result<(), ReadEnd>
 
 /// Reads a name behind its length of 16 bits (AMF 0, 1.3.1).
 pub fn read_name<S: Source>(alloc: Global, cursor: &mut Cursor<'_, S>) -> Result<Name, ReadEnd>
-    ensures goes { Goes S.tells S.left S.faults cursor.old cursor.new result }
+    ensures goes { Goes S.Source cursor.old cursor.new result }
     ensures reads { ReadsBare S.tells S.left Short name_layout cursor.old cursor.new result }
     ensures stays { OnOk result (place cursor.old ≤ place cursor.new) }
 {

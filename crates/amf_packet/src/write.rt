@@ -5,7 +5,7 @@ ghost use Rattle.amf_wire.specs.Style.{canonical};
 ghost use Rattle.amf_graph.specs.declared.lack.Lack.{Lack};
 ghost use Rattle.amf_packet.specs.Content.{packet_of};
 ghost use Rattle.amf_packet.specs.Packet.{SpellsPacket, is_version};
-ghost use Rattle.amf_packet.specs.PacketLacks.{bodies, texts_by_value, IsTooMany, IsLongText, IsPacketLack};
+ghost use Rattle.amf_packet.specs.PacketLacks.{bodies, texts_by_value, IsTooMany, IsLongText, IsOnlyLack};
 ghost use Rattle.amf_packet.specs.WriteParts.{FitTexts, LacksFirst, Writes};
 ghost use Rattle.amf_packet.specs.WrittenPacket.{HasTexts, AppendsPacket};
 
@@ -32,7 +32,7 @@ pub fn write_packet(alloc: Global, packet: &Packet, out: &mut Vec<u8>) -> Result
     ensures written { OnOk result (AppendsPacket (packet_of packet.now) out.old.items out.new.items) }
     ensures many { IsErrOf result PacketEnd.TooMany ↔ IsTooMany (packet_of packet.now) }
     ensures long { (value : ℕ) → IsErrOf result (PacketEnd.LongText value) ↔ ((IsTooMany (packet_of packet.now) → ⊥) × IsLongText (packet_of packet.now) value) }
-    ensures lack { (value : ℕ) (l : Lack) → IsErrOf result (PacketEnd.NoSpelling value l) → (IsTooMany (packet_of packet.now) → ⊥) × ((v : ℕ) → IsLongText (packet_of packet.now) v → ⊥) × IsPacketLack (packet_of packet.now) value l.node l.kind }
+    ensures lack { (value : ℕ) (l : Lack) → IsErrOf result (PacketEnd.NoSpelling value l) → IsOnlyLack (packet_of packet.now) value l.node l.kind }
     ensures untouched { OnErr result (out.new.items ≡ out.old.items) }
 {
     write_packet_keyed(alloc, None, packet, out)
@@ -51,7 +51,7 @@ pub fn write_packet_keyed(
     ensures written { OnOk result (AppendsPacket (packet_of packet.now) out.old.items out.new.items) }
     ensures many { IsErrOf result PacketEnd.TooMany ↔ IsTooMany (packet_of packet.now) }
     ensures long { (value : ℕ) → IsErrOf result (PacketEnd.LongText value) ↔ ((IsTooMany (packet_of packet.now) → ⊥) × IsLongText (packet_of packet.now) value) }
-    ensures lack { (value : ℕ) (l : Lack) → IsErrOf result (PacketEnd.NoSpelling value l) → (IsTooMany (packet_of packet.now) → ⊥) × ((v : ℕ) → IsLongText (packet_of packet.now) v → ⊥) × IsPacketLack (packet_of packet.now) value l.node l.kind }
+    ensures lack { (value : ℕ) (l : Lack) → IsErrOf result (PacketEnd.NoSpelling value l) → IsOnlyLack (packet_of packet.now) value l.node l.kind }
     ensures untouched { OnErr result (out.new.items ≡ out.old.items) }
 {
     if is_too_many(packet) {

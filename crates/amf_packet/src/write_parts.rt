@@ -1,11 +1,11 @@
-ghost use Rattle.std.specs.Prelude.{◌≡◌, ℕ, ◌+◌, ◌<◌, ◌≤◌, ◌^◌, ◌∷◌, [], length, map, true, OnOk};
+ghost use Rattle.std.specs.Prelude.{◌≡◌, ◌+◌, ◌<◌, ◌≤◌, ◌^◌, ◌∷◌, [], length, map, true, OnOk};
 ghost use Rattle.std.specs.List.{AllByRecursion};
 ghost use Rattle.amf_wire.specs.Style.{canonical};
 ghost use Rattle.amf0_spelling.specs.Segments0.{Short};
 ghost use Rattle.amf_packet.specs.Content.{header_of, message_of, packet_of, body_of};
-ghost use Rattle.amf_packet.specs.Packet.{SpellsPacket, HeaderBy, MessageBy, ListBy, SizedBy, VersionBy, CountBy, MustBy, LengthBy, is_version};
+ghost use Rattle.amf_packet.specs.Packet.{SpellsPacket, HeaderBy, MessageBy, SizedBy, VersionBy, CountBy, MustBy, LengthBy, is_version};
 ghost use Rattle.amf_packet.specs.PacketLacks.{bodies, texts_by_value};
-ghost use Rattle.amf_packet.specs.WriteParts.{Grows, Appends, FitTexts, header_texts, message_texts, header_bodies, message_bodies, LacksFirst, LacksHere, Writes};
+ghost use Rattle.amf_packet.specs.WriteParts.{Grows, Appends, FitTexts, header_texts, message_texts, LacksFirst, LacksHere, Writes, WritesHeaders, WritesMessages};
 
 use crate::write_body::append_body;
 use crate::{Body, Header, Message, Packet, PacketEnd};
@@ -114,7 +114,7 @@ fn append_headers(
 ) -> Result<(), PacketEnd>
     requires few { length headers.now < 2 ^ 16 }
     requires texts { AllByRecursion FitTexts (header_texts (map header_of headers.now)) }
-    ensures writes { Writes (ListBy (HeaderBy canonical) (map header_of headers.now)) (LacksFirst 0 (header_bodies (map header_of headers.now))) out.old.items out.new.items result }
+    ensures writes { WritesHeaders (map header_of headers.now) out.old.items out.new.items result }
     ensures grows { Grows out.old.items out.new.items }
 {
     append_number(headers.len() as u16, out)?;
@@ -135,7 +135,7 @@ fn append_messages(
     requires few { length messages.now < 2 ^ 16 }
     requires first { first < 2 ^ 16 }
     requires texts { AllByRecursion FitTexts (message_texts (map message_of messages.now)) }
-    ensures writes { Writes (ListBy (MessageBy canonical) (map message_of messages.now)) (LacksFirst first (message_bodies (map message_of messages.now))) out.old.items out.new.items result }
+    ensures writes { WritesMessages first (map message_of messages.now) out.old.items out.new.items result }
     ensures grows { Grows out.old.items out.new.items }
 {
     append_number(messages.len() as u16, out)?;

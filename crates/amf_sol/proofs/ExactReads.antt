@@ -9,7 +9,7 @@ use Rattle.amf_io.specs.declared.reason.Reason.{Reason}
 use Rattle.amf_io.specs.declared.ends.ReadEnd.{ReadEnd}
 use Rattle.amf_io.specs.declared.ends.ReadEnd.TheVariants.{Refused, ReadFault, Memory}
 use Rattle.amf_io.specs.Cursor.{source_of, place, bound, unread}
-use Rattle.amf_io.specs.ReadEnds.{IsPlaced, Goes}
+use Rattle.amf_io.specs.ReadEnds.{IsPlaced, GoesBy}
 use Rattle.amf_io.specs.CursorReads.{Answers, AnswersField, Ends}
 use Rattle.amf_io.specs.Field.{Field, Kind, fixed, AreBytes, whole, flat, raw_kind}
 use Rattle.amf_io.specs.Layout.{Layout, give, want, Runs}
@@ -78,7 +78,7 @@ module _ {S : Type 0} (tells : S → Type 0) (left : S → List ℕ) (faults : S
   field_of (suc n) x lt a = came_raw (tells (source_of c).now) n x a.fields (unread left c) (unread left d) (place c) (place d) (bound c) a refl
 
   -- the bytes came
-  pub exact_came : (x : List ℕ) → Goes tells left faults c d (Ok x) → IsPlaced d → x ≡ bytes → Answers tells left (λ (y : List ℕ). y) (chunk raw_kind (length bytes) (λ b. give b)) c d (Ok x) → Answers tells left (λ (u : Unit {0}). u) (exact_layout reason bytes) c d (Ok tt)
+  pub exact_came : (x : List ℕ) → GoesBy tells left faults c d (Ok x) → IsPlaced d → x ≡ bytes → Answers tells left (λ (y : List ℕ). y) (chunk raw_kind (length bytes) (λ b. give b)) c d (Ok x) → Answers tells left (λ (u : Unit {0}). u) (exact_layout reason bytes) c d (Ok tt)
   exact_came x g p e a =
       field_reads tells left faults (λ (y : List ℕ). y) (λ (u : Unit {0}). u) (exact_kind reason bytes) (λ fixed. give tt) c d d x (Ok tt) g (field_of (length bytes) x some a)
       (ap (exact_kind reason bytes).refusal e ∙ equal_clean reason bytes) (gives tells left faults (λ (u : Unit {0}). u) d tt tt p refl)

@@ -10,7 +10,7 @@ use Rattle.amf_io.specs.declared.reason.Reason.TheVariants.{BadLength}
 use Rattle.amf_io.specs.declared.ends.ReadEnd.{ReadEnd}
 use Rattle.amf_io.specs.declared.ends.ReadEnd.TheVariants.{Refused, ReadFault, Memory}
 use Rattle.amf_io.specs.Cursor.{source_of, place, bound, unread}
-use Rattle.amf_io.specs.ReadEnds.{Goes}
+use Rattle.amf_io.specs.ReadEnds.{GoesBy}
 use Rattle.amf_io.specs.CursorReads.{Answers, Ends}
 use Rattle.amf_io.specs.Field.{Field, AreBytes, flat, u32_kind, no_refusal}
 use Rattle.amf_io.specs.Layout.{give, want, Path, Runs}
@@ -166,11 +166,11 @@ module _ {S : Type 0} (tells : S → Type 0) (left : S → List ℕ) (faults : S
   pub length_end : (d : Cursor S Window) → place c ≤ bound c → (e : ReadEnd) → Ends tells left length_layout c d e → AnswersFile (between tells left c d) (Err e)
   length_end d le e h = head_end d (suc (left_of c)) le (omega arith) e (end_reads tells left faults length_layout (λ size. rest_layout) c d e h)
 
-  module _ (size : ℕ) (d : Cursor S Window) (gs : Goes tells left faults c d (Ok size)) (al : Answers tells left (λ (n : ℕ). n) length_layout c d (Ok size)) where
+  module _ (size : ℕ) (d : Cursor S Window) (gs : GoesBy tells left faults c d (Ok size)) (al : Answers tells left (λ (n : ℕ). n) length_layout c d (Ok size)) where
     pub rest_end : (f : Cursor S Window) → place c ≤ bound c → (e : ReadEnd) → Ends tells left rest_layout d f e → AnswersFile (between tells left c f) (Err e)
     rest_end f le e h = head_end f (suc (left_of c)) le (omega arith) e (then_reads tells left faults (λ (n : ℕ). n) (λ (x : FileState). x) length_layout (λ size. rest_layout) c d f size (Err e) gs al h)
 
-    module _ (x : Head) (f : Cursor S Window) (gh : Goes tells left faults d f (Ok x)) (ah : Answers tells left (λ (y : Head). file y.version y.name no_pairs) rest_layout d f (Ok x)) where
+    module _ (x : Head) (f : Cursor S Window) (gh : GoesBy tells left faults d f (Ok x)) (ah : Answers tells left (λ (y : Head). file y.version y.name no_pairs) rest_layout d f (Ok x)) where
       abbrev state : FileState
       state = file x.version x.name no_pairs
 
@@ -221,7 +221,7 @@ module _ {S : Type 0} (tells : S → Type 0) (left : S → List ℕ) (faults : S
           (then_reads tells left faults (λ (y : FileState). y) (λ (y : FileState). y) head_layout (λ s. steps (pair_layout n) (suc p.many) s) c f g state (Err e) goes_state
           (record { fields = front; runs = front_runs; bytes = front_bytes; taken = (let p = al.taken in let q = ah.taken in let l = front_length in omega arith); within = (let w = ah.within in let s = gs.same_bound in omega arith); parts = front_parts }) p.ends)
         where
-          goes_state : Goes tells left faults c f (Ok state)
+          goes_state : GoesBy tells left faults c f (Ok state)
           goes_state = let g = goes_then tells left faults c d f size (Ok x) gs gh in record { told = g.told; same_source = g.same_source; same_bound = g.same_bound; one_past = g.one_past; cause = g.cause; none_ahead = tt; total = g.total }
 
           no_fewer : {n : ℕ} {e : ReadEnd} (p : PairsEnded (tells (source_of f).now) x.version n x.name (unread left f) (unread left g) (place f) (bound f) e) (k : ReadEnd) → GoesPast (tells (source_of f).now) (unread left f) p.fields k → NoFewer told (suc p.many) (unread left c) k

@@ -15,7 +15,7 @@ use Rattle.amf3_layout.proofs.Reader3Costs.{value_costs}
 use Rattle.amf3_layout.proofs.Reader3OpeningCosts.{Costs, costs_give, costs_want, costs_bind, costs_text}
 use Rattle.amf3_layout.proofs.Reader3Weight.{weight_text, weight_more_name, weight_shut}
 use Rattle.amf0_spelling.specs.KeptTables0.{KeptTables0}
-use Rattle.amf0_layout.specs.Layout0.{TextRead0, Read0, new_text0, short_layout, value0_layout}
+use Rattle.amf0_layout.specs.Layout0.{TextRead0, ValueRead0, new_text0, short_layout, value0_layout}
 use Rattle.amf0_layout.specs.Layout0State.{State0, state0_of, in_amf3}
 use Rattle.amf0_read.proofs.Costs0.{value0_costs}
 use Rattle.amf_sol.specs.declared.sol_version.SolVersion.{SolVersion}
@@ -59,7 +59,7 @@ costs_end version name s c le = costs_want file_size c pair_end.kind (λ zero. g
 costs_pair : (version : SolVersion) (n : ℕ) (name : List ℕ) (s : State0) → Costs file_size (size s) (pair_by version n name s)
 costs_pair Amf0 n name s =
     costs_bind name_size file_size (size s) (short_layout s) (λ x. bind (value0_layout n false x.state) (λ v. behind_pair Amf0 name (with_pair x.id v.value v.state))) (costs_name s)
-    (λ x. costs_bind (λ (v : Read0). size v.state) file_size (name_size x) (value0_layout n false x.state) (λ v. behind_pair Amf0 name (with_pair x.id v.value v.state)) (λ fs v r. omega (arith, value0_costs n false x.state fs v r))
+    (λ x. costs_bind (λ (v : ValueRead0). size v.state) file_size (name_size x) (value0_layout n false x.state) (λ v. behind_pair Amf0 name (with_pair x.id v.value v.state)) (λ fs v r. omega (arith, value0_costs n false x.state fs v r))
     (λ v. costs_end Amf0 name (with_pair x.id v.value v.state) (size v.state) (pair_added x.id v.value v.state)))
 costs_pair Amf3 n name s =
     costs_bind (λ (x : TextRead). weight x.state.arena + 1) file_size (size s) (text_layout s.amf3) (λ x. bind (value_layout n x.state) (λ v. behind_pair Amf3 name (with_pair x.id v.value (in_amf3 s v.state)))) (costs_text s.amf3)

@@ -6,7 +6,7 @@ use Rattle.amf_io.specs.declared.cursor.Cursor.{Cursor}
 use Rattle.amf_io.specs.declared.ends.ReadEnd.{ReadEnd}
 use Rattle.amf_io.specs.declared.ends.ReadEnd.TheVariants.{Refused, ReadFault, Memory}
 use Rattle.amf_io.specs.Cursor.{source_of, place, bound, unread}
-use Rattle.amf_io.specs.ReadEnds.{IsPlaced, Goes}
+use Rattle.amf_io.specs.ReadEnds.{IsPlaced, GoesBy}
 use Rattle.amf_io.specs.CursorReads.{Answers, Ends, Leads}
 use Rattle.amf_io.specs.Field.{Kind, Field, AreBytes, flat}
 use Rattle.amf_io.specs.Layout.{Layout, give, want, bind, Path, Runs}
@@ -68,7 +68,7 @@ module _ {S : Type 0} (tells : S → Type 0) (left : S → List ℕ) (faults : S
 
   -- what the loop keeps
   pub record PairsSo (a : Arena) (t : KeptTables0) (c d : Cursor S Window) : Type 0 where
-    pub goes : Goes {X = Unit {0}} tells left faults c d (Ok tt)
+    pub goes : GoesBy {X = Unit {0}} tells left faults c d (Ok tt)
     pub placed : IsPlaced d
     pub holder : IsOpenHolder a (left_of d)
     pub less : left_of d ≤ left_of c
@@ -88,7 +88,7 @@ module _ {S : Type 0} (tells : S → Type 0) (left : S → List ℕ) (faults : S
     pub at : place e ≡ place d
     pub same : tells (source_of d).now → unread left e ≡ unread left d
 
-  stays_told : {X : Type 0} (view : X → FileState) (l : Layout FileState) (c d e : Cursor S Window) (x : X) → Goes {X = Unit {0}} tells left faults c d (Ok tt) → Stays d e → Answers tells left view l c d (Ok x) → Answers tells left view l c e (Ok x)
+  stays_told : {X : Type 0} (view : X → FileState) (l : Layout FileState) (c d e : Cursor S Window) (x : X) → GoesBy {X = Unit {0}} tells left faults c d (Ok tt) → Stays d e → Answers tells left view l c d (Ok x) → Answers tells left view l c e (Ok x)
   stays_told view l c d e x g s a = record {
     fields = a.fields;
     runs = a.runs;
@@ -99,7 +99,7 @@ module _ {S : Type 0} (tells : S → Type 0) (left : S → List ℕ) (faults : S
   }
 
   -- one that was asked whether it is at its end
-  pub pairs_looked : (a : Arena) (t : KeptTables0) (c d e : Cursor S Window) (b : Bool) → PairsSo a t c d → Goes tells left faults d e (Ok b) → Stays d e → PairsSo a t c e
+  pub pairs_looked : (a : Arena) (t : KeptTables0) (c d e : Cursor S Window) (b : Bool) → PairsSo a t c d → GoesBy tells left faults d e (Ok b) → Stays d e → PairsSo a t c e
   pairs_looked a t c d e b so g s =
       let p = s.at in
       let q = g.same_bound in
@@ -133,7 +133,7 @@ module _ {S : Type 0} (tells : S → Type 0) (left : S → List ℕ) (faults : S
     }
 
     -- one that came
-    pub pairs_more : (b : Arena) (u : KeptTables0) (e : Cursor S Window) → Goes {X = Unit {0}} tells left faults d e (Ok tt) → IsPlaced e → IsOpenHolder b (left_of e) → left_of e ≤ left_of d
+    pub pairs_more : (b : Arena) (u : KeptTables0) (e : Cursor S Window) → GoesBy {X = Unit {0}} tells left faults d e (Ok tt) → IsPlaced e → IsOpenHolder b (left_of e) → left_of e ≤ left_of d
         → ((n : ℕ) (name : List ℕ) → left_of d < n → Answers tells left (λ (z : Unit {0}). file version name (state0_of b u)) (one_more n name) d e (Ok tt)) → PairsSo b u c e
     pairs_more b u e g p h l a1 = record {
       goes = goes_then tells left faults c d e tt (Ok tt) so.goes g;

@@ -5,7 +5,7 @@ use Rattle.amf_io.specs.declared.window.Window.{Window}
 use Rattle.amf_io.specs.declared.cursor.Cursor.{Cursor}
 use Rattle.amf_io.specs.declared.ends.ReadEnd.{ReadEnd}
 use Rattle.amf_io.specs.Cursor.{place, bound}
-use Rattle.amf_io.specs.ReadEnds.{IsPlaced, Goes}
+use Rattle.amf_io.specs.ReadEnds.{IsPlaced, GoesBy}
 use Rattle.amf_io.specs.CursorReads.{Answers, Ends}
 use Rattle.amf_io.specs.Layout.{give, bind}
 use Rattle.amf_io.proofs.CursorReads.{gives, then_reads, end_reads}
@@ -64,21 +64,21 @@ module _ {S : Type 0} (tells : S → Type 0) (left : S → List ℕ) (faults : S
     pub name0_ended : (d : Cursor S Window) (end : ReadEnd) → Ends tells left (short_layout s0) c d end → Ends tells left (pair_by Amf0 n name s0) c d end
     name0_ended d end h = end_reads tells left faults (short_layout s0) (λ x. bind (value0_layout n false x.state) (λ v. behind_pair Amf0 name (with_pair x.id v.value v.state))) c d end h
 
-    module _ (b : Arena) (x : TextId) (d : Cursor S Window) (gn : Goes tells left faults c d (Ok x)) (an : Answers tells left (λ (y : TextId). ready0.text_read b t y) (short_layout s0) c d (Ok x)) where
+    module _ (b : Arena) (x : TextId) (d : Cursor S Window) (gn : GoesBy tells left faults c d (Ok x)) (an : Answers tells left (λ (y : TextId). ready0.text_read b t y) (short_layout s0) c d (Ok x)) where
       behind_name0 : {Z : Type 0} (view : Z → FileState) (e : Cursor S Window) (r : Result Z ReadEnd) → Answers tells left view (bind (value0_layout n false (state0_of b t)) (λ v. behind_pair Amf0 name (with_pair x.0 v.value v.state))) d e r → Answers tells left view (pair_by Amf0 n name s0) c e r
       behind_name0 view e r h = then_reads tells left faults (λ (y : TextId). ready0.text_read b t y) view (short_layout s0) (λ x. bind (value0_layout n false x.state) (λ v. behind_pair Amf0 name (with_pair x.id v.value v.state))) c d e x r gn an h
 
       pub value0_ended : (e : Cursor S Window) (end : ReadEnd) → Ends tells left (value0_layout n false (state0_of b t)) d e end → Ends tells left (pair_by Amf0 n name s0) c e end
       value0_ended e end h = behind_name0 itself e (Err end) (end_reads tells left faults (value0_layout n false (state0_of b t)) (λ v. behind_pair Amf0 name (with_pair x.0 v.value v.state)) d e end h)
 
-      module _ (b2 : Arena) (u : KeptTables0) (v : Stored) (e : Cursor S Window) (gv : Goes tells left faults d e (Ok v)) (av : Answers tells left (λ (w : Stored). read0 w (state0_of b2 u)) (value0_layout n false (state0_of b t)) d e (Ok v)) where
+      module _ (b2 : Arena) (u : KeptTables0) (v : Stored) (e : Cursor S Window) (gv : GoesBy tells left faults d e (Ok v)) (av : Answers tells left (λ (w : Stored). read0 w (state0_of b2 u)) (value0_layout n false (state0_of b t)) d e (Ok v)) where
         behind_value0 : {Z : Type 0} (view : Z → FileState) (f : Cursor S Window) (r : Result Z ReadEnd) → Answers tells left view (behind_pair Amf0 name (with_pair x.0 v (state0_of b2 u))) e f r → Answers tells left view (pair_by Amf0 n name s0) c f r
         behind_value0 view f r h = behind_name0 view f r (then_reads tells left faults (λ (w : Stored). read0 w (state0_of b2 u)) view (value0_layout n false (state0_of b t)) (λ v. behind_pair Amf0 name (with_pair x.0 v.value v.state)) d e f v r gv av h)
 
         pub end0_ended : (f : Cursor S Window) (end : ReadEnd) → Ends tells left end_layout e f end → Ends tells left (pair_by Amf0 n name s0) c f end
         end0_ended f end h = behind_value0 itself f (Err end) (end_reads tells left faults end_layout (λ z. give (file Amf0 name (with_pair x.0 v (state0_of b2 u)))) e f end h)
 
-        pub pair0_read : (f : Cursor S Window) (b3 : Arena) → Goes {X = Unit {0}} tells left faults e f (Ok tt) → Answers tells left done end_layout e f (Ok tt) → IsPlaced f → b3 ≡ changed (more_part (Named x v)) 0 b2 → Answers tells left (λ (z : Unit {0}). file Amf0 name (state0_of b3 u)) (pair_by Amf0 n name s0) c f (Ok tt)
+        pub pair0_read : (f : Cursor S Window) (b3 : Arena) → GoesBy {X = Unit {0}} tells left faults e f (Ok tt) → Answers tells left done end_layout e f (Ok tt) → IsPlaced f → b3 ≡ changed (more_part (Named x v)) 0 b2 → Answers tells left (λ (z : Unit {0}). file Amf0 name (state0_of b3 u)) (pair_by Amf0 n name s0) c f (Ok tt)
         pair0_read f b3 ge ae p is =
             behind_value0 (λ (z : Unit {0}). file Amf0 name (state0_of b3 u)) f (Ok tt) (then_reads tells left faults done (λ (z : Unit {0}). file Amf0 name (state0_of b3 u)) end_layout (λ z. give (file Amf0 name (with_pair x.0 v (state0_of b2 u)))) e f f tt (Ok tt) ge ae
             (gives tells left faults (λ (z : Unit {0}). file Amf0 name (state0_of b3 u)) f tt (file Amf0 name (with_pair x.0 v (state0_of b2 u))) p (ap (file Amf0 name) (sym (file_put x v b2 b3 u is)))))
@@ -92,21 +92,21 @@ module _ {S : Type 0} (tells : S → Type 0) (left : S → List ℕ) (faults : S
     pub name3_ended : (d : Cursor S Window) (end : ReadEnd) → Ends tells left (text_layout (state_of a t)) c d end → Ends tells left (pair_by Amf3 n name s3) c d end
     name3_ended d end h = end_reads tells left faults (text_layout (state_of a t)) (λ x. bind (value_layout n x.state) (λ v. behind_pair Amf3 name (with_pair x.id v.value (in_amf3 s3 v.state)))) c d end h
 
-    module _ (b : Arena) (t1 : KeptTables) (x : TextId) (d : Cursor S Window) (gn : Goes tells left faults c d (Ok x)) (an : Answers tells left (λ (y : TextId). text_read b t1 y) (text_layout (state_of a t)) c d (Ok x)) where
+    module _ (b : Arena) (t1 : KeptTables) (x : TextId) (d : Cursor S Window) (gn : GoesBy tells left faults c d (Ok x)) (an : Answers tells left (λ (y : TextId). text_read b t1 y) (text_layout (state_of a t)) c d (Ok x)) where
       behind_name3 : {Z : Type 0} (view : Z → FileState) (e : Cursor S Window) (r : Result Z ReadEnd) → Answers tells left view (bind (value_layout n (state_of b t1)) (λ v. behind_pair Amf3 name (with_pair x.0 v.value (in_amf3 s3 v.state)))) d e r → Answers tells left view (pair_by Amf3 n name s3) c e r
       behind_name3 view e r h = then_reads tells left faults (λ (y : TextId). text_read b t1 y) view (text_layout (state_of a t)) (λ x. bind (value_layout n x.state) (λ v. behind_pair Amf3 name (with_pair x.id v.value (in_amf3 s3 v.state)))) c d e x r gn an h
 
       pub value3_ended : (e : Cursor S Window) (end : ReadEnd) → Ends tells left (value_layout n (state_of b t1)) d e end → Ends tells left (pair_by Amf3 n name s3) c e end
       value3_ended e end h = behind_name3 itself e (Err end) (end_reads tells left faults (value_layout n (state_of b t1)) (λ v. behind_pair Amf3 name (with_pair x.0 v.value (in_amf3 s3 v.state))) d e end h)
 
-      module _ (b2 : Arena) (u : KeptTables) (v : Stored) (e : Cursor S Window) (gv : Goes tells left faults d e (Ok v)) (av : Answers tells left (λ (w : Stored). read w (state_of b2 u)) (value_layout n (state_of b t1)) d e (Ok v)) where
+      module _ (b2 : Arena) (u : KeptTables) (v : Stored) (e : Cursor S Window) (gv : GoesBy tells left faults d e (Ok v)) (av : Answers tells left (λ (w : Stored). read w (state_of b2 u)) (value_layout n (state_of b t1)) d e (Ok v)) where
         behind_value3 : {Z : Type 0} (view : Z → FileState) (f : Cursor S Window) (r : Result Z ReadEnd) → Answers tells left view (behind_pair Amf3 name (with_pair x.0 v (state0_of b2 (tables3 u)))) e f r → Answers tells left view (pair_by Amf3 n name s3) c f r
         behind_value3 view f r h = behind_name3 view f r (then_reads tells left faults (λ (w : Stored). read w (state_of b2 u)) view (value_layout n (state_of b t1)) (λ v. behind_pair Amf3 name (with_pair x.0 v.value (in_amf3 s3 v.state))) d e f v r gv av h)
 
         pub end3_ended : (f : Cursor S Window) (end : ReadEnd) → Ends tells left end_layout e f end → Ends tells left (pair_by Amf3 n name s3) c f end
         end3_ended f end h = behind_value3 itself f (Err end) (end_reads tells left faults end_layout (λ z. give (file Amf3 name (with_pair x.0 v (state0_of b2 (tables3 u))))) e f end h)
 
-        pub pair3_read : (f : Cursor S Window) (b3 : Arena) → Goes {X = Unit {0}} tells left faults e f (Ok tt) → Answers tells left done end_layout e f (Ok tt) → IsPlaced f → b3 ≡ changed (more_part (Named x v)) 0 b2 → Answers tells left (λ (z : Unit {0}). file Amf3 name (state0_of b3 (tables3 u))) (pair_by Amf3 n name s3) c f (Ok tt)
+        pub pair3_read : (f : Cursor S Window) (b3 : Arena) → GoesBy {X = Unit {0}} tells left faults e f (Ok tt) → Answers tells left done end_layout e f (Ok tt) → IsPlaced f → b3 ≡ changed (more_part (Named x v)) 0 b2 → Answers tells left (λ (z : Unit {0}). file Amf3 name (state0_of b3 (tables3 u))) (pair_by Amf3 n name s3) c f (Ok tt)
         pair3_read f b3 ge ae p is =
             behind_value3 (λ (z : Unit {0}). file Amf3 name (state0_of b3 (tables3 u))) f (Ok tt) (then_reads tells left faults done (λ (z : Unit {0}). file Amf3 name (state0_of b3 (tables3 u))) end_layout (λ z. give (file Amf3 name (with_pair x.0 v (state0_of b2 (tables3 u))))) e f f tt (Ok tt) ge ae
             (gives tells left faults (λ (z : Unit {0}). file Amf3 name (state0_of b3 (tables3 u))) f tt (file Amf3 name (with_pair x.0 v (state0_of b2 (tables3 u)))) p (ap (file Amf3 name) (sym (file_put x v b2 b3 (tables3 u) is)))))

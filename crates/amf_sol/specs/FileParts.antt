@@ -5,12 +5,17 @@ use Rattle.amf_io.specs.Field.{Field, flat}
 use Rattle.amf_wire.specs.Style.{canonical}
 use Rattle.amf_graph.specs.declared.lack.LackKind.{LackKind}
 use Rattle.amf_graph.specs.declared.lack.LackKind.TheVariants.{LongName}
+use Rattle.amf_graph.specs.declared.value.Value.{Value as Stored}
+use Rattle.amf_graph.specs.declared.value.TextId.{TextId}
+use Rattle.amf_graph.specs.Arena.{text_at, value_content}
 use Rattle.amf_graph.specs.Graph.{Value, Graph}
+use Rattle.amf_graph.specs.Rooted.{RootedArena, content}
 use Rattle.amf3_spelling.specs.Tables.{Tables}
 use Rattle.amf3_spelling.specs.Then.{Spelling, Then, Plain}
 use Rattle.amf3_spelling.specs.Words3.{Text}
 use Rattle.amf3_spelling.specs.Segments3.{Lifted}
 use Rattle.amf3_spelling.specs.Spells3.{Spells3}
+use Rattle.amf3_write.specs.PartLacks.{IsPartLack3}
 use Rattle.amf0_spelling.specs.Segments0.{Short}
 use Rattle.amf0_spelling.specs.Spells0.{Spells0}
 use Rattle.amf0_spelling.specs.Tables0.{Tables0}
@@ -45,6 +50,20 @@ Pair0 g x v = Pair (Plain (Short x)) (Spells0 canonical g v)
 -- why a pair has no canonical spelling in AMF 0: its name is too long, or its value has none
 abbrev pub IsPairLack0 : Graph → List ℕ → Value → Tables0 → ℕ → LackKind → Type 0
 IsPairLack0 g x v t number kind = ((2 ^ 16 ≤ length x) × (number ≡ 0) × (kind ≡ LongName)) ⊎ IsPartLack0 g v t number kind
+
+-- The same of a pair that a graph keeps.
+
+abbrev pub KeptPair3 : RootedArena → TextId × Stored → Spelling Tables
+KeptPair3 g p = Pair3 (content g) (text_at g.arena p.0.0) (value_content g.arena p.1)
+
+abbrev pub KeptPair0 : RootedArena → TextId × Stored → Spelling Tables0
+KeptPair0 g p = Pair0 (content g) (text_at g.arena p.0.0) (value_content g.arena p.1)
+
+abbrev pub IsKeptLack0 : RootedArena → TextId × Stored → Tables0 → ℕ → LackKind → Type 0
+IsKeptLack0 g p t number kind = IsPairLack0 (content g) (text_at g.arena p.0.0) (value_content g.arena p.1) t number kind
+
+abbrev pub IsKeptLack3 : RootedArena → TextId × Stored → Tables → ℕ → LackKind → Type 0
+IsKeptLack3 g p t number kind = IsPartLack3 (content g) (value_content g.arena p.1) t.done number kind
 
 -- a file of which these bytes stand behind the length
 abbrev pub file_bytes : List ℕ → List ℕ

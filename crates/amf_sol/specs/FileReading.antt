@@ -1,5 +1,5 @@
 -- How a shared object file is read: the layouts of its parts, and what is answered of its pairs. A device by which verdicts are proved.
-use Rattle.std.specs.Prelude.{◌≡◌, ℕ, suc, ◌<◌, true, false, List, [], ◌∷◌, ◌++◌, length, Result, Ok, Err}
+use Rattle.std.specs.Prelude.{◌≡◌, ℕ, suc, ◌<◌, false, List, [], ◌∷◌, ◌++◌, length, Result, Ok, Err}
 use Rattle.std.specs.Int.{from_be_bytes, w16, w32}
 use Rattle.amf_io.specs.declared.window.Window.{Window}
 use Rattle.amf_io.specs.declared.cursor.Cursor.{Cursor}
@@ -8,23 +8,24 @@ use Rattle.amf_io.specs.declared.reason.Reason.TheVariants.{BadPadding}
 use Rattle.amf_io.specs.declared.ends.ReadEnd.{ReadEnd}
 use Rattle.amf_io.specs.declared.ends.ReadEnd.TheVariants.{Refused, ReadFault, Memory}
 use Rattle.amf_io.specs.Cursor.{source_of, place, bound, unread}
+use Rattle.amf_io.specs.CursorReads.{Answers}
 use Rattle.amf_io.specs.Field.{Field, AreBytes, flat, text_kind, u16_kind, u32_kind, no_refusal}
 use Rattle.amf_io.specs.Layout.{Layout, give, want, bind, Runs}
 use Rattle.amf_io.specs.LayoutAnswer.{DoneBy, EndsBy}
 use Rattle.amf_graph.specs.declared.value.Value.TheVariants.{Node as NodeRef}
-use Rattle.amf_graph.specs.Graph as graph
 use Rattle.amf_graph.specs.Arena.{Arena, head_content}
 use Rattle.amf_graph.specs.Building.{changed, shut, stored_at}
 use Rattle.amf_graph.specs.Rooted.{RootedArena}
 use Rattle.amf3_spelling.specs.KeptTables.{KeptTables}
 use Rattle.amf3_layout.specs.Layout3Words.{chunk}
+use Rattle.amf_fields.specs.Room.{left_of}
 use Rattle.amf3_read.specs.Filling.{IsOpened}
 use Rattle.amf0_spelling.specs.KeptTables0.{KeptTables0}
 use Rattle.amf0_layout.specs.Layout0.{short_layout}
-use Rattle.amf0_layout.specs.Layout0State.{state0_of}
+use Rattle.amf0_layout.specs.Layout0State.{State0, state0_of}
 use Rattle.amf_sol.specs.declared.sol_version.SolVersion.{SolVersion}
-use Rattle.amf_sol.specs.SharedObject.{exact_kind, signature, second_signature, version_kind}
-use Rattle.amf_sol.specs.FileLayout.{FileState, file, no_pairs, version_of, behind_name, pair_layout}
+use Rattle.amf_sol.specs.SharedObject.{exact_kind, holder_head, signature, second_signature, version_kind}
+use Rattle.amf_sol.specs.FileLayout.{FileState, file, pair_by, no_pairs, version_of, behind_name, pair_layout}
 use Rattle.amf_io.specs.Repeated.{steps}
 
 -- Layouts of the parts.
@@ -55,12 +56,16 @@ end_layout = exact_layout BadPadding (0 ∷ [])
 abbrev pub tables3 : KeptTables → KeptTables0
 tables3 t = record { amf3 = t; nodes = []; switched = false }
 
+-- the state that a builder and such tables are
+abbrev pub state_in3 : Arena → KeptTables → State0
+state_in3 a t = state0_of a (tables3 t)
+
 -- The holder.
 
 -- the first node is a holder that is still open; so many bytes to come cannot fill it
 pub record IsOpenHolder (a : Arena) (left : ℕ) : Type 0 where
   pub opened : IsOpened a 0 left
-  pub head : head_content a (stored_at a 0).head ≡ graph.object (record { class = []; dynamic = true; sealed = [] })
+  pub head : head_content a (stored_at a 0).head ≡ holder_head
   pub unsealed : (stored_at a 0).values ≡ []
 
 -- the graph whose root is the holder, which is closed
@@ -68,6 +73,10 @@ abbrev pub closed_holder : Arena → RootedArena
 closed_holder a = record { arena = changed shut 0 a; root = NodeRef (record { 0 = 0 }) }
 
 -- What is answered of the pairs, up to the end of the input.
+
+-- one pair came, by the state of the reader before and behind it
+abbrev pub AnswersPair : {S : Type 0} → (S → Type 0) → (S → List ℕ) → SolVersion → State0 → State0 → Cursor S Window → Cursor S Window → Result (Unit {0}) ReadEnd → Type 0
+AnswersPair tells left version old new c d result = (n : ℕ) (name : List ℕ) → left_of c < n → Answers tells left (λ done. file version name new) (pair_by version n name old) c d result
 
 -- so many pairs came, up to the end where the source tells
 pub record PairsTaken (told : Type 0) (version : SolVersion) (n : ℕ) (name : List ℕ) (a : Arena) (input rest : List ℕ) (at place limit : ℕ) : Type 0 where

@@ -5,7 +5,7 @@ use Rattle.amf_io.specs.declared.reason.Reason.{Reason}
 use Rattle.amf_io.specs.declared.reason.Reason.TheVariants.{BadSignature, BadPadding, BadVersion}
 use Rattle.amf_io.specs.Field.{Kind, fixed, Field, flat, field, u32_kind, no_refusal}
 use Rattle.amf_wire.specs.Style.{Style, free, canonical, Only}
-use Rattle.amf_graph.specs.Graph.{Value, node, object, Graph, node_at}
+use Rattle.amf_graph.specs.Graph.{Value, node, object, Head, Graph, node_at}
 use Rattle.amf_graph.specs.ByName.{by_name}
 use Rattle.amf_graph.specs.Reached.{Reached, Holds}
 use Rattle.amf3_spelling.specs.Tables.{no_words, Tables}
@@ -26,11 +26,15 @@ pub record Shared : Type 0 where
   pub version : SolVersion
   pub holder : Graph
 
--- the root is this node, a dynamic object without class and sealed names
+-- a dynamic object without class and sealed names
+abbrev pub holder_head : Head
+holder_head = object (record { class = []; dynamic = true; sealed = [] })
+
+-- the root is this node, which has nothing but pairs
 pub record IsPairHolder (g : Graph) (i : ℕ) : Type 0 where
   pub root : g.root ≡ node i
   pub there : i < length g.nodes
-  pub head : (node_at g i).head ≡ object (record { class = []; dynamic = true; sealed = [] })
+  pub head : (node_at g i).head ≡ holder_head
   pub unsealed : (node_at g i).values ≡ []
 
 -- and nothing that it reaches holds it

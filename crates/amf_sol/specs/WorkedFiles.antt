@@ -2,14 +2,14 @@
 use Rattle.std.specs.Prelude.{ℕ, List, [], ◌∷◌, ◌++◌, codes, true}
 use Rattle.amf_io.specs.declared.reason.Reason.TheVariants.{BadLength}
 use Rattle.amf_wire.specs.Style.{canonical}
-use Rattle.amf_graph.specs.Graph.{Value, Graph, leaf, node, boolean, object, array}
+use Rattle.amf_graph.specs.Graph.{Value, Graph, leaf, node, boolean, array}
 use Rattle.amf_sol.specs.declared.sol_version.SolVersion.TheVariants.{Amf0}
-use Rattle.amf_sol.specs.SharedObject.{Shared, SpelledFile}
+use Rattle.amf_sol.specs.SharedObject.{Shared, SpelledFile, holder_head}
 use Rattle.amf_sol.specs.FileVerdict.{IsFileAccepted, IsFileRefused}
 
 -- a holder of these pairs, and nodes to which they lead
 abbrev pub holder_of : List (List ℕ × Value) → Graph
-holder_of pairs = record { nodes = record { head = object (record { class = []; dynamic = true; sealed = [] }); names = pairs; values = [] } ∷ record { head = array; names = []; values = [] } ∷ []; root = node 0 }
+holder_of pairs = record { nodes = record { head = holder_head; names = pairs; values = [] } ∷ record { head = array; names = []; values = [] } ∷ []; root = node 0 }
 
 -- {a: true} in AMF 0, with this length
 abbrev pub one_true : Shared

@@ -1,4 +1,4 @@
-ghost use Rattle.std.specs.Prelude.{◌≡◌, ◌<◌, ◌≤◌, ◌^◌, List, ℕ, length, OnOk, IfOk};
+ghost use Rattle.std.specs.Prelude.{◌≡◌, ◌<◌, ◌≤◌, ◌^◌, length, OnOk};
 ghost use Rattle.amf_io.specs.Cursor.{place};
 ghost use Rattle.amf_io.specs.ReadEnds.{IsPlaced, Goes};
 ghost use Rattle.amf_io.specs.CursorReads.{Answers};
@@ -20,11 +20,11 @@ pub(crate) struct Head {
 }
 
 /// Reads the signature of a shared object file, and the number of bytes that it says are behind its length.
-pub(crate) fn read_length<S: Source>(
+pub(crate) fn read_signature_and_length<S: Source>(
     alloc: Global,
     cursor: &mut Cursor<'_, S>,
 ) -> Result<u32, ReadEnd>
-    ensures goes { Goes S.tells S.left S.faults cursor.old cursor.new result }
+    ensures goes { Goes S.Source cursor.old cursor.new result }
     ensures answers { Answers S.tells S.left (λ size. size) length_layout cursor.old cursor.new result }
 {
     read_exactly(alloc, cursor, &SIGNATURE, Reason::BadSignature)?;
@@ -36,7 +36,7 @@ pub(crate) fn read_head<S: Source>(
     alloc: Global,
     cursor: &mut Cursor<'_, S>,
 ) -> Result<Head, ReadEnd>
-    ensures goes { Goes S.tells S.left S.faults cursor.old cursor.new result }
+    ensures goes { Goes S.Source cursor.old cursor.new result }
     ensures answers { Answers S.tells S.left (λ head. file head.version head.name no_pairs) rest_layout cursor.old cursor.new result }
     ensures placed { OnOk result (IsPlaced cursor.new) }
 {
@@ -56,7 +56,7 @@ fn read_exactly<S: Source>(
 ) -> Result<(), ReadEnd>
     requires some { 0 < length bytes.now }
     requires few { length bytes.now < 2 ^ 28 }
-    ensures goes { Goes S.tells S.left S.faults cursor.old cursor.new result }
+    ensures goes { Goes S.Source cursor.old cursor.new result }
     ensures answers { Answers S.tells S.left (λ done. done) (exact_layout reason bytes.now) cursor.old cursor.new result }
     ensures placed { OnOk result (IsPlaced cursor.new) }
 {
@@ -71,7 +71,7 @@ fn read_exactly<S: Source>(
 
 /// Reads the name of a file, behind its length of 16 bits.
 fn read_name<S: Source>(alloc: Global, cursor: &mut Cursor<'_, S>) -> Result<Name, ReadEnd>
-    ensures goes { Goes S.tells S.left S.faults cursor.old cursor.new result }
+    ensures goes { Goes S.Source cursor.old cursor.new result }
     ensures answers { Answers S.tells S.left (λ name. name) name_layout cursor.old cursor.new result }
 {
     let size = read_field(cursor, FieldSize::Two)?.two();
@@ -81,7 +81,7 @@ fn read_name<S: Source>(alloc: Global, cursor: &mut Cursor<'_, S>) -> Result<Nam
 
 /// Reads the version of a file.
 fn read_version<S: Source>(cursor: &mut Cursor<'_, S>) -> Result<SolVersion, ReadEnd>
-    ensures goes { Goes S.tells S.left S.faults cursor.old cursor.new result }
+    ensures goes { Goes S.Source cursor.old cursor.new result }
     ensures answers { Answers S.tells S.left (λ version. version) version_layout cursor.old cursor.new result }
     ensures placed { OnOk result (IsPlaced cursor.new) }
 {
@@ -95,7 +95,7 @@ fn read_version<S: Source>(cursor: &mut Cursor<'_, S>) -> Result<SolVersion, Rea
 
 /// Reads the 0 behind a pair.
 pub(crate) fn read_pair_end<S: Source>(cursor: &mut Cursor<'_, S>) -> Result<(), ReadEnd>
-    ensures goes { Goes S.tells S.left S.faults cursor.old cursor.new result }
+    ensures goes { Goes S.Source cursor.old cursor.new result }
     ensures answers { Answers S.tells S.left (λ done. done) end_layout cursor.old cursor.new result }
     ensures placed { OnOk result (IsPlaced cursor.new) }
     ensures moves { OnOk result (place cursor.old < place cursor.new) }

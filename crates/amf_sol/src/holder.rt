@@ -1,11 +1,11 @@
-ghost use Rattle.std.specs.Prelude.{◌≡◌, ◌<◌, ◌↔◌, ℕ, true, [], length, IsTrue, IfOk};
+ghost use Rattle.std.specs.Prelude.{◌≡◌, ◌<◌, ◌↔◌, ℕ, true, length, IsTrue, IfOk};
 ghost use Rattle.std.specs.List.{list_any};
-ghost use Rattle.amf_graph.specs.Graph.{node, node_at, object};
+ghost use Rattle.amf_graph.specs.Graph.{node, node_at};
 ghost use Rattle.amf_graph.specs.Order.{values_met};
 ghost use Rattle.amf_graph.specs.Reached.{Reached, Holds};
 ghost use Rattle.amf_graph.specs.Rooted.{content};
 ghost use Rattle.amf_iso.specs.Numbers.{HasReached};
-ghost use Rattle.amf_sol.specs.HolderTest.{is_node, is_stored_node};
+ghost use Rattle.amf_sol.specs.HolderTest.{HasPairsAlone, is_node, is_stored_node};
 ghost use Rattle.amf_sol.specs.SharedObject.{HasHolder};
 
 use amf_graph::{NodeId, NodeView, Rooted, Value};
@@ -33,7 +33,7 @@ pub(crate) fn is_holder(alloc: Global, graph: &Rooted) -> Result<bool, Memory>
 /// Whether a node is a dynamic object without class and sealed names.
 fn has_pairs_alone(place: NodeId, graph: &Rooted) -> bool
     requires { place.0 < length graph.now.arena.nodes }
-    ensures { IsTrue result ↔ (((node_at (content graph.now) place.0).head ≡ object (record { class = []; dynamic = true; sealed = [] })) × ((node_at (content graph.now) place.0).values ≡ [])) }
+    ensures { IsTrue result ↔ HasPairsAlone (content graph.now) place.0 }
 {
     graph.is_finished();
     let NodeView::Object { traits, sealed, .. } = graph.node(place) else {

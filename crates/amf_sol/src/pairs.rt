@@ -1,21 +1,20 @@
-ghost use Rattle.std.specs.Prelude.{◌≡◌, ◌+◌, ◌<◌, ◌↔◌, ℕ, List, [], IsTrue, OnOk, IfOk, IfErr};
-ghost use Rattle.amf_io.specs.Cursor.{source_of, place, unread};
+ghost use Rattle.std.specs.Prelude.{◌≡◌, ◌+◌, ◌<◌, ℕ, List, OnOk, IfOk, IfErr};
+ghost use Rattle.amf_io.specs.Cursor.{place};
 ghost use Rattle.amf_io.specs.ReadEnds.{IsPlaced, Goes};
-ghost use Rattle.amf_io.specs.CursorReads.{Answers};
 ghost use Rattle.amf_graph.specs.Building.{no_arena};
-ghost use Rattle.amf0_layout.specs.Layout0State.{state0_of};
 ghost use Rattle.amf0_spelling.specs.TableParts0.{shown_tables};
+ghost use Rattle.amf0_read.specs.Frames0.{state_in};
 ghost use Rattle.amf0_read.specs.Ready0.{Ready0};
 ghost use Rattle.amf_fields.specs.Room.{room_end, left_of};
 ghost use Rattle.amf3_read.specs.Ready.{Ready};
-ghost use Rattle.amf_sol.specs.FileLayout.{file, holder_arena, pair_by};
-ghost use Rattle.amf_sol.specs.FileReading.{tables3, IsOpenHolder, AnswersPairs, AnswersHolder, closed_holder};
+ghost use Rattle.amf_sol.specs.FileLayout.{holder_arena};
+ghost use Rattle.amf_sol.specs.FileReading.{state_in3, IsOpenHolder, AnswersPair, AnswersPairs, AnswersHolder, closed_holder};
 
 use crate::SolVersion;
 use crate::head::read_pair_end;
 use amf_fields::kept;
 use amf_graph::{Builder, NodeId, Part, Rooted, Shape, Value};
-use amf_io::{Cursor, ReadEnd, Source};
+use amf_io::{Cursor, ReadEnd, Source, is_over};
 use amf_tables::Tables3;
 use amf0_read::{read_short_text, read_value0};
 use amf0_spelling::Tables0;
@@ -32,7 +31,7 @@ pub(crate) fn read_holder<S: Source>(
 ) -> Result<Rooted, ReadEnd>
     requires placed { IsPlaced cursor.old }
     requires room { left_of cursor.old + 1 < room_end }
-    ensures goes { Goes S.tells S.left S.faults cursor.old cursor.new result }
+    ensures goes { Goes S.Source cursor.old cursor.new result }
     ensures answers { (n : ℕ) (name : List ℕ) → left_of cursor.old < n → AnswersHolder S.tells S.left version n name cursor.old cursor.new result }
 {
     let mut builder = Builder::keyed(alloc, keys)?;
@@ -79,28 +78,13 @@ fn read_pairs<S: Source>(
     requires opened { builder.old ≡ holder_arena }
     requires placed { IsPlaced cursor.old }
     requires room { left_of cursor.old + 1 < room_end }
-    ensures goes { Goes S.tells S.left S.faults cursor.old cursor.new result }
+    ensures goes { Goes S.Source cursor.old cursor.new result }
     ensures answers { (n : ℕ) (name : List ℕ) → left_of cursor.old < n → AnswersPairs S.tells S.left version n name builder.new cursor.old cursor.new result }
     ensures holder { OnOk result (IsOpenHolder builder.new 0) }
 {
     match version {
         SolVersion::Amf0 => read_pairs0(alloc, cursor, builder, holder),
         SolVersion::Amf3 => read_pairs3(alloc, cursor, builder, holder),
-    }
-}
-
-/// Whether no byte follows.
-fn is_over<S: Source>(cursor: &mut Cursor<'_, S>) -> Result<bool, ReadEnd>
-    requires { IsPlaced cursor.old }
-    ensures goes { Goes S.tells S.left S.faults cursor.old cursor.new result }
-    ensures over { IfOk result (λ over. S.tells (source_of cursor.old).now → IsTrue over ↔ (unread S.left cursor.old ≡ [])) }
-    ensures stays { place cursor.new ≡ place cursor.old }
-    ensures same { S.tells (source_of cursor.old).now → unread S.left cursor.new ≡ unread S.left cursor.old }
-    ensures err { IfErr result (λ end. end ≡ ReadEnd.ReadFault) }
-{
-    match cursor.at_end() {
-        Ok(ended) => Ok(ended),
-        Err(_) => Err(ReadEnd::ReadFault),
     }
 }
 
@@ -115,7 +99,7 @@ fn read_pairs0<S: Source>(
     requires opened { builder.old ≡ holder_arena }
     requires placed { IsPlaced cursor.old }
     requires room { left_of cursor.old + 1 < room_end }
-    ensures goes { Goes S.tells S.left S.faults cursor.old cursor.new result }
+    ensures goes { Goes S.Source cursor.old cursor.new result }
     ensures answers { (n : ℕ) (name : List ℕ) → left_of cursor.old < n → AnswersPairs S.tells S.left SolVersion.Amf0 n name builder.new cursor.old cursor.new result }
     ensures holder { OnOk result (IsOpenHolder builder.new 0) }
 {
@@ -137,8 +121,8 @@ fn read_pair0<S: Source>(
     requires first { holder.0 ≡ 0 }
     requires ready { Ready0 0 builder.old (shown_tables tables.old) cursor.old }
     requires holder { IsOpenHolder builder.old (left_of cursor.old) }
-    ensures goes { Goes S.tells S.left S.faults cursor.old cursor.new result }
-    ensures answers { (n : ℕ) (name : List ℕ) → left_of cursor.old < n → Answers S.tells S.left (λ done. file SolVersion.Amf0 name (state0_of builder.new (shown_tables tables.new))) (pair_by SolVersion.Amf0 n name (state0_of builder.old (shown_tables tables.old))) cursor.old cursor.new result }
+    ensures goes { Goes S.Source cursor.old cursor.new result }
+    ensures answers { AnswersPair S.tells S.left SolVersion.Amf0 (state_in builder.old tables.old) (state_in builder.new tables.new) cursor.old cursor.new result }
     ensures ready { OnOk result (Ready0 0 builder.new (shown_tables tables.new) cursor.new) }
     ensures holder { OnOk result (IsOpenHolder builder.new (left_of cursor.new)) }
     ensures moves { OnOk result (place cursor.old < place cursor.new) }
@@ -163,7 +147,7 @@ fn read_pairs3<S: Source>(
     requires opened { builder.old ≡ holder_arena }
     requires placed { IsPlaced cursor.old }
     requires room { left_of cursor.old + 1 < room_end }
-    ensures goes { Goes S.tells S.left S.faults cursor.old cursor.new result }
+    ensures goes { Goes S.Source cursor.old cursor.new result }
     ensures answers { (n : ℕ) (name : List ℕ) → left_of cursor.old < n → AnswersPairs S.tells S.left SolVersion.Amf3 n name builder.new cursor.old cursor.new result }
     ensures holder { OnOk result (IsOpenHolder builder.new 0) }
 {
@@ -185,8 +169,8 @@ fn read_pair3<S: Source>(
     requires first { holder.0 ≡ 0 }
     requires ready { Ready 0 builder.old tables.old cursor.old }
     requires holder { IsOpenHolder builder.old (left_of cursor.old) }
-    ensures goes { Goes S.tells S.left S.faults cursor.old cursor.new result }
-    ensures answers { (n : ℕ) (name : List ℕ) → left_of cursor.old < n → Answers S.tells S.left (λ done. file SolVersion.Amf3 name (state0_of builder.new (tables3 tables.new))) (pair_by SolVersion.Amf3 n name (state0_of builder.old (tables3 tables.old))) cursor.old cursor.new result }
+    ensures goes { Goes S.Source cursor.old cursor.new result }
+    ensures answers { AnswersPair S.tells S.left SolVersion.Amf3 (state_in3 builder.old tables.old) (state_in3 builder.new tables.new) cursor.old cursor.new result }
     ensures ready { OnOk result (Ready 0 builder.new tables.new cursor.new) }
     ensures holder { OnOk result (IsOpenHolder builder.new (left_of cursor.new)) }
     ensures moves { OnOk result (place cursor.old < place cursor.new) }

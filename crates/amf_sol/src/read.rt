@@ -7,7 +7,7 @@ ghost use Rattle.amf_fields.specs.Room.{room_end, left_of};
 ghost use Rattle.amf_sol.specs.FileAnswer.{AnswersFile};
 
 use crate::SharedObject;
-use crate::head::{read_head, read_length};
+use crate::head::{read_head, read_signature_and_length};
 use crate::pairs::read_holder;
 use amf_io::{Cursor, ReadEnd, Reason, Source, refused};
 use std::alloc::Global;
@@ -31,7 +31,7 @@ pub fn read_sol<S: Source>(
     cursor: &mut Cursor<'_, S>,
 ) -> Result<SharedObject, ReadEnd>
     requires room { left_of cursor.old < room_end }
-    ensures goes { Goes S.tells S.left S.faults cursor.old cursor.new result }
+    ensures goes { Goes S.Source cursor.old cursor.new result }
     ensures answers { AnswersFile (between S.tells S.left cursor.old cursor.new) result }
     ensures weighs { IfOk result (λ file. place cursor.old + weight file.holder.arena ≤ place cursor.new) }
 {
@@ -46,12 +46,12 @@ pub fn read_sol_keyed<S: Source>(
     cursor: &mut Cursor<'_, S>,
 ) -> Result<SharedObject, ReadEnd>
     requires room { left_of cursor.old < room_end }
-    ensures goes { Goes S.tells S.left S.faults cursor.old cursor.new result }
+    ensures goes { Goes S.Source cursor.old cursor.new result }
     ensures answers { AnswersFile (between S.tells S.left cursor.old cursor.new) result }
     ensures weighs { IfOk result (λ file. place cursor.old + weight file.holder.arena ≤ place cursor.new) }
 {
     let start = cursor.at();
-    let length = read_length(alloc, cursor)?;
+    let length = read_signature_and_length(alloc, cursor)?;
     let head = read_head(alloc, cursor)?;
     let holder = read_holder(alloc, keys, cursor, head.version)?;
     if length as u64 + UNCOUNTED != (cursor.at() - start) as u64 {

@@ -2,21 +2,19 @@ ghost use Rattle.std.specs.Prelude.{◌≡◌, ℕ, ◌<◌, length, IfOk, OnOk}
 ghost use Rattle.std.specs.Result.{IsErrOf};
 ghost use Rattle.amf_wire.specs.Style.{canonical};
 ghost use Rattle.amf_graph.specs.declared.lack.Lack.{Lack};
-ghost use Rattle.amf_graph.specs.Arena.{Names, IsTextId, text_at, value_content};
+ghost use Rattle.amf_graph.specs.Arena.{Names, IsTextId, value_content};
 ghost use Rattle.amf_graph.specs.ByName.{by_name};
 ghost use Rattle.amf_graph.specs.Graph.{node_at};
 ghost use Rattle.amf_graph.specs.Reached.{IsReachedValue};
 ghost use Rattle.amf_graph.specs.Rooted.{content};
 ghost use Rattle.amf_iso.specs.Contents.{pairs_of, ArePairs};
 ghost use Rattle.amf0_spelling.specs.Lowered.{IsLowered};
-ghost use Rattle.amf3_spelling.specs.Tables.{no_tables};
-ghost use Rattle.amf3_write.specs.PartLacks.{IsPartLack3};
 ghost use Rattle.amf3_write.specs.PartTables.{AreTablesOf};
 ghost use Rattle.amf0_write.specs.PartLacks0.{LacksOutside, IsLackOutside};
 ghost use Rattle.amf0_write.specs.Written0.{tables0, AreTables0};
 ghost use Rattle.amf_sol.specs.declared.sol_version.SolVersion.TheVariants.{Amf0, Amf3};
 ghost use Rattle.amf_sol.specs.FileLacks.{IsHolderLack};
-ghost use Rattle.amf_sol.specs.FileParts.{Appends, AppendsBy, Pair3, Pair0, IsPairLack0};
+ghost use Rattle.amf_sol.specs.FileParts.{Appends, AppendsBy, KeptPair3, KeptPair0, IsKeptLack0, IsKeptLack3};
 ghost use Rattle.amf_sol.specs.SharedObject.{IsHolder, HasHolder, PairsOf, HolderBy};
 
 use crate::write_head::append_name;
@@ -74,25 +72,15 @@ fn append_pair3(
     requires value { Names graph.now.arena pair.1 }
     requires reached { IsReachedValue (content graph.now) (value_content graph.now.arena pair.1) }
     requires tables { AreTablesOf graph.now.arena tables.old }
-    ensures written { OnOk result (AppendsBy (Pair3 (content graph.now) (text_at graph.now.arena pair.0.0) (value_content graph.now.arena pair.1)) tables.old.tables tables.new.tables out.old.items out.new.items) }
+    ensures written { OnOk result (AppendsBy (KeptPair3 graph.now pair) tables.old.tables tables.new.tables out.old.items out.new.items) }
     ensures tables { OnOk result (AreTablesOf graph.now.arena tables.new) }
-    ensures lack { (l : Lack) → IsErrOf result (WriteEnd.NoSpelling l) → IsPartLack3 (content graph.now) (value_content graph.now.arena pair.1) tables.old.tables.done l.node l.kind }
+    ensures lack { (l : Lack) → IsErrOf result (WriteEnd.NoSpelling l) → IsKeptLack3 graph.now pair tables.old.tables l.node l.kind }
 {
     let (name, value) = pair;
     write3_text_of(alloc, graph, name, tables, out)?;
     write3_part_of(alloc, graph, value, tables, out)?;
     out.push(PAIR_END)?;
     Ok(())
-}
-
-/// Tables without entries, that are looked up by these keys.
-fn tables_with(alloc: Global, keys: Option<RandomState>) -> Result<WriterTables, Memory>
-    ensures { IfOk result (λ tables. tables ≡ no_tables) }
-{
-    match keys {
-        Some(keys) => Ok(WriterTables::keyed(alloc, keys)),
-        None => WriterTables::new(alloc),
-    }
 }
 
 /// Appends pairs in AMF 3: those of the graph, in the order of their names.
@@ -109,7 +97,7 @@ fn append_sorted3(
     ensures written { OnOk result (Appends (PairsOf canonical Amf3 (content graph.now)) out.old.items out.new.items) }
     ensures lack { (l : Lack) → IsErrOf result (WriteEnd.NoSpelling l) → IsHolderLack Amf3 (content graph.now) l.node l.kind }
 {
-    let made = tables_with(alloc, keys)?;
+    let made = WriterTables::keyed(alloc, keys)?;
     let mut tables = GraphTables::of(alloc, made);
     for pair in pairs {
         append_pair3(alloc, graph, *pair, &mut tables, out)?;
@@ -145,9 +133,9 @@ fn append_pair0(
     requires value { Names low.now.arena pair.1 }
     requires reached { IsReachedValue (content low.now) (value_content low.now.arena pair.1) }
     requires tables { AreTables0 (content low.now) (tables0 tables.old) }
-    ensures written { OnOk result (AppendsBy (Pair0 (content low.now) (text_at low.now.arena pair.0.0) (value_content low.now.arena pair.1)) (tables0 tables.old) (tables0 tables.new) out.old.items out.new.items) }
+    ensures written { OnOk result (AppendsBy (KeptPair0 low.now pair) (tables0 tables.old) (tables0 tables.new) out.old.items out.new.items) }
     ensures tables { OnOk result (AreTables0 (content low.now) (tables0 tables.new)) }
-    ensures lack { (l : Lack) → IsErrOf result (WriteEnd.NoSpelling l) → IsPairLack0 (content low.now) (text_at low.now.arena pair.0.0) (value_content low.now.arena pair.1) (tables0 tables.old) l.node l.kind }
+    ensures lack { (l : Lack) → IsErrOf result (WriteEnd.NoSpelling l) → IsKeptLack0 low.now pair (tables0 tables.old) l.node l.kind }
 {
     low.is_finished();
     let (name, value) = pair;

@@ -9,7 +9,7 @@ use Rattle.amf_io.specs.Layout.{Layout, give, IsLayout}
 use Rattle.amf_io.specs.declared.window.Window.{Window}
 use Rattle.amf_io.specs.declared.cursor.Cursor.{Cursor}
 use Rattle.amf_io.specs.Cursor.{source_of, place, bound, unread}
-use Rattle.amf_io.specs.ReadEnds.{Goes}
+use Rattle.amf_io.specs.ReadEnds.{GoesBy}
 use Rattle.amf_io.specs.CursorReads.{Answers}
 use Rattle.amf_io.proofs.CursorReads.{then_reads}
 use Rattle.amf_io.specs.LayoutAnswer.{DoneBy, EndsBy}
@@ -98,7 +98,7 @@ tag_faulted told input rest at place limit le same = λ t. record {
 }
 
 -- a look at whether the input ends, and what is then read
-module _ {S : Type 0} (tells : S → Type 0) (left : S → List ℕ) (faults : S → ℕ) (c d : Cursor S Window) (over : Bool) (g : Goes tells left faults c d (Ok over)) (stays : place d ≡ place c) (same : tells (source_of c).now → unread left d ≡ unread left c) where
+module _ {S : Type 0} (tells : S → Type 0) (left : S → List ℕ) (faults : S → ℕ) (c d : Cursor S Window) (over : Bool) (g : GoesBy tells left faults c d (Ok over)) (stays : place d ≡ place c) (same : tells (source_of c).now → unread left d ≡ unread left c) where
   pub looked : {Y Z : Type 0} (view : Z → Y) (t : Layout Y) (e : Cursor S Window) (r : Result Z ReadEnd) → place c ≤ bound c → Answers tells left view t d e r → Answers tells left view t c e r
   looked view t e r le a =
       then_reads tells left faults (λ (b : Bool). b) view (give over) (λ b. t) c d e over r g

@@ -4,7 +4,7 @@ use Rattle.std.proofs.lemmas.List.{length-drop}
 use Rattle.amf_io.specs.declared.reason.Reason.{Reason}
 use Rattle.amf_io.specs.Verdict.{IsRefused}
 use Rattle.amf_graph.specs.Rooted.{RootedArena, content}
-use Rattle.amf0_spelling.specs.Reads0.{IsValue0}
+use Rattle.amf0_spelling.specs.Values0.{IsValue0}
 use Rattle.flv_meta.specs.declared.meta_end.MetaEnd.TheVariants.{Refused}
 use Rattle.flv_meta.specs.File.{Tag, IsTag, tag_bytes, is_metadata, value_bytes}
 use Rattle.flv_meta.specs.MetadataAnswer.{SpellsFront, AnswersMetadata, value_place}

@@ -15,8 +15,10 @@ use Rattle.amf_graph.specs.Building.{no_arena}
 use Rattle.amf_graph.specs.Rooted.{RootedArena}
 use Rattle.amf_graph.proofs.FinishedSmall.{completes_itself}
 use Rattle.amf3_layout.proofs.Values3Layout.{no_arena_built}
+use Rattle.amf0_layout.proofs.Layout0Format.{answered0}
 use Rattle.amf0_spelling.specs.KeptTables0.{KeptTables0, no_kept_tables0, tables0_of}
-use Rattle.amf0_spelling.specs.Reads0.{IsReading0, IsValue0}
+use Rattle.amf0_spelling.specs.Reads0.{IsReading0}
+use Rattle.amf0_spelling.specs.Values0.{IsValue0}
 use Rattle.flv_meta.specs.File.{Tag, IsTag, number24}
 use Rattle.amf0_read.specs.Answer0.{IsReadWith}
 use Rattle.amf0_read.specs.declared.formed.Read0.{Read0}
@@ -45,7 +47,8 @@ value_read b u x bytes input rest at place limit same r =
 
 pub value_ended : (b : Arena) (u : KeptTables0) (bytes input rest : List ℕ) (at place limit : ℕ) (e : ReadEnd) → input ≡ bytes → at ≡ 0 → limit ≡ length bytes → CountsEnd 0 0 e → Answered (Unit {0}) no_arena no_kept_tables0 b u input rest at place limit (Err e) → AnswersValue bytes (Err e)
 value_ended b u bytes input rest at place limit (Refused f) same first last counts r =
-    subst (λ l. IsRefused IsValue0 0 (length bytes) l f.reason f.at) same (subst (λ n. IsRefused IsValue0 0 n input f.reason f.at) last (subst (λ n. IsRefused IsValue0 n limit input f.reason f.at) first (r tt)))
+    subst (λ l. IsRefused IsValue0 0 (length bytes) l f.reason f.at) same (subst (λ n. IsRefused IsValue0 0 n input f.reason f.at) last (subst (λ n. IsRefused IsValue0 n limit input f.reason f.at) first
+    (answered0 (λ x fs. IsReadWith no_arena no_kept_tables0 fs b u x) (stretch (Unit {0}) input rest at place limit) (Err (Refused f)) r tt)))
 value_ended b u bytes input rest at place limit ReadFault same first last counts r = let rose = counts.1 in absurd (omega arith)
 value_ended b u bytes input rest at place limit Memory same first last counts r = tt
 

@@ -8,7 +8,7 @@ use Rattle.amf_graph.specs.Rooted.{RootedArena, content}
 use Rattle.amf_graph.specs.declared.lack.Lack.{Lack}
 use Rattle.amf0_spelling.specs.Lacks0.{IsLack0}
 use Rattle.amf0_spelling.specs.Lowered.{IsLoweringOf}
-use Rattle.amf0_spelling.specs.Reads0.{IsValue0}
+use Rattle.amf0_spelling.specs.Values0.{IsValue0}
 use Rattle.amf0_spelling.specs.Spells0.{IsSpelling0}
 use Rattle.flv_meta.specs.declared.meta_end.MetaEnd.{MetaEnd}
 use Rattle.flv_meta.specs.declared.meta_end.MetaEnd.TheVariants.{Refused, Memory}

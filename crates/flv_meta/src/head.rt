@@ -29,7 +29,7 @@ pub fn read_head<S: Source>(
     cursor: &mut Cursor<'_, S>,
     out: &mut Vec<u8>,
 ) -> Result<(), ReadEnd>
-    ensures goes { Goes S.tells S.left S.faults cursor.old cursor.new result }
+    ensures goes { Goes S.Source cursor.old cursor.new result }
     ensures answers { AnswersHead out.old.items out.new.items (between S.tells S.left cursor.old cursor.new) result }
     ensures untouched { OnErr result (out.new.items ≡ out.old.items) }
 {
@@ -43,7 +43,7 @@ pub fn read_head<S: Source>(
 
 /// Appends the bytes of a head.
 fn append_head<S: Source>(cursor: &mut Cursor<'_, S>, out: &mut Vec<u8>) -> Result<(), ReadEnd>
-    ensures goes { Goes S.tells S.left S.faults cursor.old cursor.new result }
+    ensures goes { Goes S.Source cursor.old cursor.new result }
     ensures answers { Answers S.tells S.left (λ done. out.new.items) (head_layout out.old.items) cursor.old cursor.new result }
 {
     append_exactly(cursor, &SIGNATURE, Reason::BadSignature, out)?;
@@ -52,7 +52,7 @@ fn append_head<S: Source>(cursor: &mut Cursor<'_, S>, out: &mut Vec<u8>) -> Resu
 
 /// Appends the version, and what is behind it in a head.
 fn append_version<S: Source>(cursor: &mut Cursor<'_, S>, out: &mut Vec<u8>) -> Result<(), ReadEnd>
-    ensures goes { Goes S.tells S.left S.faults cursor.old cursor.new result }
+    ensures goes { Goes S.Source cursor.old cursor.new result }
     ensures answers { Answers S.tells S.left (λ done. out.new.items) (version_layout out.old.items) cursor.old cursor.new result }
 {
     append_exactly(cursor, &VERSION, Reason::BadVersion, out)?;
@@ -61,7 +61,7 @@ fn append_version<S: Source>(cursor: &mut Cursor<'_, S>, out: &mut Vec<u8>) -> R
 
 /// Appends the flags, and what is behind them.
 fn append_flags<S: Source>(cursor: &mut Cursor<'_, S>, out: &mut Vec<u8>) -> Result<(), ReadEnd>
-    ensures goes { Goes S.tells S.left S.faults cursor.old cursor.new result }
+    ensures goes { Goes S.Source cursor.old cursor.new result }
     ensures answers { Answers S.tells S.left (λ done. out.new.items) (flags_layout out.old.items) cursor.old cursor.new result }
 {
     append_raw(cursor, 1, out)?;
@@ -70,7 +70,7 @@ fn append_flags<S: Source>(cursor: &mut Cursor<'_, S>, out: &mut Vec<u8>) -> Res
 
 /// Appends the offset, and the number before the first tag.
 fn append_offset<S: Source>(cursor: &mut Cursor<'_, S>, out: &mut Vec<u8>) -> Result<(), ReadEnd>
-    ensures goes { Goes S.tells S.left S.faults cursor.old cursor.new result }
+    ensures goes { Goes S.Source cursor.old cursor.new result }
     ensures answers { Answers S.tells S.left (λ done. out.new.items) (offset_layout out.old.items) cursor.old cursor.new result }
 {
     append_exactly(cursor, &OFFSET, Reason::BadLength, out)?;

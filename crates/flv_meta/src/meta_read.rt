@@ -1,6 +1,4 @@
-ghost use Rattle.std.specs.Prelude.{◌≡◌, ◌<◌, ◌^◌, false, length};
-ghost use Rattle.std.specs.List.{AllByRecursion};
-ghost use Rattle.amf_graph.specs.Arena.{Names};
+ghost use Rattle.std.specs.Prelude.{◌≡◌, ◌<◌, ◌^◌, length};
 ghost use Rattle.flv_meta.specs.File.{Tag as FileTag, IsTag, tag_bytes};
 ghost use Rattle.flv_meta.specs.FileAnswers.{IsStoredTag};
 ghost use Rattle.flv_meta.specs.MetadataAnswer.{AnswersMetadata, AnswersValue};
@@ -8,7 +6,7 @@ ghost use Rattle.flv_meta.specs.MetadataAnswer.{AnswersMetadata, AnswersValue};
 use crate::meta_end::MetaEnd;
 use crate::meta_part::value_part;
 use crate::tag::Tag;
-use amf_graph::{Builder, Rooted, Value};
+use amf_graph::{Builder, Rooted};
 use amf_io::{Cursor, Empty, ReadEnd, Refusal};
 use amf0_read::read0;
 use amf0_spelling::Tables0;
@@ -73,17 +71,5 @@ fn read_value(alloc: Global, keys: Option<RandomState>, bytes: &[u8]) -> Result<
     let mut builder = Builder::keyed(alloc, keys)?;
     let mut tables = Tables0::new(alloc)?;
     let read = read0(alloc, &mut cursor, &mut builder, &mut tables)?;
-    Ok(whole(builder, read.value))
-}
-
-/// The graph with this root, of which all nodes are closed.
-fn whole(builder: Builder, root: Value) -> Rooted
-    requires names { Names builder root }
-    requires closed { AllByRecursion (λ n. n.is_open ≡ false) builder.nodes }
-    ensures { result ≡ record { arena = builder; root = root } }
-{
-    match builder.finish(root) {
-        Ok(graph) => graph,
-        Err(_) => unreachable!(),
-    }
+    Ok(builder.whole(read.value))
 }

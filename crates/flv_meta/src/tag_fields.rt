@@ -1,4 +1,4 @@
-ghost use Rattle.std.specs.Prelude.{◌≡◌, ◌+◌, ◌≤◌, length, drop, OnOk};
+ghost use Rattle.std.specs.Prelude.{◌≡◌, ◌+◌, ◌≤◌, length, drop};
 ghost use Rattle.amf_io.specs.ReadEnds.{Goes};
 ghost use Rattle.amf_io.specs.CursorReads.{Answers};
 ghost use Rattle.flv_meta.specs.File.{number24};
@@ -11,7 +11,7 @@ pub(crate) fn append_number<S: Source>(
     cursor: &mut Cursor<'_, S>,
     out: &mut Vec<u8>,
 ) -> Result<(), ReadEnd>
-    ensures goes { Goes S.tells S.left S.faults cursor.old cursor.new result }
+    ensures goes { Goes S.Source cursor.old cursor.new result }
     ensures answers { Answers S.tells S.left (λ done. out.new.items) (number_layout out.old.items) cursor.old cursor.new result }
 {
     append_raw(cursor, 4, out)
@@ -23,7 +23,7 @@ fn append_body<S: Source>(
     size: u32,
     out: &mut Vec<u8>,
 ) -> Result<(), ReadEnd>
-    ensures goes { Goes S.tells S.left S.faults cursor.old cursor.new result }
+    ensures goes { Goes S.Source cursor.old cursor.new result }
     ensures answers { Answers S.tells S.left (λ done. out.new.items) (body_layout size out.old.items) cursor.old cursor.new result }
 {
     if size == 0 {
@@ -39,7 +39,7 @@ fn append_stream<S: Source>(
     size: u32,
     out: &mut Vec<u8>,
 ) -> Result<(), ReadEnd>
-    ensures goes { Goes S.tells S.left S.faults cursor.old cursor.new result }
+    ensures goes { Goes S.Source cursor.old cursor.new result }
     ensures answers { Answers S.tells S.left (λ done. out.new.items) (stream_layout size out.old.items) cursor.old cursor.new result }
 {
     append_raw(cursor, 3, out)?;
@@ -52,7 +52,7 @@ fn append_time<S: Source>(
     size: u32,
     out: &mut Vec<u8>,
 ) -> Result<(), ReadEnd>
-    ensures goes { Goes S.tells S.left S.faults cursor.old cursor.new result }
+    ensures goes { Goes S.Source cursor.old cursor.new result }
     ensures answers { Answers S.tells S.left (λ done. out.new.items) (time_layout size out.old.items) cursor.old cursor.new result }
 {
     append_raw(cursor, 4, out)?;
@@ -77,7 +77,7 @@ pub(crate) fn number24(bytes: &[u8]) -> u32
 
 /// Appends the size of the data, and what is behind it.
 fn append_size<S: Source>(cursor: &mut Cursor<'_, S>, out: &mut Vec<u8>) -> Result<(), ReadEnd>
-    ensures goes { Goes S.tells S.left S.faults cursor.old cursor.new result }
+    ensures goes { Goes S.Source cursor.old cursor.new result }
     ensures answers { Answers S.tells S.left (λ done. out.new.items) (size_layout out.old.items) cursor.old cursor.new result }
 {
     let before = out.len();
@@ -91,7 +91,7 @@ pub(crate) fn append_tag<S: Source>(
     cursor: &mut Cursor<'_, S>,
     out: &mut Vec<u8>,
 ) -> Result<(), ReadEnd>
-    ensures goes { Goes S.tells S.left S.faults cursor.old cursor.new result }
+    ensures goes { Goes S.Source cursor.old cursor.new result }
     ensures answers { Answers S.tells S.left (λ done. out.new.items) (tag_layout out.old.items) cursor.old cursor.new result }
 {
     append_raw(cursor, 1, out)?;

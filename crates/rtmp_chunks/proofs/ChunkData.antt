@@ -12,7 +12,7 @@ use Rattle.amf_io.specs.declared.ends.ReadEnd.TheVariants.{Refused}
 use Rattle.amf_io.specs.Cursor.{place}
 use Rattle.amf_io.specs.Field.{fixed}
 use Rattle.amf_io.specs.Layout.{give, want}
-use Rattle.amf_io.specs.ReadEnds.{Goes, IsPlaced}
+use Rattle.amf_io.specs.ReadEnds.{GoesBy, IsPlaced}
 use Rattle.amf_io.specs.CursorReads.{Answers, AnswersField, Ends, EndsField}
 use Rattle.amf_io.proofs.CursorReads.{gives, field_reads, field_refused, field_ended}
 use Rattle.amf_io.proofs.FieldReads.{passed_on}
@@ -94,5 +94,5 @@ module _ {S Z : Type 0} (tells : S → Type 0) (left : S → List ℕ) (faults :
           (subst (λ v. Ends tells left (want (data_kind h came n) (λ b. give (met h (came ++ b)))) c d v) (ap (λ k. let y : ReadEnd = Refused (record { reason = BadChunkSize; at = k }) in y) (sym s) ∙ sym is)
           (field_refused tells left faults seen (data_kind h came n) (λ b. give (met h (came ++ b))) c d d x BadChunkSize field bad))
 
-      pub data_came : Goes tells left faults c d (Ok x) → (data_kind h came n).refusal (seen x) ≡ None → IsPlaced d → (z : Z) → view z ≡ met h (came ++ seen x) → Answers tells left view (taken_by size h came) c d (Ok z)
+      pub data_came : GoesBy tells left faults c d (Ok x) → (data_kind h came n).refusal (seen x) ≡ None → IsPlaced d → (z : Z) → view z ≡ met h (came ++ seen x) → Answers tells left view (taken_by size h came) c d (Ok z)
       data_came goes clean p z same = over (Ok z) (field_reads tells left faults seen view (data_kind h came n) (λ b. give (met h (came ++ b))) c d d x (Ok z) goes field clean (gives tells left faults view d z (met h (came ++ seen x)) p same))

@@ -10,7 +10,7 @@ use Rattle.amf_io.specs.declared.ends.ReadEnd.TheVariants.{Refused}
 use Rattle.amf_io.specs.Cursor.{place}
 use Rattle.amf_io.specs.Field.{basic}
 use Rattle.amf_io.specs.Layout.{Layout, give, want, bind}
-use Rattle.amf_io.specs.ReadEnds.{Goes, IsPlaced}
+use Rattle.amf_io.specs.ReadEnds.{GoesBy, IsPlaced}
 use Rattle.amf_io.specs.CursorReads.{Answers, AnswersField, Ends, EndsField}
 use Rattle.amf_io.proofs.CursorReads.{gives, then_reads, end_reads, field_reads, field_refused, field_ended}
 use Rattle.amf_io.proofs.FieldReads.{passed_on}
@@ -69,7 +69,7 @@ module _ {S Z : Type 0} (tells : S → Type 0) (left : S → List ℕ) (faults :
         subst (λ v. Ends tells left (chunk_layout s) c d v) (ap (λ k. let y : ReadEnd = Refused (record { reason = BadChunk; at = k }) in y) (sym p) ∙ sym is)
         (field_refused tells left faults seen (basic_kind (λ format id. refused_in (s.slots id) format)) (λ b. behind_basic (format_of b) (id_of b) (s.slots (id_of b)) s) c d d x BadChunk field (test r true g t))
 
-    module _ (goes : Goes tells left faults c d (Ok x)) (r : Bool) (g : r ≡ refused_in slot format) (t : r ≡ false) (size : ℕ) (z : size ≡ s.size) (e : Cursor S Window) where
+    module _ (goes : GoesBy tells left faults c d (Ok x)) (r : Bool) (g : r ≡ refused_in slot format) (t : r ≡ false) (size : ℕ) (z : size ≡ s.size) (e : Cursor S Window) where
       behind : (q : Result Z ReadEnd) → Answers tells left view (bind (part_layout size format slot) (ends_in id s)) d e q → Answers tells left view (chunk_layout s) c e q
       behind q a = field_reads tells left faults seen view (basic_kind (λ format id. refused_in (s.slots id) format)) (λ b. behind_basic (format_of b) (id_of b) (s.slots (id_of b)) s) c d e x q goes field (test r false g t)
           (subst (λ y. Answers tells left view y d e q) (ap (λ k. bind (part_layout k format slot) (ends_in id s)) z ∙ part_law id s format slot ∙ ap (λ w. behind_basic format id w s) l ∙ ap (λ k. behind_basic k id (s.slots id) s) f ∙ ap (λ k. behind_basic (format_of (seen x)) k (s.slots k) s) n) a)
@@ -77,6 +77,6 @@ module _ {S Z : Type 0} (tells : S → Type 0) (left : S → List ℕ) (faults :
       pub part_ended : (q : Result Z ReadEnd) (end : ReadEnd) → IsErrAnd q (λ x. x ≡ end) → Ends tells left (part_layout size format slot) d e end → Answers tells left view (chunk_layout s) c e q
       part_ended q end is a = behind q (passed_on tells left faults view (bind (part_layout size format slot) (ends_in id s)) d e q end is (end_reads tells left faults (part_layout size format slot) (ends_in id s) d e end a))
 
-      pub part_came : {P : Type 0} (part : P → Met) (p : P) → Goes tells left faults d e (Ok p) → Answers tells left part (part_layout size format slot) d e (Ok p) → IsPlaced e
+      pub part_came : {P : Type 0} (part : P → Met) (p : P) → GoesBy tells left faults d e (Ok p) → Answers tells left part (part_layout size format slot) d e (Ok p) → IsPlaced e
           → (y : Z) → view y ≡ came_to id (part p).head (part p).bytes s → Answers tells left view (chunk_layout s) c e (Ok y)
       part_came part p h a w y same = behind (Ok y) (then_reads tells left faults part view (part_layout size format slot) (ends_in id s) d e e p (Ok y) h a (gives tells left faults view e y (came_to id (part p).head (part p).bytes s) w same))

@@ -10,7 +10,7 @@ use Rattle.amf_io.specs.declared.ends.ReadEnd.TheVariants.{Refused}
 use Rattle.amf_io.specs.Cursor.{place}
 use Rattle.amf_io.specs.Field.{fixed}
 use Rattle.amf_io.specs.Layout.{Layout, give, want, bind}
-use Rattle.amf_io.specs.ReadEnds.{Goes, IsPlaced}
+use Rattle.amf_io.specs.ReadEnds.{GoesBy, IsPlaced}
 use Rattle.amf_io.specs.CursorReads.{Answers, AnswersField, Ends, EndsField}
 use Rattle.amf_io.proofs.CursorReads.{gives, then_reads, end_reads, field_reads, field_refused, field_ended}
 use Rattle.amf_io.proofs.FieldReads.{passed_on}
@@ -37,7 +37,7 @@ module _ {S Z : Type 0} (tells : S → Type 0) (left : S → List ℕ) (faults :
         (subst (λ v. Ends tells left (want (header_kind format) (stamped format before)) c d v) (ap (λ k. let y : ReadEnd = Refused (record { reason = BadChunk; at = k }) in y) (sym s) ∙ sym is)
         (field_refused tells left faults seen (header_kind format) (stamped format before) c d d x BadChunk (subst (λ k. AnswersField tells left seen (fixed k) c d (Ok x)) size field) bad))
 
-    module _ (goes : Goes tells left faults c d (Ok x)) (clean : (header_kind format).refusal (seen x) ≡ None) (e : Cursor S Window) where
+    module _ (goes : GoesBy tells left faults c d (Ok x)) (clean : (header_kind format).refusal (seen x) ≡ None) (e : Cursor S Window) where
       behind : (r : Result Z ReadEnd) → Answers tells left view (stamped format before (seen x)) d e r → Answers tells left view (begun format before) c e r
       behind r a = over e r (field_reads tells left faults seen view (header_kind format) (stamped format before) c d e x r goes (subst (λ k. AnswersField tells left seen (fixed k) c d (Ok x)) size field) clean a)
 
@@ -45,7 +45,7 @@ module _ {S Z : Type 0} (tells : S → Type 0) (left : S → List ℕ) (faults :
       stamp_ended short is r end err a = behind r (passed_on tells left faults view (stamped format before (seen x)) d e r end err
           (end_reads tells left faults (stamp_layout (stamp_in (seen x))) (λ stamp. give (filled format (seen x) stamp before)) d e end (subst (λ k. Ends tells left (stamp_layout k) d e end) is a)))
 
-      pub stamp_came : (short stamp : ℕ) → short ≡ stamp_in (seen x) → Goes {X = ℕ} tells left faults d e (Ok stamp) → Answers {X = ℕ} tells left (λ k. k) (stamp_layout short) d e (Ok stamp) → IsPlaced e
+      pub stamp_came : (short stamp : ℕ) → short ≡ stamp_in (seen x) → GoesBy {X = ℕ} tells left faults d e (Ok stamp) → Answers {X = ℕ} tells left (λ k. k) (stamp_layout short) d e (Ok stamp) → IsPlaced e
           → (z : Z) → view z ≡ filled format (seen x) stamp before → Answers tells left view (begun format before) c e (Ok z)
       stamp_came short stamp is g a p z same = behind (Ok z)
           (then_reads tells left faults (λ (k : ℕ). k) view (stamp_layout (stamp_in (seen x))) (λ stamp. give (filled format (seen x) stamp before)) d e e stamp (Ok z) g (subst (λ k. Answers {X = ℕ} tells left (λ k. k) (stamp_layout k) d e (Ok stamp)) is a)

@@ -8,7 +8,7 @@ use Rattle.amf_io.specs.declared.ends.ReadEnd.TheVariants.{ReadFault}
 use Rattle.amf_io.specs.Cursor.{source_of, place, bound, unread}
 use Rattle.amf_io.specs.Field.{flat, AreBytes}
 use Rattle.amf_io.specs.LayoutAnswer.{DoneBy, EndsBy}
-use Rattle.amf_io.specs.ReadEnds.{Goes, IsPlaced}
+use Rattle.amf_io.specs.ReadEnds.{GoesBy, IsPlaced}
 use Rattle.amf_io.specs.CursorReads.{Ends}
 use Rattle.amf_io.specs.Stretch.{between}
 use Rattle.rtmp_chunks.specs.Chunk.{Message}
@@ -28,7 +28,7 @@ no_chunks size slots p q = same_state (state_seen size slots []) start p (λ j. 
 pub leads_none : {S : Type 0} (tells : S → Type 0) (left : S → List ℕ) (c : Cursor S Window) (s : State) → IsPlaced c → (n : ℕ) × LeadsOn n s s (between tells left c c)
 leads_none tells left c s p = (0, record { done = record { fields = []; runs = refl; bytes = tt; taken = omega arith; within = p.within; parts = λ t. refl }; none = refl })
 
-module _ {S M : Type 0} (tells : S → Type 0) (left : S → List ℕ) (faults : S → ℕ) (view : M → Message) (s t : State) (c d : Cursor S Window) (n : ℕ) (l : LeadsOn n s t (between tells left c d)) {X : Type 0} (x : X) (goes : Goes tells left faults c d (Ok x)) where
+module _ {S M : Type 0} (tells : S → Type 0) (left : S → List ℕ) (faults : S → ℕ) (view : M → Message) (s t : State) (c d : Cursor S Window) (n : ℕ) (l : LeadsOn n s t (between tells left c d)) {X : Type 0} (x : X) (goes : GoesBy tells left faults c d (Ok x)) where
   -- a look changes no place
   pub looked : (e : Cursor S Window) → place e ≡ place d → bound e ≡ bound d → (tells (source_of d).now → unread left e ≡ unread left d) → LeadsOn n s t (between tells left c e)
   looked e p b same = record {

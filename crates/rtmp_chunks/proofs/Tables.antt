@@ -8,7 +8,7 @@ use Rattle.rtmp_chunks.specs.declared.parts.Slot.TheVariants.{Fresh as NoHead, I
 use Rattle.rtmp_chunks.specs.Chunk.{Unfinished}
 use Rattle.rtmp_chunks.specs.Stream.{by_id}
 use Rattle.rtmp_chunks.specs.Machine.{Fresh, put, unfinished_in}
-use Rattle.rtmp_chunks.specs.declared.parts.Part.{Part}
+use Rattle.rtmp_chunks.specs.declared.parts.PartialMessage.{PartialMessage}
 use Rattle.rtmp_chunks.specs.declared.parts.Open.{Open}
 use Rattle.rtmp_chunks.specs.Table.{slot_seen, slots_seen, open_seen, opens_seen}
 
@@ -70,7 +70,7 @@ opens_more : (l : List Open) (o : Open) → opens_seen (l ++ o ∷ []) ≡ opens
 opens_more [] o = refl
 opens_more (x ∷ l) o = ap (λ r. open_seen x ∷ r) (opens_more l o)
 
-pub slot_pushed : (slots : List HeldSlot) (i : ℕ) (l m : List Open) (s : HeldSlot) (p : Part) (o : Open) → opens_seen l ≡ by_id i 0 (λ id. unfinished_in id (slots_seen slots id)) → slot_seen s ≡ slots_seen slots i → s ≡ Within p
+pub slot_pushed : (slots : List HeldSlot) (i : ℕ) (l m : List Open) (s : HeldSlot) (p : PartialMessage) (o : Open) → opens_seen l ≡ by_id i 0 (λ id. unfinished_in id (slots_seen slots id)) → slot_seen s ≡ slots_seen slots i → s ≡ Within p
     → open_seen o ≡ record { id = i; got = length p.bytes.items; of = p.head.size } → m ≡ l ++ o ∷ [] → opens_seen m ≡ by_id (i + 1) 0 (λ id. unfinished_in id (slots_seen slots id))
 slot_pushed slots i l m s p o e there is open_is more =
     let f : ℕ → List Unfinished = λ id. unfinished_in id (slots_seen slots id) in
@@ -79,11 +79,11 @@ slot_pushed slots i l m s p o e there is open_is more =
     let n : suc i ≡ i + 1 = omega arith in
     ap opens_seen more ∙ opens_more l o ∙ ap (λ r. r ++ open_seen o ∷ []) e ∙ ap (λ r. by_id i 0 f ++ r) (one ∙ ap f z) ∙ sym (by_more i 0 f) ∙ ap (λ k. by_id k 0 f) n
 
-none_in : (i : ℕ) (s : HeldSlot) → ((p : Part) → s ≡ Within p → ⊥) → unfinished_in i (slot_seen s) ≡ []
+none_in : (i : ℕ) (s : HeldSlot) → ((p : PartialMessage) → s ≡ Within p → ⊥) → unfinished_in i (slot_seen s) ≡ []
 none_in i NoHead h = refl
 none_in i (Between b) h = refl
 none_in i (Within p) h = absurd (h p refl)
 
-pub slot_passed : (slots : List HeldSlot) (i : ℕ) (l m : List Open) (s : HeldSlot) → opens_seen l ≡ by_id i 0 (λ id. unfinished_in id (slots_seen slots id)) → slot_seen s ≡ slots_seen slots i → ((p : Part) → s ≡ Within p → ⊥) → m ≡ l
+pub slot_passed : (slots : List HeldSlot) (i : ℕ) (l m : List Open) (s : HeldSlot) → opens_seen l ≡ by_id i 0 (λ id. unfinished_in id (slots_seen slots id)) → slot_seen s ≡ slots_seen slots i → ((p : PartialMessage) → s ≡ Within p → ⊥) → m ≡ l
     → opens_seen m ≡ by_id (i + 1) 0 (λ id. unfinished_in id (slots_seen slots id))
 slot_passed slots i l m s e there none same = ap opens_seen same ∙ slot_more slots i (λ id. unfinished_in id (slots_seen slots id)) (opens_seen l) e (ap (unfinished_in i) (sym there) ∙ none_in i s none)

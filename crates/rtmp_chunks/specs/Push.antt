@@ -27,6 +27,10 @@ later_chunks fuel size basic extended [] = []
 later_chunks zero size basic extended (b ∷ bytes) = []
 later_chunks (suc fuel) size basic extended (b ∷ bytes) = (basic ++ (extended ++ take size (b ∷ bytes))) ++ later_chunks fuel size basic extended (drop size (b ∷ bytes))
 
+-- those of a message by its id and its time
+abbrev pub chunks_behind : (fuel size id time : ℕ) → List ℕ → List ℕ
+chunks_behind fuel size id time rest = later_chunks fuel size (basic_header 3 id) (extended_field time) rest
+
 abbrev pub pushed : ℕ → Message → List ℕ
 pushed size m = (basic_header 0 m.id ++ (message_header m ++ (extended_field m.time ++ take size m.bytes))) ++ later_chunks (length m.bytes) size (basic_header 3 m.id) (extended_field m.time) (drop size m.bytes)
 

@@ -4,13 +4,13 @@ use Rattle.amf_io.specs.Layout.{Layout, give, want, bind}
 use Rattle.rtmp_chunks.specs.declared.parts.Head.{Head as HeldHead}
 use Rattle.rtmp_chunks.specs.declared.parts.Slot.{Slot as HeldSlot}
 use Rattle.rtmp_chunks.specs.declared.parts.Slot.TheVariants.{Fresh as NoHead, Idle as Between, Busy as Within}
-use Rattle.rtmp_chunks.specs.declared.parts.Part.{Part}
+use Rattle.rtmp_chunks.specs.declared.parts.PartialMessage.{PartialMessage}
 use Rattle.rtmp_chunks.specs.declared.parts.Message.{Message as HeldMessage}
 use Rattle.rtmp_chunks.specs.declared.parts.Open.{Open}
 use Rattle.rtmp_chunks.specs.declared.parts.Chunks.{Chunks}
 use Rattle.rtmp_chunks.specs.Chunk.{lesser, header_kind, data_kind, stamp_in, Head, filled, Message, Unfinished}
 use Rattle.rtmp_chunks.specs.Stream.{header_before, by_id}
-use Rattle.rtmp_chunks.specs.Machine.{Slot, Fresh, Idle, Busy, State, stamp_layout, passed, unfinished_in}
+use Rattle.rtmp_chunks.specs.Machine.{Slot, Fresh, Idle, Busy, State, slot_of, stamp_layout, passed, unfinished_in}
 
 abbrev pub head_seen : HeldHead → Head
 head_seen h = record { type = h.kind; size = h.size; stream = h.stream; time = h.time; delta = h.delta; extended = h.extended }
@@ -46,8 +46,12 @@ pub record Met : Type 0 where
 abbrev pub met : Head → List ℕ → Met
 met h bytes = record { head = h; bytes = bytes }
 
-abbrev pub part_seen : Part → Met
+abbrev pub part_seen : PartialMessage → Met
 part_seen p = met (head_seen p.head) p.bytes.items
+
+-- its chunk stream behind these bytes
+abbrev pub slot_behind : PartialMessage → Slot
+slot_behind p = slot_of (head_seen p.head) p.bytes.items
 
 -- the header of a message that begins
 abbrev pub begun : ℕ → Head → Layout Head

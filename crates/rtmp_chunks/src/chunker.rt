@@ -3,7 +3,7 @@ ghost use Rattle.amf_io.specs.Field.{AreBytes};
 ghost use Rattle.rtmp_chunks.specs.declared.chunker.ChunkEnd.{ChunkEnd as End};
 ghost use Rattle.rtmp_chunks.specs.declared.chunker.ChunkEnd.TheVariants.{Memory};
 ghost use Rattle.rtmp_chunks.specs.Chunk.{lesser};
-ghost use Rattle.rtmp_chunks.specs.Push.{basic_header, three_bytes, extended_field, message_header, later_chunks, pushed};
+ghost use Rattle.rtmp_chunks.specs.Push.{basic_header, three_bytes, extended_field, message_header, chunks_behind, pushed};
 ghost use Rattle.rtmp_chunks.specs.Push.{size_then, size_of, IsPushed, IsPushable, sets_no_size, refusal_of};
 ghost use Rattle.rtmp_chunks.specs.Table.{message_seen};
 
@@ -110,7 +110,7 @@ fn push_rest(size: u32, m: &Message, rest: &[u8], out: &mut Vec<u8>) -> Result<(
     requires id { m.now.id ≤ 65599 }
     requires size { 0 < size }
     ensures { OnOk result ((fuel : ℕ) → length rest.now ≤ fuel
-        → out.new.items ≡ out.old.items ++ later_chunks fuel size (basic_header 3 m.now.id) (extended_field m.now.time) rest.now) }
+        → out.new.items ≡ out.old.items ++ chunks_behind fuel size m.now.id m.now.time rest.now) }
 {
     let mut left = rest;
     while !left.is_empty() {

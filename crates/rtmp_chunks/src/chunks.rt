@@ -1,40 +1,23 @@
-ghost use Rattle.std.specs.Prelude.{◌≡◌, ◌<◌, ◌≤◌, ◌↔◌, ℕ, [], ◌∷◌, length, IsTrue, OnOk, IfOk, IfErr, IfSome, None};
-ghost use Rattle.amf_io.specs.Cursor.{source_of, place, unread};
+ghost use Rattle.std.specs.Prelude.{◌≡◌, ◌<◌, ◌≤◌, ℕ, [], ◌∷◌, length, OnOk, IfOk, IfSome, None};
+ghost use Rattle.amf_io.specs.Cursor.{place};
 ghost use Rattle.amf_io.specs.ReadEnds.{IsPlaced, Goes};
 ghost use Rattle.amf_io.specs.CursorReads.{Answers};
 ghost use Rattle.amf_io.specs.Stretch.{between};
 ghost use Rattle.rtmp_chunks.specs.Chunk.{size_behind, whole_message};
-ghost use Rattle.rtmp_chunks.specs.Machine.{start, put, slot_of, dropped_by, chunk_layout};
+ghost use Rattle.rtmp_chunks.specs.Machine.{start, put, dropped_by, chunk_layout};
 ghost use Rattle.rtmp_chunks.specs.Push.{IsPushable};
 ghost use Rattle.rtmp_chunks.specs.Reader.{AnswersNext};
-ghost use Rattle.rtmp_chunks.specs.Table.{head_seen, slots_seen, message_seen, made, made_by, opens_seen, state_seen, held, listed, ListsAll};
+ghost use Rattle.rtmp_chunks.specs.Table.{head_seen, slot_behind, slots_seen, message_seen, made, made_by, opens_seen, held, listed, ListsAll};
 
 use crate::chunker::is_pushable;
 use crate::data::read_part;
 use crate::fields::{format_in, id_in, read_basic};
 use crate::headers::number_in;
-use crate::parts::{Chunks, Message, MessageBytes, Open, Part, Slot};
+use crate::parts::{Chunks, Message, MessageBytes, Open, PartialMessage, Slot};
 use crate::table::{drop_unfinished, is_refused, list_unfinished, make_room, take_slot};
-use amf_io::{Cursor, ReadEnd, Reason, Source, refused};
+use amf_io::{Cursor, ReadEnd, Reason, Source, is_over, refused};
 use amf_wire::Memory;
 use std::alloc::Global;
-
-/// Whether no byte follows.
-fn is_over<S: Source>(cursor: &mut Cursor<'_, S>) -> Result<bool, ReadEnd>
-    ensures goes { Goes S.tells S.left S.faults cursor.old cursor.new result }
-    ensures over { IfOk result (λ over. S.tells (source_of cursor.old).now → IsTrue over ↔ (unread S.left cursor.old ≡ [])) }
-    ensures stays { place cursor.new ≡ place cursor.old }
-    ensures same { S.tells (source_of cursor.old).now → unread S.left cursor.new ≡ unread S.left cursor.old }
-    ensures err { IfErr result (λ end. end ≡ ReadEnd.ReadFault) }
-    ensures placed { IsPlaced cursor.new }
-{
-    // What is true of every cursor.
-    let _start = cursor.at();
-    match cursor.at_end() {
-        Ok(ended) => Ok(ended),
-        Err(_) => Err(ReadEnd::ReadFault),
-    }
-}
 
 impl Chunks {
     /// No chunk was read: chunks have 128 bytes.
@@ -72,15 +55,14 @@ impl Chunks {
     }
 
     /// These bytes of a message came: it may be whole.
-    fn came(&mut self, id: u32, part: Part) -> Option<Message>
+    fn came(&mut self, id: u32, part: PartialMessage) -> Option<Message>
         requires room { id < length self.old.slots.items }
         requires least { 2 ≤ id }
         ensures made { made result ≡ whole_message id (head_seen part.head) part.bytes.items }
         ensures pushable { IfSome result (λ message. IsPushable (message_seen message)) }
         ensures size { self.new.size ≡ size_behind self.old.size (made result) }
         ensures slots { (j : ℕ)
-            → slots_seen self.new.slots.items j ≡ dropped_by j (made result)
-            (put id (slot_of (head_seen part.head) part.bytes.items) (slots_seen self.old.slots.items) j) }
+            → slots_seen self.new.slots.items j ≡ dropped_by j (made result) (put id (slot_behind part) (slots_seen self.old.slots.items) j) }
         ensures listed { self.new.unfinished.items ≡ self.old.unfinished.items }
     {
         let place = id as usize;
@@ -109,9 +91,8 @@ impl Chunks {
         cursor: &mut Cursor<'_, S>,
         header: &mut Vec<u8>,
     ) -> Result<Option<Message>, ReadEnd>
-        ensures goes { Goes S.tells S.left S.faults cursor.old cursor.new result }
-        ensures answers { Answers S.tells S.left (λ it. state_seen self.new.size self.new.slots.items (made it))
-            (chunk_layout (state_seen self.old.size self.old.slots.items [])) cursor.old cursor.new result }
+        ensures goes { Goes S.Source cursor.old cursor.new result }
+        ensures answers { Answers S.tells S.left (λ it. held self.new (made it)) (chunk_layout (held self.old [])) cursor.old cursor.new result }
         ensures placed { OnOk result (IsPlaced cursor.new) }
         ensures moves { OnOk result (place cursor.old < place cursor.new) }
         ensures listed { OnOk result (self.new.unfinished.items ≡ self.old.unfinished.items) }
@@ -141,7 +122,7 @@ impl Chunks {
         alloc: Global,
         cursor: &mut Cursor<'_, S>,
     ) -> Result<Option<Message>, ReadEnd>
-        ensures goes { Goes S.tells S.left S.faults cursor.old cursor.new result }
+        ensures goes { Goes S.Source cursor.old cursor.new result }
         ensures answers { AnswersNext message_seen (held self.old []) (held self.new (made_by result)) (between S.tells S.left cursor.old cursor.new) result }
         ensures open { IfOk result (λ it. it ≡ None → ListsAll self.new) }
         ensures kept { IfOk result (λ it. IfSome it (λ message. listed self.new ≡ listed self.old)) }

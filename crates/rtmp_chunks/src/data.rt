@@ -6,7 +6,7 @@ ghost use Rattle.rtmp_chunks.specs.Chunk.{lesser, number_of};
 ghost use Rattle.rtmp_chunks.specs.Table.{head_seen, slot_seen, part_seen, begun, taken_by, part_layout};
 
 use crate::headers::{number_in, pass_extended, read_head};
-use crate::parts::{Head, Part, Slot};
+use crate::parts::{Head, PartialMessage, Slot};
 use amf_io::{Cursor, ReadEnd, Reason, Source, append_field, refused};
 use std::alloc::Global;
 
@@ -27,8 +27,12 @@ fn share(size: u32, left: u32) -> u32
 }
 
 /// Reads the data of a chunk behind those of its message that came.
-fn read_data<S: Source>(cursor: &mut Cursor<'_, S>, size: u32, part: Part) -> Result<Part, ReadEnd>
-    ensures goes { Goes S.tells S.left S.faults cursor.old cursor.new result }
+fn read_data<S: Source>(
+    cursor: &mut Cursor<'_, S>,
+    size: u32,
+    part: PartialMessage,
+) -> Result<PartialMessage, ReadEnd>
+    ensures goes { Goes S.Source cursor.old cursor.new result }
     ensures answers { Answers S.tells S.left part_seen (taken_by size (head_seen part.head) part.bytes.items) cursor.old cursor.new result }
     ensures placed { OnOk result (IsPlaced cursor.new) }
 {
@@ -44,7 +48,7 @@ fn read_data<S: Source>(cursor: &mut Cursor<'_, S>, size: u32, part: Part) -> Re
     if is_bad_data(head, first, &bytes) {
         return Err(refused(Reason::BadChunkSize, start));
     }
-    Ok(Part { head, bytes })
+    Ok(PartialMessage { head, bytes })
 }
 
 /// A message begins.
@@ -54,15 +58,15 @@ fn begin<S: Source>(
     size: u32,
     format: u8,
     before: Head,
-) -> Result<Part, ReadEnd>
+) -> Result<PartialMessage, ReadEnd>
     requires { format < 4 }
-    ensures goes { Goes S.tells S.left S.faults cursor.old cursor.new result }
+    ensures goes { Goes S.Source cursor.old cursor.new result }
     ensures answers { Answers S.tells S.left part_seen (bind (begun format (head_seen before)) (λ h. taken_by size h [])) cursor.old cursor.new result }
     ensures placed { OnOk result (IsPlaced cursor.new) }
 {
     let head = read_head(alloc, cursor, format, before)?;
     let bytes = Vec::new(alloc);
-    read_data(cursor, size, Part { head, bytes })
+    read_data(cursor, size, PartialMessage { head, bytes })
 }
 
 /// Reads a chunk behind its basic header: its message as far as it came.
@@ -72,9 +76,9 @@ pub(crate) fn read_part<S: Source>(
     size: u32,
     format: u8,
     slot: Slot,
-) -> Result<Part, ReadEnd>
+) -> Result<PartialMessage, ReadEnd>
     requires { format < 4 }
-    ensures goes { Goes S.tells S.left S.faults cursor.old cursor.new result }
+    ensures goes { Goes S.Source cursor.old cursor.new result }
     ensures answers { Answers S.tells S.left part_seen (part_layout size format (slot_seen slot)) cursor.old cursor.new result }
     ensures placed { OnOk result (IsPlaced cursor.new) }
 {

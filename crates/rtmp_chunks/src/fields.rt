@@ -15,7 +15,7 @@ pub(crate) fn read_field<S: Source>(
     size: u32,
 ) -> Result<Vec<u8>, ReadEnd>
     requires { 0 < size }
-    ensures goes { Goes S.tells S.left S.faults cursor.old cursor.new result }
+    ensures goes { Goes S.Source cursor.old cursor.new result }
     ensures field { AnswersField S.tells S.left (λ bytes. bytes.items) (fixed size) cursor.old cursor.new result }
     ensures size { IfOk result (λ bytes. length bytes.items ≡ size) }
     ensures placed { OnOk result (IsPlaced cursor.new) }
@@ -30,7 +30,7 @@ pub(crate) fn read_basic<S: Source>(
     cursor: &mut Cursor<'_, S>,
     header: &mut Vec<u8>,
 ) -> Result<(), ReadEnd>
-    ensures goes { Goes S.tells S.left S.faults cursor.old cursor.new result }
+    ensures goes { Goes S.Source cursor.old cursor.new result }
     ensures field { AnswersField S.tells S.left (λ done. header.new.items) basic cursor.old cursor.new result }
     ensures some { OnOk result (0 < length header.new.items) }
     ensures least { OnOk result (2 ≤ id_of header.new.items) }

@@ -9,7 +9,7 @@ use std::alloc::Global;
 
 /// Appends the two blocks behind the version.
 fn append_blocks<S: Source>(cursor: &mut Cursor<'_, S>, out: &mut Vec<u8>) -> Result<(), ReadEnd>
-    ensures goes { Goes S.tells S.left S.faults cursor.old cursor.new result }
+    ensures goes { Goes S.Source cursor.old cursor.new result }
     ensures answers { Answers S.tells S.left (λ done. out.new.items) (blocks_layout out.old.items) cursor.old cursor.new result }
 {
     append_raw(cursor, 1536, out)?;
@@ -18,7 +18,7 @@ fn append_blocks<S: Source>(cursor: &mut Cursor<'_, S>, out: &mut Vec<u8>) -> Re
 
 /// Reads the bytes of a handshake.
 fn read_all<S: Source>(alloc: Global, cursor: &mut Cursor<'_, S>) -> Result<Vec<u8>, ReadEnd>
-    ensures goes { Goes S.tells S.left S.faults cursor.old cursor.new result }
+    ensures goes { Goes S.Source cursor.old cursor.new result }
     ensures answers { Answers S.tells S.left (λ bytes. bytes.items) handshake_layout cursor.old cursor.new result }
 {
     let at = cursor.at();
@@ -37,7 +37,7 @@ pub fn read_handshake<S: Source>(
     cursor: &mut Cursor<'_, S>,
     out: &mut Vec<u8>,
 ) -> Result<(), ReadEnd>
-    ensures goes { Goes S.tells S.left S.faults cursor.old cursor.new result }
+    ensures goes { Goes S.Source cursor.old cursor.new result }
     ensures answers { Answers S.tells S.left (λ done. drop (length out.old.items) out.new.items) handshake_layout cursor.old cursor.new result }
     ensures appended { OnOk result (out.new.items ≡ out.old.items ++ drop (length out.old.items) out.new.items) }
     ensures kept { OnErr result (out.new.items ≡ out.old.items) }

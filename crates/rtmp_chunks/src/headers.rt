@@ -37,7 +37,7 @@ pub(crate) fn pass_extended<S: Source>(
     cursor: &mut Cursor<'_, S>,
     there: bool,
 ) -> Result<(), ReadEnd>
-    ensures goes { Goes S.tells S.left S.faults cursor.old cursor.new result }
+    ensures goes { Goes S.Source cursor.old cursor.new result }
     ensures answers { Answers S.tells S.left (λ done. 0) (passed there) cursor.old cursor.new result }
     ensures placed { OnOk result (IsPlaced cursor.new) }
 {
@@ -55,7 +55,7 @@ fn read_stamp<S: Source>(
     cursor: &mut Cursor<'_, S>,
     short: u32,
 ) -> Result<u32, ReadEnd>
-    ensures goes { Goes S.tells S.left S.faults cursor.old cursor.new result }
+    ensures goes { Goes S.Source cursor.old cursor.new result }
     ensures answers { Answers S.tells S.left (λ stamp. stamp) (stamp_layout short) cursor.old cursor.new result }
     ensures placed { OnOk result (IsPlaced cursor.new) }
 {
@@ -133,7 +133,7 @@ fn read_header<S: Source>(
     before: Head,
 ) -> Result<Head, ReadEnd>
     requires { format < 3 }
-    ensures goes { Goes S.tells S.left S.faults cursor.old cursor.new result }
+    ensures goes { Goes S.Source cursor.old cursor.new result }
     ensures answers { Answers S.tells S.left head_seen (begun format (head_seen before)) cursor.old cursor.new result }
     ensures placed { OnOk result (IsPlaced cursor.new) }
 {
@@ -152,7 +152,7 @@ fn repeat<S: Source>(
     cursor: &mut Cursor<'_, S>,
     before: Head,
 ) -> Result<Head, ReadEnd>
-    ensures goes { Goes S.tells S.left S.faults cursor.old cursor.new result }
+    ensures goes { Goes S.Source cursor.old cursor.new result }
     ensures answers { Answers S.tells S.left head_seen (begun 3 (head_seen before)) cursor.old cursor.new result }
     ensures placed { OnOk result (IsPlaced cursor.new) }
 {
@@ -175,7 +175,7 @@ pub(crate) fn read_head<S: Source>(
     before: Head,
 ) -> Result<Head, ReadEnd>
     requires { format < 4 }
-    ensures goes { Goes S.tells S.left S.faults cursor.old cursor.new result }
+    ensures goes { Goes S.Source cursor.old cursor.new result }
     ensures answers { Answers S.tells S.left head_seen (begun format (head_seen before)) cursor.old cursor.new result }
     ensures placed { OnOk result (IsPlaced cursor.new) }
 {

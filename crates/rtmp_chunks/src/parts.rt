@@ -29,7 +29,7 @@ impl Head {
 
 /// A message as far as it came.
 #[derive(Drop)]
-pub(crate) struct Part {
+pub(crate) struct PartialMessage {
     pub(crate) head: Head,
     pub(crate) bytes: Vec<u8>,
     ghost short: { length bytes.items ≤ head.size },
@@ -43,7 +43,7 @@ pub(crate) enum Slot {
     /// Between messages: the header of the last one.
     Idle(Head),
     /// Within a message.
-    Busy(Part),
+    Busy(PartialMessage),
 }
 
 /// The data of a message, without its headers.

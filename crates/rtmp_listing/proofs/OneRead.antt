@@ -16,10 +16,11 @@ use Rattle.amf_graph.proofs.FinishedSmall.{completes_itself}
 use Rattle.amf3_spelling.specs.Reads3.{Grows}
 use Rattle.amf3_layout.proofs.Values3Layout.{no_arena_built}
 use Rattle.amf0_spelling.specs.KeptTables0.{KeptTables0, no_kept_tables0, tables0_of}
-use Rattle.amf0_spelling.specs.Reads0.{IsReading0, IsValue0}
+use Rattle.amf0_spelling.specs.Reads0.{IsReading0}
+use Rattle.amf0_spelling.specs.Values0.{IsValue0}
 use Rattle.amf0_layout.specs.Layout0.{value0_layout}
 use Rattle.amf0_layout.specs.Layout0State.{state0_of}
-use Rattle.amf0_layout.proofs.Layout0Format.{values0_is_layout}
+use Rattle.amf0_layout.proofs.Layout0Format.{values0_is_layout, reading_is_value0, answered0}
 use Rattle.amf0_read.specs.Answer0.{IsReadWith}
 use Rattle.amf0_read.specs.declared.formed.Read0.{Read0}
 use Rattle.rtmp_listing.specs.Values.{IsReadFront, AnswersOne}
@@ -39,10 +40,10 @@ pub one_read : (b : Arena) (u : KeptTables0) (x : Read0) (input rest : List ℕ)
 one_read b u x input rest at place limit r =
     let read = r.read.read in
     let finished : IsFinished b = record { built = read.built no_arena_built; closed = all_closed b read.grows } in
-    record { fields = r.fields; spelled = (tables0_of b u, read.spelled b (completes_itself b finished)); accepted = r.accepted; parts = r.parts tt; taken = r.taken }
+    record { fields = r.fields; spelled = (tables0_of b u, read.spelled b (completes_itself b finished)); accepted = reading_is_value0 r.fields r.accepted; parts = r.parts tt; taken = r.taken }
 
 pub one_ended : (b : Arena) (u : KeptTables0) (input rest : List ℕ) (at place limit : ℕ) (e : ReadEnd) → Answered (Unit {0}) no_arena no_kept_tables0 b u input rest at place limit (Err e) → AnswersOne input rest at place limit (Err e)
-one_ended b u input rest at place limit (Refused f) r = r tt
+one_ended b u input rest at place limit (Refused f) r = answered0 (λ x fs. IsReadWith no_arena no_kept_tables0 fs b u x) (stretch (Unit {0}) input rest at place limit) (Err (Refused f)) r tt
 one_ended b u input rest at place limit ReadFault r = tt
 one_ended b u input rest at place limit Memory r = tt
 

@@ -2,33 +2,15 @@
 use Rattle.std.specs.Prelude.{◌≡◌, ℕ, ◌+◌, ◌<◌, List, [], ◌∷◌, ◌++◌, length, codes, decimal}
 use Rattle.amf_wire.specs.Style.{free}
 use Rattle.amf_io.specs.declared.reason.Reason.{Reason}
-use Rattle.amf_io.specs.declared.reason.Reason.TheVariants.{Truncated, BadMarker, BadReference, BadTraits, BadTextIndex, BadText, WrongKind, UnknownExternal, TooLarge, Trailing, BadVersion, BadSignature, BadLength, BadPadding, BadChunk, BadChunkSize}
+use Rattle.amf_io.specs.Reasons.{reason_name}
 use Rattle.amf_io.specs.Field.{Field, flat}
 use Rattle.amf_io.specs.Verdict.{IsRefused}
 use Rattle.amf_graph.specs.Graph.{Graph}
-use Rattle.amf0_spelling.specs.Reads0.{IsValue0}
+use Rattle.amf0_spelling.specs.Values0.{IsValue0}
 use Rattle.amf0_spelling.specs.Spells0.{IsSpelling0}
 use Rattle.amf_show.specs.Listing.{IsListing}
 use Rattle.amf_show.specs.Shown.{line_feed}
 use Rattle.rtmp_chunks.specs.Chunk.{Message, Unfinished}
-
-abbrev pub reason_name : Reason → List ℕ
-reason_name Truncated = codes "Truncated"
-reason_name BadMarker = codes "BadMarker"
-reason_name BadReference = codes "BadReference"
-reason_name BadTraits = codes "BadTraits"
-reason_name BadTextIndex = codes "BadTextIndex"
-reason_name BadText = codes "BadText"
-reason_name WrongKind = codes "WrongKind"
-reason_name UnknownExternal = codes "UnknownExternal"
-reason_name TooLarge = codes "TooLarge"
-reason_name Trailing = codes "Trailing"
-reason_name BadVersion = codes "BadVersion"
-reason_name BadSignature = codes "BadSignature"
-reason_name BadLength = codes "BadLength"
-reason_name BadPadding = codes "BadPadding"
-reason_name BadChunk = codes "BadChunk"
-reason_name BadChunkSize = codes "BadChunkSize"
 
 unfoldable pub message_line : Message → List ℕ
 message_line m = codes "message id " ++ decimal m.id ++ codes " type " ++ decimal m.type ++ codes " stream " ++ decimal m.stream ++ codes " time " ++ decimal m.time ++ codes " length " ++ decimal (length m.bytes) ++ line_feed

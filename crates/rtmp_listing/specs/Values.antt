@@ -7,7 +7,7 @@ use Rattle.amf_io.specs.Field.{Field, flat}
 use Rattle.amf_io.specs.Verdict.{IsRefused}
 use Rattle.amf_graph.specs.Graph.{Graph}
 use Rattle.amf_graph.specs.Rooted.{RootedArena, content}
-use Rattle.amf0_spelling.specs.Reads0.{IsValue0}
+use Rattle.amf0_spelling.specs.Values0.{IsValue0}
 use Rattle.amf0_spelling.specs.Spells0.{IsSpelling0}
 use Rattle.rtmp_pass.specs.Pass.{Appended}
 use Rattle.rtmp_listing.specs.Listing.{ShowsValues, bad_line}

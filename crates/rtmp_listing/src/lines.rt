@@ -2,7 +2,7 @@ ghost use Rattle.std.specs.Prelude.{◌≡◌, ◌++◌, decimal, OnOk};
 ghost use Rattle.rtmp_chunks.specs.Table.{message_seen, open_seen, opens_seen};
 ghost use Rattle.rtmp_listing.specs.Listing as listing;
 
-use amf_io::{Reason, Refusal};
+use amf_io::Refusal;
 use itoa::Buffer;
 use rtmp_chunks::{Message, Open};
 use std::alloc::AllocError;
@@ -70,31 +70,7 @@ pub(crate) fn push_bad_line(refusal: Refusal, out: &mut Vec<u8>) -> Result<(), A
     ensures { OnOk result (out.new.items ≡ out.old.items ++ listing.bad_line refusal.reason refusal.at) }
 {
     push_word(b"bad ", out)?;
-    push_word(name_of(refusal.reason), out)?;
+    push_word(refusal.reason.name(), out)?;
     push_part(b" at ", refusal.at as u64, out)?;
     push_word(b"\n", out)
-}
-
-/// The name of a reason.
-fn name_of(reason: Reason) -> &'static [u8]
-    ensures { result.now ≡ listing.reason_name reason }
-{
-    match reason {
-        Reason::Truncated => b"Truncated",
-        Reason::BadMarker => b"BadMarker",
-        Reason::BadReference => b"BadReference",
-        Reason::BadTraits => b"BadTraits",
-        Reason::BadTextIndex => b"BadTextIndex",
-        Reason::BadText => b"BadText",
-        Reason::WrongKind => b"WrongKind",
-        Reason::UnknownExternal => b"UnknownExternal",
-        Reason::TooLarge => b"TooLarge",
-        Reason::Trailing => b"Trailing",
-        Reason::BadVersion => b"BadVersion",
-        Reason::BadSignature => b"BadSignature",
-        Reason::BadLength => b"BadLength",
-        Reason::BadPadding => b"BadPadding",
-        Reason::BadChunk => b"BadChunk",
-        Reason::BadChunkSize => b"BadChunkSize",
-    }
 }

@@ -1,15 +1,13 @@
-ghost use Rattle.std.specs.Prelude.{◌≡◌, ◌<◌, ◌^◌, ◌+◌, ◌↔◌, [], false, length, IsTrue, OnOk};
-ghost use Rattle.std.specs.List.{AllByRecursion};
+ghost use Rattle.std.specs.Prelude.{◌≡◌, ◌<◌, ◌^◌, ◌+◌, ◌↔◌, length, OnOk};
 ghost use Rattle.amf_io.specs.Cursor.{place, bound, unread};
 ghost use Rattle.amf_io.specs.InMemory.{nothing_left};
-ghost use Rattle.amf_io.specs.ReadEnds.{Goes};
-ghost use Rattle.amf_graph.specs.Arena.{Names};
+ghost use Rattle.amf_io.specs.ReadEnds.{GoesBy};
 ghost use Rattle.rtmp_pass.specs.Pass.{Appended};
 ghost use Rattle.rtmp_listing.specs.Listing.{ShowsValues};
 ghost use Rattle.rtmp_listing.specs.Values.{AnswersOne, Lists};
 
 use crate::lines::push_bad_line;
-use amf_graph::{Builder, Rooted, Value};
+use amf_graph::{Builder, Rooted};
 use amf_io::{Cursor, Empty, ReadEnd};
 use amf_show::show;
 use amf_wire::Memory;
@@ -68,7 +66,7 @@ fn read_one(
     cursor: &mut Cursor<'_, Empty>,
 ) -> Result<Rooted, ReadEnd>
     requires { bound cursor.old < 2 ^ 24 }
-    ensures goes { Goes (λ s. Unit {0}) nothing_left (λ s. 0) cursor.old cursor.new result }
+    ensures goes { GoesBy (λ s. Unit {0}) nothing_left (λ s. 0) cursor.old cursor.new result }
     ensures answers { AnswersOne (unread nothing_left cursor.old) (unread nothing_left cursor.new) (place cursor.old) (place cursor.new)
         (bound cursor.old) result }
 {
@@ -77,17 +75,5 @@ fn read_one(
     let mut builder = Builder::keyed(alloc, keys)?;
     let mut tables = Tables0::new(alloc)?;
     let read = read0(alloc, cursor, &mut builder, &mut tables)?;
-    Ok(whole(builder, read.value))
-}
-
-/// The graph with this root, of which all nodes are closed.
-fn whole(builder: Builder, root: Value) -> Rooted
-    requires names { Names builder root }
-    requires closed { AllByRecursion (λ n. n.is_open ≡ false) builder.nodes }
-    ensures { result ≡ record { arena = builder; root = root } }
-{
-    match builder.finish(root) {
-        Ok(graph) => graph,
-        Err(_) => unreachable!(),
-    }
+    Ok(builder.whole(read.value))
 }

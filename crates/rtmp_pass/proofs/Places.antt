@@ -8,7 +8,7 @@ use Rattle.amf_io.specs.declared.cursor.Cursor.{Cursor}
 use Rattle.amf_io.specs.declared.ends.ReadEnd.{ReadEnd}
 use Rattle.amf_io.specs.Cursor.{source_of, place, bound, ahead, unread}
 use Rattle.amf_io.specs.Field.{Field, flat}
-use Rattle.amf_io.specs.ReadEnds.{Goes}
+use Rattle.amf_io.specs.ReadEnds.{GoesBy}
 use Rattle.amf_io.specs.Stretch.{IsInterrupted}
 use Rattle.amf_io.specs.Verdict.{IsRefused, faulty, truncated, too_large}
 use Rattle.rtmp_chunks.specs.Chunk.{Message, Unfinished}
@@ -33,7 +33,7 @@ taken_whole : (at end next behind before rest limit last : ℕ) → at ≡ 0 →
 taken_whole at end next behind before rest limit last z l b total past within = omega arith
 
 -- no more than one byte past the most was taken
-pub taken_by : {S X : Type 0} (tells : S → Type 0) (left : S → List ℕ) (faults : S → ℕ) (old new : Cursor S Window) (r : Result X ReadEnd) → place old ≡ 0 → bound old ≡ most → Goes tells left faults old new r → tells (source_of old).now
+pub taken_by : {S X : Type 0} (tells : S → Type 0) (left : S → List ℕ) (faults : S → ℕ) (old new : Cursor S Window) (r : Result X ReadEnd) → place old ≡ 0 → bound old ≡ most → GoesBy tells left faults old new r → tells (source_of old).now
     → length (unread left old) ≤ length (left (source_of new).now) + (most + 1)
 taken_by tells left faults old new r z l g told =
     taken_whole (place old) (place new) (length (unread left old)) (length (unread left new)) (ahead new) (length (left (source_of new).now)) (bound old) (bound new) z l g.same_bound (g.total told) g.one_past (unread_within left new)

@@ -6,7 +6,7 @@ use Rattle.amf_io.specs.declared.cursor.Cursor.{Cursor}
 use Rattle.amf_io.specs.Cursor.{source_of, ahead, unread}
 use Rattle.amf_io.specs.ReadEnds.{Counts, IsFaultedAt}
 use Rattle.rtmp_chunks.specs.Chunk.{Message, Unfinished}
-use Rattle.rtmp_pass.specs.Written.{WritesFront}
+use Rattle.amf_io.specs.Written.{WritesFront}
 use Rattle.rtmp_pass.specs.declared.pass_end.PassEnd.{PassEnd}
 use Rattle.rtmp_pass.specs.declared.pass_end.PassEnd.TheVariants.{Refused, ReadFault, WriteFault, Memory}
 use Rattle.rtmp_pass.specs.Pass.{of_all, Passes, WroteAll, WroteSome, CountsReads, CountsWrites}

@@ -10,7 +10,7 @@ use Rattle.amf_io.specs.Cursor.{source_of, place, bound, unread}
 use Rattle.amf_io.specs.Field.{AreBytes, Field, flat}
 use Rattle.amf_io.specs.Layout.{Layout, give, want, Runs}
 use Rattle.amf_io.specs.LayoutAnswer.{DoneBy, EndsBy}
-use Rattle.amf_io.specs.ReadEnds.{Goes}
+use Rattle.amf_io.specs.ReadEnds.{GoesBy}
 use Rattle.amf_io.specs.Stretch.{Stretch, stretch, between}
 use Rattle.amf_io.proofs.Ables.{path_some}
 use Rattle.amf_io.proofs.CursorReads.{goes_end, goes_spent}
@@ -18,7 +18,8 @@ use Rattle.rtmp_chunks.specs.Chunk.{Message, basic_kind, format_of, id_of}
 use Rattle.rtmp_chunks.specs.Machine.{State, chunk_layout, refused_in, behind_basic}
 use Rattle.rtmp_chunks.specs.Reader.{LeadsOn, Gives, EndsIn, AnswersNext}
 use Rattle.rtmp_chunks.specs.Calls.{settled, Calls}
-use Rattle.rtmp_pass.specs.Written.{WritesFront, Put}
+use Rattle.amf_io.specs.Written.{WritesFront}
+use Rattle.rtmp_pass.specs.Written.{Put}
 use Rattle.rtmp_pass.specs.declared.pass_end.PassEnd.{PassEnd}
 use Rattle.rtmp_pass.specs.declared.pass_end.PassEnd.TheVariants.{Refused, ReadFault, WriteFault, Memory}
 use Rattle.rtmp_pass.specs.Pass.{AreSaid, CountsWrites}
@@ -82,7 +83,7 @@ module _ (told : Type 0) (x : told) (n : ℕ) (s : State) (input : List ℕ) (at
     some = λ i u. h.some i x;
   }
 
-module _ {S M : Type 0} (tells : S → Type 0) (left : S → List ℕ) (faults : S → ℕ) (view : M → Message) (s t : State) (c d e : Cursor S Window) (goes : Goes {X = Unit {0}} tells left faults c d (Ok tt)) (x : tells (source_of c).now) where
+module _ {S M : Type 0} (tells : S → Type 0) (left : S → List ℕ) (faults : S → ℕ) (view : M → Message) (s t : State) (c d e : Cursor S Window) (goes : GoesBy {X = Unit {0}} tells left faults c d (Ok tt)) (x : tells (source_of c).now) where
   pub next_some : (m : M) → AnswersNext view s t (between tells left d e) (Ok (Some m)) → AnswersNext (λ (m : Message). m) s t (stretch (Unit {0}) (unread left d) (unread left e) (place d) (place e) (bound c)) (Ok (Some (view m)))
   next_some m (n, g) = subst (λ k. AnswersNext (λ (m : Message). m) s t (stretch (Unit {0}) (unread left d) (unread left e) (place d) (place e) k) (Ok (Some (view m)))) goes.same_bound
       (n, gives_told (tells (source_of d).now) (goes.told x) n s (unread left d) (place d) (bound d) t (view m) (unread left e) (place e) g)
@@ -227,25 +228,25 @@ reading_end reader.ReadFault = refl
 reading_end reader.Memory = refl
 
 module _ {S : Type 0} (tells : S → Type 0) (left : S → List ℕ) (faults : S → ℕ) (c d : Cursor S Window) where
-  pub ended_goes : {X : Type 0} (e : ReadEnd) (r : Result (Unit {0}) PassEnd) → IsErrAnd r (λ z. z ≡ end_of e) → Goes {X = X} tells left faults c d (Err e) → Goes {X = Unit {0}} tells left faults c d (reading r)
+  pub ended_goes : {X : Type 0} (e : ReadEnd) (r : Result (Unit {0}) PassEnd) → IsErrAnd r (λ z. z ≡ end_of e) → GoesBy {X = X} tells left faults c d (Err e) → GoesBy {X = Unit {0}} tells left faults c d (reading r)
   ended_goes e (Ok u) h k = absurd h
-  ended_goes e (Err z) h k = subst (λ w. Goes {X = Unit {0}} tells left faults c d (reading {T = Unit {0}} (Err w))) (sym h)
-      (subst (λ w. Goes {X = Unit {0}} tells left faults c d w) (sym (reading_end e)) (goes_end tells left faults c d e k))
+  ended_goes e (Err z) h k = subst (λ w. GoesBy {X = Unit {0}} tells left faults c d (reading {T = Unit {0}} (Err w))) (sym h)
+      (subst (λ w. GoesBy {X = Unit {0}} tells left faults c d w) (sym (reading_end e)) (goes_end tells left faults c d e k))
 
-  pub passed_goes : (e : PassEnd) (r : Result (Unit {0}) PassEnd) → IsErrAnd r (λ z. z ≡ e) → Goes {X = Unit {0}} tells left faults c d (reading {T = Unit {0}} (Err e)) → Goes {X = Unit {0}} tells left faults c d (reading r)
+  pub passed_goes : (e : PassEnd) (r : Result (Unit {0}) PassEnd) → IsErrAnd r (λ z. z ≡ e) → GoesBy {X = Unit {0}} tells left faults c d (reading {T = Unit {0}} (Err e)) → GoesBy {X = Unit {0}} tells left faults c d (reading r)
   passed_goes e (Ok u) h g = absurd h
-  passed_goes e (Err z) h g = subst (λ w. Goes {X = Unit {0}} tells left faults c d (reading {T = Unit {0}} (Err w))) (sym h) g
+  passed_goes e (Err z) h g = subst (λ w. GoesBy {X = Unit {0}} tells left faults c d (reading {T = Unit {0}} (Err w))) (sym h) g
 
-  pub spent_goes : (r : Result (Unit {0}) PassEnd) → IsErrAnd r (λ z. z ≡ Memory) → Goes {X = Unit {0}} tells left faults c d (Ok tt) → Goes {X = Unit {0}} tells left faults c d (reading r)
+  pub spent_goes : (r : Result (Unit {0}) PassEnd) → IsErrAnd r (λ z. z ≡ Memory) → GoesBy {X = Unit {0}} tells left faults c d (Ok tt) → GoesBy {X = Unit {0}} tells left faults c d (reading r)
   spent_goes (Ok u) h g = absurd h
-  spent_goes (Err z) h g = subst (λ w. Goes {X = Unit {0}} tells left faults c d (reading {T = Unit {0}} (Err w))) (sym h) (goes_spent tells left faults c d tt g)
+  spent_goes (Err z) h g = subst (λ w. GoesBy {X = Unit {0}} tells left faults c d (reading {T = Unit {0}} (Err w))) (sym h) (goes_spent tells left faults c d tt g)
 
-  pub handed_goes : (Says All Part : List ℕ → Type 0) (e : PassEnd) (r : Result (Unit {0}) PassEnd) → IsErrAnd r (λ z. z ≡ e) → Hands {T = Unit {0}} Says All Part (Err e) → Goes {X = Unit {0}} tells left faults c d (Ok tt) → Goes {X = Unit {0}} tells left faults c d (reading r)
+  pub handed_goes : (Says All Part : List ℕ → Type 0) (e : PassEnd) (r : Result (Unit {0}) PassEnd) → IsErrAnd r (λ z. z ≡ e) → Hands {T = Unit {0}} Says All Part (Err e) → GoesBy {X = Unit {0}} tells left faults c d (Ok tt) → GoesBy {X = Unit {0}} tells left faults c d (reading r)
   handed_goes Says All Part e (Ok u) h k g = absurd h
   handed_goes Says All Part (Refused f) (Err z) h k g = absurd k
   handed_goes Says All Part ReadFault (Err z) h k g = absurd k
-  handed_goes Says All Part WriteFault (Err z) h k g = subst (λ w. Goes {X = Unit {0}} tells left faults c d (reading {T = Unit {0}} (Err w))) (sym h) g
-  handed_goes Says All Part Memory (Err z) h k g = subst (λ w. Goes {X = Unit {0}} tells left faults c d (reading {T = Unit {0}} (Err w))) (sym h) (goes_spent tells left faults c d tt g)
+  handed_goes Says All Part WriteFault (Err z) h k g = subst (λ w. GoesBy {X = Unit {0}} tells left faults c d (reading {T = Unit {0}} (Err w))) (sym h) g
+  handed_goes Says All Part Memory (Err z) h k g = subst (λ w. GoesBy {X = Unit {0}} tells left faults c d (reading {T = Unit {0}} (Err w))) (sym h) (goes_spent tells left faults c d tt g)
 
 pub handed_takes : (Says All Part : List ℕ → Type 0) (Each : Message → List ℕ → Type 0) (s t : State) (x : Stretch) (Whole Front : List ℕ → Type 0) (e : PassEnd) (r : Result (Unit {0}) PassEnd) → IsErrAnd r (λ z. z ≡ e) → Hands {T = Unit {0}} Says All Part (Err e)
     → ((b : List ℕ) → Says b → Part b → Takes {T = Unit {0}} Each s t x Whole Front (Err WriteFault)) → (Part [] → Takes {T = Unit {0}} Each s t x Whole Front (Err Memory)) → Takes Each s t x Whole Front r

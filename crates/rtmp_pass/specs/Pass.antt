@@ -1,13 +1,15 @@
 -- What a pass over a chunk stream writes, and how it ends.
 use Rattle.std.specs.Prelude.{◌≡◌, ℕ, ◌≤◌, List, [], ◌∷◌, ◌++◌, length, take, Result, Ok, Err}
 use Rattle.amf_io.specs.Outside.{Rose}
+use Rattle.amf_io.specs.declared.source.Source.{Ghosts as SourceMembers}
+use Rattle.amf_io.specs.declared.sink.Sink.{Ghosts as SinkMembers}
 use Rattle.amf_io.specs.Stretch.{IsInterrupted}
 use Rattle.amf_io.specs.Verdict.{IsRefused}
 use Rattle.rtmp_chunks.specs.Chunk.{Message, Unfinished}
 use Rattle.rtmp_chunks.specs.Stream.{IsChunkStream}
 use Rattle.rtmp_chunks.specs.Laws.{IsStreamFields}
 use Rattle.rtmp_chunks.specs.Calls.{FrontSays, NoFront}
-use Rattle.rtmp_pass.specs.Written.{WritesFront}
+use Rattle.amf_io.specs.Written.{WritesFront}
 use Rattle.rtmp_pass.specs.declared.pass_end.PassEnd.{PassEnd}
 use Rattle.rtmp_pass.specs.declared.pass_end.PassEnd.TheVariants.{Refused, ReadFault, WriteFault, Memory}
 
@@ -74,6 +76,10 @@ WroteAll told held now out = told → now ≡ held ++ out
 
 abbrev pub WroteSome : Type 0 → List ℕ → List ℕ → List ℕ → Type 0
 WroteSome told held now out = told → WritesFront held now out
+
+-- how a pass ends, by a source, where it tells, and a sink, before and after
+abbrev pub PassesOver : {I O T : Type 0} → SourceMembers I → SinkMembers O → (List ℕ → List ℕ → Type 0) → (Message → List ℕ → Type 0) → (List Unfinished → List ℕ → Type 0) → (input rest : I) → (before after : O) → Result T PassEnd → Type 0
+PassesOver i o Begins Says Ends input rest before after result = i.tells input → Passes Begins Says Ends (i.left input) (i.left rest) (WroteAll (o.tells after) (o.held before) (o.held after)) (WroteSome (o.tells after) (o.held before) (o.held after)) result
 
 -- a read fault is counted; a write fault may come behind one, and without either the count stays
 abbrev pub CountsReads : {T : Type 0} → ℕ → ℕ → Result T PassEnd → Type 0

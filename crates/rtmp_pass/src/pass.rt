@@ -1,13 +1,11 @@
-ghost use Rattle.amf_io.specs.Cursor.{source_of, place, bound, unread};
 ghost use Rattle.std.specs.Prelude.{◌≡◌, ◌≤◌, ◌+◌, length, []};
-ghost use Rattle.rtmp_pass.specs.Pass.{most, Passes, WroteAll, WroteSome, CountsReads, CountsWrites};
-ghost use Rattle.rtmp_pass.specs.Reads.{PutAll, PutSome, lost};
+ghost use Rattle.rtmp_pass.specs.Pass.{most, PassesOver, CountsReads, CountsWrites};
+ghost use Rattle.rtmp_pass.specs.Reads.{PassesInput, lost};
 
 use crate::handler::Handler;
 use crate::pass_end::PassEnd;
 use crate::reading::read_whole;
-use crate::writing::write_whole;
-use amf_io::{Cursor, Sink, Source, Window};
+use amf_io::{Cursor, Sink, Source, Window, write_whole};
 use std::alloc::Global;
 
 /// The most bytes of an input.
@@ -23,9 +21,8 @@ fn read_input<H: Handler, I: Source, O: Sink>(
 ) -> Result<(), PassEnd>
     requires none { waiting.old.items ≡ [] }
     ensures tells { O.tells out.new → O.tells out.old }
-    ensures passes { I.tells input.old → Passes (H.begins handler.old) (H.says handler.old) (H.ends handler.old) (I.left input.old) (I.left input.new)
-        (PutAll (O.tells out.new) (O.held out.old) (O.held out.new) waiting.new.items) (PutSome (O.tells out.new) (O.held out.old) (O.held out.new))
-        result }
+    ensures passes { PassesInput I.Source O.Sink (H.begins handler.old) (H.says handler.old) (H.ends handler.old) input.old input.new out.old out.new
+        waiting.new.items result }
     ensures taken { I.tells input.old → length (I.left input.old) ≤ length (I.left input.new) + (most + 1) }
     ensures reads { CountsReads (I.faults input.old) (I.faults input.new) result }
     ensures writes { CountsWrites (O.faults out.old) (O.faults out.new) result }
@@ -55,8 +52,7 @@ pub fn pass_over<H: Handler, I: Source, O: Sink>(
     out: &mut O,
 ) -> Result<(), PassEnd>
     ensures tells { O.tells out.new → O.tells out.old }
-    ensures passes { I.tells input.old → Passes (H.begins handler.old) (H.says handler.old) (H.ends handler.old) (I.left input.old) (I.left input.new)
-        (WroteAll (O.tells out.new) (O.held out.old) (O.held out.new)) (WroteSome (O.tells out.new) (O.held out.old) (O.held out.new)) result }
+    ensures passes { PassesOver I.Source O.Sink (H.begins handler.old) (H.says handler.old) (H.ends handler.old) input.old input.new out.old out.new result }
     ensures taken { I.tells input.old → length (I.left input.old) ≤ length (I.left input.new) + (most + 1) }
     ensures reads { CountsReads (I.faults input.old) (I.faults input.new) result }
     ensures writes { CountsWrites (O.faults out.old) (O.faults out.new) result }

@@ -1,13 +1,12 @@
 ghost use Rattle.std.specs.Prelude.{◌≡◌, ◌≤◌, ◌+◌, length, [], List, ℕ, OnOk};
 ghost use Rattle.amf_io.specs.Cursor.{source_of, place, bound, unread};
 ghost use Rattle.amf_io.specs.ReadEnds.{Goes, IsPlaced};
-ghost use Rattle.amf_io.specs.Stretch.{stretch};
 ghost use Rattle.rtmp_chunks.specs.Chunk.{Message as Seen, Unfinished};
 ghost use Rattle.rtmp_chunks.specs.Push.{IsPushable};
-ghost use Rattle.rtmp_chunks.specs.Table.{message_seen, held, ListsAll};
-ghost use Rattle.rtmp_pass.specs.Pass.{most, Passes, CountsReads, CountsWrites};
+ghost use Rattle.rtmp_chunks.specs.Table.{message_seen, ListsAll};
+ghost use Rattle.rtmp_pass.specs.Pass.{most, CountsReads, CountsWrites};
 ghost use Rattle.rtmp_pass.specs.Ends.{reading};
-ghost use Rattle.rtmp_pass.specs.Reads.{Puts, PutsSome, PutAll, PutSome, Hands, Takes};
+ghost use Rattle.rtmp_pass.specs.Reads.{HandsOn, TakesBy, PassesUnread, PassesLeft};
 
 use crate::handler::Handler;
 use crate::pass_end::PassEnd;
@@ -26,8 +25,7 @@ fn hand_on<H: Handler, O: Sink>(
 ) -> Result<(), PassEnd>
     requires { IsPushable (message_seen message.now) }
     ensures tells { O.tells out.new → O.tells out.old }
-    ensures hands { Hands (H.says handler.old (message_seen message.now)) (Puts (O.tells out.new) (O.held out.old) (O.held out.new) waiting.old.items
-        waiting.new.items) (PutsSome (O.tells out.new) (O.held out.old) (O.held out.new) waiting.old.items) result }
+    ensures hands { HandsOn O.Sink (H.says handler.old (message_seen message.now)) out.old out.new waiting.old.items waiting.new.items result }
     ensures still { (m : Seen) (bytes : List ℕ) → H.says handler.new m bytes → H.says handler.old m bytes }
     ensures same_end { (open_ones : List Unfinished) (bytes : List ℕ) → H.ends handler.new open_ones bytes → H.ends handler.old open_ones bytes }
     ensures counts { CountsWrites (O.faults out.old) (O.faults out.new) result }
@@ -49,13 +47,10 @@ fn read_messages<H: Handler, S: Source, O: Sink>(
     waiting: &mut Vec<u8>,
 ) -> Result<(), PassEnd>
     requires { IsPlaced cursor.old }
-    ensures goes { Goes S.tells S.left S.faults cursor.old cursor.new (reading result) }
+    ensures goes { Goes S.Source cursor.old cursor.new (reading result) }
     ensures tells { O.tells out.new → O.tells out.old }
-    ensures takes { S.tells (source_of cursor.old).now
-        → Takes (H.says handler.old) (held chunks.old []) (held chunks.new [])
-        (stretch (Unit {0}) (unread S.left cursor.old) (unread S.left cursor.new) (place cursor.old) (place cursor.new) (bound cursor.old))
-        (Puts (O.tells out.new) (O.held out.old) (O.held out.new) waiting.old.items waiting.new.items)
-        (PutsSome (O.tells out.new) (O.held out.old) (O.held out.new) waiting.old.items) result }
+    ensures takes { TakesBy S.Source O.Sink (H.says handler.old) chunks.old chunks.new cursor.old cursor.new out.old out.new waiting.old.items
+        waiting.new.items result }
     ensures listed { OnOk result (ListsAll chunks.new) }
     ensures same_end { (open_ones : List Unfinished) (bytes : List ℕ) → H.ends handler.new open_ones bytes → H.ends handler.old open_ones bytes }
     ensures counts { CountsWrites (O.faults out.old) (O.faults out.new) result }
@@ -77,12 +72,10 @@ fn read_all<H: Handler, S: Source, O: Sink>(
     requires start { place cursor.old ≡ 0 }
     requires limit { bound cursor.old ≡ most }
     requires none { waiting.old.items ≡ [] }
-    ensures goes { Goes S.tells S.left S.faults cursor.old cursor.new (reading result) }
+    ensures goes { Goes S.Source cursor.old cursor.new (reading result) }
     ensures tells { O.tells out.new → O.tells out.old }
-    ensures passes { S.tells (source_of cursor.old).now
-        → Passes (H.begins handler.old) (H.says handler.old) (H.ends handler.old) (unread S.left cursor.old) (unread S.left cursor.new)
-        (PutAll (O.tells out.new) (O.held out.old) (O.held out.new) waiting.new.items) (PutSome (O.tells out.new) (O.held out.old) (O.held out.new))
-        result }
+    ensures passes { PassesUnread S.Source O.Sink (H.begins handler.old) (H.says handler.old) (H.ends handler.old) cursor.old cursor.new out.old out.new
+        waiting.new.items result }
     ensures counts { CountsWrites (O.faults out.old) (O.faults out.new) result }
 {
     let mut handshake = Vec::new(alloc);
@@ -108,10 +101,8 @@ pub(crate) fn read_whole<H: Handler, S: Source, O: Sink>(
     ensures taken { S.tells (source_of cursor.old).now → length (unread S.left cursor.old) ≤ length (S.left (source_of cursor.new).now) + (most + 1) }
     ensures same_reference { (source_of cursor.new).ghost_name ≡ (source_of cursor.old).ghost_name }
     ensures tells { O.tells out.new → O.tells out.old }
-    ensures passes { S.tells (source_of cursor.old).now
-        → Passes (H.begins handler.old) (H.says handler.old) (H.ends handler.old) (unread S.left cursor.old) (S.left (source_of cursor.new).now)
-        (PutAll (O.tells out.new) (O.held out.old) (O.held out.new) waiting.new.items) (PutSome (O.tells out.new) (O.held out.old) (O.held out.new))
-        result }
+    ensures passes { PassesLeft S.Source O.Sink (H.begins handler.old) (H.says handler.old) (H.ends handler.old) cursor.old cursor.new out.old out.new
+        waiting.new.items result }
     ensures reads { CountsReads (S.faults (source_of cursor.old).now) (S.faults (source_of cursor.new).now) result }
     ensures writes { CountsWrites (O.faults out.old) (O.faults out.new) result }
 {

@@ -1,5 +1,5 @@
 ghost use Rattle.std.specs.Prelude.{◌<◌, ◌≤◌, ◌+◌, length};
-ghost use Rattle.rtmp_pass.specs.Pass.{most, Passes, WroteAll, WroteSome, CountsReads, CountsWrites};
+ghost use Rattle.rtmp_pass.specs.Pass.{most, PassesOver, CountsReads, CountsWrites};
 ghost use Rattle.rtmp_pass.specs.Rechunk.{Restarts, Repeats, EndsSilently};
 
 use crate::pass::pass_over;
@@ -22,8 +22,7 @@ pub fn rechunk<I: Source, O: Sink>(
     requires some { 0 < size }
     requires most { size < 2147483648 }
     ensures tells { O.tells out.new → O.tells out.old }
-    ensures passes { I.tells input.old → Passes (Restarts size) (Repeats size) EndsSilently (I.left input.old) (I.left input.new)
-        (WroteAll (O.tells out.new) (O.held out.old) (O.held out.new)) (WroteSome (O.tells out.new) (O.held out.old) (O.held out.new)) result }
+    ensures passes { PassesOver I.Source O.Sink (Restarts size) (Repeats size) EndsSilently input.old input.new out.old out.new result }
     ensures taken { I.tells input.old → length (I.left input.old) ≤ length (I.left input.new) + (most + 1) }
     ensures reads { CountsReads (I.faults input.old) (I.faults input.new) result }
     ensures writes { CountsWrites (O.faults out.old) (O.faults out.new) result }

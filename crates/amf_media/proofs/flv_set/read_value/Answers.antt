@@ -5,7 +5,7 @@ use Rattle.amf_io.specs.Cursor.{source_of, place, bound, unread}
 use Rattle.amf_io.specs.Stretch.{IsTaken, stretch}
 use Rattle.amf_io.proofs.CursorReads.{goes_end}
 use Rattle.amf_graph.specs.Rooted.{RootedArena}
-use Rattle.amf0_spelling.specs.Reads0.{IsValue0}
+use Rattle.amf0_spelling.specs.Values0.{IsValue0}
 use Rattle.amf0_spelling.specs.TableParts0.{shown_tables}
 use Rattle.flv_meta.proofs.ValueReads.{from_nothing}
 use Rattle.amf_media.proofs.SetReads.{Spells, one_read, one_ends}

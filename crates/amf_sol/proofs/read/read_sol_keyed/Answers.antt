@@ -12,8 +12,8 @@ pub returns-in_err-length-clause-answers : goal.returns-in_err-length-clause-ans
 returns-in_err-length-clause-answers g c =
     let S = g.S.Source in
     let end = c.in_err-length.field-0.0 in
-    file_passed S.tells S.left c.args.cursor.now c.read_length.new.cursor c.from_residual.result end c.from_residual.ensures.1
-    (length_end S.tells S.left S.faults c.args.cursor.now c.read_length.new.cursor c.at-start.ensures.within end c.in_err-length.ensures.answers)
+    file_passed S.tells S.left c.args.cursor.now c.read_signature_and_length.new.cursor c.from_residual.result end c.from_residual.ensures.1
+    (length_end S.tells S.left S.faults c.args.cursor.now c.read_signature_and_length.new.cursor c.at-start.ensures.within end c.in_err-length.ensures.answers)
 
 pub returns-in_err-head-clause-answers : goal.returns-in_err-head-clause-answers
 returns-in_err-head-clause-answers g c =
@@ -22,7 +22,7 @@ returns-in_err-head-clause-answers g c =
     let end = c.in_err-head.field-0.0 in
     let r = c.from_residual-in_err-head in
     file_passed S.tells S.left c.args.cursor.now c.read_head.new.cursor r.result end r.ensures.1
-    (rest_end S.tells S.left S.faults c.args.cursor.now c.in_ok-length.length c.read_length.new.cursor l.goes l.answers c.read_head.new.cursor c.at-start.ensures.within end c.in_err-head.ensures.answers)
+    (rest_end S.tells S.left S.faults c.args.cursor.now c.in_ok-length.length c.read_signature_and_length.new.cursor l.goes l.answers c.read_head.new.cursor c.at-start.ensures.within end c.in_err-head.ensures.answers)
 
 pub returns-in_err-holder-clause-answers : goal.returns-in_err-holder-clause-answers
 returns-in_err-holder-clause-answers g c =
@@ -32,7 +32,7 @@ returns-in_err-holder-clause-answers g c =
     let end = c.in_err-holder.field-0.0 in
     let r = c.from_residual-in_err-holder in
     file_passed S.tells S.left c.args.cursor.now c.read_holder.new.cursor r.result end r.ensures.1
-    (pairs_end S.tells S.left S.faults c.args.cursor.now c.in_ok-length.length c.read_length.new.cursor l.goes l.answers c.in_ok-head.head c.read_head.new.cursor h.goes h.answers c.read_holder.new.cursor c.at-start.ensures.within end c.in_err-holder.ensures.answers)
+    (pairs_end S.tells S.left S.faults c.args.cursor.now c.in_ok-length.length c.read_signature_and_length.new.cursor l.goes l.answers c.in_ok-head.head c.read_head.new.cursor h.goes h.answers c.read_holder.new.cursor c.at-start.ensures.within end c.in_err-holder.ensures.answers)
 
 pub read_holder-requires-clause-room : goal.read_holder-requires-clause-room
 read_holder-requires-clause-room g c =
@@ -52,7 +52,7 @@ overflow_sub-at g c =
     let S = g.S.Source in
     let l = c.in_ok-length.ensures in
     let h = c.in_ok-head.ensures in
-    let came = file_came S.tells S.left S.faults c.args.cursor.now c.in_ok-length.length c.read_length.new.cursor l.goes l.answers c.in_ok-head.head c.read_head.new.cursor h.goes h.answers c.in_ok-holder.holder c.read_holder.new.cursor c.in_ok-holder.ensures.answers in
+    let came = file_came S.tells S.left S.faults c.args.cursor.now c.in_ok-length.length c.read_signature_and_length.new.cursor l.goes l.answers c.in_ok-head.head c.read_head.new.cursor h.goes h.answers c.in_ok-holder.holder c.read_holder.new.cursor c.in_ok-holder.ensures.answers in
     let t = came.taken in
     omega arith
 
@@ -61,7 +61,7 @@ overflow_add-start g c =
     let S = g.S.Source in
     let l = c.in_ok-length.ensures in
     let h = c.in_ok-head.ensures in
-    let came = file_came S.tells S.left S.faults c.args.cursor.now c.in_ok-length.length c.read_length.new.cursor l.goes l.answers c.in_ok-head.head c.read_head.new.cursor h.goes h.answers c.in_ok-holder.holder c.read_holder.new.cursor c.in_ok-holder.ensures.answers in
+    let came = file_came S.tells S.left S.faults c.args.cursor.now c.in_ok-length.length c.read_signature_and_length.new.cursor l.goes l.answers c.in_ok-head.head c.read_head.new.cursor h.goes h.answers c.in_ok-holder.holder c.read_holder.new.cursor c.in_ok-holder.ensures.answers in
     let t = came.taken in
     let six = came.six in
     omega arith
@@ -73,7 +73,7 @@ returns-then-length-at-clause-answers g c =
     let h = c.in_ok-head.ensures in
     let k = c.args.cursor.now in
     let e = c.read_holder.new.cursor in
-    let came = file_came S.tells S.left S.faults k c.in_ok-length.length c.read_length.new.cursor l.goes l.answers c.in_ok-head.head c.read_head.new.cursor h.goes h.answers c.in_ok-holder.holder e c.in_ok-holder.ensures.answers in
+    let came = file_came S.tells S.left S.faults k c.in_ok-length.length c.read_signature_and_length.new.cursor l.goes l.answers c.in_ok-head.head c.read_head.new.cursor h.goes h.answers c.in_ok-holder.holder e c.in_ok-holder.ensures.answers in
     file_other _ c.in_ok-length.length (between S.tells S.left k e) c.at-start.result c.refused.result came (λ same. let start = c.at-start.ensures.place in let stop = c.at.ensures.place in let other = c.if-length-at.true in omega arith) c.at-start.ensures.place c.refused.ensures
 
 pub of_parts-requires : goal.of_parts-requires
@@ -82,7 +82,7 @@ of_parts-requires g c =
     let l = c.in_ok-length.ensures in
     let h = c.in_ok-head.ensures in
     let k = c.args.cursor.now in
-    let d = c.read_length.new.cursor in
+    let d = c.read_signature_and_length.new.cursor in
     let x = c.in_ok-head.head in
     let f = c.read_head.new.cursor in
     let came = file_came S.tells S.left S.faults k c.in_ok-length.length d l.goes l.answers x f h.goes h.answers c.in_ok-holder.holder c.read_holder.new.cursor c.in_ok-holder.ensures.answers in
@@ -99,7 +99,7 @@ returns-clause-answers g c =
     let h = c.in_ok-head.ensures in
     let k = c.args.cursor.now in
     let e = c.read_holder.new.cursor in
-    let came = file_came S.tells S.left S.faults k c.in_ok-length.length c.read_length.new.cursor l.goes l.answers c.in_ok-head.head c.read_head.new.cursor h.goes h.answers c.in_ok-holder.holder e c.in_ok-holder.ensures.answers in
+    let came = file_came S.tells S.left S.faults k c.in_ok-length.length c.read_signature_and_length.new.cursor l.goes l.answers c.in_ok-head.head c.read_head.new.cursor h.goes h.answers c.in_ok-holder.holder e c.in_ok-holder.ensures.answers in
     let start = c.at-start.ensures.place in
     let stop = c.at.ensures.place in
     subst (λ (o : StoredFile). IsFileTaken o (between S.tells S.left k e)) (sym c.of_parts.ensures) (file_taken _ c.in_ok-length.length (between S.tells S.left k e) came (let same = c.if-length-at.false in omega arith))
@@ -111,5 +111,5 @@ returns-clause-weighs g c =
     let h = c.in_ok-head.ensures in
     let k = c.args.cursor.now in
     let e = c.read_holder.new.cursor in
-    let weighs = file_weighs S.tells S.left S.faults k c.in_ok-length.length c.read_length.new.cursor l.goes l.answers c.in_ok-head.head c.read_head.new.cursor h.goes h.answers c.in_ok-holder.holder e c.in_ok-holder.ensures.answers in
+    let weighs = file_weighs S.tells S.left S.faults k c.in_ok-length.length c.read_signature_and_length.new.cursor l.goes l.answers c.in_ok-head.head c.read_head.new.cursor h.goes h.answers c.in_ok-holder.holder e c.in_ok-holder.ensures.answers in
     subst (λ (o : StoredFile). place k + weight o.holder.arena ≤ place e) (sym c.of_parts.ensures) weighs

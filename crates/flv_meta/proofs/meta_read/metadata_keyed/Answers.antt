@@ -1,7 +1,7 @@
 -- A refusal is told with the tag's place.
 use Rattle.std.proofs.Common.{◌+◌, ◌∙◌, length, refl, arith}
 use Rattle.amf_io.specs.Verdict.{IsRefused}
-use Rattle.amf0_spelling.specs.Reads0.{IsValue0}
+use Rattle.amf0_spelling.specs.Values0.{IsValue0}
 use Rattle.flv_meta.proofs.MetadataReads.{place_fits, refusal_told}
 use Rattle.flv_meta.proofs.meta_read.metadata_keyed.Goals as goal
 

@@ -1,6 +1,6 @@
 use Rattle.std.proofs.Common.{sym, subst, ◌∙◌, ◌++◌, ◌≡◌, ◌≤◌, ℕ}
 use Rattle.amf_io.specs.Outside.{Rose}
-use Rattle.rtmp_pass.specs.Written.{WritesFront}
+use Rattle.amf_io.specs.Written.{WritesFront}
 use Rattle.rtmp_pass.proofs.Rests.{lost_passes, wrote_passes, failed_passes, reads_counted, none_counted, still_counted}
 use Rattle.rtmp_pass.proofs.pass.pass_over.Goals as goal
 

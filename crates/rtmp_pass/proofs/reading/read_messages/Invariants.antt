@@ -1,6 +1,6 @@
 use Rattle.std.proofs.Common.{◌≡◌, [], List, ℕ, ◌-◌, Ok}
 use Rattle.amf_io.specs.Cursor.{source_of, place, bound, unread}
-use Rattle.amf_io.specs.ReadEnds.{Goes, IsPlaced}
+use Rattle.amf_io.specs.ReadEnds.{GoesBy, IsPlaced}
 use Rattle.rtmp_chunks.specs.Chunk.{Message as Seen, Unfinished}
 use Rattle.rtmp_chunks.specs.Table.{held}
 use Rattle.rtmp_pass.specs.Reads.{Puts, SoFar}
@@ -12,7 +12,7 @@ invariant-loop-message g l =
     let S = g.S.Source in
     let O = g.O.Sink in
     record {
-      goes : Goes {X = Unit {0}} S.tells S.left S.faults l.fn.cursor l.cursor (Ok tt);
+      goes : GoesBy {X = Unit {0}} S.tells S.left S.faults l.fn.cursor l.cursor (Ok tt);
       placed : IsPlaced l.cursor;
       told : O.tells l.out → O.tells l.fn.out;
       no_fault : O.faults l.out ≡ O.faults l.fn.out;

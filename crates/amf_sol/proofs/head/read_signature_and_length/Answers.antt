@@ -5,7 +5,7 @@ use Rattle.amf_io.specs.Layout.{give}
 use Rattle.amf_io.proofs.CursorReads.{field_ended}
 use Rattle.amf_fields.proofs.LayoutBinds.{passed_on}
 use Rattle.amf_sol.proofs.HeadReads.{length_ended, length_behind, four_read}
-use Rattle.amf_sol.proofs.head.read_length.Goals as goal
+use Rattle.amf_sol.proofs.head.read_signature_and_length.Goals as goal
 
 pub returns-in_err-read_exactly-clause-answers : goal.returns-in_err-read_exactly-clause-answers
 returns-in_err-read_exactly-clause-answers g c =
