@@ -12,7 +12,7 @@ use crate::checks::holds;
 use amf_graph::{BuildEnd, Builder, NodeId, Part, Rooted, Shape, TextId, Value};
 use amf_service::{
     CallEnd, Echo, Names, Registry, RegistryEnd, Service, ServiceEnd, Sum, fault, is_named, items,
-    service_laws, service_rows, whole,
+    service_laws, service_rows,
 };
 use amf_wire::{Name, Pattern, is_amf_text};
 use std::alloc::Global;
@@ -45,7 +45,7 @@ impl Service for Count {
             return Err(ServiceEnd::Unknown);
         }
         match items(args) {
-            Some(items) => Ok(whole(Builder::new(alloc)?, Value::Integer(count_of(items)))),
+            Some(items) => Ok(Builder::new(alloc)?.whole(Value::Integer(count_of(items)))),
             None => Err(fault(alloc, b"wrong arguments")),
         }
     }
@@ -112,7 +112,7 @@ fn arguments(rt: &impl Abort, alloc: Global, items: &[Value]) -> Rooted
     assert!(rt; are_small(items), "small numbers");
     let mut builder = Builder::new(alloc).expect(rt, "a builder");
     let array = add_array(&mut builder, items).expect(rt, "an array");
-    whole(builder, Value::Node(array))
+    builder.whole(Value::Node(array))
 }
 
 /// Whether it is what a call comes to.
@@ -247,7 +247,7 @@ fn two_members(rt: &impl Abort, alloc: Global) -> Rooted
 {
     let mut builder = Builder::new(alloc).expect(rt, "a builder");
     let array = add_members(rt, &mut builder);
-    whole(builder, Value::Node(array))
+    builder.whole(Value::Node(array))
 }
 
 /// The text that stands at a place of an array.

@@ -6,8 +6,8 @@ use Rattle.amf_graph.specs.Reached.{IsNamed}
 use Rattle.amf_graph.specs.Rooted.{RootedArena, content}
 use Rattle.amf_packet.specs.Packet.{Message}
 use Rattle.amf_client.specs.declared.ends.AnswerFault.{AnswerFault}
-use Rattle.amf_client.specs.declared.meaning.Kind.{Kind}
-use Rattle.amf_client.specs.declared.meaning.Kind.TheVariants as kind
+use Rattle.amf_client.specs.declared.meaning.TargetKind.{TargetKind}
+use Rattle.amf_client.specs.declared.meaning.TargetKind.TheVariants as kind
 use Rattle.amf_client.specs.Faults.{fault_texts}
 use Rattle.amf_client.specs.Meanings.{IsMeant}
 use Rattle.amf_client.specs.Meant.{kind_of, faulted, GraphMeans, MessagesMean, Means}
@@ -22,7 +22,7 @@ no_fault : (texts : Option (List ℕ × List ℕ)) (h : Graph) → result h ≡ 
 no_fault None h e = absurd cc
 no_fault (Some x) h e = absurd cc
 
-graph_named : (k : Kind) (g h : Graph) → GraphMeans k g (result h) → IsNamed h
+graph_named : (k : TargetKind) (g h : Graph) → GraphMeans k g (result h) → IsNamed h
 graph_named kind.Result g h (inl (named, e)) = subst IsNamed (same_graph g h e) named
 graph_named kind.Result g h (inr (unnamed, e)) = absurd cc
 graph_named kind.Status g h e = absurd (no_fault (fault_texts g) h e)

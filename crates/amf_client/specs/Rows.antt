@@ -5,7 +5,7 @@ use Rattle.http_link.specs.Fields.{body_size}
 use Rattle.amf_graph.specs.Graph.{Value, leaf, node, text, null, integer, array, object, Graph}
 use Rattle.amf_packet.specs.Packet.{Message}
 use Rattle.amf0_spelling.specs.declared.form.Form.TheVariants.{Amf3}
-use Rattle.amf_client.specs.declared.meaning.Kind.TheVariants as kind
+use Rattle.amf_client.specs.declared.meaning.TargetKind.TheVariants as kind
 use Rattle.amf_client.specs.Asking.{head_with, packet_with, IsAsk, are_arguments}
 use Rattle.amf_client.specs.Faults.{fault_texts}
 use Rattle.amf_client.specs.Meant.{kind_of, MessagesMean, GraphMeans, Means}

@@ -145,8 +145,9 @@ fn first_lines(alloc: Global, port: u16) -> Result<Vec<u8>, Memory>
     Ok(out)
 }
 
-/// The bytes of a request with this packet.
-pub(crate) fn request_bytes(alloc: Global, port: u16, packet: &[u8]) -> Result<Vec<u8>, Memory>
+/// The bytes of a request of the gateway at this port of 127.0.0.1: a POST whose content is this packet (RFC 9112, section 3). It gives
+/// up where there is no memory.
+pub fn request_bytes(alloc: Global, port: u16, packet: &[u8]) -> Result<Vec<u8>, Memory>
     ensures { IfOk result (λ v. v.items ≡ request port packet.now) }
 {
     let mut out = first_lines(alloc, port)?;

@@ -1,5 +1,5 @@
 ghost use Rattle.std.specs.Prelude.{◌≡◌, ◌++◌, ℕ, List};
-ghost use Rattle.amf_client.specs.Laws.{FixedStands, OneResult};
+ghost use Rattle.amf_client.specs.Laws.{FixedStands, OneReply, OneResult};
 ghost use Rattle.amf_client.specs.Reply.{BeginsWithReply, IsRefused};
 ghost use Rattle.amf_client.specs.Rows.{WorkedRows};
 
@@ -15,7 +15,7 @@ pub fn an_answer_stands()
 /// No bytes begin with two replies, or have two numbers of a bad head; and none have two results, but for the numbers of
 /// the nodes of a graph.
 pub fn one_answer()
-    ensures reply { (bytes body other : List ℕ) (code also : ℕ) (rest more : List ℕ) → BeginsWithReply bytes body code rest → BeginsWithReply bytes other also more → (body ≡ other) × (code ≡ also) × (rest ≡ more) }
+    ensures reply { OneReply }
     ensures number { (bytes : List ℕ) (number other : ℕ) → IsRefused bytes number → IsRefused bytes other → number ≡ other }
     ensures outcome { OneResult }
 {}

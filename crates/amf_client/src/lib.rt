@@ -8,7 +8,7 @@ mod laws;
 mod meaning;
 mod result;
 
-pub use call::{write_call, write_call_keyed};
+pub use call::{request_bytes, write_call, write_call_keyed};
 pub use ends::{AnswerFault, AskEnd};
 pub use laws::{an_answer_stands, one_answer, worked_rows};
 pub use result::{read_result, read_result_keyed};

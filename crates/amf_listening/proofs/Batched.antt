@@ -18,8 +18,8 @@ use Rattle.flex_msgs.specs.Viewing.{text_alone}
 use Rattle.flex_msgs.specs.Messages.{null_value, client_value, with_client, other_values, delivered_node, command_node, headers_node, items_node, sync_nodes}
 use Rattle.flex_msgs.specs.Answers.{values_at, shifted_value, shifted_node, shifted_nodes, Batch, empty_batch, and_graph, batch_of, delivered_graph, invalidate_graph, sync_graph, acknowledge_graph}
 use Rattle.flex_msgs.proofs.Joined.{sorted_shifted}
-use Rattle.amf_listening.specs.declared.kind.Kind.{Kind}
-use Rattle.amf_listening.specs.declared.kind.Kind.TheVariants.{Sync, Invalidate, Async}
+use Rattle.amf_listening.specs.declared.kind.MessageKind.{MessageKind}
+use Rattle.amf_listening.specs.declared.kind.MessageKind.TheVariants.{Sync, Invalidate, Async}
 use Rattle.amf_listening.specs.declared.request.Request.{Request}
 use Rattle.amf_listening.specs.declared.request.Request.TheVariants.{Poll}
 use Rattle.amf_listening.specs.Requests.{message_id}
@@ -215,9 +215,9 @@ ends_read n front (r ∷ ends) rest g same e =
     let items = map (item_at g) (roots to (map invalidate_graph ends)) in
     let kind = invalidate_read n front (more ++ rest) g same r here in
     record {
-      all = ap (λ (k : Kind). is_item k && list_all (λ i. is_item i.kind) items) kind ∙ next.all;
+      all = ap (λ (k : MessageKind). is_item k && list_all (λ i. is_item i.kind) items) kind ∙ next.all;
       bodies = next.bodies;
-      told = ap (λ (k : Kind). body_of k first.body ++ flat_map (λ i. body_of i.kind i.body) items) kind ∙ next.told;
+      told = ap (λ (k : MessageKind). body_of k first.body ++ flat_map (λ i. body_of i.kind i.body) items) kind ∙ next.told;
       same = next.same;
     }
 
@@ -280,7 +280,7 @@ module _ (r : Reply) (gs : List Graph) where
 
   seen_all : seen_of all ≡ record { kind = Sync; correlation = Some r.correlation; ds_id = Some r.ds_id; items = Some (map (item_at all) b.values) }
   seen_all =
-      ap (λ (k : Kind). record { kind = k; correlation = text_alone (member_at all correlation_name all.root); ds_id = text_alone (member_at all ds_id_name (member_at all headers_name all.root)); items = items_at all (member_at all body_name all.root) }) seen_kind
+      ap (λ (k : MessageKind). record { kind = k; correlation = text_alone (member_at all correlation_name all.root); ds_id = text_alone (member_at all ds_id_name (member_at all headers_name all.root)); items = items_at all (member_at all body_name all.root) }) seen_kind
       ∙ (ap (λ (c : Option (List ℕ)). record { kind = Sync; correlation = c; ds_id = text_alone (member_at all ds_id_name (member_at all headers_name all.root)); items = items_at all (member_at all body_name all.root) }) seen_correlation
       ∙ (ap (λ (i : Option (List ℕ)). record { kind = Sync; correlation = Some r.correlation; ds_id = i; items = items_at all (member_at all body_name all.root) }) seen_id
       ∙ ap (λ (l : Option (List (Item Graph))). record { kind = Sync; correlation = Some r.correlation; ds_id = Some r.ds_id; items = l }) seen_items))

@@ -6,8 +6,8 @@ use Rattle.amf_graph.specs.declared.value.Value.{Value as Stored}
 use Rattle.amf_graph.specs.Graph.{Graph}
 use Rattle.amf_graph.specs.Rooted.{RootedArena, content}
 use Rattle.flex_msgs.specs.Classes.{body_name}
-use Rattle.amf_listening.specs.declared.kind.Kind.{Kind}
-use Rattle.amf_listening.specs.declared.kind.Kind.TheVariants.{Acknowledge, Sync, Invalidate, Async, Foreign}
+use Rattle.amf_listening.specs.declared.kind.MessageKind.{MessageKind}
+use Rattle.amf_listening.specs.declared.kind.MessageKind.TheVariants.{Acknowledge, Sync, Invalidate, Async, Foreign}
 use Rattle.amf_listening.specs.declared.reply.Heard.{Heard}
 use Rattle.amf_listening.specs.declared.request.Request.{Request}
 use Rattle.amf_listening.specs.Requests.{message_id}
@@ -17,7 +17,7 @@ use Rattle.amf_listening.specs.Steps.{bodies_at, Bodies, Delivers, Hears, told_i
 use Rattle.amf_listening.proofs.Replies.{not_told, not_answered, not_named, all_told}
 
 module _ (g : RootedArena) where
-  abbrev kind : Kind
+  abbrev kind : MessageKind
   kind = (seen_of (content g)).kind
 
   abbrev items : Option (List (Item Graph))
@@ -25,15 +25,15 @@ module _ (g : RootedArena) where
 
   pub acknowledged : (v : Vec Stored Global) → kind ≡ Acknowledge → v.items ≡ [] → Delivers g (Some v)
   acknowledged v is none = (
-    ap (λ (k : Kind). is_reply k && are_items k items) is,
-    ap (λ (k : Kind). bodies_in k items) is ∙ ap (bodies_at g) (sym none),
+    ap (λ (k : MessageKind). is_reply k && are_items k items) is,
+    ap (λ (k : MessageKind). bodies_in k items) is ∙ ap (bodies_at g) (sym none),
   )
 
   pub synced : (found : Option (Vec Stored Global)) → kind ≡ Sync → Bodies g (member_at (content g) body_name (content g).root) found → Delivers g found
-  synced None is b = ap (λ (k : Kind). is_reply k && are_items k items) is ∙ b
-  synced (Some v) is b = (ap (λ (k : Kind). is_reply k && are_items k items) is ∙ b.0, ap (λ (k : Kind). bodies_in k items) is ∙ b.1)
+  synced None is b = ap (λ (k : MessageKind). is_reply k && are_items k items) is ∙ b
+  synced (Some v) is b = (ap (λ (k : MessageKind). is_reply k && are_items k items) is ∙ b.0, ap (λ (k : MessageKind). bodies_in k items) is ∙ b.1)
 
-  other_by : (k : Kind) (xs : Option (List (Item Graph))) → (k ≡ Acknowledge → ⊥) → (k ≡ Sync → ⊥) → (is_reply k && are_items k xs) ≡ false
+  other_by : (k : MessageKind) (xs : Option (List (Item Graph))) → (k ≡ Acknowledge → ⊥) → (k ≡ Sync → ⊥) → (is_reply k && are_items k xs) ≡ false
   other_by Acknowledge xs a s = absurd (a refl)
   other_by Sync xs a s = absurd (s refl)
   other_by Invalidate xs a s = refl

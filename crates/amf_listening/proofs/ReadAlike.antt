@@ -9,8 +9,8 @@ use Rattle.flex_msgs.specs.Classes.{body_name, headers_name, correlation_name, o
 use Rattle.flex_msgs.specs.Lookup.{members_of, pairs_of, named_in}
 use Rattle.flex_msgs.specs.Viewing.{text_alone, whole_number}
 use Rattle.flex_msgs.proofs.ViewedAlike.{Alike, BothOr, members_alike, found, headers_alike}
-use Rattle.amf_listening.specs.declared.kind.Kind.{Kind}
-use Rattle.amf_listening.specs.declared.kind.Kind.TheVariants.{Acknowledge, Sync, Invalidate, Async, Foreign}
+use Rattle.amf_listening.specs.declared.kind.MessageKind.{MessageKind}
+use Rattle.amf_listening.specs.declared.kind.MessageKind.TheVariants.{Acknowledge, Sync, Invalidate, Async, Foreign}
 use Rattle.amf_listening.specs.declared.request.Request.{Request}
 use Rattle.amf_listening.specs.Requests.{message_id}
 use Rattle.amf_listening.specs.Replies.{Item, class_kind, head_kind, kind_at, member_at, item_at, unnamed_items, dense_items, items_at, seen_of, is_text, is_reply, is_item, are_items, has_id, answers, body_of, bodies_in}
@@ -133,10 +133,10 @@ all_items [] [] m = refl
 all_items [] (y ∷ ys) m = elim m [ ]
 all_items (x ∷ xs) [] m = elim m [ ]
 all_items (x ∷ xs) (y ∷ ys) m =
-    ap (λ (k : Kind). is_item k && list_all (λ i. is_item i.kind) xs) m.0.kind
+    ap (λ (k : MessageKind). is_item k && list_all (λ i. is_item i.kind) xs) m.0.kind
     ∙ ap (λ (b : Bool). is_item y.kind && b) (all_items xs ys m.1)
 
-same_are : (k : Kind) (a b : Option (List (Item Graph))) → MaybeAlike a b → are_items k a ≡ are_items k b
+same_are : (k : MessageKind) (a b : Option (List (Item Graph))) → MaybeAlike a b → are_items k a ≡ are_items k b
 same_are Sync None None m = refl
 same_are Sync None (Some ys) m = elim m [ ]
 same_are Sync (Some xs) None m = elim m [ ]
@@ -146,7 +146,7 @@ same_are Invalidate a b m = refl
 same_are Async a b m = refl
 same_are Foreign a b m = refl
 
-more_bodies : (k : Kind) (b c : Graph) → Isomorphic b c → (bs cs : List Graph) → AllZip Isomorphic bs cs → AllZip Isomorphic (body_of k b ++ bs) (body_of k c ++ cs)
+more_bodies : (k : MessageKind) (b c : Graph) → Isomorphic b c → (bs cs : List Graph) → AllZip Isomorphic bs cs → AllZip Isomorphic (body_of k b ++ bs) (body_of k c ++ cs)
 more_bodies Async b c m bs cs n = (m, n)
 more_bodies Acknowledge b c m bs cs n = n
 more_bodies Sync b c m bs cs n = n
@@ -158,10 +158,10 @@ all_bodies [] [] m = tt
 all_bodies [] (y ∷ ys) m = elim m [ ]
 all_bodies (x ∷ xs) [] m = elim m [ ]
 all_bodies (x ∷ xs) (y ∷ ys) m =
-    subst (λ (k : Kind). AllZip Isomorphic (body_of x.kind x.body ++ flat_map (λ i. body_of i.kind i.body) xs) (body_of k y.body ++ flat_map (λ i. body_of i.kind i.body) ys)) m.0.kind
+    subst (λ (k : MessageKind). AllZip Isomorphic (body_of x.kind x.body ++ flat_map (λ i. body_of i.kind i.body) xs) (body_of k y.body ++ flat_map (λ i. body_of i.kind i.body) ys)) m.0.kind
     (more_bodies x.kind x.body y.body m.0.body _ _ (all_bodies xs ys m.1))
 
-same_bodies : (k : Kind) (a b : Option (List (Item Graph))) → MaybeAlike a b → AllZip Isomorphic (bodies_in k a) (bodies_in k b)
+same_bodies : (k : MessageKind) (a b : Option (List (Item Graph))) → MaybeAlike a b → AllZip Isomorphic (bodies_in k a) (bodies_in k b)
 same_bodies Sync None None m = tt
 same_bodies Sync None (Some ys) m = elim m [ ]
 same_bodies Sync (Some xs) None m = elim m [ ]
@@ -171,7 +171,7 @@ same_bodies Invalidate a b m = tt
 same_bodies Async a b m = tt
 same_bodies Foreign a b m = tt
 
-turn_alike : (r : Request) (k : Kind) (c d : Option (List ℕ)) (a b : Option (List (Item Graph))) → MaybeAlike a b
+turn_alike : (r : Request) (k : MessageKind) (c d : Option (List ℕ)) (a b : Option (List (Item Graph))) → MaybeAlike a b
     → TurnsAlike (turn_of r (record { kind = k; correlation = c; ds_id = d; items = a })) (turn_of r (record { kind = k; correlation = c; ds_id = d; items = b }))
 turn_alike r k c d a b m =
     let same : answers r (record { kind = k; correlation = c; ds_id = d; items = a }) ≡ answers r (record { kind = k; correlation = c; ds_id = d; items = b })
@@ -186,7 +186,7 @@ turn_alike r k c d a b m =
 
 pub read_alike : (r : Request) (g h : Graph) → Isomorphic g h → TurnsAlike (turn_of r (seen_of g)) (turn_of r (seen_of h))
 read_alike r g h i =
-    subst (λ (k : Kind). TurnsAlike (turn_of r (seen_of g)) (turn_of r (record { kind = k; correlation = (seen_of h).correlation; ds_id = (seen_of h).ds_id; items = (seen_of h).items }))) (kind_alike g h i g.root h.root i.root)
+    subst (λ (k : MessageKind). TurnsAlike (turn_of r (seen_of g)) (turn_of r (record { kind = k; correlation = (seen_of h).correlation; ds_id = (seen_of h).ds_id; items = (seen_of h).items }))) (kind_alike g h i g.root h.root i.root)
     (subst (λ (c : Option (List ℕ)). TurnsAlike (turn_of r (seen_of g)) (turn_of r (record { kind = (seen_of g).kind; correlation = c; ds_id = (seen_of h).ds_id; items = (seen_of h).items }))) (same_correlation g h i)
     (subst (λ (d : Option (List ℕ)). TurnsAlike (turn_of r (seen_of g)) (turn_of r (record { kind = (seen_of g).kind; correlation = (seen_of g).correlation; ds_id = d; items = (seen_of h).items }))) (same_id g h i)
     (turn_alike r (seen_of g).kind (seen_of g).correlation (seen_of g).ds_id (seen_of g).items (seen_of h).items (same_items g h i))))

@@ -18,8 +18,8 @@ use Rattle.flex_msgs.specs.Classes.{body_name, operation_name}
 use Rattle.flex_msgs.specs.Lookup.{value_named, members_of, named_in, pairs_of}
 use Rattle.flex_msgs.specs.Viewing.{whole_number}
 use Rattle.flex_msgs.proofs.Looking.{node_content_at, object_pairs}
-use Rattle.amf_listening.specs.declared.kind.Kind.{Kind}
-use Rattle.amf_listening.specs.declared.kind.Kind.TheVariants.{Acknowledge, Sync, Invalidate, Async, Foreign}
+use Rattle.amf_listening.specs.declared.kind.MessageKind.{MessageKind}
+use Rattle.amf_listening.specs.declared.kind.MessageKind.TheVariants.{Acknowledge, Sync, Invalidate, Async, Foreign}
 use Rattle.amf_listening.specs.Replies.{command_kind, class_kind, head_kind, kind_at, member_at, item_at, unnamed_items, dense_items, items_at, is_item, body_of, are_items, bodies_in}
 use Rattle.amf_listening.specs.Steps.{bodies_at, items_of, is_told, told_body, item_kind, SoFar, Bodies, AddsItem}
 
@@ -82,7 +82,7 @@ module _ (g : RootedArena) where
     are = ap (list_all is_told) (items_more vs (v ∷ [])) ∙ all_true is_told (items_of g vs) (items_of g (v ∷ [])) s.are ∙ one_true v (ap is_item k);
     told = ap (flat_map told_body) (items_more vs (v ∷ [])) ∙ flat_map-append told_body (items_of g vs) (items_of g (v ∷ []))
         ∙ ap (λ (l : List Graph). l ++ flat_map told_body (items_of g (v ∷ []))) s.told
-        ∙ ap (λ (l : List Graph). bodies_at g bodies ++ l) (ap (λ (q : Kind). body_of q (record (content g) { root = member_at (content g) body_name (value_content g.arena v) }) ++ []) k ∙ ap (λ (x : Value). record (content g) { root = x } ∷ []) (sym is))
+        ∙ ap (λ (l : List Graph). bodies_at g bodies ++ l) (ap (λ (q : MessageKind). body_of q (record (content g) { root = member_at (content g) body_name (value_content g.arena v) }) ++ []) k ∙ ap (λ (x : Value). record (content g) { root = x } ∷ []) (sym is))
         ∙ sym (map-append (λ (w : Stored). record (content g) { root = value_content g.arena w }) bodies (body ∷ []))
         ∙ ap (bodies_at g) (sym e);
     names = subst (AllByRecursion (Names g.arena)) (sym e) (all_append (Names g.arena) bodies (body ∷ []) s.names (there, tt));
@@ -94,7 +94,7 @@ module _ (g : RootedArena) where
     are = ap (list_all is_told) (items_more vs (v ∷ [])) ∙ all_true is_told (items_of g vs) (items_of g (v ∷ [])) s.are ∙ one_true v (ap is_item k);
     told = ap (flat_map told_body) (items_more vs (v ∷ [])) ∙ flat_map-append told_body (items_of g vs) (items_of g (v ∷ []))
         ∙ ap (λ (l : List Graph). l ++ flat_map told_body (items_of g (v ∷ []))) s.told
-        ∙ ap (λ (l : List Graph). bodies_at g bodies ++ l) (ap (λ (q : Kind). body_of q (record (content g) { root = member_at (content g) body_name (value_content g.arena v) }) ++ []) k)
+        ∙ ap (λ (l : List Graph). bodies_at g bodies ++ l) (ap (λ (q : MessageKind). body_of q (record (content g) { root = member_at (content g) body_name (value_content g.arena v) }) ++ []) k)
         ∙ append-nil (bodies_at g bodies);
     names = s.names;
   }
@@ -104,7 +104,7 @@ module _ (g : RootedArena) where
   other_item vs ws bodies v s k =
       ap (list_all is_told) (items_more vs (v ∷ ws)) ∙ all_true is_told (items_of g vs) (items_of g (v ∷ ws)) s.are ∙ ap (λ (b : Bool). b && list_all is_told (items_of g ws)) k
 
-  pub other_is : (v : Stored) (k : Kind) → item_kind g v ≡ k → (k ≡ Async → ⊥) → (k ≡ Invalidate → ⊥) → is_item (item_kind g v) ≡ false
+  pub other_is : (v : Stored) (k : MessageKind) → item_kind g v ≡ k → (k ≡ Async → ⊥) → (k ≡ Invalidate → ⊥) → is_item (item_kind g v) ≡ false
   other_is v Acknowledge e a i = ap is_item e
   other_is v Sync e a i = ap is_item e
   other_is v Invalidate e a i = absurd (i refl)

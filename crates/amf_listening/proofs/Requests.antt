@@ -2,9 +2,7 @@
 use Rattle.std.proofs.Common.{◌≡◌, ◌∙◌, ℕ, true, List, [], ◌∷◌, ◌++◌, length, map, pos, refl, sym, ap, subst, ◌+◌, ◌<◌, arith}
 use Rattle.std.proofs.lemmas.List.{length-map}
 use Rattle.std.specs.Prelude.{codes}
-use Rattle.std.specs.List.{AllByRecursion, list_all}
-use Rattle.std.proofs.lemmas.Bool.{and_parts}
-use Rattle.amf_wire.specs.Text.{IsText, is_text}
+use Rattle.std.specs.List.{AllByRecursion}
 use Rattle.amf_wire.proofs.TextTest.{is_text-is}
 use Rattle.amf_graph.specs.declared.value.Value.{Value as Stored}
 use Rattle.amf_graph.specs.declared.value.Value.TheVariants.{Null, Integer, Text, Node as NodeRef}
@@ -18,7 +16,7 @@ use Rattle.amf_graph.specs.Grafting.{node_value}
 use Rattle.amf_graph.specs.Rooted.{RootedArena, content}
 use Rattle.amf_graph.proofs.FinishedSmall.{completes_itself}
 use Rattle.amf_graph.proofs.Lists.{cons_same}
-use Rattle.flex_msgs.specs.Classes.{plain_traits, command_class, command_traits, ds_id_name}
+use Rattle.flex_msgs.specs.Classes.{plain_traits, command_traits, ds_id_name}
 use Rattle.flex_msgs.specs.Messages.{text_of, null_value, number_value, message_node, headers_node}
 use Rattle.flex_msgs.specs.Built.{Adds}
 use Rattle.flex_msgs.specs.Writing.{Writes, WritesNames, WritesOne, AreValues, AreTexts}
@@ -173,18 +171,6 @@ no_destination a to Disconnect other = record { names = (tt, tt); content = λ h
 
 pub written_as : (a b : Arena) (v : Stored) (x y : Node) → x ≡ y → WritesOne a b v (λ h. x) → WritesOne a b v (λ h. y)
 written_as a b v x y e w = subst (λ (n : Node). WritesOne a b v (λ h. n)) e w
-
--- The names of a CommandMessage are texts.
-
-texts_tested : (xs : List (List ℕ)) → list_all is_text xs ≡ true → AllByRecursion IsText xs
-texts_tested [] e = tt
-texts_tested (x ∷ xs) e = let p = and_parts (is_text x) (list_all is_text xs) e in ((is_text-is x).0 p.0, texts_tested xs p.1)
-
-pub command_text : IsText command_class
-command_text = (is_text-is command_class).0 refl
-
-pub command_names : AllByRecursion IsText command_traits.sealed
-command_names = texts_tested command_traits.sealed refl
 
 -- The packet of a request.
 

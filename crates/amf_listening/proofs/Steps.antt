@@ -1,12 +1,11 @@
 -- The steps of a listener over a link: what was so in between, and how it ends.
-use Rattle.std.proofs.Common.{◌≡◌, ◌∙◌, ◌⊎◌, inl, inr, ℕ, ◌+◌, ◌^◌, ◌<◌, ◌≤◌, Bool, true, false, ◌||◌, ◌==◌, nat_lt, if◌then◌else◌, List, [], ◌∷◌, ◌++◌, length, take, append_assoc, append-nil, length-append, Option, Some, None, refl, sym, ap, subst, Result, Ok, Err, arith}
+use Rattle.std.proofs.Common.{◌≡◌, ◌∙◌, ◌⊎◌, inl, inr, ℕ, ◌+◌, ◌^◌, ◌<◌, ◌≤◌, Bool, true, false, ◌||◌, ◌==◌, nat_lt, if◌then◌else◌, List, [], ◌∷◌, ◌++◌, append_assoc, append-nil, Option, Some, None, refl, sym, ap, subst, Result, Ok, Err, arith}
 use Rattle.std.proofs.lemmas.Bool.Decides.{nat_tests}
-use Rattle.std.proofs.Math.Seq.{take-append-add}
 use Rattle.amf_io.specs.declared.link.Link.{Ghosts as LinkMembers}
 use Rattle.amf_io.specs.Dial.{IsFresh}
 use Rattle.amf_graph.specs.Graph.{Graph}
 use Rattle.amf_graph.specs.Rooted.{RootedArena}
-use Rattle.http_link.specs.Sent.{AddsFront}
+use Rattle.amf_io.specs.Written.{WritesFront}
 use Rattle.amf_client.specs.declared.ends.AnswerFault.{AnswerFault}
 use Rattle.amf_client.specs.declared.ends.AnswerFault.TheVariants as read
 use Rattle.amf_listening.specs.declared.ends.ListenEnd.{ListenEnd}
@@ -142,14 +141,12 @@ spelled_more xs ys a b c x y = (x.0 ++ y.0, spells_more xs ys x.0 y.0 x.1 y.1, y
 pub spelled_none : (a : List ℕ) → HasSpelled [] a a
 spelled_none a = ([], refl, sym (append-nil a))
 
-take_more : (b c : List ℕ) (k : ℕ) → take (length b + k) (b ++ c) ≡ b ++ take k c
-take_more b c k = take-append-add b c k
-
-front_more : (a b now x c : List ℕ) → b ≡ a ++ x → AddsFront b now c → AddsFront a now (x ++ c)
+front_more : (a b now x c : List ℕ) → b ≡ a ++ x → WritesFront b now c → WritesFront a now (x ++ c)
 front_more a b now x c e f = record {
-  count = length x + f.count;
-  within = omega (arith, f.within, length-append x c);
-  added = f.added ∙ ap (λ (l : List ℕ). l ++ take f.count c) e ∙ append_assoc a x (take f.count c) ∙ ap (λ (l : List ℕ). a ++ l) (sym (take_more x c f.count));
+  front = x ++ f.front;
+  rest = f.rest;
+  parts = ap (λ (l : List ℕ). x ++ l) f.parts ∙ sym (append_assoc x f.front f.rest);
+  added = f.added ∙ ap (λ (l : List ℕ). l ++ f.front) e ∙ append_assoc a x f.front;
 }
 
 -- what was written before, and then to the end

@@ -2,14 +2,15 @@
 use Rattle.std.specs.Prelude.{◌≡◌, ◌⊎◌, ℕ, zero, suc, ◌≤◌, Bool, true, false, List, [], ◌∷◌, ◌++◌, Option, Some, None}
 use Rattle.amf_io.specs.declared.dial.Dial.{Ghosts as DialMembers}
 use Rattle.amf_io.specs.declared.link.Link.{Ghosts as LinkMembers}
+use Rattle.amf_io.specs.declared.sink.Sink.{Ghosts as SinkMembers}
 use Rattle.amf_io.specs.Outside.{Rose}
 use Rattle.amf_wire.specs.Style.{canonical}
 use Rattle.amf_graph.specs.Graph.{Graph}
 use Rattle.amf3_spelling.specs.Spells3.{Spelled3}
-use Rattle.http_link.specs.Sent.{AddsFront}
+use Rattle.amf_io.specs.Written.{WritesFront}
 use Rattle.amf_listening.specs.declared.ends.ListenEnd.{ListenEnd}
 use Rattle.amf_listening.specs.declared.ends.ListenEnd.TheVariants.{Done, Fault, BadReply, LinkFault, WriteFault, Memory}
-use Rattle.amf_listening.specs.Sessions.{End, done, by_fault, by_bad, by_link, by_memory, Session, all_links}
+use Rattle.amf_listening.specs.Sessions.{Turn, End, done, by_fault, by_bad, by_link, by_memory, Session, all_links, listen}
 use Rattle.amf_listening.specs.Carried.{AllCarry}
 
 -- a port, this often
@@ -54,9 +55,15 @@ HasSpelled bodies held now = (bytes : List ℕ) × Spells bodies bytes × (now �
 
 -- the output has taken the bodies of the batches that were new, in order; a front of their bytes where it failed, and some of the bodies where memory was wanting
 abbrev pub Wrote : (written : List Graph) → (held now : List ℕ) → ListenEnd → Type 0
-Wrote written held now WriteFault = (bytes : List ℕ) × Spells written bytes × AddsFront held now bytes
+Wrote written held now WriteFault = (bytes : List ℕ) × Spells written bytes × WritesFront held now bytes
 Wrote written held now Memory = (front : List Graph) × (rest : List Graph) × (written ≡ front ++ rest) × HasSpelled front held now
 Wrote written held now answer = HasSpelled written held now
+
+-- Some turns make a session of so many polls that the dial shows; the answer is its end, and the output, where it tells, has taken its bodies.
+abbrev pub Listens : {D L O : Type 0} → DialMembers D L → LinkMembers L → SinkMembers O → (port : ℕ) → (destination : List ℕ) → (polls : ℕ) → (before after : D) → (old new : O) → ListenEnd → Type 0
+Listens d l o port destination polls before after old new e =
+    (turns : List (Turn Graph)) × Listened d l port destination before after (listen polls turns)
+    × EndsAs (listen polls turns).end e × (o.tells new → Wrote (listen polls turns).written (o.held old) (o.held new) e)
 
 -- a write fault of the output is counted, and without one the count stays
 abbrev pub CountsOutput : ℕ → ℕ → ListenEnd → Type 0

@@ -6,18 +6,18 @@ use Rattle.flex_msgs.specs.Classes.{acknowledge_class, async_class, command_clas
 use Rattle.flex_msgs.specs.Lookup.{value_named, members_of, pairs_of, named_in}
 use Rattle.flex_msgs.specs.Viewing.{text_alone, whole_number}
 use Rattle.amf_listening.specs.Requests.{message_id}
-use Rattle.amf_listening.specs.declared.kind.Kind.{Kind}
-use Rattle.amf_listening.specs.declared.kind.Kind.TheVariants.{Acknowledge, Sync, Invalidate, Async, Foreign}
+use Rattle.amf_listening.specs.declared.kind.MessageKind.{MessageKind}
+use Rattle.amf_listening.specs.declared.kind.MessageKind.TheVariants.{Acknowledge, Sync, Invalidate, Async, Foreign}
 use Rattle.amf_listening.specs.declared.request.Request.{Request}
 use Rattle.amf_listening.specs.declared.request.Request.TheVariants.{Ping}
 
 -- an entry of a reply's body, with its own body
 pub record Item (B : Type 0) : Type 0 where
-  pub kind : Kind
+  pub kind : MessageKind
   pub body : B
 
 pub record Seen (B : Type 0) : Type 0 where
-  pub kind : Kind
+  pub kind : MessageKind
   pub correlation : Option (List ℕ)
   -- the DSId of the headers, where it is a text
   pub ds_id : Option (List ℕ)
@@ -27,22 +27,22 @@ pub record Seen (B : Type 0) : Type 0 where
 -- What a graph says.
 
 -- an operation is a whole number, as in a request
-abbrev pub command_kind : Option ℤ → Kind
+abbrev pub command_kind : Option ℤ → MessageKind
 command_kind (Some (pos n)) = if n == 4 then Sync else if n == 10 then Invalidate else Foreign
 command_kind _ = Foreign
 
-abbrev pub class_kind : List ℕ → Option ℤ → Kind
+abbrev pub class_kind : List ℕ → Option ℤ → MessageKind
 class_kind class operation =
     if bytes_eq acknowledge_class class then Acknowledge
     else if bytes_eq async_class class then Async
     else if bytes_eq command_class class then command_kind operation
     else Foreign
 
-abbrev pub head_kind : Head → Node → Kind
+abbrev pub head_kind : Head → Node → MessageKind
 head_kind (object t) a = class_kind t.class (whole_number (value_named operation_name (members_of t a)))
 head_kind _ a = Foreign
 
-abbrev pub kind_at : Graph → Value → Kind
+abbrev pub kind_at : Graph → Value → MessageKind
 kind_at g (node i) = head_kind (node_at g i).head (node_at g i)
 kind_at g (leaf x) = Foreign
 
@@ -81,7 +81,7 @@ is_text text None = false
 is_text text (Some other) = bytes_eq other text
 
 -- an AcknowledgeMessage, or a CommandMessage with operation 4
-abbrev pub is_reply : Kind → Bool
+abbrev pub is_reply : MessageKind → Bool
 is_reply Acknowledge = true
 is_reply Sync = true
 is_reply Invalidate = false
@@ -89,7 +89,7 @@ is_reply Async = false
 is_reply Foreign = false
 
 -- a delivered message, or a CommandMessage with operation 10
-abbrev pub is_item : Kind → Bool
+abbrev pub is_item : MessageKind → Bool
 is_item Acknowledge = false
 is_item Sync = false
 is_item Invalidate = true
@@ -97,7 +97,7 @@ is_item Async = true
 is_item Foreign = false
 
 -- a CommandMessage has an array of such entries
-abbrev pub are_items : {B : Type 0} → Kind → Option (List (Item B)) → Bool
+abbrev pub are_items : {B : Type 0} → MessageKind → Option (List (Item B)) → Bool
 are_items Sync None = false
 are_items Sync (Some items) = list_all (λ i. is_item i.kind) items
 are_items _ items = true
@@ -117,10 +117,10 @@ answers r seen = is_text (message_id r) seen.correlation && is_answer seen && ha
 
 -- Its delivered bodies, in order.
 
-abbrev pub body_of : {B : Type 0} → Kind → B → List B
+abbrev pub body_of : {B : Type 0} → MessageKind → B → List B
 body_of Async b = b ∷ []
 body_of _ b = []
 
-abbrev pub bodies_in : {B : Type 0} → Kind → Option (List (Item B)) → List B
+abbrev pub bodies_in : {B : Type 0} → MessageKind → Option (List (Item B)) → List B
 bodies_in Sync (Some items) = flat_map (λ i. body_of i.kind i.body) items
 bodies_in _ items = []

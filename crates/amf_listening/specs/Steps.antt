@@ -5,6 +5,7 @@ use Rattle.std.specs.declared.vec.Vec.{Vec}
 use Rattle.std.specs.declared.alloc.Global.{Global}
 use Rattle.amf_io.specs.declared.dial.Dial.{Ghosts as DialMembers}
 use Rattle.amf_io.specs.declared.link.Link.{Ghosts as LinkMembers}
+use Rattle.amf_io.specs.declared.sink.Sink.{Ghosts as SinkMembers}
 use Rattle.amf_io.specs.Dial.{IsFresh}
 use Rattle.amf_wire.specs.declared.memory.Memory.{Memory}
 use Rattle.amf_wire.specs.Text.{IsText}
@@ -12,7 +13,7 @@ use Rattle.amf_graph.specs.declared.value.Value.{Value as Stored}
 use Rattle.amf_graph.specs.Graph.{Graph, Value}
 use Rattle.amf_graph.specs.Arena.{Names, value_content}
 use Rattle.amf_graph.specs.Rooted.{RootedArena, content}
-use Rattle.http_link.specs.Sent.{AddsFront}
+use Rattle.amf_io.specs.Written.{WritesFront}
 use Rattle.amf_client.specs.declared.ends.AnswerFault.{AnswerFault}
 use Rattle.amf_client.specs.declared.ends.AnswerFault.TheVariants as read
 use Rattle.amf_once.specs.declared.taker.Taken.{Taken}
@@ -20,12 +21,13 @@ use Rattle.amf_once.specs.declared.taker.Taken.TheVariants.{New, Old, Ahead}
 use Rattle.amf_once.specs.Taking.{judged}
 use Rattle.amf_listening.specs.declared.ends.ListenEnd.{ListenEnd}
 use Rattle.amf_listening.specs.declared.ends.ListenEnd.TheVariants as answer
-use Rattle.amf_listening.specs.declared.kind.Kind.{Kind}
-use Rattle.amf_listening.specs.declared.kind.Kind.TheVariants.{Sync}
+use Rattle.amf_listening.specs.declared.kind.MessageKind.{MessageKind}
+use Rattle.amf_listening.specs.declared.kind.MessageKind.TheVariants.{Sync}
 use Rattle.amf_listening.specs.declared.request.Request.{Request}
 use Rattle.amf_listening.specs.declared.request.Request.TheVariants.{Ping, Subscribe, Poll, Disconnect}
 use Rattle.amf_listening.specs.declared.reply.Heard.{Heard}
 use Rattle.amf_listening.specs.declared.session.Session.{Session as Stand}
+use Rattle.amf_listening.specs.declared.session.Course.{Course}
 use Rattle.amf_listening.specs.Requests.{IsAsked}
 use Rattle.amf_listening.specs.Replies.{Item, kind_at, item_at, is_item, body_of, seen_of, items_at, are_items, is_answer, bodies_in}
 use Rattle.amf_listening.specs.Sessions.{Turn, no_link, link_fault, starved, bad, fault, reply, turn_of, done, by_fault, by_bad, by_link, by_memory, asks_again, end_after, poll_or, Sent, Session, all_links, listen_from}
@@ -55,7 +57,7 @@ is_told i = is_item i.kind
 abbrev pub told_body : Item Graph → List Graph
 told_body i = body_of i.kind i.body
 
-abbrev pub item_kind : RootedArena → Stored → Kind
+abbrev pub item_kind : RootedArena → Stored → MessageKind
 item_kind g v = kind_at (content g) (value_content g.arena v)
 
 -- so far: these items are all delivered messages or invalidates, and these are their bodies
@@ -166,7 +168,7 @@ new_bodies false bodies = []
 -- what an answer adds to the output
 abbrev pub Puts : {X : Type 0} → List Graph → (held now : List ℕ) → Result X ListenEnd → Type 0
 Puts bodies held now (Ok more) = HasSpelled bodies held now
-Puts bodies held now (Err answer.WriteFault) = (bytes : List ℕ) × Spells bodies bytes × AddsFront held now bytes
+Puts bodies held now (Err answer.WriteFault) = (bytes : List ℕ) × Spells bodies bytes × WritesFront held now bytes
 Puts bodies held now (Err e) = (now ≡ held) ⊎ HasSpelled bodies held now
 
 -- only a batch that is new is not written
@@ -321,11 +323,32 @@ module _ {L : Type 0} (link : LinkMembers L) (port : ℕ) (destination : List �
       (s : Session Graph) → Shows port destination first s → s.link ≡ Some [] → s.end ≡ None
       → (turns : List (Turn Graph)) × ((turns ≡ []) ⊎ AreTurns turns) × Running most came now kept code told held holds s (listen_from most turns s)
 
+-- over a link on its way the request of these bytes brings a turn, and with it the link has carried one more
+abbrev pub BringsTurn : {L : Type 0} → LinkMembers L → (now next : L) → (kept keeps : List ℕ) → Request → (bytes : List ℕ) → Result (RootedArena × Heard) ListenEnd → Type 0
+BringsTurn {L} link now next kept keeps request bytes result =
+    (port : ℕ) (destination ds_id : List ℕ) (came : L) (sent : List (Sent Graph))
+    → Carrying link port destination came now kept sent → IsAsked port destination ds_id request bytes
+    → (turn : Turn Graph) × Brings result turn
+    × CarriesOn link port destination came next keeps (sent ++ record { request = request; ds_id = ds_id; turn = turn } ∷ []) result
+
+-- the use of a link by the course of a listener, and by the members of its output
+abbrev pub UsesLink : {L O : Type 0} → LinkMembers L → SinkMembers O → Course → (came went : L) → (old new : Stand) → (out out' : O) → ListenEnd → Type 0
+UsesLink link o course came went old new out out' e =
+    RunsOver link course.port course.destination.now course.polls came went old new (o.tells out') (o.held out) (o.held out') e
+
 -- One turn more over a link: it goes on, or the use of the link ended.
 
 abbrev pub TakesTurn : {L : Type 0} (link : LinkMembers L) (port : ℕ) (destination : List ℕ) (most : ℕ) (came now next : L) (kept keeps : List ℕ) (first code new : Stand) (told tells : Type 0) (held holds holds' : List ℕ) → Option ListenEnd → Type 0
 TakesTurn link port destination most came now next kept keeps first code new told tells held holds holds' None = RunsOn link port destination most came next keeps first new tells held holds'
 TakesTurn link port destination most came now next kept keeps first code new told tells held holds holds' (Some e) = RunsOver link port destination most came next first new tells held holds' e
+
+-- the same by the course: of every use of the link that began no further on than where it stands
+abbrev pub TakesOneTurn : {L O : Type 0} → LinkMembers L → SinkMembers O → Course → (now next : L) → (kept keeps : List ℕ) → (code new : Stand) → (out out' : O) → Option ListenEnd → Type 0
+TakesOneTurn {L} link o course now next kept keeps code new out out' e =
+    (came : L) (first : Stand) (held : List ℕ)
+    → RunsOn link course.port course.destination.now course.polls came now kept first code (o.tells out) held (o.held out)
+    → reached course.polls first ≤ reached course.polls code
+    → TakesTurn link course.port course.destination.now course.polls came now next kept keeps first code new (o.tells out) (o.tells out') held (o.held out) (o.held out') e
 
 -- the next request is further in the order
 pub record Advances (most : ℕ) (old new : Stand) : Type 0 where
@@ -361,3 +384,8 @@ abbrev pub DialsOnce : {D L : Type 0} (dial : DialMembers D L) (link : LinkMembe
 DialsOnce {D} dial link port destination most old_dial new_dial old new told held now e =
     (before : D) (s : Session Graph) → Stands dial link port destination before old_dial s → Shows port destination old s
     → (turns : List (Turn Graph)) × Dialled dial link port destination most before new_dial old new told held now e s (listen_from most turns s)
+
+-- the same by the course, and by the members of the output
+abbrev pub UsesDial : {D L O : Type 0} → DialMembers D L → LinkMembers L → SinkMembers O → Course → (dial dial' : D) → (old new : Stand) → (out out' : O) → ListenEnd → Type 0
+UsesDial d link o course dial dial' old new out out' e =
+    DialsOnce d link course.port course.destination.now course.polls dial dial' old new (o.tells out') (o.held out) (o.held out') e

@@ -1,6 +1,6 @@
 /// What a message is, by its class, and a CommandMessage by its operation.
 #[derive(Clone, Copy, Debug, PartialEq, Eq)]
-pub(crate) enum Kind {
+pub(crate) enum MessageKind {
     Acknowledge,
     /// A batch: operation 4.
     Sync,

@@ -1,9 +1,7 @@
-ghost use Rattle.std.specs.Prelude.{◌≡◌, ◌≤◌, ◌<◌, ◌^◌, List, length};
-ghost use Rattle.amf_graph.specs.Graph.{Graph};
+ghost use Rattle.std.specs.Prelude.{◌≤◌, ◌<◌, ◌^◌, length};
 ghost use Rattle.amf_wire.specs.Text.{IsText};
-ghost use Rattle.amf_listening.specs.Sessions.{Turn, listen};
-ghost use Rattle.amf_listening.specs.Steps.{IsReady, DialsOnce};
-ghost use Rattle.amf_listening.specs.Listened.{Listened, EndsAs, Wrote, CountsOutput, IsNumbered};
+ghost use Rattle.amf_listening.specs.Steps.{IsReady, UsesDial};
+ghost use Rattle.amf_listening.specs.Listened.{Listens, CountsOutput, IsNumbered};
 
 use crate::ListenEnd;
 use crate::over_link::over_link;
@@ -28,8 +26,7 @@ fn dialled<D: Dial, O: Sink>(
     requires spent { session.old.spent ≤ 2 }
     requires ready { IsReady course.now.polls session.old.request session.old.taker }
     requires text { IsText session.old.ds_id }
-    ensures dials { DialsOnce D.Dial D.Link.Link course.now.port course.now.destination.now course.now.polls dial.old dial.new session.old session.new
-        (O.tells out.new) (O.held out.old) (O.held out.new) result }
+    ensures dials { UsesDial D.Dial D.Link.Link O.Sink course.now dial.old dial.new session.old session.new out.old out.new result }
     ensures told { O.tells out.new → O.tells out.old }
     ensures output { CountsOutput (O.faults out.old) (O.faults out.new) result }
     ensures numbered { IsNumbered result }
@@ -75,8 +72,7 @@ pub fn listen<D: Dial, O: Sink>(
     requires short { length destination.now < 2 ^ 16 }
     requires some { 1 ≤ polls }
     requires few { polls ≤ 1000000 }
-    ensures listened { (turns : List (Turn Graph)) × Listened D.Dial D.Link.Link port destination.now dial.old dial.new (listen polls turns)
-        × EndsAs (listen polls turns).end result × (O.tells out.new → Wrote (listen polls turns).written (O.held out.old) (O.held out.new) result) }
+    ensures listened { Listens D.Dial D.Link.Link O.Sink port destination.now polls dial.old dial.new out.old out.new result }
     ensures told { O.tells out.new → O.tells out.old }
     ensures output { CountsOutput (O.faults out.old) (O.faults out.new) result }
     ensures numbered { IsNumbered result }
@@ -99,8 +95,7 @@ pub fn listen_keyed<D: Dial, O: Sink>(
     requires short { length destination.now < 2 ^ 16 }
     requires some { 1 ≤ polls }
     requires few { polls ≤ 1000000 }
-    ensures listened { (turns : List (Turn Graph)) × Listened D.Dial D.Link.Link port destination.now dial.old dial.new (listen polls turns)
-        × EndsAs (listen polls turns).end result × (O.tells out.new → Wrote (listen polls turns).written (O.held out.old) (O.held out.new) result) }
+    ensures listened { Listens D.Dial D.Link.Link O.Sink port destination.now polls dial.old dial.new out.old out.new result }
     ensures told { O.tells out.new → O.tells out.old }
     ensures output { CountsOutput (O.faults out.old) (O.faults out.new) result }
     ensures numbered { IsNumbered result }

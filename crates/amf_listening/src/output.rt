@@ -1,12 +1,8 @@
-ghost use Rattle.std.specs.Prelude.{◌≡◌};
 ghost use Rattle.std.specs.List.{AllByRecursion};
 ghost use Rattle.amf_graph.specs.Arena.{Names};
-ghost use Rattle.amf_io.specs.Outside.{HasCause};
-ghost use Rattle.http_link.specs.Sent.{Sends};
 ghost use Rattle.amf_listening.specs.Steps.{bodies_at, Spelled};
 
 use amf_graph::{Rooted, Value};
-use amf_io::{Failed, Sink};
 use amf_wire::Memory;
 use amf3_write::write3_keyed;
 use std::alloc::Global;
@@ -32,17 +28,4 @@ pub(crate) fn spelled(
         }
     }
     Ok(out)
-}
-
-/// Writes all the bytes, and has the sink hand them on.
-pub(crate) fn write_whole<O: Sink>(sink: &mut O, bytes: &[u8]) -> Result<(), Failed>
-    ensures tells { O.tells sink.new → O.tells sink.old }
-    ensures sends { O.tells sink.new → Sends (O.held sink.old) (O.held sink.new) bytes.now result }
-    ensures cause { HasCause (O.faults sink.old) (O.faults sink.new) result }
-{
-    let mut sent = 0;
-    while sent < bytes.len() {
-        sent += sink.write(&bytes[sent..])?;
-    }
-    sink.flush()
 }

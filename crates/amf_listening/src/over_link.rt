@@ -1,25 +1,21 @@
-ghost use Rattle.std.specs.Prelude.{◌≡◌, ◌<◌, ◌≤◌, ◌^◌, ◌∷◌, ◌++◌, [], List, ℕ, IfOk, IfErr, IfSome};
+ghost use Rattle.std.specs.Prelude.{◌≡◌, ◌<◌, ◌≤◌, ◌^◌, [], ℕ, IfOk, IfErr, IfSome};
 ghost use Rattle.std.specs.List.{AllByRecursion};
 ghost use Rattle.amf_wire.specs.Text.{IsText};
 ghost use Rattle.amf_io.specs.Dial.{IsFresh};
 ghost use Rattle.amf_graph.specs.Arena.{Names};
-ghost use Rattle.amf_graph.specs.Graph.{Graph};
-ghost use Rattle.amf_listening.specs.declared.session.Session.{Session as Stand};
-ghost use Rattle.amf_listening.specs.Requests.{IsAsked};
-ghost use Rattle.amf_listening.specs.Sessions.{Turn, Sent};
 ghost use Rattle.amf_listening.specs.Listened.{IsNumbered, CountsOutput};
-ghost use Rattle.amf_listening.specs.Steps.{HeardOf, Brings, Carrying, CarriesOn, IsReady, GoesOn, Puts, EndsPut, CountsPuts, NumberedOr};
-ghost use Rattle.amf_listening.specs.Steps.{new_bodies, is_new, bodies_at, reached, RunsOn, RunsOver, TakesTurn, AdvancesOr, CountsTurn};
+ghost use Rattle.amf_listening.specs.Steps.{HeardOf, BringsTurn, IsReady, GoesOn, Puts, EndsPut, CountsPuts, NumberedOr};
+ghost use Rattle.amf_listening.specs.Steps.{new_bodies, is_new, bodies_at, UsesLink, TakesOneTurn, AdvancesOr, CountsTurn};
 ghost use Rattle.amf_listening.specs.Steps.{IsNoOutput, end_as};
 
 use crate::ListenEnd;
-use crate::output::{spelled, write_whole};
+use crate::output::spelled;
 use crate::reply::{Heard, hear};
 use crate::request::Request;
 use crate::session::{Course, Session};
 use amf_client::{AnswerFault, ReplyBuffer, read_result_keyed};
 use amf_graph::{Rooted, Value};
-use amf_io::{Link, Sink};
+use amf_io::{Link, Sink, write_whole};
 use http_link::send;
 use std::alloc::Global;
 use std::hash::RandomState;
@@ -58,10 +54,7 @@ fn exchange<L: Link>(
     request: Request,
     bytes: &[u8],
 ) -> Result<(Rooted, Heard), ListenEnd>
-    ensures exchanged { (port : ℕ) (destination ds_id : List ℕ) (came : L) (sent : List (Sent Graph))
-        → Carrying L.Link port destination came link.old buffer.old sent → IsAsked port destination ds_id request bytes.now
-        → (turn : Turn Graph) × Brings result turn
-        × CarriesOn L.Link port destination came link.new buffer.new (sent ++ record { request = request; ds_id = ds_id; turn = turn } ∷ []) result }
+    ensures exchanged { BringsTurn L.Link link.old link.new buffer.old buffer.new request bytes.now result }
     ensures text { IfOk result (λ x. IsText x.1.ds_id) }
     ensures names { IfOk result (λ x. AllByRecursion (Names x.0.arena) x.1.bodies.items) }
     ensures numbered { NumberedOr result }
@@ -154,11 +147,7 @@ fn take_turn<L: Link, O: Sink>(
     requires spent { session.old.spent ≤ 3 }
     requires ready { IsReady course.now.polls session.old.request session.old.taker }
     requires text { IsText session.old.ds_id }
-    ensures turn { (came : L) (first : Stand) (held : List ℕ)
-        → RunsOn L.Link course.now.port course.now.destination.now course.now.polls came link.old buffer.old first session.old (O.tells out.old) held
-        (O.held out.old) → reached course.now.polls first ≤ reached course.now.polls session.old
-        → TakesTurn L.Link course.now.port course.now.destination.now course.now.polls came link.old link.new buffer.old buffer.new first session.old
-        session.new (O.tells out.old) (O.tells out.new) held (O.held out.old) (O.held out.new) result }
+    ensures turn { TakesOneTurn L.Link O.Sink course.now link.old link.new buffer.old buffer.new session.old session.new out.old out.new result }
     ensures advances { AdvancesOr course.now.polls session.old session.new result }
     ensures told { O.tells out.new → O.tells out.old }
     ensures counts { CountsTurn (O.faults out.old) (O.faults out.new) result }
@@ -200,8 +189,7 @@ pub(crate) fn over_link<L: Link, O: Sink>(
     requires spent { session.old.spent ≤ 3 }
     requires ready { IsReady course.now.polls session.old.request session.old.taker }
     requires text { IsText session.old.ds_id }
-    ensures over { RunsOver L.Link course.now.port course.now.destination.now course.now.polls link.old link.new session.old session.new (O.tells out.new)
-        (O.held out.old) (O.held out.new) result }
+    ensures over { UsesLink L.Link O.Sink course.now link.old link.new session.old session.new out.old out.new result }
     ensures told { O.tells out.new → O.tells out.old }
     ensures output { CountsOutput (O.faults out.old) (O.faults out.new) result }
     ensures numbered { IsNumbered result }

@@ -1,20 +1,18 @@
-ghost use Rattle.std.specs.Prelude.{◌≡◌, ◌<◌, ℕ, List, length, IfOk, IfSome};
+ghost use Rattle.std.specs.Prelude.{◌≡◌, IfOk, IfSome};
 ghost use Rattle.std.specs.List.{AllByRecursion};
 ghost use Rattle.amf_wire.specs.Text.{IsText};
-ghost use Rattle.amf_wire.specs.WholeNumbers.{whole_of};
-ghost use Rattle.amf_graph.specs.Arena.{Arena, Names, value_content};
+ghost use Rattle.amf_graph.specs.Arena.{Names, value_content};
 ghost use Rattle.amf_graph.specs.Rooted.{content};
-ghost use Rattle.flex_msgs.specs.Viewing.{text_alone, whole_number};
 ghost use Rattle.amf_listening.specs.Replies.{kind_at, class_kind, command_kind, is_text, has_id};
 ghost use Rattle.amf_listening.specs.Requests.{message_id};
 ghost use Rattle.amf_listening.specs.Sessions.{or_empty};
 ghost use Rattle.amf_listening.specs.Steps.{Hears, AddsItem, Bodies, Delivers, told_id, told_correlation};
 
-use crate::kind::Kind;
+use crate::kind::MessageKind;
 use crate::request::Request;
 use amf_graph::{NodeView, Rooted, Value};
-use amf_wire::{Memory, Name, Pattern};
-use flex_msgs::member;
+use amf_wire::{Memory, Name};
+use flex_msgs::{member, text_alone, whole_number};
 use std::alloc::Global;
 
 /// What a reply told.
@@ -26,65 +24,47 @@ pub(crate) struct Heard {
     pub(crate) bodies: Vec<Value>,
 }
 
-/// The whole number that a double is, if it is one.
-fn whole_of(p: Pattern) -> Option<i64>
-    ensures { result ≡ whole_of p.0 }
-{
-    amf_wire::whole_of(p)
-}
-
-/// The whole number that a value is: an integer, or a double that is one.
-fn whole_number(value: Value) -> Option<i64>
-    ensures { (a : Arena) → result ≡ whole_number (value_content a value) }
-{
-    match value {
-        Value::Integer(n) => Some(i64::from(n)),
-        Value::Double(p) => whole_of(p),
-        _ => None,
-    }
-}
-
 /// The kind of a CommandMessage with this operation.
-fn command_kind(operation: Option<i64>) -> Kind
+fn command_kind(operation: Option<i64>) -> MessageKind
     ensures { result ≡ command_kind operation }
 {
     match operation {
         Some(number) => {
             if number == 4 {
-                Kind::Sync
+                MessageKind::Sync
             } else if number == 10 {
-                Kind::Invalidate
+                MessageKind::Invalidate
             } else {
-                Kind::Foreign
+                MessageKind::Foreign
             }
         }
-        None => Kind::Foreign,
+        None => MessageKind::Foreign,
     }
 }
 
 /// The kind of a message of this class, where its operation is this.
-fn class_kind(class: &[u8], operation: Option<i64>) -> Kind
+fn class_kind(class: &[u8], operation: Option<i64>) -> MessageKind
     ensures { result ≡ class_kind class.now operation }
 {
     if b"flex.messaging.messages.AcknowledgeMessage".as_slice() == class {
-        Kind::Acknowledge
+        MessageKind::Acknowledge
     } else if b"flex.messaging.messages.AsyncMessage".as_slice() == class {
-        Kind::Async
+        MessageKind::Async
     } else if b"flex.messaging.messages.CommandMessage".as_slice() == class {
         command_kind(operation)
     } else {
-        Kind::Foreign
+        MessageKind::Foreign
     }
 }
 
 /// What a value is as a message.
-fn kind_at(alloc: Global, graph: &Rooted, value: Value) -> Result<Kind, Memory>
+fn kind_at(alloc: Global, graph: &Rooted, value: Value) -> Result<MessageKind, Memory>
     requires { Names graph.now.arena value }
     ensures { IfOk result (λ kind. kind ≡ kind_at (content graph.now) (value_content graph.now.arena value)) }
 {
     graph.is_finished();
     let Value::Node(node) = value else {
-        return Ok(Kind::Foreign);
+        return Ok(MessageKind::Foreign);
     };
     let NodeView::Object {
         traits,
@@ -92,7 +72,7 @@ fn kind_at(alloc: Global, graph: &Rooted, value: Value) -> Result<Kind, Memory>
         members: _members,
     } = graph.node(node)
     else {
-        return Ok(Kind::Foreign);
+        return Ok(MessageKind::Foreign);
     };
     let operation = member(alloc, graph, value, b"operation")?;
     Ok(class_kind(
@@ -112,12 +92,12 @@ fn add_body(
     ensures { IfOk result (AddsItem graph.now item bodies.old.items bodies.new.items) }
 {
     match kind_at(alloc, graph, item)? {
-        Kind::Async => {
+        MessageKind::Async => {
             let body = member(alloc, graph, item, b"body")?;
             bodies.push(body)?;
             Ok(true)
         }
-        Kind::Invalidate => Ok(true),
+        MessageKind::Invalidate => Ok(true),
         _ => Ok(false),
     }
 }
@@ -154,26 +134,13 @@ fn delivered(alloc: Global, graph: &Rooted) -> Result<Option<Vec<Value>>, Memory
 {
     graph.is_finished();
     match kind_at(alloc, graph, graph.root())? {
-        Kind::Acknowledge => Ok(Some(Vec::new(alloc))),
-        Kind::Sync => {
+        MessageKind::Acknowledge => Ok(Some(Vec::new(alloc))),
+        MessageKind::Sync => {
             let body = member(alloc, graph, graph.root(), b"body")?;
             bodies_of(alloc, graph, body)
         }
         _ => Ok(None),
     }
-}
-
-/// The text that a value is.
-fn text_alone(alloc: Global, graph: &Rooted, value: Value) -> Result<Option<Name>, Memory>
-    requires { Names graph.now.arena value }
-    ensures text { IfOk result (λ found. found ≡ text_alone (value_content graph.now.arena value)) }
-    ensures is_text { IfOk result (λ found. IfSome found (λ x. IsText x)) }
-{
-    graph.is_finished();
-    Ok(match value {
-        Value::Text(text) => Some(Name::of_bytes(alloc, graph.text(text))?),
-        _ => None,
-    })
 }
 
 /// The DSId of the headers, where it is a text.

@@ -91,6 +91,22 @@ pub record Delivers (a : Arena) (i : ℕ) (client : List ℕ) (old new : Arena) 
 abbrev pub LacksRoomFor : Arena → List Stored → Arena → ℕ → Type 0
 LacksRoomFor a vs old texts = (c : Cut) × IsCut a vs c × (HasRoomFor old (length c.texts + texts) (length c.traits + 1) (length c.nodes + 1) → ⊥)
 
+-- so where the names of a message that is published, and what it is correlated to, are short
+abbrev pub WhereShort : Common → List ℕ → Type 0 → Type 0
+WhereShort c correlation P = IsShort c.message → IsShort c.destination → IsShort correlation → P
+
+-- there is no room for what is stored of a message that is published
+abbrev pub LacksRoomToStore : Arena → Common → Arena → Type 0
+LacksRoomToStore a c old = LacksRoomFor a (c.body ∷ c.headers ∷ []) old 12
+
+-- there is no room for a stored message as it is delivered to this client
+abbrev pub LacksRoomToDeliver : Arena → ℕ → List ℕ → Arena → Type 0
+LacksRoomToDeliver a i client old = LacksRoomFor a (other_values (stored_at a i).values) old (9 + client_texts client)
+
+-- there is room for the error that answers this
+abbrev pub HasRoomForError : Arena → Reply → Type 0
+HasRoomForError a r = HasRoomFor a (23 + client_texts r.client) 2 2
+
 -- The names of an answer are texts.
 
 pub record IsReply (r : Reply) : Type 0 where

@@ -47,6 +47,10 @@ common_view g ps next =
     or_wrong member.ClientId (text_or_null (value_named client_name ps)) (λ client.
     next (record { message = message; destination = destination; client = client; ds_id = ds_id; subtopic = subtopic; body = value_named body_name ps; headers = headers })))))))
 
+-- what every message has is this, and the view goes on with it
+abbrev pub GoesOnWith : Graph → List (List ℕ × Value) → Told → Type 0
+GoesOnWith g ps t = (next : Told → Viewed) → common_view g ps next ≡ next t
+
 abbrev pub served_view : Graph → Option Served → List (List ℕ × Value) → Viewed
 served_view g None ps = not_served
 served_view g (Some served.Remoting) ps = common_view g ps (λ t. or_wrong member.Operation (text_alone (value_named operation_name ps)) (λ o. request (remoting t o)))

@@ -32,7 +32,7 @@ impl Served {
 
 /// The classes of the messages that are written.
 #[derive(Clone, Copy, Debug, PartialEq, Eq)]
-pub(crate) enum Class {
+pub enum Class {
     Acknowledge,
     Async,
     Command,

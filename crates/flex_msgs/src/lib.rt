@@ -13,14 +13,17 @@ mod stored;
 mod viewing;
 mod writing;
 
+pub use class::Class;
 pub use facts::{
     acknowledge_law, answers_alike, batch_law, delivered_law, error_law, flex_rows, invalidate_law,
     join_law, published_law, sync_law, view_law,
 };
 pub use lookup::{header, member};
 pub use not_a_message::NotAMessage;
+pub use number::{small, whole_number};
 pub use replies::{acknowledge, error, invalidate, sync};
 pub use reply::{FaultText, Reply};
 pub use request::{Common, Member, Request};
 pub use stored::{delivered, is_stored, published};
-pub use viewing::{view, view_value};
+pub use viewing::{text_alone, view, view_value};
+pub use writing::{add_headers, add_message, add_object, add_text};

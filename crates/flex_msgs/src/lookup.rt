@@ -4,10 +4,9 @@ ghost use Rattle.std.specs.Prelude.{◌≡◌, ◌<◌, ◌++◌, length, get_or
 ghost use Rattle.std.specs.List.{AllByRecursion};
 ghost use Rattle.std.specs.Option.{option_map};
 ghost use Rattle.amf_graph.specs.Arena.{Names, no_traits, value_content};
-ghost use Rattle.amf_graph.specs.Rooted.{content};
 ghost use Rattle.amf_graph.specs.Views.{named};
 ghost use Rattle.flex_msgs.specs.Asked.{IsCommon};
-ghost use Rattle.flex_msgs.specs.Lookup.{value_named, pairs_of, named_in};
+ghost use Rattle.flex_msgs.specs.Lookup.{value_named, pairs_at, named_in};
 ghost use Rattle.flex_msgs.specs.KeptPairs.{pairs_content, stored_pairs, IsPairIn};
 
 use crate::Common;
@@ -58,7 +57,7 @@ pub(crate) fn pairs_of(
     value: Value,
 ) -> Result<Option<Vec<(TextId, Value)>>, Memory>
     requires { Names graph.now.arena value }
-    ensures pairs { IfOk result (λ found. option_map (λ pairs. pairs_content graph.now.arena (named pairs.items)) found ≡ pairs_of (content graph.now) (value_content graph.now.arena value)) }
+    ensures pairs { IfOk result (λ found. option_map (λ pairs. pairs_content graph.now.arena (named pairs.items)) found ≡ pairs_at graph.now value) }
     ensures names { IfOk result (λ found. IfSome found (λ pairs. AllByRecursion (IsPairIn graph.now.arena) (named pairs.items))) }
 {
     graph.is_finished();
@@ -81,7 +80,7 @@ pub(crate) fn pairs_of(
 /// none, and of any other value. It gives up where there is no memory.
 pub fn member(alloc: Global, graph: &Rooted, value: Value, name: &[u8]) -> Result<Value, Memory>
     requires { Names graph.now.arena value }
-    ensures value { IfOk result (λ found. value_content graph.now.arena found ≡ named_in name.now (pairs_of (content graph.now) (value_content graph.now.arena value))) }
+    ensures value { IfOk result (λ found. value_content graph.now.arena found ≡ named_in name.now (pairs_at graph.now value)) }
     ensures names { IfOk result (λ found. Names graph.now.arena found) }
 {
     match pairs_of(alloc, graph, value)? {
@@ -95,7 +94,7 @@ pub fn member(alloc: Global, graph: &Rooted, value: Value, name: &[u8]) -> Resul
 /// The values of the request are the graph's.
 pub fn header(alloc: Global, graph: &Rooted, common: &Common, name: &[u8]) -> Result<Value, Memory>
     requires { IsCommon graph.now.arena common.now }
-    ensures value { IfOk result (λ value. value_content graph.now.arena value ≡ named_in name.now (pairs_of (content graph.now) (value_content graph.now.arena common.now.headers))) }
+    ensures value { IfOk result (λ value. value_content graph.now.arena value ≡ named_in name.now (pairs_at graph.now common.now.headers)) }
     ensures names { IfOk result (λ value. Names graph.now.arena value) }
 {
     member(alloc, graph, common.headers, name)

@@ -3,34 +3,24 @@ ghost use Rattle.flex_msgs.specs.declared.not_a_message.NotAMessage.TheVariants.
 
 use crate::Member;
 use std::alloc::{AllocError, AllocFailed};
-use std::error::Error;
-use std::fmt;
+use thiserror::Error;
 
 /// Why a graph is no message that is served.
-#[derive(Clone, Copy, Debug, PartialEq, Eq)]
+#[derive(Clone, Copy, Debug, PartialEq, Eq, Error)]
 pub enum NotAMessage {
     /// The root is no object.
+    #[error("no object")]
     NotObject,
     /// The object is of another class than the three that are served.
+    #[error("a class that is not served")]
     NotServed,
     /// The first member, in the order of [`Member`], that is of another kind than the class asks for.
+    #[error("{0} is of another kind")]
     WrongKind(Member),
     /// There was no memory left for it.
+    #[error("no memory")]
     Memory,
 }
-
-impl fmt::Display for NotAMessage {
-    fn fmt<W: fmt::Write>(&self, f: &mut fmt::Formatter<W>) -> fmt::Result {
-        match self {
-            NotAMessage::NotObject => f.write_str("no object"),
-            NotAMessage::NotServed => f.write_str("a class that is not served"),
-            NotAMessage::WrongKind(member) => write!(f, "{member} is of another kind"),
-            NotAMessage::Memory => f.write_str("no memory"),
-        }
-    }
-}
-
-impl Error for NotAMessage {}
 
 impl From<AllocError> for NotAMessage {
     ghost from_gives = { λ _ e. e ≡ Memory };

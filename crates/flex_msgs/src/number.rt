@@ -2,21 +2,14 @@ ghost use Rattle.std.specs.Prelude.{◌≡◌, ◌<◌, ◌^◌, ℕ, pos};
 ghost use Rattle.amf_graph.specs.declared.value.Value.TheVariants.{Integer};
 ghost use Rattle.amf_graph.specs.Arena.{Arena, value_content};
 ghost use Rattle.flex_msgs.specs.Viewing.{whole_number};
-ghost use Rattle.amf_wire.specs.WholeNumbers.{whole_of, pattern_of};
+ghost use Rattle.amf_wire.specs.WholeNumbers.{pattern_of};
 ghost use Rattle.flex_msgs.specs.Messages.{stamp_of};
 
 use amf_graph::Value;
-use amf_wire::{Pattern, pattern_of};
-
-/// The whole number that a double is, if it is one.
-fn whole_of(p: Pattern) -> Option<i64>
-    ensures { result ≡ whole_of p.0 }
-{
-    amf_wire::whole_of(p)
-}
+use amf_wire::{Pattern, pattern_of, whole_of};
 
 /// The whole number that a value is: an integer, or a double that is one.
-pub(crate) fn whole_number(value: Value) -> Option<i64>
+pub fn whole_number(value: Value) -> Option<i64>
     ensures { (a : Arena) → result ≡ whole_number (value_content a value) }
 {
     match value {
@@ -27,7 +20,7 @@ pub(crate) fn whole_number(value: Value) -> Option<i64>
 }
 
 /// A small number as an integer.
-pub(crate) fn small(n: u8) -> Value
+pub fn small(n: u8) -> Value
     ensures { result ≡ Integer (pos n) }
 {
     Value::Integer(i32::from(n))

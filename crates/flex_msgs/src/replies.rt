@@ -4,7 +4,7 @@ ghost use Rattle.std.specs.Prelude.{◌≡◌, ◌+◌, ◌≤◌, length, IfOk,
 ghost use Rattle.std.specs.List.{AllByRecursion};
 ghost use Rattle.amf_graph.specs.Arena.{Names, value_content};
 ghost use Rattle.amf_graph.specs.declared.limits.TheConstants.{MAX_COUNT};
-ghost use Rattle.flex_msgs.specs.Built.{IsReply, IsShortReply, IsFaultText, IsShort, Acknowledges, Errors, Syncs, Invalidates, GrewBy, HasRoomFor, client_texts};
+ghost use Rattle.flex_msgs.specs.Built.{IsReply, IsShortReply, IsFaultText, IsShort, Acknowledges, Errors, Syncs, Invalidates, GrewBy, HasRoomFor, HasRoomForError, client_texts};
 ghost use Rattle.flex_msgs.specs.Writing.{WritesNames, WritesOne, AreValues};
 ghost use Rattle.flex_msgs.specs.Messages.{reply_values, command_node};
 
@@ -105,7 +105,7 @@ pub fn error(
     ensures ok { IfOk result (λ v. Errors reply.now fault.now builder.old builder.new v) }
     ensures names { IfOk result (λ v. Names builder.new v) }
     ensures grew { OnOk result (GrewBy builder.old builder.new (23 + client_texts reply.now.client) 2 2) }
-    ensures full { HasRoomFor builder.old (23 + client_texts reply.now.client) 2 2 → IsShortReply reply.now → IsShort fault.now.code → IsShort fault.now.text → IsErrOf result BuildEnd.Full → ⊥ }
+    ensures full { HasRoomForError builder.old reply.now → IsShortReply reply.now → IsShort fault.now.code → IsShort fault.now.text → IsErrOf result BuildEnd.Full → ⊥ }
 {
     let headers = add_headers(builder, &reply.ds_id)?;
     let mut values = add_values(alloc, builder, reply, Value::Null, headers)?;

@@ -1,13 +1,13 @@
 //! Messages that are stored, and as they are delivered.
 
-ghost use Rattle.std.specs.Prelude.{◌≡◌, ℕ, ◌+◌, ◌∷◌, ◌↔◌, [], length, IfOk, IsErrOf, IsTrue};
+ghost use Rattle.std.specs.Prelude.{◌≡◌, ℕ, ◌↔◌, length, IfOk, IsErrOf, IsTrue};
 ghost use Rattle.std.specs.List.{AllByRecursion};
 ghost use Rattle.amf_wire.specs.Text.{IsText};
 ghost use Rattle.amf_graph.specs.Arena.{Names};
 ghost use Rattle.amf_graph.specs.Building.{stored_at};
 ghost use Rattle.amf_graph.specs.Grafting.{node_value};
 ghost use Rattle.flex_msgs.specs.Asked.{IsCommon};
-ghost use Rattle.flex_msgs.specs.Built.{Publishes, Delivers, IsStored, IsShort, LacksRoomFor, client_texts};
+ghost use Rattle.flex_msgs.specs.Built.{Publishes, Delivers, IsStored, IsShort, WhereShort, LacksRoomToStore, LacksRoomToDeliver};
 ghost use Rattle.flex_msgs.specs.Messages.{other_values};
 
 use crate::class::Class;
@@ -35,7 +35,7 @@ pub fn published(
     requires correlation { IsText correlation.now }
     ensures ok { IfOk result (λ v. Publishes graph.now.arena common.now correlation.now moment builder.old builder.new v) }
     ensures names { IfOk result (λ v. Names builder.new v) }
-    ensures full { IsShort common.now.message → IsShort common.now.destination → IsShort correlation.now → IsErrOf result BuildEnd.Full → LacksRoomFor graph.now.arena (common.now.body ∷ common.now.headers ∷ []) builder.old 12 }
+    ensures full { WhereShort common.now correlation.now (IsErrOf result BuildEnd.Full → LacksRoomToStore graph.now.arena common.now builder.old) }
 {
     let copies = builder.graft_values(graph, &[common.body, common.headers])?;
     let body = copies[0];
@@ -108,7 +108,7 @@ pub fn delivered(
     requires client { IsText client.now }
     ensures ok { IfOk result (λ v. (i : ℕ) → stored.now.root ≡ node_value i → Delivers stored.now.arena i client.now builder.old builder.new v) }
     ensures names { IfOk result (λ v. Names builder.new v) }
-    ensures full { IsShort client.now → IsErrOf result BuildEnd.Full → (i : ℕ) → stored.now.root ≡ node_value i → LacksRoomFor stored.now.arena (other_values (stored_at stored.now.arena i).values) builder.old (9 + client_texts client.now) }
+    ensures full { IsShort client.now → IsErrOf result BuildEnd.Full → (i : ℕ) → stored.now.root ≡ node_value i → LacksRoomToDeliver stored.now.arena i client.now builder.old }
 {
     stored.is_finished();
     let others = other_members(alloc, stored)?;

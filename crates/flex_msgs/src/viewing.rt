@@ -9,7 +9,7 @@ ghost use Rattle.amf_graph.specs.Views.{named};
 ghost use Rattle.flex_msgs.specs.Asked.{Told, Viewed, told, request, asked, IsCommon, IsRequest};
 ghost use Rattle.flex_msgs.specs.Lookup.{value_named};
 ghost use Rattle.flex_msgs.specs.KeptPairs.{pairs_content, IsPairIn};
-ghost use Rattle.flex_msgs.specs.Viewing.{text_or_null, text_alone, common_view, served_view, value_view, view, Refuses};
+ghost use Rattle.flex_msgs.specs.Viewing.{text_or_null, text_alone, common_view, GoesOnWith, served_view, value_view, view, Refuses};
 ghost use Rattle.flex_msgs.specs.Wrong.{IsWrong};
 
 use crate::class::Served;
@@ -34,8 +34,8 @@ fn text_or_null(alloc: Global, graph: &Rooted, value: Value) -> Result<Option<Na
     })
 }
 
-/// The text that a value is.
-fn text_alone(alloc: Global, graph: &Rooted, value: Value) -> Result<Option<Name>, Memory>
+/// The text that a value is. It gives up where there is no memory.
+pub fn text_alone(alloc: Global, graph: &Rooted, value: Value) -> Result<Option<Name>, Memory>
     requires { Names graph.now.arena value }
     ensures text { IfOk result (λ found. found ≡ text_alone (value_content graph.now.arena value)) }
     ensures is_text { IfOk result (λ found. IfSome found (λ x. IsText x)) }
@@ -73,7 +73,7 @@ fn members_told(
     pairs: &[(TextId, Value)],
 ) -> Result<Common, NotAMessage>
     requires { AllByRecursion (IsPairIn graph.now.arena) (named pairs.now) }
-    ensures ok { IfOk result (λ c. (next : Told → Viewed) → common_view (content graph.now) (pairs_content graph.now.arena (named pairs.now)) next ≡ next (told graph.now.arena c)) }
+    ensures ok { IfOk result (λ c. GoesOnWith (content graph.now) (pairs_content graph.now.arena (named pairs.now)) (told graph.now.arena c)) }
     ensures names { IfOk result (λ c. IsCommon graph.now.arena c) }
     ensures err { IfErr result (λ e. (next : Told → Viewed) → Refuses (common_view (content graph.now) (pairs_content graph.now.arena (named pairs.now)) next) e) }
 {

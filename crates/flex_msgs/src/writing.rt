@@ -17,8 +17,8 @@ use amf_graph::{BuildEnd, Builder, NodeId, Part, Shape, TextId, TraitsId, Value}
 use amf_wire::Name;
 use std::alloc::Global;
 
-/// Adds an object whole: with these sealed values and members.
-pub(crate) fn add_object(
+/// Adds an object whole: with these sealed values and members (AMF 3, 3.12).
+pub fn add_object(
     builder: &mut Builder,
     traits: TraitsId,
     sealed: &[Value],
@@ -45,8 +45,8 @@ pub(crate) fn add_object(
     Ok(node)
 }
 
-/// Adds the headers of an answer: an object with the one member DSId.
-pub(crate) fn add_headers(builder: &mut Builder, ds_id: &Name) -> Result<Value, BuildEnd>
+/// Adds the headers of a message: an object with the one member DSId.
+pub fn add_headers(builder: &mut Builder, ds_id: &Name) -> Result<Value, BuildEnd>
     requires { IsText ds_id.now }
     ensures ok { IfOk result (λ v. WritesOne builder.old builder.new v (λ h. headers_node ds_id.now)) }
     ensures names { IfOk result (λ v. Names builder.new v) }
@@ -62,7 +62,7 @@ pub(crate) fn add_headers(builder: &mut Builder, ds_id: &Name) -> Result<Value, 
 }
 
 /// Adds a text.
-pub(crate) fn add_text(builder: &mut Builder, text: &Name) -> Result<Value, BuildEnd>
+pub fn add_text(builder: &mut Builder, text: &Name) -> Result<Value, BuildEnd>
     requires { IsText text.now }
     ensures writes { OnOk result (WritesNames builder.old builder.new) }
     ensures value { IfOk result (λ v. AreValues builder.new (v ∷ []) (λ h. text_of text.now ∷ [])) }
@@ -88,7 +88,7 @@ pub(crate) fn add_client(builder: &mut Builder, client: &Name) -> Result<Value, 
 }
 
 /// Adds a message whole: with these values, in the order of the names of its class.
-pub(crate) fn add_message(
+pub fn add_message(
     alloc: Global,
     builder: &mut Builder,
     class: Class,

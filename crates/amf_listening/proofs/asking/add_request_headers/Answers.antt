@@ -23,4 +23,4 @@ returns-in_default c =
     let b = c.add_headers.new.builder in
     let ds = c.args.ds_id.now in
     IfOk-weaker c.add_headers.result (λ v. WritesOne a b v (λ h. headers_node ds)) (λ v. WritesOne a b v (λ h. request_headers ds c.args.request))
-    (λ v w. written_as a b v (headers_node ds) (request_headers ds c.args.request) (other_headers ds c.args.request c.in_default.not-Poll) w) c.add_headers.ensures
+    (λ v w. written_as a b v (headers_node ds) (request_headers ds c.args.request) (other_headers ds c.args.request c.in_default.not-Poll) w) c.add_headers.ensures.ok

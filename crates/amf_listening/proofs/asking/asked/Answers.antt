@@ -19,4 +19,4 @@ returns-in-Ok-packet_bytes c =
     let one : SpelledPacket canonical (request_packet (request_graph to ds r)) c.in-Ok-packet_bytes.packet.items =
     subst (λ (g : Graph). SpelledPacket canonical (request_packet g) c.in-Ok-packet_bytes.packet.items) c.in-Ok.ensures c.in-Ok-packet_bytes.ensures in
     let spelled : SpelledPacket canonical (request_packet (request_graph to ds r)) bytes = subst (λ (b : List ℕ). SpelledPacket canonical (request_packet (request_graph to ds r)) b) (sym c.as_slice.ensures.value) one in
-    IfOk-weaker c.posted.result (λ (v : Vec ℕ Global). v.items ≡ request c.args.port bytes) (λ v. IsAsked c.args.port to ds r v.items) (λ v e. record { packet = bytes; spelled = spelled; whole = e }) c.posted.ensures
+    IfOk-weaker c.request_bytes.result (λ (v : Vec ℕ Global). v.items ≡ request c.args.port bytes) (λ v. IsAsked c.args.port to ds r v.items) (λ v e. record { packet = bytes; spelled = spelled; whole = e }) c.request_bytes.ensures
