@@ -1,11 +1,13 @@
 -- Histories at a desk: the state that one leaves, whose entries it has, and what its answers add up to.
-use Rattle.std.specs.Prelude.{◌≡◌, ◌≢◌, ℕ, ◌-◌, ◌<◌, ◌^◌, min, List, [], ◌∷◌, ◌++◌, length, sum_by, eqb, if◌then◌else◌}
+use Rattle.std.specs.Prelude.{◌≡◌, ◌≢◌, ℕ, ◌-◌, ◌<◌, ◌^◌, min, false, List, [], ◌∷◌, ◌++◌, length, sum_by, eqb, if◌then◌else◌}
 use Rattle.amf_broker.specs.declared.call.Call.{Call}
 use Rattle.amf_broker.specs.declared.reply.Answer.{Answer}
 use Rattle.amf_broker.specs.declared.reply.Reply.{Reply}
 use Rattle.amf_broker.specs.declared.reply.Reply.TheVariants.{Published, Batch, Numbered}
 use Rattle.amf_broker.specs.State.{State, first}
-use Rattle.amf_broker.specs.History.{Entry, state_after}
+use Rattle.amf_broker.specs.History.{Entry, state_after, then_entry}
+use Rattle.amf_broker.specs.Machine.{answer_to}
+use Rattle.amf_broker.specs.Memory.{takes_none}
 use Rattle.amf_desk.specs.declared.counted.CountedBroker.{CountedBroker}
 
 abbrev pub entry : ℕ → ℕ → Call → Answer → Entry
@@ -68,3 +70,11 @@ counted_after destinations history = record {
   published = min (published_in history) (2 ^ 64 - 1);
   delivered = min (delivered_in history) (2 ^ 64 - 1);
 }
+
+-- whatever history led to the broker, and whoever calls: the answer is the one that history gives, and the broker is then as the history leaves it with this entry
+abbrev pub AnswersAs : CountedBroker → ℕ → Call → CountedBroker → Answer → Type 0
+AnswersAs before moment call after answer = (destinations : List (List ℕ)) (history : List Entry) (by : ℕ) → before ≡ counted_after destinations history → (answer ≡ answer_to (state_of destinations history) moment call) × (after ≡ counted_after destinations (then_entry history by moment call answer))
+
+-- whatever history led to the broker, its answer takes memory
+abbrev pub WantsMemory : CountedBroker → ℕ → Call → Type 0
+WantsMemory before moment call = (destinations : List (List ℕ)) (history : List Entry) → before ≡ counted_after destinations history → takes_none call (answer_to (state_of destinations history) moment call) ≡ false

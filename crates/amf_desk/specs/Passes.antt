@@ -6,7 +6,7 @@ use Rattle.amf_broker.specs.declared.reply.Answer.{Answer}
 use Rattle.amf_broker.specs.History.{Entry, IsLegal, then_entry}
 use Rattle.amf_broker.specs.Delivery.{AllDelivered}
 use Rattle.amf_desk.specs.declared.closed.Closed.{Closed}
-use Rattle.amf_desk.specs.Histories.{state_of, NoneBy, AllBelow, Later, Begins, published_in, delivered_in, queued_in}
+use Rattle.amf_desk.specs.Histories.{state_of, own, NoneBy, AllBelow, Later, Begins, published_in, delivered_in, queued_in}
 
 -- which desk it is of, the desk's destinations, the pass's number, what it has seen of the one history, how many calls it may still make, and how many passes were split off it
 pub record Held : Type 0 where
@@ -39,6 +39,10 @@ pub record Called (p : Held) (moment : ℕ) (call : Call) (answer : Answer) (q :
   pub explained : Explains p.destinations q.seen
   pub callers : Known q q.seen
 
+-- of the pass's own entries in what it has seen, the call adds one at the end
+abbrev pub AddsOwn : Held → ℕ → Call → Answer → Held → Type 0
+AddsOwn p moment call answer q = own p.number q.seen ≡ then_entry (own p.number p.seen) p.number moment call answer
+
 -- The call has no entry: what was seen, then entries of other callers.
 pub record Looked (p q : Held) : Type 0 where
   pub desk : q.desk ≡ p.desk
@@ -49,6 +53,13 @@ pub record Looked (p q : Held) : Type 0 where
   pub later : Later p.number p.seen q.seen
   pub explained : Explains p.destinations q.seen
   pub callers : Known q q.seen
+
+-- The two passes that a split makes of the first one: what is left of it, and the one of this share.
+abbrev pub kept : ℕ → Held → Held
+kept share p = record { desk = p.desk; destinations = p.destinations; number = 0; seen = p.seen; budget = p.budget - share; splits = p.splits + 1 }
+
+abbrev pub split_off : ℕ → Held → Held
+split_off share p = record { desk = p.desk; destinations = p.destinations; number = p.splits + 1; seen = p.seen; budget = share; splits = 0 }
 
 -- One had seen a beginning of what the other had, and this one has then seen the longer, and has both budgets.
 pub record JoinedTo (p from q : Held) : Type 0 where

@@ -1,9 +1,6 @@
 //! The broker, with the counts that a desk tells when it is closed.
-ghost use Rattle.std.specs.Prelude.{◌≡◌, ℕ, ◌^◌, ◌<◌, false, List, [], OnErr, IfOk};
-ghost use Rattle.amf_broker.specs.Machine.{answer_to};
-ghost use Rattle.amf_broker.specs.Memory.{takes_none};
-ghost use Rattle.amf_broker.specs.History.{Entry, then_entry};
-ghost use Rattle.amf_desk.specs.Histories.{publishes, hands_out, state_of, counted_after};
+ghost use Rattle.std.specs.Prelude.{◌≡◌, ◌^◌, ◌<◌, [], OnErr, IfOk};
+ghost use Rattle.amf_desk.specs.Histories.{publishes, hands_out, counted_after, AnswersAs, WantsMemory};
 
 use amf_broker::{Answer, Broker, Call, Reply};
 use amf_wire::{Memory, Name};
@@ -74,9 +71,9 @@ impl CountedBroker {
         call: Call,
     ) -> Result<Answer, Memory>
         requires { self.old.broker.calls < 2 ^ 62 }
-        ensures ok { IfOk result (λ a. (destinations : List (List ℕ)) (history : List Entry) (by : ℕ) → self.old ≡ counted_after destinations history → (a ≡ answer_to (state_of destinations history) moment call) × (self.new ≡ counted_after destinations (then_entry history by moment call a))) }
+        ensures ok { IfOk result (λ a. AnswersAs self.old moment call self.new a) }
         ensures err { OnErr result (self.new ≡ self.old) }
-        ensures wants { OnErr result ((destinations : List (List ℕ)) (history : List Entry) → self.old ≡ counted_after destinations history → takes_none call (answer_to (state_of destinations history) moment call) ≡ false) }
+        ensures wants { OnErr result (WantsMemory self.old moment call) }
     {
         let answer = self.broker.step(alloc, moment, call)?;
         self.published = self.published.saturating_add(published_by(&answer.reply));

@@ -1,6 +1,6 @@
-ghost use Rattle.std.specs.Prelude.{◌≡◌, ◌≢◌, ◌+◌, ◌-◌, ◌^◌, ◌<◌, ◌≤◌, [], IfOk, IfErr};
+ghost use Rattle.std.specs.Prelude.{◌≡◌, ◌≢◌, ◌^◌, ◌<◌, ◌≤◌, [], IfOk, IfErr};
 ghost use Rattle.amf_desk.specs.Histories.{NoneBy, counted_after};
-ghost use Rattle.amf_desk.specs.Passes.{Called, JoinedTo, ClosedAs};
+ghost use Rattle.amf_desk.specs.Passes.{kept, split_off, Called, JoinedTo, ClosedAs};
 ghost use Rattle.amf_desk.specs.Ends.{Ended};
 
 use crate::closed::{Closed, DeskEnd};
@@ -122,8 +122,8 @@ impl Desk {
         requires desk { pass.old.desk ≡ self.now }
         requires first { pass.old.number ≡ 0 }
         requires share { share ≤ pass.old.budget }
-        ensures old { pass.new ≡ record { desk = pass.old.desk; destinations = pass.old.destinations; number = 0; seen = pass.old.seen; budget = pass.old.budget - share; splits = pass.old.splits + 1 } }
-        ensures new { result ≡ record { desk = pass.old.desk; destinations = pass.old.destinations; number = pass.old.splits + 1; seen = pass.old.seen; budget = share; splits = 0 } }
+        ensures old { pass.new ≡ kept share pass.old }
+        ensures new { result ≡ split_off share pass.old }
         ensures fresh { NoneBy result.number result.seen }
     {
         let seat = self.cut::<Brand>(&mut pass.seat, share);

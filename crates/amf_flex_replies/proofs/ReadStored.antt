@@ -27,13 +27,13 @@ use Rattle.amf_graph.specs.Rooted.{RootedArena, content}
 use Rattle.amf_graph.proofs.FinishedSmall.{completes_itself}
 use Rattle.amf_graph.proofs.Lists.{not_empty}
 use Rattle.amf3_spelling.specs.KeptTables.{KeptTables, no_kept_tables, tables_of}
-use Rattle.amf3_spelling.specs.Reads3.{Grows, IsValue3}
+use Rattle.amf3_spelling.specs.Reads3.{Grows, IsRead3}
+use Rattle.amf3_spelling.specs.Values3.{IsValue3}
 use Rattle.amf3_spelling.specs.Spells3.{Spelled3}
 use Rattle.amf3_spelling.proofs.Decides3.{same_bytes_isomorphic}
 use Rattle.amf3_layout.specs.Layout3State.{no_state}
 use Rattle.amf3_layout.specs.Layout3.{ValueRead, value_layout}
-use Rattle.amf3_layout.proofs.Values3Layout.{no_arena_built, values3_is_layout}
-use Rattle.amf3_layout.proofs.ValuesAreSpellings.{spelling_is_value}
+use Rattle.amf3_layout.proofs.Values3Layout.{no_arena_built, values3_is_layout, reading_is_value, answered3}
 use Rattle.amf3_read.specs.Answer.{Answers3}
 use Rattle.amf_broker.specs.declared.limits.TheConstants.{MAX_MESSAGE}
 use Rattle.flex_msgs.specs.Built.{IsStored as HoldsStored, IsStoredAt}
@@ -61,11 +61,11 @@ pub value_read : (told : Type 0) (b : Arena) (u : KeptTables) (v : Stored) (g : 
 value_read told b u v g input rest at place e r =
     let fin : IsFinished b = record { built = r.read.built no_arena_built; closed = all_closed no_arena b refl r.read.grows } in
     subst (λ (z : RootedArena). AnswersValue told input rest at place (Ok z)) (sym e)
-    (record { fields = r.fields; read = (tables_of b u, r.read.spelled b (completes_itself b fin)); accepted = r.accepted; parts = r.parts; taken = r.taken; within = r.within })
+    (record { fields = r.fields; read = (tables_of b u, r.read.spelled b (completes_itself b fin)); accepted = reading_is_value r.fields r.accepted; parts = r.parts; taken = r.taken; within = r.within })
 
 pub value_ends : (told : Type 0) (b : Arena) (u : KeptTables) (input rest : List ℕ) (at place : ℕ) (e : ReadEnd) → Answers3 no_arena b no_kept_tables u (stretch told input rest at place MAX_MESSAGE) (Err e) → AnswersValue told input rest at place (Err e)
-value_ends told b u input rest at place (Refused f) h = h
-value_ends told b u input rest at place ReadFault h = h
+value_ends told b u input rest at place (Refused f) h = answered3 (λ v fs. IsRead3 no_arena no_kept_tables fs b u v) (stretch told input rest at place MAX_MESSAGE) (Err (Refused f)) h
+value_ends told b u input rest at place ReadFault h = answered3 (λ v fs. IsRead3 no_arena no_kept_tables fs b u v) (stretch told input rest at place MAX_MESSAGE) (Err ReadFault) h
 value_ends told b u input rest at place Memory h = tt
 
 -- a graph weighs no more than its bytes
@@ -84,7 +84,7 @@ never_refused : (g : Graph) (input : List ℕ) → AreBytes input → length inp
 never_refused g input bytes within (fs, s, e) =
     let all : length input ≡ 0 + length (flat fs) = omega (arith, ap length e) in
     (judged_once layouts IsValue3 values3_is_layout MAX_MESSAGE input).not_both
-    (record { fields = fs; accepted = spelling_is_value fs (subst AreBytes e bytes) (g, s); parts = e ∙ sym (append-nil (flat fs)); place = all; within = within })
+    (record { fields = fs; accepted = (g, s); parts = e ∙ sym (append-nil (flat fs)); place = all; within = within })
 
 module _ (input bytes : List ℕ) (at : ℕ) (same : input ≡ bytes) (start : at ≡ 0) (are : AreBytes bytes) (within : length bytes ≤ MAX_MESSAGE) where
   pub refused_none : (rest : List ℕ) (place : ℕ) (f : Refusal) → AnswersValue (Unit {0}) input rest at place (Err (Refused f)) → (h : Graph) → Spelled3 free h bytes → ⊥

@@ -8,8 +8,8 @@ use Rattle.flex_msgs.specs.Asked.{Told}
 use Rattle.flex_msgs.specs.declared.reply.FaultText.{FaultText}
 use Rattle.amf_service.specs.Meaning.{Called, no_service, no_operation, given, result, fault}
 use Rattle.amf_service.specs.Registry.{Entry, called}
-use Rattle.amf_plan.specs.declared.calling.CallAnswer.{CallAnswer}
-use Rattle.amf_plan.specs.declared.calling.CallAnswer.TheVariants.{Gave, Failed}
+use Rattle.amf_plan.specs.declared.calling.ServiceAnswer.{ServiceAnswer}
+use Rattle.amf_plan.specs.declared.calling.ServiceAnswer.TheVariants.{Gave, Failed}
 use Rattle.amf_flex_replies.specs.declared.replies.FlexAnswer.{FlexAnswer}
 use Rattle.amf_plan.specs.Calls.{cause_of, ComesTo}
 use Rattle.amf_flex_replies.specs.KeptArguments.{KeepsArguments}
@@ -37,25 +37,25 @@ cause_plan k (given (result g)) f e = absurd (no_cause f e)
 pub result_plan : (k : Context) (d : Called) (g : Graph) → d ≡ given (result g) → outcome k d ≡ acknowledge k [] g g.root
 result_plan k d g e = ap (λ (z : Called). outcome k z) e
 
-module _ {O : Type 0} (handed : O → O → Drawn → Type 0) (k : Context) (d : Called) (answer : CallAnswer) (a b : O) where
+module _ {O : Type 0} (handed : O → O → Drawn → Type 0) (k : Context) (d : Called) (answer : ServiceAnswer) (a b : O) where
   pub said_result : (x : FlexAnswer) (graph : RootedArena) → answer ≡ Gave graph → ComesTo d answer → ((g : Graph) → Isomorphic g (content graph) → Says handed (acknowledge k [] g g.root) a b x) → Says handed (outcome k d) a b x
   said_result x graph e comes says =
-      let c : ComesTo d (Gave graph) = subst (λ (z : CallAnswer). ComesTo d z) e comes in
+      let c : ComesTo d (Gave graph) = subst (λ (z : ServiceAnswer). ComesTo d z) e comes in
       subst (λ (z : Plan Answer). Says handed z a b x) (sym (result_plan k d c.0 c.1)) (says c.0 c.2)
 
   pub stopped_result : (graph : RootedArena) → answer ≡ Gave graph → ComesTo d answer → ((g : Graph) → Stopped handed (acknowledge k [] g g.root) a b) → Stopped handed (outcome k d) a b
   stopped_result graph e comes stops =
-      let c : ComesTo d (Gave graph) = subst (λ (z : CallAnswer). ComesTo d z) e comes in
+      let c : ComesTo d (Gave graph) = subst (λ (z : ServiceAnswer). ComesTo d z) e comes in
       subst (λ (z : Plan Answer). Stopped handed z a b) (sym (result_plan k d c.0 c.1)) (stops c.0)
 
   pub said_cause : (x : FlexAnswer) (f : FaultText) → answer ≡ Failed f → ComesTo d answer → Says handed (error k f) a b x → Says handed (outcome k d) a b x
   said_cause x f e comes says =
-      let c : ComesTo d (Failed f) = subst (λ (z : CallAnswer). ComesTo d z) e comes in
+      let c : ComesTo d (Failed f) = subst (λ (z : ServiceAnswer). ComesTo d z) e comes in
       subst (λ (z : Plan Answer). Says handed z a b x) (sym (cause_plan k d f c)) says
 
   pub stopped_cause : (f : FaultText) → answer ≡ Failed f → ComesTo d answer → Stopped handed (error k f) a b → Stopped handed (outcome k d) a b
   stopped_cause f e comes stops =
-      let c : ComesTo d (Failed f) = subst (λ (z : CallAnswer). ComesTo d z) e comes in
+      let c : ComesTo d (Failed f) = subst (λ (z : ServiceAnswer). ComesTo d z) e comes in
       subst (λ (z : Plan Answer). Stopped handed z a b) (sym (cause_plan k d f c)) stops
 
 -- Arguments that are kept are said.

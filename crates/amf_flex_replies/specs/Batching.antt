@@ -9,7 +9,7 @@ use Rattle.amf_graph.specs.Building.{no_arena}
 use Rattle.amf_graph.specs.Graph.{Graph}
 use Rattle.amf_graph.specs.Isomorphic.{Isomorphic}
 use Rattle.amf_graph.specs.Rooted.{RootedArena, content}
-use Rattle.amf3_spelling.specs.Reads3.{IsValue3}
+use Rattle.amf3_spelling.specs.Values3.{IsValue3}
 use Rattle.amf3_spelling.specs.Spells3.{IsSpelling3}
 use Rattle.amf_broker.specs.declared.limits.TheConstants.{MAX_MESSAGE}
 use Rattle.amf_broker.specs.declared.reply.Delivery.{Delivery}

@@ -2,3 +2,4 @@
 pub mod Batching
 pub mod Says
 pub mod KeptArguments
+pub mod KeptRequests

@@ -1,19 +1,18 @@
 //! How a Flex request is answered: a message of a packet whose target is `null`.
 
-ghost use Rattle.std.specs.Prelude.{◌≡◌, ◌≤◌, List, Some, None, IfOk, OnErr, IfSome, IsNone};
+ghost use Rattle.std.specs.Prelude.{◌≡◌, ◌≤◌, Some, None, IfOk, OnErr, IfSome, IsNone};
 ghost use Rattle.amf_graph.specs.Arena.{Names, value_content};
 ghost use Rattle.amf_graph.specs.Bounds.{weight};
 ghost use Rattle.amf_graph.specs.Rooted.{content};
 ghost use Rattle.amf_packet.specs.Content.{body_of};
 ghost use Rattle.amf_packet.specs.PacketAnswer.{body_weight};
-ghost use Rattle.amf_service.specs.Registry.{Entry};
-ghost use Rattle.flex_msgs.specs.Asked.{IsRequest, asked as asked_content};
-ghost use Rattle.flex_msgs.specs.Viewing.{value_view};
-ghost use Rattle.amf_plan.specs.Services.{services_by};
+ghost use Rattle.flex_msgs.specs.Asked.{IsRequest};
+ghost use Rattle.amf_plan.specs.Services.{services_of};
 ghost use Rattle.amf_plan.specs.Causes.{bad_message as bad_message_cause};
 ghost use Rattle.amf_plan.specs.Did.{Stopped};
 ghost use Rattle.amf_flex_replies.specs.Says.{Says};
-ghost use Rattle.amf_plan.specs.Flex.{flex as flex_plan, message_of, asked_answer, viewed_answer};
+ghost use Rattle.amf_flex_replies.specs.KeptRequests.{request_answer, value_answer};
+ghost use Rattle.amf_plan.specs.Flex.{flex as flex_plan, message_of};
 ghost use Rattle.amf_plan.specs.Kept.{RequestFits};
 ghost use Rattle.amf_plan.specs.Replies.{no_context, error as error_plan};
 
@@ -71,8 +70,8 @@ fn answer_request<O: Outside>(
     requires fits { RequestFits request.now }
     requires light { weight graph.now.arena ≤ 1048576 }
     requires ready { O.may_call outside.old }
-    ensures says { let services : List Entry = services_by registry.now.services.entries (λ x. x.items) (λ s. knows (s.vtable, s.value)) (λ s. gives (s.vtable, s.value)) in IfOk result (λ a. Says O.handed (asked_answer services (content graph.now) (asked_content graph.now.arena request.now)) outside.old outside.new a) }
-    ensures stopped { let services : List Entry = services_by registry.now.services.entries (λ x. x.items) (λ s. knows (s.vtable, s.value)) (λ s. gives (s.vtable, s.value)) in OnErr result (Stopped O.handed (asked_answer services (content graph.now) (asked_content graph.now.arena request.now)) outside.old outside.new) }
+    ensures says { IfOk result (λ a. Says O.handed (request_answer (services_of registry.now knows gives) graph.now request.now) outside.old outside.new a) }
+    ensures stopped { OnErr result (Stopped O.handed (request_answer (services_of registry.now knows gives) graph.now request.now) outside.old outside.new) }
 {
     match request {
         Request::Remoting { common, operation } => {
@@ -100,8 +99,8 @@ fn answer_value<O: Outside>(
     requires names { Names graph.now.arena value }
     requires light { weight graph.now.arena ≤ 1048576 }
     requires ready { O.may_call outside.old }
-    ensures says { let services : List Entry = services_by registry.now.services.entries (λ x. x.items) (λ s. knows (s.vtable, s.value)) (λ s. gives (s.vtable, s.value)) in IfOk result (λ a. Says O.handed (viewed_answer services (content graph.now) (value_view (content graph.now) (value_content graph.now.arena value))) outside.old outside.new a) }
-    ensures stopped { let services : List Entry = services_by registry.now.services.entries (λ x. x.items) (λ s. knows (s.vtable, s.value)) (λ s. gives (s.vtable, s.value)) in OnErr result (Stopped O.handed (viewed_answer services (content graph.now) (value_view (content graph.now) (value_content graph.now.arena value))) outside.old outside.new) }
+    ensures says { IfOk result (λ a. Says O.handed (value_answer (services_of registry.now knows gives) graph.now value) outside.old outside.new a) }
+    ensures stopped { OnErr result (Stopped O.handed (value_answer (services_of registry.now knows gives) graph.now value) outside.old outside.new) }
 {
     graph.is_finished();
     match view_value(alloc, graph, value) {
@@ -122,8 +121,8 @@ pub fn flex<O: Outside>(
 ) -> Result<FlexAnswer, Unanswered>
     requires light { body_weight body.now ≤ 1048576 }
     requires ready { O.may_call outside.old }
-    ensures says { let services : List Entry = services_by registry.now.services.entries (λ x. x.items) (λ s. knows (s.vtable, s.value)) (λ s. gives (s.vtable, s.value)) in IfOk result (λ a. Says O.handed (flex_plan services (body_of body.now)) outside.old outside.new a) }
-    ensures stopped { let services : List Entry = services_by registry.now.services.entries (λ x. x.items) (λ s. knows (s.vtable, s.value)) (λ s. gives (s.vtable, s.value)) in OnErr result (Stopped O.handed (flex_plan services (body_of body.now)) outside.old outside.new) }
+    ensures says { IfOk result (λ a. Says O.handed (flex_plan (services_of registry.now knows gives) (body_of body.now)) outside.old outside.new a) }
+    ensures stopped { OnErr result (Stopped O.handed (flex_plan (services_of registry.now knows gives) (body_of body.now)) outside.old outside.new) }
 {
     match value_of(body) {
         Some((graph, value)) => answer_value(alloc, outside, registry, graph, value),

@@ -1,30 +1,29 @@
 //! How a RemotingMessage is answered: by a call of the service that its destination names.
 
-ghost use Rattle.std.specs.Prelude.{◌≡◌, ◌≤◌, true, false, List, [], Option, Some, None, IfOk, IfSome, OnErr};
+ghost use Rattle.std.specs.Prelude.{◌≡◌, ◌≤◌, true, false, List, Some, None, IfOk, IfSome, OnErr};
 ghost use Rattle.amf_graph.specs.Arena.{Names, value_content};
 ghost use Rattle.amf_graph.specs.Bounds.{weight};
 ghost use Rattle.amf_graph.specs.Graph.{Graph, Value as ValueContent};
 ghost use Rattle.amf_graph.specs.Isomorphic.{Isomorphic};
-ghost use Rattle.amf_graph.specs.Reached.{IsWhole};
 ghost use Rattle.amf_graph.specs.Rooted.{content};
-ghost use Rattle.flex_msgs.specs.Asked.{IsCommon, Told, told};
+ghost use Rattle.flex_msgs.specs.Asked.{IsCommon};
 ghost use Rattle.amf_service.specs.Meaning.{Called, heaviest_arguments, heaviest_result};
-ghost use Rattle.amf_service.specs.Registry.{Entry, called};
 ghost use Rattle.amf_service.specs.Shipped.{items_of};
-ghost use Rattle.amf_plan.specs.Services.{services_by};
+ghost use Rattle.amf_plan.specs.Services.{services_of};
 ghost use Rattle.amf_plan.specs.Calls.{ComesTo, AnswerFits};
 ghost use Rattle.amf_flex_replies.specs.KeptArguments.{KeepsArguments, IsArgument};
+ghost use Rattle.amf_flex_replies.specs.KeptRequests.{remoting_answer, acknowledge_root, SaysCallWith, StopsCallWith, SaysCallIf, StopsCallIf};
 ghost use Rattle.amf_plan.specs.Causes.{bad_message as bad_message_cause};
 ghost use Rattle.amf_plan.specs.Did.{Stopped};
 ghost use Rattle.amf_flex_replies.specs.Says.{Says};
 ghost use Rattle.amf_plan.specs.Kept.{context_in, ContextFits, CommonFits};
-ghost use Rattle.amf_plan.specs.Remoting.{empty_arguments, arguments as arguments_of, outcome as outcome_plan, call as call_plan, remoting as remoting_plan};
-ghost use Rattle.amf_plan.specs.Replies.{context_of, acknowledge as acknowledge_plan, error as error_plan};
+ghost use Rattle.amf_plan.specs.Remoting.{empty_arguments, arguments as arguments_of, outcome as outcome_plan};
+ghost use Rattle.amf_plan.specs.Replies.{error as error_plan};
 
 use crate::replies::{FlexAnswer, answered, error, fresh};
 use amf_graph::{Builder, Rooted, Value};
 use amf_plan::arrays::add_array;
-use amf_plan::calling::{CallAnswer, call_service};
+use amf_plan::calling::{ServiceAnswer, call_service};
 use amf_plan::causes::bad_message;
 use amf_plan::context::Context;
 use amf_plan::messages::{acknowledge_with, finished};
@@ -88,8 +87,8 @@ fn acknowledge<O: Outside>(
 ) -> Result<FlexAnswer, Memory>
     requires context { ContextFits (context_in context.now) }
     requires light { weight value.now.arena ≤ heaviest_result }
-    ensures says { IfOk result (λ a. (g : Graph) → Isomorphic g (content value.now) → Says O.handed (acknowledge_plan (context_in context.now) [] g g.root) outside.old outside.new a) }
-    ensures stopped { OnErr result ((g : Graph) → Stopped O.handed (acknowledge_plan (context_in context.now) [] g g.root) outside.old outside.new) }
+    ensures says { IfOk result (λ a. (g : Graph) → Isomorphic g (content value.now) → Says O.handed (acknowledge_root context.now g) outside.old outside.new a) }
+    ensures stopped { OnErr result ((g : Graph) → Stopped O.handed (acknowledge_root context.now g) outside.old outside.new) }
 {
     let empty = Name::of_bytes(alloc, b"")?;
     let keys = outside.keys();
@@ -103,7 +102,7 @@ fn say_called<O: Outside>(
     alloc: Global,
     outside: &mut O,
     context: &Context,
-    answer: &CallAnswer,
+    answer: &ServiceAnswer,
 ) -> Result<FlexAnswer, Memory>
     requires context { ContextFits (context_in context.now) }
     requires answer { AnswerFits answer.now }
@@ -111,8 +110,8 @@ fn say_called<O: Outside>(
     ensures stopped { OnErr result ((c : Called) → ComesTo c answer.now → Stopped O.handed (outcome_plan (context_in context.now) c) outside.old outside.new) }
 {
     match answer {
-        CallAnswer::Gave(graph) => acknowledge(alloc, outside, context, graph),
-        CallAnswer::Failed(fault) => error(alloc, outside, context, fault),
+        ServiceAnswer::Gave(graph) => acknowledge(alloc, outside, context, graph),
+        ServiceAnswer::Failed(fault) => error(alloc, outside, context, fault),
     }
 }
 
@@ -142,8 +141,8 @@ fn call_with<O: Outside>(
 ) -> Result<FlexAnswer, Memory>
     requires context { ContextFits (context_in context.now) }
     requires light { weight args.now.arena ≤ heaviest_arguments }
-    ensures says { let services : List Entry = services_by registry.now.services.entries (λ x. x.items) (λ s. knows (s.vtable, s.value)) (λ s. gives (s.vtable, s.value)) in IfOk result (λ a. (g : Graph) → IsWhole g → Isomorphic g (content args.now) → Says O.handed (outcome_plan (context_in context.now) (called services service.now operation.now g)) outside.old outside.new a) }
-    ensures stopped { let services : List Entry = services_by registry.now.services.entries (λ x. x.items) (λ s. knows (s.vtable, s.value)) (λ s. gives (s.vtable, s.value)) in OnErr result ((g : Graph) → IsWhole g → Isomorphic g (content args.now) → Stopped O.handed (outcome_plan (context_in context.now) (called services service.now operation.now g)) outside.old outside.new) }
+    ensures says { IfOk result (λ a. SaysCallWith O.handed (services_of registry.now knows gives) context.now service.now operation.now args.now outside.old outside.new a) }
+    ensures stopped { OnErr result (StopsCallWith O.handed (services_of registry.now knows gives) context.now service.now operation.now args.now outside.old outside.new) }
 {
     let answer = call_service(alloc, registry, service, operation, args)?;
     say_called(alloc, outside, context, &answer)
@@ -161,8 +160,8 @@ fn call_if<O: Outside>(
 ) -> Result<FlexAnswer, Memory>
     requires context { ContextFits (context_in context.now) }
     requires light { IfSome args.now (λ args. weight args.arena ≤ heaviest_arguments) }
-    ensures says { let services : List Entry = services_by registry.now.services.entries (λ x. x.items) (λ s. knows (s.vtable, s.value)) (λ s. gives (s.vtable, s.value)) in IfOk result (λ a. (t : Told) (o : Option Graph) → t.destination ≡ service.now → context_in context.now ≡ context_of t → KeepsArguments o args.now → Says O.handed (call_plan services t operation.now o) outside.old outside.new a) }
-    ensures stopped { let services : List Entry = services_by registry.now.services.entries (λ x. x.items) (λ s. knows (s.vtable, s.value)) (λ s. gives (s.vtable, s.value)) in OnErr result ((t : Told) (o : Option Graph) → t.destination ≡ service.now → context_in context.now ≡ context_of t → KeepsArguments o args.now → Stopped O.handed (call_plan services t operation.now o) outside.old outside.new) }
+    ensures says { IfOk result (λ a. SaysCallIf O.handed (services_of registry.now knows gives) context.now service.now operation.now args.now outside.old outside.new a) }
+    ensures stopped { OnErr result (StopsCallIf O.handed (services_of registry.now knows gives) context.now service.now operation.now args.now outside.old outside.new) }
 {
     match args {
         Some(args) => call_with(alloc, outside, registry, context, service, operation, args),
@@ -183,8 +182,8 @@ pub fn remoting<O: Outside>(
     requires common { IsCommon graph.now.arena common.now }
     requires fits { CommonFits common.now }
     requires light { weight graph.now.arena ≤ heaviest_arguments }
-    ensures says { let services : List Entry = services_by registry.now.services.entries (λ x. x.items) (λ s. knows (s.vtable, s.value)) (λ s. gives (s.vtable, s.value)) in IfOk result (λ a. Says O.handed (remoting_plan services (content graph.now) (told graph.now.arena common.now) operation.now) outside.old outside.new a) }
-    ensures stopped { let services : List Entry = services_by registry.now.services.entries (λ x. x.items) (λ s. knows (s.vtable, s.value)) (λ s. gives (s.vtable, s.value)) in OnErr result (Stopped O.handed (remoting_plan services (content graph.now) (told graph.now.arena common.now) operation.now) outside.old outside.new) }
+    ensures says { IfOk result (λ a. Says O.handed (remoting_answer (services_of registry.now knows gives) graph.now common.now operation.now) outside.old outside.new a) }
+    ensures stopped { OnErr result (Stopped O.handed (remoting_answer (services_of registry.now knows gives) graph.now common.now operation.now) outside.old outside.new) }
 {
     let context = Context::of(alloc, common)?;
     let args = arguments(alloc, graph, common.body)?;

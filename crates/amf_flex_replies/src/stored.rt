@@ -1,9 +1,8 @@
 //! Messages that are stored, read from their bytes.
 
-ghost use Rattle.std.specs.Prelude.{◌≡◌, ◌+◌, ◌≤◌, ◌↔◌, [], length, IsTrue, IfOk, IfSome, IsNone};
+ghost use Rattle.std.specs.Prelude.{◌≡◌, ◌+◌, ◌≤◌, ◌↔◌, length, IfOk, IfSome, IsNone};
 ghost use Rattle.std.specs.Option.{option_map};
 ghost use Rattle.amf_io.specs.Cursor.{source_of, place, bound, unread};
-ghost use Rattle.amf_io.specs.InMemory.{nothing_left};
 ghost use Rattle.amf_io.specs.ReadEnds.{Goes};
 ghost use Rattle.amf_wire.specs.Style.{free};
 ghost use Rattle.amf_graph.specs.Bounds.{weight};
@@ -31,7 +30,7 @@ fn read_value<S: Source>(
     cursor: &mut Cursor<'_, S>,
 ) -> Result<Rooted, ReadEnd>
     requires limit { bound cursor.old ≡ MAX_MESSAGE }
-    ensures goes { Goes S.tells S.left S.faults cursor.old cursor.new result }
+    ensures goes { Goes S.Source cursor.old cursor.new result }
     ensures answers { AnswersValue (S.tells (source_of cursor.old).now) (unread S.left cursor.old) (unread S.left cursor.new) (place cursor.old) (place cursor.new) result }
     ensures light { IfOk result (λ graph. place cursor.old + weight graph.arena ≤ place cursor.new) }
 {

@@ -16,8 +16,9 @@ ghost use Rattle.amf_flex_replies.specs.Batching.{Adds, AddsDelivery, GrewWithin
 use crate::stored::read_stored;
 use amf_broker::{Delivery, MAX_MESSAGE, SubId};
 use amf_graph::{Builder, Rooted, Value};
-use amf_plan::messages::{finished, kept};
+use amf_plan::messages::finished;
 use amf_plan::numbers::numeral;
+use amf_service::kept;
 use amf_wire::Memory;
 use flex_msgs::{Reply, delivered, invalidate, sync};
 use std::alloc::Global;

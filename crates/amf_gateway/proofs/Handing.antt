@@ -15,26 +15,25 @@ use Rattle.amf_plan.specs.declared.outside.Unanswered.{Unanswered}
 use Rattle.amf_plan.specs.declared.outside.Unanswered.TheVariants as unanswered_by
 use Rattle.amf_gateway.specs.WorkerSteps.{reason_of}
 use Rattle.amf_gateway.specs.Handed.{Given, AidGoesOn, PassGoesOn, CallsGoOn}
-use Rattle.amf_gateway.specs.HandedLaws.{given_self, pass_none}
-use Rattle.amf_plan.specs.Serving.{Taken}
+use Rattle.amf_gateway.specs.HandedLaws.{aid_none, pass_none}
+use Rattle.amf_gateway.specs.Tells.{HallMembers, LinksStay}
 use Rattle.amf_plan.specs.Small.{IsSmall}
 use Rattle.amf_gateway.proofs.SmallReplies.{last_small}
 
 given_none : (told tells : Type 0) (before now : List ℕ) → Keeps told tells before now → Given told tells before now []
 given_none told tells before now k = record { since = k.since; same = λ t. k.same (k.since t) ∙ sym (append-nil before) }
 
-module _ {A : Type 0} (tells_moments : A → Type 0) (moments : A → List ℕ) (tells_words : A → Type 0) (words : A → List ℕ) (Same : A → A → Type 0) where
-  abbrev Goes : A → A → Taken → Type 0
-  Goes = AidGoesOn tells_moments moments tells_words words Same
+module _ {A L : Type 0} (aid : HallMembers A L) where
+  pub aid_moment : (a b : A) (m : ℕ) → (aid.tells_moments b → aid.tells_moments a) → (aid.tells_moments b → aid.moments b ≡ aid.moments a ++ m ∷ []) → Keeps (aid.tells_words a) (aid.tells_words b) (aid.words a) (aid.words b) → LinksStay aid a b
+      → AidGoesOn aid a b (moment_taken m).taken
+  aid_moment a b m since gives k s = record { moments_given = record { since = since; same = gives }; words_given = given_none (aid.tells_words a) (aid.tells_words b) (aid.words a) (aid.words b) k; links = s }
 
-  pub aid_moment : (a b : A) (m : ℕ) → (tells_moments b → tells_moments a) → (tells_moments b → moments b ≡ moments a ++ m ∷ []) → Keeps (tells_words a) (tells_words b) (words a) (words b) → Same a b → Goes a b (moment_taken m).taken
-  aid_moment a b m since gives k s = record { moments_given = record { since = since; same = gives }; words_given = given_none (tells_words a) (tells_words b) (words a) (words b) k; same = s }
+  pub aid_word : (a b : A) (w : ℕ) → (aid.tells_words b → aid.tells_words a) → (aid.tells_words b → aid.words b ≡ aid.words a ++ w ∷ []) → Keeps (aid.tells_moments a) (aid.tells_moments b) (aid.moments a) (aid.moments b) → LinksStay aid a b
+      → AidGoesOn aid a b (word_taken w).taken
+  aid_word a b w since gives k s = record { words_given = record { since = since; same = gives }; moments_given = given_none (aid.tells_moments a) (aid.tells_moments b) (aid.moments a) (aid.moments b) k; links = s }
 
-  pub aid_word : (a b : A) (w : ℕ) → (tells_words b → tells_words a) → (tells_words b → words b ≡ words a ++ w ∷ []) → Keeps (tells_moments a) (tells_moments b) (moments a) (moments b) → Same a b → Goes a b (word_taken w).taken
-  aid_word a b w since gives k s = record { words_given = record { since = since; same = gives }; moments_given = given_none (tells_moments a) (tells_moments b) (moments a) (moments b) k; same = s }
-
-  pub aid_entry : (a : A) (e : Event) → Same a a → Goes a a (entry_taken e).taken
-  aid_entry a e s = record { moments_given = given_self (tells_moments a) (moments a); words_given = given_self (tells_words a) (words a); same = s }
+  pub aid_entry : (a : A) (e : Event) → AidGoesOn aid a a (entry_taken e).taken
+  aid_entry a e = let none = aid_none aid a in record { moments_given = none.moments_given; words_given = none.words_given; links = none.links }
 
 -- The pass.
 

@@ -1,7 +1,6 @@
 -- Once it is known why a link was not answered whole.
 use Rattle.std.proofs.Common.{◌≡◌, ℕ, ◌+◌, ◌-◌, ◌^◌, ◌<◌, ◌≤◌, min, Bool, true, false, Option, Some, None, List, length, refl, sym, ap, subst, arith, ◌∙◌}
 use Rattle.std.specs.Prelude.{⊤}
-use Rattle.amf_io.specs.Outside.{SameLinks}
 use Rattle.amf_broker.specs.History.{Entry as Event}
 use Rattle.amf_plan.specs.declared.outside.Unanswered.{Unanswered}
 use Rattle.amf_plan.specs.declared.outside.Unanswered.TheVariants.{Spent}
@@ -16,7 +15,8 @@ use Rattle.amf_plan.specs.Stands.{AtCall, StopsBy, Stops}
 use Rattle.amf_plan.proofs.Standing.{stands_weaker}
 use Rattle.amf_gateway.specs.ServesLink.{CountsLink, most_unanswered, ServesLink, is_starved}
 use Rattle.amf_plan.specs.Serving.{ServeEnd, ended, read_fault, write_fault, no_memory, spent, LinkBytes, Taken, supply_of, did, Serves}
-use Rattle.amf_gateway.specs.Tells.{OfLink, OfHall}
+use Rattle.amf_io.specs.declared.link.Link.{Ghosts as LinkMembers}
+use Rattle.amf_gateway.specs.Tells.{HallMembers, LinksStay}
 use Rattle.amf_gateway.specs.WorkerSteps.{unknown}
 
 serves_known : (services : List Entry) (b : LinkBytes) (k : Taken) (end : ServeEnd) → Serves services b k (unknown end) → Serves services b k end
@@ -79,12 +79,12 @@ known_counts reads reads_now writes writes_now no_memory c = c
 known_counts reads reads_now writes writes_now spent c = c
 
 -- as the aid and the pass are given back, and with the end that is told
-pub at_desk : {L A K : Type 0} (link : OfLink L) (aid : OfHall A K) (services : List Entry) (p q q' : Held) (a b b' : A) (came left : L) (k : Drawn) (before end : ServeEnd) → q' ≡ q → b' ≡ b → unknown end ≡ unknown before → (end ≡ spent → q.budget ≡ 0) → (end ≡ spent → k.unanswered ≡ true)
+pub at_desk : {L A K : Type 0} (link : LinkMembers L) (aid : HallMembers A K) (services : List Entry) (p q q' : Held) (a b b' : A) (came left : L) (k : Drawn) (before end : ServeEnd) → q' ≡ q → b' ≡ b → unknown end ≡ unknown before → (end ≡ spent → q.budget ≡ 0) → (end ≡ spent → k.unanswered ≡ true)
     → (link.tells_left came → link.tells_held left → Serves services (record { left = link.left came; leaves = link.left left; held = link.held came; now = link.held left }) k.taken before)
     → (link.tells_left came → link.tells_held left → Halts services (record { left = link.left came; leaves = link.left left; held = link.held came; now = link.held left }) k before)
     → CountsLink (link.read_faults came) (link.read_faults left) (link.write_faults came) (link.write_faults left) before
     → Given (aid.tells_moments a) (aid.tells_moments b) (aid.moments a) (aid.moments b) k.taken.moments → Given (aid.tells_words a) (aid.tells_words b) (aid.words a) (aid.words b) k.taken.words → PassGoesOn p q k.taken.entries
-    → SameLinks (aid.tells_links a) (aid.tells_links b) (aid.coming a) (aid.coming b) (aid.served a) (aid.served b) (aid.faults a) (aid.faults b)
+    → LinksStay aid a b
     → ServesLink link aid services p q' a b' (record { came = came; left = left; took = k.taken; end = end })
 at_desk {L = L} {A = A} link aid services p q q' a b b' came left k before end same_pass same_aid same none one s st c m w g l =
     let bytes : LinkBytes = record { left = link.left came; leaves = link.left left; held = link.held came; now = link.held left } in

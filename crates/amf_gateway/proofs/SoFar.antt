@@ -12,7 +12,8 @@ use Rattle.amf_gateway.specs.Handed.{Given, PassGoesOn, CountsCalls}
 use Rattle.amf_gateway.specs.Served.{moments_of, words_of, entries_of, IsWhole, IsWholeUnlessFault, AreSpent, Served}
 use Rattle.amf_gateway.specs.ServesLink.{CountsLink, Service, IsServed, ServesLink, is_starved}
 use Rattle.amf_plan.specs.Serving.{ServeEnd, ended, read_fault, write_fault, no_memory, spent}
-use Rattle.amf_gateway.specs.Tells.{OfLink, OfHall}
+use Rattle.amf_io.specs.declared.link.Link.{Ghosts as LinkMembers}
+use Rattle.amf_gateway.specs.Tells.{HallMembers}
 use Rattle.amf_gateway.specs.WorkerSteps.{ServedNext}
 use Rattle.amf_gateway.specs.HandedLaws.{pass_none, pass_both}
 
@@ -73,7 +74,7 @@ or_none false = refl
 starved_more : {L : Type 0} (ss : List (Service L)) (s : Service L) → (list_any (λ z. is_starved z.end) ss || is_starved s.end) ≡ list_any (λ z. is_starved z.end) (ss ++ s ∷ [])
 starved_more ss s = ap (λ (b : Bool). list_any (λ z. is_starved z.end) ss || b) (or_none (is_starved s.end)) ∙ sym (list_any-append (λ z. is_starved z.end) ss (s ∷ []))
 
-module _ {H L : Type 0} (hall : OfHall H L) (link : OfLink L) (services : List Entry) where
+module _ {H L : Type 0} (hall : HallMembers H L) (link : LinkMembers L) (services : List Entry) where
   -- so many links were served
   pub record SoFar (n : ℕ) (p q : Held) (a b : H) (starved : Bool) : Type 0 where
     pub links : List (Service L)

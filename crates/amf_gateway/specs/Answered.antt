@@ -1,6 +1,9 @@
 -- A device of proofs: what the messages of a packet were answered, as it is kept.
-use Rattle.std.specs.Prelude.{◌≡◌, ◌<◌, ◌≤◌, ◌^◌, ℕ, true, if◌then◌else◌, List, [], length, Option, Some, None}
+use Rattle.std.specs.Prelude.{◌≡◌, ◌<◌, ◌≤◌, ◌^◌, ℕ, true, if◌then◌else◌, List, [], length, Option, Some, None, Result, IfOk}
+use Rattle.std.specs.Option.{option_map}
 use Rattle.std.specs.List.{AllByRecursion, AllZip}
+use Rattle.std.specs.declared.vec.Vec.{Vec}
+use Rattle.std.specs.declared.alloc.Global.{Global}
 use Rattle.amf_wire.specs.Text.{IsText}
 use Rattle.amf_packet.specs.declared.packet.Message.{Message as KeptMessage}
 use Rattle.amf_packet.specs.declared.packet.Packet.{Packet as KeptPacket}
@@ -84,3 +87,14 @@ abbrev pub body_bytes : List Entry → (body : List ℕ) → Plan (Option (List 
 body_bytes services body = do
   p ← packet_in body
   if_packet services p
+
+-- Of the results of functions that may give up.
+
+abbrev pub SaysAll : {O E : Type 0} → (handed : O → O → Drawn → Type 0) → Plan (List Message) → (old new : O) → Result (Vec SpelledMessage Global) E → Type 0
+SaysAll handed p old new r = IfOk r (λ back. SaysMessages handed p old new back.items)
+
+abbrev pub SaysWhole : {O E : Type 0} → (handed : O → O → Drawn → Type 0) → Plan Packet → (old new : O) → Result (Vec ℕ Global) E → Type 0
+SaysWhole handed p old new r = IfOk r (λ bytes. SaysPacket handed p old new bytes.items)
+
+abbrev pub RanBytes : {O E : Type 0} → (handed : O → O → Drawn → Type 0) → Plan (Option (List ℕ)) → (old new : O) → Result (Option (Vec ℕ Global)) E → Type 0
+RanBytes handed p old new r = IfOk r (λ answer. Ran handed p old new (option_map (λ bytes. bytes.items) answer))

@@ -1,22 +1,25 @@
 -- What a caller of the desk was given between two of its states.
-use Rattle.std.specs.Prelude.{◌≡◌, ℕ, ◌+◌, ◌-◌, ◌^◌, ◌<◌, ◌≤◌, min, List, ◌++◌, length, Option, Some, None}
+use Rattle.std.specs.Prelude.{◌≡◌, ℕ, ◌+◌, ◌-◌, ◌^◌, ◌<◌, ◌≤◌, min, false, List, ◌++◌, length, Option, Some, None}
+use Rattle.std.specs.Borrow.{MutBor}
 use Rattle.amf_broker.specs.History.{Entry as Event}
 use Rattle.amf_desk.specs.Histories.{own, Begins}
 use Rattle.amf_desk.specs.Passes.{Held, Explains}
 use Rattle.amf_plan.specs.declared.outside.Unanswered.{Unanswered}
 use Rattle.amf_plan.specs.declared.outside.Unanswered.TheVariants.{Spent}
+use Rattle.amf_plan.specs.Did.{Drawn}
 use Rattle.amf_plan.specs.Serving.{Taken}
+use Rattle.amf_gateway.specs.Tells.{HallMembers, LinksStay}
 
 -- a meaning that grows by what was given, where it is told
 pub record Given (told tells : Type 0) (before now given : List ℕ) : Type 0 where
   pub since : tells → told
   pub same : tells → now ≡ before ++ given
 
--- Of an aid by its meanings: the moments and the words that it gave; and what it keeps.
-pub record AidGoesOn {A : Type 0} (tells_moments : A → Type 0) (moments : A → List ℕ) (tells_words : A → Type 0) (words : A → List ℕ) (Same : A → A → Type 0) (a b : A) (k : Taken) : Type 0 where
-  pub moments_given : Given (tells_moments a) (tells_moments b) (moments a) (moments b) k.moments
-  pub words_given : Given (tells_words a) (tells_words b) (words a) (words b) k.words
-  pub same : Same a b
+-- Of an aid by its meanings: the moments and the words that it gave; its links stay.
+pub record AidGoesOn {A L : Type 0} (aid : HallMembers A L) (a b : A) (k : Taken) : Type 0 where
+  pub moments_given : Given (aid.tells_moments a) (aid.tells_moments b) (aid.moments a) (aid.moments b) k.moments
+  pub words_given : Given (aid.tells_words a) (aid.tells_words b) (aid.words a) (aid.words b) k.words
+  pub links : LinksStay aid a b
 
 -- Of a pass: it is one of the same desk, with these entries of its own more.
 pub record PassGoesOn (p q : Held) (entries : List Event) : Type 0 where
@@ -45,3 +48,12 @@ pub record CallsGoOn (p q : Held) (was is : Option Unanswered) (before now answe
   pub counted : before < 2 ^ 64 → now ≡ min (before + (answered + (unanswered_in is - unanswered_in was))) (2 ^ 64 - 1)
   pub still : unanswered_in was ≤ unanswered_in is
   pub spent : (was ≡ Some Spent → p.budget ≡ 0) → is ≡ Some Spent → q.budget ≡ 0
+
+-- Of a caller by its aid, its pass, its desk, its count of calls and why one had no answer: all go on by what was handed over, at the same desk, and
+-- what it borrows is the same.
+abbrev pub CallerGoesOn : {A L K : Type 0} → HallMembers A L → (aid aid' : MutBor A) → (pass pass' : MutBor Held) → (desk desk' : K) → (calls calls' : MutBor ℕ) → (was is : Option Unanswered) → Drawn → Type 0
+CallerGoesOn hall aid aid' pass pass' desk desk' calls calls' was is k =
+    AidGoesOn hall aid.now aid'.now k.taken × PassGoesOn pass.now pass'.now k.taken.entries
+    × (desk' ≡ desk) × (pass'.ghost_name ≡ pass.ghost_name) × (aid'.ghost_name ≡ aid.ghost_name) × (calls'.ghost_name ≡ calls.ghost_name)
+    × CallsGoOn pass.now pass'.now was is calls.now calls'.now (length k.taken.entries)
+    × (k.unanswered ≡ false → is ≡ was)

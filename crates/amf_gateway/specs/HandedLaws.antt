@@ -1,13 +1,15 @@
 -- A device of proofs: where nothing happens nothing is given; and one thing is given after another.
 use Rattle.std.proofs.Common.{◌≡◌, ◌∙◌, ℕ, ◌^◌, ◌<◌, ◌||◌, Bool, true, false, Option, List, [], ◌++◌, length, refl, sym, ap, subst, arith, append_assoc, append-nil, length-append}
+use Rattle.std.specs.Borrow.{MutBor}
 use Rattle.amf_io.specs.Outside.{Keeps, SameLinks}
 use Rattle.amf_broker.specs.History.{Entry as Event}
 use Rattle.amf_desk.specs.Histories.{own, Begins}
 use Rattle.amf_desk.specs.Passes.{Held}
-use Rattle.amf_plan.specs.Did.{taken_none, taken_both}
+use Rattle.amf_plan.specs.Did.{taken_none, taken_both, Drawn, both_taken}
 use Rattle.amf_plan.specs.declared.outside.Unanswered.{Unanswered}
-use Rattle.amf_gateway.specs.Handed.{Given, AidGoesOn, PassGoesOn, CallsGoOn}
+use Rattle.amf_gateway.specs.Handed.{Given, AidGoesOn, PassGoesOn, CallsGoOn, CallerGoesOn}
 use Rattle.amf_plan.specs.Serving.{Taken}
+use Rattle.amf_gateway.specs.Tells.{HallMembers}
 
 pub given_self : (told : Type 0) (before : List ℕ) → Given told told before before []
 given_self told before = record { since = λ t. t; same = λ t. sym (append-nil before) }
@@ -21,28 +23,31 @@ keeps_self told x = record { still = λ t. t; since = λ t. t; same = λ t. refl
 keeps_then : {X : Type 0} (a b c : Type 0) (x y z : X) → Keeps a b x y → Keeps b c y z → Keeps a c x z
 keeps_then a b c x y z m n = record { still = λ t. n.still (m.still t); since = λ t. m.since (n.since t); same = λ t. n.same (m.still t) ∙ m.same t }
 
-pub links_self : {L : Type 0} (told : Type 0) (coming served : List L) (n : ℕ) → SameLinks told told coming coming served served n n
+links_self : {L : Type 0} (told : Type 0) (coming served : List L) (n : ℕ) → SameLinks told told coming coming served served n n
 links_self told coming served n = record { coming_same = keeps_self told coming; served_same = keeps_self told served; count_same = refl }
 
-pub links_then : {L : Type 0} (a b c : Type 0) (x y z u v w : List L) (l m n : ℕ) → SameLinks a b x y u v l m → SameLinks b c y z v w m n → SameLinks a c x z u w l n
+links_then : {L : Type 0} (a b c : Type 0) (x y z u v w : List L) (l m n : ℕ) → SameLinks a b x y u v l m → SameLinks b c y z v w m n → SameLinks a c x z u w l n
 links_then a b c x y z u v w l m n p q = record {
   coming_same = keeps_then a b c x y z p.coming_same q.coming_same;
   served_same = keeps_then a b c u v w p.served_same q.served_same;
   count_same = q.count_same ∙ p.count_same;
 }
 
-module _ {A : Type 0} (tells_moments : A → Type 0) (moments : A → List ℕ) (tells_words : A → Type 0) (words : A → List ℕ) (Same : A → A → Type 0) where
-  abbrev Goes : A → A → Taken → Type 0
-  Goes = AidGoesOn tells_moments moments tells_words words Same
+module _ {A L : Type 0} (aid : HallMembers A L) where
+  pub aid_none : (a : A) → AidGoesOn aid a a taken_none
+  aid_none a = record {
+    moments_given = given_self (aid.tells_moments a) (aid.moments a);
+    words_given = given_self (aid.tells_words a) (aid.words a);
+    links = links_self (aid.tells_links a) (aid.coming a) (aid.served a) (aid.faults a);
+  }
 
-  pub aid_none : (a : A) → Same a a → Goes a a taken_none
-  aid_none a s = record { moments_given = given_self (tells_moments a) (moments a); words_given = given_self (tells_words a) (words a); same = s }
-
-  pub aid_both : (a b c : A) (k l : Taken) → (Same a b → Same b c → Same a c) → Goes a b k → Goes b c l → Goes a c (taken_both k l)
-  aid_both a b c k l trans p q = record {
-    moments_given = given_then (tells_moments a) (tells_moments b) (tells_moments c) (moments a) (moments b) (moments c) k.moments l.moments p.moments_given q.moments_given;
-    words_given = given_then (tells_words a) (tells_words b) (tells_words c) (words a) (words b) (words c) k.words l.words p.words_given q.words_given;
-    same = trans p.same q.same;
+  pub aid_both : (a b c : A) (k l : Taken) → AidGoesOn aid a b k → AidGoesOn aid b c l → AidGoesOn aid a c (taken_both k l)
+  aid_both a b c k l p q = record {
+    moments_given = given_then (aid.tells_moments a) (aid.tells_moments b) (aid.tells_moments c) (aid.moments a) (aid.moments b) (aid.moments c) k.moments l.moments p.moments_given q.moments_given;
+    words_given = given_then (aid.tells_words a) (aid.tells_words b) (aid.tells_words c) (aid.words a) (aid.words b) (aid.words c) k.words l.words p.words_given q.words_given;
+    links =
+        links_then (aid.tells_links a) (aid.tells_links b) (aid.tells_links c) (aid.coming a) (aid.coming b) (aid.coming c) (aid.served a) (aid.served b) (aid.served c)
+        (aid.faults a) (aid.faults b) (aid.faults c) p.links q.links;
   }
 
 -- The pass.
@@ -99,3 +104,17 @@ calls_both p q r u v w a b c es fs m n = record {
   still = omega (arith, m.still, n.still);
   spent = λ e. n.spent (m.spent e);
 }
+
+-- The caller.
+
+pub caller_both : {A L K : Type 0} {x y z : K} (hall : HallMembers A L) (a b c : MutBor A) (p q r : MutBor Held) (l m n : MutBor ℕ) (u v w : Option Unanswered) (j k : Drawn) → CallerGoesOn hall a b p q x y l m u v j → CallerGoesOn hall b c q r y z m n v w k → CallerGoesOn hall a c p r x z l n u w (both_taken j k)
+caller_both hall a b c p q r l m n u v w j k e f = (
+  aid_both hall a.now b.now c.now j.taken k.taken e.0 f.0,
+  pass_both p.now q.now r.now j.taken.entries k.taken.entries e.1 f.1,
+  f.2 ∙ e.2,
+  f.3 ∙ e.3,
+  f.4 ∙ e.4,
+  f.5 ∙ e.5,
+  calls_both p.now q.now r.now u v w l.now m.now n.now j.taken.entries k.taken.entries e.6 f.6,
+  unanswered_both j.unanswered k.unanswered u v w e.7 f.7,
+)

@@ -1,6 +1,7 @@
 -- A device of proofs: what the steps of answering a link come to, by their results.
 use Rattle.std.specs.Prelude.{◌≡◌, ℕ, ◌≤◌, Bool, true, false, if◌then◌else◌, IsTrue, List, [], ◌++◌, Some, None, Result, Ok, Err, ⊤}
 use Rattle.amf_io.specs.Outside.{Rose}
+use Rattle.amf_io.specs.declared.link.Link.{Ghosts as LinkMembers}
 use Rattle.amf_http.specs.declared.ends.AnswerEnd.{AnswerEnd}
 use Rattle.amf_http.specs.declared.ends.AnswerEnd.TheVariants as unwritten_by
 use Rattle.amf_http.specs.Request.{IsOpen}
@@ -127,3 +128,15 @@ CountsReads reads reads_now (Err ReadFault) = (reads ≤ reads_now) × Rose read
 CountsReads reads reads_now (Err WriteFault) = ⊥
 CountsReads reads reads_now (Err _) = reads_now ≡ reads
 CountsReads reads reads_now (Ok answer) = reads_now ≡ reads
+
+-- The same on a link, as it came and as it was left, by what it tells, with the bytes that are kept of it before and after.
+
+abbrev pub ComesOn : {O L : Type 0} → LinkMembers L → (handed : O → O → Drawn → Type 0) → List Entry → (last : Bool) → (old new : O) → (kept keeps : List ℕ) → (a b : L) → Result Answer Ending → Type 0
+ComesOn m handed services last old new kept keeps a b r = Comes handed services last old new (m.tells_left a) (kept ++ m.left a) (keeps ++ m.left b) (m.left b) r
+
+abbrev pub StepsOn : {O L : Type 0} → LinkMembers L → (handed : O → O → Drawn → Type 0) → List Entry → (last : Bool) → (old new : O) → (kept keeps : List ℕ) → (a b : L) → Result (Unit {0}) Ending → Type 0
+StepsOn m handed services last old new kept keeps a b r =
+    Steps handed services last old new (m.tells_left a) (m.tells_held b) (record { left = kept ++ m.left a; leaves = m.left b; held = m.held a; now = m.held b }) (keeps ++ m.left b) r
+
+abbrev pub ServedOn : {O L : Type 0} → LinkMembers L → (handed : O → O → Drawn → Type 0) → List Entry → (old new : O) → (a b : L) → Ending → Type 0
+ServedOn m handed services old new a b end = ServedLink handed services old new (m.tells_left a) (m.tells_held b) (record { left = m.left a; leaves = m.left b; held = m.held a; now = m.held b }) end

@@ -1,6 +1,6 @@
 -- What serving a link did: between the link as it came and as it was left, by what its aid gave and by the new entries of the pass.
 use Rattle.std.specs.Prelude.{◌≡◌, ℕ, ◌≤◌, Bool, true, false, List}
-use Rattle.amf_io.specs.Outside.{Rose, SameLinks}
+use Rattle.amf_io.specs.Outside.{Rose}
 use Rattle.amf_desk.specs.Passes.{Held}
 use Rattle.amf_service.specs.Registry.{Entry}
 use Rattle.amf_gateway.specs.declared.links.LinkEnd.{LinkEnd as Ending}
@@ -9,7 +9,8 @@ use Rattle.amf_gateway.specs.Handed.{Given, PassGoesOn}
 use Rattle.amf_plan.specs.Links.{closed, refused, truncated}
 use Rattle.amf_plan.specs.Stands.{Stops}
 use Rattle.amf_plan.specs.Serving.{ServeEnd, ended, read_fault, write_fault, no_memory, spent, LinkBytes, Taken, Serves}
-use Rattle.amf_gateway.specs.Tells.{OfLink, OfHall}
+use Rattle.amf_io.specs.declared.link.Link.{Ghosts as LinkMembers}
+use Rattle.amf_gateway.specs.Tells.{HallMembers, LinksStay}
 
 -- how a link ended
 abbrev pub end_of : Ending → ServeEnd
@@ -46,20 +47,24 @@ pub record Service (L : Type 0) : Type 0 where
   pub end : ServeEnd
 
 -- the bytes of the link, as it tells them
-abbrev pub bytes_of : {L : Type 0} → OfLink L → Service L → LinkBytes
+abbrev pub bytes_of : {L : Type 0} → LinkMembers L → Service L → LinkBytes
 bytes_of m s = record { left = m.left s.came; leaves = m.left s.left; held = m.held s.came; now = m.held s.left }
 
 -- it was served by what was taken, and stopped at once where it failed, if it tells what it had left and what it holds; and its faults are counted
-pub record IsServed {L : Type 0} (m : OfLink L) (services : List Entry) (s : Service L) : Type 0 where
+pub record IsServed {L : Type 0} (m : LinkMembers L) (services : List Entry) (s : Service L) : Type 0 where
   pub serves : m.tells_left s.came → m.tells_held s.left → Serves services (bytes_of m s) s.took s.end
   pub stops : m.tells_left s.came → m.tells_held s.left → Stops services (bytes_of m s) s.took s.end
   pub counts : CountsLink (m.read_faults s.came) (m.read_faults s.left) (m.write_faults s.came) (m.write_faults s.left) s.end
 
 -- What was taken is what the aid gave, where it tells, and the pass's new entries. Where the link ended for want of calls, none are left.
-pub record ServesLink {L A K : Type 0} (link : OfLink L) (aid : OfHall A K) (services : List Entry) (p q : Held) (a b : A) (s : Service L) : Type 0 where
+pub record ServesLink {L A K : Type 0} (link : LinkMembers L) (aid : HallMembers A K) (services : List Entry) (p q : Held) (a b : A) (s : Service L) : Type 0 where
   pub is_served : IsServed link services s
   pub moments : Given (aid.tells_moments a) (aid.tells_moments b) (aid.moments a) (aid.moments b) s.took.moments
   pub words : Given (aid.tells_words a) (aid.tells_words b) (aid.words a) (aid.words b) s.took.words
   pub pass : PassGoesOn p q s.took.entries
   pub budget : s.end ≡ spent → q.budget ≡ 0
-  pub links : SameLinks (aid.tells_links a) (aid.tells_links b) (aid.coming a) (aid.coming b) (aid.served a) (aid.served b) (aid.faults a) (aid.faults b)
+  pub links : LinksStay aid a b
+
+-- so by some of what was taken, between the link before and after
+abbrev pub WasServed : {L A K : Type 0} → LinkMembers L → HallMembers A K → List Entry → (p q : Held) → (a b : A) → (came left : L) → ServeEnd → Type 0
+WasServed link aid services p q a b came left end = (k : Taken) × ServesLink link aid services p q a b (record { came = came; left = left; took = k; end = end })

@@ -1,14 +1,12 @@
 //! How the body of a request is answered: by the bytes of a packet, where it is one.
 
-ghost use Rattle.std.specs.Prelude.{◌≤◌, List, length, Some, IfOk, OnErr};
-ghost use Rattle.std.specs.Option.{option_map};
+ghost use Rattle.std.specs.Prelude.{◌≤◌, length, Some, OnErr};
 ghost use Rattle.amf_packet.specs.Content.{packet_of};
-ghost use Rattle.amf_service.specs.Registry.{Entry};
-ghost use Rattle.amf_gateway.specs.Answered.{IsReadable, if_packet, body_bytes, most_body};
-ghost use Rattle.amf_plan.specs.Services.{services_by};
-ghost use Rattle.amf_plan.specs.Did.{Ran, Stopped};
+ghost use Rattle.amf_gateway.specs.Answered.{IsReadable, if_packet, body_bytes, most_body, RanBytes};
+ghost use Rattle.amf_plan.specs.Services.{services_of};
+ghost use Rattle.amf_plan.specs.Did.{Stopped};
 
-use crate::packets::{answers_to, has_long_uri};
+use crate::packets::{answer_packet, has_long_uri};
 use amf_packet::{Packet, packet_in};
 use amf_plan::outside::{Outside, Unanswered};
 use amf_service::Registry;
@@ -23,14 +21,14 @@ fn answer_read<O: Outside>(
 ) -> Result<Option<Vec<u8>>, Unanswered>
     requires packet { IsReadable packet.now }
     requires ready { O.may_call outside.old }
-    ensures ran { let services : List Entry = services_by registry.now.services.entries (λ x. x.items) (λ s. knows (s.vtable, s.value)) (λ s. gives (s.vtable, s.value)) in IfOk result (λ answer. Ran O.handed (if_packet services (Some (packet_of packet.now))) outside.old outside.new (option_map (λ bytes. bytes.items) answer)) }
-    ensures stopped { let services : List Entry = services_by registry.now.services.entries (λ x. x.items) (λ s. knows (s.vtable, s.value)) (λ s. gives (s.vtable, s.value)) in OnErr result (Stopped O.handed (if_packet services (Some (packet_of packet.now))) outside.old outside.new) }
+    ensures ran { RanBytes O.handed (if_packet (services_of registry.now knows gives) (Some (packet_of packet.now))) outside.old outside.new result }
+    ensures stopped { OnErr result (Stopped O.handed (if_packet (services_of registry.now knows gives) (Some (packet_of packet.now))) outside.old outside.new) }
 {
     let is_long = has_long_uri(packet);
     if is_long {
         return Ok(None);
     }
-    let bytes = answers_to(alloc, outside, registry, packet)?;
+    let bytes = answer_packet(alloc, outside, registry, packet)?;
     Ok(Some(bytes))
 }
 
@@ -44,8 +42,8 @@ pub(crate) fn answer_body<O: Outside>(
 ) -> Result<Option<Vec<u8>>, Unanswered>
     requires short { length body.now ≤ most_body }
     requires ready { O.may_call outside.old }
-    ensures ran { let services : List Entry = services_by registry.now.services.entries (λ x. x.items) (λ s. knows (s.vtable, s.value)) (λ s. gives (s.vtable, s.value)) in IfOk result (λ answer. Ran O.handed (body_bytes services body.now) outside.old outside.new (option_map (λ bytes. bytes.items) answer)) }
-    ensures stopped { let services : List Entry = services_by registry.now.services.entries (λ x. x.items) (λ s. knows (s.vtable, s.value)) (λ s. gives (s.vtable, s.value)) in OnErr result (Stopped O.handed (body_bytes services body.now) outside.old outside.new) }
+    ensures ran { RanBytes O.handed (body_bytes (services_of registry.now knows gives) body.now) outside.old outside.new result }
+    ensures stopped { OnErr result (Stopped O.handed (body_bytes (services_of registry.now knows gives) body.now) outside.old outside.new) }
 {
     let keys = outside.keys();
     let packet = packet_in(alloc, keys, body)?;

@@ -1,13 +1,12 @@
 //! How the requests of a link are answered, one after the other.
 
-ghost use Rattle.std.specs.Prelude.{◌≡◌, ◌≤◌, ◌++◌, length, ◌==◌, ◌||◌, [], List, IfOk};
+ghost use Rattle.std.specs.Prelude.{◌≡◌, ◌≤◌, length, ◌==◌, ◌||◌, [], IfOk};
 ghost use Rattle.amf_io.specs.Outside.{Keeps};
 ghost use Rattle.amf_http.specs.Response.{Writes, CountsWrites};
-ghost use Rattle.amf_service.specs.Registry.{Entry};
-ghost use Rattle.amf_plan.specs.Services.{services_by};
+ghost use Rattle.amf_plan.specs.Services.{services_of};
 ghost use Rattle.amf_gateway.specs.Answered.{most_body};
 ghost use Rattle.amf_gateway.specs.ServesLink.{end_of, CountsLink, is_starved};
-ghost use Rattle.amf_gateway.specs.LinkSteps.{ServedLink, AnswersRequest, Comes, IsAnswer, written_as, ends_with, Steps, CountsStep, CountsReads};
+ghost use Rattle.amf_gateway.specs.LinkSteps.{ServedOn, AnswersRequest, ComesOn, IsAnswer, written_as, ends_with, StepsOn, CountsStep, CountsReads};
 
 use crate::bodies::answer_body;
 use amf_http::{AnswerEnd, HttpBuffer, HttpEnd, HttpRequest, next_request, write_response};
@@ -117,7 +116,7 @@ fn answer_request<O: Outside>(
 ) -> Result<Answer, LinkEnd>
     requires short { length request.now.body ≤ most_body }
     requires ready { O.may_call outside.old }
-    ensures { let services : List Entry = services_by registry.now.services.entries (λ x. x.items) (λ s. knows (s.vtable, s.value)) (λ s. gives (s.vtable, s.value)) in AnswersRequest O.handed services request.now.body (request.now.close || last) outside.old outside.new result }
+    ensures { AnswersRequest O.handed (services_of registry.now knows gives) request.now.body (request.now.close || last) outside.old outside.new result }
 {
     let close = closes(request, last);
     match answer_body(alloc, outside, registry, request.body.as_slice()) {
@@ -129,7 +128,7 @@ fn answer_request<O: Outside>(
 }
 
 /// Reads the next request of a link, and gives what it is answered with. The last request is answered with close.
-fn next_answer<O: Outside, L: Link>(
+fn prepare_answer<O: Outside, L: Link>(
     alloc: Global,
     outside: &mut O,
     registry: &Registry,
@@ -139,7 +138,7 @@ fn next_answer<O: Outside, L: Link>(
 ) -> Result<Answer, LinkEnd>
     requires { O.may_call outside.old }
     ensures tells { L.tells_left link.old → L.tells_left link.new }
-    ensures comes { let services : List Entry = services_by registry.now.services.entries (λ x. x.items) (λ s. knows (s.vtable, s.value)) (λ s. gives (s.vtable, s.value)) in Comes O.handed services last outside.old outside.new (L.tells_left link.old) (buffer.old ++ L.left link.old) (buffer.new ++ L.left link.new) (L.left link.new) result }
+    ensures comes { ComesOn L.Link O.handed (services_of registry.now knows gives) last outside.old outside.new buffer.old buffer.new link.old link.new result }
     ensures status { IfOk result (λ answer. IsAnswer answer) }
     ensures cause { CountsReads (L.read_faults link.old) (L.read_faults link.new) result }
     ensures other_side { Keeps (L.tells_held link.old) (L.tells_held link.new) (L.held link.old) (L.held link.new) }
@@ -167,10 +166,10 @@ fn answer_next<O: Outside, L: Link>(
     requires { O.may_call outside.old }
     ensures tells_left { L.tells_left link.old → L.tells_left link.new }
     ensures tells_held { L.tells_held link.new → L.tells_held link.old }
-    ensures steps { let services : List Entry = services_by registry.now.services.entries (λ x. x.items) (λ s. knows (s.vtable, s.value)) (λ s. gives (s.vtable, s.value)) in Steps O.handed services last outside.old outside.new (L.tells_left link.old) (L.tells_held link.new) (record { left = buffer.old ++ L.left link.old; leaves = L.left link.new; held = L.held link.old; now = L.held link.new }) (buffer.new ++ L.left link.new) result }
+    ensures steps { StepsOn L.Link O.handed (services_of registry.now knows gives) last outside.old outside.new buffer.old buffer.new link.old link.new result }
     ensures cause { CountsStep (L.read_faults link.old) (L.read_faults link.new) (L.write_faults link.old) (L.write_faults link.new) result }
 {
-    let answer = next_answer(alloc, outside, registry, link, buffer, last)?;
+    let answer = prepare_answer(alloc, outside, registry, link, buffer, last)?;
     answer.write(alloc, link)?;
     answer.end()
 }
@@ -187,7 +186,7 @@ fn answer_requests<O: Outside, L: Link>(
     requires empty { buffer.old ≡ [] }
     ensures tells_left { L.tells_left link.old → L.tells_left link.new }
     ensures tells_held { L.tells_held link.new → L.tells_held link.old }
-    ensures served { let services : List Entry = services_by registry.now.services.entries (λ x. x.items) (λ s. knows (s.vtable, s.value)) (λ s. gives (s.vtable, s.value)) in ServedLink O.handed services outside.old outside.new (L.tells_left link.old) (L.tells_held link.new) (record { left = L.left link.old; leaves = L.left link.new; held = L.held link.old; now = L.held link.new }) result }
+    ensures served { ServedOn L.Link O.handed (services_of registry.now knows gives) outside.old outside.new link.old link.new result }
     ensures cause { CountsLink (L.read_faults link.old) (L.read_faults link.new) (L.write_faults link.old) (L.write_faults link.new) (end_of result) }
 {
     let mut more = MOST_REQUESTS;
@@ -212,7 +211,7 @@ pub(crate) fn answer_link<O: Outside, L: Link>(
     requires { O.may_call outside.old }
     ensures tells_left { L.tells_left link.old → L.tells_left link.new }
     ensures tells_held { L.tells_held link.new → L.tells_held link.old }
-    ensures served { let services : List Entry = services_by registry.now.services.entries (λ x. x.items) (λ s. knows (s.vtable, s.value)) (λ s. gives (s.vtable, s.value)) in ServedLink O.handed services outside.old outside.new (L.tells_left link.old) (L.tells_held link.new) (record { left = L.left link.old; leaves = L.left link.new; held = L.held link.old; now = L.held link.new }) result }
+    ensures served { ServedOn L.Link O.handed (services_of registry.now knows gives) outside.old outside.new link.old link.new result }
     ensures cause { CountsLink (L.read_faults link.old) (L.read_faults link.new) (L.write_faults link.old) (L.write_faults link.new) (end_of result) }
 {
     match HttpBuffer::new(alloc) {

@@ -1,18 +1,18 @@
 //! How a packet is answered: message by message, in order.
 
-ghost use Rattle.std.specs.Prelude.{◌≡◌, ◌≤◌, ◌++◌, List, length, map, bytes_eq, IfOk, OnErr};
+ghost use Rattle.std.specs.Prelude.{◌≡◌, ◌≤◌, ◌++◌, length, map, bytes_eq, IfOk, OnErr};
 ghost use Rattle.std.specs.List.{AllByRecursion};
 ghost use Rattle.amf_packet.specs.Content.{body_of, message_of, packet_of};
 ghost use Rattle.amf_packet.specs.PacketAnswer.{body_weight};
 ghost use Rattle.amf_packet.specs.SpelledBodies.{HasFitUris};
-ghost use Rattle.amf_service.specs.Registry.{Entry};
-ghost use Rattle.amf_gateway.specs.Answered.{SaysMessage, SaysMessages, SaysPacket, IsAnswerable, HasRoom, most_body};
-ghost use Rattle.amf_plan.specs.Services.{services_by};
+ghost use Rattle.amf_gateway.specs.Answered.{SaysMessage, IsAnswerable, HasRoom, most_body, SaysAll, SaysWhole};
+ghost use Rattle.amf_plan.specs.Services.{services_of};
 ghost use Rattle.amf_plain_calls.specs.TellsMessage.{TellsMessage};
 ghost use Rattle.amf_plan.specs.Did.{Stopped};
 ghost use Rattle.amf_plan.specs.Flex.{flex as flex_plan};
 ghost use Rattle.amf_plan.specs.PlainCalls.{at_last_dot, plain_call as plain_plan};
-ghost use Rattle.amf_plan.specs.Packets.{answer_to as answer_plan, answers_to as answers_plan, messages_back as messages_plan, suffix as suffix_of, null_uri, is_long as is_long_content, has_long as has_long_content};
+ghost use Rattle.amf_plan.specs.Packets.{answer_to as answer_plan, answers_to as answers_plan, messages_back as back_plan};
+ghost use Rattle.amf_plan.specs.Packets.{suffix as suffix_of, null_uri, is_long as is_long_content, has_long as has_long_content};
 
 use amf_flex_replies::flex::flex;
 use amf_packet::{Body, Message, Packet, SpelledMessage, spelled_packet};
@@ -42,8 +42,8 @@ fn answer_flex<O: Outside>(
 ) -> Result<MessageAnswer, Unanswered>
     requires light { body_weight body.now ≤ most_body }
     requires ready { O.may_call outside.old }
-    ensures says { let services : List Entry = services_by registry.now.services.entries (λ x. x.items) (λ s. knows (s.vtable, s.value)) (λ s. gives (s.vtable, s.value)) in IfOk result (λ x. SaysMessage O.handed (flex_plan services (body_of body.now)) outside.old outside.new x) }
-    ensures stopped { let services : List Entry = services_by registry.now.services.entries (λ x. x.items) (λ s. knows (s.vtable, s.value)) (λ s. gives (s.vtable, s.value)) in OnErr result (Stopped O.handed (flex_plan services (body_of body.now)) outside.old outside.new) }
+    ensures says { IfOk result (SaysMessage O.handed (flex_plan (services_of registry.now knows gives) (body_of body.now)) outside.old outside.new) }
+    ensures stopped { OnErr result (Stopped O.handed (flex_plan (services_of registry.now knows gives) (body_of body.now)) outside.old outside.new) }
 {
     let answer = flex(alloc, outside, registry, body)?;
     Ok(MessageAnswer {
@@ -60,13 +60,13 @@ fn answer_call(
     message: &Message,
 ) -> Result<MessageAnswer, Unanswered>
     requires { body_weight message.now.body ≤ most_body }
-    ensures { let services : List Entry = services_by registry.now.services.entries (λ x. x.items) (λ s. knows (s.vtable, s.value)) (λ s. gives (s.vtable, s.value)) in IfOk result (λ x. TellsMessage (plain_plan services (body_of message.now.body) (at_last_dot message.now.target)) x) }
+    ensures { IfOk result (TellsMessage (plain_plan (services_of registry.now knows gives) (body_of message.now.body) (at_last_dot message.now.target))) }
 {
     Ok(plain_call(alloc, keys, registry, &message.target, &message.body)?)
 }
 
 /// Answers a message: a Flex request where its target is `null`, and else a call that the target names.
-fn answer_to<O: Outside>(
+fn answer_message<O: Outside>(
     alloc: Global,
     outside: &mut O,
     registry: &Registry,
@@ -74,8 +74,8 @@ fn answer_to<O: Outside>(
 ) -> Result<MessageAnswer, Unanswered>
     requires light { body_weight message.now.body ≤ most_body }
     requires ready { O.may_call outside.old }
-    ensures says { let services : List Entry = services_by registry.now.services.entries (λ x. x.items) (λ s. knows (s.vtable, s.value)) (λ s. gives (s.vtable, s.value)) in IfOk result (λ x. SaysMessage O.handed (answer_plan services (message_of message.now)) outside.old outside.new x) }
-    ensures stopped { let services : List Entry = services_by registry.now.services.entries (λ x. x.items) (λ s. knows (s.vtable, s.value)) (λ s. gives (s.vtable, s.value)) in OnErr result (Stopped O.handed (answer_plan services (message_of message.now)) outside.old outside.new) }
+    ensures says { IfOk result (SaysMessage O.handed (answer_plan (services_of registry.now knows gives) (message_of message.now)) outside.old outside.new) }
+    ensures stopped { OnErr result (Stopped O.handed (answer_plan (services_of registry.now knows gives) (message_of message.now)) outside.old outside.new) }
 {
     let is_request = is_flex(&message.target);
     if is_request {
@@ -128,14 +128,14 @@ fn messages_back<O: Outside>(
     requires light { AllByRecursion (λ m. body_weight m.body ≤ most_body) messages.now }
     requires uris { AllByRecursion HasRoom messages.now }
     requires ready { O.may_call outside.old }
-    ensures says { let services : List Entry = services_by registry.now.services.entries (λ x. x.items) (λ s. knows (s.vtable, s.value)) (λ s. gives (s.vtable, s.value)) in IfOk result (λ back. SaysMessages O.handed (messages_plan services (map message_of messages.now)) outside.old outside.new back.items) }
+    ensures says { SaysAll O.handed (back_plan (services_of registry.now knows gives) (map message_of messages.now)) outside.old outside.new result }
     ensures uris { IfOk result (λ back. AllByRecursion HasFitUris back.items) }
     ensures count { IfOk result (λ back. length back.items ≡ length messages.now) }
-    ensures stopped { let services : List Entry = services_by registry.now.services.entries (λ x. x.items) (λ s. knows (s.vtable, s.value)) (λ s. gives (s.vtable, s.value)) in OnErr result (Stopped O.handed (messages_plan services (map message_of messages.now)) outside.old outside.new) }
+    ensures stopped { OnErr result (Stopped O.handed (back_plan (services_of registry.now knows gives) (map message_of messages.now)) outside.old outside.new) }
 {
     let mut back = Vec::new(alloc);
     for message in messages {
-        let answer = answer_to(alloc, outside, registry, message)?;
+        let answer = answer_message(alloc, outside, registry, message)?;
         let made = message_back(alloc, &message.response, answer)?;
         back.push(made)?;
     }
@@ -143,7 +143,7 @@ fn messages_back<O: Outside>(
 }
 
 /// The bytes of the packet that answers one: it has the same version, and no headers.
-pub(crate) fn answers_to<O: Outside>(
+pub(crate) fn answer_packet<O: Outside>(
     alloc: Global,
     outside: &mut O,
     registry: &Registry,
@@ -151,8 +151,8 @@ pub(crate) fn answers_to<O: Outside>(
 ) -> Result<Vec<u8>, Unanswered>
     requires packet { IsAnswerable packet.now }
     requires ready { O.may_call outside.old }
-    ensures says { let services : List Entry = services_by registry.now.services.entries (λ x. x.items) (λ s. knows (s.vtable, s.value)) (λ s. gives (s.vtable, s.value)) in IfOk result (λ bytes. SaysPacket O.handed (answers_plan services (packet_of packet.now)) outside.old outside.new bytes.items) }
-    ensures stopped { let services : List Entry = services_by registry.now.services.entries (λ x. x.items) (λ s. knows (s.vtable, s.value)) (λ s. gives (s.vtable, s.value)) in OnErr result (Stopped O.handed (answers_plan services (packet_of packet.now)) outside.old outside.new) }
+    ensures says { SaysWhole O.handed (answers_plan (services_of registry.now knows gives) (packet_of packet.now)) outside.old outside.new result }
+    ensures stopped { OnErr result (Stopped O.handed (answers_plan (services_of registry.now knows gives) (packet_of packet.now)) outside.old outside.new) }
 {
     let back = messages_back(alloc, outside, registry, packet.messages.as_slice())?;
     let bytes = spelled_packet(alloc, packet.version, &back)?;

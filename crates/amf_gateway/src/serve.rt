@@ -1,14 +1,14 @@
 //! How a link is served at a desk.
 
-ghost use Rattle.std.specs.Prelude.{◌≡◌, ◌+◌, ◌-◌, ◌^◌, min, List, Some};
-ghost use Rattle.amf_service.specs.Registry.{Entry};
-ghost use Rattle.amf_plan.specs.Services.{services_by};
+ghost use Rattle.std.specs.Prelude.{◌≡◌, ◌+◌, ◌-◌, ◌^◌, min, Some};
+ghost use Rattle.amf_plan.specs.Services.{services_of};
 ghost use Rattle.amf_gateway.specs.Handed.{CountsCalls};
-ghost use Rattle.amf_gateway.specs.ServesLink.{end_of, most_unanswered, ServesLink};
+ghost use Rattle.amf_gateway.specs.ServesLink.{end_of, most_unanswered, WasServed};
 ghost use Rattle.amf_plan.specs.declared.outside.Unanswered.TheVariants.{Spent};
-ghost use Rattle.amf_plan.specs.Serving.{Taken, spent};
+ghost use Rattle.amf_plan.specs.Serving.{spent};
 ghost use Rattle.amf_gateway.specs.WorkerSteps.{unknown};
 
+use crate::at_hand::AtHand;
 use crate::caller::Caller;
 use crate::links::{LinkEnd, answer_link};
 use amf_desk::{Desk, Pass};
@@ -16,7 +16,6 @@ use amf_io::{Gate, Hall, Link};
 use amf_plan::outside::Unanswered;
 use amf_service::Registry;
 use std::alloc::Global;
-use std::hash::RandomState;
 use std::sync::Wait;
 
 /// Serves a link: its requests are answered one after the other, at most 1,000, each before the next is read. Each call of the
@@ -43,32 +42,33 @@ pub fn serve_link<R: Wait, L: Link, A: Hall, G: Gate>(
     calls: &mut u64,
 ) -> LinkEnd
     requires { pass.old.desk ≡ desk.now }
-    ensures served { let services : List Entry = services_by registry.now.services.entries (λ x. x.items) (λ s. knows (s.vtable, s.value)) (λ s. gives (s.vtable, s.value)) in (k : Taken) × ServesLink (record { tells_left = L.tells_left; left = L.left; tells_held = L.tells_held; held = L.held; read_faults = L.read_faults; write_faults = L.write_faults }) (record { tells_links = A.tells_links; coming = A.coming; served = A.served; faults = A.faults; tells_moments = A.tells_moments; moments = A.moments; tells_words = A.tells_words; words = A.words }) services pass.old pass.new aid.old aid.new (record { came = link.old; left = link.new; took = k; end = end_of result }) }
+    ensures served { WasServed L.Link A.Hall (services_of registry.now knows gives) pass.old pass.new aid.old aid.new link.old link.new (end_of result) }
     ensures calls { CountsCalls (most_unanswered (end_of result)) calls.old calls.new (pass.old.budget - pass.new.budget) }
     ensures asked { end_of result ≡ spent → calls.new ≡ min (calls.old + (pass.old.budget + 1)) (2 ^ 64 - 1) }
 {
-    serve_link_keyed(
-        rt, alloc, None, link, registry, desk, pass, aid, gate, worker, calls,
-    )
+    let at = AtHand {
+        rt,
+        alloc,
+        keys: None,
+        registry,
+        desk,
+        gate,
+        worker,
+    };
+    serve_link_keyed(&at, link, pass, aid, calls)
 }
 
-/// Does what `serve_link` does, with readers and writers that look texts up by these keys, or by fixed ones where there are none. What is
-/// answered is the same for all keys.
+/// Does what `serve_link` does, with what the worker has at hand: readers and writers look texts up by its keys, or by fixed ones where there
+/// are none. What is answered is the same for all keys.
 pub fn serve_link_keyed<R: Wait, L: Link, A: Hall, G: Gate>(
-    rt: &R,
-    alloc: Global,
-    keys: Option<RandomState>,
+    at: &AtHand<'_, R, G>,
     link: &mut L,
-    registry: &Registry,
-    desk: &Desk,
     pass: &mut Pass,
     aid: &mut A,
-    gate: &G,
-    worker: u32,
     calls: &mut u64,
 ) -> LinkEnd
-    requires { pass.old.desk ≡ desk.now }
-    ensures served { let services : List Entry = services_by registry.now.services.entries (λ x. x.items) (λ s. knows (s.vtable, s.value)) (λ s. gives (s.vtable, s.value)) in (k : Taken) × ServesLink (record { tells_left = L.tells_left; left = L.left; tells_held = L.tells_held; held = L.held; read_faults = L.read_faults; write_faults = L.write_faults }) (record { tells_links = A.tells_links; coming = A.coming; served = A.served; faults = A.faults; tells_moments = A.tells_moments; moments = A.moments; tells_words = A.tells_words; words = A.words }) services pass.old pass.new aid.old aid.new (record { came = link.old; left = link.new; took = k; end = end_of result }) }
+    requires { pass.old.desk ≡ at.now.desk.now }
+    ensures served { WasServed L.Link A.Hall (services_of at.now.registry.now knows gives) pass.old pass.new aid.old aid.new link.old link.new (end_of result) }
     ensures calls { CountsCalls (most_unanswered (end_of result)) calls.old calls.new (pass.old.budget - pass.new.budget) }
     ensures asked { end_of result ≡ spent → calls.new ≡ min (calls.old + (pass.old.budget + 1)) (2 ^ 64 - 1) }
 {
@@ -77,20 +77,15 @@ pub fn serve_link_keyed<R: Wait, L: Link, A: Hall, G: Gate>(
         pass,
         aid,
         calls,
-        rt,
-        alloc,
-        keys,
-        desk,
-        gate,
-        worker,
+        at,
         unanswered: None,
     };
-    let end = answer_link(alloc, &mut caller, registry, link);
-    known(end, caller.unanswered)
+    let end = answer_link(at.alloc, &mut caller, at.registry, link);
+    spent_or_memory(end, caller.unanswered)
 }
 
 /// How a link ended that was not answered whole and had no fault: for want of calls exactly where the desk had none left for a call.
-fn known(end: LinkEnd, unanswered: Option<Unanswered>) -> LinkEnd
+fn spent_or_memory(end: LinkEnd, unanswered: Option<Unanswered>) -> LinkEnd
     ensures same { unknown (end_of result) ≡ unknown (end_of end) }
     ensures spent { end_of result ≡ spent → unanswered ≡ Some Spent }
 {

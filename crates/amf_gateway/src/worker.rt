@@ -1,12 +1,11 @@
 //! Workers at a desk, each with a pass and a hall of its own.
 
-ghost use Rattle.std.specs.Prelude.{◌≡◌, ◌-◌, ◌<◌, ◌||◌, false, List, length, None};
-ghost use Rattle.amf_service.specs.Registry.{Entry};
-ghost use Rattle.amf_plan.specs.Services.{services_by};
-ghost use Rattle.amf_gateway.specs.Handed.{CountsCalls};
-ghost use Rattle.amf_gateway.specs.Served.{Served, starved_in};
-ghost use Rattle.amf_gateway.specs.WorkerSteps.{ServedNext};
+ghost use Rattle.std.specs.Prelude.{◌≡◌, ◌||◌, None};
+ghost use Rattle.amf_plan.specs.Services.{services_of};
+ghost use Rattle.amf_gateway.specs.Served.{WorkerServed, WorkerCounts, CountsAnswered, CountsTold, starved_in};
+ghost use Rattle.amf_gateway.specs.WorkerSteps.{NextServed};
 
+use crate::at_hand::AtHand;
 use crate::serve::serve_link_keyed;
 use amf_desk::{Desk, Pass};
 use amf_io::{Failed, Gate, Hall};
@@ -89,33 +88,23 @@ impl<H: Hall> Worker<H> {
     }
 
     /// Serves a link and gives it back to the hall. Tells whether it ended because memory ran out.
-    fn serve_next<R: Wait, G: Gate>(
+    fn serve_and_give_back<R: Wait, G: Gate>(
         &mut self,
-        rt: &R,
-        alloc: Global,
-        desk: &Desk,
-        registry: &Registry,
-        gate: &G,
+        at: &AtHand<'_, R, G>,
         mut link: H::Link,
     ) -> bool
-        requires { self.old.pass.desk ≡ desk.now }
-        ensures served { let services : List Entry = services_by registry.now.services.entries (λ x. x.items) (λ s. knows (s.vtable, s.value)) (λ s. gives (s.vtable, s.value)) in ServedNext (record { tells_links = H.tells_links; coming = H.coming; served = H.served; faults = H.faults; tells_moments = H.tells_moments; moments = H.moments; tells_words = H.tells_words; words = H.words }) (record { tells_left = H.Link.tells_left; left = H.Link.left; tells_held = H.Link.tells_held; held = H.Link.held; read_faults = H.Link.read_faults; write_faults = H.Link.write_faults }) services self.old.pass self.new.pass self.old.hall self.new.hall link result }
-        ensures calls { CountsCalls 1 self.old.calls self.new.calls (self.old.pass.budget - self.new.pass.budget) }
-        ensures all_answered { result ≡ false → 0 < self.new.pass.budget → CountsCalls 0 self.old.calls self.new.calls (self.old.pass.budget - self.new.pass.budget) }
+        requires { self.old.pass.desk ≡ at.now.desk.now }
+        ensures served { NextServed H.Hall H.Link.Link (services_of at.now.registry.now knows gives) self.old self.new link result }
+        ensures calls { WorkerCounts 1 self.old self.new }
+        ensures all_answered { CountsAnswered result self.old self.new }
         ensures number { self.new.number ≡ self.old.number }
         ensures keys { self.new.keys ≡ self.old.keys }
     {
         let end = serve_link_keyed(
-            rt,
-            alloc,
-            self.keys,
+            at,
             &mut link,
-            registry,
-            desk,
             &mut self.pass,
             &mut self.hall,
-            gate,
-            self.number,
             &mut self.calls,
         );
         self.hall.back(link);
@@ -135,20 +124,28 @@ impl<H: Hall> Worker<H> {
         each: u64,
     ) -> WorkerEnd
         requires { self.old.pass.desk ≡ desk.now }
-        ensures served { let services : List Entry = services_by registry.now.services.entries (λ x. x.items) (λ s. knows (s.vtable, s.value)) (λ s. gives (s.vtable, s.value)) in Served (record { tells_links = H.tells_links; coming = H.coming; served = H.served; faults = H.faults; tells_moments = H.tells_moments; moments = H.moments; tells_words = H.tells_words; words = H.words }) (record { tells_left = H.Link.tells_left; left = H.Link.left; tells_held = H.Link.tells_held; held = H.Link.held; read_faults = H.Link.read_faults; write_faults = H.Link.write_faults }) services each self.old.pass self.new.pass self.old.hall self.new.hall result }
-        ensures calls { CountsCalls each self.old.calls self.new.calls (self.old.pass.budget - self.new.pass.budget) }
-        ensures all_answered { starved_in result ≡ false → 0 < self.new.pass.budget
-            → CountsCalls 0 self.old.calls self.new.calls (self.old.pass.budget - self.new.pass.budget) }
-        ensures calls_told { H.tells_links self.new.hall → CountsCalls (length (H.served self.new.hall) - length (H.served self.old.hall)) self.old.calls self.new.calls (self.old.pass.budget - self.new.pass.budget) }
+        ensures served { WorkerServed H.Hall H.Link.Link (services_of registry.now knows gives) each self.old self.new result }
+        ensures calls { WorkerCounts each self.old self.new }
+        ensures all_answered { CountsAnswered (starved_in result) self.old self.new }
+        ensures calls_told { CountsTold H.Hall self.old self.new }
         ensures number { self.new.number ≡ self.old.number }
         ensures keys { self.new.keys ≡ self.old.keys }
     {
         let _before = self.calls;
+        let at = AtHand {
+            rt,
+            alloc,
+            keys: self.keys,
+            registry,
+            desk,
+            gate,
+            worker: self.number,
+        };
         let mut starved = false;
         for _ in 0..each {
             match self.hall.next() {
                 Ok(Some(link)) => {
-                    let hungry = self.serve_next(rt, alloc, desk, registry, gate, link);
+                    let hungry = self.serve_and_give_back(&at, link);
                     starved = either(starved, hungry);
                 }
                 Ok(None) => return WorkerEnd::Done { starved },

@@ -14,7 +14,8 @@ ghost use Rattle.amf_plan.specs.Kept.{FaultFits};
 ghost use Rattle.amf_plan.specs.PlainCalls.{fault_graph as fault_content};
 
 use amf_graph::{BuildEnd, Builder, NodeId, Part, Rooted, Shape, TextId, TraitsId, Value};
-use amf_plan::messages::{finished, kept};
+use amf_plan::messages::finished;
+use amf_service::kept;
 use amf_wire::Memory;
 use flex_msgs::FaultText;
 use std::alloc::Global;

@@ -1,31 +1,28 @@
 //! How plain remoting is answered: a message of a packet whose target names a service and an operation.
 
-ghost use Rattle.std.specs.Prelude.{◌≡◌, ◌≤◌, ◌+◌, List, Some, IfOk};
+ghost use Rattle.std.specs.Prelude.{◌≡◌, ◌≤◌, ◌+◌, Some, IfOk};
 ghost use Rattle.amf_graph.specs.Bounds.{weight};
 ghost use Rattle.amf_graph.specs.Graph.{Graph};
 ghost use Rattle.amf_graph.specs.Isomorphic.{Isomorphic};
-ghost use Rattle.amf_graph.specs.Reached.{IsWhole};
 ghost use Rattle.amf_graph.specs.Rooted.{content};
 ghost use Rattle.amf_packet.specs.Content.{body_of};
 ghost use Rattle.amf_packet.specs.PacketAnswer.{body_weight};
 ghost use Rattle.amf_service.specs.Meaning.{Called, heaviest_arguments};
-ghost use Rattle.amf_service.specs.Registry.{Entry};
-ghost use Rattle.amf_service.specs.Shipped.{items_of};
-ghost use Rattle.amf_plan.specs.Services.{services_by};
-ghost use Rattle.amf_plan.specs.Calls.{ComesTo, AnswerFits};
+ghost use Rattle.amf_plan.specs.Services.{services_of};
+ghost use Rattle.amf_plan.specs.Calls.{ForGraphsOf, ComesTo, AnswerFits};
 ghost use Rattle.amf_plain_calls.specs.TellsMessage.{FindsForm, AnswersMessage, TellsMessage};
 ghost use Rattle.amf_plan.specs.Kept.{FaultFits};
-ghost use Rattle.amf_plan.specs.PlainCalls.{at_last_dot, in_array as array_of, if_array, arguments, reply_form as reply_form_of, failed as failed_answer, succeeded as succeeded_plan, outcome as outcome_plan, call as call_plan, plain_call as plain_plan};
+ghost use Rattle.amf_plan.specs.PlainCalls.{at_last_dot, in_array as array_of, as_items, body_arguments, reply_form as reply_form_of, failed as failed_answer, succeeded as succeeded_plan, outcome as outcome_plan, call as call_plan, plain_call as plain_plan};
 
 use crate::faults::fault_graph;
 use crate::target::Target;
 use amf_graph::{Builder, Rooted};
 use amf_packet::{Body, SpelledBody};
 use amf_plan::arrays::add_array;
-use amf_plan::calling::{CallAnswer, call_service};
+use amf_plan::calling::{ServiceAnswer, call_service};
 use amf_plan::causes::{bad_message, no_form, no_service};
-use amf_plan::messages::{finished, kept};
-use amf_service::{Registry, items};
+use amf_plan::messages::finished;
+use amf_service::{Registry, items, kept};
 use amf_wire::{Memory, Name};
 use amf0_spelling::Form;
 use flex_msgs::FaultText;
@@ -115,14 +112,14 @@ fn outcome(
     alloc: Global,
     keys: Option<RandomState>,
     form: Form,
-    answer: &CallAnswer,
+    answer: &ServiceAnswer,
 ) -> Result<MessageAnswer, Memory>
     requires { AnswerFits answer.now }
     ensures { IfOk result (λ x. (c : Called) → ComesTo c answer.now → TellsMessage (outcome_plan form c) x) }
 {
     match answer {
-        CallAnswer::Gave(graph) => succeeded(alloc, keys, form, graph),
-        CallAnswer::Failed(fault) => failed(alloc, form, fault),
+        ServiceAnswer::Gave(graph) => succeeded(alloc, keys, form, graph),
+        ServiceAnswer::Failed(fault) => failed(alloc, form, fault),
     }
 }
 
@@ -136,7 +133,7 @@ fn call(
     args: &Rooted,
 ) -> Result<MessageAnswer, Memory>
     requires { weight args.now.arena ≤ heaviest_arguments }
-    ensures { let services : List Entry = services_by registry.now.services.entries (λ x. x.items) (λ s. knows (s.vtable, s.value)) (λ s. gives (s.vtable, s.value)) in IfOk result (λ x. (g : Graph) → IsWhole g → Isomorphic g (content args.now) → TellsMessage (call_plan services form target.now (Some g)) x) }
+    ensures { IfOk result (λ x. ForGraphsOf args.now (λ g. TellsMessage (call_plan (services_of registry.now knows gives) form target.now (Some g)) x)) }
 {
     let answer = call_service(alloc, registry, &target.service, &target.operation, args)?;
     outcome(alloc, keys, form, &answer)
@@ -165,7 +162,7 @@ fn call_with_items(
     graph: &Rooted,
 ) -> Result<MessageAnswer, Memory>
     requires { weight graph.now.arena ≤ heaviest_arguments }
-    ensures { let services : List Entry = services_by registry.now.services.entries (λ x. x.items) (λ s. knows (s.vtable, s.value)) (λ s. gives (s.vtable, s.value)) in IfOk result (λ x. TellsMessage (call_plan services form target.now (if_array (content graph.now) (items_of (content graph.now)))) x) }
+    ensures { IfOk result (λ x. TellsMessage (call_plan (services_of registry.now knows gives) form target.now (as_items (content graph.now))) x) }
 {
     graph.is_finished();
     match items(graph) {
@@ -186,7 +183,7 @@ fn call_with_body(
     body: &Body,
 ) -> Result<MessageAnswer, Memory>
     requires { body_weight body.now ≤ 1048576 }
-    ensures { let services : List Entry = services_by registry.now.services.entries (λ x. x.items) (λ s. knows (s.vtable, s.value)) (λ s. gives (s.vtable, s.value)) in IfOk result (λ x. TellsMessage (call_plan services (body_of body.now).form target.now (arguments (body_of body.now).form (body_of body.now).graph)) x) }
+    ensures { IfOk result (λ x. TellsMessage (call_plan (services_of registry.now knows gives) (body_of body.now).form target.now (body_arguments (body_of body.now))) x) }
 {
     match body {
         Body::Call(graph) => {
@@ -209,7 +206,7 @@ pub fn plain_call(
     body: &Body,
 ) -> Result<MessageAnswer, Memory>
     requires { body_weight body.now ≤ 1048576 }
-    ensures { let services : List Entry = services_by registry.now.services.entries (λ x. x.items) (λ s. knows (s.vtable, s.value)) (λ s. gives (s.vtable, s.value)) in IfOk result (λ x. TellsMessage (plain_plan services (body_of body.now) (at_last_dot uri.now)) x) }
+    ensures { IfOk result (λ x. TellsMessage (plain_plan (services_of registry.now knows gives) (body_of body.now) (at_last_dot uri.now)) x) }
 {
     let target = Target::of(alloc, uri)?;
     match target {

@@ -40,9 +40,16 @@ abbrev pub if_array : {X : Type 0} → Graph → Option X → Option Graph
 if_array g None = None
 if_array g (Some items) = Some g
 
+-- the graph itself, where its root is an array without names
+abbrev pub as_items : Graph → Option Graph
+as_items g = if_array g (items_of g)
+
 abbrev pub arguments : Form → Graph → Option Graph
 arguments Call g = Some (in_array g)
-arguments _ g = if_array g (items_of g)
+arguments _ g = as_items g
+
+abbrev pub body_arguments : Body → Option Graph
+body_arguments body = arguments body.form body.graph
 
 -- The answer: plain where the request was plain and the value has a spelling in AMF 0, and else in AMF 3, if it has one there.
 
@@ -108,4 +115,4 @@ call services form t (Some args) = outcome form (called services t.service t.ope
 
 abbrev pub plain_call : List Entry → Body → Option Target → Plan Answer
 plain_call services body None = gives (failed body.form no_service)
-plain_call services body (Some t) = call services body.form t (arguments body.form body.graph)
+plain_call services body (Some t) = call services body.form t (body_arguments body)

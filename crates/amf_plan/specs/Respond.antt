@@ -6,7 +6,7 @@ use Rattle.amf_plan.specs.Links.{LinkEnd, link}
 use Rattle.amf_plan.specs.Runs.{Supply, Outcome, gave, ran_out, Runs}
 
 -- the desk calls with their moments, the answer to each request, and how the link ends, if it does
-pub record Told : Type 0 where
+pub record Responded : Type 0 where
   pub calls : List (ℕ × Call)
   pub answers : List (List ℕ)
   pub ended : Option LinkEnd
@@ -16,7 +16,7 @@ abbrev pub end_of : Outcome LinkEnd → Option LinkEnd
 end_of (gave e left) = Some e
 end_of ran_out = None
 
-abbrev pub Responds : List Entry → List ℕ → Supply → Told → Type 0
+abbrev pub Responds : List Entry → List ℕ → Supply → Responded → Type 0
 Responds services bytes s t = (o : Outcome LinkEnd) × Runs (link services bytes) s (record { calls = t.calls; answers = t.answers }) o × (t.ended ≡ end_of o)
 
 -- the bytes of some answers, one after the other
@@ -24,5 +24,5 @@ abbrev pub joined : List (List ℕ) → List ℕ
 joined [] = []
 joined (b ∷ bs) = b ++ joined bs
 
-abbrev pub written : Told → List ℕ
+abbrev pub written : Responded → List ℕ
 written t = joined t.answers

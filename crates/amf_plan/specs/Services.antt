@@ -1,9 +1,11 @@
 -- The services of a registry, as definitions take them.
-use Rattle.std.specs.Prelude.{ℕ, Bool, List, map}
+use Rattle.std.specs.Prelude.{ℕ, Bool, List}
 use Rattle.amf_graph.specs.Graph.{Graph}
 use Rattle.amf_service.specs.Meaning.{Given}
+use Rattle.amf_service.specs.declared.registry.Registry.{Registry}
 use Rattle.amf_service.specs.Registry.{Entry}
+pub use Rattle.amf_service.specs.Registry.{services_by}
 
--- what services mean that are kept under names, by what each knows and gives
-abbrev pub services_by : {K S : Type 0} → List (K × S) → (K → List ℕ) → (S → List ℕ → Bool) → (S → List ℕ → Graph → Given) → List Entry
-services_by es name knows gives = map (λ e. record { name = name e.0; means = record { knows = knows e.1; gives = gives e.1 } }) es
+-- the services of a registry, by what the boxes in it know and give
+abbrev pub services_of : {X : Type 0} {V : X → Type 0} → Registry X V → ((v : X) × V v → List ℕ → Bool) → ((v : X) × V v → List ℕ → Graph → Given) → List Entry
+services_of r knows gives = services_by r.services.entries (λ x. x.items) (λ s. knows (s.vtable, s.value)) (λ s. gives (s.vtable, s.value))

@@ -6,7 +6,7 @@ use Rattle.amf_service.specs.Registry.{Entry}
 use Rattle.amf_plan.specs.Begun.{Begun}
 use Rattle.amf_plan.specs.Links.{LinkEnd, link}
 use Rattle.amf_plan.specs.Plan.{Plan}
-use Rattle.amf_plan.specs.Respond.{Told, Responds, joined, written}
+use Rattle.amf_plan.specs.Respond.{Responded, Responds, joined, written}
 use Rattle.amf_plan.specs.RespondLaws.{AreLawful, IsBeginning}
 use Rattle.amf_plan.specs.Runs.{Supply, Done, gave, Runs}
 
@@ -76,4 +76,4 @@ more s u = record { moments = s.moments ++ u.moments; words = s.words ++ u.words
 abbrev pub ServedIsBeginning : Type 0
 ServedIsBeginning =
     (services : List Entry) → AreLawful services → (b : LinkBytes) (k : Taken) (end : ServeEnd) → Serves services b k end →
-    (u : Supply) (t : Told) → Responds services b.left (more (supply_of k) u) t → IsBeginning (calls_of k) t.calls × IsBeginning b.now (b.held ++ written t)
+    (u : Supply) (t : Responded) → Responds services b.left (more (supply_of k) u) t → IsBeginning (calls_of k) t.calls × IsBeginning b.now (b.held ++ written t)

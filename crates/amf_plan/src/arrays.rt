@@ -7,8 +7,7 @@ ghost use Rattle.amf_graph.specs.Building.{kept_node, closed};
 ghost use Rattle.amf_graph.specs.Grafting.{node_value};
 ghost use Rattle.amf_graph.specs.declared.limits.TheConstants.{MAX_COUNT};
 
-use crate::messages::kept;
-use amf_graph::{Builder, Part, Shape, Value};
+use amf_graph::{Builder, Value};
 use amf_wire::Memory;
 
 /// Adds an array of these values. It gives up where there is no memory.
@@ -18,11 +17,6 @@ pub fn add_array(builder: &mut Builder, items: &[Value]) -> Result<Value, Memory
     ensures value { IfOk result (λ v. v ≡ node_value (length builder.old.nodes)) }
     ensures ok { OnOk result (builder.new ≡ kept_node builder.old (closed array [] items.now)) }
 {
-    builder.is_built();
-    let node = kept(builder.open_node(Shape::Array))?;
-    for item in items {
-        kept(builder.put(node, Part::Item(*item)))?;
-    }
-    builder.close_node(node);
+    let node = amf_service::add_array(builder, items)?;
     Ok(Value::Node(node))
 }

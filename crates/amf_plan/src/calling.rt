@@ -1,15 +1,11 @@
 //! Calls of services.
 
-ghost use Rattle.std.specs.Prelude.{◌≡◌, ◌≤◌, List, IfOk, Err};
+ghost use Rattle.std.specs.Prelude.{◌≡◌, ◌≤◌, IfOk, Err};
 ghost use Rattle.amf_graph.specs.Bounds.{weight};
-ghost use Rattle.amf_graph.specs.Graph.{Graph};
-ghost use Rattle.amf_graph.specs.Isomorphic.{Isomorphic};
-ghost use Rattle.amf_graph.specs.Reached.{IsWhole};
-ghost use Rattle.amf_graph.specs.Rooted.{content};
 ghost use Rattle.amf_service.specs.Meaning.{Called, heaviest_arguments};
-ghost use Rattle.amf_service.specs.Registry.{Entry, called, AnswersCall};
-ghost use Rattle.amf_plan.specs.Services.{services_by};
-ghost use Rattle.amf_plan.specs.Calls.{ComesTo, AnswerFits};
+ghost use Rattle.amf_service.specs.Registry.{called, AnswersCall};
+ghost use Rattle.amf_plan.specs.Services.{services_of};
+ghost use Rattle.amf_plan.specs.Calls.{ForGraphsOf, ComesTo, AnswerFits};
 
 use crate::causes::{no_operation, no_service, service_fault};
 use amf_graph::Rooted;
@@ -20,7 +16,7 @@ use std::alloc::Global;
 
 /// What a call of a service comes to.
 #[derive(Drop)]
-pub enum CallAnswer {
+pub enum ServiceAnswer {
     /// Its result.
     Gave(Rooted),
     /// Why there is none.
@@ -29,8 +25,8 @@ pub enum CallAnswer {
 
 /// Why a call has no result. It gives up where there is no memory.
 fn cause_of(alloc: Global, end: CallEnd) -> Result<FaultText, Memory>
-    ensures comes { IfOk result (λ f. (c : Called) → AnswersCall c (Err end) → ComesTo c (CallAnswer.Failed f)) }
-    ensures fits { IfOk result (λ f. (c : Called) → AnswersCall c (Err end) → AnswerFits (CallAnswer.Failed f)) }
+    ensures comes { IfOk result (λ f. (c : Called) → AnswersCall c (Err end) → ComesTo c (ServiceAnswer.Failed f)) }
+    ensures fits { IfOk result (λ f. (c : Called) → AnswersCall c (Err end) → AnswerFits (ServiceAnswer.Failed f)) }
 {
     match end {
         CallEnd::NoService => no_service(alloc),
@@ -47,18 +43,18 @@ pub fn call_service(
     service: &Name,
     operation: &Name,
     args: &Rooted,
-) -> Result<CallAnswer, Memory>
+) -> Result<ServiceAnswer, Memory>
     requires { weight args.now.arena ≤ heaviest_arguments }
-    ensures comes { let services : List Entry = services_by registry.now.services.entries (λ x. x.items) (λ s. knows (s.vtable, s.value)) (λ s. gives (s.vtable, s.value)) in IfOk result (λ a. (g : Graph) → IsWhole g → Isomorphic g (content args.now) → ComesTo (called services service.now operation.now g) a) }
+    ensures comes { IfOk result (λ a. ForGraphsOf args.now (λ g. ComesTo (called (services_of registry.now knows gives) service.now operation.now g) a)) }
     ensures fits { IfOk result (λ a. AnswerFits a) }
 {
     args.is_finished();
     registry.is_lawful(service);
     match registry.call(alloc, service, operation, args) {
-        Ok(graph) => Ok(CallAnswer::Gave(graph)),
+        Ok(graph) => Ok(ServiceAnswer::Gave(graph)),
         Err(end) => {
             let cause = cause_of(alloc, end)?;
-            Ok(CallAnswer::Failed(cause))
+            Ok(ServiceAnswer::Failed(cause))
         }
     }
 }

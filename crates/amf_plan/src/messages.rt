@@ -1,6 +1,6 @@
 //! The graphs of the messages that are answered.
 
-ghost use Rattle.std.specs.Prelude.{◌≡◌, ◌≤◌, false, IfOk, IsErrOf, Ok};
+ghost use Rattle.std.specs.Prelude.{◌≡◌, ◌≤◌, false, IfOk};
 ghost use Rattle.std.specs.List.{AllByRecursion};
 ghost use Rattle.amf_graph.specs.Arena.{Names, IsFinished};
 ghost use Rattle.amf_graph.specs.Bounds.{weight};
@@ -17,24 +17,13 @@ ghost use Rattle.amf_plan.specs.Plan.{whole};
 ghost use Rattle.amf_plan.specs.Replies.{no_nodes};
 ghost use Rattle.amf_plan.specs.Runs.{Finds, IsSpelling};
 
-use amf_graph::{BuildEnd, Builder, Rooted, Value, WriteEnd};
+use amf_graph::{Builder, Rooted, Value, WriteEnd};
+use amf_service::kept;
 use amf_wire::{Memory, Name};
 use amf3_write::write3_keyed;
 use flex_msgs::{Common, FaultText, Reply, acknowledge, error, published};
 use std::alloc::Global;
 use std::hash::RandomState;
-
-/// What a builder answers where it has room.
-pub fn kept<T>(built: Result<T, BuildEnd>) -> Result<T, Memory>
-    requires { IsErrOf built BuildEnd.Full → ⊥ }
-    ensures { IfOk result (λ kept. built ≡ Ok kept) }
-{
-    match built {
-        Ok(value) => Ok(value),
-        Err(BuildEnd::Memory) => Err(Memory),
-        Err(BuildEnd::Full) => unreachable!(),
-    }
-}
 
 /// The graph that a builder holds, all of whose nodes are closed.
 pub fn finished(builder: Builder, root: Value) -> Rooted

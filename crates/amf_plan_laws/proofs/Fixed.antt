@@ -11,7 +11,7 @@ use Rattle.amf_plan.specs.Links.{LinkEnd, closed, turn_away, closed_or, answer_p
 use Rattle.amf_plan.specs.Packets.{answer_to, suffix, message_back, messages_back, packet_back, answers_to, is_long, has_long}
 use Rattle.amf_plan.specs.Plan.{Cut, at_end, cut_short, turned_away, request, Plan, gives, writes, ◌>>=◌, bytes_of}
 use Rattle.amf_plan.specs.Replies.{Answer}
-use Rattle.amf_plan.specs.Respond.{Told, end_of}
+use Rattle.amf_plan.specs.Respond.{Responded, end_of}
 use Rattle.amf_plan.specs.RespondLaws.{AreLawful, AnswersAreFixed, BegunIsBeginning}
 use Rattle.amf_plan.specs.Runs.{IsWholePacket, Done, Outcome, gave, ran_out}
 use Rattle.amf_plan_laws.proofs.Laws.{Laws}
@@ -96,7 +96,7 @@ answers_fixed L B services lawful bytes s t u a b =
     let same = runs_alike L Equals (link services bytes) (link services bytes) (link_same L B services lawful most_requests bytes) s d e a.0 b.0 a.1 b.1 in
     ap (λ z. told z t.ended) same.0 ∙ ap (told e) (a.2 ∙ ends_same a.0 b.0 same.1 ∙ sym b.2)
   where
-    told : Done → Option LinkEnd → Told
+    told : Done → Option LinkEnd → Responded
     told d e = record { calls = d.calls; answers = d.answers; ended = e }
 
 pub begun_beginning : Laws → BehindAlike → BegunIsBeginning

@@ -2,7 +2,7 @@
 use Rattle.std.proofs.Common.{◌≡◌, ℕ, List, [], ◌∷◌, ◌++◌, refl, sym, ap, ◌∙◌, append_assoc, append-nil}
 use Rattle.amf_service.specs.Registry.{Entry}
 use Rattle.amf_plan.specs.Links.{link}
-use Rattle.amf_plan.specs.Respond.{Told, Responds, joined, written}
+use Rattle.amf_plan.specs.Respond.{Responded, Responds, joined, written}
 use Rattle.amf_plan.specs.RespondLaws.{AreLawful, BegunIsBeginning, IsBeginning}
 use Rattle.amf_plan.specs.Runs.{Supply, gave}
 use Rattle.amf_plan.specs.Serving.{ServeEnd, ended, read_fault, write_fault, no_memory, spent, LinkBytes, Taken, supply_of, calls_of, did, none_left, Partly, AreWritten, Serves, more, ServedIsBeginning}
@@ -26,7 +26,7 @@ cut_begins : (answers : List (List ℕ)) (front back : List ℕ) → IsBeginning
 cut_begins answers front back =
     (back ++ [], joined_both answers ((front ++ back) ∷ []) ∙ ap (λ w. joined answers ++ w) (append_assoc front back []) ∙ sym (append_assoc (joined answers) front (back ++ [])))
 
-module _ (beginning : BegunIsBeginning) (services : List Entry) (lawful : AreLawful services) (b : LinkBytes) (k : Taken) (u : Supply) (t : Told) (r : Responds services b.left (more (supply_of k) u) t) where
+module _ (beginning : BegunIsBeginning) (services : List Entry) (lawful : AreLawful services) (b : LinkBytes) (k : Taken) (u : Supply) (t : Responded) (r : Responds services b.left (more (supply_of k) u) t) where
   part_begins : (answers : List (List ℕ)) (x : List ℕ) → Partly (link services b.left) k answers → IsBeginning x (joined answers) → AreWritten b x → IsBeginning (calls_of k) t.calls × IsBeginning b.now (b.held ++ written t)
   part_begins answers x p i w =
       let first = beginning services lawful b.left (more (supply_of k) u) (did k answers) t (begun_more (link services b.left) (supply_of k) u (did k answers) p) r in

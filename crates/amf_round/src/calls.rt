@@ -1,10 +1,9 @@
-ghost use Rattle.std.specs.Prelude.{◌≡◌, ◌<◌, ◌^◌, [], List, length, IfOk};
+ghost use Rattle.std.specs.Prelude.{◌≡◌, ◌<◌, ◌^◌, [], length, IfOk};
 ghost use Rattle.amf_wire.specs.Text.{IsText};
 ghost use Rattle.amf_graph.specs.Rooted.{content};
 ghost use Rattle.amf_io.specs.InMemory.{taken};
-ghost use Rattle.amf_service.specs.Registry.{Entry};
 ghost use Rattle.amf_client.specs.Asking.{IsAsk};
-ghost use Rattle.amf_plan.specs.Services.{services_by};
+ghost use Rattle.amf_plan.specs.Services.{services_of};
 ghost use Rattle.amf_gateway.specs.Handed.{PassGoesOn};
 ghost use Rattle.amf_gateway.specs.ServesLink.{end_of};
 ghost use Rattle.amf_round.specs.Rounds.{MayCall, Answers};
@@ -63,8 +62,8 @@ fn answered<R: Wait>(
     call: &[u8],
 ) -> Result<MemorySink, Memory>
     requires desk { pass.old.desk ≡ desk.now }
-    requires quiet { let services : List Entry = services_by registry.now.services.entries (λ x. x.items) (λ s. knows (s.vtable, s.value)) (λ s. gives (s.vtable, s.value)) in AsksNothing services call.now }
-    ensures answered { let services : List Entry = services_by registry.now.services.entries (λ x. x.items) (λ s. knows (s.vtable, s.value)) (λ s. gives (s.vtable, s.value)) in IfOk result (λ sink. IsAnswered services call.now (taken sink)) }
+    requires quiet { AsksNothing (services_of registry.now knows gives) call.now }
+    ensures answered { IfOk result (λ sink. IsAnswered (services_of registry.now knows gives) call.now (taken sink)) }
     ensures stays { PassGoesOn pass.old pass.new [] }
 {
     let mut wire = wire_of(alloc, call)?;
@@ -126,7 +125,7 @@ pub fn round<R: Wait>(
 ) -> Result<Rooted, RoundEnd>
     requires call { MayCall target.now (content args.now) }
     requires desk { pass.old.desk ≡ desk.now }
-    ensures answers { let services : List Entry = services_by registry.now.services.entries (λ x. x.items) (λ s. knows (s.vtable, s.value)) (λ s. gives (s.vtable, s.value)) in Answers services target.now (content args.now) result }
+    ensures answers { Answers (services_of registry.now knows gives) target.now (content args.now) result }
     ensures stays { PassGoesOn pass.old pass.new [] }
 {
     registry.are_lawful();

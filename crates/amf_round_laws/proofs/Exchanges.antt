@@ -12,7 +12,7 @@ use Rattle.amf_client.specs.Answers.{Answers}
 use Rattle.amf_client.specs.Laws.{OutcomesMatch}
 use Rattle.amf_client.specs.Outcomes.{Outcome, bad, fault, result}
 use Rattle.amf_plan.specs.Links.{link}
-use Rattle.amf_plan.specs.Respond.{Told, joined}
+use Rattle.amf_plan.specs.Respond.{Responded, joined}
 use Rattle.amf_plan.specs.Runs.{gave, Runs}
 use Rattle.amf_plan.specs.Serving.{supply_of, calls_of, did, none_left}
 use Rattle.amf_round_laws.specs.Exchange.{Tells, ExchangeHolds}
@@ -54,7 +54,7 @@ pub exchange_holds : ExchangeHolds
 exchange_holds services laws target args c x =
     let done = x.serves in
     let wrote : x.wrote ≡ joined done.0 = append_cancel_left x.link.held x.wrote (joined done.0) (sym x.holds ∙ done.2) in
-    let told : Told = record { calls = calls_of x.taken; answers = done.0; ended = Some x.end } in
+    let told : Responded = record { calls = calls_of x.taken; answers = done.0; ended = Some x.end } in
     let round : Round services target args = record {
       port = x.port;
       low = x.low;

@@ -22,7 +22,7 @@ use Rattle.amf_plan.specs.Links.{LinkEnd}
 use Rattle.amf_plan.specs.Packets.{null_uri, message_back, packet_back}
 use Rattle.amf_plan.specs.PlainCalls.{Target, at_last_dot, fault_graph}
 use Rattle.amf_plan.specs.Replies.{in_amf3}
-use Rattle.amf_plan.specs.Respond.{Told, Responds, written}
+use Rattle.amf_plan.specs.Respond.{Responded, Responds, written}
 use Rattle.amf_plan.specs.RespondLaws.{AreLawful}
 use Rattle.amf_plan.specs.Runs.{Supply}
 
@@ -90,7 +90,7 @@ pub record Round (services : List Entry) (target : List ℕ) (args : Graph) : Ty
   pub ask : IsAsk port target args asked
   pub asked_fits : length asked < 2 ^ 64
   pub supply : Supply
-  pub told : Told
+  pub told : Responded
   pub responds : Responds services asked supply told
   pub told_fits : length (written told) < 2 ^ 64
 

@@ -4,7 +4,6 @@ use crate::ends::round_of;
 use amf_fixtures::{graph0, graph3};
 use amf_graph::{Builder, Part, Rooted, Shape, Value};
 use amf_rows::{Row, Table};
-use amf_service::whole;
 use amf_wire::is_amf_text;
 use std::alloc::Global;
 use std::process::Abort;
@@ -103,7 +102,7 @@ fn one_text(rt: &impl Abort, alloc: Global, text: &[u8]) -> Rooted {
         .put(array, Part::Item(Value::Text(text)))
         .expect(rt, "an item");
     builder.close_node(array);
-    whole(builder, Value::Node(array))
+    builder.whole(Value::Node(array))
 }
 
 /// Whether a text comes back, behind its marker and its length in three bytes, the last of them this.

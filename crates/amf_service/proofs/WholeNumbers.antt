@@ -1,22 +1,14 @@
 -- Whole numbers and their doubles in the range of sums.
-use Rattle.std.proofs.Common.{◌≡◌, ℕ, nat_lt, true, false, ℤ, pos, negsuc, Option, Some, None, subst, arith}
+use Rattle.std.proofs.Common.{◌≡◌, nat_lt, true, false, ℤ, pos, negsuc, Option, Some, None, subst, arith}
 use lib.Signed.{le_z}
 use Rattle.std.proofs.lemmas.Int.{ints}
-use Rattle.std.specs.Prelude.{◌≤ℤ◌, IfSome}
+use Rattle.std.specs.Prelude.{IfSome}
 use Rattle.amf_wire.specs.declared.pattern.Pattern.{Pattern}
 use Rattle.amf_wire.specs.Whole.{IsPatternOf, HasPattern}
 use Rattle.amf_wire.specs.WholeNumbers.{signed_pattern}
 use Rattle.amf_wire.proofs.Doubles.{inverse}
 use Rattle.amf_wire.proofs.WholeNumbers.{pattern_is}
 use Rattle.amf_service.specs.Shipped.{size_of as magnitude}
-
-in_range : (n : ℤ) → HasPattern n → (negsuc 9007199254740990 ≤ℤ n) × (n ≤ℤ pos 9007199254740991)
-in_range (pos n) l = (omega (arith, ints, l), omega (arith, ints, l))
-in_range (negsuc n) l = (omega (arith, ints, l), omega (arith, ints, l))
-
-pub bounded : (p : ℕ) (o : Option ℤ) → IfSome o (λ v. IsPatternOf p v) → IfSome o (λ v. (negsuc 9007199254740990 ≤ℤ v) × (v ≤ℤ pos 9007199254740991))
-bounded p (Some v) s = in_range v (inverse.below p v s)
-bounded p None s = s
 
 pub has_pattern : (n : ℤ) → le_z n (negsuc 9007199254740991) ≡ false → le_z (pos 9007199254740992) n ≡ false → HasPattern n
 has_pattern (pos n) h k = grind (arith, ints)

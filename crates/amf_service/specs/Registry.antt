@@ -1,15 +1,19 @@
 -- What a list of services under their names means.
-use Rattle.std.specs.Prelude.{◌≡◌, ◌≢◌, ℕ, ◌<◌, List, [], ◌∷◌, slice_get, Some, Result, Ok, Err, bytes_eq, if◌then◌else◌}
+use Rattle.std.specs.Prelude.{◌≡◌, ◌≢◌, ℕ, ◌<◌, Bool, List, map, [], ◌∷◌, slice_get, Some, Result, Ok, Err, bytes_eq, if◌then◌else◌}
 use Rattle.amf_graph.specs.Graph.{Graph}
 use Rattle.amf_graph.specs.Isomorphic.{Isomorphic}
 use Rattle.amf_graph.specs.Rooted.{RootedArena, content}
 use Rattle.amf_service.specs.declared.registry.CallEnd.{CallEnd}
 use Rattle.amf_service.specs.declared.registry.CallEnd.TheVariants.{NoService, NoOperation, Fault, Memory}
-use Rattle.amf_service.specs.Meaning.{result, fault, Meanings, Called, no_service, no_operation, given, asked, IsFault}
+use Rattle.amf_service.specs.Meaning.{Given, result, fault, Meanings, Called, no_service, no_operation, given, asked, IsFault}
 
 pub record Entry : Type 0 where
   pub name : List ℕ
   pub means : Meanings
+
+-- what services mean that are kept under names, by what each knows and gives
+abbrev pub services_by : {K S : Type 0} → List (K × S) → (K → List ℕ) → (S → List ℕ → Bool) → (S → List ℕ → Graph → Given) → List Entry
+services_by es name knows gives = map (λ e. record { name = name e.0; means = record { knows = knows e.1; gives = gives e.1 } }) es
 
 -- the one entry of that name answers
 abbrev pub called : List Entry → List ℕ → List ℕ → Graph → Called

@@ -1,5 +1,4 @@
-ghost use Rattle.std.specs.Prelude.{◌≡◌, ◌≤◌, false, Ok, IfOk, IsErrOf};
-ghost use Rattle.std.specs.List.{AllByRecursion};
+ghost use Rattle.std.specs.Prelude.{◌≡◌, ◌≤◌, Ok, IfOk, IsErrOf};
 ghost use Rattle.amf_graph.specs.Arena.{Names, value_content};
 ghost use Rattle.amf_graph.specs.Bounds.{weight};
 ghost use Rattle.amf_graph.specs.Isomorphic.{Isomorphic};
@@ -10,8 +9,8 @@ use amf_graph::{BuildEnd, Builder, Rooted, Value};
 use amf_wire::Memory;
 use std::alloc::Global;
 
-/// What a builder kept that has room for it.
-pub(crate) fn kept<T: Drop>(answer: Result<T, BuildEnd>) -> Result<T, Memory>
+/// What a builder kept that has room for it. It gives up where there is no memory.
+pub fn kept<T: Drop>(answer: Result<T, BuildEnd>) -> Result<T, Memory>
     requires { IsErrOf answer BuildEnd.Full → ⊥ }
     ensures { IfOk result (λ x. answer ≡ Ok x) }
 {
@@ -19,18 +18,6 @@ pub(crate) fn kept<T: Drop>(answer: Result<T, BuildEnd>) -> Result<T, Memory>
         Ok(kept) => Ok(kept),
         Err(BuildEnd::Memory) => Err(Memory),
         Err(BuildEnd::Full) => unreachable!(),
-    }
-}
-
-/// The graph with this root, of which all nodes are closed.
-pub fn whole(builder: Builder, root: Value) -> Rooted
-    requires names { Names builder root }
-    requires closed { AllByRecursion (λ n. n.is_open ≡ false) builder.nodes }
-    ensures { result ≡ record { arena = builder; root = root } }
-{
-    match builder.finish(root) {
-        Ok(graph) => graph,
-        Err(_) => unreachable!(),
     }
 }
 
@@ -44,5 +31,5 @@ pub fn copied(alloc: Global, graph: &Rooted, value: Value) -> Result<Rooted, Mem
     graph.is_finished();
     let mut builder = Builder::beside(alloc, graph)?;
     let copies = kept(builder.graft_values(graph, &[value]))?;
-    Ok(whole(builder, copies[0]))
+    Ok(builder.whole(copies[0]))
 }

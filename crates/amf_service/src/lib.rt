@@ -15,7 +15,7 @@ mod sum;
 mod texts;
 
 pub use arguments::{is_named, items, one_item};
-pub use copies::{copied, whole};
+pub use copies::{copied, kept};
 pub use echo::Echo;
 pub use facts::{service_laws, service_rows};
 pub use faults::fault;
@@ -23,3 +23,4 @@ pub use names::Names;
 pub use registry::{CallEnd, Registry, RegistryEnd};
 pub use service::{Service, ServiceEnd};
 pub use sum::Sum;
+pub use texts::add_array;

@@ -1,18 +1,10 @@
 ghost use Rattle.std.specs.Prelude.{◌≡◌, ◌≤ℤ◌, pos, negsuc, false, true, nat_lt, IfSome, IsNone};
 ghost use Rattle.amf_graph.specs.Arena.{Arena, value_content};
 ghost use Rattle.amf_service.specs.Shipped.{number_of, size_of};
-ghost use Rattle.amf_wire.specs.WholeNumbers.{whole_of, signed_pattern};
+ghost use Rattle.amf_wire.specs.WholeNumbers.{signed_pattern};
 
 use amf_graph::Value;
-use amf_wire::{Pattern, pattern_of};
-
-/// The whole number that a double is, if it is one.
-fn whole_of(p: Pattern) -> Option<i64>
-    ensures value { result ≡ whole_of p.0 }
-    ensures bound { IfSome result (λ n. (negsuc 9007199254740990 ≤ℤ n) × (n ≤ℤ pos 9007199254740991)) }
-{
-    amf_wire::whole_of(p)
-}
+use amf_wire::{Pattern, pattern_of, whole_of};
 
 /// The number that a value is: an integer, or a double that is a whole number below 2^53 in size.
 pub(crate) fn number_of(value: Value) -> Option<i64>

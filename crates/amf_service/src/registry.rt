@@ -3,7 +3,7 @@ ghost use Rattle.std.specs.List.{AllByRecursion};
 ghost use Rattle.amf_graph.specs.Bounds.{weight};
 ghost use Rattle.amf_graph.specs.Rooted.{content};
 ghost use Rattle.amf_service.specs.Meaning.{IsLawful, asked, heaviest_arguments, heaviest_result};
-ghost use Rattle.amf_service.specs.Registry.{Entry, called, AnswersCall, AreDistinct, IsFirstRepeated};
+ghost use Rattle.amf_service.specs.Registry.{called, services_by, AnswersCall, AreDistinct, IsFirstRepeated};
 ghost use Rattle.amf_service.specs.ServiceLaws.{CallsMatch};
 ghost use Rattle.amf_service.specs.declared.registry.RegistryEnd.TheVariants as registry_end;
 
@@ -116,7 +116,7 @@ impl Registry {
         args: &Rooted,
     ) -> Result<Rooted, CallEnd>
         requires { weight args.now.arena ≤ heaviest_arguments }
-        ensures answer { let means : List Entry = map (λ e. record { name = e.0.items; means = record { knows = knows e.1; gives = gives e.1 } }) self.now.services.entries in AnswersCall (called means service.now operation.now (content args.now)) result }
+        ensures answer { AnswersCall (called (services_by self.now.services.entries (λ x. x.items) knows gives) service.now operation.now (content args.now)) result }
         ensures light { IfOk result (λ graph. weight graph.arena ≤ heaviest_result) }
     {
         match self.services.get(service.as_bytes()) {
@@ -127,7 +127,7 @@ impl Registry {
 
     /// The law of every service here: whole isomorphic arguments give isomorphic results and equal faults. It changes nothing.
     pub fn are_lawful(&self)
-        ensures { let means : List Entry = map (λ e. record { name = e.0.items; means = record { knows = knows e.1; gives = gives e.1 } }) self.now.services.entries in AllByRecursion (λ e. IsLawful e.means.gives) means }
+        ensures { AllByRecursion (λ e. IsLawful e.means.gives) (services_by self.now.services.entries (λ x. x.items) knows gives) }
     {
         for service in self.services.values() {
             obeys_the_law(service);
@@ -137,7 +137,7 @@ impl Registry {
     /// The law of the service of this name: for isomorphic arguments it gives isomorphic results and equal ends. It changes
     /// nothing.
     pub fn is_lawful(&self, name: &Name)
-        ensures { let means : List Entry = map (λ e. record { name = e.0.items; means = record { knows = knows e.1; gives = gives e.1 } }) self.now.services.entries in CallsMatch means name.now }
+        ensures { CallsMatch (services_by self.now.services.entries (λ x. x.items) knows gives) name.now }
     {
         match self.services.get(name.as_bytes()) {
             Some(found) => obeys_the_law(found),

@@ -6,7 +6,6 @@ ghost use Rattle.amf_graph.specs.Rooted.{content};
 ghost use Rattle.amf_service.specs.Made.{totalled};
 ghost use Rattle.amf_service.specs.Shipped.{items_of, sum_name, summed, summed_total, total_of};
 
-use crate::copies::whole;
 use crate::number::{double_of, number_of};
 use crate::{Service, ServiceEnd, fault, is_named, items};
 use amf_graph::{Builder, Rooted, Value};
@@ -45,7 +44,7 @@ fn summed(alloc: Global, total: i128) -> Result<Rooted, ServiceEnd>
     ensures light { IfOk result (λ graph. weight graph.arena ≤ heaviest_result) }
 {
     match double_of(total) {
-        Some(sum) => Ok(whole(Builder::new(alloc)?, Value::Double(sum))),
+        Some(sum) => Ok(Builder::new(alloc)?.whole(Value::Double(sum))),
         None => Err(fault(alloc, b"too large")),
     }
 }

@@ -11,7 +11,7 @@ ghost use Rattle.amf_service.specs.Made.{texts_of, AreTextsOf};
 ghost use Rattle.amf_service.specs.Meaning.{heaviest_arguments};
 ghost use Rattle.amf_service.specs.Shipped.{is_before, texts_graph};
 
-use crate::copies::{kept, whole};
+use crate::copies::kept;
 use amf_graph::{Builder, NodeId, Part, Rooted, Shape, TextId, Value};
 use amf_wire::Memory;
 use std::alloc::Global;
@@ -32,8 +32,8 @@ pub(crate) fn in_order(
     Ok(sorted)
 }
 
-/// Adds an array of these values.
-pub(crate) fn add_array(builder: &mut Builder, items: &[Value]) -> Result<NodeId, Memory>
+/// Adds an array of these values. It gives up where there is no memory.
+pub fn add_array(builder: &mut Builder, items: &[Value]) -> Result<NodeId, Memory>
     requires names { AllByRecursion (Names builder.old) items.now }
     requires room { length builder.old.nodes + length items.now < MAX_COUNT }
     ensures id { IfOk result (λ n. n.0 ≡ length builder.old.nodes) }
@@ -71,7 +71,7 @@ pub(crate) fn array_of_texts(
     let mut builder = Builder::beside(alloc, graph)?;
     let copies = kept(builder.graft_values(graph, &values))?;
     let array = add_array(&mut builder, &copies)?;
-    let made = whole(builder, Value::Node(array));
+    let made = builder.whole(Value::Node(array));
     made.is_finished();
     Ok(made)
 }

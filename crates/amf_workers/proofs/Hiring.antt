@@ -5,8 +5,8 @@ use Rattle.std.proofs.lemmas.List.{reverse-append, reverse-reverse}
 use Rattle.amf_desk.specs.Histories.{own, NoneBy}
 use Rattle.amf_desk.specs.Passes.{Held}
 use Rattle.amf_desk.proofs.Own.{own_none}
-use Rattle.amf_workers.specs.declared.post.Post.{Post}
-use Rattle.amf_workers.specs.Posts.{IsFresh, Hired, AllHired}
+use Rattle.amf_workers.specs.declared.hired_worker.HiredWorker.{HiredWorker}
+use Rattle.amf_workers.specs.HiredWorkers.{IsFresh, Hired, AllHired}
 
 -- one more of a list is taken from the end of the reversed rest
 pub popped : {X : Type 0} (all done left left' : List X) (x : X) → all ≡ done ++ reverse left → left ≡ left' ++ x ∷ [] → all ≡ (done ++ x ∷ []) ++ reverse left'
@@ -37,27 +37,27 @@ pub of_popped : {X : Type 0} (P : X → Type 0) (all done rest : List X) (x : X)
 of_popped P all done rest x h is = of_middle P done rest x (subst (AllByRecursion P) is h)
 
 module _ {H L : Type 0} (first : Held) where
-  hired_last : (n : ℕ) (hs : List H) (ws : List (Post H L)) (h : H) (w : Post H L) → AllHired first (2 ^ 55) n hs ws → Hired first (2 ^ 55) (n + length hs) h w → AllHired first (2 ^ 55) n (hs ++ h ∷ []) (ws ++ w ∷ [])
+  hired_last : (n : ℕ) (hs : List H) (ws : List (HiredWorker H L)) (h : H) (w : HiredWorker H L) → AllHired first (2 ^ 55) n hs ws → Hired first (2 ^ 55) (n + length hs) h w → AllHired first (2 ^ 55) n (hs ++ h ∷ []) (ws ++ w ∷ [])
   hired_last n [] [] h w all one = (subst (λ (k : ℕ). Hired first (2 ^ 55) k h w) (let e : n + 0 ≡ n = omega arith in e) one, tt)
   hired_last n [] (v ∷ vs) h w all one = absurd all
   hired_last n (g ∷ gs) [] h w all one = absurd all
   hired_last n (g ∷ gs) (v ∷ vs) h w all one = (all.0, hired_last (n + 1) gs vs h w all.1 (subst (λ (k : ℕ). Hired first (2 ^ 55) k h w) (let e : n + suc (length gs) ≡ n + 1 + length gs = omega arith in e) one))
 
-  pub as_many : (n : ℕ) (hs : List H) (ws : List (Post H L)) → AllHired first (2 ^ 55) n hs ws → length ws ≡ length hs
+  pub as_many : (n : ℕ) (hs : List H) (ws : List (HiredWorker H L)) → AllHired first (2 ^ 55) n hs ws → length ws ≡ length hs
   as_many n [] [] all = refl
   as_many n [] (v ∷ vs) all = absurd all
   as_many n (g ∷ gs) [] all = absurd all
   as_many n (g ∷ gs) (v ∷ vs) all = ap suc (as_many (n + 1) gs vs all.1)
 
   -- all are of the one desk
-  pub one_desk : (n : ℕ) (hs : List H) (ws : List (Post H L)) → AllHired first (2 ^ 55) n hs ws → (k : ℕ) (d : Post H L) → k < length ws → (get_or ws k d).worker.pass.desk ≡ first.desk
+  pub one_desk : (n : ℕ) (hs : List H) (ws : List (HiredWorker H L)) → AllHired first (2 ^ 55) n hs ws → (k : ℕ) (d : HiredWorker H L) → k < length ws → (get_or ws k d).worker.pass.desk ≡ first.desk
   one_desk n hs [] all k d lt = absurd (omega arith)
   one_desk n [] (v ∷ vs) all k d lt = absurd all
   one_desk n (g ∷ gs) (v ∷ vs) all zero d lt = all.0.fresh.desk_is
   one_desk n (g ∷ gs) (v ∷ vs) all (suc k) d lt = one_desk (n + 1) gs vs all.1 k d (omega arith)
 
   -- The halls that are left, those that have workers, and the first pass after those were split off.
-  pub record SoFar (now : Held) (all left : List H) (ws : List (Post H L)) : Type 0 where
+  pub record SoFar (now : Held) (all left : List H) (ws : List (HiredWorker H L)) : Type 0 where
     pub done : List H
     pub parts : all ≡ done ++ reverse left
     pub hired : AllHired first (2 ^ 55) 1 done ws
@@ -67,7 +67,7 @@ module _ {H L : Type 0} (first : Held) where
     pub splits : now.splits ≡ length done
     pub budget : now.budget + length done * 2 ^ 55 ≡ first.budget
 
-  pub none_hired : (all left : List H) (ws : List (Post H L)) → left ≡ reverse all → ws ≡ [] → first.number ≡ 0 → first.splits ≡ 0 → SoFar first all left ws
+  pub none_hired : (all left : List H) (ws : List (HiredWorker H L)) → left ≡ reverse all → ws ≡ [] → first.number ≡ 0 → first.splits ≡ 0 → SoFar first all left ws
   none_hired all left ws is none number splits = record {
     done = [];
     parts = none_popped all ∙ ap (λ l. reverse l) (sym is);
@@ -80,7 +80,7 @@ module _ {H L : Type 0} (first : Held) where
   }
 
   -- a pass is split off for one more hall
-  pub one_hired : (now now' p : Held) (all left left' : List H) (ws : List (Post H L)) (h : H) (w : Post H L) → SoFar now all left ws → left ≡ left' ++ h ∷ [] → 2 ^ 55 ≤ now.budget
+  pub one_hired : (now now' p : Held) (all left left' : List H) (ws : List (HiredWorker H L)) (h : H) (w : HiredWorker H L) → SoFar now all left ws → left ≡ left' ++ h ∷ [] → 2 ^ 55 ≤ now.budget
       → now' ≡ record { desk = now.desk; destinations = now.destinations; number = 0; seen = now.seen; budget = now.budget - 2 ^ 55; splits = now.splits + 1 }
       → p ≡ record { desk = now.desk; destinations = now.destinations; number = now.splits + 1; seen = now.seen; budget = 2 ^ 55; splits = 0 }
       → NoneBy p.number p.seen → w.worker.pass ≡ p → w.worker.hall ≡ h → SoFar now' all left' (ws ++ w ∷ [])
@@ -106,6 +106,6 @@ module _ {H L : Type 0} (first : Held) where
         budget = omega (arith, length-append s.done (h ∷ []));
       }
 
-  pub all_hired : (now : Held) (all left : List H) (ws : List (Post H L)) → SoFar now all left ws → length left ≡ 0 → AllHired first (2 ^ 55) 1 all ws × (now.budget + length all * 2 ^ 55 ≡ first.budget)
+  pub all_hired : (now : Held) (all left : List H) (ws : List (HiredWorker H L)) → SoFar now all left ws → length left ≡ 0 → AllHired first (2 ^ 55) 1 all ws × (now.budget + length all * 2 ^ 55 ≡ first.budget)
   all_hired now all left ws s none = let is = all_popped all s.done left s.parts none in
       (subst (λ (l : List H). AllHired first (2 ^ 55) 1 l ws) (sym is) s.hired, subst (λ (l : List H). now.budget + length l * 2 ^ 55 ≡ first.budget) (sym is) s.budget)

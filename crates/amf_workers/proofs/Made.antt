@@ -1,21 +1,22 @@
 -- Shifts, of the workers as they were hired and as they have served.
 use Rattle.std.proofs.Common.{◌≡◌, ℕ, suc, ◌+◌, List, [], ◌∷◌, map, refl, ap, subst, arith}
 use Rattle.std.specs.List.{AllByRecursion}
+use Rattle.amf_io.specs.declared.link.Link.{Ghosts as LinkMembers}
 use Rattle.amf_desk.specs.Passes.{Held}
 use Rattle.amf_service.specs.Registry.{Entry}
 use Rattle.amf_gateway.specs.declared.worker.WorkerEnd.{WorkerEnd}
 use Rattle.amf_gateway.specs.Served.{Served}
-use Rattle.amf_gateway.specs.Tells.{OfLink, OfHall}
-use Rattle.amf_workers.specs.declared.post.Post.{Post}
-use Rattle.amf_workers.specs.Posts.{IsFresh, Hired, AllHired, AllServed}
+use Rattle.amf_gateway.specs.Tells.{HallMembers}
+use Rattle.amf_workers.specs.declared.hired_worker.HiredWorker.{HiredWorker}
+use Rattle.amf_workers.specs.HiredWorkers.{IsFresh, Hired, AllHired, AllServed}
 use Rattle.amf_workers.specs.Together.{EachFrom, Shift}
 
-module _ {H L : Type 0} (hall : OfHall H L) (link : OfLink L) (services : List Entry) (each : ℕ) where
+module _ {H L : Type 0} (hall : HallMembers H L) (link : LinkMembers L) (services : List Entry) (each : ℕ) where
   abbrev pub IsNew : H → Type 0
   IsNew h = (hall.faults h ≡ 0) × (hall.served h ≡ [])
 
   -- the shifts of these halls, by the workers after them; the passes were fresh, from the n-th on
-  pub record Made (first : Held) (share n : ℕ) (hs : List H) (ys : List (Post H L)) : Type 0 where
+  pub record Made (first : Held) (share n : ℕ) (hs : List H) (ys : List (HiredWorker H L)) : Type 0 where
     pub shifts : List (Shift hall link services each)
     pub opened : map (λ s. s.opened) shifts ≡ hs
     pub returned : map (λ s. s.returned) shifts ≡ map (λ y. y.worker.hall) ys
@@ -23,7 +24,7 @@ module _ {H L : Type 0} (hall : OfHall H L) (link : OfLink L) (services : List E
     pub ends : map (λ s. s.end) shifts ≡ map (λ y. y.end) ys
     pub fresh : EachFrom n (λ i s. IsFresh first share i s.before) shifts
 
-  pub made : (first : Held) (share n : ℕ) (hs : List H) (xs ys : List (Post H L)) → AllHired first share n hs xs → AllByRecursion IsNew hs → AllServed hall link services each xs ys → Made first share n hs ys
+  pub made : (first : Held) (share n : ℕ) (hs : List H) (xs ys : List (HiredWorker H L)) → AllHired first share n hs xs → AllByRecursion IsNew hs → AllServed hall link services each xs ys → Made first share n hs ys
   made first share n [] [] [] h new s = record { shifts = []; opened = refl; returned = refl; after = refl; ends = refl; fresh = tt }
   made first share n [] [] (y ∷ ys) h new s = let e = s.0 in absurd (omega arith)
   made first share n [] (x ∷ xs) ys h new s = absurd h

@@ -3,16 +3,17 @@ use Rattle.std.proofs.Common.{◌≡◌, ℕ, suc, ◌+◌, ◌<◌, ◌≤◌, 
 use Rattle.std.specs.List.{All, AllByRecursion}
 use Rattle.std.proofs.lemmas.List.{length-map}
 use Rattle.std.proofs.lemmas.List.Sums.{sum_by-cons}
+use Rattle.amf_io.specs.declared.link.Link.{Ghosts as LinkMembers}
+use Rattle.amf_io.specs.declared.front.Front.{Ghosts as FrontMembers}
 use Rattle.amf_broker.specs.History.{Entry as Event}
 use Rattle.amf_io.specs.Front.{Asks, Opens, CountsOpen}
 use Rattle.amf_io.specs.declared.front.OpenEnd.{OpenEnd}
 use Rattle.amf_io.specs.declared.front.OpenEnd.TheVariants as open_end
 use Rattle.amf_service.specs.Registry.{Entry}
-use Rattle.amf_gateway.specs.Tells.{OfLink, OfHall}
+use Rattle.amf_gateway.specs.Tells.{HallMembers}
 use Rattle.amf_workers.specs.declared.answer.ServeAnswer.{ServeAnswer}
 use Rattle.amf_workers.specs.declared.answer.ServeAnswer.TheVariants.{Memory, NotOpened, Closed as WasClosed}
 use Rattle.amf_workers.specs.Halls.{Worked, ServesHalls}
-use Rattle.amf_workers.specs.OfFront.{OfFront}
 use Rattle.amf_workers.specs.Together.{Shift, CountsFaults, Failed, GaveUp, Serves}
 use Rattle.amf_workers.proofs.Whole.{counts_faults, failed_sum}
 
@@ -22,7 +23,7 @@ none_failed faults (h ∷ hs) whole = let here = whole 0 h (omega arith) in let 
 
 -- What the front said, where it gave no halls.
 
-module _ {F H : Type 0} (front : OfFront F H) (port workers : ℕ) (a b : F) (r : Result (Vec H Global) OpenEnd) (tells : front.tells b → front.tells a) (halls : front.tells b → front.halls b ≡ front.halls a) where
+module _ {F H L : Type 0} (front : FrontMembers F H L) (port workers : ℕ) (a b : F) (r : Result (Vec H Global) OpenEnd) (tells : front.tells b → front.tells a) (halls : front.tells b → front.halls b ≡ front.halls a) where
   pub failed : r ≡ Err open_end.Failed → (front.tells b → Asks (front.asked a) (front.asked b) port workers r) → (front.tells b → Opens (front.to_open a) (front.to_open b) r) → CountsOpen (front.faults a) (front.faults b) r → Failed front port workers a b
   failed is asks opens counts = record {
     tells = tells;
@@ -42,10 +43,10 @@ module _ {F H : Type 0} (front : OfFront F H) (port workers : ℕ) (a b : F) (r 
         counts = subst (CountsOpen (front.faults a) (front.faults b)) is counts;
       }
 
-pub not_asked : {F H : Type 0} (front : OfFront F H) (a : F) → GaveUp front a a
+pub not_asked : {F H L : Type 0} (front : FrontMembers F H L) (a : F) → GaveUp front a a
 not_asked front a = record { opened = []; tells = λ t. t; gave = λ t. refl; took_back = λ t. sym (append-nil (front.halls a)); counts = refl }
 
-module _ {F H L : Type 0} (front : OfFront F H) (hall : OfHall H L) (link : OfLink L) (services : List Entry) (port workers each : ℕ) where
+module _ {F H L : Type 0} (front : FrontMembers F H L) (hall : HallMembers H L) (link : LinkMembers L) (services : List Entry) (port workers each : ℕ) where
   -- the front was asked, and gave these halls
   pub record Opening (a b : F) (hs : List H) : Type 0 where
     pub tells : front.tells b → front.tells a

@@ -6,6 +6,7 @@ use Rattle.std.proofs.lemmas.List.Folds.{list_any-append}
 use Rattle.std.proofs.lemmas.List.Sums.{sum_by-append}
 use Rattle.amf_io.specs.Front.{CountsBack}
 use Rattle.amf_io.specs.Outside.{Rose}
+use Rattle.amf_io.specs.declared.front.Front.{Ghosts as FrontMembers}
 use Rattle.amf_broker.specs.History.{Entry as Event}
 use Rattle.amf_desk.specs.Histories.{Begins}
 use Rattle.amf_desk.specs.Passes.{Held, JoinedTo}
@@ -13,9 +14,8 @@ use Rattle.amf_desk.proofs.Own.{begins_self, begins_trans, joined_begins}
 use Rattle.amf_gateway.specs.declared.worker.WorkerEnd.{WorkerEnd}
 use Rattle.amf_gateway.specs.Served.{starved_in}
 use Rattle.amf_workers.specs.declared.gather.Ends.{Ends}
-use Rattle.amf_workers.specs.declared.post.Post.{Post}
+use Rattle.amf_workers.specs.declared.hired_worker.HiredWorker.{HiredWorker}
 use Rattle.amf_workers.specs.Gathered.{Gathered, TookBack}
-use Rattle.amf_workers.specs.OfFront.{OfFront}
 use Rattle.amf_workers.specs.Together.{failed_in}
 use Rattle.amf_workers.proofs.Hiring.{popped, none_popped, all_popped}
 
@@ -50,7 +50,7 @@ gathered_next p q r f ps g j =
 
 -- Halls.
 
-module _ {F H : Type 0} (front : OfFront F H) (faults : H → ℕ) where
+module _ {F H L : Type 0} (front : FrontMembers F H L) (faults : H → ℕ) where
   pub took_none : (a : F) → TookBack front faults a a []
   took_none a = record { tells = λ t. t; asked = λ t. refl; to_open = λ t. refl; took_back = λ t. sym (append-nil (front.halls a)); counts = record { never_falls = omega arith; rises = λ lt. absurd (omega arith); stays = λ e. refl } }
 
@@ -97,40 +97,40 @@ module _ {F H : Type 0} (front : OfFront F H) (faults : H → ℕ) where
   halls_all a b all left s none = subst (TookBack front faults a b) (sym (all_popped all s.done left s.parts none)) s.halls
 
   -- the workers that were taken in, of those that are to be
-  module _ {L : Type 0} where
-    pub record SoFar (p q : Held) (a b : F) (ends : Ends) (all left : List (Post H L)) : Type 0 where
-      pub done : List (Post H L)
+  module _ {K : Type 0} where
+    pub record SoFar (p q : Held) (a b : F) (ends : Ends) (all left : List (HiredWorker H K)) : Type 0 where
+      pub done : List (HiredWorker H K)
       pub parts : all ≡ done ++ reverse left
       pub passes : Gathered p q (map (λ w. w.worker.pass) done)
       pub halls : TookBack front faults a b (map (λ w. w.worker.hall) done)
       pub starved : ends.starved ≡ list_any starved_in (map (λ w. w.end) done)
       pub faulty : ends.faulty ≡ list_any failed_in (map (λ w. w.end) done)
 
-    pub none_taken : (p : Held) (a : F) (ends : Ends) (all left : List (Post H L)) → left ≡ reverse all → ends.starved ≡ false → ends.faulty ≡ false → SoFar p p a a ends all left
-    none_taken p a ends all left is starved faulty = record { done = []; parts = none_popped all ∙ ap (λ (l : List (Post H L)). reverse l) (sym is); passes = gathered_none p; halls = took_none a; starved = starved; faulty = faulty }
+    pub none_taken : (p : Held) (a : F) (ends : Ends) (all left : List (HiredWorker H K)) → left ≡ reverse all → ends.starved ≡ false → ends.faulty ≡ false → SoFar p p a a ends all left
+    none_taken p a ends all left is starved faulty = record { done = []; parts = none_popped all ∙ ap (λ (l : List (HiredWorker H K)). reverse l) (sym is); passes = gathered_none p; halls = took_none a; starved = starved; faulty = faulty }
 
-    any_last : (test : WorkerEnd → Bool) (done : List (Post H L)) (w : Post H L) (b c : Bool) → b ≡ list_any test (map (λ w. w.end) done) → c ≡ (b || test w.end) → c ≡ list_any test (map (λ w. w.end) (done ++ w ∷ []))
+    any_last : (test : WorkerEnd → Bool) (done : List (HiredWorker H K)) (w : HiredWorker H K) (b c : Bool) → b ≡ list_any test (map (λ w. w.end) done) → c ≡ (b || test w.end) → c ≡ list_any test (map (λ w. w.end) (done ++ w ∷ []))
     any_last test done w b c e is =
         is ∙ (ap (λ (x : Bool). x || test w.end) e ∙ (ap (λ (x : Bool). list_any test (map (λ w. w.end) done) || x) (sym (or_false (test w.end)))
-        ∙ (sym (list_any-append test (map (λ w. w.end) done) (w.end ∷ [])) ∙ ap (list_any test) (sym (map-append (λ (w : Post H L). w.end) done (w ∷ []))))))
+        ∙ (sym (list_any-append test (map (λ w. w.end) done) (w.end ∷ [])) ∙ ap (list_any test) (sym (map-append (λ (w : HiredWorker H K). w.end) done (w ∷ []))))))
 
-    pub one_taken : (p q r : Held) (a b c : F) (ends ends' : Ends) (all left left' : List (Post H L)) (w : Post H L) (end : WorkerEnd) → SoFar p q a b ends all left → left ≡ left' ++ w ∷ []
+    pub one_taken : (p q r : Held) (a b c : F) (ends ends' : Ends) (all left left' : List (HiredWorker H K)) (w : HiredWorker H K) (end : WorkerEnd) → SoFar p q a b ends all left → left ≡ left' ++ w ∷ []
         → JoinedTo q w.worker.pass r → TookBack front faults b c (w.worker.hall ∷ []) → end ≡ w.end → ends'.starved ≡ (ends.starved || starved_in end) → ends'.faulty ≡ (ends.faulty || failed_in end) → SoFar p r a c ends' all left'
     one_taken p q r a b c ends ends' all left left' w end s is join took told starved faulty = record {
       done = s.done ++ w ∷ [];
       parts = popped all s.done left left' w s.parts is;
-      passes = subst (Gathered p r) (sym (map-append (λ (w : Post H L). w.worker.pass) s.done (w ∷ []))) (gathered_next p q r w.worker.pass (map (λ w. w.worker.pass) s.done) s.passes join);
-      halls = subst (TookBack front faults a c) (sym (map-append (λ (w : Post H L). w.worker.hall) s.done (w ∷ []))) (took_both a b c (map (λ w. w.worker.hall) s.done) (w.worker.hall ∷ []) s.halls took);
+      passes = subst (Gathered p r) (sym (map-append (λ (w : HiredWorker H K). w.worker.pass) s.done (w ∷ []))) (gathered_next p q r w.worker.pass (map (λ w. w.worker.pass) s.done) s.passes join);
+      halls = subst (TookBack front faults a c) (sym (map-append (λ (w : HiredWorker H K). w.worker.hall) s.done (w ∷ []))) (took_both a b c (map (λ w. w.worker.hall) s.done) (w.worker.hall ∷ []) s.halls took);
       starved = any_last starved_in s.done w ends.starved ends'.starved s.starved (starved ∙ ap (λ (e : WorkerEnd). ends.starved || starved_in e) told);
       faulty = any_last failed_in s.done w ends.faulty ends'.faulty s.faulty (faulty ∙ ap (λ (e : WorkerEnd). ends.faulty || failed_in e) told);
     }
 
-    pub all_taken : (p q : Held) (a b : F) (ends : Ends) (all left : List (Post H L)) → SoFar p q a b ends all left → length left ≡ 0
+    pub all_taken : (p q : Held) (a b : F) (ends : Ends) (all left : List (HiredWorker H K)) → SoFar p q a b ends all left → length left ≡ 0
         → Gathered p q (map (λ w. w.worker.pass) all) × TookBack front faults a b (map (λ w. w.worker.hall) all) × (ends.starved ≡ list_any starved_in (map (λ w. w.end) all)) × (ends.faulty ≡ list_any failed_in (map (λ w. w.end) all))
     all_taken p q a b ends all left s none =
         let is : s.done ≡ all = sym (all_popped all s.done left s.parts none) in (
-          subst (λ (l : List (Post H L)). Gathered p q (map (λ w. w.worker.pass) l)) is s.passes,
-          subst (λ (l : List (Post H L)). TookBack front faults a b (map (λ w. w.worker.hall) l)) is s.halls,
-          subst (λ (l : List (Post H L)). ends.starved ≡ list_any starved_in (map (λ w. w.end) l)) is s.starved,
-          subst (λ (l : List (Post H L)). ends.faulty ≡ list_any failed_in (map (λ w. w.end) l)) is s.faulty,
+          subst (λ (l : List (HiredWorker H K)). Gathered p q (map (λ w. w.worker.pass) l)) is s.passes,
+          subst (λ (l : List (HiredWorker H K)). TookBack front faults a b (map (λ w. w.worker.hall) l)) is s.halls,
+          subst (λ (l : List (HiredWorker H K)). ends.starved ≡ list_any starved_in (map (λ w. w.end) l)) is s.starved,
+          subst (λ (l : List (HiredWorker H K)). ends.faulty ≡ list_any failed_in (map (λ w. w.end) l)) is s.faulty,
         )

@@ -3,6 +3,8 @@ use Rattle.std.proofs.Common.{◌≡◌, ℕ, suc, ◌+◌, ◌*◌, ◌^◌, �
 use Rattle.std.specs.List.{All, AllByRecursion, list_any}
 use Rattle.std.proofs.lemmas.List.{length-map, take-append-le, take_all}
 use Rattle.std.proofs.lemmas.List.Sums.{sum_by-cons}
+use Rattle.amf_io.specs.declared.link.Link.{Ghosts as LinkMembers}
+use Rattle.amf_io.specs.declared.front.Front.{Ghosts as FrontMembers}
 use Rattle.amf_broker.specs.History.{Entry as Event}
 use Rattle.amf_io.specs.Front.{CountsBack}
 use Rattle.amf_desk.specs.declared.closed.Closed.{Closed}
@@ -14,12 +16,11 @@ use Rattle.amf_gateway.specs.declared.worker.WorkerEnd.{WorkerEnd}
 use Rattle.amf_gateway.specs.declared.worker.WorkerEnd.TheVariants.{Done, FrontFault}
 use Rattle.amf_gateway.specs.Served.{Served, entries_of, starved_in, CountsFront, IsWholeUnlessFault}
 use Rattle.amf_gateway.specs.ServesLink.{Service, IsServed, bytes_of}
-use Rattle.amf_gateway.specs.Tells.{OfLink, OfHall}
-use Rattle.amf_workers.specs.declared.post.Post.{Post}
+use Rattle.amf_gateway.specs.Tells.{HallMembers}
+use Rattle.amf_workers.specs.declared.hired_worker.HiredWorker.{HiredWorker}
 use Rattle.amf_workers.specs.Gathered.{Gathered, TookBack}
 use Rattle.amf_workers.specs.Halls.{Worked}
-use Rattle.amf_workers.specs.OfFront.{OfFront}
-use Rattle.amf_workers.specs.Posts.{IsFresh, AllHired, AllServed, CanJoin}
+use Rattle.amf_workers.specs.HiredWorkers.{IsFresh, AllHired, AllServed, CanJoin}
 use Rattle.amf_workers.specs.Together.{destinations, EachFrom, failed_in, Shift, CountsFaults, TellsBoth}
 use Rattle.amf_workers.proofs.FewCalls.{few_entries}
 use Rattle.amf_workers.proofs.Made.{IsNew, Made, made}
@@ -56,7 +57,7 @@ pub counts_faults : (faulty : Bool) (before now sum : ℕ) → CountsBack before
 counts_faults true before now sum c h = (c.never_falls, c.rises (h.0 refl))
 counts_faults false before now sum c h = c.stays (h.1 refl)
 
-module _ {H L : Type 0} (hall : OfHall H L) (link : OfLink L) (services : List Entry) (each : ℕ) where
+module _ {H L : Type 0} (hall : HallMembers H L) (link : LinkMembers L) (services : List Entry) (each : ℕ) where
   abbrev Of : Type 0
   Of = Shift hall link services each
 
@@ -126,7 +127,7 @@ module _ {H L : Type 0} (hall : OfHall H L) (link : OfLink L) (services : List E
         λ e. let no = or_no (failed_in s.end) (list_any failed_in (map (λ s. s.end) ss)) e in let a = here.1 no.0 in let b = rest.1 no.1 in omega arith,
       )
 
-  pub worked : (first hired last : Held) (hs : List H) (xs ys : List (Post H L)) (told : Closed) (starved faulty : Bool)
+  pub worked : (first hired last : Held) (hs : List H) (xs ys : List (HiredWorker H L)) (told : Closed) (starved faulty : Bool)
       → first.destinations ≡ destinations → AllHired first (2 ^ 55) 1 hs xs → AllByRecursion (IsNew hall link services each) hs → AllServed hall link services each xs ys
       → hired.destinations ≡ first.destinations → hired.budget + length hs * 2 ^ 55 ≡ 2 ^ 62 → Gathered hired last (map (λ w. w.worker.pass) ys) → ClosedAs last told
       → starved ≡ list_any starved_in (map (λ w. w.end) ys) → faulty ≡ list_any failed_in (map (λ w. w.end) ys)
@@ -165,7 +166,7 @@ module _ {H L : Type 0} (hall : OfHall H L) (link : OfLink L) (services : List E
   all_new (g ∷ gs) whole fresh = ((whole 0 g (omega arith), fresh 0 g (omega arith)), all_new gs (λ k d lt. whole (suc k) d (omega arith)) (λ k d lt. fresh (suc k) d (omega arith)))
 
   -- their passes can be joined
-  can_join : (first now : Held) (n : ℕ) (hs : List H) (xs ys : List (Post H L)) → now.desk ≡ first.desk → 0 < n → AllHired first (2 ^ 55) n hs xs → AllServed hall link services each xs ys → AllByRecursion (CanJoin now) ys
+  can_join : (first now : Held) (n : ℕ) (hs : List H) (xs ys : List (HiredWorker H L)) → now.desk ≡ first.desk → 0 < n → AllHired first (2 ^ 55) n hs xs → AllServed hall link services each xs ys → AllByRecursion (CanJoin now) ys
   can_join first now n [] [] [] same up all s = tt
   can_join first now n [] [] (y ∷ ys) same up all s = let e = s.0 in absurd (omega arith)
   can_join first now n [] (x ∷ xs) ys same up all s = absurd all
@@ -176,16 +177,16 @@ module _ {H L : Type 0} (hall : OfHall H L) (link : OfLink L) (services : List E
       let fresh = all.0.fresh in let number : y.worker.pass.number ≡ n = served.pass.number ∙ fresh.number in
       ((served.pass.desk ∙ (fresh.desk_is ∙ sym same), λ z. absurd (omega arith)), can_join first now (n + 1) gs xs ys same (omega arith) all.1 (omega arith, λ i d lt. s.1 (suc i) d (omega arith)))
 
-  pub join_all : (first now : Held) (hs : List H) (xs was ys : List (Post H L)) → now.desk ≡ first.desk → AllHired first (2 ^ 55) 1 hs xs → was ≡ xs → AllServed hall link services each was ys → AllByRecursion (CanJoin now) ys
-  join_all first now hs xs was ys same all is served = can_join first now 1 hs xs ys same (omega arith) all (subst (λ (l : List (Post H L)). AllServed hall link services each l ys) is served)
+  pub join_all : (first now : Held) (hs : List H) (xs was ys : List (HiredWorker H L)) → now.desk ≡ first.desk → AllHired first (2 ^ 55) 1 hs xs → was ≡ xs → AllServed hall link services each was ys → AllByRecursion (CanJoin now) ys
+  join_all first now hs xs was ys same all is served = can_join first now 1 hs xs ys same (omega arith) all (subst (λ (l : List (HiredWorker H L)). AllServed hall link services each l ys) is served)
 
-  pub halls_served : {F : Type 0} (front : OfFront F H) (a b : F) (first hired last : Held) (hs : List H) (xs was ys back : List (Post H L)) (told : Closed) (starved faulty : Bool)
+  pub halls_served : {F : Type 0} (front : FrontMembers F H L) (a b : F) (first hired last : Held) (hs : List H) (xs was ys back : List (HiredWorker H L)) (told : Closed) (starved faulty : Bool)
       → first.destinations ≡ destinations → AllHired first (2 ^ 55) 1 hs xs → All (λ h. hall.faults h ≡ 0) hs → All (λ h. hall.served h ≡ []) hs → was ≡ xs → AllServed hall link services each was ys
       → hired.destinations ≡ first.destinations → hired.budget + length hs * 2 ^ 55 ≡ 2 ^ 62 → back ≡ ys → Gathered hired last (map (λ w. w.worker.pass) back) → ClosedAs last told
       → TookBack front hall.faults a b (map (λ w. w.worker.hall) back) → starved ≡ list_any starved_in (map (λ w. w.end) back) → faulty ≡ list_any failed_in (map (λ w. w.end) back)
       → (w : Worked hall link services each hs told starved faulty) × TookBack front hall.faults a b (map (λ s. s.returned) w.shifts)
   halls_served {F} front a b first hired last hs xs was ys back told starved faulty names all whole fresh was_is served same budget back_is g c took st fa =
-      let done = worked first hired last hs xs ys told starved faulty names all (all_new hs whole fresh) (subst (λ (l : List (Post H L)). AllServed hall link services each l ys) was_is served) same budget
-      (subst (λ (l : List (Post H L)). Gathered hired last (map (λ w. w.worker.pass) l)) back_is g) c
-      (st ∙ ap (λ (l : List (Post H L)). list_any starved_in (map (λ w. w.end) l)) back_is) (fa ∙ ap (λ (l : List (Post H L)). list_any failed_in (map (λ w. w.end) l)) back_is) in
-      (done.0, subst (TookBack front hall.faults a b) (ap (λ (l : List (Post H L)). map (λ w. w.worker.hall) l) back_is ∙ sym done.1) took)
+      let done = worked first hired last hs xs ys told starved faulty names all (all_new hs whole fresh) (subst (λ (l : List (HiredWorker H L)). AllServed hall link services each l ys) was_is served) same budget
+      (subst (λ (l : List (HiredWorker H L)). Gathered hired last (map (λ w. w.worker.pass) l)) back_is g) c
+      (st ∙ ap (λ (l : List (HiredWorker H L)). list_any starved_in (map (λ w. w.end) l)) back_is) (fa ∙ ap (λ (l : List (HiredWorker H L)). list_any failed_in (map (λ w. w.end) l)) back_is) in
+      (done.0, subst (TookBack front hall.faults a b) (ap (λ (l : List (HiredWorker H L)). map (λ w. w.worker.hall) l) back_is ∙ sym done.1) took)

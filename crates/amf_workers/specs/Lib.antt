@@ -1,7 +1,6 @@
 -- The definitions that contracts cite.
-pub mod OfFront
 pub mod Together
 -- Devices of the proofs: no clause of a public call needs them.
-pub mod Posts
+pub mod HiredWorkers
 pub mod Gathered
 pub mod Halls

@@ -2,6 +2,8 @@
 use Rattle.std.specs.Prelude.{◌≡◌, ℕ, ◌+◌, ◌<◌, ◌≤◌, Bool, true, false, List, [], ◌∷◌, ◌++◌, length, map, codes, ⊤}
 use Rattle.std.specs.List.{AllByRecursion, list_any}
 use Rattle.amf_io.specs.Outside.{Rose}
+use Rattle.amf_io.specs.declared.link.Link.{Ghosts as LinkMembers}
+use Rattle.amf_io.specs.declared.front.Front.{Ghosts as FrontMembers}
 use Rattle.amf_desk.specs.declared.closed.Closed.{Closed}
 use Rattle.amf_desk.specs.Histories.{own}
 use Rattle.amf_desk.specs.Passes.{Held, ClosedAs}
@@ -10,10 +12,9 @@ use Rattle.amf_gateway.specs.declared.worker.WorkerEnd.{WorkerEnd}
 use Rattle.amf_gateway.specs.declared.worker.WorkerEnd.TheVariants.{Done, FrontFault}
 use Rattle.amf_gateway.specs.Served.{Served, entries_of, starved_in, IsWholeUnlessFault}
 use Rattle.amf_gateway.specs.ServesLink.{Service}
-use Rattle.amf_gateway.specs.Tells.{OfLink, OfHall}
+use Rattle.amf_gateway.specs.Tells.{HallMembers}
 use Rattle.amf_workers.specs.declared.answer.ServeAnswer.{ServeAnswer}
 use Rattle.amf_workers.specs.declared.answer.ServeAnswer.TheVariants.{Memory, NotOpened, Closed as WasClosed}
-use Rattle.amf_workers.specs.OfFront.{OfFront}
 
 abbrev pub destinations : List (List ℕ)
 destinations = codes "chat" ∷ codes "news" ∷ []
@@ -29,7 +30,7 @@ failed_in (Done starved) = false
 failed_in (FrontFault starved) = true
 
 -- a worker: its hall as it was opened and as it came back, its pass as it was split off and as it was joined, and how it ended
-pub record Shift {H L : Type 0} (hall : OfHall H L) (link : OfLink L) (services : List Entry) (each : ℕ) : Type 0 where
+pub record Shift {H L : Type 0} (hall : HallMembers H L) (link : LinkMembers L) (services : List Entry) (each : ℕ) : Type 0 where
   pub opened : H
   pub returned : H
   pub before : Held
@@ -41,7 +42,7 @@ pub record Shift {H L : Type 0} (hall : OfHall H L) (link : OfLink L) (services 
   pub served : Served hall link services each before after opened returned end
 
 -- the link told what it had left when it came, and tells what it holds
-abbrev pub TellsBoth : {L : Type 0} → OfLink L → Service L → Type 0
+abbrev pub TellsBoth : {L : Type 0} → LinkMembers L → Service L → Type 0
 TellsBoth link v = link.tells_left v.came × link.tells_held v.left
 
 -- a front's count rises where a hall failed, and else stays
@@ -50,7 +51,7 @@ CountsFaults before now true = (before ≤ now) × Rose before now
 CountsFaults before now false = now ≡ before
 
 -- By the services, the port, the number of workers, the links of each, the front before and after, and the answer.
-pub record Together {F H L : Type 0} (front : OfFront F H) (hall : OfHall H L) (link : OfLink L) (services : List Entry) (port workers each : ℕ) (a b : F) (told : Closed) (starved faulty : Bool) : Type 0 where
+pub record Together {F H L : Type 0} (front : FrontMembers F H L) (hall : HallMembers H L) (link : LinkMembers L) (services : List Entry) (port workers each : ℕ) (a b : F) (told : Closed) (starved faulty : Bool) : Type 0 where
   -- the front was asked once, and took back the halls that it gave, in order; each was served by a worker
   pub tells : front.tells b → front.tells a
   pub asked : front.tells b → front.asked b ≡ front.asked a ++ (port, workers) ∷ []
@@ -74,7 +75,7 @@ pub record Together {F H L : Type 0} (front : OfFront F H) (hall : OfHall H L) (
   pub counts : CountsFaults (front.faults a) (front.faults b) faulty
 
 -- the front was asked once, and failed
-pub record Failed {F H : Type 0} (front : OfFront F H) (port workers : ℕ) (a b : F) : Type 0 where
+pub record Failed {F H L : Type 0} (front : FrontMembers F H L) (port workers : ℕ) (a b : F) : Type 0 where
   pub tells : front.tells b → front.tells a
   pub asked : front.tells b → front.asked b ≡ front.asked a ++ (port, workers) ∷ []
   pub to_open : front.tells b → front.to_open b ≡ front.to_open a
@@ -82,7 +83,7 @@ pub record Failed {F H : Type 0} (front : OfFront F H) (port workers : ℕ) (a b
   pub counts : CountsFaults (front.faults a) (front.faults b) true
 
 -- the front has all halls again that it gave, if it gave some, as it gave them
-pub record GaveUp {F H : Type 0} (front : OfFront F H) (a b : F) : Type 0 where
+pub record GaveUp {F H L : Type 0} (front : FrontMembers F H L) (a b : F) : Type 0 where
   pub opened : List H
   pub tells : front.tells b → front.tells a
   pub gave : front.tells b → front.to_open a ≡ opened ++ front.to_open b
@@ -90,7 +91,7 @@ pub record GaveUp {F H : Type 0} (front : OfFront F H) (a b : F) : Type 0 where
   pub counts : CountsFaults (front.faults a) (front.faults b) false
 
 -- running out of memory is the free answer
-abbrev pub Serves : {F H L : Type 0} → OfFront F H → OfHall H L → OfLink L → List Entry → (port workers each : ℕ) → (a b : F) → ServeAnswer → Type 0
+abbrev pub Serves : {F H L : Type 0} → FrontMembers F H L → HallMembers H L → LinkMembers L → List Entry → (port workers each : ℕ) → (a b : F) → ServeAnswer → Type 0
 Serves front hall link services port workers each a b Memory = GaveUp front a b
 Serves front hall link services port workers each a b NotOpened = Failed front port workers a b
 Serves front hall link services port workers each a b (WasClosed told starved faulty) = Together front hall link services port workers each a b told starved faulty

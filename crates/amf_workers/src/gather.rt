@@ -2,11 +2,11 @@ ghost use Rattle.std.specs.Prelude.{◌≡◌, ◌≢◌, ◌||◌, true, false,
 ghost use Rattle.std.specs.List.{AllByRecursion, list_any};
 ghost use Rattle.amf_desk.specs.Passes.{JoinedTo};
 ghost use Rattle.amf_gateway.specs.Served.{starved_in};
-ghost use Rattle.amf_workers.specs.Posts.{CanJoin};
+ghost use Rattle.amf_workers.specs.HiredWorkers.{CanJoin};
 ghost use Rattle.amf_workers.specs.Together.{failed_in};
 ghost use Rattle.amf_workers.specs.Gathered.{Gathered, TookBack};
 
-use crate::post::Post;
+use crate::hired_worker::HiredWorker;
 use amf_desk::{Desk, Pass};
 use amf_gateway::WorkerEnd;
 use amf_io::Front;
@@ -40,14 +40,19 @@ impl Ends {
 }
 
 /// Gives the hall of a worker back to the front, joins its pass into the first one, and tells how it ended.
-fn take_in<F: Front>(desk: &Desk, first: &mut Pass, front: &mut F, post: Post<F::Hall>) -> WorkerEnd
+fn take_in<F: Front>(
+    desk: &Desk,
+    first: &mut Pass,
+    front: &mut F,
+    hired_worker: HiredWorker<F::Hall>,
+) -> WorkerEnd
     requires desk { first.old.desk ≡ desk.now }
-    requires worker { (post.worker.pass.desk ≡ desk.now) × (post.worker.pass.number ≢ 0) }
-    ensures pass { JoinedTo first.old post.worker.pass first.new }
-    ensures hall { TookBack (record { tells = F.tells; asked = F.asked; to_open = F.to_open; halls = F.halls; faults = F.faults }) F.Hall.faults front.old front.new (post.worker.hall ∷ []) }
-    ensures end { result ≡ post.end }
+    requires worker { (hired_worker.worker.pass.desk ≡ desk.now) × (hired_worker.worker.pass.number ≢ 0) }
+    ensures pass { JoinedTo first.old hired_worker.worker.pass first.new }
+    ensures hall { TookBack F.Front F.Hall.faults front.old front.new (hired_worker.worker.hall ∷ []) }
+    ensures end { result ≡ hired_worker.end }
 {
-    let Post { worker, end } = post;
+    let HiredWorker { worker, end } = hired_worker;
     let (pass, hall) = worker.into_parts();
     front.back(hall);
     desk.join(first, pass);
@@ -60,31 +65,31 @@ pub(crate) fn gather<F: Front>(
     desk: &Desk,
     first: &mut Pass,
     front: &mut F,
-    mut posts: Vec<Post<F::Hall>>,
+    mut hired_workers: Vec<HiredWorker<F::Hall>>,
 ) -> Ends
     requires desk { first.old.desk ≡ desk.now }
-    requires workers { AllByRecursion (CanJoin first.old) posts.items }
-    ensures passes { Gathered first.old first.new (map (λ w. w.worker.pass) posts.items) }
-    ensures halls { TookBack (record { tells = F.tells; asked = F.asked; to_open = F.to_open; halls = F.halls; faults = F.faults }) F.Hall.faults front.old front.new (map (λ w. w.worker.hall) posts.items) }
-    ensures starved { result.starved ≡ list_any starved_in (map (λ w. w.end) posts.items) }
-    ensures faulty { result.faulty ≡ list_any failed_in (map (λ w. w.end) posts.items) }
+    requires workers { AllByRecursion (CanJoin first.old) hired_workers.items }
+    ensures passes { Gathered first.old first.new (map (λ w. w.worker.pass) hired_workers.items) }
+    ensures halls { TookBack F.Front F.Hall.faults front.old front.new (map (λ w. w.worker.hall) hired_workers.items) }
+    ensures starved { result.starved ≡ list_any starved_in (map (λ w. w.end) hired_workers.items) }
+    ensures faulty { result.faulty ≡ list_any failed_in (map (λ w. w.end) hired_workers.items) }
 {
     let mut ends = Ends {
         starved: false,
         faulty: false,
     };
-    posts.reverse();
-    while let Some(post) = posts.pop() {
-        let end = take_in(desk, first, front, post);
+    hired_workers.reverse();
+    while let Some(hired_worker) = hired_workers.pop() {
+        let end = take_in(desk, first, front, hired_worker);
         ends = ends.and(end);
     }
-    posts.destroy_empty();
+    hired_workers.destroy_empty();
     ends
 }
 
 /// Gives halls back to the front, in their order.
 pub(crate) fn give_back<F: Front>(front: &mut F, mut halls: Vec<F::Hall>)
-    ensures { TookBack (record { tells = F.tells; asked = F.asked; to_open = F.to_open; halls = F.halls; faults = F.faults }) F.Hall.faults front.old front.new halls.items }
+    ensures { TookBack F.Front F.Hall.faults front.old front.new halls.items }
 {
     halls.reverse();
     while let Some(unserved) = halls.pop() {

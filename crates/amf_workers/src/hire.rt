@@ -1,7 +1,7 @@
-ghost use Rattle.std.specs.Prelude.{◌≡◌, ◌+◌, ◌*◌, ◌^◌, ◌≤◌, IfOk, IfErr, vec_len};
-ghost use Rattle.amf_workers.specs.Posts.{AllHired};
+ghost use Rattle.std.specs.Prelude.{◌≡◌, ◌*◌, ◌^◌, ◌≤◌, IfOk, IfErr, vec_len};
+ghost use Rattle.amf_workers.specs.HiredWorkers.{Hires};
 
-use crate::post::Post;
+use crate::hired_worker::HiredWorker;
 use amf_desk::{Desk, Pass};
 use amf_gateway::{Worker, WorkerEnd};
 use amf_io::Hall;
@@ -19,27 +19,27 @@ pub(crate) fn hire<H: Hall>(
     first: &mut Pass,
     mut halls: Vec<H>,
     keys: Option<RandomState>,
-) -> Result<Vec<Post<H>>, Vec<H>>
+) -> Result<Vec<HiredWorker<H>>, Vec<H>>
     requires desk { first.old.desk ≡ desk.now }
     requires first { (first.old.number ≡ 0) × (first.old.splits ≡ 0) }
     requires room { (vec_len halls ≤ 64) × (64 * 2 ^ 55 ≤ first.old.budget) }
     ensures desk { (first.new.desk ≡ first.old.desk) × (first.new.destinations ≡ first.old.destinations) × (first.new.number ≡ 0) }
-    ensures posts { IfOk result (λ posts. AllHired first.old (2 ^ 55) 1 halls.items posts.items × (first.new.budget + vec_len halls * 2 ^ 55 ≡ first.old.budget)) }
+    ensures hired_workers { IfOk result (λ hired_workers. Hires first.old first.new (vec_len halls) halls.items hired_workers.items) }
     ensures back { IfErr result (λ back. back.items ≡ halls.items) }
 {
-    let Ok(mut posts) = Vec::with_capacity(alloc, halls.len()) else {
+    let Ok(mut hired_workers) = Vec::with_capacity(alloc, halls.len()) else {
         return Err(halls);
     };
     halls.reverse();
     let mut number = 0;
     while let Some(hall) = halls.pop() {
         let pass = desk.split(first, SHARE);
-        posts.push_reserved(Post {
+        hired_workers.push_reserved(HiredWorker {
             worker: Worker::keyed(number, pass, hall, keys),
             end: WorkerEnd::Done { starved: false },
         });
         number += 1;
     }
     halls.destroy_empty();
-    Ok(posts)
+    Ok(hired_workers)
 }

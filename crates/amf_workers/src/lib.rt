@@ -4,8 +4,8 @@
 mod answer;
 mod gather;
 mod hire;
+mod hired_worker;
 mod opening;
-mod post;
 mod serving;
 mod work;
 

@@ -1,6 +1,5 @@
-ghost use Rattle.std.specs.Prelude.{◌≡◌, ◌≤◌, ◌^◌, [], List, All, vec_len};
-ghost use Rattle.amf_service.specs.Registry.{Entry};
-ghost use Rattle.amf_plan.specs.Services.{services_by};
+ghost use Rattle.std.specs.Prelude.{◌≡◌, ◌≤◌, ◌^◌, [], All, vec_len};
+ghost use Rattle.amf_plan.specs.Services.{services_of};
 ghost use Rattle.amf_workers.specs.Together.{Serves, destinations};
 ghost use Rattle.amf_workers.specs.Halls.{ServesHalls};
 
@@ -37,18 +36,26 @@ where
     requires few { vec_len halls ≤ 64 }
     requires whole { All (λ h. F.Hall.faults h ≡ 0) halls.items }
     requires fresh { All (λ h. F.Hall.served h ≡ []) halls.items }
-    ensures { let services : List Entry = services_by registry.now.services.entries (λ x. x.items) (λ s. knows (s.vtable, s.value)) (λ s. gives (s.vtable, s.value)) in ServesHalls (record { tells = F.tells; asked = F.asked; to_open = F.to_open; halls = F.halls; faults = F.faults }) (record { tells_links = F.Hall.tells_links; coming = F.Hall.coming; served = F.Hall.served; faults = F.Hall.faults; tells_moments = F.Hall.tells_moments; moments = F.Hall.moments; tells_words = F.Hall.tells_words; words = F.Hall.words }) (record { tells_left = F.Hall.Link.tells_left; left = F.Hall.Link.left; tells_held = F.Hall.Link.tells_held; held = F.Hall.Link.held; read_faults = F.Hall.Link.read_faults; write_faults = F.Hall.Link.write_faults }) services each halls.items front.old front.new result }
+    ensures { ServesHalls F.Front F.Hall.Hall F.Hall.Link.Link (services_of registry.now knows gives) each halls.items front.old front.new result }
 {
     let keys = RandomState::new(rt).ok();
-    let mut posts = match hire(alloc, &desk, &mut first, halls, keys) {
-        Ok(posts) => posts,
+    let mut hired_workers = match hire(alloc, &desk, &mut first, halls, keys) {
+        Ok(hired_workers) => hired_workers,
         Err(halls) => {
             give_back(front, halls);
             return ServeAnswer::Memory;
         }
     };
-    work_all(rt, alloc, &desk, registry, gate, posts.as_mut_slice(), each);
-    let ends = gather(&desk, &mut first, front, posts);
+    work_all(
+        rt,
+        alloc,
+        &desk,
+        registry,
+        gate,
+        hired_workers.as_mut_slice(),
+        each,
+    );
+    let ends = gather(&desk, &mut first, front, hired_workers);
     ServeAnswer::Closed {
         counts: desk.close(rt, first),
         starved: ends.starved,
@@ -75,7 +82,7 @@ pub fn serve<R: Threads + Wait + RandomSource + Sync, F: Front, G: Gate>(
 where
     <F::Hall as Hall>::Link: Send,
     requires { workers ≤ 64 }
-    ensures { let services : List Entry = services_by registry.now.services.entries (λ x. x.items) (λ s. knows (s.vtable, s.value)) (λ s. gives (s.vtable, s.value)) in Serves (record { tells = F.tells; asked = F.asked; to_open = F.to_open; halls = F.halls; faults = F.faults }) (record { tells_links = F.Hall.tells_links; coming = F.Hall.coming; served = F.Hall.served; faults = F.Hall.faults; tells_moments = F.Hall.tells_moments; moments = F.Hall.moments; tells_words = F.Hall.tells_words; words = F.Hall.words }) (record { tells_left = F.Hall.Link.tells_left; left = F.Hall.Link.left; tells_held = F.Hall.Link.tells_held; held = F.Hall.Link.held; read_faults = F.Hall.Link.read_faults; write_faults = F.Hall.Link.write_faults }) services port workers each front.old front.new result }
+    ensures { Serves F.Front F.Hall.Hall F.Hall.Link.Link (services_of registry.now knows gives) port workers each front.old front.new result }
 {
     let keys = RandomState::new(rt).ok();
     let Ok((desk, first)) = open_desk(alloc, keys) else {

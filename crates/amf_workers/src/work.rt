@@ -1,11 +1,9 @@
 ghost use denote.Param.Send.{IsSend, IsSync};
-ghost use Rattle.std.specs.Prelude.{◌≡◌, List, All};
-ghost use Rattle.amf_service.specs.Registry.{Entry};
-ghost use Rattle.amf_plan.specs.Services.{services_by};
-ghost use Rattle.amf_gateway.specs.Served.{Served};
-ghost use Rattle.amf_workers.specs.Posts.{AllServed};
+ghost use Rattle.std.specs.Prelude.{◌≡◌, All};
+ghost use Rattle.amf_plan.specs.Services.{services_of};
+ghost use Rattle.amf_workers.specs.HiredWorkers.{AllServed, HiredServed};
 
-use crate::post::Post;
+use crate::hired_worker::HiredWorker;
 use amf_desk::Desk;
 use amf_io::{Gate, Hall};
 use amf_service::Registry;
@@ -24,21 +22,21 @@ pub(crate) fn work_all<R: Threads + Wait + Sync, H: Hall, G: Gate>(
     desk: &Desk,
     registry: &Registry,
     gate: &G,
-    posts: &mut [Post<H>],
+    hired_workers: &mut [HiredWorker<H>],
     each: u64,
 )
 where
     H::Link: Send,
-    requires { All (λ w. w.worker.pass.desk ≡ desk.now) posts.old }
-    ensures { let services : List Entry = services_by registry.now.services.entries (λ x. x.items) (λ s. knows (s.vtable, s.value)) (λ s. gives (s.vtable, s.value)) in AllServed (record { tells_links = H.tells_links; coming = H.coming; served = H.served; faults = H.faults; tells_moments = H.tells_moments; moments = H.moments; tells_words = H.tells_words; words = H.words }) (record { tells_left = H.Link.tells_left; left = H.Link.left; tells_held = H.Link.tells_held; held = H.Link.held; read_faults = H.Link.read_faults; write_faults = H.Link.write_faults }) services each posts.old posts.new }
+    requires { All (λ w. w.worker.pass.desk ≡ desk.now) hired_workers.old }
+    ensures { AllServed H.Hall H.Link.Link (services_of registry.now knows gives) each hired_workers.old hired_workers.new }
 {
     thread::for_each_mut(
         rt,
-        posts,
+        hired_workers,
         MOST_WORKERS,
-        &|_, post: &mut Post<H>|
-            requires { (post.now.worker.pass.desk ≡ desk.now) × IsSync R.row × IsSend H.row × IsSync G.row }
-            ensures { let services : List Entry = services_by registry.entry.now.services.entries (λ x. x.items) (λ s. knows (s.vtable, s.value)) (λ s. gives (s.vtable, s.value)) in Served (record { tells_links = H.tells_links; coming = H.coming; served = H.served; faults = H.faults; tells_moments = H.tells_moments; moments = H.moments; tells_words = H.tells_words; words = H.words }) (record { tells_left = H.Link.tells_left; left = H.Link.left; tells_held = H.Link.tells_held; held = H.Link.held; read_faults = H.Link.read_faults; write_faults = H.Link.write_faults }) services each post.entry.now.worker.pass post.exit.now.worker.pass post.entry.now.worker.hall post.exit.now.worker.hall post.exit.now.end }
-        { post.work(rt, alloc, desk, registry, gate, each) },
+        &|_, hired_worker: &mut HiredWorker<H>|
+            requires { (hired_worker.now.worker.pass.desk ≡ desk.now) × IsSync R.row × IsSend H.row × IsSync G.row }
+            ensures { HiredServed H.Hall H.Link.Link (services_of registry.entry.now knows gives) each hired_worker.entry.now hired_worker.exit.now }
+        { hired_worker.work(rt, alloc, desk, registry, gate, each) },
     );
 }

@@ -16,29 +16,29 @@ loop-message-init g c = record {
   ready = c.requires.ready;
 }
 
-pub answer_to-requires-clause-light : goal.answer_to-requires-clause-light
-answer_to-requires-clause-light g c = at_item (λ (m : KeptMessage). body_weight m.body ≤ most_body) c.args.messages.now c.loop-message.message-index c.message-item.result c.requires.light (omega arith) c.message-item.is
+pub answer_message-requires-clause-light : goal.answer_message-requires-clause-light
+answer_message-requires-clause-light g c = at_item (λ (m : KeptMessage). body_weight m.body ≤ most_body) c.args.messages.now c.loop-message.message-index c.message-item.result c.requires.light (omega arith) c.message-item.is
 
-pub answer_to-requires-clause-ready : goal.answer_to-requires-clause-ready
-answer_to-requires-clause-ready g c = c.loop-message.invariant.ready
+pub answer_message-requires-clause-ready : goal.answer_message-requires-clause-ready
+answer_message-requires-clause-ready g c = c.loop-message.invariant.ready
 
 pub returns-in_err-answer-clause-stopped : goal.returns-in_err-answer-clause-stopped
 returns-in_err-answer-clause-stopped g c =
     let ms = c.args.messages.now in
     let told = next_told ms c.loop-message.message-index c.message-item.result (omega arith) c.message-item.is in
-    at_err c.from_residual.result (stopped_in g.O.Outside.handed g.met.O.Outside.hands_none g.met.O.Outside.hands_both _ c.args.outside.now c.loop-message.outside c.answer_to.new.outside (map message_of ms) _ _ c.loop-message.back.items (message_of c.message-item.result) told c.loop-message.invariant.so c.in_err-answer.ensures.stopped)
+    at_err c.from_residual.result (stopped_in g.O.Outside.handed g.met.O.Outside.hands_none g.met.O.Outside.hands_both _ c.args.outside.now c.loop-message.outside c.answer_message.new.outside (map message_of ms) _ _ c.loop-message.back.items (message_of c.message-item.result) told c.loop-message.invariant.so c.in_err-answer.ensures.stopped)
 
 pub returns-in_err-made-clause-stopped : goal.returns-in_err-made-clause-stopped
 returns-in_err-made-clause-stopped g c =
     let ms = c.args.messages.now in
     let told = next_told ms c.loop-message.message-index c.message-item.result (omega arith) c.message-item.is in
-    at_err c.from_residual-in_err-made.result (stopped_behind g.O.Outside.handed g.met.O.Outside.hands_none g.met.O.Outside.hands_both _ c.args.outside.now c.loop-message.outside c.answer_to.new.outside (map message_of ms) _ _ c.loop-message.back.items (message_of c.message-item.result) c.in_ok-answer.answer told c.loop-message.invariant.so c.in_ok-answer.ensures.says)
+    at_err c.from_residual-in_err-made.result (stopped_behind g.O.Outside.handed g.met.O.Outside.hands_none g.met.O.Outside.hands_both _ c.args.outside.now c.loop-message.outside c.answer_message.new.outside (map message_of ms) _ _ c.loop-message.back.items (message_of c.message-item.result) c.in_ok-answer.answer told c.loop-message.invariant.so c.in_ok-answer.ensures.says)
 
 pub returns-in_err-push-clause-stopped : goal.returns-in_err-push-clause-stopped
 returns-in_err-push-clause-stopped g c =
     let ms = c.args.messages.now in
     let told = next_told ms c.loop-message.message-index c.message-item.result (omega arith) c.message-item.is in
-    at_err c.from_residual-in_err-push.result (stopped_behind g.O.Outside.handed g.met.O.Outside.hands_none g.met.O.Outside.hands_both _ c.args.outside.now c.loop-message.outside c.answer_to.new.outside (map message_of ms) _ _ c.loop-message.back.items (message_of c.message-item.result) c.in_ok-answer.answer told c.loop-message.invariant.so c.in_ok-answer.ensures.says)
+    at_err c.from_residual-in_err-push.result (stopped_behind g.O.Outside.handed g.met.O.Outside.hands_none g.met.O.Outside.hands_both _ c.args.outside.now c.loop-message.outside c.answer_message.new.outside (map message_of ms) _ _ c.loop-message.back.items (message_of c.message-item.result) c.in_ok-answer.answer told c.loop-message.invariant.so c.in_ok-answer.ensures.says)
 
 pub loop-message-preserved : goal.loop-message-preserved
 loop-message-preserved g c =
@@ -52,9 +52,9 @@ loop-message-preserved g c =
     let told = next_told ms k m (omega arith) c.message-item.is in
     let room = at_item HasRoom ms k m c.requires.uris (omega arith) c.message-item.is in
     record {
-      so = answered_more g.O.Outside.handed g.met.O.Outside.hands_none g.met.O.Outside.hands_both _ c.args.outside.now c.loop-message.outside c.answer_to.new.outside (map message_of ms) _ (map message_of (drop (k + 1) ms)) c.loop-message.back.items c.push.new.self.items (message_of m) x y told c.in_ok-push.ensures.items c.loop-message.invariant.so says
+      so = answered_more g.O.Outside.handed g.met.O.Outside.hands_none g.met.O.Outside.hands_both _ c.args.outside.now c.loop-message.outside c.answer_message.new.outside (map message_of ms) _ (map message_of (drop (k + 1) ms)) c.loop-message.back.items c.push.new.self.items (message_of m) x y told c.in_ok-push.ensures.items c.loop-message.invariant.so says
           (back_matches m.response x says.answer y says.is made.target made.response made.body) (back_fits m x y room made.target made.response);
-      ready = g.met.O.Outside.may_still c.loop-message.outside c.answer_to.new.outside says.ran.took says.ran.was_handed c.loop-message.invariant.ready;
+      ready = g.met.O.Outside.may_still c.loop-message.outside c.answer_message.new.outside says.ran.took says.ran.was_handed c.loop-message.invariant.ready;
     }
 
 pub returns-clause-says : goal.returns-clause-says

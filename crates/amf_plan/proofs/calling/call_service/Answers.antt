@@ -3,7 +3,7 @@ use Rattle.std.proofs.Common.{◌≡◌}
 use Rattle.amf_graph.specs.Graph.{Graph}
 use Rattle.amf_graph.specs.Rooted.{content}
 use Rattle.amf_graph.proofs.Finished.{finished}
-use Rattle.amf_plan.specs.declared.calling.CallAnswer.TheVariants.{Gave, Failed}
+use Rattle.amf_plan.specs.declared.calling.ServiceAnswer.TheVariants.{Gave, Failed}
 use Rattle.amf_plan.proofs.CallsAlike.{comes_alike}
 use Rattle.amf_plan.proofs.calling.call_service.Goals as goal
 

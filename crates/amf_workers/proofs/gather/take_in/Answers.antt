@@ -1,7 +1,6 @@
 use Rattle.std.proofs.Common.{◌≡◌, [], ◌∷◌, ap, sym, refl, ◌∙◌, subst}
 use Rattle.amf_desk.specs.Passes.{Held, JoinedTo}
 use Rattle.amf_workers.specs.Gathered.{TookBack}
-use Rattle.amf_workers.specs.OfFront.{OfFront}
 use Rattle.amf_workers.proofs.TakenIn.{took_one}
 use Rattle.amf_workers.proofs.gather.take_in.Goals as goal
 
@@ -16,11 +15,9 @@ returns-clause-pass g c = subst (λ (p : Held). JoinedTo c.args.first.now p c.jo
 
 pub returns-clause-hall : goal.returns-clause-hall
 returns-clause-hall g c =
-    let f = g.F.Front in
-    let front : OfFront g.row.F.Denot g.row.F-Hall.Denot = record { tells = f.tells; asked = f.asked; to_open = f.to_open; halls = f.halls; faults = f.faults } in
     let e = c.back.ensures in
-    subst (λ (h : g.row.F-Hall.Denot). TookBack front g.F.Hall.Hall.faults c.args.front.now c.back.new.self (h ∷ [])) c.into_parts-pass.ensures.hall
-    (took_one front g.F.Hall.Hall.faults c.args.front.now c.back.new.self c.into_parts-pass.result.1 e.tells e.asked e.to_open e.back e.cause)
+    subst (λ (h : g.row.F-Hall.Denot). TookBack g.F.Front g.F.Hall.Hall.faults c.args.front.now c.back.new.self (h ∷ [])) c.into_parts-pass.ensures.hall
+    (took_one g.F.Front g.F.Hall.Hall.faults c.args.front.now c.back.new.self c.into_parts-pass.result.1 e.tells e.asked e.to_open e.back e.cause)
 
 pub returns-clause-end : goal.returns-clause-end
 returns-clause-end g c = refl

@@ -1,8 +1,7 @@
 use Rattle.std.proofs.Common.{◌≡◌, List, length, vec_len, Err, ap, ◌∙◌, arith, rules}
 use Rattle.amf_service.specs.Registry.{Entry}
 use Rattle.amf_plan.specs.Services.{services_by}
-use Rattle.amf_gateway.specs.Tells.{OfLink, OfHall}
-use Rattle.amf_workers.specs.OfFront.{OfFront}
+use Rattle.amf_gateway.specs.Tells.{of_hall}
 use Rattle.amf_workers.proofs.Opened.{not_asked, failed, no_memory, serves}
 use Rattle.amf_workers.proofs.serving.serve.Goals as goal
 
@@ -24,13 +23,9 @@ serve_halls-requires-clause-fresh g c κs within = c.in-Ok-open.ensures.fresh
 
 pub returns-in-Ok-open : goal.returns-in-Ok-open
 returns-in-Ok-open g c =
-    let f = g.F.Front in let h = g.F.Hall in let k = g.F.Hall.Link.Link in
-    let front : OfFront g.row.F.Denot g.row.F-Hall.Denot = record { tells = f.tells; asked = f.asked; to_open = f.to_open; halls = f.halls; faults = f.faults } in
-    let hall : OfHall g.row.F-Hall.Denot g.row.F-Hall-Link.Denot = record { tells_links = h.Hall.tells_links; coming = h.Hall.coming; served = h.Hall.served; faults = h.Hall.faults; tells_moments = h.Clock.tells_moments; moments = h.Clock.moments; tells_words = h.Dice.tells_words; words = h.Dice.words } in
-    let link : OfLink g.row.F-Hall-Link.Denot = record { tells_left = k.tells_left; left = k.left; tells_held = k.tells_held; held = k.held; read_faults = k.read_faults; write_faults = k.write_faults } in
     let services : List Entry = services_by c.args.registry.now.services.entries (λ x. x.items) (λ s. (goal.Service-dyn g (s.vtable, s.value)).knows s.value) (λ s. (goal.Service-dyn g (s.vtable, s.value)).gives s.value) in
     let e = c.in-Ok-open.ensures in
-    serves front hall link services c.args.port c.args.workers c.args.each c.args.front.now c.open.new.self c.serve_halls.new.front c.in-Ok-open.halls.items c.serve_halls.result
+    serves g.F.Front (of_hall g.F.Hall.Hall g.F.Hall.Clock g.F.Hall.Dice) g.F.Hall.Link.Link services c.args.port c.args.workers c.args.each c.args.front.now c.open.new.self c.serve_halls.new.front c.in-Ok-open.halls.items c.serve_halls.result
     (record { tells = e.tells; asked = e.asked; gave = e.gives; many = e.workers; halls = e.back; counts = e.cause }) e.whole c.serve_halls.ensures
 
 pub returns-in-Err-Failed : goal.returns-in-Err-Failed

@@ -1,7 +1,7 @@
 use Rattle.std.proofs.Common.{refl}
-use Rattle.amf_io.specs.Outside.{SameLinks}
 use Rattle.amf_broker.specs.History.{Entry as Event}
-use Rattle.amf_gateway.specs.HandedLaws.{aid_none, links_self, pass_none, calls_none}
+use Rattle.amf_gateway.specs.HandedLaws.{aid_none, pass_none, calls_none}
+use Rattle.amf_gateway.specs.Tells.{of_hall}
 use Rattle.amf_gateway.proofs.Handing.{aid_entry, pass_called, pass_ended, called_small, calls_called, calls_ended}
 use Rattle.amf_gateway.proofs.caller.CallerOutside.call.Goals as goal
 
@@ -12,7 +12,7 @@ returns-in-Ok-clause-reply g c =
     let e : Event = record { caller = p.number; moment = c.args.moment; call = c.args.call; answer = c.in-Ok.answer } in (
       e,
       (
-        aid_entry g.A.Clock.tells_moments g.A.Clock.moments g.A.Dice.tells_words g.A.Dice.words (λ x y. SameLinks (g.A.Hall.tells_links x) (g.A.Hall.tells_links y) (g.A.Hall.coming x) (g.A.Hall.coming y) (g.A.Hall.served x) (g.A.Hall.served y) (g.A.Hall.faults x) (g.A.Hall.faults y)) c.args.self.now.aid.now e (links_self (g.A.Hall.tells_links c.args.self.now.aid.now) (g.A.Hall.coming c.args.self.now.aid.now) (g.A.Hall.served c.args.self.now.aid.now) (g.A.Hall.faults c.args.self.now.aid.now)),
+        aid_entry (of_hall g.A.Hall g.A.Clock g.A.Dice) c.args.self.now.aid.now e,
         pass_called p c.call-answer.new.pass c.args.moment c.args.call c.in-Ok.answer called,
         refl,
         refl,
@@ -31,7 +31,7 @@ returns-in-Ok-clause-small g c = called_small c.args.self.now.pass.now c.call-an
 
 pub returns-in-Err-clause-none : goal.returns-in-Err-clause-none
 returns-in-Err-clause-none g c = (
-  aid_none g.A.Clock.tells_moments g.A.Clock.moments g.A.Dice.tells_words g.A.Dice.words (λ x y. SameLinks (g.A.Hall.tells_links x) (g.A.Hall.tells_links y) (g.A.Hall.coming x) (g.A.Hall.coming y) (g.A.Hall.served x) (g.A.Hall.served y) (g.A.Hall.faults x) (g.A.Hall.faults y)) c.args.self.now.aid.now (links_self (g.A.Hall.tells_links c.args.self.now.aid.now) (g.A.Hall.coming c.args.self.now.aid.now) (g.A.Hall.served c.args.self.now.aid.now) (g.A.Hall.faults c.args.self.now.aid.now)),
+  aid_none (of_hall g.A.Hall g.A.Clock g.A.Dice) c.args.self.now.aid.now,
   pass_ended c.args.self.now.pass.now c.call-answer.new.pass c.args.moment c.args.call c.in-Err.end c.in-Err.ensures.end,
   refl,
   refl,
@@ -43,7 +43,7 @@ returns-in-Err-clause-none g c = (
 
 pub returns-in-Some-clause-none : goal.returns-in-Some-clause-none
 returns-in-Some-clause-none g c = (
-  aid_none g.A.Clock.tells_moments g.A.Clock.moments g.A.Dice.tells_words g.A.Dice.words (λ x y. SameLinks (g.A.Hall.tells_links x) (g.A.Hall.tells_links y) (g.A.Hall.coming x) (g.A.Hall.coming y) (g.A.Hall.served x) (g.A.Hall.served y) (g.A.Hall.faults x) (g.A.Hall.faults y)) c.args.self.now.aid.now (links_self (g.A.Hall.tells_links c.args.self.now.aid.now) (g.A.Hall.coming c.args.self.now.aid.now) (g.A.Hall.served c.args.self.now.aid.now) (g.A.Hall.faults c.args.self.now.aid.now)),
+  aid_none (of_hall g.A.Hall g.A.Clock g.A.Dice) c.args.self.now.aid.now,
   pass_none c.args.self.now.pass.now,
   refl,
   refl,

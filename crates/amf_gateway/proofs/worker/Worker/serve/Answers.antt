@@ -21,11 +21,11 @@ returns-clause-served g c = served_each _ _ _ _ _ _ _ _ _ _ (omega arith) c.loop
 pub loop-preserved : goal.loop-preserved
 loop-preserved g c =
     let e = c.in-Ok-Some.ensures in (
-      rw c.either-starved.ensures (sofar_next _ _ _ _ _ _ _ _ _ _ _ c.in-Ok-Some.link _ _ c.loop.invariant.0 (record { tells = e.tells; served = e.served; moments = e.moments; words = e.words }) (rw c.in-Ok-Some.field-0-is at e.gives) e.cause c.serve_next-hungry.ensures.served),
-      counts_more _ _ _ _ _ _ _ _ _ c.loop.invariant.0.pass c.serve_next-hungry.ensures.served.pass c.loop.invariant.1 c.serve_next-hungry.ensures.calls,
-      c.serve_next-hungry.ensures.number ∙ c.loop.invariant.2,
-      c.serve_next-hungry.ensures.keys ∙ c.loop.invariant.3,
-      rw c.either-starved.ensures (all_answered_more _ _ _ _ _ _ _ _ _ _ c.loop.invariant.0.pass c.serve_next-hungry.ensures.served.pass c.loop.invariant.4 c.serve_next-hungry.ensures.all_answered),
+      rw c.either-starved.ensures (sofar_next _ _ _ _ _ _ _ _ _ _ _ c.in-Ok-Some.link _ _ c.loop.invariant.0 (record { tells = e.tells; served = e.served; moments = e.moments; words = e.words }) (rw c.in-Ok-Some.field-0-is at e.gives) e.cause c.serve_and_give_back-hungry.ensures.served),
+      counts_more _ _ _ _ _ _ _ _ _ c.loop.invariant.0.pass c.serve_and_give_back-hungry.ensures.served.pass c.loop.invariant.1 c.serve_and_give_back-hungry.ensures.calls,
+      c.serve_and_give_back-hungry.ensures.number ∙ c.loop.invariant.2,
+      c.serve_and_give_back-hungry.ensures.keys ∙ c.loop.invariant.3,
+      rw c.either-starved.ensures (all_answered_more _ _ _ _ _ _ _ _ _ _ c.loop.invariant.0.pass c.serve_and_give_back-hungry.ensures.served.pass c.loop.invariant.4 c.serve_and_give_back-hungry.ensures.all_answered),
     )
 
 pub returns-in-Ok-None-clause-calls : goal.returns-in-Ok-None-clause-calls

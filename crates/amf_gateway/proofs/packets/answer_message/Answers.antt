@@ -3,7 +3,7 @@ use Rattle.std.proofs.lemmas.Result.{IfOk-weaker, on_err_weaker}
 use Rattle.amf_packet.specs.Content.{message_of}
 use Rattle.amf_plan.proofs.Doing.{at_err, not_begun}
 use Rattle.amf_gateway.proofs.MessageAnswers.{said_request, stopped_request, said_plain}
-use Rattle.amf_gateway.proofs.packets.answer_to.Goals as goal
+use Rattle.amf_gateway.proofs.packets.answer_message.Goals as goal
 
 pub returns-then-is_request-clause-says : goal.returns-then-is_request-clause-says
 returns-then-is_request-clause-says g c =

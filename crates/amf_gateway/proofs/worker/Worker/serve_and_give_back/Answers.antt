@@ -2,7 +2,7 @@ use Rattle.std.proofs.Common.{◌∙◌, sym}
 use Rattle.amf_gateway.specs.ServesLink.{end_of}
 use Rattle.amf_gateway.proofs.SoFar.{served_next, counts_few}
 use Rattle.amf_gateway.proofs.ServedEnds.{at_most_each, all_answered_unless}
-use Rattle.amf_gateway.proofs.worker.Worker.serve_next.Goals as goal
+use Rattle.amf_gateway.proofs.worker.Worker.serve_and_give_back.Goals as goal
 
 pub returns-clause-served : goal.returns-clause-served
 returns-clause-served g c =

@@ -1,6 +1,6 @@
 use Rattle.amf_gateway.proofs.Stepped.{counts_request}
 use Rattle.amf_gateway.proofs.ReadNext.{request_comes, closed_comes, refused_comes, truncated_comes, memory_comes, fault_comes}
-use Rattle.amf_gateway.proofs.links.next_answer.Goals as goal
+use Rattle.amf_gateway.proofs.links.prepare_answer.Goals as goal
 
 pub returns-in-Ok-None-clause-comes : goal.returns-in-Ok-None-clause-comes
 returns-in-Ok-None-clause-comes g c = closed_comes _ _ _ _ g.met.O.Outside.hands_none _ _ _ _ (rw c.in-Ok-None.field-0-is at c.in-Ok-None.ensures.answers)
