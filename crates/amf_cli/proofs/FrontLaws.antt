@@ -4,10 +4,11 @@ use Rattle.std.proofs.lemmas.List.{append-nil}
 use Rattle.amf_io.specs.Outside.{Rose}
 use Rattle.amf_io.specs.declared.source.Source.{Ghosts as SourceMembers}
 use Rattle.amf_io.specs.declared.sink.Sink.{Ghosts as SinkMembers}
+use Rattle.amf_io.specs.declared.link.Link.{Ghosts as LinkMembers}
+use Rattle.amf_io.specs.declared.front.Front.{Ghosts as FrontMembers}
 use Rattle.amf_service.specs.Registry.{Entry}
 use Rattle.amf_plan.specs.RespondLaws.{AreLawful}
-use Rattle.amf_gateway.specs.Tells.{OfLink, OfHall}
-use Rattle.amf_workers.specs.OfFront.{OfFront}
+use Rattle.amf_gateway.specs.Tells.{HallMembers}
 use Rattle.amf_workers.specs.Together.{Serves}
 use Rattle.amf_workers.specs.declared.answer.ServeAnswer.{ServeAnswer}
 use Rattle.amf_workers.specs.declared.answer.ServeAnswer.TheVariants.{Memory}
@@ -44,7 +45,7 @@ stays_for : (before now : ℕ) (r : End) (status : ℕ) → status ≡ status_fo
 stays_for before now (Ok x) status is zero c = c
 stays_for before now (Err e) status is zero c = absurd (never_0 e (sym is ∙ zero))
 
-module _ {F H L O : Type 0} (f : OfFront F H) (h : OfHall H L) (l : OfLink L) (o : SinkMembers O) (services : List Entry) (words : List (List ℕ)) where
+module _ {F H L O : Type 0} (f : FrontMembers F H L) (h : HallMembers H L) (l : LinkMembers L) (o : SinkMembers O) (services : List Entry) (words : List (List ℕ)) where
   -- nothing was asked of the front, nor of the output where links were asked for
   pub data_serves : (status : ℕ) (front : F) (out wrote : O) → AreLawful services → (IsServing words → (status ≡ 5) × (wrote ≡ out)) → status ≢ 6 → ServesWords f h l o services words status front front out wrote
   data_serves status front out wrote lawful five other = record {
@@ -101,5 +102,5 @@ module _ {I O E : Type 0} (i : SourceMembers I) (o : SinkMembers O) (e : SinkMem
   ends_again n m input rest out wrote err told is s = subst (λ (k : ℕ). Ends i o e words k input rest out wrote err told) (sym is) s
 
 -- the same of services that are these
-pub serves_by : {F H L O : Type 0} (f : OfFront F H) (h : OfHall H L) (l : OfLink L) (o : SinkMembers O) (given services : List Entry) (words : List (List ℕ)) (status : ℕ) (front back : F) (out wrote : O) → given ≡ services → ServesWords f h l o given words status front back out wrote → ServesWords f h l o services words status front back out wrote
+pub serves_by : {F H L O : Type 0} (f : FrontMembers F H L) (h : HallMembers H L) (l : LinkMembers L) (o : SinkMembers O) (given services : List Entry) (words : List (List ℕ)) (status : ℕ) (front back : F) (out wrote : O) → given ≡ services → ServesWords f h l o given words status front back out wrote → ServesWords f h l o services words status front back out wrote
 serves_by f h l o given services words status front back out wrote is s = subst (λ (x : List Entry). ServesWords f h l o x words status front back out wrote) is s

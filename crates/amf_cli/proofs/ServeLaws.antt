@@ -2,10 +2,11 @@
 use Rattle.std.proofs.Common.{◌≡◌, ◌⊎◌, inl, inr, ℕ, Bool, true, false, List, Ok, Err, refl, sym, subst, arith}
 use Rattle.std.proofs.lemmas.List.{append-nil}
 use Rattle.amf_io.specs.Outside.{Rose}
+use Rattle.amf_io.specs.declared.link.Link.{Ghosts as LinkMembers}
+use Rattle.amf_io.specs.declared.front.Front.{Ghosts as FrontMembers}
 use Rattle.amf_desk.specs.declared.closed.Closed.{Closed}
 use Rattle.amf_service.specs.Registry.{Entry}
-use Rattle.amf_gateway.specs.Tells.{OfLink, OfHall}
-use Rattle.amf_workers.specs.OfFront.{OfFront}
+use Rattle.amf_gateway.specs.Tells.{HallMembers}
 use Rattle.amf_workers.specs.Together.{CountsFaults, Serves}
 use Rattle.amf_workers.specs.declared.answer.ServeAnswer.{ServeAnswer}
 use Rattle.amf_workers.specs.declared.answer.ServeAnswer.TheVariants as answer
@@ -83,7 +84,7 @@ came_to Came kept told held now before after a (Err (NoForm v l)) c e = e
 
 -- The front's count.
 
-pub came_counts : {F H L : Type 0} (front : OfFront F H) (hall : OfHall H L) (link : OfLink L) (services : List Entry) (port workers each : ℕ) (a b : F) (answered : ServeAnswer) → Serves front hall link services port workers each a b answered → CountsFaults (front.faults a) (front.faults b) (had_fault answered)
+pub came_counts : {F H L : Type 0} (front : FrontMembers F H L) (hall : HallMembers H L) (link : LinkMembers L) (services : List Entry) (port workers each : ℕ) (a b : F) (answered : ServeAnswer) → Serves front hall link services port workers each a b answered → CountsFaults (front.faults a) (front.faults b) (had_fault answered)
 came_counts front hall link services port workers each a b answer.Memory s = s.counts
 came_counts front hall link services port workers each a b answer.NotOpened s = s.counts
 came_counts front hall link services port workers each a b (answer.Closed counts starved faulty) s = s.counts
@@ -99,7 +100,7 @@ front_counts before now kept told held holds had has a (Err FrontFault) c e = su
 front_counts before now kept told held holds had has a (Err (NoForm v l)) c e = tt
 
 -- by the options that the words give
-pub served_again : {F H L : Type 0} (front : OfFront F H) (hall : OfHall H L) (link : OfLink L) (services : List Entry) (a b : F) (kept told : Type 0) (held now : List ℕ) (before after : ℕ) (r : End) (o p : ServeOptions) → o ≡ p → ServesTo (Serves front hall link services o.port o.workers o.each a b) kept told held now before after r → ServesTo (Serves front hall link services p.port p.workers p.each a b) kept told held now before after r
+pub served_again : {F H L : Type 0} (front : FrontMembers F H L) (hall : HallMembers H L) (link : LinkMembers L) (services : List Entry) (a b : F) (kept told : Type 0) (held now : List ℕ) (before after : ℕ) (r : End) (o p : ServeOptions) → o ≡ p → ServesTo (Serves front hall link services o.port o.workers o.each a b) kept told held now before after r → ServesTo (Serves front hall link services p.port p.workers p.each a b) kept told held now before after r
 served_again front hall link services a b kept told held now before after r o p e s = subst (λ (q : ServeOptions). ServesTo (Serves front hall link services q.port q.workers q.each a b) kept told held now before after r) e s
 
 -- The statuses.

@@ -2,6 +2,8 @@
 use Rattle.std.proofs.Common.{◌≡◌, ℕ, Bool, List, [], ◌∷◌, ◌++◌, map, refl, sym, ap, ◌∙◌, subst}
 use Rattle.std.specs.declared.dyn_box.DynBox.{DynBox}
 use Rattle.amf_io.specs.declared.sink.Sink.{Ghosts as SinkMembers}
+use Rattle.amf_io.specs.declared.link.Link.{Ghosts as LinkMembers}
+use Rattle.amf_io.specs.declared.front.Front.{Ghosts as FrontMembers}
 use Rattle.amf_graph.specs.Graph.{Graph}
 use Rattle.amf_service.specs.Meaning.{Given, Meanings}
 use Rattle.amf_service.specs.Registry.{Entry}
@@ -9,8 +11,7 @@ use Rattle.amf_service.specs.ServiceLaws.{ServiceLaws}
 use Rattle.amf_service.specs.Shipped.{echo_name, echoed, sum_name, summed, names_name, named, of_one, shipped}
 use Rattle.amf_plan.specs.RespondLaws.{AreLawful}
 use Rattle.amf_plan.specs.Services.{services_by}
-use Rattle.amf_gateway.specs.Tells.{OfLink, OfHall}
-use Rattle.amf_workers.specs.OfFront.{OfFront}
+use Rattle.amf_gateway.specs.Tells.{HallMembers}
 use Rattle.amf_cli.specs.ServesWords.{ServesWords}
 use Rattle.amf_cli.proofs.FrontLaws.{serves_by}
 
@@ -54,7 +55,7 @@ module _ {X A : Type 0} {V : X → Type 0} where
         ∙ ap (λ (m : Meanings). three_entries echo_name (of_one echo_name echoed) sum_name (of_one sum_name summed) names_name m) at_d
 
 -- what is served by a registry of them is served by the services that are shipped
-pub serves_shipped : {F H L O K X A : Type 0} {V : X → Type 0} (f : OfFront F H) (h : OfHall H L) (l : OfLink L) (o : SinkMembers O) (words : List (List ℕ)) (status : ℕ) (front back : F) (out wrote : O) (name : K → List ℕ) (knows : DynBox X A V → List ℕ → Bool) (gives : DynBox X A V → List ℕ → Graph → Given) (es : List (K × DynBox X A V)) → ServesWords f h l o (services_by es name knows gives) words status front back out wrote → (none one two three : List (List ℕ × DynBox X A V)) (x y z : List ℕ) (a b d : DynBox X A V) (u v w : X) → map (λ e. (name e.0, e.1)) es ≡ three → none ≡ [] → one ≡ none ++ (x, a) ∷ [] → two ≡ one ++ (y, b) ∷ [] → three ≡ two ++ (z, d) ∷ [] → x ≡ echo_name → y ≡ sum_name → z ≡ names_name → a.vtable ≡ u → b.vtable ≡ v → d.vtable ≡ w → ((i : V u) → meant name knows gives (of_type a u i) ≡ of_one echo_name echoed) → ((i : V v) → meant name knows gives (of_type b v i) ≡ of_one sum_name summed) → ((i : V w) → meant name knows gives (of_type d w i) ≡ of_one names_name named) → ServesWords f h l o shipped words status front back out wrote
+pub serves_shipped : {F H L O K X A : Type 0} {V : X → Type 0} (f : FrontMembers F H L) (h : HallMembers H L) (l : LinkMembers L) (o : SinkMembers O) (words : List (List ℕ)) (status : ℕ) (front back : F) (out wrote : O) (name : K → List ℕ) (knows : DynBox X A V → List ℕ → Bool) (gives : DynBox X A V → List ℕ → Graph → Given) (es : List (K × DynBox X A V)) → ServesWords f h l o (services_by es name knows gives) words status front back out wrote → (none one two three : List (List ℕ × DynBox X A V)) (x y z : List ℕ) (a b d : DynBox X A V) (u v w : X) → map (λ e. (name e.0, e.1)) es ≡ three → none ≡ [] → one ≡ none ++ (x, a) ∷ [] → two ≡ one ++ (y, b) ∷ [] → three ≡ two ++ (z, d) ∷ [] → x ≡ echo_name → y ≡ sum_name → z ≡ names_name → a.vtable ≡ u → b.vtable ≡ v → d.vtable ≡ w → ((i : V u) → meant name knows gives (of_type a u i) ≡ of_one echo_name echoed) → ((i : V v) → meant name knows gives (of_type b v i) ≡ of_one sum_name summed) → ((i : V w) → meant name knows gives (of_type d w i) ≡ of_one names_name named) → ServesWords f h l o shipped words status front back out wrote
 serves_shipped f h l o words status front back out wrote name knows gives es serves none one two three x y z a b d u v w made empty first second third is_x is_y is_z is_a is_b is_d echoes sums lists =
     serves_by f h l o (services_by es name knows gives) shipped words status front back out wrote (shipped_by name knows gives es none one two three x y z a b d u v w made empty first second third is_x is_y is_z is_a is_b is_d echoes sums lists) serves
 

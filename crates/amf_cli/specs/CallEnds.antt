@@ -20,7 +20,7 @@ use Rattle.amf_commands.specs.Content.{value}
 use Rattle.amf_commands.specs.Input.{one, IsRefusedAs}
 use Rattle.amf_commands.specs.Lines.{line_of, no_form_line, refusal_line}
 use Rattle.amf_commands.specs.Run.{IsInputOf, IsHidden}
-use Rattle.amf_commands.specs.Written.{WritesFront}
+use Rattle.amf_io.specs.Written.{WritesFront}
 use Rattle.amf_cli.specs.Lines.{fault_line, bad_reply_line, link_fault_line, not_arguments_line}
 use Rattle.amf_cli.specs.Told.{Tells}
 

@@ -1,7 +1,6 @@
 -- The definitions that contracts cite.
 pub mod Lines
 pub mod Told
-pub mod Outside
 pub mod Serving
 pub mod MediaEnds
 pub mod Ends
@@ -10,6 +9,7 @@ pub mod CallEnds
 pub mod CallsWords
 pub mod ListenEnds
 pub mod ListensWords
+pub mod Starts
 pub mod WorkedServe
 -- Devices of the proofs: no clause of a public call needs them.
 pub mod ServeEnds

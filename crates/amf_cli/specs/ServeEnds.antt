@@ -1,13 +1,20 @@
 -- How the steps of a run with `serve` end. A device of proofs.
 use Rattle.std.specs.Prelude.{◌≡◌, ℕ, ◌≤◌, Bool, true, false, List, ◌++◌, Result, Ok, Err, ⊤}
 use Rattle.amf_io.specs.Outside.{Rose}
+use Rattle.amf_io.specs.declared.front.Front.{Ghosts as FrontMembers}
+use Rattle.amf_io.specs.declared.link.Link.{Ghosts as LinkMembers}
+use Rattle.amf_io.specs.declared.sink.Sink.{Ghosts as SinkMembers}
+use Rattle.amf_service.specs.Registry.{Entry}
+use Rattle.amf_gateway.specs.Tells.{HallMembers}
+use Rattle.amf_workers.specs.Together.{Serves}
 use Rattle.amf_workers.specs.declared.answer.ServeAnswer.{ServeAnswer}
 use Rattle.amf_workers.specs.declared.answer.ServeAnswer.TheVariants.{Memory}
+use Rattle.amf_commands.specs.declared.command.ServeOptions.{ServeOptions}
 use Rattle.amf_commands.specs.declared.run_end.RunEnd.{RunEnd}
 use Rattle.amf_commands.specs.declared.run_end.RunEnd.TheVariants.{WriteFault, NoMemory, FrontFault}
 use Rattle.amf_commands.specs.Lines.{status_of, line_of}
 use Rattle.amf_cli.specs.Serving.{was_starved, had_fault, line_after, TellsOrFails}
-use Rattle.amf_commands.specs.Written.{WritesFront}
+use Rattle.amf_io.specs.Written.{WritesFront}
 
 abbrev pub End : Type 0
 End = Result (Unit {0}) RunEnd
@@ -48,6 +55,11 @@ ServesTo Came kept told held now before after (Err WriteFault) = (a : ServeAnswe
 ServesTo Came kept told held now before after (Err NoMemory) = (a : ServeAnswer) × Came a × EndsServe kept told held now before after a (Err NoMemory)
 ServesTo Came kept told held now before after (Err FrontFault) = (a : ServeAnswer) × Came a × EndsServe kept told held now before after a (Err FrontFault)
 ServesTo Came kept told held now before after _ = ⊥
+
+-- the same of what workers did with the links of a front, by the options, with the front and the output before and after
+abbrev pub ServesLinks : {F H L O : Type 0} → FrontMembers F H L → HallMembers H L → LinkMembers L → SinkMembers O → List Entry → ServeOptions → (a b : F) → (old new : O) → End → Type 0
+ServesLinks f h l o services options a b old new r =
+    ServesTo (Serves f h l services options.port options.workers options.each a b) (new ≡ old) (o.tells new) (o.held old) (o.held new) (o.faults old) (o.faults new) r
 
 -- a fault of the front is counted, and without one the count stays; where memory was wanting or the output failed nothing is said
 abbrev pub CountsFront : (before now : ℕ) → End → Type 0

@@ -4,7 +4,7 @@ use Rattle.amf_io.specs.Outside.{Rose}
 use Rattle.amf_workers.specs.declared.answer.ServeAnswer.{ServeAnswer}
 use Rattle.amf_workers.specs.declared.answer.ServeAnswer.TheVariants.{Memory, NotOpened, Closed}
 use Rattle.amf_cli.specs.Lines.{served_line}
-use Rattle.amf_commands.specs.Written.{WritesFront}
+use Rattle.amf_io.specs.Written.{WritesFront}
 
 -- whether memory was wanting, to a link or to all
 abbrev pub was_starved : ServeAnswer → Bool

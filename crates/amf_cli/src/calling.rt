@@ -6,17 +6,16 @@ ghost use Rattle.amf_commands.specs.declared.format.Format.TheVariants.{Amf3};
 ghost use Rattle.amf_commands.specs.Askable.{IsCallable};
 ghost use Rattle.amf_commands.specs.Content.{value};
 ghost use Rattle.amf_commands.specs.Input.{most, one};
-ghost use Rattle.amf_commands.specs.Run.{IsInputOf, CountsReads, IsReadEnd, ReadsInput, NeverLacks};
+ghost use Rattle.amf_commands.specs.Run.{IsInputOf, CountsReads, IsReadEnd};
+ghost use Rattle.amf_commands.specs.ReadContent.{ReadsAll};
 ghost use Rattle.amf_cli.specs.CallEnds.{AnswerEnds, CallEnds};
 ghost use Rattle.amf_cli.specs.CallSteps.{CallCounts, WritesFor};
 
 use crate::telling::{tell, tell_bad_reply, tell_fault, tell_link_fault};
 use amf_calling::{CallAnswer, call_keyed};
-use amf_commands::{
-    CallOptions, Content, Format, RunEnd, end_with, read_content, spell3, write_whole,
-};
+use amf_commands::{CallOptions, Content, Format, RunEnd, end_with, read_in_format, spell3};
 use amf_graph::{Rooted, WriteEnd};
-use amf_io::{Dial, Sink, Source};
+use amf_io::{Dial, Sink, Source, write_whole};
 use std::alloc::Global;
 use std::hash::RandomState;
 
@@ -49,13 +48,12 @@ fn arguments<I: Source>(
     keys: Option<RandomState>,
     input: &mut I,
 ) -> Result<Rooted, RunEnd>
-    ensures reads { I.tells input.old
-        → ReadsInput (one Amf3) NeverLacks (λ g. IsInputOf Amf3 (value (content g)) (I.left input.old)) (I.left input.old) (I.left input.new) result }
+    ensures reads { ReadsAll I.Source (one Amf3) (λ whole g. IsInputOf Amf3 (value (content g)) whole) input.old input.new result }
     ensures taken { I.tells input.old → length (I.left input.old) ≤ length (I.left input.new) + (most + 1) }
     ensures counts { CountsReads (I.faults input.old) (I.faults input.new) result }
     ensures ends { IsReadEnd result }
 {
-    match read_content(alloc, keys, Format::Amf3, input) {
+    match read_in_format(alloc, keys, Format::Amf3, input) {
         Ok(Content::Value(graph)) => Ok(graph),
         Ok(Content::Packet(_)) => unreachable!(),
         Ok(Content::File(_)) => unreachable!(),

@@ -6,7 +6,7 @@ ghost use Rattle.amf_commands.specs.declared.command.ServeOptions.{ServeOptions}
 ghost use Rattle.amf_commands.specs.Askable.{IsAskable};
 ghost use Rattle.amf_commands.specs.Commands.{AsksFor, HasReading, ReadsCall, ReadsListen, ReadsServe, IsDialling, IsServing};
 ghost use Rattle.amf_commands.specs.Input.{most};
-ghost use Rattle.amf_commands.specs.Run.{TakesInput, MayLack, CountsReads, CountsWrites, IsReading, IsUntouched, RunsTo};
+ghost use Rattle.amf_commands.specs.Run.{TakesInput, MayLack, CountsReads, CountsWrites, IsReading, IsUntouched, RunsOver};
 ghost use Rattle.amf_commands.specs.declared.run_end.RunEnd.{RunEnd};
 ghost use Rattle.amf_commands.specs.declared.run_end.RunEnd.TheVariants.{Usage, NoMemory};
 ghost use Rattle.amf_cli.specs.CallEnds.{Starves};
@@ -98,8 +98,7 @@ fn carry_out<I: Source, O: Sink>(
     ensures alone { (number : ℕ) (l : Lack) → result ≡ Err (RunEnd.NoForm number l) → MayLack command }
     ensures reading { IsReading command result }
     ensures untaken { (TakesInput command → ⊥) → input.new ≡ input.old }
-    ensures runs { (TakesInput command → I.tells input.old)
-        → RunsTo command (I.left input.old) (I.left input.new) (O.tells out.new) (O.held out.old) (O.held out.new) result }
+    ensures runs { (TakesInput command → I.tells input.old) → RunsOver I.Source O.Sink command input.old input.new out.old out.new result }
     ensures taken { I.tells input.old → length (I.left input.old) ≤ length (I.left input.new) + (most + 1) }
     ensures untouched { IsUntouched out.old out.new result }
     ensures unwritten { result ≡ Err RunEnd.NoMemory → out.new ≡ out.old }

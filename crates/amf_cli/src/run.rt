@@ -1,10 +1,7 @@
-ghost use Rattle.std.specs.Prelude.{List};
-ghost use Rattle.amf_service.specs.Registry.{Entry};
-ghost use Rattle.amf_plan.specs.Services.{services_by};
+ghost use Rattle.amf_plan.specs.Services.{services_of};
 ghost use Rattle.amf_cli.specs.CallsWords.{CallsWords};
 ghost use Rattle.amf_cli.specs.Ends.{Ends};
 ghost use Rattle.amf_cli.specs.ListensWords.{ListensWords};
-ghost use Rattle.amf_cli.specs.Outside.{of_front, of_hall, of_link};
 ghost use Rattle.amf_cli.specs.ServesWords.{ServesWords};
 
 use crate::calling::run_call;
@@ -83,9 +80,7 @@ pub fn run<
 where
     <F::Hall as Hall>::Link: Send,
     ensures ends { Ends I.Source O.Sink E.Sink words.now result input.old input.new out.old out.new err.old err.new }
-    ensures serves { let services : List Entry = services_by registry.now.services.entries (λ x. x.items)
-        (λ s. knows (s.vtable, s.value)) (λ s. gives (s.vtable, s.value)) in
-        ServesWords (of_front F.Front) (of_hall F.Hall.Hall.own F.Hall.Clock F.Hall.Dice) (of_link F.Hall.Link.Link) O.Sink services
+    ensures serves { ServesWords F.Front F.Hall.Hall F.Hall.Link.Link O.Sink (services_of registry.now knows gives)
         words.now result front.old front.new out.old out.new }
     ensures calls { CallsWords I.Source O.Sink E.Sink D.Dial D.Link.Link words.now result
         input.old input.new out.old out.new err.old err.new dial.old dial.new }

@@ -1,11 +1,7 @@
-ghost use Rattle.std.specs.Prelude.{◌≡◌, ℕ, List, IfOk, OnErr};
+ghost use Rattle.std.specs.Prelude.{◌≡◌, IfOk, OnErr};
 ghost use Rattle.std.specs.Process.{exit_status};
 ghost use Rattle.amf_service.specs.Shipped.{shipped as shipped_services};
-ghost use Rattle.amf_cli.specs.CallsWords.{CallsWords};
-ghost use Rattle.amf_cli.specs.Ends.{Ends};
-ghost use Rattle.amf_cli.specs.ListensWords.{ListensWords};
-ghost use Rattle.amf_cli.specs.Outside.{of_front, of_hall, of_link};
-ghost use Rattle.amf_cli.specs.ServesWords.{ServesWords};
+ghost use Rattle.amf_cli.specs.Starts.{Starts, AreWords};
 
 use crate::arguments::Arguments;
 use crate::start::start;
@@ -41,13 +37,9 @@ pub fn start_with_services<
 ) -> ExitCode
 where
     <F::Hall as Hall>::Link: Send,
-    ensures { (words : List (List ℕ)) × (A.tells arguments.now → words ≡ A.words arguments.now)
-        × Ends I.Source O.Sink E.Sink words (exit_status result) input.old input.new out.old out.new err.old err.new
-        × ServesWords (of_front F.Front) (of_hall F.Hall.Hall.own F.Hall.Clock F.Hall.Dice) (of_link F.Hall.Link.Link) O.Sink shipped_services
-        words (exit_status result) front.old front.new out.old out.new
-        × CallsWords I.Source O.Sink E.Sink D.Dial D.Link.Link words (exit_status result)
-        input.old input.new out.old out.new err.old err.new dial.old dial.new
-        × ListensWords O.Sink E.Sink D.Dial D.Link.Link words (exit_status result) out.old out.new err.old err.new dial.old dial.new }
+    ensures { Starts I.Source O.Sink E.Sink F.Front F.Hall.Hall F.Hall.Link.Link D.Dial D.Link.Link shipped_services
+        (AreWords A.Arguments arguments.now) (exit_status result)
+        (input.old, out.old, err.old, front.old, dial.old) (input.new, out.new, err.new, front.new, dial.new) }
 {
     // Also where there is no memory for the services, the law of services holds of them.
     service_laws();
@@ -78,13 +70,9 @@ fn start_shipped<
 ) -> Result<ExitCode, Memory>
 where
     <F::Hall as Hall>::Link: Send,
-    ensures runs { IfOk result (λ code. (words : List (List ℕ)) × (A.tells arguments.now → words ≡ A.words arguments.now)
-        × Ends I.Source O.Sink E.Sink words (exit_status code) input.old input.new out.old out.new err.old err.new
-        × ServesWords (of_front F.Front) (of_hall F.Hall.Hall.own F.Hall.Clock F.Hall.Dice) (of_link F.Hall.Link.Link) O.Sink shipped_services
-        words (exit_status code) front.old front.new out.old out.new
-        × CallsWords I.Source O.Sink E.Sink D.Dial D.Link.Link words (exit_status code)
-        input.old input.new out.old out.new err.old err.new dial.old dial.new
-        × ListensWords O.Sink E.Sink D.Dial D.Link.Link words (exit_status code) out.old out.new err.old err.new dial.old dial.new) }
+    ensures runs { IfOk result (λ code. Starts I.Source O.Sink E.Sink F.Front F.Hall.Hall F.Hall.Link.Link D.Dial D.Link.Link shipped_services
+        (AreWords A.Arguments arguments.now) (exit_status code)
+        (input.old, out.old, err.old, front.old, dial.old) (input.new, out.new, err.new, front.new, dial.new)) }
     ensures untouched { OnErr result ((input.new ≡ input.old) × (out.new ≡ out.old) × (err.new ≡ err.old)
         × (front.new ≡ front.old) × (dial.new ≡ dial.old)) }
 {

@@ -1,17 +1,14 @@
-ghost use Rattle.std.specs.Prelude.{◌≡◌, List, IfOk};
-ghost use Rattle.amf_service.specs.Registry.{Entry};
-ghost use Rattle.amf_plan.specs.Services.{services_by};
-ghost use Rattle.amf_workers.specs.Together.{Serves};
+ghost use Rattle.std.specs.Prelude.{◌≡◌};
+ghost use Rattle.amf_plan.specs.Services.{services_of};
 ghost use Rattle.amf_commands.specs.Askable.{IsServable};
 ghost use Rattle.amf_cli.specs.Lines.{served_line as line};
 ghost use Rattle.amf_commands.specs.Run.{CountsWrites};
-ghost use Rattle.amf_cli.specs.Outside.{of_front, of_hall, of_link};
-ghost use Rattle.amf_cli.specs.ServeEnds.{first_end, TellsLine, IsServeEnd, EndsServe, ServesTo, CountsFront};
+ghost use Rattle.amf_cli.specs.ServeEnds.{first_end, TellsLine, IsServeEnd, EndsServe, ServesLinks, CountsFront};
 
 use crate::lines::served_line;
-use amf_commands::{RunEnd, ServeOptions, write_whole};
+use amf_commands::{RunEnd, ServeOptions};
 use amf_desk::Closed;
-use amf_io::{Front, Gate, Hall, Sink};
+use amf_io::{Front, Gate, Hall, Sink, write_whole};
 use amf_service::Registry;
 use amf_workers::{ServeAnswer, serve};
 use std::alloc::Global;
@@ -32,11 +29,8 @@ pub fn serve_links<R: RandomSource + Threads + Wait + Sync, O: Sink, F: Front, G
 where
     <F::Hall as Hall>::Link: Send,
     requires { IsServable options }
-    ensures served { let services : List Entry = services_by registry.now.services.entries (λ x. x.items)
-        (λ s. knows (s.vtable, s.value)) (λ s. gives (s.vtable, s.value)) in
-        ServesTo (Serves (of_front F.Front) (of_hall F.Hall.Hall.own F.Hall.Clock F.Hall.Dice) (of_link F.Hall.Link.Link) services
-        options.port options.workers options.each front.old front.new) (out.new ≡ out.old)
-        (O.tells out.new) (O.held out.old) (O.held out.new) (O.faults out.old) (O.faults out.new) result }
+    ensures served { ServesLinks F.Front F.Hall.Hall F.Hall.Link.Link O.Sink (services_of registry.now knows gives) options
+        front.old front.new out.old out.new result }
     ensures ends { IsServeEnd result }
     ensures tells { O.tells out.new → O.tells out.old }
     ensures writes { CountsWrites (O.faults out.old) (O.faults out.new) result }

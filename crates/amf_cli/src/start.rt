@@ -1,12 +1,6 @@
-ghost use Rattle.std.specs.Prelude.{◌≡◌, ℕ, List};
 ghost use Rattle.std.specs.Process.{exit_status};
-ghost use Rattle.amf_service.specs.Registry.{Entry};
-ghost use Rattle.amf_plan.specs.Services.{services_by};
-ghost use Rattle.amf_cli.specs.CallsWords.{CallsWords};
-ghost use Rattle.amf_cli.specs.Ends.{Ends};
-ghost use Rattle.amf_cli.specs.ListensWords.{ListensWords};
-ghost use Rattle.amf_cli.specs.Outside.{of_front, of_hall, of_link};
-ghost use Rattle.amf_cli.specs.ServesWords.{ServesWords};
+ghost use Rattle.amf_plan.specs.Services.{services_of};
+ghost use Rattle.amf_cli.specs.Starts.{Starts, AreWords};
 
 use crate::arguments::{Arguments, words_of};
 use crate::run::run;
@@ -44,15 +38,9 @@ pub fn start<
 ) -> ExitCode
 where
     <F::Hall as Hall>::Link: Send,
-    ensures { let services : List Entry = services_by registry.now.services.entries (λ x. x.items)
-        (λ s. knows (s.vtable, s.value)) (λ s. gives (s.vtable, s.value)) in
-        (words : List (List ℕ)) × (A.tells arguments.now → words ≡ A.words arguments.now)
-        × Ends I.Source O.Sink E.Sink words (exit_status result) input.old input.new out.old out.new err.old err.new
-        × ServesWords (of_front F.Front) (of_hall F.Hall.Hall.own F.Hall.Clock F.Hall.Dice) (of_link F.Hall.Link.Link) O.Sink services
-        words (exit_status result) front.old front.new out.old out.new
-        × CallsWords I.Source O.Sink E.Sink D.Dial D.Link.Link words (exit_status result)
-        input.old input.new out.old out.new err.old err.new dial.old dial.new
-        × ListensWords O.Sink E.Sink D.Dial D.Link.Link words (exit_status result) out.old out.new err.old err.new dial.old dial.new }
+    ensures { Starts I.Source O.Sink E.Sink F.Front F.Hall.Hall F.Hall.Link.Link D.Dial D.Link.Link (services_of registry.now knows gives)
+        (AreWords A.Arguments arguments.now) (exit_status result)
+        (input.old, out.old, err.old, front.old, dial.old) (input.new, out.new, err.new, front.new, dial.new) }
 {
     registry.are_lawful();
     match words_of(alloc, arguments) {

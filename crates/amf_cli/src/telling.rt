@@ -3,8 +3,8 @@ ghost use Rattle.amf_cli.specs.CallSteps.{TellsFault};
 ghost use Rattle.amf_cli.specs.Lines as lines;
 ghost use Rattle.amf_cli.specs.Told.{Tells};
 
-use amf_commands::{RunEnd, end_with, write_whole};
-use amf_io::Sink;
+use amf_commands::{RunEnd, end_with};
+use amf_io::{Sink, write_whole};
 use amf_show::show_text;
 use amf_wire::{Memory, Name};
 use arrayvec::ArrayString;

@@ -1,6 +1,6 @@
-use crate::runs::{BY_BYTES, Case, Ways, check, check_rows, put, put_part};
+use crate::runs::{BY_BYTES, Case, Ways, check, check_rows, put};
 use amf_graph::{BuildEnd, Builder};
-use amf_rows::Table;
+use amf_rows::{Table, push_part};
 use amf_wire::is_amf_text;
 use std::alloc::Global;
 use std::process::Abort;
@@ -111,7 +111,7 @@ fn put_pair(rt: &impl Abort, out: &mut Vec<u8>, name: u32, front: &[u8], place: 
 /// one before it: in the order of their names each stands within the one before it.
 fn put_chain(rt: &impl Abort, alloc: Global, out: &mut Vec<u8>, header: &[u8]) {
     put(rt, out, 1, header);
-    put_part(rt, alloc, out, "07 '599' 09 01 01");
+    push_part(alloc, out, "07 '599' 09 01 01").expect(rt, "bytes");
     for member in 2..601_u32 {
         put_pair(rt, out, 600 - member, b"\x09\x03\x01", member - 1);
     }
@@ -122,9 +122,9 @@ fn put_chain(rt: &impl Abort, alloc: Global, out: &mut Vec<u8>, header: &[u8]) {
 /// of them by its place.
 fn put_sorted_chain(rt: &impl Abort, alloc: Global, out: &mut Vec<u8>, header: &[u8]) {
     put(rt, out, 1, header);
-    put_part(rt, alloc, out, "07 '000'");
-    put_part(rt, alloc, out, "599*09 03 01");
-    put_part(rt, alloc, out, "09 01 01");
+    push_part(alloc, out, "07 '000'").expect(rt, "bytes");
+    push_part(alloc, out, "599*09 03 01").expect(rt, "bytes");
+    push_part(alloc, out, "09 01 01").expect(rt, "bytes");
     for name in 1..600_u32 {
         put_pair(rt, out, name, b"", name + 1);
     }

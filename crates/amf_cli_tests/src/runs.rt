@@ -224,11 +224,6 @@ fn check_listed<R: RandomSource + Threads + Wait + Abort + Sync>(
     }
 }
 
-/// A field of a row.
-fn field<'t>(rt: &impl Abort, row: Row<'t>, place: usize) -> &'t str {
-    row.field(place).expect(rt, "a field")
-}
-
 /// Appends bytes so many times.
 pub(crate) fn put(rt: &impl Abort, out: &mut Vec<u8>, count: usize, bytes: &[u8]) {
     for _ in 0..count {
@@ -236,29 +231,12 @@ pub(crate) fn put(rt: &impl Abort, out: &mut Vec<u8>, count: usize, bytes: &[u8]
     }
 }
 
-/// Appends the bytes of a text, which may have `n*` before it: then they stand n times.
-pub(crate) fn put_part(rt: &impl Abort, alloc: Global, out: &mut Vec<u8>, part: &str) {
-    let (count, text) = part.split_once('*').unwrap_or(("1", part));
-    let count = count.trim().parse::<usize>().expect(rt, "a count");
-    let bytes = amf_rows::bytes_of(alloc, text).expect(rt, "memory");
-    put(rt, out, count, &bytes.expect(rt, "bytes"));
-}
-
-/// The bytes of a field: its parts, with `+` between, one behind the other.
-pub(crate) fn bytes_of(rt: &impl Abort, alloc: Global, row: Row<'_>, place: usize) -> Vec<u8> {
-    let mut bytes = Vec::new(alloc);
-    for part in field(rt, row, place).split('+') {
-        put_part(rt, alloc, &mut bytes, part);
-    }
-    bytes
-}
-
 fn check_row<R: RandomSource + Threads + Wait + Abort + Sync>(rt: &R, alloc: Global, row: Row<'_>) {
-    let input = bytes_of(rt, alloc, row, 1);
-    let output = bytes_of(rt, alloc, row, 3);
-    let line = bytes_of(rt, alloc, row, 4);
+    let input = row.parts(alloc, 1).expect(rt, "bytes");
+    let output = row.parts(alloc, 3).expect(rt, "bytes");
+    let line = row.parts(alloc, 4).expect(rt, "bytes");
     let case = Case {
-        words: field(rt, row, 0),
+        words: row.field(0).expect(rt, "words"),
         input: &input,
         status: row.number(2).expect(rt, "a status"),
         output: &output,

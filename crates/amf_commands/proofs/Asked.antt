@@ -20,46 +20,46 @@ use Rattle.amf_commands.specs.declared.command.Task.{Task}
 use Rattle.amf_commands.specs.declared.command.Task.TheVariants as task
 use Rattle.amf_commands.specs.declared.format.Format.{Format}
 use Rattle.amf_commands.specs.declared.format.Format.TheVariants.{Amf3}
-use Rattle.amf_commands.specs.declared.kind.Kind.{Kind}
-use Rattle.amf_commands.specs.declared.kind.Kind.TheVariants as kind
+use Rattle.amf_commands.specs.declared.command_name.CommandName.{CommandName}
+use Rattle.amf_commands.specs.declared.command_name.CommandName.TheVariants as command_name
 use Rattle.amf_commands.specs.Commands.{Asks, AsksFor, HasReading, IsCalling, IsDialling, IsListening, IsMedia, Reads, ReadsCall, ReadsFlv, ReadsListen, ReadsRtmp, ReadsServe, IsServing, call_of, canon_from, canon_to, destination_at, flv_job_named, format_or, gen_of, goes_to, is_numeral, listen_of, name_of, number_at, options_for, rtmp_of, rtmp_show, serve_of, target_at, task_for}
 use Rattle.amf_commands.specs.Askable.{IsAskable, IsCallable, IsChunkable, IsListenable, IsPossible, IsServable}
 
-named : Text → Kind
-named t = if bytes_eq t (codes "canon") then kind.Canon
-    else (if bytes_eq t (codes "check") then kind.Check
-    else (if bytes_eq t (codes "show") then kind.Show
-    else (if bytes_eq t (codes "same") then kind.Same
-    else (if bytes_eq t (codes "gen") then kind.Gen
-    else (if bytes_eq t (codes "serve") then kind.Serve
-    else (if bytes_eq t (codes "flv") then kind.Flv
-    else (if bytes_eq t (codes "rtmp") then kind.Rtmp
-    else (if bytes_eq t (codes "call") then kind.Call else kind.Listen))))))))
+named : Text → CommandName
+named t = if bytes_eq t (codes "canon") then command_name.Canon
+    else (if bytes_eq t (codes "check") then command_name.Check
+    else (if bytes_eq t (codes "show") then command_name.Show
+    else (if bytes_eq t (codes "same") then command_name.Same
+    else (if bytes_eq t (codes "gen") then command_name.Gen
+    else (if bytes_eq t (codes "serve") then command_name.Serve
+    else (if bytes_eq t (codes "flv") then command_name.Flv
+    else (if bytes_eq t (codes "rtmp") then command_name.Rtmp
+    else (if bytes_eq t (codes "call") then command_name.Call else command_name.Listen))))))))
 
-named_is : (k : Kind) → named (name_of k) ≡ k
+named_is : (k : CommandName) → named (name_of k) ≡ k
 unfolding named
-named_is kind.Canon = refl
-named_is kind.Check = refl
-named_is kind.Show = refl
-named_is kind.Same = refl
-named_is kind.Gen = refl
-named_is kind.Serve = refl
-named_is kind.Flv = refl
-named_is kind.Rtmp = refl
-named_is kind.Call = refl
-named_is kind.Listen = refl
+named_is command_name.Canon = refl
+named_is command_name.Check = refl
+named_is command_name.Show = refl
+named_is command_name.Same = refl
+named_is command_name.Gen = refl
+named_is command_name.Serve = refl
+named_is command_name.Flv = refl
+named_is command_name.Rtmp = refl
+named_is command_name.Call = refl
+named_is command_name.Listen = refl
 
-good : (k : Kind) → list_all is_name (options_for k) ≡ true
-good kind.Canon = refl
-good kind.Check = refl
-good kind.Show = refl
-good kind.Same = refl
-good kind.Gen = refl
-good kind.Serve = refl
-good kind.Flv = refl
-good kind.Rtmp = refl
-good kind.Call = refl
-good kind.Listen = refl
+good : (k : CommandName) → list_all is_name (options_for k) ≡ true
+good command_name.Canon = refl
+good command_name.Check = refl
+good command_name.Show = refl
+good command_name.Same = refl
+good command_name.Gen = refl
+good command_name.Serve = refl
+good command_name.Flv = refl
+good command_name.Rtmp = refl
+good command_name.Call = refl
+good command_name.Listen = refl
 
 head_or : List Text → Text
 head_or [] = []
@@ -82,7 +82,7 @@ pub one_asked : (words : List Text) (t u : Task) → Asks words t → Asks words
 one_asked words t u (k, rest, g, is, has, gives) (l, rest2, h, is2, has2, gives2) =
     let both : name_of k ∷ rest ≡ name_of l ∷ rest2 = sym is ∙ is2 in
     let kinds : k ≡ l = sym (named_is k) ∙ ap named (same_head _ _ _ _ both) ∙ named_is l in
-    let has3 : HasOptions (options_for k) rest h = subst (λ (ws : List Text). HasOptions (options_for k) ws h) (sym (same_tail _ _ _ _ both)) (subst (λ (m : Kind). HasOptions (options_for m) rest2 h) (sym kinds) has2) in
+    let has3 : HasOptions (options_for k) rest h = subst (λ (ws : List Text). HasOptions (options_for k) ws h) (sym (same_tail _ _ _ _ both)) (subst (λ (m : CommandName). HasOptions (options_for m) rest2 h) (sym kinds) has2) in
     let values : value_of g ≡ value_of h = λ i x. one_value (options_for k) rest g h (good k) has has3 x i in
     let some : Some t ≡ Some u = sym gives ∙ ap₂ task_for kinds values ∙ gives2 in
     ap (λ o. unwrap_or o t) some
@@ -192,17 +192,17 @@ listen_possible : (o : Option ListenOptions) (all : (s : ListenOptions) → o �
 listen_possible None all t e = cc
 listen_possible (Some s) all t e = subst IsPossible (same_Some (task.Listen s) t e) (all s refl)
 
-task_possible : (k : Kind) (value : Text → Option Text) (all : (x text : Text) → value x ≡ Some text → IsText text) (t : Task) → task_for k value ≡ Some t → IsPossible t
-task_possible kind.Canon value all t e = output_possible (canon_from (format_or Amf3 (value (codes "from"))) (value (codes "to"))) (canon_sized (format_or Amf3 (value (codes "from"))) (value (codes "to"))) t e
-task_possible kind.Check value all t e = output_possible (option_map command.Check (format_or Amf3 (value (codes "from")))) (mapped_sized command.Check (λ f. tt) (format_or Amf3 (value (codes "from")))) t e
-task_possible kind.Show value all t e = output_possible (option_map command.Show (format_or Amf3 (value (codes "from")))) (mapped_sized command.Show (λ f. tt) (format_or Amf3 (value (codes "from")))) t e
-task_possible kind.Same value all t e = subst IsPossible (same_Some (task.Output command.Same) t e) tt
-task_possible kind.Gen value all t e = output_possible (gen_of (number_at 0 4294967295 (value (codes "seed"))) (number_at 1 1000000 (value (codes "size")))) (λ c. gen_sized (number_at 0 4294967295 (value (codes "seed"))) (number_at 1 1000000 (value (codes "size"))) c (number_within 1 1000000 (value (codes "size")))) t e
-task_possible kind.Serve value all t e = serve_possible (serve_of (number_at 0 65535 (value (codes "port"))) (number_at 1 64 (value (codes "workers"))) (number_at 1 1000000 (value (codes "each")))) (λ s. serve_sized (number_at 0 65535 (value (codes "port"))) (number_at 1 64 (value (codes "workers"))) (number_at 1 1000000 (value (codes "each"))) s (number_within 1 64 (value (codes "workers")))) t e
-task_possible kind.Flv value all t e = flv_possible (option_and_then flv_job_named (value (codes "do"))) t e
-task_possible kind.Rtmp value all t e = rtmp_possible (rtmp_of (value (codes "do")) (value (codes "size"))) (rtmp_chunkable (value (codes "do")) (value (codes "size"))) t e
-task_possible kind.Call value all t e = call_possible (call_of (number_at 0 65535 (value (codes "port"))) (target_at (value (codes "target")))) (λ s. called_callable (number_at 0 65535 (value (codes "port"))) (value (codes "target")) (target_at (value (codes "target"))) s (all (codes "target")) refl) t e
-task_possible kind.Listen value all t e = listen_possible (listen_of (number_at 0 65535 (value (codes "port"))) (destination_at (value (codes "destination"))) (number_at 1 1000000 (value (codes "polls")))) (λ s. listened_listenable (number_at 0 65535 (value (codes "port"))) (value (codes "destination")) (destination_at (value (codes "destination"))) (number_at 1 1000000 (value (codes "polls"))) s (all (codes "destination")) refl (number_within 1 1000000 (value (codes "polls")))) t e
+task_possible : (k : CommandName) (value : Text → Option Text) (all : (x text : Text) → value x ≡ Some text → IsText text) (t : Task) → task_for k value ≡ Some t → IsPossible t
+task_possible command_name.Canon value all t e = output_possible (canon_from (format_or Amf3 (value (codes "from"))) (value (codes "to"))) (canon_sized (format_or Amf3 (value (codes "from"))) (value (codes "to"))) t e
+task_possible command_name.Check value all t e = output_possible (option_map command.Check (format_or Amf3 (value (codes "from")))) (mapped_sized command.Check (λ f. tt) (format_or Amf3 (value (codes "from")))) t e
+task_possible command_name.Show value all t e = output_possible (option_map command.Show (format_or Amf3 (value (codes "from")))) (mapped_sized command.Show (λ f. tt) (format_or Amf3 (value (codes "from")))) t e
+task_possible command_name.Same value all t e = subst IsPossible (same_Some (task.Output command.Same) t e) tt
+task_possible command_name.Gen value all t e = output_possible (gen_of (number_at 0 4294967295 (value (codes "seed"))) (number_at 1 1000000 (value (codes "size")))) (λ c. gen_sized (number_at 0 4294967295 (value (codes "seed"))) (number_at 1 1000000 (value (codes "size"))) c (number_within 1 1000000 (value (codes "size")))) t e
+task_possible command_name.Serve value all t e = serve_possible (serve_of (number_at 0 65535 (value (codes "port"))) (number_at 1 64 (value (codes "workers"))) (number_at 1 1000000 (value (codes "each")))) (λ s. serve_sized (number_at 0 65535 (value (codes "port"))) (number_at 1 64 (value (codes "workers"))) (number_at 1 1000000 (value (codes "each"))) s (number_within 1 64 (value (codes "workers")))) t e
+task_possible command_name.Flv value all t e = flv_possible (option_and_then flv_job_named (value (codes "do"))) t e
+task_possible command_name.Rtmp value all t e = rtmp_possible (rtmp_of (value (codes "do")) (value (codes "size"))) (rtmp_chunkable (value (codes "do")) (value (codes "size"))) t e
+task_possible command_name.Call value all t e = call_possible (call_of (number_at 0 65535 (value (codes "port"))) (target_at (value (codes "target")))) (λ s. called_callable (number_at 0 65535 (value (codes "port"))) (value (codes "target")) (target_at (value (codes "target"))) s (all (codes "target")) refl) t e
+task_possible command_name.Listen value all t e = listen_possible (listen_of (number_at 0 65535 (value (codes "port"))) (destination_at (value (codes "destination"))) (number_at 1 1000000 (value (codes "polls")))) (λ s. listened_listenable (number_at 0 65535 (value (codes "port"))) (value (codes "destination")) (destination_at (value (codes "destination"))) (number_at 1 1000000 (value (codes "polls"))) s (all (codes "destination")) refl (number_within 1 1000000 (value (codes "polls")))) t e
 
 pub asked_possible : (words : List Text) (t : Task) → AsksFor words t → IsPossible t
 asked_possible words t (utf8, (k, rest, given, is, has, gives)) = task_possible k (value_of given) (λ x text e. utf8_is_text text (value_utf8 rest given (subst (AllByRecursion IsUtf8) is utf8).1 has.0 x text e)) t gives

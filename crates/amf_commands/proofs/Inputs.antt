@@ -7,7 +7,7 @@ use Rattle.amf_io.specs.declared.cursor.Cursor.{Cursor}
 use Rattle.amf_io.specs.Cursor.{source_of, ahead, unread}
 use Rattle.amf_io.specs.Cursor as cursors
 use Rattle.amf_io.specs.Outside.{Rose}
-use Rattle.amf_io.specs.ReadEnds.{CountsEnd, IsFaultedEnd, Goes}
+use Rattle.amf_io.specs.ReadEnds.{CountsEnd, IsFaultedEnd, GoesBy}
 use Rattle.amf_io.specs.Field.{Field, flat}
 use Rattle.amf_io.specs.declared.reason.Reason.{Reason}
 use Rattle.amf_io.specs.Verdict.{IsRefused, IsCutOff, IsInputRefused, refused, trailing}
@@ -21,8 +21,10 @@ use Rattle.amf_graph.specs.Rooted.{RootedArena, content}
 use Rattle.amf_graph.proofs.FinishedSmall.{completes_itself}
 use Rattle.amf_graph.specs.Building.{no_arena}
 use Rattle.amf3_spelling.specs.KeptTables.{KeptTables, no_kept_tables, tables_of}
-use Rattle.amf3_spelling.specs.Reads3.{Grows, IsRead3, IsReading3, IsValue3}
-use Rattle.amf3_layout.proofs.Values3Layout.{no_arena_built, values3_is_layout}
+use Rattle.amf3_spelling.specs.Reads3.{Grows, IsRead3, IsReading3}
+use Rattle.amf3_spelling.specs.Values3.{IsValue3}
+use Rattle.amf3_layout.proofs.Values3Layout.{no_arena_built, values3_is_layout, reading_is_value, answered3}
+use Rattle.amf0_layout.proofs.Layout0Format.{reading_is_value0, answered0}
 use Rattle.amf3_layout.specs.Layout3State.{no_state}
 use Rattle.amf3_layout.specs.Layout3.{value_layout}
 use Rattle.amf_io.specs.Stretch.{IsTaken, IsInterrupted, AnswersOf, stretch}
@@ -104,11 +106,11 @@ all_closed b g = subst (λ ns. AllByRecursion (λ n. n.is_open ≡ false) ns) (s
 pub one_read : (told : Type 0) (b : Arena) (u : KeptTables) (v : Value) (input rest : List ℕ) (at place : ℕ) → IsTaken (λ fs. IsRead3 no_arena no_kept_tables fs b u v) (IsReading3 no_arena no_kept_tables) (stretch told input rest at place most) → IsReadOne Amf3 told (value (graph_of b v)) input rest at place
 one_read told b u v input rest at place r =
     let finished : IsFinished b = record { built = r.read.built no_arena_built; closed = all_closed b r.read.grows } in
-    record { fields = r.fields; read = (tables_of b u, r.read.spelled b (completes_itself b finished)); accepted = r.accepted; parts = r.parts; taken = r.taken; within = r.within }
+    record { fields = r.fields; read = (tables_of b u, r.read.spelled b (completes_itself b finished)); accepted = reading_is_value r.fields r.accepted; parts = r.parts; taken = r.taken; within = r.within }
 
 pub one_ends : (told : Type 0) (b : Arena) (u : KeptTables) (input rest : List ℕ) (at place : ℕ) (e : ReadEnd) → Answers3 no_arena b no_kept_tables u (stretch told input rest at place most) (Err e) → AnswersOne of_value Amf3 told input rest at place (Err e)
-one_ends told b u input rest at place (Refused f) h = h
-one_ends told b u input rest at place ReadFault h = h
+one_ends told b u input rest at place (Refused f) h = answered3 (λ v fs. IsRead3 no_arena no_kept_tables fs b u v) (stretch told input rest at place most) (Err (Refused f)) h
+one_ends told b u input rest at place ReadFault h = answered3 (λ v fs. IsRead3 no_arena no_kept_tables fs b u v) (stretch told input rest at place most) (Err ReadFault) h
 one_ends told b u input rest at place Memory h = tt
 
 -- the same of AMF 0
@@ -123,11 +125,11 @@ pub one_read0 : (told : Type 0) (b : Arena) (u : KeptTables0) (x : Read0) (input
 one_read0 told b u x input rest at place r =
     let read = r.read.read in
     let finished : IsFinished b = record { built = read.built no_arena_built; closed = all_closed b read.grows } in
-    record { fields = r.fields; read = (tables0_of b u, read.spelled b (completes_itself b finished)); accepted = r.accepted; parts = r.parts; taken = r.taken; within = r.within }
+    record { fields = r.fields; read = (tables0_of b u, read.spelled b (completes_itself b finished)); accepted = reading_is_value0 r.fields r.accepted; parts = r.parts; taken = r.taken; within = r.within }
 
 pub one_ends0 : (told : Type 0) (b : Arena) (u : KeptTables0) (input rest : List ℕ) (at place : ℕ) (e : ReadEnd) → AnswersOf (λ x fs. IsReadWith no_arena no_kept_tables0 fs b u x) (IsReading0 no_arena no_kept_tables0) (stretch told input rest at place most) (Err e) → AnswersOne of_value Amf0 told input rest at place (Err e)
-one_ends0 told b u input rest at place (Refused f) h = h
-one_ends0 told b u input rest at place ReadFault h = h
+one_ends0 told b u input rest at place (Refused f) h = answered0 (λ x fs. IsReadWith no_arena no_kept_tables0 fs b u x) (stretch told input rest at place most) (Err (Refused f)) h
+one_ends0 told b u input rest at place ReadFault h = answered0 (λ x fs. IsReadWith no_arena no_kept_tables0 fs b u x) (stretch told input rest at place most) (Err ReadFault) h
 one_ends0 told b u input rest at place Memory h = tt
 
 -- where a source tells at the start, what a later reader says where it tells then holds
@@ -290,24 +292,24 @@ pair_end_ends Q told g h input mid last rest between place ReadFault y r s same 
 pair_end_ends Q told g h input mid last rest between place Memory y r s none = absurd none
 
 -- what was taken by a reader that went on from the start
-pub taken_by : {S X : Type 0} (tells : S → Type 0) (left : S → List ℕ) (faults : S → ℕ) (old new : Cursor S Window) (r : Result X ReadEnd) → cursors.place old ≡ 0 → cursors.bound old ≡ most → Goes tells left faults old new r → tells (source_of old).now
+pub taken_by : {S X : Type 0} (tells : S → Type 0) (left : S → List ℕ) (faults : S → ℕ) (old new : Cursor S Window) (r : Result X ReadEnd) → cursors.place old ≡ 0 → cursors.bound old ≡ most → GoesBy tells left faults old new r → tells (source_of old).now
     → length (unread left old) ≤ length (left (source_of new).now) + (most + 1)
 taken_by tells left faults old new r z l g told =
     taken_whole (cursors.place old) (cursors.place new) (length (unread left old)) (length (unread left new)) (ahead new) (length (left (source_of new).now)) (cursors.bound old) (cursors.bound new) z l g.same_bound (g.total told) g.one_past (unread_within left new)
 
 -- and by one that went on behind it
-pub taken_behind : {S X Y : Type 0} (tells : S → Type 0) (left : S → List ℕ) (faults : S → ℕ) (old mid new : Cursor S Window) (r : Result X ReadEnd) (s : Result Y ReadEnd) → cursors.place old ≡ 0 → cursors.bound old ≡ most → Goes tells left faults old mid r → Goes tells left faults mid new s → tells (source_of old).now
+pub taken_behind : {S X Y : Type 0} (tells : S → Type 0) (left : S → List ℕ) (faults : S → ℕ) (old mid new : Cursor S Window) (r : Result X ReadEnd) (s : Result Y ReadEnd) → cursors.place old ≡ 0 → cursors.bound old ≡ most → GoesBy tells left faults old mid r → GoesBy tells left faults mid new s → tells (source_of old).now
     → length (unread left old) ≤ length (left (source_of new).now) + (most + 1)
 taken_behind tells left faults old mid new r s z l g h told =
     taken_whole (cursors.place old) (cursors.place new) (length (unread left old)) (length (unread left new)) (ahead new) (length (left (source_of new).now)) (cursors.bound old) (cursors.bound new) z l (h.same_bound ∙ g.same_bound) (h.total (g.told told) ∙ g.total told) h.one_past (unread_within left new)
 
 pub taken_last : {S X Y Z : Type 0} (tells : S → Type 0) (left : S → List ℕ) (faults : S → ℕ) (old mid next new : Cursor S Window) (r : Result X ReadEnd) (s : Result Y ReadEnd) (t : Result Z ReadEnd) → cursors.place old ≡ 0 → cursors.bound old ≡ most
-    → Goes tells left faults old mid r → Goes tells left faults mid next s → Goes tells left faults next new t → tells (source_of old).now → length (unread left old) ≤ length (left (source_of new).now) + (most + 1)
+    → GoesBy tells left faults old mid r → GoesBy tells left faults mid next s → GoesBy tells left faults next new t → tells (source_of old).now → length (unread left old) ≤ length (left (source_of new).now) + (most + 1)
 taken_last tells left faults old mid next new r s t z l g h k told =
     taken_whole (cursors.place old) (cursors.place new) (length (unread left old)) (length (unread left new)) (ahead new) (length (left (source_of new).now)) (cursors.bound old) (cursors.bound new) z l (k.same_bound ∙ h.same_bound ∙ g.same_bound) (k.total (h.told (g.told told)) ∙ h.total (g.told told) ∙ g.total told) k.one_past (unread_within left new)
 
 -- where a read failed, what is unread is what the source has left
-pub left_behind : {S X : Type 0} (tells : S → Type 0) (left : S → List ℕ) (faults : S → ℕ) (old new : Cursor S Window) (e : ReadEnd) → Goes {X = X} tells left faults old new (Err e) → e ≡ ReadFault → unread left new ≡ left (source_of new).now
+pub left_behind : {S X : Type 0} (tells : S → Type 0) (left : S → List ℕ) (faults : S → ℕ) (old new : Cursor S Window) (e : ReadEnd) → GoesBy {X = X} tells left faults old new (Err e) → e ≡ ReadFault → unread left new ≡ left (source_of new).now
 left_behind tells left faults old new e g h = none_unread left new (none_after_fault (ahead new) e g.none_ahead h)
 
 -- where nothing is unread, the source has nothing left
@@ -349,7 +351,7 @@ answers_mapped f g view look told input rest at place (Err (Refused r)) e same h
 answers_mapped f g view look told input rest at place (Err ReadFault) e same h = subst (λ k. told → IsInterrupted (IsContent k) input rest at most) (sym e) h
 answers_mapped f g view look told input rest at place (Err Memory) e same h = tt
 
-pub goes_mapped : {S X : Type 0} (view : X → KeptContent) (tells : S → Type 0) (left : S → List ℕ) (faults : S → ℕ) (old new : Cursor S Window) (r : Result X ReadEnd) → Goes tells left faults old new r → Goes tells left faults old new (mapped view r)
+pub goes_mapped : {S X : Type 0} (view : X → KeptContent) (tells : S → Type 0) (left : S → List ℕ) (faults : S → ℕ) (old new : Cursor S Window) (r : Result X ReadEnd) → GoesBy tells left faults old new r → GoesBy tells left faults old new (mapped view r)
 goes_mapped view tells left faults old new (Ok x) g = record { told = g.told; same_source = g.same_source; same_bound = g.same_bound; one_past = g.one_past; cause = g.cause; none_ahead = g.none_ahead; total = g.total }
 goes_mapped view tells left faults old new (Err e) g = record { told = g.told; same_source = g.same_source; same_bound = g.same_bound; one_past = g.one_past; cause = g.cause; none_ahead = g.none_ahead; total = g.total }
 

@@ -5,7 +5,7 @@ use Rattle.std.specs.Fmt.{digits}
 use Rattle.amf_io.specs.Outcomes.{Decides, Waits, read, run}
 use Rattle.amf_io.proofs.Inputs.{outcome_decides, outcome_waits}
 use Rattle.amf_graph.specs.Order.{again, first, over}
-use Rattle.amf3_spelling.specs.Reads3.{IsValue3}
+use Rattle.amf3_spelling.specs.Values3.{IsValue3}
 use Rattle.amf3_spelling.proofs.Build.{absent_nil, absent_cons}
 use Rattle.amf3_layout.proofs.Values3Layout.{values3_is_layout}
 use Rattle.amf3_layout.proofs.VerdictRows.{all_bytes, both_hold, are_bytes, is_short}

@@ -25,7 +25,7 @@ use Rattle.amf_listings.proofs.FileLawRows.{file_laws}
 use Rattle.amf_vectors.specs.Made.{made}
 use Rattle.amf3_spelling.specs.Tables.{no_tables}
 use Rattle.amf3_spelling.specs.Lacks3.{IsLack3}
-use Rattle.amf3_spelling.specs.Reads3.{IsValue3}
+use Rattle.amf3_spelling.specs.Values3.{IsValue3}
 use Rattle.amf3_spelling.specs.Spells3.{IsSpelling3}
 use Rattle.amf3_layout.specs.Layout3State.{no_state}
 use Rattle.amf3_layout.specs.Layout3.{ValueRead, value_layout}
@@ -36,9 +36,9 @@ use Rattle.amf3_layout.proofs.Layout3Complete.{spelled_read}
 use Rattle.amf3_layout.proofs.Values3Layout.{values3_is_layout}
 use Rattle.amf_graph.specs.Building.{no_arena}
 use Rattle.amf0_spelling.specs.KeptTables0.{no_kept_tables0}
-use Rattle.amf0_layout.specs.Layout0.{Read0, value0_layout}
+use Rattle.amf0_layout.specs.Layout0.{ValueRead0, value0_layout}
 use Rattle.amf0_layout.specs.Layout0State.{state0_of}
-use Rattle.amf0_spelling.specs.Reads0.{IsValue0}
+use Rattle.amf0_spelling.specs.Values0.{IsValue0}
 use Rattle.amf0_spelling.specs.Tables0.{no_tables0}
 use Rattle.amf0_layout.proofs.Layout0Complete.{Found0, spelled_read0}
 use Rattle.amf0_layout.proofs.Layout0Format.{values0_is_layout}
@@ -58,7 +58,7 @@ use Rattle.amf_commands.proofs.Formats.{SameContent, decides_alike, lacks_too, n
 abbrev pub layouts : ℕ → Layout ValueRead
 layouts n = value_layout n no_state
 
-abbrev pub layouts0 : ℕ → Layout Read0
+abbrev pub layouts0 : ℕ → Layout ValueRead0
 layouts0 n = value0_layout n false (state0_of no_arena no_kept_tables0)
 
 -- an input has one verdict
@@ -116,7 +116,7 @@ spelled_done g input i m lt =
     let place : 0 + length (flat i.fields) ≡ length input = omega (arith, n) in
     (f.result, ap (run (layouts m) 0) e ∙ runs_run (layouts m) i.fields f.result 0 [] f.runs ∙ ap (λ k. Done f.result k []) place)
 
-spelled_done0 : (g : Graph) (input : List ℕ) → IsInputOf Amf0 (value g) input → (m : ℕ) → length input < m → (x : Read0) × (run (layouts0 m) 0 input ≡ Done x (length input) [])
+spelled_done0 : (g : Graph) (input : List ℕ) → IsInputOf Amf0 (value g) input → (m : ℕ) → length input < m → (x : ValueRead0) × (run (layouts0 m) 0 input ≡ Done x (length input) [])
 spelled_done0 g input i m lt =
     let n : length input ≡ length (flat i.fields) = ap length i.parts in
     let s = i.spelled in

@@ -16,32 +16,32 @@ use Rattle.amf_commands.specs.declared.command.Task.{Task}
 use Rattle.amf_commands.specs.declared.command.Task.TheVariants as task
 use Rattle.amf_commands.specs.declared.format.Format.{Format}
 use Rattle.amf_commands.specs.declared.format.Format.TheVariants.{Amf3, Amf0, Packet, Sol}
-use Rattle.amf_commands.specs.declared.kind.Kind.{Kind}
-use Rattle.amf_commands.specs.declared.kind.Kind.TheVariants as kind
+use Rattle.amf_commands.specs.declared.command_name.CommandName.{CommandName}
+use Rattle.amf_commands.specs.declared.command_name.CommandName.TheVariants as command_name
 
-abbrev pub name_of : Kind → Text
-name_of kind.Canon = codes "canon"
-name_of kind.Check = codes "check"
-name_of kind.Show = codes "show"
-name_of kind.Same = codes "same"
-name_of kind.Gen = codes "gen"
-name_of kind.Serve = codes "serve"
-name_of kind.Flv = codes "flv"
-name_of kind.Rtmp = codes "rtmp"
-name_of kind.Call = codes "call"
-name_of kind.Listen = codes "listen"
+abbrev pub name_of : CommandName → Text
+name_of command_name.Canon = codes "canon"
+name_of command_name.Check = codes "check"
+name_of command_name.Show = codes "show"
+name_of command_name.Same = codes "same"
+name_of command_name.Gen = codes "gen"
+name_of command_name.Serve = codes "serve"
+name_of command_name.Flv = codes "flv"
+name_of command_name.Rtmp = codes "rtmp"
+name_of command_name.Call = codes "call"
+name_of command_name.Listen = codes "listen"
 
-abbrev pub options_for : Kind → List Text
-options_for kind.Canon = codes "from" ∷ codes "to" ∷ []
-options_for kind.Check = codes "from" ∷ []
-options_for kind.Show = codes "from" ∷ []
-options_for kind.Same = []
-options_for kind.Gen = codes "seed" ∷ codes "size" ∷ []
-options_for kind.Serve = codes "port" ∷ codes "workers" ∷ codes "each" ∷ []
-options_for kind.Flv = codes "do" ∷ []
-options_for kind.Rtmp = codes "do" ∷ codes "size" ∷ []
-options_for kind.Call = codes "port" ∷ codes "target" ∷ []
-options_for kind.Listen = codes "port" ∷ codes "destination" ∷ codes "polls" ∷ []
+abbrev pub options_for : CommandName → List Text
+options_for command_name.Canon = codes "from" ∷ codes "to" ∷ []
+options_for command_name.Check = codes "from" ∷ []
+options_for command_name.Show = codes "from" ∷ []
+options_for command_name.Same = []
+options_for command_name.Gen = codes "seed" ∷ codes "size" ∷ []
+options_for command_name.Serve = codes "port" ∷ codes "workers" ∷ codes "each" ∷ []
+options_for command_name.Flv = codes "do" ∷ []
+options_for command_name.Rtmp = codes "do" ∷ codes "size" ∷ []
+options_for command_name.Call = codes "port" ∷ codes "target" ∷ []
+options_for command_name.Listen = codes "port" ∷ codes "destination" ∷ codes "polls" ∷ []
 
 -- What a value says.
 
@@ -137,22 +137,38 @@ abbrev pub listen_of : Option ℕ → Option Text → Option ℕ → Option List
 listen_of (Some port) (Some destination) (Some polls) = Some (record { port = port; destination = destination; polls = polls })
 listen_of port destination polls = None
 
+-- `gen`, by the values of its options
+abbrev pub gen_by : (Text → Option Text) → Option Command
+gen_by value = gen_of (number_at 0 4294967295 (value (codes "seed"))) (number_at 1 1000000 (value (codes "size")))
+
+-- `serve`, by the values of its options
+abbrev pub serve_by : (Text → Option Text) → Option ServeOptions
+serve_by value = serve_of (number_at 0 65535 (value (codes "port"))) (number_at 1 64 (value (codes "workers"))) (number_at 1 1000000 (value (codes "each")))
+
+-- `call`, by the values of its options
+abbrev pub call_by : (Text → Option Text) → Option CallOptions
+call_by value = call_of (number_at 0 65535 (value (codes "port"))) (target_at (value (codes "target")))
+
+-- `listen`, by the values of its options
+abbrev pub listen_by : (Text → Option Text) → Option ListenOptions
+listen_by value = listen_of (number_at 0 65535 (value (codes "port"))) (destination_at (value (codes "destination"))) (number_at 1 1000000 (value (codes "polls")))
+
 -- by its name and the values of its options
-abbrev pub task_for : Kind → (Text → Option Text) → Option Task
-task_for kind.Canon value = option_map task.Output (canon_from (format_or Amf3 (value (codes "from"))) (value (codes "to")))
-task_for kind.Check value = option_map task.Output (option_map command.Check (format_or Amf3 (value (codes "from"))))
-task_for kind.Show value = option_map task.Output (option_map command.Show (format_or Amf3 (value (codes "from"))))
-task_for kind.Same value = Some (task.Output command.Same)
-task_for kind.Gen value = option_map task.Output (gen_of (number_at 0 4294967295 (value (codes "seed"))) (number_at 1 1000000 (value (codes "size"))))
-task_for kind.Serve value = option_map task.Serve (serve_of (number_at 0 65535 (value (codes "port"))) (number_at 1 64 (value (codes "workers"))) (number_at 1 1000000 (value (codes "each"))))
-task_for kind.Flv value = option_map task.Flv (option_and_then flv_job_named (value (codes "do")))
-task_for kind.Rtmp value = option_map task.Rtmp (rtmp_of (value (codes "do")) (value (codes "size")))
-task_for kind.Call value = option_map task.Call (call_of (number_at 0 65535 (value (codes "port"))) (target_at (value (codes "target"))))
-task_for kind.Listen value = option_map task.Listen (listen_of (number_at 0 65535 (value (codes "port"))) (destination_at (value (codes "destination"))) (number_at 1 1000000 (value (codes "polls"))))
+abbrev pub task_for : CommandName → (Text → Option Text) → Option Task
+task_for command_name.Canon value = option_map task.Output (canon_from (format_or Amf3 (value (codes "from"))) (value (codes "to")))
+task_for command_name.Check value = option_map task.Output (option_map command.Check (format_or Amf3 (value (codes "from"))))
+task_for command_name.Show value = option_map task.Output (option_map command.Show (format_or Amf3 (value (codes "from"))))
+task_for command_name.Same value = Some (task.Output command.Same)
+task_for command_name.Gen value = option_map task.Output (gen_by value)
+task_for command_name.Serve value = option_map task.Serve (serve_by value)
+task_for command_name.Flv value = option_map task.Flv (option_and_then flv_job_named (value (codes "do")))
+task_for command_name.Rtmp value = option_map task.Rtmp (rtmp_of (value (codes "do")) (value (codes "size")))
+task_for command_name.Call value = option_map task.Call (call_by value)
+task_for command_name.Listen value = option_map task.Listen (listen_by value)
 
 -- the words ask for this: its name comes first, and the rest gives it options with these values
 abbrev pub Asks : List Text → Task → Type 0
-Asks words t = (k : Kind) × (rest : List Text) × (given : Given) × (words ≡ name_of k ∷ rest) × HasOptions (options_for k) rest given × (task_for k (value_of given) ≡ Some t)
+Asks words t = (k : CommandName) × (rest : List Text) × (given : Given) × (words ≡ name_of k ∷ rest) × HasOptions (options_for k) rest given × (task_for k (value_of given) ≡ Some t)
 
 -- and each of them is UTF-8
 abbrev pub AsksFor : List Text → Task → Type 0

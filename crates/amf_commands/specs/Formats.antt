@@ -5,11 +5,11 @@ use Rattle.amf_wire.specs.Style.{Style, canonical}
 use Rattle.amf_graph.specs.declared.lack.Lack.{Lack}
 use Rattle.amf_graph.specs.Isomorphic.{Isomorphic}
 use Rattle.amf3_spelling.specs.Lacks3.{IsLack3}
-use Rattle.amf3_spelling.specs.Reads3.{IsValue3}
+use Rattle.amf3_spelling.specs.Values3.{IsValue3}
 use Rattle.amf3_spelling.specs.Spells3.{IsSpelling3}
 use Rattle.amf0_spelling.specs.Lacks0.{IsLack0}
 use Rattle.amf0_spelling.specs.Lowered.{IsLoweringOf}
-use Rattle.amf0_spelling.specs.Reads0.{IsValue0}
+use Rattle.amf0_spelling.specs.Values0.{IsValue0}
 use Rattle.amf0_spelling.specs.Spells0.{IsSpelling0}
 use Rattle.amf_packet.specs.Packet.{IsPacketReading, SpellsPacket}
 use Rattle.amf_packet.specs.PacketLacks.{IsPacketLack}

@@ -4,7 +4,7 @@ use Rattle.amf_io.specs.Field.{Field}
 use Rattle.amf_io.specs.Verdict.{IsInputAccepted, IsInputRefused, IsUnsettled}
 use Rattle.amf_io.specs.declared.reason.Reason.{Reason}
 use Rattle.amf3_read.specs.Pairs.{Pair}
-use Rattle.amf3_spelling.specs.Reads3.{IsValue3}
+use Rattle.amf3_spelling.specs.Values3.{IsValue3}
 use Rattle.amf_sol.specs.FileVerdict.{IsFileAccepted, IsFileRefused}
 use Rattle.amf_commands.specs.declared.command.Command.{Command}
 use Rattle.amf_commands.specs.declared.command.Command.TheVariants.{Canon, Check, Show, Same, Gen}

@@ -4,7 +4,6 @@ pub mod Content
 pub mod Formats
 pub mod Input
 pub mod Lines
-pub mod Written
 pub mod Run
 pub mod WorkedRuns
 -- Devices of the proofs: no clause of a public call of the program needs them.

@@ -4,8 +4,7 @@ use Rattle.std.specs.List.{sum}
 use Rattle.amf_io.specs.declared.ends.Refusal.{Refusal}
 use Rattle.amf_io.specs.declared.ends.ReadEnd.{ReadEnd}
 use Rattle.amf_io.specs.declared.ends.ReadEnd.TheVariants as reader
-use Rattle.amf_io.specs.declared.reason.Reason.{Reason}
-use Rattle.amf_io.specs.declared.reason.Reason.TheVariants.{Truncated, BadMarker, BadReference, BadTraits, BadTextIndex, BadText, WrongKind, UnknownExternal, TooLarge, Trailing, BadVersion, BadSignature, BadLength, BadPadding, BadChunk, BadChunkSize}
+use Rattle.amf_io.specs.Reasons.{reason_name}
 use Rattle.amf_graph.specs.declared.lack.Lack.{Lack}
 use Rattle.amf_graph.specs.declared.lack.LackKind.{LackKind}
 use Rattle.amf_graph.specs.declared.lack.LackKind.TheVariants as lacking
@@ -18,26 +17,7 @@ end_of (reader.Refused f) = Refused f
 end_of reader.ReadFault = ReadFault
 end_of reader.Memory = NoMemory
 
--- a reason is written by its name
-abbrev pub reason_name : Reason → List ℕ
-reason_name Truncated = codes "Truncated"
-reason_name BadMarker = codes "BadMarker"
-reason_name BadReference = codes "BadReference"
-reason_name BadTraits = codes "BadTraits"
-reason_name BadTextIndex = codes "BadTextIndex"
-reason_name BadText = codes "BadText"
-reason_name WrongKind = codes "WrongKind"
-reason_name UnknownExternal = codes "UnknownExternal"
-reason_name TooLarge = codes "TooLarge"
-reason_name Trailing = codes "Trailing"
-reason_name BadVersion = codes "BadVersion"
-reason_name BadSignature = codes "BadSignature"
-reason_name BadLength = codes "BadLength"
-reason_name BadPadding = codes "BadPadding"
-reason_name BadChunk = codes "BadChunk"
-reason_name BadChunkSize = codes "BadChunkSize"
-
--- and so is a kind of lack
+-- a kind of lack is written by its name
 abbrev pub kind_name : LackKind → List ℕ
 kind_name lacking.EmptyName = codes "EmptyName"
 kind_name lacking.NoForm = codes "NoForm"

@@ -1,18 +1,28 @@
 -- What is read of an input: a content, the end, and what it may be written as. A device of proofs.
 use Rattle.std.specs.Prelude.{◌≡◌, ℕ, ◌<◌, List, [], length, true, Result, Ok, Err}
+use Rattle.std.specs.declared.vec.Vec.{Vec}
+use Rattle.std.specs.declared.alloc.Global.{Global}
 use Rattle.amf_wire.specs.Style.{free}
 use Rattle.amf_io.specs.Field.{Field}
+use Rattle.amf_io.specs.Cursor.{source_of, unread, place}
+use Rattle.amf_io.specs.declared.cursor.Cursor.{Cursor}
+use Rattle.amf_io.specs.declared.window.Window.{Window}
+use Rattle.amf_io.specs.declared.source.Source.{Ghosts as SourceMembers}
 use Rattle.amf_io.specs.declared.reason.Reason.TheVariants.{Trailing}
 use Rattle.amf_io.specs.declared.ends.ReadEnd.{ReadEnd}
 use Rattle.amf_io.specs.declared.ends.ReadEnd.TheVariants.{Refused, ReadFault, Memory}
+use Rattle.amf_graph.specs.declared.lack.Lack.{Lack}
 use Rattle.amf_packet.specs.Packet.{Packet, SpellsPacket}
 use Rattle.amf_io.specs.Stretch.{IsTaken, AnswersOf, stretch}
+use Rattle.amf_commands.specs.declared.command.Command.{Command}
+use Rattle.amf_commands.specs.declared.run_end.RunEnd.{RunEnd}
 use Rattle.amf_commands.specs.declared.format.Format.{Format}
 use Rattle.amf_commands.specs.declared.format.Format.TheVariants.{Amf3, Amf0}
 use Rattle.amf_commands.specs.Commands.{goes_to}
 use Rattle.amf_commands.specs.Content.{Content}
 use Rattle.amf_commands.specs.Formats.{IsContent, IsSpelling}
-use Rattle.amf_commands.specs.Input.{most}
+use Rattle.amf_commands.specs.Input.{most, Input}
+use Rattle.amf_commands.specs.Run.{Makes, NeverLacks, ReadsInput, OutputEnds}
 
 -- a content was read from nothing, by fields which are the front of what was left where the source tells
 abbrev pub IsReadOne : Format → Type 0 → Content → List ℕ → List ℕ → ℕ → ℕ → Type 0
@@ -21,6 +31,26 @@ IsReadOne f told c input rest at place = IsTaken (IsSpelling f free c) (IsConten
 -- how the reader of one content ends, where view tells which it is
 abbrev pub AnswersOne : {X : Type 0} → (X → Content) → Format → Type 0 → List ℕ → List ℕ → ℕ → ℕ → Result X ReadEnd → Type 0
 AnswersOne view f told input rest at place result = AnswersOf (λ x. IsSpelling f free (view x)) (IsContent f) (stretch told input rest at place most) result
+
+-- the same by a cursor, before and after
+abbrev pub AnswersAt : {S X : Type 0} → SourceMembers S → (X → Content) → Format → (a b : Cursor S Window) → Result X ReadEnd → Type 0
+AnswersAt s view f a b result = AnswersOne view f (s.tells (source_of a).now) (unread s.left a) (unread s.left b) (place a) (place b) result
+
+-- how a reader of a whole input ends that a source tells, before and after: P and L are said of its bytes
+abbrev pub ReadsSource : {I X : Type 0} → SourceMembers I → Input → (L : List ℕ → ℕ → Lack → Type 0) → (P : List ℕ → X → Type 0) → (a b : I) → Result X RunEnd → Type 0
+ReadsSource i kind L P a b result = i.tells a → ReadsInput kind (L (i.left a)) (P (i.left a)) (i.left a) (i.left b) result
+
+-- where it always makes something
+abbrev pub ReadsAll : {I X : Type 0} → SourceMembers I → Input → (P : List ℕ → X → Type 0) → (a b : I) → Result X RunEnd → Type 0
+ReadsAll i kind P a b result = ReadsSource i kind (λ whole. NeverLacks) P a b result
+
+-- the same by a cursor: the source keeps what was not read
+abbrev pub ReadsCursor : {S X : Type 0} → SourceMembers S → Input → (P : List ℕ → X → Type 0) → (a b : Cursor S Window) → Result X RunEnd → Type 0
+ReadsCursor s kind P a b result = s.tells (source_of a).now → ReadsInput kind NeverLacks (P (unread s.left a)) (unread s.left a) (s.left (source_of b).now) result
+
+-- how the making of the output of a command ends, of an input that a source tells
+abbrev pub OutputOf : {I : Type 0} → SourceMembers I → Command → (a b : I) → Result (Vec ℕ Global) RunEnd → Type 0
+OutputOf i c a b result = i.tells a → OutputEnds c (λ bytes. Makes c (i.left a) bytes.items) (i.left a) (i.left b) result
 
 -- what was read, as something else
 abbrev pub mapped : {X Y : Type 0} → (X → Y) → Result X ReadEnd → Result Y ReadEnd

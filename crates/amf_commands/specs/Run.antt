@@ -4,6 +4,8 @@ use Rattle.amf_wire.specs.Style.{free, canonical}
 use Rattle.amf_io.specs.Outside.{Rose}
 use Rattle.amf_io.specs.Field.{Field, flat}
 use Rattle.amf_io.specs.declared.ends.Refusal.{Refusal}
+use Rattle.amf_io.specs.declared.source.Source.{Ghosts as SourceMembers}
+use Rattle.amf_io.specs.declared.sink.Sink.{Ghosts as SinkMembers}
 use Rattle.amf_graph.specs.declared.lack.Lack.{Lack}
 use Rattle.amf_graph.specs.Graph.{Graph}
 use Rattle.amf_graph.specs.Isomorphic.{Isomorphic}
@@ -19,7 +21,7 @@ use Rattle.amf_commands.specs.Input.{most, Input, input_of, IsRefusedAs, IsUnset
 use Rattle.amf_commands.specs.declared.run_end.RunEnd.{RunEnd}
 use Rattle.amf_commands.specs.declared.run_end.RunEnd.TheVariants.{Refused, Usage, ReadFault, WriteFault, NoMemory, FrontFault, NoForm}
 use Rattle.amf_commands.specs.Lines.{refusal_line, no_form_line, line_of, status_of, count_line, measure_line}
-use Rattle.amf_commands.specs.Written.{WritesFront}
+use Rattle.amf_io.specs.Written.{WritesFront}
 
 -- whether a command has an input: `gen` has none
 abbrev pub TakesInput : Command → Type 0
@@ -203,6 +205,10 @@ RunsTo c input rest told held now (Err WriteFault) = WritesSome c input rest tol
 RunsTo c input rest told held now (Err FrontFault) = ⊥
 RunsTo c input rest told held now (Err (NoForm number l)) = Lacks c input number l × (rest ≡ [])
 RunsTo c input rest told held now _ = Unit {0}
+
+-- the same of the input and the output, before and after
+abbrev pub RunsOver : {I O T : Type 0} → SourceMembers I → SinkMembers O → Command → (a b : I) → (held now : O) → Result T RunEnd → Type 0
+RunsOver i o c a b held now r = RunsTo c (i.left a) (i.left b) (o.tells now) (o.held held) (o.held now) r
 
 -- the error line names the verdict
 pub record IsRefusedWith (c : Command) (input : List ℕ) (told : Type 0) (held now : List ℕ) : Type 0 where

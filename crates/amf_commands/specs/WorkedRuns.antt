@@ -14,7 +14,7 @@ use Rattle.amf_commands.specs.declared.command.Command.{Command}
 use Rattle.amf_commands.specs.declared.command.Command.TheVariants.{Canon, Check, Show, Same}
 use Rattle.amf_commands.specs.declared.command.Task.TheVariants.{Output, Serve}
 use Rattle.amf_commands.specs.declared.format.Format.TheVariants.{Amf3, Amf0, Packet, Sol}
-use Rattle.amf_commands.specs.declared.kind.Kind.TheVariants as kind
+use Rattle.amf_commands.specs.declared.command_name.CommandName.TheVariants as command_name
 use Rattle.amf_commands.specs.Commands.{number_named, task_for}
 use Rattle.amf_commands.specs.Content.{value, packet, file}
 use Rattle.amf_commands.specs.Input.{Accepts, one, input_of, IsAcceptedAs, IsRefusedAs, IsUnsettledAs}
@@ -56,27 +56,27 @@ pub record RunRows : Type 0 where
   pub past_the_most : number_named 1 1000000 (codes "1000001") ≡ None
   pub the_most : number_named 0 4294967295 (codes "4294967295") ≡ Some 4294967295
   -- without options a value is one of AMF 3
-  pub check_alone : task_for kind.Check (λ option. None) ≡ Some (Output (Check Amf3))
+  pub check_alone : task_for command_name.Check (λ option. None) ≡ Some (Output (Check Amf3))
   -- a packet goes to a packet alone
-  pub packet_alone : task_for kind.Canon (from_to (Some (codes "packet")) None) ≡ Some (Output (Canon Packet Packet))
-  pub packet_to_value : task_for kind.Canon (from_to (Some (codes "packet")) (Some (codes "amf3"))) ≡ None
-  pub value_to_packet : task_for kind.Canon (from_to None (Some (codes "packet"))) ≡ None
-  pub value_to_value : task_for kind.Canon (from_to (Some (codes "amf0")) (Some (codes "amf3"))) ≡ Some (Output (Canon Amf0 Amf3))
+  pub packet_alone : task_for command_name.Canon (from_to (Some (codes "packet")) None) ≡ Some (Output (Canon Packet Packet))
+  pub packet_to_value : task_for command_name.Canon (from_to (Some (codes "packet")) (Some (codes "amf3"))) ≡ None
+  pub value_to_packet : task_for command_name.Canon (from_to None (Some (codes "packet"))) ≡ None
+  pub value_to_value : task_for command_name.Canon (from_to (Some (codes "amf0")) (Some (codes "amf3"))) ≡ Some (Output (Canon Amf0 Amf3))
   -- and a file to a file alone
-  pub file_alone : task_for kind.Canon (from_to (Some (codes "sol")) None) ≡ Some (Output (Canon Sol Sol))
-  pub file_to_packet : task_for kind.Canon (from_to (Some (codes "sol")) (Some (codes "packet"))) ≡ None
-  pub packet_to_file : task_for kind.Canon (from_to (Some (codes "packet")) (Some (codes "sol"))) ≡ None
-  pub value_to_file : task_for kind.Canon (from_to None (Some (codes "sol"))) ≡ None
-  pub gen_alone : task_for kind.Gen (λ option. None) ≡ None
+  pub file_alone : task_for command_name.Canon (from_to (Some (codes "sol")) None) ≡ Some (Output (Canon Sol Sol))
+  pub file_to_packet : task_for command_name.Canon (from_to (Some (codes "sol")) (Some (codes "packet"))) ≡ None
+  pub packet_to_file : task_for command_name.Canon (from_to (Some (codes "packet")) (Some (codes "sol"))) ≡ None
+  pub value_to_file : task_for command_name.Canon (from_to None (Some (codes "sol"))) ≡ None
+  pub gen_alone : task_for command_name.Gen (λ option. None) ≡ None
   -- links are served at a port, by 1 to 64 workers, 1 to 1,000,000 each
-  pub serve_one : task_for kind.Serve (at_by_each (codes "0") (codes "1") (codes "1")) ≡ Some (Serve (record { port = 0; workers = 1; each = 1 }))
-  pub serve_most : task_for kind.Serve (at_by_each (codes "65535") (codes "64") (codes "1000000")) ≡ Some (Serve (record { port = 65535; workers = 64; each = 1000000 }))
-  pub port_too_great : task_for kind.Serve (at_by_each (codes "65536") (codes "1") (codes "1")) ≡ None
-  pub no_worker : task_for kind.Serve (at_by_each (codes "8080") (codes "0") (codes "1")) ≡ None
-  pub too_many_workers : task_for kind.Serve (at_by_each (codes "8080") (codes "65") (codes "1")) ≡ None
-  pub no_link : task_for kind.Serve (at_by_each (codes "8080") (codes "1") (codes "0")) ≡ None
-  pub too_many_links : task_for kind.Serve (at_by_each (codes "8080") (codes "1") (codes "1000001")) ≡ None
-  pub serve_alone : task_for kind.Serve (λ option. None) ≡ None
+  pub serve_one : task_for command_name.Serve (at_by_each (codes "0") (codes "1") (codes "1")) ≡ Some (Serve (record { port = 0; workers = 1; each = 1 }))
+  pub serve_most : task_for command_name.Serve (at_by_each (codes "65535") (codes "64") (codes "1000000")) ≡ Some (Serve (record { port = 65535; workers = 64; each = 1000000 }))
+  pub port_too_great : task_for command_name.Serve (at_by_each (codes "65536") (codes "1") (codes "1")) ≡ None
+  pub no_worker : task_for command_name.Serve (at_by_each (codes "8080") (codes "0") (codes "1")) ≡ None
+  pub too_many_workers : task_for command_name.Serve (at_by_each (codes "8080") (codes "65") (codes "1")) ≡ None
+  pub no_link : task_for command_name.Serve (at_by_each (codes "8080") (codes "1") (codes "0")) ≡ None
+  pub too_many_links : task_for command_name.Serve (at_by_each (codes "8080") (codes "1") (codes "1000001")) ≡ None
+  pub serve_alone : task_for command_name.Serve (λ option. None) ≡ None
   -- of three bytes the field that begins at the second is not whole in the first two
   pub too_large : IsInputRefused (Accepts (one Amf3)) 2 (0x04 ∷ 0x80 ∷ 0x05 ∷ []) TooLarge 1
   pub as_large_as_the_limit : IsInputAccepted (Accepts (one Amf3)) 3 (0x04 ∷ 0x80 ∷ 0x05 ∷ [])

@@ -3,8 +3,8 @@ ghost use Rattle.amf_words.specs.Words.{texts};
 ghost use Rattle.amf_commands.specs.declared.command.Task.{Task};
 ghost use Rattle.amf_commands.specs.Commands.{Asks, AsksFor, HasReading};
 
+use crate::command_name::CommandName;
 use crate::format::Format;
-use crate::kind::Kind;
 use amf_wire::{Memory, Name};
 use amf_words::options_of;
 use flv_meta::FlvJob;
@@ -97,7 +97,7 @@ fn asked<'a>(alloc: Global, words: &'a [&'a str]) -> Result<Option<Task>, Memory
     let Some((name, rest)) = words.split_first() else {
         return Ok(None);
     };
-    let Some(kind) = Kind::of(name) else {
+    let Some(kind) = CommandName::of(name) else {
         return Ok(None);
     };
     match options_of(alloc, name, kind.options(), rest)? {

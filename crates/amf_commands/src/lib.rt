@@ -3,10 +3,10 @@
 #![tactic(auto)]
 
 mod command;
+mod command_name;
 mod content;
 mod facts;
 mod format;
-mod kind;
 mod lines;
 mod making;
 mod number;
@@ -16,14 +16,12 @@ mod reading;
 mod report;
 mod run_end;
 mod spelling;
-mod writing;
 
 pub use command::{CallOptions, Command, ListenOptions, ServeOptions, Task};
 pub use content::Content;
 pub use facts::run_rows;
 pub use format::Format;
-pub use reading::{LIMIT, read_content};
+pub use reading::{LIMIT, read_in_format};
 pub use report::end_with;
 pub use run_end::RunEnd;
 pub use spelling::spell3;
-pub use writing::write_whole;

@@ -15,7 +15,7 @@ ghost use Rattle.amf_commands.specs.Run.{IsMeasured};
 use crate::content::Content;
 use crate::format::Format;
 use crate::lines::measure_line;
-use crate::reading::{LIMIT, read_content};
+use crate::reading::{LIMIT, read_in_format};
 use crate::run_end::RunEnd;
 use crate::spelling::spell3;
 use amf_graph::{BuildEnd, Rooted, WriteEnd};
@@ -87,7 +87,7 @@ fn read_back(alloc: Global, graph: &Rooted, bytes: &[u8]) -> Result<(), Memory>
     requires within { length bytes.now ≤ most }
 {
     let mut source = FaultlessSource::new(alloc, bytes, bytes.len(), 0)?;
-    let read = match read_content(alloc, None, Format::Amf3, &mut source) {
+    let read = match read_in_format(alloc, None, Format::Amf3, &mut source) {
         Ok(read) => read,
         Err(end) => return Err(only_memory(end)),
     };

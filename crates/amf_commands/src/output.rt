@@ -4,7 +4,8 @@ ghost use Rattle.amf_graph.specs.Rooted.{content};
 ghost use Rattle.amf_commands.specs.declared.command.Command.TheVariants.{Canon};
 ghost use Rattle.amf_commands.specs.Commands.{goes_to};
 ghost use Rattle.amf_commands.specs.Input.{most, one, two};
-ghost use Rattle.amf_commands.specs.Run.{TakesInput, Makes, IsConverted, IsUnconverted, IsChecked, IsShown, IsCompared, ReadsInput, NeverLacks, OutputEnds, CountsReads, IsReadEnd, IsOutputEnd, Says};
+ghost use Rattle.amf_commands.specs.Run.{TakesInput, IsConverted, IsUnconverted, IsChecked, IsShown, IsCompared, CountsReads, IsReadEnd, IsOutputEnd, Says};
+ghost use Rattle.amf_commands.specs.ReadContent.{ReadsSource, ReadsAll, OutputOf};
 ghost use Rattle.amf_commands.specs.Askable.{IsAskable};
 
 use crate::command::Command;
@@ -12,7 +13,7 @@ use crate::content::{counted, listed};
 use crate::format::Format;
 use crate::lines::count_line;
 use crate::making::measurement;
-use crate::reading::{read_content, read_graphs};
+use crate::reading::{read_graphs, read_in_format};
 use crate::run_end::RunEnd;
 use crate::spelling::{SpellEnd, spelled};
 use amf_graph::Rooted;
@@ -30,7 +31,7 @@ pub fn output_of<I: Source>(
     input: &mut I,
 ) -> Result<Vec<u8>, RunEnd>
     requires { IsAskable command }
-    ensures reads { I.tells input.old → OutputEnds command (λ bytes. Makes command (I.left input.old) bytes.items) (I.left input.old) (I.left input.new) result }
+    ensures reads { OutputOf I.Source command input.old input.new result }
     ensures taken { I.tells input.old → length (I.left input.old) ≤ length (I.left input.new) + (most + 1) }
     ensures counts { CountsReads (I.faults input.old) (I.faults input.new) result }
     ensures ends { IsOutputEnd command result }
@@ -54,12 +55,12 @@ fn converted<I: Source>(
     input: &mut I,
 ) -> Result<Vec<u8>, RunEnd>
     requires { goes_to from to ≡ true }
-    ensures reads { I.tells input.old → ReadsInput (one from) (IsUnconverted from to (I.left input.old)) (λ bytes. IsConverted from to (I.left input.old) bytes.items) (I.left input.old) (I.left input.new) result }
+    ensures reads { ReadsSource I.Source (one from) (IsUnconverted from to) (λ whole bytes. IsConverted from to whole bytes.items) input.old input.new result }
     ensures taken { I.tells input.old → length (I.left input.old) ≤ length (I.left input.new) + (most + 1) }
     ensures counts { CountsReads (I.faults input.old) (I.faults input.new) result }
     ensures ends { IsOutputEnd (Canon from to) result }
 {
-    let content = match read_content(alloc, keys, from, input) {
+    let content = match read_in_format(alloc, keys, from, input) {
         Ok(content) => content,
         Err(end) => return Err(end),
     };
@@ -76,7 +77,7 @@ fn comparison<I: Source>(
     keys: Option<RandomState>,
     input: &mut I,
 ) -> Result<Vec<u8>, RunEnd>
-    ensures reads { I.tells input.old → ReadsInput two NeverLacks (λ line. IsCompared (I.left input.old) line.items) (I.left input.old) (I.left input.new) result }
+    ensures reads { ReadsAll I.Source two (λ whole line. IsCompared whole line.items) input.old input.new result }
     ensures taken { I.tells input.old → length (I.left input.old) ≤ length (I.left input.new) + (most + 1) }
     ensures counts { CountsReads (I.faults input.old) (I.faults input.new) result }
     ensures ends { IsReadEnd result }
@@ -112,12 +113,12 @@ fn checked<I: Source>(
     from: Format,
     input: &mut I,
 ) -> Result<Vec<u8>, RunEnd>
-    ensures reads { I.tells input.old → ReadsInput (one from) NeverLacks (λ line. IsChecked from (I.left input.old) line.items) (I.left input.old) (I.left input.new) result }
+    ensures reads { ReadsAll I.Source (one from) (λ whole line. IsChecked from whole line.items) input.old input.new result }
     ensures taken { I.tells input.old → length (I.left input.old) ≤ length (I.left input.new) + (most + 1) }
     ensures counts { CountsReads (I.faults input.old) (I.faults input.new) result }
     ensures ends { IsReadEnd result }
 {
-    let content = read_content(alloc, keys, from, input)?;
+    let content = read_in_format(alloc, keys, from, input)?;
     let nodes = counted(alloc, content)?;
     Ok(count_line(alloc, nodes)?)
 }
@@ -129,11 +130,11 @@ fn shown<I: Source>(
     from: Format,
     input: &mut I,
 ) -> Result<Vec<u8>, RunEnd>
-    ensures reads { I.tells input.old → ReadsInput (one from) NeverLacks (λ bytes. IsShown from (I.left input.old) bytes.items) (I.left input.old) (I.left input.new) result }
+    ensures reads { ReadsAll I.Source (one from) (λ whole bytes. IsShown from whole bytes.items) input.old input.new result }
     ensures taken { I.tells input.old → length (I.left input.old) ≤ length (I.left input.new) + (most + 1) }
     ensures counts { CountsReads (I.faults input.old) (I.faults input.new) result }
     ensures ends { IsReadEnd result }
 {
-    let content = read_content(alloc, keys, from, input)?;
+    let content = read_in_format(alloc, keys, from, input)?;
     Ok(listed(alloc, content)?)
 }

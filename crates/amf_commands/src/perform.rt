@@ -1,14 +1,13 @@
 ghost use Rattle.std.specs.Prelude.{◌≡◌, ℕ, ◌≢◌, ◌+◌, ◌≤◌, length};
 ghost use Rattle.amf_graph.specs.declared.lack.Lack.{Lack};
 ghost use Rattle.amf_commands.specs.Input.{most};
-ghost use Rattle.amf_commands.specs.Run.{TakesInput, MayLack, CountsReads, CountsWrites, IsReading, IsUntouched, RunsTo};
+ghost use Rattle.amf_commands.specs.Run.{TakesInput, MayLack, CountsReads, CountsWrites, IsReading, IsUntouched, RunsOver};
 ghost use Rattle.amf_commands.specs.Askable.{IsAskable};
 
 use crate::command::Command;
 use crate::output::output_of;
 use crate::run_end::RunEnd;
-use crate::writing::write_whole;
-use amf_io::{Sink, Source};
+use amf_io::{Sink, Source, write_whole};
 use std::alloc::Global;
 use std::hash::RandomState;
 
@@ -26,7 +25,7 @@ pub fn perform<I: Source, O: Sink>(
     ensures reading { IsReading command result }
     ensures untaken { (TakesInput command → ⊥) → input.new ≡ input.old }
     ensures tells { O.tells out.new → O.tells out.old }
-    ensures runs { I.tells input.old → RunsTo command (I.left input.old) (I.left input.new) (O.tells out.new) (O.held out.old) (O.held out.new) result }
+    ensures runs { I.tells input.old → RunsOver I.Source O.Sink command input.old input.new out.old out.new result }
     ensures taken { I.tells input.old → length (I.left input.old) ≤ length (I.left input.new) + (most + 1) }
     ensures untouched { IsUntouched out.old out.new result }
     ensures unwritten { result ≡ Err RunEnd.NoMemory → out.new ≡ out.old }

@@ -1,23 +1,21 @@
-ghost use Rattle.std.specs.Prelude.{◌≡◌, ◌≢◌, ◌+◌, ◌≤◌, List, OnOk, IfOk, length, false};
-ghost use Rattle.std.specs.List.{AllByRecursion};
+ghost use Rattle.std.specs.Prelude.{◌≡◌, ◌≢◌, ◌+◌, ◌≤◌, List, IfOk, length};
 ghost use Rattle.amf_io.specs.Cursor.{source_of, place, bound, unread};
 ghost use Rattle.amf_io.specs.ReadEnds.{Goes};
 ghost use Rattle.amf_io.specs.Field.{Field};
 ghost use Rattle.amf_wire.specs.Style.{free};
-ghost use Rattle.amf_graph.specs.Arena.{Names};
 ghost use Rattle.amf_graph.specs.Rooted.{content};
 ghost use Rattle.amf_commands.specs.declared.content.Content.TheVariants as kept;
 ghost use Rattle.amf_commands.specs.declared.format.Format.TheVariants as form;
 ghost use Rattle.amf_commands.specs.Content.{content_of, value as of_graph};
 ghost use Rattle.amf_commands.specs.Formats.{IsSpelling};
 ghost use Rattle.amf_commands.specs.Input.{most, one, two};
-ghost use Rattle.amf_commands.specs.ReadContent.{AnswersOne, AnswersEnd, mapped};
-ghost use Rattle.amf_commands.specs.Run.{IsInputOf, ArePairIn, CountsReads, IsReadEnd, ReadsInput, NeverLacks};
+ghost use Rattle.amf_commands.specs.ReadContent.{AnswersAt, AnswersEnd, ReadsAll, ReadsCursor, mapped};
+ghost use Rattle.amf_commands.specs.Run.{IsInputOf, ArePairIn, CountsReads, IsReadEnd};
 
 use crate::content::Content;
 use crate::format::Format;
 use crate::run_end::RunEnd;
-use amf_graph::{Builder, Rooted, Value};
+use amf_graph::{Builder, Rooted};
 use amf_io::{Cursor, ReadEnd, Reason, Refusal, Source, Window};
 use amf_packet::{Packet, read_packet_keyed};
 use amf_sol::read_sol_keyed;
@@ -32,13 +30,13 @@ use std::hash::RandomState;
 pub const LIMIT: u32 = 67_108_864;
 
 /// The value, the packet or the file that the input spells in a format. Texts are looked up by the keys.
-pub fn read_content<I: Source>(
+pub fn read_in_format<I: Source>(
     alloc: Global,
     keys: Option<RandomState>,
     from: Format,
     input: &mut I,
 ) -> Result<Content, RunEnd>
-    ensures reads { I.tells input.old → ReadsInput (one from) NeverLacks (λ c. IsInputOf from (content_of c) (I.left input.old)) (I.left input.old) (I.left input.new) result }
+    ensures reads { ReadsAll I.Source (one from) (λ whole c. IsInputOf from (content_of c) whole) input.old input.new result }
     ensures spelled { IfOk result (λ c. (fs : List Field) × IsSpelling from free (content_of c) fs) }
     ensures taken { I.tells input.old → length (I.left input.old) ≤ length (I.left input.new) + (most + 1) }
     ensures counts { CountsReads (I.faults input.old) (I.faults input.new) result }
@@ -55,7 +53,7 @@ pub fn read_graphs<I: Source>(
     keys: Option<RandomState>,
     input: &mut I,
 ) -> Result<(Rooted, Rooted), RunEnd>
-    ensures reads { I.tells input.old → ReadsInput two NeverLacks (λ p. ArePairIn (content p.0) (content p.1) (I.left input.old)) (I.left input.old) (I.left input.new) result }
+    ensures reads { ReadsAll I.Source two (λ whole p. ArePairIn (content p.0) (content p.1) whole) input.old input.new result }
     ensures taken { I.tells input.old → length (I.left input.old) ≤ length (I.left input.new) + (most + 1) }
     ensures counts { CountsReads (I.faults input.old) (I.faults input.new) result }
     ensures ends { IsReadEnd result }
@@ -75,7 +73,7 @@ fn read_whole<S: Source>(
     requires at_start { place cursor.old ≡ 0 }
     requires limit { bound cursor.old ≡ most }
     ensures same_reference { (source_of cursor.new).ghost_name ≡ (source_of cursor.old).ghost_name }
-    ensures reads { S.tells (source_of cursor.old).now → ReadsInput (one from) NeverLacks (λ c. IsInputOf from (content_of c) (unread S.left cursor.old)) (unread S.left cursor.old) (S.left (source_of cursor.new).now) result }
+    ensures reads { ReadsCursor S.Source (one from) (λ whole c. IsInputOf from (content_of c) whole) cursor.old cursor.new result }
     ensures spelled { IfOk result (λ c. (fs : List Field) × IsSpelling from free (content_of c) fs) }
     ensures taken { S.tells (source_of cursor.old).now → length (unread S.left cursor.old) ≤ length (S.left (source_of cursor.new).now) + (most + 1) }
     ensures counts { CountsReads (S.faults (source_of cursor.old).now) (S.faults (source_of cursor.new).now) result }
@@ -96,7 +94,7 @@ fn read_file<S: Source>(
     requires at_start { place cursor.old ≡ 0 }
     requires limit { bound cursor.old ≡ most }
     ensures same_reference { (source_of cursor.new).ghost_name ≡ (source_of cursor.old).ghost_name }
-    ensures reads { S.tells (source_of cursor.old).now → ReadsInput (one form.Sol) NeverLacks (λ c. IsInputOf form.Sol (content_of c) (unread S.left cursor.old)) (unread S.left cursor.old) (S.left (source_of cursor.new).now) result }
+    ensures reads { ReadsCursor S.Source (one form.Sol) (λ whole c. IsInputOf form.Sol (content_of c) whole) cursor.old cursor.new result }
     ensures spelled { IfOk result (λ c. (fs : List Field) × IsSpelling form.Sol free (content_of c) fs) }
     ensures taken { S.tells (source_of cursor.old).now → length (unread S.left cursor.old) ≤ length (S.left (source_of cursor.new).now) + (most + 1) }
     ensures counts { CountsReads (S.faults (source_of cursor.old).now) (S.faults (source_of cursor.new).now) result }
@@ -117,7 +115,7 @@ fn read_ended<S: Source>(
     requires at_start { place cursor.old ≡ 0 }
     requires limit { bound cursor.old ≡ most }
     ensures same_reference { (source_of cursor.new).ghost_name ≡ (source_of cursor.old).ghost_name }
-    ensures reads { S.tells (source_of cursor.old).now → ReadsInput (one from) NeverLacks (λ c. IsInputOf from (content_of c) (unread S.left cursor.old)) (unread S.left cursor.old) (S.left (source_of cursor.new).now) result }
+    ensures reads { ReadsCursor S.Source (one from) (λ whole c. IsInputOf from (content_of c) whole) cursor.old cursor.new result }
     ensures spelled { IfOk result (λ c. (fs : List Field) × IsSpelling from free (content_of c) fs) }
     ensures taken { S.tells (source_of cursor.old).now → length (unread S.left cursor.old) ≤ length (S.left (source_of cursor.new).now) + (most + 1) }
     ensures counts { CountsReads (S.faults (source_of cursor.old).now) (S.faults (source_of cursor.new).now) result }
@@ -137,7 +135,7 @@ fn read_pair<S: Source>(
     requires at_start { place cursor.old ≡ 0 }
     requires limit { bound cursor.old ≡ most }
     ensures same_reference { (source_of cursor.new).ghost_name ≡ (source_of cursor.old).ghost_name }
-    ensures reads { S.tells (source_of cursor.old).now → ReadsInput two NeverLacks (λ p. ArePairIn (content p.0) (content p.1) (unread S.left cursor.old)) (unread S.left cursor.old) (S.left (source_of cursor.new).now) result }
+    ensures reads { ReadsCursor S.Source two (λ whole p. ArePairIn (content p.0) (content p.1) whole) cursor.old cursor.new result }
     ensures taken { S.tells (source_of cursor.old).now → length (unread S.left cursor.old) ≤ length (S.left (source_of cursor.new).now) + (most + 1) }
     ensures counts { CountsReads (S.faults (source_of cursor.old).now) (S.faults (source_of cursor.new).now) result }
     ensures ends { IsReadEnd result }
@@ -157,8 +155,8 @@ fn read_one<S: Source>(
 ) -> Result<Content, ReadEnd>
     requires ended { from ≢ form.Sol }
     requires limit { bound cursor.old ≡ most }
-    ensures goes { Goes S.tells S.left S.faults cursor.old cursor.new result }
-    ensures answers { AnswersOne content_of from (S.tells (source_of cursor.old).now) (unread S.left cursor.old) (unread S.left cursor.new) (place cursor.old) (place cursor.new) result }
+    ensures goes { Goes S.Source cursor.old cursor.new result }
+    ensures answers { AnswersAt S.Source content_of from cursor.old cursor.new result }
 {
     match from {
         Format::Amf3 => valued(read_one3(alloc, keys, cursor)),
@@ -195,13 +193,13 @@ fn read_one0<S: Source>(
     cursor: &mut Cursor<'_, S>,
 ) -> Result<Rooted, ReadEnd>
     requires limit { bound cursor.old ≡ most }
-    ensures goes { Goes S.tells S.left S.faults cursor.old cursor.new result }
-    ensures answers { AnswersOne (λ g. of_graph (content g)) form.Amf0 (S.tells (source_of cursor.old).now) (unread S.left cursor.old) (unread S.left cursor.new) (place cursor.old) (place cursor.new) result }
+    ensures goes { Goes S.Source cursor.old cursor.new result }
+    ensures answers { AnswersAt S.Source (λ g. of_graph (content g)) form.Amf0 cursor.old cursor.new result }
 {
     let mut builder = Builder::keyed(alloc, keys)?;
     let mut tables = Tables0::new(alloc)?;
     let read = read0(alloc, cursor, &mut builder, &mut tables)?;
-    Ok(whole(builder, read.value))
+    Ok(builder.whole(read.value))
 }
 
 /// The graph that the next bytes of a cursor spell in AMF 3, from empty tables.
@@ -211,31 +209,19 @@ fn read_one3<S: Source>(
     cursor: &mut Cursor<'_, S>,
 ) -> Result<Rooted, ReadEnd>
     requires limit { bound cursor.old ≡ most }
-    ensures goes { Goes S.tells S.left S.faults cursor.old cursor.new result }
-    ensures answers { AnswersOne (λ g. of_graph (content g)) form.Amf3 (S.tells (source_of cursor.old).now) (unread S.left cursor.old) (unread S.left cursor.new) (place cursor.old) (place cursor.new) result }
+    ensures goes { Goes S.Source cursor.old cursor.new result }
+    ensures answers { AnswersAt S.Source (λ g. of_graph (content g)) form.Amf3 cursor.old cursor.new result }
 {
     let mut builder = Builder::keyed(alloc, keys)?;
     let mut tables = Tables3::new(alloc)?;
     let root = read3(alloc, cursor, &mut builder, &mut tables)?;
-    Ok(whole(builder, root))
-}
-
-/// The graph with this root, of which all nodes are closed.
-fn whole(builder: Builder, root: Value) -> Rooted
-    requires names { Names builder root }
-    requires closed { AllByRecursion (λ n. n.is_open ≡ false) builder.nodes }
-    ensures { result ≡ record { arena = builder; root = root } }
-{
-    match builder.finish(root) {
-        Ok(graph) => graph,
-        Err(_) => unreachable!(),
-    }
+    Ok(builder.whole(root))
 }
 
 /// Refuses bytes that follow a whole input.
 fn expect_end<S: Source>(cursor: &mut Cursor<'_, S>) -> Result<(), ReadEnd>
     requires within { place cursor.old ≤ bound cursor.old }
-    ensures goes { Goes S.tells S.left S.faults cursor.old cursor.new result }
+    ensures goes { Goes S.Source cursor.old cursor.new result }
     ensures answers { S.tells (source_of cursor.old).now → AnswersEnd (unread S.left cursor.old) (unread S.left cursor.new) (place cursor.old) result }
 {
     match cursor.at_end() {

@@ -1,11 +1,10 @@
 ghost use Rattle.std.specs.Prelude.{◌≡◌, ◌≤◌, ◌++◌, OnOk};
 ghost use Rattle.amf_io.specs.Outside.{HasCause, Steady};
-ghost use Rattle.amf_commands.specs.Lines.{status_of, line_of, refusal_line, reason_name, no_form_line, kind_name};
+ghost use Rattle.amf_commands.specs.Lines.{status_of, line_of, refusal_line, no_form_line, kind_name};
 
 use crate::run_end::RunEnd;
-use crate::writing::write_all;
 use amf_graph::{Lack, LackKind};
-use amf_io::{Failed, Reason, Refusal, Sink};
+use amf_io::{Failed, Refusal, Sink, write_all};
 use itoa::Buffer;
 
 /// Writes the error line of an end, and gives its status, whatever becomes of the line.
@@ -44,7 +43,7 @@ fn report_refusal<E: Sink>(refusal: Refusal, err: &mut E) -> Result<(), Failed>
 {
     let mut digits = Buffer::new();
     write_all(err, b"amf: refused ")?;
-    write_all(err, name_of(refusal.reason))?;
+    write_all(err, refusal.reason.name())?;
     write_all(err, b" at ")?;
     write_all(err, digits.format(refusal.at).as_bytes())?;
     write_all(err, b"\n")
@@ -77,29 +76,5 @@ fn kind_of(kind: LackKind) -> &'static [u8]
         LackKind::Shared => b"Shared",
         LackKind::FarReference => b"FarReference",
         LackKind::LongFile => b"LongFile",
-    }
-}
-
-/// The name of a reason, as the error line has it.
-fn name_of(reason: Reason) -> &'static [u8]
-    ensures { result.now ≡ reason_name reason }
-{
-    match reason {
-        Reason::Truncated => b"Truncated",
-        Reason::BadMarker => b"BadMarker",
-        Reason::BadReference => b"BadReference",
-        Reason::BadTraits => b"BadTraits",
-        Reason::BadTextIndex => b"BadTextIndex",
-        Reason::BadText => b"BadText",
-        Reason::WrongKind => b"WrongKind",
-        Reason::UnknownExternal => b"UnknownExternal",
-        Reason::TooLarge => b"TooLarge",
-        Reason::Trailing => b"Trailing",
-        Reason::BadVersion => b"BadVersion",
-        Reason::BadSignature => b"BadSignature",
-        Reason::BadLength => b"BadLength",
-        Reason::BadPadding => b"BadPadding",
-        Reason::BadChunk => b"BadChunk",
-        Reason::BadChunkSize => b"BadChunkSize",
     }
 }

@@ -1,4 +1,4 @@
-use crate::cases::{Case, How, bytes_of, check_rows};
+use crate::cases::{Case, How, check_rows};
 use crate::dials::{GOOD, Links, dial_of, taken};
 use crate::runs::{BY_BYTES, Told, WHOLE, Ways, check_over};
 use amf_io::{MemoryDial, MemoryLink};
@@ -73,8 +73,8 @@ pub(crate) fn check_call<R: RandomSource + Threads + Wait + Abort + Sync>(
     row: Row<'_>,
     case: &Case<'_>,
 ) {
-    let asked = bytes_of(rt, alloc, row, 5);
-    let answer = bytes_of(rt, alloc, row, 6);
+    let asked = row.parts(alloc, 5).expect(rt, "bytes");
+    let answer = row.parts(alloc, 6).expect(rt, "bytes");
     let talk = Talk {
         asked: &asked,
         answer: &answer,

@@ -1,8 +1,8 @@
-use crate::cases::{Case, How, check_rows, field, put_part};
+use crate::cases::{Case, How, check_rows, field};
 use crate::dials::{GOOD, Links, dial_of_three};
 use crate::runs::{BY_BYTES, Told, WHOLE, Ways, check_over};
 use amf_io::{MemoryDial, MemoryLink};
-use amf_rows::{Row, Table};
+use amf_rows::{Row, Table, push_part};
 use std::alloc::Global;
 use std::process::Abort;
 use std::random::RandomSource;
@@ -71,7 +71,7 @@ fn put_messages(rt: &impl Abort, alloc: Global, out: &mut Vec<u8>, table: &Table
     let rows = table.rows(alloc).expect(rt, "rows");
     for number in numbers {
         let row = rows.get(*number as usize).expect(rt, "a row");
-        put_part(rt, alloc, out, field(rt, *row, 0));
+        push_part(alloc, out, field(rt, *row, 0)).expect(rt, "bytes");
     }
 }
 

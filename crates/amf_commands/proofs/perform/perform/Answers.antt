@@ -1,5 +1,5 @@
 use Rattle.std.proofs.Common.{◌≡◌, ◌++◌, subst}
-use Rattle.amf_commands.specs.Written.{WritesFront}
+use Rattle.amf_io.specs.Written.{WritesFront}
 use Rattle.amf_commands.proofs.Spelled.{decides}
 use Rattle.amf_commands.proofs.perform.perform.Goals as goal
 

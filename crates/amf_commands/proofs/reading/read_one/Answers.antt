@@ -1,7 +1,7 @@
 use Rattle.std.proofs.Common.{Result, refl, sym, subst, arith}
 use Rattle.amf_io.specs.declared.ends.ReadEnd.{ReadEnd}
 use Rattle.amf_io.specs.Cursor.{source_of, place, bound, unread}
-use Rattle.amf_io.specs.ReadEnds.{Goes}
+use Rattle.amf_io.specs.ReadEnds.{GoesBy}
 use Rattle.amf_graph.specs.Rooted.{RootedArena}
 use Rattle.amf_packet.specs.declared.packet.Packet.{Packet as KeptPacket}
 use Rattle.amf_packet.specs.Content.{packet_of}
@@ -18,7 +18,7 @@ read_packet_keyed-requires g c = omega (arith, c.requires.limit)
 
 pub returns-in-Amf3-clause-goes : goal.returns-in-Amf3-clause-goes
 returns-in-Amf3-clause-goes g c =
-    subst (λ (r : Result KeptContent ReadEnd). Goes g.S.Source.tells g.S.Source.left g.S.Source.faults c.args.cursor.now c.read_one3.new.cursor r) (sym c.valued.ensures)
+    subst (λ (r : Result KeptContent ReadEnd). GoesBy g.S.Source.tells g.S.Source.left g.S.Source.faults c.args.cursor.now c.read_one3.new.cursor r) (sym c.valued.ensures)
     (goes_mapped (λ (x : RootedArena). kept.Value x) g.S.Source.tells g.S.Source.left g.S.Source.faults c.args.cursor.now c.read_one3.new.cursor c.read_one3.result c.read_one3.ensures.goes)
 
 pub returns-in-Amf3-clause-answers : goal.returns-in-Amf3-clause-answers
@@ -34,7 +34,7 @@ returns-in-Amf3-clause-answers g c =
 
 pub returns-in-Amf0-clause-goes : goal.returns-in-Amf0-clause-goes
 returns-in-Amf0-clause-goes g c =
-    subst (λ (r : Result KeptContent ReadEnd). Goes g.S.Source.tells g.S.Source.left g.S.Source.faults c.args.cursor.now c.read_one0.new.cursor r) (sym c.valued-in-Amf0.ensures)
+    subst (λ (r : Result KeptContent ReadEnd). GoesBy g.S.Source.tells g.S.Source.left g.S.Source.faults c.args.cursor.now c.read_one0.new.cursor r) (sym c.valued-in-Amf0.ensures)
     (goes_mapped (λ (x : RootedArena). kept.Value x) g.S.Source.tells g.S.Source.left g.S.Source.faults c.args.cursor.now c.read_one0.new.cursor c.read_one0.result c.read_one0.ensures.goes)
 
 pub returns-in-Amf0-clause-answers : goal.returns-in-Amf0-clause-answers
@@ -50,7 +50,7 @@ returns-in-Amf0-clause-answers g c =
 
 pub returns-in-Packet-clause-goes : goal.returns-in-Packet-clause-goes
 returns-in-Packet-clause-goes g c =
-    subst (λ (r : Result KeptContent ReadEnd). Goes g.S.Source.tells g.S.Source.left g.S.Source.faults c.args.cursor.now c.read_packet_keyed.new.cursor r) (sym c.packeted.ensures)
+    subst (λ (r : Result KeptContent ReadEnd). GoesBy g.S.Source.tells g.S.Source.left g.S.Source.faults c.args.cursor.now c.read_packet_keyed.new.cursor r) (sym c.packeted.ensures)
     (goes_mapped (λ (x : KeptPacket). kept.Packet x) g.S.Source.tells g.S.Source.left g.S.Source.faults c.args.cursor.now c.read_packet_keyed.new.cursor c.read_packet_keyed.result c.read_packet_keyed.ensures.goes)
 
 pub returns-in-Packet-clause-answers : goal.returns-in-Packet-clause-answers

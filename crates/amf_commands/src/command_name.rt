@@ -1,8 +1,8 @@
 ghost use Rattle.std.specs.Prelude.{◌≡◌, ◌≤◌, IfOk, IfSome, IfNone, codes, option_map, option_and_then};
 ghost use Rattle.clap.specs.Matches.{first_value, found_of};
 ghost use Rattle.amf_words.specs.Words.{texts};
-ghost use Rattle.amf_commands.specs.Commands.{canon_from, flv_job_named, format_or, name_of, number_at, options_for, target_at, task_for};
-ghost use Rattle.amf_commands.specs.Commands.{call_of, destination_at, gen_of, listen_of, rtmp_of, serve_of};
+ghost use Rattle.amf_commands.specs.Commands.{canon_from, flv_job_named, format_or, name_of, number_at, options_for, task_for};
+ghost use Rattle.amf_commands.specs.Commands.{call_by, gen_by, listen_by, rtmp_of, serve_by};
 ghost use Rattle.amf_commands.specs.declared.command.Task.TheVariants as task;
 ghost use Rattle.amf_commands.specs.declared.format.Format.TheVariants.{Amf3};
 
@@ -16,7 +16,7 @@ use std::alloc::Global;
 
 /// The name of a command.
 #[derive(Clone, Copy, Debug, PartialEq, Eq)]
-pub enum Kind {
+pub enum CommandName {
     /// `canon`.
     Canon,
     /// `check`.
@@ -57,23 +57,23 @@ static CALL: [&str; 2] = ["port", "target"];
 
 static LISTEN: [&str; 3] = ["port", "destination", "polls"];
 
-impl Kind {
+impl CommandName {
     /// The command of this name.
-    pub fn of(name: &str) -> Option<Kind>
+    pub fn of(name: &str) -> Option<CommandName>
         ensures some { IfSome result (λ kind. name.now ≡ name_of kind) }
-        ensures none { IfNone result ((kind : Kind) → name.now ≡ name_of kind → ⊥) }
+        ensures none { IfNone result ((kind : CommandName) → name.now ≡ name_of kind → ⊥) }
     {
         match name {
-            "canon" => Some(Kind::Canon),
-            "check" => Some(Kind::Check),
-            "show" => Some(Kind::Show),
-            "same" => Some(Kind::Same),
-            "gen" => Some(Kind::Gen),
-            "serve" => Some(Kind::Serve),
-            "flv" => Some(Kind::Flv),
-            "rtmp" => Some(Kind::Rtmp),
-            "call" => Some(Kind::Call),
-            "listen" => Some(Kind::Listen),
+            "canon" => Some(CommandName::Canon),
+            "check" => Some(CommandName::Check),
+            "show" => Some(CommandName::Show),
+            "same" => Some(CommandName::Same),
+            "gen" => Some(CommandName::Gen),
+            "serve" => Some(CommandName::Serve),
+            "flv" => Some(CommandName::Flv),
+            "rtmp" => Some(CommandName::Rtmp),
+            "call" => Some(CommandName::Call),
+            "listen" => Some(CommandName::Listen),
             _ => None,
         }
     }
@@ -83,15 +83,15 @@ impl Kind {
         ensures { texts result.now ≡ options_for self }
     {
         match self {
-            Kind::Canon => CANON.as_slice(),
-            Kind::Check | Kind::Show => FROM.as_slice(),
-            Kind::Same => SAME.as_slice(),
-            Kind::Gen => GEN.as_slice(),
-            Kind::Serve => SERVE.as_slice(),
-            Kind::Flv => FLV.as_slice(),
-            Kind::Rtmp => RTMP.as_slice(),
-            Kind::Call => CALL.as_slice(),
-            Kind::Listen => LISTEN.as_slice(),
+            CommandName::Canon => CANON.as_slice(),
+            CommandName::Check | CommandName::Show => FROM.as_slice(),
+            CommandName::Same => SAME.as_slice(),
+            CommandName::Gen => GEN.as_slice(),
+            CommandName::Serve => SERVE.as_slice(),
+            CommandName::Flv => FLV.as_slice(),
+            CommandName::Rtmp => RTMP.as_slice(),
+            CommandName::Call => CALL.as_slice(),
+            CommandName::Listen => LISTEN.as_slice(),
         }
     }
 
@@ -100,34 +100,34 @@ impl Kind {
         ensures { IfOk result (λ task. task ≡ task_for self (first_value (found_of matches.now))) }
     {
         let task = match self {
-            Kind::Canon => output(canon(matches)),
-            Kind::Check => match from(matches) {
+            CommandName::Canon => output(canon(matches)),
+            CommandName::Check => match from(matches) {
                 Some(from) => Some(Task::Output(Command::Check { from })),
                 None => None,
             },
-            Kind::Show => match from(matches) {
+            CommandName::Show => match from(matches) {
                 Some(from) => Some(Task::Output(Command::Show { from })),
                 None => None,
             },
-            Kind::Same => Some(Task::Output(Command::Same)),
-            Kind::Gen => output(generate(matches)),
-            Kind::Serve => match serve(matches) {
+            CommandName::Same => Some(Task::Output(Command::Same)),
+            CommandName::Gen => output(generate(matches)),
+            CommandName::Serve => match serve(matches) {
                 Some(options) => Some(Task::Serve(options)),
                 None => None,
             },
-            Kind::Flv => match flv(matches) {
+            CommandName::Flv => match flv(matches) {
                 Some(job) => Some(Task::Flv(job)),
                 None => None,
             },
-            Kind::Rtmp => match rtmp(matches) {
+            CommandName::Rtmp => match rtmp(matches) {
                 Some(size) => Some(Task::Rtmp(size)),
                 None => None,
             },
-            Kind::Call => match call(alloc, matches)? {
+            CommandName::Call => match call(alloc, matches)? {
                 Some(options) => Some(Task::Call(options)),
                 None => None,
             },
-            Kind::Listen => match listen(alloc, matches)? {
+            CommandName::Listen => match listen(alloc, matches)? {
                 Some(options) => Some(Task::Listen(options)),
                 None => None,
             },
@@ -171,7 +171,7 @@ fn canon(matches: &ArgMatches<'_>) -> Option<Command>
 }
 
 fn generate(matches: &ArgMatches<'_>) -> Option<Command>
-    ensures { result ≡ gen_of (number_at 0 4294967295 (first_value (found_of matches.now) (codes "seed"))) (number_at 1 1000000 (first_value (found_of matches.now) (codes "size"))) }
+    ensures { result ≡ gen_by (first_value (found_of matches.now)) }
 {
     let seed = number(matches, "seed", 0, u32::MAX)?;
     let size = number(matches, "size", 1, 1_000_000)?;
@@ -179,7 +179,7 @@ fn generate(matches: &ArgMatches<'_>) -> Option<Command>
 }
 
 fn serve(matches: &ArgMatches<'_>) -> Option<ServeOptions>
-    ensures { result ≡ serve_of (number_at 0 65535 (first_value (found_of matches.now) (codes "port"))) (number_at 1 64 (first_value (found_of matches.now) (codes "workers"))) (number_at 1 1000000 (first_value (found_of matches.now) (codes "each"))) }
+    ensures { result ≡ serve_by (first_value (found_of matches.now)) }
 {
     let port = port(matches)?;
     let workers = number(matches, "workers", 1, 64)?;
@@ -232,8 +232,7 @@ fn rtmp(matches: &ArgMatches<'_>) -> Option<Option<u32>>
 
 /// Which operation `--target` names, of the gateway at the port of `--port`. It gives up where there is no memory.
 fn call(alloc: Global, matches: &ArgMatches<'_>) -> Result<Option<CallOptions>, Memory>
-    ensures { IfOk result (λ options. options ≡ call_of
-        (number_at 0 65535 (first_value (found_of matches.now) (codes "port"))) (target_at (first_value (found_of matches.now) (codes "target")))) }
+    ensures { IfOk result (λ options. options ≡ call_by (first_value (found_of matches.now))) }
 {
     let Some(port) = port(matches) else {
         return Ok(None);
@@ -250,8 +249,7 @@ fn call(alloc: Global, matches: &ArgMatches<'_>) -> Result<Option<CallOptions>, 
 /// Which destination `--destination` names, of the gateway at the port of `--port`, and how often it is polled. It gives up where
 /// there is no memory.
 fn listen(alloc: Global, matches: &ArgMatches<'_>) -> Result<Option<ListenOptions>, Memory>
-    ensures { IfOk result (λ options. options ≡ listen_of (number_at 0 65535 (first_value (found_of matches.now) (codes "port")))
-        (destination_at (first_value (found_of matches.now) (codes "destination"))) (number_at 1 1000000 (first_value (found_of matches.now) (codes "polls")))) }
+    ensures { IfOk result (λ options. options ≡ listen_by (first_value (found_of matches.now))) }
 {
     let Some(port) = port(matches) else {
         return Ok(None);
