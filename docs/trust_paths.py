@@ -26,7 +26,7 @@ what is promised. The toolchain, and what else is trusted, are named in [PROMISE
 
 Nobody has to read all of them. Each of the ten paths below lists what one promise rests on, in an order in which it can be read: each file,
 those of its definitions that the promise needs, with a sentence for each, and how many lines these have. Much of a later path is known from
-an earlier one; such definitions are named again, and their sentences stand in the path where they come first. The first path has some 1,600
+an earlier one; such definitions are named again, and their sentences stand in the path where they come first. The first path has some 1,400
 lines, and each later one at most 1,200 that no path above it has: about an hour each. `serve` has two, the first for what one connection is
 answered, and `listen` has two, the second for the law of both ends. Any other path ends with the definitions that the program's contract
 itself names. That contract is `Ends`, for `serve` with `ServesWords`, for `call` with `CallsWords` and for `listen` with `ListensWords`, in
@@ -82,6 +82,7 @@ TITLES = {
     "amf_packet": "Packets",
     "amf_sol": "Shared object files",
     "amf_show": "The listing of a graph",
+    "amf_text": "The JSON text of AMF data",
     "amf_listings": "The listings of packets and of shared object files, and their laws",
     "flv_meta": "FLV script data",
     "rtmp_chunks": "RTMP chunk streams",
@@ -151,7 +152,7 @@ PATHS = [
      "services and of the broker it makes, and which bytes tell what they gave.",
      [], ["amf_sol", "amf_show", "amf_listings", *OTHERS, *MEDIA, *CALLS], [], "amf_plan.Respond"),
     ("To trust `serve`", "That each connection is answered as the definition says, and that all connections have one legal history of the broker.",
-     [*OF_DATA, *OF_MEDIA, *OF_LINKS], ["amf_sol", "amf_show", "amf_listings", *OTHERS, *MEDIA, *CALLS], ["ServesWords", "Outside"]),
+     [*OF_DATA, *OF_MEDIA, *OF_LINKS], ["amf_sol", "amf_show", "amf_listings", *OTHERS, *MEDIA, *CALLS], ["ServesWords"]),
     ("To trust `flv`", "That `amf flv` lists the metadata of an FLV file, or writes the file without them or with others, and all else as it was.",
      [*OF_SERVE, *OF_DATA, *OF_RTMP, *OF_LINKS], [*FILES, *OTHERS, *CALLS, "rtmp_chunks", "rtmp_pass", "rtmp_listing"], ["Ends", "MediaEnds"]),
     ("To trust `rtmp`", "That `amf rtmp` lists the messages of a chunk stream, or writes the same messages in chunks of another size.",
