@@ -17,6 +17,6 @@ mod vectors;
 
 pub use counting::count_nodes;
 pub use facts::{listing_laws, listing_rows};
-pub use listing::show;
+pub use listing::{graph_listing, show};
 pub use numbers::push_word;
 pub use text::show_text;

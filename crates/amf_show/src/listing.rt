@@ -1,8 +1,8 @@
-ghost use Rattle.std.specs.Prelude.{◌≡◌, ◌++◌, OnOk, OnErr};
+ghost use Rattle.std.specs.Prelude.{◌≡◌, ◌++◌, IfOk, OnOk, OnErr};
 ghost use Rattle.std.specs.List.{flat_map};
 ghost use Rattle.amf_graph.specs.Order.{IsOrder};
 ghost use Rattle.amf_graph.specs.Rooted.{content};
-ghost use Rattle.amf_show.specs.Listing.{shown_node, shown_graph, AppendsListing};
+ghost use Rattle.amf_show.specs.Listing.{shown_node, shown_graph, AppendsListing, IsListing};
 
 use crate::lister::Lister;
 use amf_graph::Rooted;
@@ -10,13 +10,10 @@ use amf_iso::Numbering;
 use amf_wire::Memory;
 use std::alloc::Global;
 
-/// Appends the listing of a graph: a line for the root, and a line for each node to which it leads, in canonical order. A
-/// node is named by its place in that order.
-///
-/// After an end `out` is as before. It gives up where there is no memory.
-pub fn show(alloc: Global, graph: &Rooted, out: &mut Vec<u8>) -> Result<(), Memory>
-    ensures shown { OnOk result (AppendsListing (content graph.now) out.old.items out.new.items) }
-    ensures untouched { OnErr result (out.new.items ≡ out.old.items) }
+/// The listing of a graph: a line for the root, and a line for each node to which it leads, in canonical order. A node is
+/// named by its place in that order. It gives up where there is no memory.
+pub fn graph_listing(alloc: Global, graph: &Rooted) -> Result<Vec<u8>, Memory>
+    ensures listed { IfOk result (λ listing. IsListing (content graph.now) listing.items) }
 {
     let numbering = Numbering::of(alloc, graph)?;
     let lister = Lister {
@@ -26,6 +23,17 @@ pub fn show(alloc: Global, graph: &Rooted, out: &mut Vec<u8>) -> Result<(), Memo
     };
     let mut listing = Vec::new(alloc);
     lister.push_graph(&mut listing)?;
+    Ok(listing)
+}
+
+/// Appends the listing of a graph, as [`graph_listing`] gives it.
+///
+/// After an end `out` is as before. It gives up where there is no memory.
+pub fn show(alloc: Global, graph: &Rooted, out: &mut Vec<u8>) -> Result<(), Memory>
+    ensures shown { OnOk result (AppendsListing (content graph.now) out.old.items out.new.items) }
+    ensures untouched { OnErr result (out.new.items ≡ out.old.items) }
+{
+    let listing = graph_listing(alloc, graph)?;
     out.extend_from_slice(&listing)?;
     Ok(())
 }
