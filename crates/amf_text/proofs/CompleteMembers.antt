@@ -202,7 +202,7 @@ module _ (reads : Reads) where
 
   -- Plain members and keys.
 
-  plain_by : List ℕ → Json → Members → Tag → Option Named
+  unfoldable pub plain_by : List ℕ → Json → Members → Tag → Option Named
   plain_by k j ms t = elim t [ tag.name ↦ option_and_then (λ t. option_map (named k t) (plain_meant reads ms)) (meant reads j) | _ ↦ None ]
 
   plain_first : (k : List ℕ) (j : Json) (ms : Members) → OfJson reads j → OfMembers reads ms → (t : Tag) → tag_of k ≡ t → (x : Named)
@@ -302,7 +302,7 @@ module _ (reads : Reads) where
   mixed_last k (json.string s) ms of o names x e = no_answer x e
   mixed_last k (json.array js) ms of o names x e = no_answer x e
 
-  fixed_by : Bool → Json → Members → Tag → Option Tree
+  unfoldable pub fixed_by : Bool → Json → Members → Tag → Option Tree
   fixed_by f j ms t = elim t [
     | tag.ints ↦ if_last ms (ints_meant reads f j)
     | tag.uints ↦ if_last ms (uints_meant reads f j)
@@ -329,13 +329,13 @@ module _ (reads : Reads) where
       )
   fixed_left j ms m f _ x e = no_answer x e
 
-  abbrev not_dynamic : List ℕ → Begun
+  abbrev pub not_dynamic : List ℕ → Begun
   not_dynamic c = record { class = c; dynamic = false; names = no_named }
 
-  abbrev is_dynamic : List ℕ → Named → Begun
+  abbrev pub is_dynamic : List ℕ → Named → Begun
   is_dynamic c ns = record { class = c; dynamic = true; names = ns }
 
-  class_by : List ℕ → Json → Members → Tag → Option Tree
+  unfoldable pub class_by : List ℕ → Json → Members → Tag → Option Tree
   class_by c j ms t = elim t [
     | tag.dynamic ↦ option_and_then (λ ns. begun_meant reads (is_dynamic c ns) ms) (members_meant reads j)
     | tag.names ↦ option_and_then (λ xs. mixed_meant reads (not_dynamic c) xs ms) (class_names j)
@@ -360,7 +360,7 @@ module _ (reads : Reads) where
       (ask.sealed ∷ ask.close ∷ [], refl, then_close reads ask.sealed (json_tokens j) ms l.0 (o.sealed (not_dynamic c) x l.1))
   class_left j ms o m c _ x e = no_answer x e
 
-  begun_by : Begun → Json → Members → Tag → Option Tree
+  unfoldable pub begun_by : Begun → Json → Members → Tag → Option Tree
   begun_by b j ms t = elim t [
     | tag.names ↦ option_and_then (λ xs. mixed_meant reads b xs ms) (class_names j)
     | tag.sealed ↦ if_last ms (sealed_meant reads b j)

@@ -142,7 +142,7 @@ has_pattern : (n : ℤ) → IsInteger n → IsPatternOf (signed_pattern n) n
 has_pattern (pos n) h = pattern_is (pos n) (omega (arith, h))
 has_pattern (negsuc n) h = pattern_is (negsuc n) (omega (arith, h))
 
-pattern_bound : (p : ℕ) (n : ℤ) → IsPatternOf p n → p < 2 ^ 64
+pub pattern_bound : (p : ℕ) (n : ℤ) → IsPatternOf p n → p < 2 ^ 64
 pattern_bound p (pos zero) h = omega (arith, h)
 pattern_bound p (pos (suc n)) h = let a = h.pattern_is in let m = h.in_bits in let w = h.size_is.whole in omega (arith, a, m, w)
 pattern_bound p (negsuc n) h = let a = h.pattern_is in let m = h.in_bits in let w = h.size_is.whole in omega (arith, a, m, w)

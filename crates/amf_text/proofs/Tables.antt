@@ -1,13 +1,13 @@
--- The tables of worked graphs: none of an integer, and the one node of an array that holds itself.
-use Rattle.std.proofs.Common.{◌≡◌, ℕ, zero, suc, ◌<◌, pos, lit<, List, [], ◌∷◌, Option, Some, refl, ap, subst, inl, arith}
+-- The order and the table of a value that is no node, and of an array that holds itself.
+use Rattle.std.proofs.Common.{◌≡◌, ℕ, zero, suc, ◌<◌, lit<, List, [], ◌∷◌, Option, Some, refl, sym, ap, ◌∙◌, subst, inl, arith}
 use Rattle.std.specs.Prelude.{slice_get}
 use Rattle.std.specs.List.{AllZip}
 use Rattle.std.proofs.lemmas.Option.{same_Some}
 use Rattle.json.specs.Token.{Token}
-use Rattle.amf_graph.specs.Graph.{Value, integer, leaf, node, node_at}
-use Rattle.amf_graph.specs.Order.{IsOrder, over, past, again, first, values_met}
+use Rattle.amf_graph.specs.Graph.{Leaf, Value, leaf, node, Graph, node_at}
+use Rattle.amf_graph.specs.Order.{IsOrder, Walks, over, past, again, first, values_met}
 use Rattle.amf_text.specs.Texts.{IsTokenOf, IsShared, Under, itself, step, InTable, shared, below_root, below, IsTable}
-use Rattle.amf_text.specs.WorkedVerdicts.{one, circle}
+use Rattle.amf_text.specs.WorkedVerdicts.{circle}
 use Rattle.amf_text.proofs.Goals.{no_answer}
 
 -- a token is one as it is
@@ -20,27 +20,28 @@ abbrev numbered : Option Value → ℕ
 numbered (Some (node i)) = i
 numbered _ = 0
 
-abbrev is_leaf : Option Value → ℕ
-is_leaf (Some (leaf x)) = 1
-is_leaf _ = 0
+-- a value that is no node has neither order nor table
 
-pub one_order : IsOrder one []
-one_order = past (integer (pos 1)) over
+pub leaf_order : (g : Graph) (x : Leaf) → g.root ≡ leaf x → IsOrder g []
+leaf_order g x e = subst (λ v. Walks g [] (v ∷ []) []) (sym e) (past x over)
 
-no_node : (j i : ℕ) → slice_get (leaf (integer (pos 1)) ∷ []) j ≡ Some (node i) → ⊥
-no_node zero i e = let h : 1 ≡ 0 = ap is_leaf e in omega (arith, h)
-no_node (suc j) i e = no_answer (node i) e
+no_leaf : (x : Leaf) (i : ℕ) → leaf x ≡ node i → ⊥
+no_leaf x i e = cc
 
-none_told : {i : ℕ} → InTable one [] i → ⊥
-none_told {i = i} (shared s) = no_node s.0 i s.3
-none_told (below_root {j = j} e u) = let h : 1 ≡ 0 = ap (λ v. is_leaf (Some v)) e in omega (arith, h)
-none_told (below t u) = none_told t
+no_node : (g : Graph) (x : Leaf) → g.root ≡ leaf x → (j i : ℕ) → slice_get (g.root ∷ []) j ≡ Some (node i) → ⊥
+no_node g x r zero i e = no_leaf x i (sym r ∙ same_Some g.root (node i) e)
+no_node g x r (suc j) i e = no_answer (node i) e
 
-pub one_table : IsTable one [] []
-one_table = record {
+none_told : (g : Graph) (x : Leaf) → g.root ≡ leaf x → {i : ℕ} → InTable g [] i → ⊥
+none_told g x r {i = i} (shared s) = no_node g x r s.0 i s.3
+none_told g x r (below_root {j = j} e u) = no_leaf x j (sym r ∙ e)
+none_told g x r (below t u) = none_told g x r t
+
+pub leaf_table : (g : Graph) (x : Leaf) → g.root ≡ leaf x → IsTable g [] []
+leaf_table g x r = record {
   sound = λ i k e. no_answer i e;
-  complete = λ i t. absurd (none_told t);
-  in_order = λ j k m n a b l e f g h. no_answer a e;
+  complete = λ i t. absurd (none_told g x r t);
+  in_order = λ j k m n a b l e f h i. no_answer a e;
 }
 
 pub circle_order : IsOrder circle (0 ∷ [])

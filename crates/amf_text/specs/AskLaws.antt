@@ -1,8 +1,9 @@
 -- What has to stand next in a text: a text that means something has at each place a token that is asked for there.
-use Rattle.std.specs.Prelude.{◌≡◌, List, [], ◌∷◌, ◌++◌, None, Some}
+use Rattle.std.specs.Prelude.{◌≡◌, List, [], ◌∷◌, ◌++◌, None, Some, codes}
 use Rattle.json.specs.Token.{Token}
 use Rattle.json.specs.Json.{Json}
 use Rattle.json.specs.Tree.{json_tokens, HasNumbers}
+use Rattle.json.specs.Print.{ArePrintable}
 use Rattle.amf_text.specs.Scalars.{Reads}
 use Rattle.amf_text.specs.Documents.{Document}
 use Rattle.amf_text.specs.Accepted.{Part, document_meant}
@@ -30,3 +31,14 @@ pub record FaultLaws (reads : Reads) : Type 0 where
 
 abbrev pub FaultLawsHold : Type 0
 FaultLawsHold = (reads : Reads) → FaultLaws reads
+
+-- What is asked for can stand there.
+pub record GoalLaws (reads : Reads) : Type 0 where
+  -- tokens behind which nothing is asked for mean something
+  pub whole : (ts : List Token) → ArePrintable ts → asked reads ts ≡ Some [] → (d : Document Part) × IsWhole reads ts d
+  -- what is asked for can come
+  pub begins : (ts : List Token) (gs : List Goal) → ArePrintable ts → asked reads ts ≡ Some gs → Begins reads ts
+
+-- where a zero is read
+abbrev pub GoalLawsHold : Type 0
+GoalLawsHold = (reads : Reads) → reads (codes "0") ≡ Some 0 → GoalLaws reads

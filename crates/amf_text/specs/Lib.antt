@@ -14,6 +14,11 @@ pub mod TextLaws
 pub mod NumberLaws
 pub mod LeafLaws
 pub mod AskLaws
+pub mod Tellable
+pub mod TextTheorems
+pub mod ToldTrees
+pub mod ValueLaws
+pub mod DocumentLaws
 pub mod WorkedTexts
 pub mod WorkedMeanings
 pub mod WorkedRefusals

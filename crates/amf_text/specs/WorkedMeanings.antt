@@ -1,11 +1,11 @@
 -- Worked meanings: what the worked texts read back to.
-use Rattle.std.specs.Prelude.{◌≡◌, ℕ, true, false, List, [], ◌∷◌, codes, pos, negsuc, Some, None, option_and_then, if◌then◌else◌, bytes_eq}
+use Rattle.std.specs.Prelude.{◌≡◌, ℕ, true, false, List, [], ◌∷◌, codes, pos, Some, None, option_and_then, if◌then◌else◌, bytes_eq}
 use Rattle.amf_graph.specs.declared.wrapped.Wrapped.TheVariants.{ArrayCollection}
-use Rattle.amf_graph.specs.Graph.{undefined, null, boolean, integer, double, text, leaf, node, xml_document, date, array, object, wrapper, xml, bytes, ints, uints, doubles, values, dictionary, Graph}
+use Rattle.amf_graph.specs.Graph.{undefined, null, boolean, integer, double, text, leaf, node, xml_document, date, array, object, wrapper, xml, uints, values, dictionary, Graph}
 use Rattle.amf_text.specs.Documents.{plain, call, file0, file3, value3, value0, file, packet}
 use Rattle.amf_text.specs.Scalars.{Reads}
 use Rattle.amf_text.specs.Accepted.{document_meant, linked}
-use Rattle.amf_text.specs.WorkedTexts.{save_told, packet_told, cycle_told, shared_told, sealed_told, vector_told, dictionary_told, byte_array_told, date_told, nan_told, labels_told, number_told, kinds_told, twins_told, file3_told, mail_told, deep_told}
+use Rattle.amf_text.specs.WorkedTexts.{save_told, packet_told, cycle_told, shared_told, sealed_told, vector_told, dictionary_told, byte_array_told, date_told, nan_told, labels_told, number_told, kinds_told, twins_told, file3_told, mail_told, deep_told, packet_graph, sealed_graph, vector_graph, byte_array_graph, date_graph, nan_graph, twins_graph}
 
 -- the patterns of the numbers in the rows
 abbrev pub some_patterns : List (List ℕ × ℕ)
@@ -49,15 +49,6 @@ save_read = record {
   root = node 0;
 }
 
-abbrev pub packet_read : Graph
-packet_read = record {
-  nodes =
-      record { head = object (record { class = codes "flex.messaging.messages.RemotingMessage"; dynamic = false; sealed = (codes "body") ∷ (codes "operation") ∷ (codes "destination") ∷ (codes "timestamp") ∷ [] }); names = []; values = node 1 ∷ leaf (text (codes "add")) ∷ leaf (text (codes "calculator")) ∷ leaf (double 0x0000000000000000) ∷ [] }
-      ∷ record { head = array; names = []; values = leaf (integer (pos 2)) ∷ leaf (double 0x4008000000000000) ∷ [] }
-      ∷ [];
-  root = node 0;
-}
-
 abbrev pub cycle_read : Graph
 cycle_read = record {
   nodes =
@@ -75,25 +66,6 @@ shared_read = record {
   root = node 1;
 }
 
-abbrev pub sealed_read : Graph
-sealed_read = record {
-  nodes =
-      record { head = object (record { class = codes "game.Player"; dynamic = true; sealed = (codes "y") ∷ (codes "x") ∷ [] }); names = (codes "$tag", leaf undefined) ∷ (codes "a", leaf (integer (pos 1))) ∷ (codes "a", leaf (integer (pos 2))) ∷ []; values = leaf (integer (pos 3)) ∷ leaf (double 0x4010000000000000) ∷ [] }
-      ∷ [];
-  root = node 0;
-}
-
-abbrev pub vector_read : Graph
-vector_read = record {
-  nodes =
-      record { head = array; names = []; values = node 1 ∷ node 2 ∷ node 3 ∷ [] }
-      ∷ record { head = ints true ((negsuc 1) ∷ (pos 30) ∷ []); names = []; values = [] }
-      ∷ record { head = doubles false (0x3FF8000000000000 ∷ 0x8000000000000000 ∷ 0x0000000000000000 ∷ []); names = []; values = [] }
-      ∷ record { head = values false (codes "game.Item"); names = []; values = leaf null ∷ leaf (double 0x4004000000000000) ∷ [] }
-      ∷ [];
-  root = node 0;
-}
-
 abbrev pub dictionary_read : Graph
 dictionary_read = record {
   nodes =
@@ -101,31 +73,6 @@ dictionary_read = record {
       ∷ record { head = dictionary true; names = []; values = leaf (text (codes "k")) ∷ node 0 ∷ node 0 ∷ leaf null ∷ [] }
       ∷ [];
   root = node 1;
-}
-
-abbrev pub byte_array_read : Graph
-byte_array_read = record {
-  nodes =
-      record { head = array; names = (codes "raw", node 1) ∷ []; values = leaf (text (codes "\n")) ∷ [] }
-      ∷ record { head = bytes (0x00 ∷ 0xAF ∷ []); names = []; values = [] }
-      ∷ [];
-  root = node 0;
-}
-
-abbrev pub date_read : Graph
-date_read = record {
-  nodes =
-      record { head = date 0xBFF8000000000000; names = []; values = [] }
-      ∷ [];
-  root = node 0;
-}
-
-abbrev pub nan_read : Graph
-nan_read = record {
-  nodes =
-      record { head = array; names = []; values = leaf (double 0x7FF8000000000000) ∷ leaf (double 0xFFF8000000000000) ∷ leaf (double 0x7FF0000000000000) ∷ leaf (double 0x8000000000000000) ∷ leaf (double 0x4014000000000000) ∷ leaf (double 0x41B0000000000000) ∷ leaf (text ((0xED ∷ 0xA0 ∷ 0x80 ∷ []))) ∷ [] }
-      ∷ [];
-  root = node 0;
 }
 
 abbrev pub labels_read : Graph
@@ -164,14 +111,6 @@ kinds_read = record {
       ∷ record { head = xml (codes ""); names = []; values = [] }
       ∷ record { head = uints true (4294967295 ∷ []); names = []; values = [] }
       ∷ record { head = values true (codes ""); names = []; values = leaf (boolean true) ∷ [] }
-      ∷ [];
-  root = node 0;
-}
-
-abbrev pub twins_read : Graph
-twins_read = record {
-  nodes =
-      record { head = object (record { class = []; dynamic = false; sealed = (codes "a") ∷ ((0xED ∷ 0xA0 ∷ 0x80 ∷ [])) ∷ (codes "a") ∷ [] }); names = []; values = leaf (integer (pos 1)) ∷ leaf (integer (pos 2)) ∷ leaf (integer (pos 3)) ∷ [] }
       ∷ [];
   root = node 0;
 }
@@ -239,19 +178,19 @@ deep_read = record {
 
 pub record MeaningRows : Type 0 where
   pub save_meant : option_and_then linked (document_meant some_reads save_told) ≡ Some (file (codes "save1") file0 save_read)
-  pub packet_meant : option_and_then linked (document_meant some_reads packet_told) ≡ Some (packet 3 ([]) ((record { target = codes "null"; response = codes "/1"; form = call; graph = packet_read }) ∷ []))
+  pub packet_meant : option_and_then linked (document_meant some_reads packet_told) ≡ Some (packet 3 ([]) ((record { target = codes "null"; response = codes "/1"; form = call; graph = packet_graph }) ∷ []))
   pub cycle_meant : option_and_then linked (document_meant some_reads cycle_told) ≡ Some (value3 cycle_read)
   pub shared_meant : option_and_then linked (document_meant some_reads shared_told) ≡ Some (value3 shared_read)
-  pub sealed_meant : option_and_then linked (document_meant some_reads sealed_told) ≡ Some (value3 sealed_read)
-  pub vector_meant : option_and_then linked (document_meant some_reads vector_told) ≡ Some (value3 vector_read)
+  pub sealed_meant : option_and_then linked (document_meant some_reads sealed_told) ≡ Some (value3 sealed_graph)
+  pub vector_meant : option_and_then linked (document_meant some_reads vector_told) ≡ Some (value3 vector_graph)
   pub dictionary_meant : option_and_then linked (document_meant some_reads dictionary_told) ≡ Some (value3 dictionary_read)
-  pub byte_array_meant : option_and_then linked (document_meant some_reads byte_array_told) ≡ Some (value3 byte_array_read)
-  pub date_meant : option_and_then linked (document_meant some_reads date_told) ≡ Some (value3 date_read)
-  pub nan_meant : option_and_then linked (document_meant some_reads nan_told) ≡ Some (value3 nan_read)
+  pub byte_array_meant : option_and_then linked (document_meant some_reads byte_array_told) ≡ Some (value3 byte_array_graph)
+  pub date_meant : option_and_then linked (document_meant some_reads date_told) ≡ Some (value3 date_graph)
+  pub nan_meant : option_and_then linked (document_meant some_reads nan_told) ≡ Some (value3 nan_graph)
   pub labels_meant : option_and_then linked (document_meant some_reads labels_told) ≡ Some (value3 labels_read)
   pub number_meant : option_and_then linked (document_meant some_reads number_told) ≡ Some (value0 number_read)
   pub kinds_meant : option_and_then linked (document_meant some_reads kinds_told) ≡ Some (value3 kinds_read)
-  pub twins_meant : option_and_then linked (document_meant some_reads twins_told) ≡ Some (value3 twins_read)
+  pub twins_meant : option_and_then linked (document_meant some_reads twins_told) ≡ Some (value3 twins_graph)
   pub file3_meant : option_and_then linked (document_meant some_reads file3_told) ≡ Some (file (codes "s") file3 file3_read)
   pub mail_meant : option_and_then linked (document_meant some_reads mail_told) ≡ Some (packet 0 ((record { name = codes "h"; must = true; form = plain; graph = mail_0_read }) ∷ []) ((record { target = codes "t"; response = []; form = plain; graph = mail_1_read }) ∷ []))
   pub deep_meant : option_and_then linked (document_meant some_reads deep_told) ≡ Some (value3 deep_read)

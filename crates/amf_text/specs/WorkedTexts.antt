@@ -1,4 +1,5 @@
--- Worked texts: a shared object file, a packet, a cycle, an object that is held twice, a class with sealed members, vectors, a
+-- Worked texts of values, files and packets, by lines and without spaces.
+-- By lines: a shared object file, a packet, a cycle, an object that is held twice, a class with sealed members, vectors, a
 -- dictionary, a byte array, a date, doubles that are no numbers, and labels of two digits; then, without spaces, a value of AMF 0,
 -- other kinds of nodes, equal sealed names, a file of AMF 3, a packet with a header, and 33 arrays within one another.
 use Rattle.std.specs.Prelude.{◌≡◌, ℕ, Bool, true, false, List, [], ◌∷◌, codes, pos, negsuc, ◌==◌, if◌then◌else◌}

@@ -1,7 +1,11 @@
-ghost use Rattle.amf_text.specs.AskLaws.{FaultLawsHold};
+ghost use Rattle.amf_text.specs.AskLaws.{FaultLawsHold, GoalLawsHold};
+ghost use Rattle.amf_text.specs.DocumentLaws.{DocumentIsMeant};
 ghost use Rattle.amf_text.specs.LeafLaws.{LeafLaws};
 ghost use Rattle.amf_text.specs.NumberLaws.{DigitsExist, NumberLaws};
 ghost use Rattle.amf_text.specs.TextLaws.{TextLaws};
+ghost use Rattle.amf_text.specs.TextTheorems.{SameJson, JsonExists};
+ghost use Rattle.amf_text.specs.ToldTrees.{ToldIsMeant};
+ghost use Rattle.amf_text.specs.ValueLaws.{ValueLaws};
 ghost use Rattle.amf_text.specs.WorkedDocuments.{DocumentRows};
 ghost use Rattle.amf_text.specs.WorkedMeanings.{MeaningRows};
 ghost use Rattle.amf_text.specs.WorkedRefusals.{RefusalRows};
@@ -56,4 +60,34 @@ pub fn leaf_laws()
 /// What is not asked for in a text cannot stand there: behind the tokens before it, no text that means something goes on so.
 pub fn fault_laws()
     ensures { FaultLawsHold }
+{}
+
+/// Documents that match, as those of isomorphic graphs do, have one JSON when they are told by the same digits.
+pub fn same_json()
+    ensures { SameJson }
+{}
+
+/// Each document that can be told has a JSON, by any digits.
+pub fn json_exists()
+    ensures { JsonExists }
+{}
+
+/// What is asked for in a text can come, and tokens behind which nothing is asked for mean something.
+pub fn goal_laws()
+    ensures { GoalLawsHold }
+{}
+
+/// What is told of each value of a whole graph means that value, with labels for the nodes of the table.
+pub fn told_meant()
+    ensures { ToldIsMeant }
+{}
+
+/// The canonical JSON of a value means its table and its root, where labels may still lead nowhere.
+pub fn value_laws()
+    ensures { ValueLaws }
+{}
+
+/// The canonical JSON of each document means something, where labels may still lead nowhere.
+pub fn document_laws()
+    ensures { DocumentIsMeant }
 {}

@@ -5,7 +5,8 @@ mod facts;
 mod reason;
 
 pub use facts::{
-    digits_exist, document_rows, fault_laws, leaf_laws, meaning_rows, number_laws, refusal_rows,
-    text_laws, text_rows, verdict_rows,
+    digits_exist, document_laws, document_rows, fault_laws, goal_laws, json_exists, leaf_laws,
+    meaning_rows, number_laws, refusal_rows, same_json, text_laws, text_rows, told_meant,
+    value_laws, verdict_rows,
 };
 pub use reason::TextReason;
