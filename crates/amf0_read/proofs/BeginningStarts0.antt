@@ -13,11 +13,11 @@ use Rattle.amf_io.proofs.CursorReads.{leads_end, end_reads}
 use Rattle.amf_graph.specs.declared.value.NodeId.{NodeId}
 use Rattle.amf_graph.specs.Arena.{Arena, IsBuilt, array}
 use Rattle.amf0_spelling.specs.KeptTables0.{KeptTables0}
-use Rattle.amf0_layout.specs.Layout0State.{State0, state0_of}
-use Rattle.amf0_layout.specs.Layout0.{ValueRead0, Reader0, with_items, behind0, value0_layout}
-use Rattle.amf_fields.specs.Room.{left_of}
+use Rattle.amf0_layout_laws.specs.Layout0State.{State0, state0_of}
+use Rattle.amf0_layout_laws.specs.Layout0.{ValueRead0, Reader0, with_items, behind0, value0_layout}
+use Rattle.amf_wire_fields.specs.Room.{left_of}
 use Rattle.amf3_read.specs.Frames.{Fuel}
-use Rattle.amf_fields.proofs.LayoutBinds.{bind_give, bind_same}
+use Rattle.amf_wire_fields.proofs.LayoutBinds.{bind_give, bind_same}
 use Rattle.amf3_read.proofs.Stack.{opened_less}
 use Rattle.amf0_read.specs.declared.beginning.Beginning.{Beginning}
 use Rattle.amf0_read.specs.declared.frame.Frame.{Frame}

@@ -14,9 +14,9 @@ use Rattle.amf_io.specs.CursorReads.{Answers, Leads}
 use Rattle.amf_io.proofs.Whole.{whole_fixed}
 use Rattle.amf_io.proofs.Paths.{path_join, path_bind, flat-append}
 use Rattle.amf_io.proofs.Ables.{bytes_flat}
-use Rattle.amf3_layout.proofs.Layout3SoundOpenings.{all_below}
+use Rattle.amf3_layout_laws.proofs.Layout3SoundOpenings.{all_below}
 use Rattle.amf0_spelling.specs.Form.{call_front}
-use Rattle.amf0_layout.proofs.Layout0Forms.{code0, code0_at}
+use Rattle.amf0_layout_laws.proofs.Layout0Forms.{code0, code0_at}
 use Rattle.amf0_spelling.specs.declared.marker.Marker0.{Marker0}
 use Rattle.amf0_spelling.specs.declared.marker.Marker0.TheVariants as marker
 use Rattle.amf0_read.specs.Markers0.{marker_layout}

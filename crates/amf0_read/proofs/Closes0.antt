@@ -11,20 +11,20 @@ use Rattle.amf_io.specs.Layout.{Layout}
 use Rattle.amf_io.specs.ReadEnds.{IsPlaced}
 use Rattle.amf_io.specs.CursorReads.{Ends}
 use Rattle.amf0_spelling.specs.Segments0.{is_empty}
-use Rattle.amf0_layout.specs.Layout0State.{State0}
-use Rattle.amf0_layout.specs.Layout0.{ValueRead0}
+use Rattle.amf0_layout_laws.specs.Layout0State.{State0}
+use Rattle.amf0_layout_laws.specs.Layout0.{ValueRead0}
 use Rattle.amf0_read.specs.declared.fill.Step.{Step}
 use Rattle.amf_graph.specs.Graph as graph
 use Rattle.amf_graph.specs.Arena.{Arena, StoredNode, IsBuilt, head_content}
 use Rattle.amf_graph.specs.Building.{changed as changed_arena, shut, stored_at, kept_node, FitsNow}
-use Rattle.amf3_layout.proofs.Reader3Tables.{grows_itself, grows_twice}
+use Rattle.amf3_layout_laws.proofs.Reader3Tables.{grows_itself, grows_twice}
 use Rattle.amf0_spelling.specs.KeptTables0.{KeptTables0}
 use Rattle.amf3_read.specs.declared.opening.Parts.{Parts}
 use Rattle.amf3_read.specs.declared.opening.Parts.TheVariants as parts
 use Rattle.amf3_read.specs.declared.fill.Next.TheVariants as next
 use Rattle.amf3_read.specs.Filling.{IsOpened}
-use Rattle.amf_fields.specs.KeptText.{KeptText}
-use Rattle.amf_fields.specs.Room.{left_of}
+use Rattle.amf_wire_fields.specs.KeptText.{KeptText}
+use Rattle.amf_wire_fields.specs.Room.{left_of}
 use Rattle.amf3_read.specs.Frames.{Suits, IsNext}
 use Rattle.amf3_read.proofs.PartPut.{stays, same_head}
 use Rattle.amf3_read.proofs.Stack.{opened_less, opened_grown}

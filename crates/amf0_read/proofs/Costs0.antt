@@ -12,15 +12,15 @@ use Rattle.amf_graph.specs.Arena.{Arena, StoredHead, StoredNode}
 use Rattle.amf_graph.specs.Arena as arena
 use Rattle.amf_graph.specs.Bounds.{bytes_of, weight}
 use Rattle.amf_graph.specs.Building.{stored_at, more_value, more_name, shut}
-use Rattle.amf3_layout.specs.Layout3Words.{chunk}
-use Rattle.amf3_layout.specs.Layout3.{ValueRead, value_layout}
-use Rattle.amf3_layout.proofs.Reader3Weight.{weight_text, weight_traits, weight_begun, weight_more_value, weight_more_name, weight_shut}
-use Rattle.amf3_layout.proofs.Reader3OpeningCosts.{Costs, costs_give, costs_stuck, costs_want, costs_bind, costs_more, costs_within}
-use Rattle.amf3_layout.proofs.Reader3Costs.{value_costs}
+use Rattle.amf3_layout_laws.specs.Layout3Words.{chunk}
+use Rattle.amf3_layout_laws.specs.Layout3.{ValueRead, value_layout}
+use Rattle.amf3_layout_laws.proofs.Reader3Weight.{weight_text, weight_traits, weight_begun, weight_more_value, weight_more_name, weight_shut}
+use Rattle.amf3_layout_laws.proofs.Reader3OpeningCosts.{Costs, costs_give, costs_stuck, costs_want, costs_bind, costs_more, costs_within}
+use Rattle.amf3_layout_laws.proofs.Reader3Costs.{value_costs}
 use Rattle.amf0_spelling.specs.Segments0.{is_empty}
 use Rattle.amf0_spelling.specs.Refusals0.{marker0_kind, index0_kind}
-use Rattle.amf0_layout.specs.Layout0State.{State0, with_class, class_head, with_node0, changed0, switched}
-use Rattle.amf0_layout.specs.Layout0.{TextRead0, new_text0, short_layout, long_layout, ValueRead0, read0, end0, Reader0, items0, pairs0, shut0, with_pairs, with_items, whole0, with_members, behind0, value0_layout}
+use Rattle.amf0_layout_laws.specs.Layout0State.{State0, with_class, class_head, with_node0, changed0, switched}
+use Rattle.amf0_layout_laws.specs.Layout0.{TextRead0, new_text0, short_layout, long_layout, ValueRead0, read0, end0, Reader0, items0, pairs0, shut0, with_pairs, with_items, whole0, with_members, behind0, value0_layout}
 use Rattle.amf0_spelling.specs.declared.marker.Marker0.{Marker0}
 use Rattle.amf0_spelling.specs.declared.marker.Marker0.TheVariants as marker
 use Rattle.amf0_spelling.specs.Markers0.{marker0_at}

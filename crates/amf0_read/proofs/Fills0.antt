@@ -13,10 +13,10 @@ use Rattle.amf_graph.specs.declared.value.Value.TheVariants as value
 use Rattle.amf_graph.specs.Arena.{Arena}
 use Rattle.amf_graph.specs.Building.{stored_at, changed as changed_arena, more_part, PartNames, HasRoom}
 use Rattle.amf0_spelling.specs.KeptTables0.{KeptTables0}
-use Rattle.amf0_layout.specs.Layout0State.{state0_of}
-use Rattle.amf0_layout.specs.Layout0.{Reader0, behind0, value0_layout}
+use Rattle.amf0_layout_laws.specs.Layout0State.{state0_of}
+use Rattle.amf0_layout_laws.specs.Layout0.{Reader0, behind0, value0_layout}
 use Rattle.amf0_spelling.specs.declared.marker.Marker0.{Marker0}
-use Rattle.amf_fields.specs.Room.{left_of}
+use Rattle.amf_wire_fields.specs.Room.{left_of}
 use Rattle.amf3_read.specs.Frames.{Fuel, Enough}
 use Rattle.amf0_read.specs.declared.frame.Todo.{Todo}
 use Rattle.amf0_read.specs.declared.frame.Role.{Role}

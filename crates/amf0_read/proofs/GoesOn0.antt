@@ -12,15 +12,15 @@ use Rattle.amf_graph.specs.declared.value.TextId.{TextId}
 use Rattle.amf_graph.specs.declared.value.Value.TheVariants as value
 use Rattle.amf_graph.specs.Arena.{Arena, text_at}
 use Rattle.amf_graph.specs.Building.{changed as changed_arena, shut, more_value, more_name}
-use Rattle.amf3_layout.specs.Layout3State.{state_of}
-use Rattle.amf3_layout.proofs.Reader3States.{shut_state}
+use Rattle.amf3_layout_laws.specs.Layout3State.{state_of}
+use Rattle.amf3_layout_laws.proofs.Reader3States.{shut_state}
 use Rattle.amf0_spelling.specs.KeptTables0.{KeptTables0}
 use Rattle.amf0_spelling.specs.Segments0.{is_empty}
-use Rattle.amf0_layout.specs.Layout0State.{State0, state0_of, changed0}
-use Rattle.amf0_layout.specs.Layout0.{TextRead0, ValueRead0, read0, Reader0, short_layout, items0, pairs0, shut0, behind0, value0_layout}
-use Rattle.amf_fields.specs.Room.{left_of}
+use Rattle.amf0_layout_laws.specs.Layout0State.{State0, state0_of, changed0}
+use Rattle.amf0_layout_laws.specs.Layout0.{TextRead0, ValueRead0, read0, Reader0, short_layout, items0, pairs0, shut0, behind0, value0_layout}
+use Rattle.amf_wire_fields.specs.Room.{left_of}
 use Rattle.amf3_read.specs.Frames.{Fuel, Enough}
-use Rattle.amf_fields.proofs.LayoutBinds.{bind_bind, bind_same}
+use Rattle.amf_wire_fields.proofs.LayoutBinds.{bind_bind, bind_same}
 use Rattle.amf3_read.proofs.Stack.{leads_bound}
 use Rattle.amf0_read.specs.declared.frame.Todo.TheVariants.{Items, Pairs}
 use Rattle.amf0_read.specs.declared.frame.Role.TheVariants.{Item, Named}

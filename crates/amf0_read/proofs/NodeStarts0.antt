@@ -12,18 +12,18 @@ use Rattle.amf_graph.specs.Graph as graph
 use Rattle.amf_graph.specs.Arena.{Arena, StoredHead, StoredNode, IsBuilt, Names, array, object, head_content}
 use Rattle.amf_graph.specs.Building.{kept_traits, begun, closed}
 use Rattle.amf3_spelling.specs.Reads3.{Grows}
-use Rattle.amf3_layout.specs.Layout3State.{state_of, takes_parts}
-use Rattle.amf3_layout.specs.Layout3.{read, value_layout}
-use Rattle.amf3_layout.proofs.Layout3Reads.{reads}
-use Rattle.amf3_layout.proofs.Layout3Contents.{all_more}
-use Rattle.amf3_layout.proofs.Reader3Tables.{grows_itself, grows_twice, grows_traits, grows_node, tables_after_node, tables_after_traits}
+use Rattle.amf3_layout_laws.specs.Layout3State.{state_of, takes_parts}
+use Rattle.amf3_layout_laws.specs.Layout3.{read, value_layout}
+use Rattle.amf3_layout_laws.proofs.Layout3Reads.{reads}
+use Rattle.amf3_layout_laws.proofs.Layout3Contents.{all_more}
+use Rattle.amf3_layout_laws.proofs.Reader3Tables.{grows_itself, grows_twice, grows_traits, grows_node, tables_after_node, tables_after_traits}
 use Rattle.amf_graph.proofs.Built.{built_traits}
 use Rattle.amf3_spelling.specs.KeptTables.{KeptTables, AreTablesIn}
 use Rattle.amf0_spelling.specs.KeptTables0.{KeptTables0, AreTables0In}
-use Rattle.amf0_layout.specs.Layout0State.{state0_of, switched, with_done0}
-use Rattle.amf0_layout.specs.Layout0.{read0, Reader0, with_pairs, with_items, with_members, whole0}
-use Rattle.amf_fields.specs.KeptText.{KeptText}
-use Rattle.amf_fields.specs.Room.{left_of}
+use Rattle.amf0_layout_laws.specs.Layout0State.{state0_of, switched, with_done0}
+use Rattle.amf0_layout_laws.specs.Layout0.{read0, Reader0, with_pairs, with_items, with_members, whole0}
+use Rattle.amf_wire_fields.specs.KeptText.{KeptText}
+use Rattle.amf_wire_fields.specs.Room.{left_of}
 use Rattle.amf3_read.specs.Ready.{Ready, Continues}
 use Rattle.amf3_read.specs.declared.opening.Parts.TheVariants as parts
 use Rattle.amf3_read.proofs.NodeStarts.{shaped_suits}

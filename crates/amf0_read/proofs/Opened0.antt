@@ -10,13 +10,13 @@ use Rattle.amf_graph.specs.Building.{kept_node, stored_at, begun, shape_head, si
 use Rattle.amf_graph.proofs.Built.{built_node}
 use Rattle.amf_graph.proofs.Begun.{begun_in}
 use Rattle.amf3_spelling.specs.Reads3.{Grows}
-use Rattle.amf3_layout.proofs.Layout3Contents.{Larger, head_stays, all_append, all_more, distinct_more}
-use Rattle.amf3_layout.proofs.Reader3Tables.{larger_node, open_there, tables_after_node}
-use Rattle.amf3_layout.proofs.Reader3Calls.{node_opened}
+use Rattle.amf3_layout_laws.proofs.Layout3Contents.{Larger, head_stays, all_append, all_more, distinct_more}
+use Rattle.amf3_layout_laws.proofs.Reader3Tables.{larger_node, open_there, tables_after_node}
+use Rattle.amf3_layout_laws.proofs.Reader3Calls.{node_opened}
 use Rattle.amf0_spelling.specs.KeptTables0.{KeptTables0, AreTables0In}
 use Rattle.amf0_spelling.specs.TableParts0.{kept_node0}
 use Rattle.amf3_read.specs.Filling.{IsOpened}
-use Rattle.amf_fields.specs.Room.{left_of}
+use Rattle.amf_wire_fields.specs.Room.{left_of}
 use Rattle.amf0_read.specs.declared.frame.Todo.{Todo}
 use Rattle.amf0_read.specs.Opens0.{Opens}
 use Rattle.amf0_read.specs.Ready0.{StillReady0}

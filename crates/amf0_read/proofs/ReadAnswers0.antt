@@ -14,12 +14,12 @@ use Rattle.amf0_spelling.specs.declared.form.Form.{Form}
 use Rattle.amf0_spelling.specs.KeptTables0.{KeptTables0, AreTables0In}
 use Rattle.amf0_spelling.specs.Reads0.{IsReading0}
 use Rattle.amf0_spelling.specs.Form.{IsForm}
-use Rattle.amf0_layout.specs.Layout0State.{state0_of}
-use Rattle.amf0_layout.specs.Layout0.{ValueRead0, read0, value0_layout}
-use Rattle.amf0_layout.proofs.Layout0Format.{reads0, is_layout0}
+use Rattle.amf0_layout_laws.specs.Layout0State.{state0_of}
+use Rattle.amf0_layout_laws.specs.Layout0.{ValueRead0, read0, value0_layout}
+use Rattle.amf0_layout_laws.proofs.Layout0Format.{reads0, is_layout0}
 use Rattle.amf_io.specs.Stretch.{between}
-use Rattle.amf_fields.specs.Room.{Raises, left_of}
-use Rattle.amf_fields.proofs.LayoutVerdicts.{answers_taken, answers_ended}
+use Rattle.amf_wire_fields.specs.Room.{Raises, left_of}
+use Rattle.amf_wire_fields.proofs.LayoutVerdicts.{answers_taken, answers_ended}
 use Rattle.std.specs.Result.{IsErrAnd}
 use Rattle.amf0_read.specs.declared.frame.Frame.{Frame}
 use Rattle.amf0_read.specs.declared.frame.Now.{Now}

@@ -17,18 +17,18 @@ use Rattle.amf_graph.specs.Graph as graph
 use Rattle.amf_graph.specs.Arena.{Arena, StoredNode, IsBuilt, Names, head_content}
 use Rattle.amf_graph.specs.Building.{stored_at, changed as changed_arena, more_part, PartNames, Takes, HasRoom, size_of}
 use Rattle.amf3_spelling.specs.Reads3.{Grows}
-use Rattle.amf3_layout.specs.Layout3State.{State3, state_of}
-use Rattle.amf3_layout.proofs.Reader3Tables.{grows_itself, text_id_after_growth}
-use Rattle.amf3_layout.proofs.Reader3States.{more_value_state, more_name_state}
+use Rattle.amf3_layout_laws.specs.Layout3State.{State3, state_of}
+use Rattle.amf3_layout_laws.proofs.Reader3Tables.{grows_itself, text_id_after_growth}
+use Rattle.amf3_layout_laws.proofs.Reader3States.{more_value_state, more_name_state}
 use Rattle.amf0_spelling.specs.KeptTables0.{KeptTables0, AreTables0In}
-use Rattle.amf0_layout.specs.Layout0State.{State0, state0_of}
-use Rattle.amf0_layout.specs.Layout0.{ValueRead0, read0, Reader0, behind0, value0_layout}
+use Rattle.amf0_layout_laws.specs.Layout0State.{State0, state0_of}
+use Rattle.amf0_layout_laws.specs.Layout0.{ValueRead0, read0, Reader0, behind0, value0_layout}
 use Rattle.amf3_read.specs.declared.opening.Parts.TheVariants as parts
 use Rattle.amf3_read.specs.declared.frame.Role.TheVariants as role3
 use Rattle.amf3_read.specs.Filling.{with_more, IsOpened}
-use Rattle.amf_fields.specs.Room.{left_of}
+use Rattle.amf_wire_fields.specs.Room.{left_of}
 use Rattle.amf3_read.specs.Frames.{Fuel, Enough}
-use Rattle.amf_fields.proofs.LayoutBinds.{bind_bind}
+use Rattle.amf_wire_fields.proofs.LayoutBinds.{bind_bind}
 use Rattle.amf3_read.proofs.PartPut.{part_names, part_values, more_size, stays, same_head, put_node, put_built, put_tables, put_opened, put_head, put_nodes}
 use Rattle.amf3_read.proofs.Stack.{opened_less, opened_grown, suits_more, takes, enough_less, leads_bound}
 use Rattle.amf0_read.specs.declared.frame.Todo.{Todo}

@@ -9,8 +9,8 @@ use Rattle.amf_io.specs.ReadEnds.{IsPlaced, GoesBy}
 use Rattle.amf_io.specs.CursorReads.{Answers, Ends, Leads}
 use Rattle.amf_io.proofs.CursorReads.{gives, then_reads, end_reads, leads_behind}
 use Rattle.amf_graph.specs.declared.value.Value.{Value as Stored}
-use Rattle.amf0_layout.specs.Layout0State.{State0}
-use Rattle.amf0_layout.specs.Layout0.{ValueRead0, read0, Reader0, behind0}
+use Rattle.amf0_layout_laws.specs.Layout0State.{State0}
+use Rattle.amf0_layout_laws.specs.Layout0.{ValueRead0, read0, Reader0, behind0}
 use Rattle.amf0_spelling.specs.declared.marker.Marker0.{Marker0}
 use Rattle.amf0_read.specs.declared.node.Start.{Start}
 use Rattle.amf0_read.specs.Frames0.{StartsBy}

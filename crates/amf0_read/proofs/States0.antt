@@ -4,13 +4,13 @@ use Rattle.amf_graph.specs.Arena.{StoredTraits, StoredHead, StoredNode, Arena, I
 use Rattle.amf_graph.specs.Arena as arena
 use Rattle.amf_graph.specs.Building.{kept_text, kept_traits, kept_node, begun}
 use Rattle.amf3_spelling.specs.KeptTables.{KeptTables, AreTablesIn, tables_of}
-use Rattle.amf3_layout.specs.Layout3State.{State3, state_of, with_nodes, takes_parts}
-use Rattle.amf3_layout.proofs.Layout3Contents.{marks_of, marks_more, words_stay}
-use Rattle.amf3_layout.proofs.Reader3Tables.{larger_traits, tables_after_traits}
-use Rattle.amf3_layout.proofs.Reader3States.{contents_state}
+use Rattle.amf3_layout_laws.specs.Layout3State.{State3, state_of, with_nodes, takes_parts}
+use Rattle.amf3_layout_laws.proofs.Layout3Contents.{marks_of, marks_more, words_stay}
+use Rattle.amf3_layout_laws.proofs.Reader3Tables.{larger_traits, tables_after_traits}
+use Rattle.amf3_layout_laws.proofs.Reader3States.{contents_state}
 use Rattle.amf0_spelling.specs.KeptTables0.{KeptTables0}
 use Rattle.amf0_spelling.specs.TableParts0.{kept_node0}
-use Rattle.amf0_layout.specs.Layout0State.{State0, state0_of, with_text0, with_traits, with_done0, with_node0, with_class, class_head}
+use Rattle.amf0_layout_laws.specs.Layout0State.{State0, state0_of, with_text0, with_traits, with_done0, with_node0, with_class, class_head}
 use Rattle.amf0_read.specs.Opens0.{KeepsLeaf, Opens, OpensObject, dynamic_traits}
 
 -- with the tables as they are

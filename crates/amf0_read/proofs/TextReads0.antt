@@ -14,18 +14,18 @@ use Rattle.amf_graph.specs.Graph as graph
 use Rattle.amf_graph.specs.Arena.{Arena, StoredNode, IsBuilt, IsTextId, text_at, head_content}
 use Rattle.amf_graph.specs.Building.{kept_text, stored_at}
 use Rattle.amf3_spelling.specs.Reads3.{Grows}
-use Rattle.amf3_layout.proofs.Reader3Tables.{tables_after_text, grows_text}
-use Rattle.amf3_layout.proofs.Reader3Calls.{tables_are, grows_are}
+use Rattle.amf3_layout_laws.proofs.Reader3Tables.{tables_after_text, grows_text}
+use Rattle.amf3_layout_laws.proofs.Reader3Calls.{tables_are, grows_are}
 use Rattle.amf3_spelling.specs.KeptTables.{AreTablesIn}
-use Rattle.amf3_layout.specs.Layout3Words.{chunk}
+use Rattle.amf3_layout_laws.specs.Layout3Words.{chunk}
 use Rattle.amf0_spelling.specs.KeptTables0.{KeptTables0, AreTables0In}
-use Rattle.amf0_layout.specs.Layout0.{TextRead0, new_text0}
-use Rattle.amf0_layout.specs.Layout0State.{State0, state0_of}
-use Rattle.amf_fields.specs.KeptText.{KeptText}
-use Rattle.amf_fields.proofs.LayoutBinds.{chunk_reads, chunk_ends}
+use Rattle.amf0_layout_laws.specs.Layout0.{TextRead0, new_text0}
+use Rattle.amf0_layout_laws.specs.Layout0State.{State0, state0_of}
+use Rattle.amf_wire_fields.specs.KeptText.{KeptText}
+use Rattle.amf_wire_fields.proofs.LayoutBinds.{chunk_reads, chunk_ends}
 use Rattle.amf3_read.specs.declared.opening.Parts.TheVariants as parts
 use Rattle.amf3_read.specs.Filling.{IsOpened}
-use Rattle.amf_fields.specs.Room.{left_of}
+use Rattle.amf_wire_fields.specs.Room.{left_of}
 use Rattle.amf3_read.proofs.TextReads.{new_text_there}
 use Rattle.amf3_read.proofs.PartPut.{stays, same_head}
 use Rattle.amf3_read.proofs.GoesOn.{suits_name}

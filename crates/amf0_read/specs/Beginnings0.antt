@@ -9,9 +9,9 @@ use Rattle.amf_io.specs.CursorReads.{Ends, Leads}
 use Rattle.amf0_spelling.specs.declared.form.Form.{Form}
 use Rattle.amf0_spelling.specs.declared.form.Form.TheVariants as form
 use Rattle.amf0_spelling.specs.Form.{call_front}
-use Rattle.amf0_layout.specs.Layout0State.{State0}
-use Rattle.amf0_layout.specs.Layout0.{ValueRead0, behind0, value0_layout}
-use Rattle.amf_fields.specs.Room.{left_of}
+use Rattle.amf0_layout_laws.specs.Layout0State.{State0}
+use Rattle.amf0_layout_laws.specs.Layout0.{ValueRead0, behind0, value0_layout}
+use Rattle.amf_wire_fields.specs.Room.{left_of}
 use Rattle.amf3_read.specs.Frames.{Fuel, Enough}
 use Rattle.amf0_read.specs.declared.beginning.Beginning.{Beginning}
 use Rattle.amf0_read.specs.declared.frame.Frame.{Frame}

@@ -20,12 +20,12 @@ use Rattle.amf0_spelling.specs.declared.marker.Marker0.{Marker0}
 use Rattle.amf0_spelling.specs.declared.tables0.Tables0.{Tables0}
 use Rattle.amf0_spelling.specs.TableParts0.{shown_tables}
 use Rattle.amf0_spelling.specs.KeptTables0.{KeptTables0}
-use Rattle.amf0_layout.specs.Layout0State.{State0, state0_of, changed0}
-use Rattle.amf0_layout.specs.Layout0.{ValueRead0, read0, Reader0, items0, pairs0, shut0, behind0, value0_layout}
+use Rattle.amf0_layout_laws.specs.Layout0State.{State0, state0_of, changed0}
+use Rattle.amf0_layout_laws.specs.Layout0.{ValueRead0, read0, Reader0, items0, pairs0, shut0, behind0, value0_layout}
 use Rattle.amf3_read.specs.declared.opening.Parts.TheVariants as parts
 use Rattle.amf3_read.specs.declared.frame.Role.TheVariants as role3
 use Rattle.amf3_read.specs.Filling.{IsOpened}
-use Rattle.amf_fields.specs.Room.{left_of}
+use Rattle.amf_wire_fields.specs.Room.{left_of}
 use Rattle.amf3_read.specs.Frames.{Fuel, Enough, Suits, WaitsFor}
 use Rattle.amf0_read.specs.declared.frame.Todo.{Todo}
 use Rattle.amf0_read.specs.declared.frame.Todo.TheVariants.{Items, Pairs}

@@ -12,9 +12,9 @@ use Rattle.amf_graph.specs.Arena.{Arena, IsBuilt, text_at}
 use Rattle.amf_graph.specs.Order.{IsDistinct}
 use Rattle.amf3_spelling.specs.KeptTables.{AreTablesIn}
 use Rattle.amf0_spelling.specs.KeptTables0.{KeptTables0, AreTables0In}
-use Rattle.amf0_layout.specs.Layout0.{TextRead0}
-use Rattle.amf0_layout.specs.Layout0State.{State0, state0_of}
-use Rattle.amf_fields.specs.Room.{left_of}
+use Rattle.amf0_layout_laws.specs.Layout0.{TextRead0}
+use Rattle.amf0_layout_laws.specs.Layout0State.{State0, state0_of}
+use Rattle.amf_wire_fields.specs.Room.{left_of}
 use Rattle.amf3_read.specs.Ready.{Ready}
 
 -- the tables are the builder's, and it has room for all that the bytes to come, and so many before them, may add

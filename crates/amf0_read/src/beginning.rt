@@ -1,8 +1,8 @@
 ghost use Rattle.std.specs.Prelude.{ℕ, ◌<◌, reverse, IfOk};
 ghost use Rattle.amf_io.specs.ReadEnds.{Goes};
-ghost use Rattle.amf0_layout.specs.Layout0.{value0_layout};
+ghost use Rattle.amf0_layout_laws.specs.Layout0.{value0_layout};
 ghost use Rattle.amf0_spelling.specs.TableParts0.{shown_tables};
-ghost use Rattle.amf_fields.specs.Room.{left_of};
+ghost use Rattle.amf_wire_fields.specs.Room.{left_of};
 ghost use Rattle.amf0_read.specs.Ready0.{Ready0, StillReady0};
 ghost use Rattle.amf0_read.specs.Frames0.{Holds, owed, state_in};
 ghost use Rattle.amf0_read.specs.Beginnings0.{LeadsOn, LeadsItems};

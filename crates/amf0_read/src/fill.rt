@@ -5,7 +5,7 @@ ghost use Rattle.amf_graph.specs.Arena.{head_content};
 ghost use Rattle.amf_graph.specs.Building.{stored_at};
 ghost use Rattle.amf0_spelling.specs.TableParts0.{shown_tables};
 ghost use Rattle.amf3_read.specs.Filling.{IsOpened};
-ghost use Rattle.amf_fields.specs.Room.{left_of};
+ghost use Rattle.amf_wire_fields.specs.Room.{left_of};
 ghost use Rattle.amf0_read.specs.Ready0.{Ready0, StillReady0};
 ghost use Rattle.amf0_read.specs.Frames0.{Lacks, GoesOnWith, state_in, StepHolds, StepMoves, owed_at, IsOpenAlone, Fills, FilledMoves};
 
@@ -13,9 +13,9 @@ use crate::frame::{Role, Todo};
 use crate::marker::{read_marker, read_marker_or_end};
 use crate::node::{Start, start_value};
 use crate::text::read_short_text;
-use amf_fields::kept;
 use amf_graph::{Builder, NodeId};
 use amf_io::{Cursor, ReadEnd, Source};
+use amf_wire_fields::kept;
 use amf0_spelling::{Marker0, Tables0};
 use std::alloc::Global;
 

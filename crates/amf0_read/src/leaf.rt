@@ -4,10 +4,10 @@ ghost use Rattle.amf_io.specs.CursorReads.{Answers};
 ghost use Rattle.amf0_spelling.specs.TableParts0.{shown_tables};
 ghost use Rattle.amf0_read.specs.Leaves0.{place_layout, time_layout, count_layout};
 
-use amf_fields::{FieldSize, read_field};
 use amf_graph::NodeId;
 use amf_io::{Cursor, ReadEnd, Reason, Source, refused};
 use amf_wire::Pattern;
+use amf_wire_fields::{FieldSize, read_field};
 use amf0_spelling::Tables0;
 
 /// Reads the index of a node of the table (AMF 0, 2.9).

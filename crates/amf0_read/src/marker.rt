@@ -7,8 +7,8 @@ ghost use Rattle.amf0_spelling.specs.Refusals0.{marker0_refusal};
 ghost use Rattle.amf0_spelling.specs.TableParts0.{shown_tables};
 ghost use Rattle.amf0_read.specs.Markers0.{marker_layout};
 
-use amf_fields::{FieldSize, read_field};
 use amf_io::{Cursor, ReadEnd, Reason, Source, refused};
+use amf_wire_fields::{FieldSize, read_field};
 use amf0_spelling::{Marker0, Tables0};
 
 /// The marker that ends the pairs of a node, behind an empty name.

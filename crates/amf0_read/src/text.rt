@@ -2,14 +2,14 @@ ghost use Rattle.std.specs.Prelude.{◌≡◌, ◌+◌, ◌<◌, ◌≤◌, [], 
 ghost use Rattle.amf_graph.specs.Arena.{IsBuilt, text_at};
 ghost use Rattle.amf_io.specs.ReadEnds.{IsPlaced, Goes};
 ghost use Rattle.amf_io.specs.Cursor.{place};
-ghost use Rattle.amf_fields.specs.Room.{room_end, left_of};
-ghost use Rattle.amf0_layout.specs.Layout0.{short_layout, long_layout};
-ghost use Rattle.amf_fields.specs.KeptText.{KeptText};
+ghost use Rattle.amf_wire_fields.specs.Room.{room_end, left_of};
+ghost use Rattle.amf0_layout_laws.specs.Layout0.{short_layout, long_layout};
+ghost use Rattle.amf_wire_fields.specs.KeptText.{KeptText};
 ghost use Rattle.amf0_read.specs.Ready0.{AnswersText0};
 
-use amf_fields::{FieldSize, kept, read_field, read_loose_text};
 use amf_graph::{Builder, TextId};
 use amf_io::{Cursor, ReadEnd, Source};
+use amf_wire_fields::{FieldSize, kept, read_field, read_loose_text};
 use std::alloc::Global;
 
 /// Reads a text behind its length of 16 bits, as names are too (AMF 0, 1.3.1). Its ends are those of [`read0`].

@@ -6,8 +6,8 @@ use Rattle.amf_io.specs.declared.cursor.Cursor.{Cursor}
 use Rattle.amf_io.specs.declared.ends.ReadEnd.{ReadEnd}
 use Rattle.amf_io.specs.Layout.{Layout}
 use Rattle.amf_io.specs.CursorReads.{Ends}
-use Rattle.amf3_layout.specs.Layout3State.{State3}
-use Rattle.amf3_layout.specs.Layout3.{ValueRead, is_empty}
+use Rattle.amf3_layout_laws.specs.Layout3State.{State3}
+use Rattle.amf3_layout_laws.specs.Layout3.{ValueRead, is_empty}
 use Rattle.amf3_read.specs.declared.opening.Parts.{Parts}
 use Rattle.amf3_read.specs.declared.fill.Step.{Step}
 use Rattle.amf3_read.specs.declared.node.Start.{Start}

@@ -18,12 +18,12 @@ use Rattle.amf_graph.specs.Building.{stored_at, changed as changed_arena, shut, 
 use Rattle.amf_graph.proofs.Built.{built_changed, stands}
 use Rattle.amf_graph.proofs.Begun.{shut_in}
 use Rattle.amf3_spelling.specs.KeptTables.{KeptTables, AreTablesIn}
-use Rattle.amf3_layout.specs.Layout3State.{State3, state_of, changed}
-use Rattle.amf3_layout.specs.Layout3Words.{TextRead, text_layout}
-use Rattle.amf3_layout.specs.Layout3.{ValueRead, read, is_empty, pairs, items, entries}
-use Rattle.amf3_layout.proofs.Reader3Tables.{grows_itself, tables_after_change}
-use Rattle.amf3_layout.proofs.Reader3Calls.{node_closed}
-use Rattle.amf3_layout.proofs.Reader3States.{shut_state}
+use Rattle.amf3_layout_laws.specs.Layout3State.{State3, state_of, changed}
+use Rattle.amf3_layout_laws.specs.Layout3Words.{TextRead, text_layout}
+use Rattle.amf3_layout_laws.specs.Layout3.{ValueRead, read, is_empty, pairs, items, entries}
+use Rattle.amf3_layout_laws.proofs.Reader3Tables.{grows_itself, tables_after_change}
+use Rattle.amf3_layout_laws.proofs.Reader3Calls.{node_closed}
+use Rattle.amf3_layout_laws.proofs.Reader3States.{shut_state}
 use Rattle.amf3_read.specs.declared.opening.Parts.{Parts}
 use Rattle.amf3_read.specs.declared.opening.Parts.TheVariants.{Array, Object, Items, Entries}
 use Rattle.amf3_read.specs.declared.frame.Role.{Role}
@@ -32,10 +32,10 @@ use Rattle.amf3_read.specs.declared.fill.Next.{Next}
 use Rattle.amf3_read.specs.declared.fill.Next.TheVariants as next
 use Rattle.amf3_read.specs.declared.fill.Step.TheVariants as step
 use Rattle.amf3_read.specs.Filling.{IsOpened}
-use Rattle.amf_fields.specs.Room.{left_of}
+use Rattle.amf_wire_fields.specs.Room.{left_of}
 use Rattle.amf3_read.specs.Ready.{Ready, Continues, text_read}
 use Rattle.amf3_read.specs.Frames.{todo, resume, closed_node, LacksItems, Suits, WaitsFor, RoleNames, spare, StillReady, GoesOn, StepHolds, IsNext, IsBehindPairs}
-use Rattle.amf_fields.proofs.LayoutBinds.{bind_bind, bind_same}
+use Rattle.amf_wire_fields.proofs.LayoutBinds.{bind_bind, bind_same}
 use Rattle.amf3_read.proofs.PartPut.{there, stays, same_head}
 
 -- Where a name comes next, pairs stand before what is behind them.

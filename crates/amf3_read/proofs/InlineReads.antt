@@ -14,11 +14,11 @@ use Rattle.amf_graph.specs.Arena.{Arena, StoredNode, StoredHead}
 use Rattle.amf_graph.specs.Building.{no_stored, stored_at, shut}
 use Rattle.amf_graph.specs.declared.kind.NodeKind.{NodeKind}
 use Rattle.amf3_spelling.specs.KeptTables.{KeptTables}
-use Rattle.amf3_layout.specs.Layout3State.{State3, state_of, with_node, begun, takes_parts, changed}
-use Rattle.amf3_layout.specs.Layout3Words as layout
-use Rattle.amf3_layout.specs.Layout3.{ValueRead, read, opening, whole_node, items_of, pairs_if, parts, inline_node}
-use Rattle.amf3_layout.proofs.Reader3Tables.{grows_twice, grows_node}
-use Rattle.amf3_layout.proofs.Reader3Calls.{grows_are}
+use Rattle.amf3_layout_laws.specs.Layout3State.{State3, state_of, with_node, begun, takes_parts, changed}
+use Rattle.amf3_layout_laws.specs.Layout3Words as layout
+use Rattle.amf3_layout_laws.specs.Layout3.{ValueRead, read, opening, whole_node, items_of, pairs_if, parts, inline_node}
+use Rattle.amf3_layout_laws.proofs.Reader3Tables.{grows_twice, grows_node}
+use Rattle.amf3_layout_laws.proofs.Reader3Calls.{grows_are}
 use Rattle.amf3_read.specs.declared.node.Entered.{Entered}
 use Rattle.amf3_read.specs.Ready.{Ready, Continues}
 use Rattle.amf3_read.specs.Begins.{Begins, has_parts}

@@ -22,10 +22,10 @@ use Rattle.amf3_spelling.specs.KeptTables.{KeptTables}
 use Rattle.amf3_spelling.specs.Reads3.{Grows}
 use Rattle.amf3_spelling.specs.Refusals3.{header_refusal, header_kind}
 use Rattle.amf3_spelling.specs.declared.marker.Marker.{Marker}
-use Rattle.amf3_layout.specs.Layout3State.{State3, state_of, begun}
-use Rattle.amf3_layout.specs.Layout3Words as layout
-use Rattle.amf3_layout.specs.Layout3.{ValueRead, read, known_node, opening, parts, inline_node, node_layout, behind_marker, value_layout}
-use Rattle.amf3_layout.proofs.Reader3Tables.{grows_itself, open_there, open_place}
+use Rattle.amf3_layout_laws.specs.Layout3State.{State3, state_of, begun}
+use Rattle.amf3_layout_laws.specs.Layout3Words as layout
+use Rattle.amf3_layout_laws.specs.Layout3.{ValueRead, read, known_node, opening, parts, inline_node, node_layout, behind_marker, value_layout}
+use Rattle.amf3_layout_laws.proofs.Reader3Tables.{grows_itself, open_there, open_place}
 use Rattle.amf3_read.specs.declared.opening.Parts.{Parts}
 use Rattle.amf3_read.specs.declared.opening.Parts.TheVariants.{Array, Object, Items, Entries}
 use Rattle.amf3_read.specs.declared.node.Entered.{Entered}
@@ -33,11 +33,11 @@ use Rattle.amf3_read.specs.declared.node.Start.{Start}
 use Rattle.amf3_read.specs.declared.node.Start.TheVariants as start
 use Rattle.amf3_read.specs.Steps.{marker_layout}
 use Rattle.amf3_read.specs.Filling.{IsEmptyNode}
-use Rattle.amf_fields.specs.Room.{left_of}
+use Rattle.amf_wire_fields.specs.Room.{left_of}
 use Rattle.amf3_read.specs.Ready.{Ready}
 use Rattle.amf3_read.specs.Begins.{Begins, has_parts, IsShaped, IsBegun}
 use Rattle.amf3_read.specs.Frames.{todo, Suits, StillReady, Starts, StartsBy, StartHolds}
-use Rattle.amf_fields.proofs.LayoutBinds.{bind_give}
+use Rattle.amf_wire_fields.proofs.LayoutBinds.{bind_give}
 use Rattle.amf3_read.proofs.InlineReads.{parts_at, whole_continues, parts_are}
 use Rattle.amf3_read.proofs.TextReads.{odd_test}
 

@@ -11,9 +11,9 @@ use Rattle.amf_graph.proofs.Built.{built_changed, stands}
 use Rattle.amf_graph.proofs.Begun.{part_in}
 use Rattle.amf3_spelling.specs.KeptTables.{KeptTables, AreTablesIn}
 use Rattle.amf3_spelling.specs.Reads3.{Grows}
-use Rattle.amf3_layout.proofs.Layout3Contents.{Larger, larger_twice, head_stays}
-use Rattle.amf3_layout.proofs.Reader3Tables.{grows_twice, grows_larger, grows_stays, tables_after_change, larger_changed, open_place}
-use Rattle.amf3_layout.proofs.Reader3Calls.{part_put}
+use Rattle.amf3_layout_laws.proofs.Layout3Contents.{Larger, larger_twice, head_stays}
+use Rattle.amf3_layout_laws.proofs.Reader3Tables.{grows_twice, grows_larger, grows_stays, tables_after_change, larger_changed, open_place}
+use Rattle.amf3_layout_laws.proofs.Reader3Calls.{part_put}
 use Rattle.amf3_read.specs.Filling.{with_more, IsOpened}
 
 -- the names and the values that a part is

@@ -23,10 +23,10 @@ use Rattle.amf_graph.specs.Arena.{Arena, StoredNode, IsBuilt, Names, head_conten
 use Rattle.amf_graph.specs.Building.{kept_node, stored_at, changed as changed_arena, more_part, PartNames, Takes, HasRoom, size_of}
 use Rattle.amf3_spelling.specs.KeptTables.{KeptTables}
 use Rattle.amf3_spelling.specs.Reads3.{Grows}
-use Rattle.amf3_layout.specs.Layout3State.{State3, state_of}
-use Rattle.amf3_layout.specs.Layout3.{ValueRead, read, value_layout}
-use Rattle.amf3_layout.proofs.Reader3Tables.{grows_itself, grows_twice, names_after_growth, text_id_after_growth}
-use Rattle.amf3_layout.proofs.Reader3States.{more_value_state, more_name_state, more_entry_state}
+use Rattle.amf3_layout_laws.specs.Layout3State.{State3, state_of}
+use Rattle.amf3_layout_laws.specs.Layout3.{ValueRead, read, value_layout}
+use Rattle.amf3_layout_laws.proofs.Reader3Tables.{grows_itself, grows_twice, names_after_growth, text_id_after_growth}
+use Rattle.amf3_layout_laws.proofs.Reader3States.{more_value_state, more_name_state, more_entry_state}
 use Rattle.amf3_read.specs.declared.opening.Parts.{Parts}
 use Rattle.amf3_read.specs.declared.opening.Parts.TheVariants.{Array, Object, Items, Entries}
 use Rattle.amf3_read.specs.declared.frame.Role.{Role}
@@ -39,11 +39,11 @@ use Rattle.amf3_read.specs.declared.node.Start.TheVariants as start
 use Rattle.amf3_read.specs.declared.fill.Step.TheVariants as step
 use Rattle.amf3_read.specs.Roles.{IsPart}
 use Rattle.amf3_read.specs.Filling.{with_more, IsOpened}
-use Rattle.amf_fields.specs.Room.{left_of}
+use Rattle.amf_wire_fields.specs.Room.{left_of}
 use Rattle.amf3_read.specs.Ready.{Ready, Continues}
 use Rattle.amf3_read.specs.Frames.{todo, resume, Fuel, rest, Enough, HaveFuel, LacksItems, Suits, WaitsFor, RoleNames, spare, Waits, Nested, IsAt, StillReady, Starts, StartHolds, GoesOn, StepHolds, StackSo}
 use Rattle.amf3_read.specs.Follows.{Follows, IsWaiting, entry_of}
-use Rattle.amf_fields.proofs.LayoutBinds.{bind_give, bind_bind}
+use Rattle.amf_wire_fields.proofs.LayoutBinds.{bind_give, bind_bind}
 use Rattle.amf3_read.proofs.PartPut.{part_names, part_values, more_size, there, stays, still_open, same_head, put_node, put_built, put_tables, put_opened, put_head, put_nodes}
 
 -- The frames below are left alone.

@@ -10,13 +10,13 @@ use Rattle.amf_graph.specs.Building.{stored_at}
 use Rattle.amf_graph.specs.declared.kind.NodeKind.{NodeKind}
 use Rattle.amf3_spelling.specs.KeptTables.{KeptTables}
 use Rattle.amf3_spelling.specs.Reads3.{Grows}
-use Rattle.amf3_layout.specs.Layout3State.{state_of, with_node, takes_parts}
-use Rattle.amf3_layout.specs.Layout3Words as layout
-use Rattle.amf3_layout.specs.Layout3.{opening, whole_node}
+use Rattle.amf3_layout_laws.specs.Layout3State.{state_of, with_node, takes_parts}
+use Rattle.amf3_layout_laws.specs.Layout3Words as layout
+use Rattle.amf3_layout_laws.specs.Layout3.{opening, whole_node}
 use Rattle.amf3_read.specs.declared.opening.Parts.{Parts}
 use Rattle.amf3_read.specs.declared.opening.Parts.TheVariants.{Array, Object, Items, Entries}
 use Rattle.amf3_read.specs.declared.node.Entered.{Entered}
-use Rattle.amf_fields.specs.Room.{left_of}
+use Rattle.amf_wire_fields.specs.Room.{left_of}
 use Rattle.amf3_read.specs.Filling.{IsOpened, IsEmptyNode}
 
 -- the values to come, as the layouts have them

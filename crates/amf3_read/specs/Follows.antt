@@ -9,15 +9,15 @@ use Rattle.amf_graph.specs.Arena.{Arena}
 use Rattle.amf_graph.specs.declared.value.NodeId.{NodeId}
 use Rattle.amf_graph.specs.declared.value.Value.{Value}
 use Rattle.amf3_spelling.specs.KeptTables.{KeptTables}
-use Rattle.amf3_layout.specs.Layout3State.{state_of}
-use Rattle.amf3_layout.specs.Layout3.{value_layout}
+use Rattle.amf3_layout_laws.specs.Layout3State.{state_of}
+use Rattle.amf3_layout_laws.specs.Layout3.{value_layout}
 use Rattle.amf3_read.specs.declared.frame.Frame.{Frame}
 use Rattle.amf3_read.specs.Now.{Now}
 use Rattle.amf3_read.specs.Now as now
 use Rattle.amf3_read.specs.declared.frame.OpenNode.{OpenNode}
 use Rattle.amf3_read.specs.declared.frame.Role.TheVariants as role
 use Rattle.amf3_read.specs.declared.opening.Parts.{Parts}
-use Rattle.amf_fields.specs.Room.{left_of}
+use Rattle.amf_wire_fields.specs.Room.{left_of}
 use Rattle.amf3_read.specs.Frames.{Waits, StackSo}
 
 -- a frame that waits, whatever stands below it

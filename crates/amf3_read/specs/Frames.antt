@@ -16,8 +16,8 @@ use Rattle.amf_graph.specs.Arena.{Arena, StoredNode, IsBuilt, IsTextId, Names, h
 use Rattle.amf_graph.specs.Building.{stored_at, kept_node, shut, more_value, more_name, more_entry}
 use Rattle.amf3_spelling.specs.KeptTables.{KeptTables, AreTablesIn}
 use Rattle.amf3_spelling.specs.Reads3.{Grows}
-use Rattle.amf3_layout.specs.Layout3State.{State3, state_of, changed}
-use Rattle.amf3_layout.specs.Layout3.{ValueRead, read, items, entries, pairs, pairs_if, value_layout, node_layout, inline_node}
+use Rattle.amf3_layout_laws.specs.Layout3State.{State3, state_of, changed}
+use Rattle.amf3_layout_laws.specs.Layout3.{ValueRead, read, items, entries, pairs, pairs_if, value_layout, node_layout, inline_node}
 use Rattle.amf3_read.specs.declared.opening.Parts.{Parts}
 use Rattle.amf3_read.specs.declared.opening.Parts.TheVariants.{Array, Object, Items, Entries}
 use Rattle.amf3_read.specs.declared.frame.Role.{Role}
@@ -32,7 +32,7 @@ use Rattle.amf3_read.specs.declared.fill.Next.TheVariants as next
 use Rattle.amf3_read.specs.declared.fill.Step.{Step}
 use Rattle.amf3_read.specs.declared.fill.Step.TheVariants as step
 use Rattle.amf3_read.specs.Filling.{IsOpened}
-use Rattle.amf_fields.specs.Room.{left_of}
+use Rattle.amf_wire_fields.specs.Room.{left_of}
 use Rattle.amf3_read.specs.Ready.{Ready}
 
 -- Layouts.

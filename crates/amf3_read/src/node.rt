@@ -3,9 +3,9 @@ ghost use Rattle.amf_io.specs.Cursor.{place};
 ghost use Rattle.amf_io.specs.ReadEnds.{Goes};
 ghost use Rattle.amf_io.specs.CursorReads.{Ends};
 ghost use Rattle.amf3_spelling.specs.Markers3.{node_marker};
-ghost use Rattle.amf3_layout.specs.Layout3State.{state_of};
-ghost use Rattle.amf3_layout.specs.Layout3.{opening};
-ghost use Rattle.amf_fields.specs.Room.{left_of};
+ghost use Rattle.amf3_layout_laws.specs.Layout3State.{state_of};
+ghost use Rattle.amf3_layout_laws.specs.Layout3.{opening};
+ghost use Rattle.amf_wire_fields.specs.Room.{left_of};
 ghost use Rattle.amf3_read.specs.Ready.{Ready};
 ghost use Rattle.amf3_read.specs.Opened.{IsOpening};
 ghost use Rattle.amf3_read.specs.Begins.{Begins};
@@ -13,10 +13,10 @@ ghost use Rattle.amf3_read.specs.Frames.{StartsNode, StartsInline, StartHolds, S
 
 use crate::header::{Header, judge_header};
 use crate::opening::{Opening, Parts, read_opening};
-use amf_fields::{kept, read_number};
 use amf_graph::{Builder, NodeId, NodeKind, Value};
 use amf_io::{Cursor, ReadEnd, Source, refused};
 use amf_tables::Tables3;
+use amf_wire_fields::{kept, read_number};
 use std::alloc::Global;
 
 /// A node that is in the table: complete, or with values to come.

@@ -2,7 +2,7 @@ use crate::answers::told;
 use crate::calls::{Asked, call, name_of};
 use crate::checks::{field, holds, is_answered, number};
 use amf_broker::Broker;
-use amf_rows::{Row, Table};
+use amf_test_rows::{Row, Table};
 use std::alloc::Global;
 use std::hash::RandomState;
 use std::process::Abort;

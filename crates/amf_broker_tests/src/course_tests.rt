@@ -2,7 +2,7 @@ use crate::answers::{put_answers, put_deliveries};
 use crate::checks::{field, is_answered};
 use crate::events::{event_of, world_of};
 use amf_once::{Event, World};
-use amf_rows::{Row, Table};
+use amf_test_rows::{Row, Table};
 use std::alloc::Global;
 use std::process::Abort;
 

@@ -6,7 +6,7 @@ use crate::calls::{Asked, call, chat};
 use crate::checks::{field, holds, is_answered, number};
 use amf_broker::{Answer, Call, ClientId, Deliveries, Reply, SubIds};
 use amf_desk::{Closed, Desk, DeskEnd, Pass};
-use amf_rows::{Row, Table};
+use amf_test_rows::{Row, Table};
 use std::alloc::Global;
 use std::hash::RandomState;
 use std::process::Abort;

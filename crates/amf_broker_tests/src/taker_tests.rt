@@ -1,6 +1,6 @@
 use crate::checks::{field, is_answered};
 use amf_once::{Taken, Taker};
-use amf_rows::{Row, Table};
+use amf_test_rows::{Row, Table};
 use std::alloc::Global;
 use std::process::Abort;
 

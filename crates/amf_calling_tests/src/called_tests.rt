@@ -4,7 +4,7 @@ use crate::dials::{
     ends_without_link, sum_case,
 };
 use crate::replies::{SUM_ASKED, SUM_REPLY};
-use amf_rows::{Row, Table};
+use amf_test_rows::{Row, Table};
 use std::alloc::Global;
 use std::process::Abort;
 

@@ -1,4 +1,4 @@
-use amf_rows::Row;
+use amf_test_rows::Row;
 use std::process::Abort;
 
 /// Ends the test where something does not hold.

@@ -7,7 +7,7 @@ use Rattle.amf_io.specs.declared.sink.Sink.{Ghosts as SinkMembers}
 use Rattle.amf_io.specs.declared.link.Link.{Ghosts as LinkMembers}
 use Rattle.amf_io.specs.declared.front.Front.{Ghosts as FrontMembers}
 use Rattle.amf_service.specs.Registry.{Entry}
-use Rattle.amf_plan.specs.RespondLaws.{AreLawful}
+use Rattle.amf_answer_plan.specs.RespondLaws.{AreLawful}
 use Rattle.amf_gateway.specs.Tells.{HallMembers}
 use Rattle.amf_workers.specs.Together.{Serves}
 use Rattle.amf_workers.specs.declared.answer.ServeAnswer.{ServeAnswer}

@@ -6,11 +6,11 @@ use Rattle.amf_io.specs.declared.sink.Sink.{Ghosts as SinkMembers}
 use Rattle.amf_io.specs.declared.dial.Dial.{Ghosts as DialMembers}
 use Rattle.amf_io.specs.declared.link.Link.{Ghosts as LinkMembers}
 use Rattle.amf_graph.specs.Graph.{Graph}
-use Rattle.amf_listening.specs.declared.ends.ListenEnd.{ListenEnd}
-use Rattle.amf_listening.specs.declared.ends.ListenEnd.TheVariants.{Done, Fault, BadReply, LinkFault, WriteFault, Memory}
-use Rattle.amf_listening.specs.Listened.{CountsLost, CountsOutput, EndsAs}
-use Rattle.amf_listening.specs.Sessions.{Turn, by_link, listen}
-use Rattle.amf_listening.proofs.Lost.{lost_by_link}
+use Rattle.amf_poll_session.specs.declared.ends.ListenEnd.{ListenEnd}
+use Rattle.amf_poll_session.specs.declared.ends.ListenEnd.TheVariants.{Done, Fault, BadReply, LinkFault, WriteFault, Memory}
+use Rattle.amf_poll_session.specs.Listened.{CountsLost, CountsOutput, EndsAs}
+use Rattle.amf_poll_session.specs.Sessions.{Turn, by_link, listen}
+use Rattle.amf_poll_session.proofs.Lost.{lost_by_link}
 use Rattle.amf_commands.specs.declared.command.ListenOptions.{ListenOptions}
 use Rattle.amf_commands.specs.declared.command.Task.TheVariants.{Listen}
 use Rattle.amf_commands.specs.declared.run_end.RunEnd.TheVariants.{NoMemory}

@@ -4,10 +4,10 @@ use Rattle.std.specs.Prelude.{IfSome}
 use Rattle.std.proofs.lemmas.List.{append-nil}
 use Rattle.flv_meta.specs.declared.flv_job.FlvJob.{FlvJob}
 use Rattle.rtmp_listing.specs.Listing.{BeginsSilently, ShowsMessage, ListsOpen}
-use Rattle.rtmp_pass.specs.declared.pass_end.PassEnd.TheVariants as pass
-use Rattle.rtmp_pass.specs.Pass.{WroteAll, WroteSome}
-use Rattle.rtmp_pass.specs.Rechunk.{Restarts, Repeats, EndsSilently}
-use Rattle.rtmp_pass.proofs.Streams.{no_memory}
+use Rattle.rtmp_rechunk.specs.declared.pass_end.PassEnd.TheVariants as pass
+use Rattle.rtmp_rechunk.specs.Pass.{WroteAll, WroteSome}
+use Rattle.rtmp_rechunk.specs.Rechunk.{Restarts, Repeats, EndsSilently}
+use Rattle.rtmp_rechunk.proofs.Streams.{no_memory}
 use Rattle.amf_media.specs.declared.ending.MediaEnd.TheVariants.{Memory}
 use Rattle.amf_media.specs.FlvRuns.{Runs}
 use Rattle.amf_media.specs.RtmpRuns.{IsChunkSize, RunsStream}

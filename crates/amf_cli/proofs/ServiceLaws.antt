@@ -9,8 +9,8 @@ use Rattle.amf_service.specs.Meaning.{Given, Meanings}
 use Rattle.amf_service.specs.Registry.{Entry}
 use Rattle.amf_service.specs.ServiceLaws.{ServiceLaws}
 use Rattle.amf_service.specs.Shipped.{echo_name, echoed, sum_name, summed, names_name, named, of_one, shipped}
-use Rattle.amf_plan.specs.RespondLaws.{AreLawful}
-use Rattle.amf_plan.specs.Services.{services_by}
+use Rattle.amf_answer_plan.specs.RespondLaws.{AreLawful}
+use Rattle.amf_answer_plan.specs.Services.{services_by}
 use Rattle.amf_gateway.specs.Tells.{HallMembers}
 use Rattle.amf_cli.specs.ServesWords.{ServesWords}
 use Rattle.amf_cli.proofs.FrontLaws.{serves_by}

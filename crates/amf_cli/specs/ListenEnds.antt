@@ -4,11 +4,11 @@ use Rattle.amf_io.specs.declared.sink.Sink.{Ghosts as SinkMembers}
 use Rattle.amf_io.specs.declared.dial.Dial.{Ghosts as DialMembers}
 use Rattle.amf_io.specs.declared.link.Link.{Ghosts as LinkMembers}
 use Rattle.amf_graph.specs.Graph.{Graph}
-use Rattle.amf_listening.specs.declared.ends.ListenEnd.{ListenEnd}
-use Rattle.amf_listening.specs.declared.ends.ListenEnd.TheVariants.{Done, Fault, BadReply, LinkFault, WriteFault, Memory}
-use Rattle.amf_listening.specs.Sessions.{Turn, listen}
-use Rattle.amf_listening.specs.Laws.{IsSession}
-use Rattle.amf_listening.specs.Listened.{Listened, EndsAs, Wrote, IsNumbered}
+use Rattle.amf_poll_session.specs.declared.ends.ListenEnd.{ListenEnd}
+use Rattle.amf_poll_session.specs.declared.ends.ListenEnd.TheVariants.{Done, Fault, BadReply, LinkFault, WriteFault, Memory}
+use Rattle.amf_poll_session.specs.Sessions.{Turn, listen}
+use Rattle.amf_poll_session.specs.Laws.{IsSession}
+use Rattle.amf_poll_session.specs.Listened.{Listened, EndsAs, Wrote, IsNumbered}
 use Rattle.amf_commands.specs.declared.command.ListenOptions.{ListenOptions}
 use Rattle.amf_commands.specs.declared.run_end.RunEnd.TheVariants.{WriteFault as output_fault, NoMemory}
 use Rattle.amf_commands.specs.Lines.{line_of}

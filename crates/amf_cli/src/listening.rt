@@ -6,7 +6,7 @@ ghost use Rattle.amf_cli.specs.CallSteps.{WritesFor};
 use crate::telling::{tell_bad_reply, tell_fault, tell_link_fault};
 use amf_commands::{ListenOptions, RunEnd, end_with};
 use amf_io::{Dial, Sink};
-use amf_listening::{ListenEnd, listen_keyed};
+use amf_poll_session::{ListenEnd, listen_keyed};
 use std::alloc::Global;
 use std::hash::RandomState;
 

@@ -1,4 +1,4 @@
-ghost use Rattle.amf_plan.specs.Services.{services_of};
+ghost use Rattle.amf_answer_plan.specs.Services.{services_of};
 ghost use Rattle.amf_cli.specs.CallsWords.{CallsWords};
 ghost use Rattle.amf_cli.specs.Ends.{Ends};
 ghost use Rattle.amf_cli.specs.ListensWords.{ListensWords};

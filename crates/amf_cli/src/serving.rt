@@ -1,5 +1,5 @@
 ghost use Rattle.std.specs.Prelude.{◌≡◌};
-ghost use Rattle.amf_plan.specs.Services.{services_of};
+ghost use Rattle.amf_answer_plan.specs.Services.{services_of};
 ghost use Rattle.amf_commands.specs.Askable.{IsServable};
 ghost use Rattle.amf_cli.specs.Lines.{served_line as line};
 ghost use Rattle.amf_commands.specs.Run.{CountsWrites};

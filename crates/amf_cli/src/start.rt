@@ -1,5 +1,5 @@
 ghost use Rattle.std.specs.Process.{exit_status};
-ghost use Rattle.amf_plan.specs.Services.{services_of};
+ghost use Rattle.amf_answer_plan.specs.Services.{services_of};
 ghost use Rattle.amf_cli.specs.Starts.{Starts, AreWords};
 
 use crate::arguments::{Arguments, words_of};

@@ -1,5 +1,5 @@
 use crate::runs::check_rows;
-use amf_rows::Table;
+use amf_test_rows::Table;
 
 /// Values from AMF 0, to AMF 0, and from it to AMF 3.
 static VALUES: Table = Table {

@@ -1,6 +1,6 @@
 use crate::runs::{BY_BYTES, Case, WHOLE, Ways, check, check_rows, run_alone};
 use amf_io::{FaultlessSource, MemorySink};
-use amf_rows::Table;
+use amf_test_rows::Table;
 use amf_vectors::{Vector, vectors};
 use std::alloc::Global;
 use std::process::Abort;

@@ -1,6 +1,6 @@
 //! Inputs that are cut off or lie about their sizes, and reads that fail.
 use crate::runs::{BY_BYTES, Case, WHOLE, Ways, check, check_rows, wrong};
-use amf_rows::Table;
+use amf_test_rows::Table;
 use amf_vectors::vectors;
 use std::alloc::Global;
 use std::process::Abort;

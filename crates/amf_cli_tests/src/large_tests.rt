@@ -1,6 +1,6 @@
 use crate::runs::{BY_BYTES, Case, Ways, check, check_rows, put};
 use amf_graph::{BuildEnd, Builder};
-use amf_rows::{Table, push_part};
+use amf_test_rows::{Table, push_part};
 use amf_wire::is_amf_text;
 use std::alloc::Global;
 use std::process::Abort;

@@ -1,5 +1,5 @@
 use crate::runs::check_rows;
-use amf_rows::Table;
+use amf_test_rows::Table;
 
 /// A call of `echo.echo` with `["hi"]`, whose length is told; a header that must be understood, and a call of null in AMF 3; and a
 /// header with a message of which the second value lacks a spelling, by its second node.

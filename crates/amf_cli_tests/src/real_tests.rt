@@ -1,7 +1,7 @@
 //! Inputs of the kinds that people have, made by hand from the formats' descriptions: what is listed of each, how many nodes it has,
 //! and its canonical spelling.
 use crate::runs::check_rows;
-use amf_rows::Table;
+use amf_test_rows::Table;
 
 /// A saved game in AMF 0: an object within an object, a date, a reference and an XML document. And a saved state in AMF 3: an object of
 /// a class, a ByteArray, an ArrayCollection and a reference.

@@ -5,8 +5,8 @@ use amf_io::{
     FaultlessDial, FaultlessFront, FaultlessLink, Front, Gate, Hall, MemorySink, MemorySource,
     OpenGate, Sink, Source,
 };
-use amf_rows::{Row, Table};
 use amf_service::Registry;
+use amf_test_rows::{Row, Table};
 use amf_wire::Name;
 use std::alloc::Global;
 use std::process::Abort;

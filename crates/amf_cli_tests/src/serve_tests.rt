@@ -4,7 +4,7 @@ use crate::runs::{Case, Ways, check_rows, put, wrong_over};
 use amf_io::{
     Gate, Joined, MemoryFront, MemoryHall, MemoryLink, MemorySink, MemorySource, OpenGate,
 };
-use amf_rows::{Row, Table};
+use amf_test_rows::{Row, Table};
 use std::alloc::Global;
 use std::process::Abort;
 use std::random::RandomSource;

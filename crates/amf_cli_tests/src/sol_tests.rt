@@ -1,5 +1,5 @@
 use crate::runs::check_rows;
-use amf_rows::Table;
+use amf_test_rows::Table;
 
 /// A file `t` of AMF 0 with `a`, which is true; one of AMF 3 with two pairs of one array, `b` before `a`; one of AMF 3 with a pair
 /// without a name, and `"`; one of AMF 0 with an integer, which becomes a double; and one with a byte array, of which AMF 0 has none.

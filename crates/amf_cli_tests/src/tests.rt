@@ -1,6 +1,6 @@
 use crate::runs::{check_rows, run_alone};
 use amf_io::{FaultlessSink, FaultlessSource};
-use amf_rows::Table;
+use amf_test_rows::Table;
 
 /// Values without nodes, and what is no value.
 static VALUES: Table = Table {

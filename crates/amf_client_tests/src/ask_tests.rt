@@ -4,7 +4,7 @@ use amf_client::{AskEnd, write_call};
 use amf_fixtures::{graph0, graph3};
 use amf_graph::{Lack, LackKind, Rooted};
 use amf_io::{Joined, MemorySink, MemorySource};
-use amf_rows::{Row, Table, bytes_of};
+use amf_test_rows::{Row, Table, bytes_of};
 use amf_wire::{Name, is_amf_text};
 use std::alloc::Global;
 use std::process::Abort;

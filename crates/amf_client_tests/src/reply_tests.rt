@@ -2,7 +2,7 @@ use crate::checks::{bytes_in, field, number};
 use crate::replies::{
     BY_BYTES, GOOD, NULL, RESULT, WHOLE, Want, Ways, is_read, put_reply, reply_with,
 };
-use amf_rows::{Row, Table};
+use amf_test_rows::{Row, Table};
 use std::alloc::Global;
 use std::process::Abort;
 

@@ -7,9 +7,9 @@ use Rattle.std.proofs.lemmas.Option.{same_Some}
 use Rattle.std.specs.List.{AllByRecursion, list_all, slice_index_or}
 use Rattle.std.specs.Str.{bytes_eq, IsUtf8}
 use Rattle.amf_wire.specs.Text.{IsText}
-use Rattle.amf_words.specs.Words.{Text, HasOptions, is_name, value_of}
+use Rattle.amf_options.specs.Words.{Text, HasOptions, is_name, value_of}
 use Rattle.flv_meta.specs.declared.flv_job.FlvJob.{FlvJob}
-use Rattle.amf_words.proofs.OneValue.{one_value}
+use Rattle.amf_options.proofs.OneValue.{one_value}
 use Rattle.amf_commands.proofs.Utf8.{utf8_is_text, value_utf8}
 use Rattle.amf_commands.specs.declared.command.CallOptions.{CallOptions}
 use Rattle.amf_commands.specs.declared.command.Command.{Command}

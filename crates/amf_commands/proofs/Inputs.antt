@@ -23,10 +23,10 @@ use Rattle.amf_graph.specs.Building.{no_arena}
 use Rattle.amf3_spelling.specs.KeptTables.{KeptTables, no_kept_tables, tables_of}
 use Rattle.amf3_spelling.specs.Reads3.{Grows, IsRead3, IsReading3}
 use Rattle.amf3_spelling.specs.Values3.{IsValue3}
-use Rattle.amf3_layout.proofs.Values3Layout.{no_arena_built, values3_is_layout, reading_is_value, answered3}
-use Rattle.amf0_layout.proofs.Layout0Format.{reading_is_value0, answered0}
-use Rattle.amf3_layout.specs.Layout3State.{no_state}
-use Rattle.amf3_layout.specs.Layout3.{value_layout}
+use Rattle.amf3_layout_laws.proofs.Values3Layout.{no_arena_built, values3_is_layout, reading_is_value, answered3}
+use Rattle.amf0_layout_laws.proofs.Layout0Format.{reading_is_value0, answered0}
+use Rattle.amf3_layout_laws.specs.Layout3State.{no_state}
+use Rattle.amf3_layout_laws.specs.Layout3.{value_layout}
 use Rattle.amf_io.specs.Stretch.{IsTaken, IsInterrupted, AnswersOf, stretch}
 use Rattle.amf3_read.specs.Answer.{Answers3}
 use Rattle.amf0_spelling.specs.KeptTables0.{KeptTables0, no_kept_tables0, tables0_of}

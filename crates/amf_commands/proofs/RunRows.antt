@@ -7,8 +7,8 @@ use Rattle.amf_io.proofs.Inputs.{outcome_decides, outcome_waits}
 use Rattle.amf_graph.specs.Order.{again, first, over}
 use Rattle.amf3_spelling.specs.Values3.{IsValue3}
 use Rattle.amf3_spelling.proofs.Build.{absent_nil, absent_cons}
-use Rattle.amf3_layout.proofs.Values3Layout.{values3_is_layout}
-use Rattle.amf3_layout.proofs.VerdictRows.{all_bytes, both_hold, are_bytes, is_short}
+use Rattle.amf3_layout_laws.proofs.Values3Layout.{values3_is_layout}
+use Rattle.amf3_layout_laws.proofs.VerdictRows.{all_bytes, both_hold, are_bytes, is_short}
 use Rattle.amf3_read.specs.Pairs.{Pair}
 use Rattle.amf3_read.proofs.PairLayouts.{pair_layout, pairs_are_layouts}
 use Rattle.amf_packet.specs.LayoutPacket.{packet_layout}

@@ -27,21 +27,21 @@ use Rattle.amf3_spelling.specs.Tables.{no_tables}
 use Rattle.amf3_spelling.specs.Lacks3.{IsLack3}
 use Rattle.amf3_spelling.specs.Values3.{IsValue3}
 use Rattle.amf3_spelling.specs.Spells3.{IsSpelling3}
-use Rattle.amf3_layout.specs.Layout3State.{no_state}
-use Rattle.amf3_layout.specs.Layout3.{ValueRead, value_layout}
+use Rattle.amf3_layout_laws.specs.Layout3State.{no_state}
+use Rattle.amf3_layout_laws.specs.Layout3.{ValueRead, value_layout}
 use Rattle.amf3_spelling.proofs.Decides3.{canonical_is_alone, same_bytes_isomorphic}
 use Rattle.amf3_spelling.proofs.FirstLack3.{nothing_lacks}
-use Rattle.amf3_layout.proofs.Layout3Parts.{Found}
-use Rattle.amf3_layout.proofs.Layout3Complete.{spelled_read}
-use Rattle.amf3_layout.proofs.Values3Layout.{values3_is_layout}
+use Rattle.amf3_layout_laws.proofs.Layout3Parts.{Found}
+use Rattle.amf3_layout_laws.proofs.Layout3Complete.{spelled_read}
+use Rattle.amf3_layout_laws.proofs.Values3Layout.{values3_is_layout}
 use Rattle.amf_graph.specs.Building.{no_arena}
 use Rattle.amf0_spelling.specs.KeptTables0.{no_kept_tables0}
-use Rattle.amf0_layout.specs.Layout0.{ValueRead0, value0_layout}
-use Rattle.amf0_layout.specs.Layout0State.{state0_of}
+use Rattle.amf0_layout_laws.specs.Layout0.{ValueRead0, value0_layout}
+use Rattle.amf0_layout_laws.specs.Layout0State.{state0_of}
 use Rattle.amf0_spelling.specs.Values0.{IsValue0}
 use Rattle.amf0_spelling.specs.Tables0.{no_tables0}
-use Rattle.amf0_layout.proofs.Layout0Complete.{Found0, spelled_read0}
-use Rattle.amf0_layout.proofs.Layout0Format.{values0_is_layout}
+use Rattle.amf0_layout_laws.proofs.Layout0Complete.{Found0, spelled_read0}
+use Rattle.amf0_layout_laws.proofs.Layout0Format.{values0_is_layout}
 use Rattle.amf_commands.specs.declared.command.Command.{Command}
 use Rattle.amf_commands.specs.declared.command.Command.TheVariants.{Canon, Check, Show, Same, Gen}
 use Rattle.amf3_read.specs.Pairs.{Pair}

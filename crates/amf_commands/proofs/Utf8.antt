@@ -9,7 +9,7 @@ use Rattle.std.proofs.lemmas.Option.{same_Some}
 use Rattle.std.proofs.lemmas.Str.{IsUtf8-drop, IsCharBoundary-after_ascii, encode_ascii}
 use lib.Utf8.{scalar, scalars, scalar_cases, encode, encodes}
 use Rattle.amf_wire.specs.Text.{IsUnit, IsText}
-use Rattle.amf_words.specs.Words.{Text, Given, Gives, value_of}
+use Rattle.amf_options.specs.Words.{Text, Given, Gives, value_of}
 
 -- ---- the bytes of a character are a unit
 

@@ -4,7 +4,7 @@ use Rattle.std.specs.Option.{option_map, option_and_then}
 use Rattle.std.specs.List.{list_all, AllByRecursion}
 use Rattle.std.specs.Str.{bytes_eq, IsUtf8}
 use Rattle.std.specs.Str.Parse.{digits_value}
-use Rattle.amf_words.specs.Words.{Text, Given, HasOptions, value_of}
+use Rattle.amf_options.specs.Words.{Text, Given, HasOptions, value_of}
 use Rattle.flv_meta.specs.declared.flv_job.FlvJob.{FlvJob}
 use Rattle.flv_meta.specs.declared.flv_job.FlvJob.TheVariants as flv
 use Rattle.amf_commands.specs.declared.command.CallOptions.{CallOptions}

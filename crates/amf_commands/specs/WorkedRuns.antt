@@ -4,7 +4,7 @@ use Rattle.std.specs.Str.{bytes_eq}
 use Rattle.amf_io.specs.declared.reason.Reason.{Reason}
 use Rattle.amf_io.specs.declared.reason.Reason.TheVariants.{Truncated, BadMarker, BadTextIndex, TooLarge, Trailing, BadVersion, BadLength}
 use Rattle.amf_io.specs.Verdict.{IsInputAccepted, IsInputRefused}
-use Rattle.amf_words.specs.Words.{Text}
+use Rattle.amf_options.specs.Words.{Text}
 use Rattle.amf_graph.specs.declared.lack.LackKind.TheVariants.{NoForm}
 use Rattle.amf_graph.specs.Graph.{Graph, date, array, node}
 use Rattle.amf_listings.specs.WorkedPacketListings.{called}

@@ -1,12 +1,12 @@
 ghost use Rattle.std.specs.Prelude.{IfOk, IfSome, IfNone};
-ghost use Rattle.amf_words.specs.Words.{texts};
+ghost use Rattle.amf_options.specs.Words.{texts};
 ghost use Rattle.amf_commands.specs.declared.command.Task.{Task};
 ghost use Rattle.amf_commands.specs.Commands.{Asks, AsksFor, HasReading};
 
 use crate::command_name::CommandName;
 use crate::format::Format;
+use amf_options::options_of;
 use amf_wire::{Memory, Name};
-use amf_words::options_of;
 use flv_meta::FlvJob;
 use std::alloc::Global;
 use std::str;

@@ -1,6 +1,6 @@
 ghost use Rattle.std.specs.Prelude.{◌≡◌, ◌≤◌, IfOk, IfSome, IfNone, codes, option_map, option_and_then};
 ghost use Rattle.clap.specs.Matches.{first_value, found_of};
-ghost use Rattle.amf_words.specs.Words.{texts};
+ghost use Rattle.amf_options.specs.Words.{texts};
 ghost use Rattle.amf_commands.specs.Commands.{canon_from, flv_job_named, format_or, name_of, number_at, options_for, task_for};
 ghost use Rattle.amf_commands.specs.Commands.{call_by, gen_by, listen_by, rtmp_of, serve_by};
 ghost use Rattle.amf_commands.specs.declared.command.Task.TheVariants as task;

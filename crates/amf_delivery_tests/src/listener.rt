@@ -3,7 +3,7 @@ ghost use Rattle.amf_io.specs.Dial.{IsFresh};
 ghost use Rattle.amf_io.specs.InMemory.{failures, sink_failures};
 
 use amf_io::{Joined, MemoryDial, MemoryLink, MemorySink, MemorySource};
-use amf_listening::{ListenEnd, listen};
+use amf_poll_session::{ListenEnd, listen};
 use amf_wire::{Memory, Name};
 use std::alloc::Global;
 use std::test::Fail;

@@ -12,7 +12,7 @@ use amf_packet::{
     Body, Headers, Message, Messages, Packet, PacketEnd, packet_rows, packet_verdict_rows,
     packets_have_one_verdict, read_packet, write_packet,
 };
-use amf_rows::{Row, Table};
+use amf_test_rows::{Row, Table};
 use amf_wire::{Name, is_amf_text};
 use std::alloc::Global;
 use std::process::Abort;

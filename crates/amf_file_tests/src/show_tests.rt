@@ -2,8 +2,8 @@ use crate::checks::{bytes_of, holds_in, number};
 use amf_fixtures::{graph0, rooted_at};
 use amf_graph::Rooted;
 use amf_listings::{file_laws, file_listing_rows, packet_laws, packet_listing_rows};
-use amf_rows::{Row, Table};
 use amf_show::{count_nodes, listing_laws, listing_rows, show, show_text};
+use amf_test_rows::{Row, Table};
 use std::alloc::Global;
 use std::process::Abort;
 

@@ -2,8 +2,8 @@ use crate::checks::{bytes_of, field, holds, is, number};
 use amf_fixtures::end_told;
 use amf_graph::{NodeView, Value};
 use amf_io::{Cursor, MemorySource, ReadEnd};
-use amf_rows::{Row, Table};
 use amf_sol::{SharedObject, SolVersion, read_sol};
+use amf_test_rows::{Row, Table};
 use std::alloc::Global;
 use std::process::Abort;
 

@@ -1,11 +1,11 @@
 use crate::checks::{bytes_of, field, holds, is, number};
 use amf_fixtures::{graph0, rooted_at};
 use amf_graph::Rooted;
-use amf_rows::{Row, Table};
 use amf_sol::{
     SharedObject, SolEnd, SolVersion, file_faults_are_first, files_fix_fields, files_fix_next_kind,
     files_have_holders, files_have_one_verdict, worked_files,
 };
+use amf_test_rows::{Row, Table};
 use amf_wire::Name;
 use std::alloc::Global;
 use std::process::Abort;

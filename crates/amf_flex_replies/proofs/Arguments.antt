@@ -16,7 +16,7 @@ use Rattle.amf_graph.proofs.OrderExists.{isomorphic_refl}
 use Rattle.amf_service.specs.Shipped.{items_at, items_of}
 use Rattle.amf_service.proofs.Lawful.{BothOr, items_alike}
 use Rattle.amf_flex_replies.specs.KeptArguments.{IsArgument, KeepsArguments}
-use Rattle.amf_plan.specs.Remoting.{empty_arguments, if_items, arguments}
+use Rattle.amf_answer_plan.specs.Remoting.{empty_arguments, if_items, arguments}
 
 some_none : (vs : List Value) → Some vs ≡ None → ⊥
 some_none vs e = cc

@@ -24,8 +24,8 @@ use Rattle.flex_msgs.proofs.PublishedAlike.{completes_earlier}
 use Rattle.flex_msgs.proofs.Rooms.{grew_graft}
 use Rattle.amf_flex_replies.specs.declared.sync_messages.Batch.{Batch}
 use Rattle.amf_flex_replies.specs.Batching.{Holds, HoldsAll, Adds as Puts, GrewWithin}
-use Rattle.amf_plan.proofs.Closed.{AllClosed, closed_at, adds_closed, graft_closed}
-use Rattle.amf_plan.proofs.Uses.{texts_used, traits_used, nodes_used}
+use Rattle.amf_answer_plan.proofs.Closed.{AllClosed, closed_at, adds_closed, graft_closed}
+use Rattle.amf_answer_plan.proofs.Uses.{texts_used, traits_used, nodes_used}
 
 abbrev pub AddsOne : Graph → Arena → Arena → Stored → Type 0
 AddsOne g old new v = AddsDelivered g old new v ⊎ AddsInvalidate g old new v

@@ -6,14 +6,14 @@ use Rattle.amf_graph.specs.Graph.{Graph}
 use Rattle.amf_broker.specs.declared.reply.Delivery.{Delivery}
 use Rattle.flex_msgs.specs.declared.reply.Reply.{Reply}
 use Rattle.flex_msgs.specs.Answers.{invalidate_graph}
-use Rattle.amf_flex_replies.specs.declared.replies.FlexAnswer.{FlexAnswer}
-use Rattle.amf_plan.specs.Batches.{about_poll, invalidates, sync, batch}
+use Rattle.amf_answer_plan.specs.declared.message_answer.MessageAnswer.{MessageAnswer}
+use Rattle.amf_answer_plan.specs.Batches.{about_poll, invalidates, sync, batch}
 use Rattle.amf_flex_replies.specs.Batching.{say_sync}
-use Rattle.amf_plan.specs.Did.{Drawn, Ran, Stopped}
-use Rattle.amf_flex_replies.specs.Says.{Says, Tells}
-use Rattle.amf_plan.specs.Plan.{Plan, gives, ◌>>=◌}
-use Rattle.amf_plan.specs.Replies.{Context, Answer, fresh, acknowledge_null}
-use Rattle.amf_plan.proofs.Doing.{HandsNone, HandsBoth, ran_then, ran_nothing, stopped_then, stopped_first, stopped_between}
+use Rattle.amf_answer_plan.specs.Did.{Drawn, Ran, Stopped}
+use Rattle.amf_answer_plan.specs.Says.{Says, Tells}
+use Rattle.amf_answer_plan.specs.Plan.{Plan, gives, ◌>>=◌}
+use Rattle.amf_answer_plan.specs.Replies.{Context, Answer, fresh, acknowledge_null}
+use Rattle.amf_answer_plan.proofs.Doing.{HandsNone, HandsBoth, ran_then, ran_nothing, stopped_then, stopped_first, stopped_between}
 use Rattle.amf_flex_replies.proofs.Saying.{says_then, says_told}
 
 -- so far came these, and what the rest of the plan comes to makes what the whole comes to
@@ -83,7 +83,7 @@ module _ {O : Type 0} (handed : O → O → Drawn → Type 0) (none : HandsNone 
     say_sync r ds ends
 
   module _ (k : Context) (ds : List Delivery) (ended : List ℕ) (a b : O) (r : Reply) (ran : Ran handed (fresh k []) a b r) where
-    pub sync_says : (c : O) (ends : List Graph) (x : FlexAnswer) → Ran handed (invalidates k ended) b c ends → Tells (say_sync r ds ends) x → Says handed (sync k ds ended) a c x
+    pub sync_says : (c : O) (ends : List Graph) (x : MessageAnswer) → Ran handed (invalidates k ended) b c ends → Tells (say_sync r ds ends) x → Says handed (sync k ds ended) a c x
     sync_says c ends x made told = says_then handed both (fresh k []) (then_end k ds ended) a b c r x ran (says_told handed none both (invalidates k ended) (say_sync r ds) b c ends x made told)
 
     pub sync_stopped : (c : O) → Stopped handed (invalidates k ended) b c → Stopped handed (sync k ds ended) a c

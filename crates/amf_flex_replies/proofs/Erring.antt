@@ -2,15 +2,15 @@
 use Rattle.std.proofs.Common.{◌≡◌, ℕ, List, [], refl, subst}
 use Rattle.flex_msgs.specs.declared.reply.FaultText.{FaultText}
 use Rattle.flex_msgs.specs.declared.reply.Reply.{Reply}
-use Rattle.amf_flex_replies.specs.declared.replies.FlexAnswer.{FlexAnswer}
-use Rattle.amf_plan.specs.Did.{Drawn, Ran}
-use Rattle.amf_flex_replies.specs.Says.{AnswersFlex, Says}
-use Rattle.amf_plan.specs.Plan.{gives}
-use Rattle.amf_plan.specs.Replies.{Context, fresh, failed, error}
-use Rattle.amf_plan.proofs.Doing.{HandsNone, HandsBoth}
+use Rattle.amf_answer_plan.specs.declared.message_answer.MessageAnswer.{MessageAnswer}
+use Rattle.amf_answer_plan.specs.Did.{Drawn, Ran}
+use Rattle.amf_answer_plan.specs.Says.{AnswersMessage, Says}
+use Rattle.amf_answer_plan.specs.Plan.{gives}
+use Rattle.amf_answer_plan.specs.Replies.{Context, fresh, failed, error}
+use Rattle.amf_answer_plan.proofs.Doing.{HandsNone, HandsBoth}
 use Rattle.amf_flex_replies.proofs.Saying.{says_told}
 
-pub error_says : {O : Type 0} (handed : O → O → Drawn → Type 0) → HandsNone handed → HandsBoth handed → (k : Context) (f : FaultText) (client : List ℕ) (a b : O) (r : Reply) (x : FlexAnswer) → client ≡ [] → Ran handed (fresh k client) a b r → AnswersFlex x (failed r f) → Says handed (error k f) a b x
+pub error_says : {O : Type 0} (handed : O → O → Drawn → Type 0) → HandsNone handed → HandsBoth handed → (k : Context) (f : FaultText) (client : List ℕ) (a b : O) (r : Reply) (x : MessageAnswer) → client ≡ [] → Ran handed (fresh k client) a b r → AnswersMessage x (failed r f) → Says handed (error k f) a b x
 error_says handed none both k f client a b r x e ran is =
     says_told handed none both (fresh k []) (λ (s : Reply). gives (failed s f)) a b r x (subst (λ (n : List ℕ). Ran handed (fresh k n) a b r) e ran)
     (record { answer = failed r f; is = is; runs = (refl, refl) })

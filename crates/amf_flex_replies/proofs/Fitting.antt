@@ -13,10 +13,10 @@ use Rattle.flex_msgs.specs.Viewing.{value_view, Refuses}
 use Rattle.amf_graph.specs.Graph.{Graph, Value}
 use Rattle.amf_packet.specs.Packet.{Body}
 use Rattle.amf_service.specs.Registry.{Entry}
-use Rattle.amf_plan.specs.Causes.{bad_message}
-use Rattle.amf_plan.specs.Flex.{message_of, message_in, viewed_answer, flex}
-use Rattle.amf_plan.specs.Replies.{no_context, error}
-use Rattle.amf_plan.specs.Kept.{CommonFits, RequestFits}
+use Rattle.amf_answer_plan.specs.Causes.{bad_message}
+use Rattle.amf_answer_plan.specs.Flex.{message_of, message_in, viewed_answer, flex}
+use Rattle.amf_answer_plan.specs.Replies.{no_context, error}
+use Rattle.amf_answer_plan.specs.Kept.{CommonFits, RequestFits}
 use Rattle.amf_flex_replies.proofs.ViewedShort.{ShortTold, ShortAsked, request_short}
 
 common_fits : (a : Arena) (c : Common) → IsCommon a c → ShortTold (told a c) → CommonFits c

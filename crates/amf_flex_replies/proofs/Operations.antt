@@ -6,10 +6,10 @@ use mir.Syntax.{w64}
 use Rattle.std.specs.Prelude.{ℤ, pos, negsuc, ◌==◌, if◌then◌else◌}
 use Rattle.amf_graph.specs.Graph.{Graph}
 use Rattle.flex_msgs.specs.Asked.{Told}
-use Rattle.amf_plan.specs.Causes.{not_served}
-use Rattle.amf_plan.specs.Commands.{subscribe, unsubscribe, poll, ping, disconnect, command}
-use Rattle.amf_plan.specs.Plan.{Plan}
-use Rattle.amf_plan.specs.Replies.{Answer, context_of, error}
+use Rattle.amf_answer_plan.specs.Causes.{not_served}
+use Rattle.amf_answer_plan.specs.Commands.{subscribe, unsubscribe, poll, ping, disconnect, command}
+use Rattle.amf_answer_plan.specs.Plan.{Plan}
+use Rattle.amf_answer_plan.specs.Replies.{Answer, context_of, error}
 
 -- a number that fits, by its bits
 pub operation_is : (z : ℤ) (n : ℕ) → SFits w64 z → of_z w64 z ≡ n → z ≡ to_z w64 n

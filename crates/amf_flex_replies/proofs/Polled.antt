@@ -6,8 +6,8 @@ use Rattle.amf_broker.specs.declared.reply.Delivery.{Delivery}
 use Rattle.amf_broker.specs.declared.reply.Reply.{Reply}
 use Rattle.amf_broker.specs.declared.reply.Reply.TheVariants.{Batch, Numbered, Again}
 use Rattle.flex_msgs.specs.Lookup as flex
-use Rattle.amf_plan.specs.Commands.{named_in, poll_call, acknowledged, say_batch}
-use Rattle.amf_plan.specs.Replies.{Context}
+use Rattle.amf_answer_plan.specs.Commands.{named_in, poll_call, acknowledged, say_batch}
+use Rattle.amf_answer_plan.specs.Replies.{Context}
 
 named_same : (x : List ℕ) (pairs : Option (List (List ℕ × Value))) → flex.named_in x pairs ≡ named_in x pairs
 named_same x None = refl

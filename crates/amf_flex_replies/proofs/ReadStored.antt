@@ -31,17 +31,17 @@ use Rattle.amf3_spelling.specs.Reads3.{Grows, IsRead3}
 use Rattle.amf3_spelling.specs.Values3.{IsValue3}
 use Rattle.amf3_spelling.specs.Spells3.{Spelled3}
 use Rattle.amf3_spelling.proofs.Decides3.{same_bytes_isomorphic}
-use Rattle.amf3_layout.specs.Layout3State.{no_state}
-use Rattle.amf3_layout.specs.Layout3.{ValueRead, value_layout}
-use Rattle.amf3_layout.proofs.Values3Layout.{no_arena_built, values3_is_layout, reading_is_value, answered3}
+use Rattle.amf3_layout_laws.specs.Layout3State.{no_state}
+use Rattle.amf3_layout_laws.specs.Layout3.{ValueRead, value_layout}
+use Rattle.amf3_layout_laws.proofs.Values3Layout.{no_arena_built, values3_is_layout, reading_is_value, answered3}
 use Rattle.amf3_read.specs.Answer.{Answers3}
 use Rattle.amf_broker.specs.declared.limits.TheConstants.{MAX_MESSAGE}
 use Rattle.flex_msgs.specs.Built.{IsStored as HoldsStored, IsStoredAt}
 use Rattle.flex_msgs.specs.Classes.{async_traits}
 use Rattle.flex_msgs.proofs.Looking.{node_content_at}
 use Rattle.amf_flex_replies.specs.Batching.{AnswersValue}
-use Rattle.amf_plan.specs.Runs.{IsAsyncHead, IsAsync, IsStored, Finds}
-use Rattle.amf_plan.proofs.Closed.{AllClosed}
+use Rattle.amf_answer_plan.specs.Runs.{IsAsyncHead, IsAsync, IsStored, Finds}
+use Rattle.amf_answer_plan.proofs.Closed.{AllClosed}
 
 -- What was read from nothing.
 

@@ -12,16 +12,16 @@ use Rattle.flex_msgs.specs.declared.reply.Reply.{Reply}
 use Rattle.flex_msgs.specs.Answers.{delivered_graph, sync_graph}
 use Rattle.flex_msgs.specs.Built.{HasRoomFor}
 use Rattle.amf_flex_replies.specs.declared.sync_messages.Batch.{Batch}
-use Rattle.amf_flex_replies.specs.declared.replies.FlexAnswer.{FlexAnswer}
-use Rattle.amf_plan.specs.Batches.{in_front, delivered, deliveries, synced}
+use Rattle.amf_answer_plan.specs.declared.message_answer.MessageAnswer.{MessageAnswer}
+use Rattle.amf_answer_plan.specs.Batches.{in_front, delivered, deliveries, synced}
 use Rattle.amf_flex_replies.specs.Batching.{Adds, AddsDelivery, GrewWithin, HoldsAll, Reads, ReadsAll, IsSync, say_sync}
-use Rattle.amf_plan.specs.Causes.{no_form}
-use Rattle.amf_flex_replies.specs.Says.{AnswersFlex, Tells}
-use Rattle.amf_plan.specs.Plan.{gives}
-use Rattle.amf_plan.specs.Replies.{answered, failed}
-use Rattle.amf_plan.specs.Runs.{IsStored, Finds, nothing, gave}
-use Rattle.amf_plan.specs.Serving.{none_left}
-use Rattle.amf_plan.proofs.Composed.{runs_then}
+use Rattle.amf_answer_plan.specs.Causes.{no_form}
+use Rattle.amf_answer_plan.specs.Says.{AnswersMessage, Tells}
+use Rattle.amf_answer_plan.specs.Plan.{gives}
+use Rattle.amf_answer_plan.specs.Replies.{answered, failed}
+use Rattle.amf_answer_plan.specs.Runs.{IsStored, Finds, nothing, gave}
+use Rattle.amf_answer_plan.specs.Serving.{none_left}
+use Rattle.amf_answer_plan.proofs.Composed.{runs_then}
 
 and_true : (b : Bool) → b ≡ b && true
 and_true true = refl
@@ -155,11 +155,11 @@ added_count ds later all b i few so = omega (arith, few, so.within, so.count)
 pub sync_some : (r : Reply) (ds : List Delivery) (ends : List Graph) (b c : Batch) (g : RootedArena) → ReadsAll ds (Some b) → Adds b c ends → ((gs : List Graph) → HoldsAll c gs → Isomorphic (sync_graph r gs) (content g)) → IsSync r ds ends (Some g)
 sync_some r ds ends b c g (gs, reads, holds) adds made = (gs, reads, made (gs ++ ends) (adds gs holds))
 
-pub say_some : (r : Reply) (ds : List Delivery) (ends : List Graph) (g : RootedArena) (a : FlexAnswer) → IsSync r ds ends (Some g) → ((h : Graph) → Isomorphic h (content g) → Tells (answered r h) a) → Tells (say_sync r ds ends) a
+pub say_some : (r : Reply) (ds : List Delivery) (ends : List Graph) (g : RootedArena) (a : MessageAnswer) → IsSync r ds ends (Some g) → ((h : Graph) → Isomorphic h (content g) → Tells (answered r h) a) → Tells (say_sync r ds ends) a
 say_some r ds ends g a (gs, reads, same) told =
     let t = told (sync_graph r (gs ++ ends)) same in
     record { answer = t.answer; is = t.is; runs = runs_then (deliveries ds) (λ hs. synced r hs ends) none_left none_left nothing nothing (Some gs) (gave t.answer none_left) reads t.runs }
 
-pub say_none : (r : Reply) (ds : List Delivery) (ends : List Graph) (a : FlexAnswer) → IsSync r ds ends None → AnswersFlex a (failed r no_form) → Tells (say_sync r ds ends) a
+pub say_none : (r : Reply) (ds : List Delivery) (ends : List Graph) (a : MessageAnswer) → IsSync r ds ends None → AnswersMessage a (failed r no_form) → Tells (say_sync r ds ends) a
 say_none r ds ends a reads is =
     record { answer = failed r no_form; is = is; runs = runs_then (deliveries ds) (λ hs. synced r hs ends) none_left none_left nothing nothing None (gave (failed r no_form) none_left) reads (refl, refl) }

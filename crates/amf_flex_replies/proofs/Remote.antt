@@ -8,17 +8,17 @@ use Rattle.flex_msgs.specs.Asked.{Told}
 use Rattle.flex_msgs.specs.declared.reply.FaultText.{FaultText}
 use Rattle.amf_service.specs.Meaning.{Called, no_service, no_operation, given, result, fault}
 use Rattle.amf_service.specs.Registry.{Entry, called}
-use Rattle.amf_plan.specs.declared.calling.ServiceAnswer.{ServiceAnswer}
-use Rattle.amf_plan.specs.declared.calling.ServiceAnswer.TheVariants.{Gave, Failed}
-use Rattle.amf_flex_replies.specs.declared.replies.FlexAnswer.{FlexAnswer}
-use Rattle.amf_plan.specs.Calls.{cause_of, ComesTo}
+use Rattle.amf_answer_plan.specs.declared.calling.ServiceAnswer.{ServiceAnswer}
+use Rattle.amf_answer_plan.specs.declared.calling.ServiceAnswer.TheVariants.{Gave, Failed}
+use Rattle.amf_answer_plan.specs.declared.message_answer.MessageAnswer.{MessageAnswer}
+use Rattle.amf_answer_plan.specs.Calls.{cause_of, ComesTo}
 use Rattle.amf_flex_replies.specs.KeptArguments.{KeepsArguments}
-use Rattle.amf_plan.specs.Causes as causes
-use Rattle.amf_flex_replies.specs.Says.{Says}
-use Rattle.amf_plan.specs.Did.{Drawn, Stopped}
-use Rattle.amf_plan.specs.Plan.{Plan}
-use Rattle.amf_plan.specs.Remoting.{outcome, call}
-use Rattle.amf_plan.specs.Replies.{Answer, Context, context_of, error, acknowledge}
+use Rattle.amf_answer_plan.specs.Causes as causes
+use Rattle.amf_answer_plan.specs.Says.{Says}
+use Rattle.amf_answer_plan.specs.Did.{Drawn, Stopped}
+use Rattle.amf_answer_plan.specs.Plan.{Plan}
+use Rattle.amf_answer_plan.specs.Remoting.{outcome, call}
+use Rattle.amf_answer_plan.specs.Replies.{Answer, Context, context_of, error, acknowledge}
 
 no_cause : (f : FaultText) → None ≡ Some f → ⊥
 no_cause f e = cc
@@ -38,7 +38,7 @@ pub result_plan : (k : Context) (d : Called) (g : Graph) → d ≡ given (result
 result_plan k d g e = ap (λ (z : Called). outcome k z) e
 
 module _ {O : Type 0} (handed : O → O → Drawn → Type 0) (k : Context) (d : Called) (answer : ServiceAnswer) (a b : O) where
-  pub said_result : (x : FlexAnswer) (graph : RootedArena) → answer ≡ Gave graph → ComesTo d answer → ((g : Graph) → Isomorphic g (content graph) → Says handed (acknowledge k [] g g.root) a b x) → Says handed (outcome k d) a b x
+  pub said_result : (x : MessageAnswer) (graph : RootedArena) → answer ≡ Gave graph → ComesTo d answer → ((g : Graph) → Isomorphic g (content graph) → Says handed (acknowledge k [] g g.root) a b x) → Says handed (outcome k d) a b x
   said_result x graph e comes says =
       let c : ComesTo d (Gave graph) = subst (λ (z : ServiceAnswer). ComesTo d z) e comes in
       subst (λ (z : Plan Answer). Says handed z a b x) (sym (result_plan k d c.0 c.1)) (says c.0 c.2)
@@ -48,7 +48,7 @@ module _ {O : Type 0} (handed : O → O → Drawn → Type 0) (k : Context) (d :
       let c : ComesTo d (Gave graph) = subst (λ (z : ServiceAnswer). ComesTo d z) e comes in
       subst (λ (z : Plan Answer). Stopped handed z a b) (sym (result_plan k d c.0 c.1)) (stops c.0)
 
-  pub said_cause : (x : FlexAnswer) (f : FaultText) → answer ≡ Failed f → ComesTo d answer → Says handed (error k f) a b x → Says handed (outcome k d) a b x
+  pub said_cause : (x : MessageAnswer) (f : FaultText) → answer ≡ Failed f → ComesTo d answer → Says handed (error k f) a b x → Says handed (outcome k d) a b x
   said_cause x f e comes says =
       let c : ComesTo d (Failed f) = subst (λ (z : ServiceAnswer). ComesTo d z) e comes in
       subst (λ (z : Plan Answer). Says handed z a b x) (sym (cause_plan k d f c)) says
@@ -71,7 +71,7 @@ module _ {O : Type 0} (handed : O → O → Drawn → Type 0) (services : List E
   meant : (g : Graph) → Said g ≡ Meant g
   meant g = ap (λ (z : Context). outcome z (called services service operation g)) same ∙ ap (λ (x : List ℕ). outcome (context_of t) (called services x operation g)) (sym named)
 
-  pub said_called : (o : Option Graph) (args : RootedArena) (x : FlexAnswer) → KeepsArguments o (Some args) → ((g : Graph) → IsWhole g → Isomorphic g (content args) → Says handed (Said g) a b x) → Says handed (call services t operation o) a b x
+  pub said_called : (o : Option Graph) (args : RootedArena) (x : MessageAnswer) → KeepsArguments o (Some args) → ((g : Graph) → IsWhole g → Isomorphic g (content args) → Says handed (Said g) a b x) → Says handed (call services t operation o) a b x
   said_called None args x keeps says = absurd keeps
   said_called (Some g) args x keeps says = subst (λ (z : Plan Answer). Says handed z a b x) (meant g) (says g keeps.0 keeps.1)
 
@@ -79,7 +79,7 @@ module _ {O : Type 0} (handed : O → O → Drawn → Type 0) (services : List E
   stopped_called None args keeps stops = absurd keeps
   stopped_called (Some g) args keeps stops = subst (λ (z : Plan Answer). Stopped handed z a b) (meant g) (stops g keeps.0 keeps.1)
 
-  pub said_bad : (o : Option Graph) (x : FlexAnswer) → KeepsArguments o None → Says handed (error k causes.bad_message) a b x → Says handed (call services t operation o) a b x
+  pub said_bad : (o : Option Graph) (x : MessageAnswer) → KeepsArguments o None → Says handed (error k causes.bad_message) a b x → Says handed (call services t operation o) a b x
   said_bad None x keeps says = subst (λ (z : Context). Says handed (error z causes.bad_message) a b x) same says
   said_bad (Some g) x keeps says = absurd keeps
 

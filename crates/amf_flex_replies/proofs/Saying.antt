@@ -7,28 +7,28 @@ use Rattle.amf_broker.specs.History.{Entry as Event}
 use Rattle.amf_graph.specs.Graph.{Graph}
 use Rattle.flex_msgs.specs.Asked.{Told}
 use Rattle.flex_msgs.specs.declared.reply.Reply.{Reply}
-use Rattle.amf_flex_replies.specs.declared.replies.FlexAnswer.{FlexAnswer}
+use Rattle.amf_answer_plan.specs.declared.message_answer.MessageAnswer.{MessageAnswer}
 use Rattle.amf_broker.specs.declared.reply.Reply.TheVariants.{Client, Subscribed}
-use Rattle.amf_plan.specs.Commands.{ask, acknowledged, say_subscribed, say_connected, is_new, connect, ping}
-use Rattle.amf_plan.specs.Kept.{connect_in}
-use Rattle.amf_plan.specs.Did.{Drawn, moment_taken, word_taken, entry_taken, no_answer, both_taken, Ran, Stopped}
-use Rattle.amf_flex_replies.specs.Says.{Tells, Says}
-use Rattle.amf_plan.specs.Plan.{Plan, whole, ◌>>=◌, moment, spelling_of}
-use Rattle.amf_plan.specs.Replies.{Answer, Context, context_of, with_client, reply_with, fresh, acknowledge_null}
-use Rattle.amf_plan.specs.Runs.{nothing, gave, Finds, IsSpelling}
-use Rattle.amf_plan.specs.Serving.{none_left}
-use Rattle.amf_plan.proofs.Doing.{HandsNone, HandsBoth, ran_then, stopped_then, stopped_first, ran_nothing, same_step}
+use Rattle.amf_answer_plan.specs.Commands.{ask, acknowledged, say_subscribed, say_connected, is_new, connect, ping}
+use Rattle.amf_answer_plan.specs.Kept.{connect_in}
+use Rattle.amf_answer_plan.specs.Did.{Drawn, moment_taken, word_taken, entry_taken, no_answer, both_taken, Ran, Stopped}
+use Rattle.amf_answer_plan.specs.Says.{Tells, Says}
+use Rattle.amf_answer_plan.specs.Plan.{Plan, whole, ◌>>=◌, moment, spelling_of}
+use Rattle.amf_answer_plan.specs.Replies.{Answer, Context, context_of, with_client, reply_with, fresh, acknowledge_null}
+use Rattle.amf_answer_plan.specs.Runs.{nothing, gave, Finds, IsSpelling}
+use Rattle.amf_answer_plan.specs.Serving.{none_left}
+use Rattle.amf_answer_plan.proofs.Doing.{HandsNone, HandsBoth, ran_then, stopped_then, stopped_first, ran_nothing, same_step}
 
 -- What follows what was done.
 
-pub says_told : {O X : Type 0} (handed : O → O → Drawn → Type 0) → HandsNone handed → HandsBoth handed → (p : Plan X) (f : X → Plan Answer) (a b : O) (x : X) (t : FlexAnswer) → Ran handed p a b x → Tells (f x) t → Says handed (◌>>=◌ p f) a b t
+pub says_told : {O X : Type 0} (handed : O → O → Drawn → Type 0) → HandsNone handed → HandsBoth handed → (p : Plan X) (f : X → Plan Answer) (a b : O) (x : X) (t : MessageAnswer) → Ran handed p a b x → Tells (f x) t → Says handed (◌>>=◌ p f) a b t
 says_told handed none hands p f a b x t r told = record {
   answer = told.answer;
   is = told.is;
   ran = ran_then handed hands p f a b b x told.answer r (ran_nothing handed none (f x) b told.answer told.runs);
 }
 
-pub says_then : {O X : Type 0} (handed : O → O → Drawn → Type 0) → HandsBoth handed → (p : Plan X) (f : X → Plan Answer) (a b c : O) (x : X) (t : FlexAnswer) → Ran handed p a b x → Says handed (f x) b c t → Says handed (◌>>=◌ p f) a c t
+pub says_then : {O X : Type 0} (handed : O → O → Drawn → Type 0) → HandsBoth handed → (p : Plan X) (f : X → Plan Answer) (a b c : O) (x : X) (t : MessageAnswer) → Ran handed p a b x → Says handed (f x) b c t → Says handed (◌>>=◌ p f) a c t
 says_then handed hands p f a b c x t r s = record { answer = s.answer; is = s.is; ran = ran_then handed hands p f a b c x s.answer r s.ran }
 
 -- A fresh reply: two words and a moment.
@@ -77,7 +77,7 @@ asked_stopped handed hands a b c m call first second = record {
 
 -- A spelling.
 
-pub spelled_says : {O : Type 0} (handed : O → O → Drawn → Type 0) (g : Graph) (found : Option (List ℕ)) (f : Option (List ℕ) → Plan Answer) (a b : O) (x : FlexAnswer) → Finds (IsSpelling whole g) found → Says handed (f found) a b x → Says handed (◌>>=◌ (spelling_of whole g) f) a b x
+pub spelled_says : {O : Type 0} (handed : O → O → Drawn → Type 0) (g : Graph) (found : Option (List ℕ)) (f : Option (List ℕ) → Plan Answer) (a b : O) (x : MessageAnswer) → Finds (IsSpelling whole g) found → Says handed (f found) a b x → Says handed (◌>>=◌ (spelling_of whole g) f) a b x
 spelled_says handed g found f a b x finds s = record {
   answer = s.answer;
   is = s.is;
@@ -89,7 +89,7 @@ spelled_stopped handed g found f a b finds s = record { took = s.took; was_hande
 
 -- What follows a call.
 
-pub made_says : {O : Type 0} (handed : O → O → Drawn → Type 0) → HandsBoth handed → (asks : Call → Plan Replied) (call made : Call) (f : Replied → Plan Answer) (p : Plan Answer) (a b c : O) (r : Replied) (x : FlexAnswer) → made ≡ call → p ≡ f r → Ran handed (asks made) a b r → Says handed p b c x → Says handed (◌>>=◌ (asks call) f) a c x
+pub made_says : {O : Type 0} (handed : O → O → Drawn → Type 0) → HandsBoth handed → (asks : Call → Plan Replied) (call made : Call) (f : Replied → Plan Answer) (p : Plan Answer) (a b c : O) (r : Replied) (x : MessageAnswer) → made ≡ call → p ≡ f r → Ran handed (asks made) a b r → Says handed p b c x → Says handed (◌>>=◌ (asks call) f) a c x
 made_says handed hands asks call made f p a b c r x e same ran says =
     says_then handed hands (asks call) f a b c r x (subst (λ (z : Call). Ran handed (asks z) a b r) e ran) (subst (λ (z : Plan Answer). Says handed z b c x) same says)
 
@@ -100,7 +100,7 @@ made_ended handed hands asks call made f p a b c r e same ran s =
 pub made_first : {O : Type 0} (handed : O → O → Drawn → Type 0) (asks : Call → Plan Replied) (call made : Call) (f : Replied → Plan Answer) (a b : O) → made ≡ call → Stopped handed (asks made) a b → Stopped handed (◌>>=◌ (asks call) f) a b
 made_first handed asks call made f a b e s = stopped_first handed (asks call) f a b (subst (λ (z : Call). Stopped handed (asks z) a b) e s)
 
-pub asked_says : {O : Type 0} (handed : O → O → Drawn → Type 0) → HandsBoth handed → (call made : Call) (f : Replied → Plan Answer) (p : Plan Answer) (a b c : O) (r : Replied) (x : FlexAnswer) → made ≡ call → p ≡ f r → Ran handed (ask made) a b r → Says handed p b c x → Says handed (◌>>=◌ (ask call) f) a c x
+pub asked_says : {O : Type 0} (handed : O → O → Drawn → Type 0) → HandsBoth handed → (call made : Call) (f : Replied → Plan Answer) (p : Plan Answer) (a b c : O) (r : Replied) (x : MessageAnswer) → made ≡ call → p ≡ f r → Ran handed (ask made) a b r → Says handed p b c x → Says handed (◌>>=◌ (ask call) f) a c x
 asked_says handed hands = made_says handed hands ask
 
 pub asked_ended : {O : Type 0} (handed : O → O → Drawn → Type 0) → HandsBoth handed → (call made : Call) (f : Replied → Plan Answer) (p : Plan Answer) (a b c : O) (r : Replied) → made ≡ call → p ≡ f r → Ran handed (ask made) a b r → Stopped handed p b c → Stopped handed (◌>>=◌ (ask call) f) a c

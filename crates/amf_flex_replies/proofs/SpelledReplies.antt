@@ -14,13 +14,13 @@ use Rattle.amf_packet.specs.SpelledBodies.{IsBodySpelling, IsBodySpelledAlike}
 use Rattle.flex_msgs.specs.declared.reply.FaultText.{FaultText}
 use Rattle.flex_msgs.specs.declared.reply.Reply.{Reply}
 use Rattle.flex_msgs.specs.Answers.{error_graph}
-use Rattle.amf_plan.specs.Causes.{no_form}
-use Rattle.amf_plan.specs.Plan.{whole}
-use Rattle.amf_plan.specs.Replies.{failed, in_amf3, answered}
-use Rattle.amf_plan.specs.Runs.{Finds, IsSpelling}
-use Rattle.amf_plan.proofs.Spelling.{all_named}
-use Rattle.amf_flex_replies.specs.declared.replies.FlexAnswer.{FlexAnswer}
-use Rattle.amf_flex_replies.specs.Says.{AnswersFlex, Tells}
+use Rattle.amf_answer_plan.specs.Causes.{no_form}
+use Rattle.amf_answer_plan.specs.Plan.{whole}
+use Rattle.amf_answer_plan.specs.Replies.{failed, in_amf3, answered}
+use Rattle.amf_answer_plan.specs.Runs.{Finds, IsSpelling}
+use Rattle.amf_answer_plan.proofs.Spelling.{all_named}
+use Rattle.amf_answer_plan.specs.declared.message_answer.MessageAnswer.{MessageAnswer}
+use Rattle.amf_answer_plan.specs.Says.{AnswersMessage, Tells}
 
 abbrev pub in_form : Graph → Body
 in_form g = record { form = Amf3; graph = g }
@@ -53,8 +53,8 @@ told_well r g h bytes i s =
       runs = (Some found.0, found.1, (refl, refl));
     }
 
-pub told_badly : (r : Reply) (g : Graph) (x : FlexAnswer) → Finds (IsSpelling whole g) None → AnswersFlex x (failed r no_form) → Tells (answered r g) x
+pub told_badly : (r : Reply) (g : Graph) (x : MessageAnswer) → Finds (IsSpelling whole g) None → AnswersMessage x (failed r no_form) → Tells (answered r g) x
 told_badly r g x none a = record { answer = failed r no_form; is = a; runs = (None, none, (refl, refl)) }
 
-pub failed_is : (r : Reply) (f : FaultText) (bytes : List ℕ) → IsBodySpelledAlike (in_form (error_graph r f)) bytes → AnswersFlex (record { well = false; body = bytes }) (in_amf3 false (error_graph r f))
+pub failed_is : (r : Reply) (f : FaultText) (bytes : List ℕ) → IsBodySpelledAlike (in_form (error_graph r f)) bytes → AnswersMessage (record { well = false; body = bytes }) (in_amf3 false (error_graph r f))
 failed_is r f bytes s = record { well = refl; body = s }

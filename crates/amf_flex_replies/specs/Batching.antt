@@ -17,11 +17,11 @@ use Rattle.flex_msgs.specs.declared.reply.Reply.{Reply}
 use Rattle.flex_msgs.specs.Answers.{delivered_graph, sync_graph}
 use Rattle.flex_msgs.specs.FlexLaws.{AddsBatch}
 use Rattle.amf_flex_replies.specs.declared.sync_messages.Batch.{Batch}
-use Rattle.amf_plan.specs.Batches.{deliveries, synced}
-use Rattle.amf_plan.specs.Plan.{Plan, ◌>>=◌}
-use Rattle.amf_plan.specs.Replies.{Answer}
-use Rattle.amf_plan.specs.Runs.{IsStored, nothing, gave, Runs}
-use Rattle.amf_plan.specs.Serving.{none_left}
+use Rattle.amf_answer_plan.specs.Batches.{deliveries, synced}
+use Rattle.amf_answer_plan.specs.Plan.{Plan, ◌>>=◌}
+use Rattle.amf_answer_plan.specs.Replies.{Answer}
+use Rattle.amf_answer_plan.specs.Runs.{IsStored, nothing, gave, Runs}
+use Rattle.amf_answer_plan.specs.Serving.{none_left}
 
 -- how the reader of one value ends, within the most bytes of a message
 abbrev pub AnswersValue : Type 0 → List ℕ → List ℕ → ℕ → ℕ → Result RootedArena ReadEnd → Type 0

@@ -8,7 +8,7 @@ use Rattle.amf_graph.specs.Isomorphic.{Isomorphic}
 use Rattle.amf_graph.specs.Reached.{IsWhole}
 use Rattle.amf_graph.specs.Rooted.{RootedArena, content}
 use Rattle.amf_graph.specs.Roots.{rooted_at}
-use Rattle.amf_plan.specs.Remoting.{empty_arguments}
+use Rattle.amf_answer_plan.specs.Remoting.{empty_arguments}
 
 -- the empty array for null, and else the graph from another value
 abbrev pub IsArgument : Graph → Arena → Stored → RootedArena → Type 0

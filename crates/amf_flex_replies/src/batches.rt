@@ -5,21 +5,22 @@ ghost use Rattle.std.specs.List.{AllByRecursion};
 ghost use Rattle.flex_msgs.specs.Answers.{invalidate_graph};
 ghost use Rattle.flex_msgs.specs.Built.{IsReply, IsShortReply};
 ghost use Rattle.amf_broker.specs.declared.limits.TheConstants.{MAX_MESSAGE, MAX_QUEUED, MAX_SUBS};
-ghost use Rattle.amf_plan.specs.Batches.{about_poll as about_poll_in, invalidates, sync as sync_plan, batch as batch_plan};
+ghost use Rattle.amf_answer_plan.specs.Batches.{about_poll as about_poll_in, invalidates, sync as sync_plan, batch as batch_plan};
 ghost use Rattle.amf_flex_replies.specs.Batching.{say_sync};
-ghost use Rattle.amf_plan.specs.Did.{Ran, Stopped};
-ghost use Rattle.amf_flex_replies.specs.Says.{Says, Tells};
-ghost use Rattle.amf_plan.specs.Kept.{context_in, ContextFits};
-ghost use Rattle.amf_plan.specs.Replies.{fresh as fresh_plan};
-ghost use Rattle.amf_plan.specs.Small.{IsSmallBatch};
+ghost use Rattle.amf_answer_plan.specs.Did.{Ran, Stopped};
+ghost use Rattle.amf_answer_plan.specs.Says.{Says, Tells};
+ghost use Rattle.amf_answer_plan.specs.Kept.{context_in, ContextFits};
+ghost use Rattle.amf_answer_plan.specs.Replies.{fresh as fresh_plan};
+ghost use Rattle.amf_answer_plan.specs.Small.{IsSmallBatch};
 
-use crate::replies::{FlexAnswer, acknowledge_null, answered, failed, fresh};
+use crate::replies::{acknowledge_null, answered, failed, fresh};
 use crate::sync_messages::sync_of;
+use amf_answer_plan::causes::no_form;
+use amf_answer_plan::context::Context;
+use amf_answer_plan::message_answer::MessageAnswer;
+use amf_answer_plan::numbers::numeral;
+use amf_answer_plan::outside::Outside;
 use amf_broker::{Deliveries, Delivery, SubId, SubIds};
-use amf_plan::causes::no_form;
-use amf_plan::context::Context;
-use amf_plan::numbers::numeral;
-use amf_plan::outside::Outside;
 use amf_wire::{Memory, Name};
 use flex_msgs::Reply;
 use std::alloc::Global;
@@ -87,7 +88,7 @@ fn synced(
     reply: Reply,
     deliveries: &[Delivery],
     endings: &[Reply],
-) -> Result<FlexAnswer, Memory>
+) -> Result<MessageAnswer, Memory>
     requires texts { IsReply reply }
     requires short { IsShortReply reply }
     requires few { length deliveries.now ≤ MAX_QUEUED }
@@ -114,7 +115,7 @@ fn sync<O: Outside>(
     context: &Context,
     deliveries: &[Delivery],
     ended: &[SubId],
-) -> Result<FlexAnswer, Memory>
+) -> Result<MessageAnswer, Memory>
     requires context { ContextFits (context_in context.now) }
     requires small { IsSmallBatch deliveries.now ended.now }
     ensures says { IfOk result (λ a. Says O.handed (sync_plan (context_in context.now) deliveries.now ended.now) outside.old outside.new a) }
@@ -143,7 +144,7 @@ pub fn batch<O: Outside>(
     context: &Context,
     deliveries: &Deliveries,
     ended: &SubIds,
-) -> Result<FlexAnswer, Memory>
+) -> Result<MessageAnswer, Memory>
     requires context { ContextFits (context_in context.now) }
     requires small { IsSmallBatch deliveries.now ended.now }
     ensures says { IfOk result (λ a. Says O.handed (batch_plan (context_in context.now) deliveries.now ended.now) outside.old outside.new a) }

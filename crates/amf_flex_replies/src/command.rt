@@ -4,20 +4,21 @@ ghost use Rattle.std.specs.Prelude.{◌≤◌, IfOk, OnErr};
 ghost use Rattle.amf_graph.specs.Bounds.{weight};
 ghost use Rattle.amf_graph.specs.Rooted.{content};
 ghost use Rattle.flex_msgs.specs.Asked.{IsCommon, told};
-ghost use Rattle.amf_plan.specs.Causes.{not_served as not_served_cause};
-ghost use Rattle.amf_plan.specs.Commands.{command as command_plan};
-ghost use Rattle.amf_plan.specs.Did.{Stopped};
-ghost use Rattle.amf_flex_replies.specs.Says.{Says};
-ghost use Rattle.amf_plan.specs.Kept.{CommonFits, names_told};
-ghost use Rattle.amf_plan.specs.Replies.{context_of, error as error_plan};
+ghost use Rattle.amf_answer_plan.specs.Causes.{not_served as not_served_cause};
+ghost use Rattle.amf_answer_plan.specs.Commands.{command as command_plan};
+ghost use Rattle.amf_answer_plan.specs.Did.{Stopped};
+ghost use Rattle.amf_answer_plan.specs.Says.{Says};
+ghost use Rattle.amf_answer_plan.specs.Kept.{CommonFits, names_told};
+ghost use Rattle.amf_answer_plan.specs.Replies.{context_of, error as error_plan};
 
 use crate::commands::{disconnect, ping, subscribe, unsubscribe};
 use crate::polls::poll;
-use crate::replies::{FlexAnswer, error};
+use crate::replies::error;
+use amf_answer_plan::causes::not_served;
+use amf_answer_plan::context::Context;
+use amf_answer_plan::message_answer::MessageAnswer;
+use amf_answer_plan::outside::{Outside, Unanswered};
 use amf_graph::Rooted;
-use amf_plan::causes::not_served;
-use amf_plan::context::Context;
-use amf_plan::outside::{Outside, Unanswered};
 use flex_msgs::Common;
 use std::alloc::Global;
 
@@ -26,7 +27,7 @@ fn other<O: Outside>(
     alloc: Global,
     outside: &mut O,
     common: &Common,
-) -> Result<FlexAnswer, Unanswered>
+) -> Result<MessageAnswer, Unanswered>
     requires { CommonFits common.now }
     ensures says { IfOk result (λ a. Says O.handed (error_plan (context_of (names_told common.now)) not_served_cause) outside.old outside.new a) }
     ensures stopped { OnErr result (Stopped O.handed (error_plan (context_of (names_told common.now)) not_served_cause) outside.old outside.new) }
@@ -43,7 +44,7 @@ pub fn command<O: Outside>(
     graph: &Rooted,
     common: &Common,
     operation: i64,
-) -> Result<FlexAnswer, Unanswered>
+) -> Result<MessageAnswer, Unanswered>
     requires common { IsCommon graph.now.arena common.now }
     requires fits { CommonFits common.now }
     requires light { weight graph.now.arena ≤ 1048576 }

@@ -1,19 +1,20 @@
 //! How a CommandMessage is answered: which call of the desk it makes, and what is said of the reply.
 
 ghost use Rattle.std.specs.Prelude.{◌≡◌, [], IsTrue, IfOk, OnErr};
-ghost use Rattle.amf_plan.specs.Commands.{ask as ask_plan, acknowledged as acknowledged_plan, say_subscribed as say_subscribed_plan, subscribe as subscribe_plan, topic_of as topic_named, unsubscribe as unsubscribe_plan, is_new as is_new_text, say_connected as say_connected_plan, ping as ping_plan, disconnect as disconnect_plan};
-ghost use Rattle.amf_plan.specs.Did.{Ran, Stopped};
-ghost use Rattle.amf_flex_replies.specs.Says.{Says};
-ghost use Rattle.amf_plan.specs.Kept.{context_in, Fits, ContextFits, CommonFits, names_told};
-ghost use Rattle.amf_plan.specs.Kept.{connect_in};
-ghost use Rattle.amf_plan.specs.Small.{IsSmall};
+ghost use Rattle.amf_answer_plan.specs.Commands.{ask as ask_plan, acknowledged as acknowledged_plan, say_subscribed as say_subscribed_plan, subscribe as subscribe_plan, topic_of as topic_named, unsubscribe as unsubscribe_plan, is_new as is_new_text, say_connected as say_connected_plan, ping as ping_plan, disconnect as disconnect_plan};
+ghost use Rattle.amf_answer_plan.specs.Did.{Ran, Stopped};
+ghost use Rattle.amf_answer_plan.specs.Says.{Says};
+ghost use Rattle.amf_answer_plan.specs.Kept.{context_in, Fits, ContextFits, CommonFits, names_told};
+ghost use Rattle.amf_answer_plan.specs.Kept.{connect_in};
+ghost use Rattle.amf_answer_plan.specs.Small.{IsSmall};
 
-use crate::replies::{FlexAnswer, acknowledge_null, error};
+use crate::replies::{acknowledge_null, error};
+use amf_answer_plan::causes::refusal;
+use amf_answer_plan::context::Context;
+use amf_answer_plan::message_answer::MessageAnswer;
+use amf_answer_plan::numbers::{number_in, numeral};
+use amf_answer_plan::outside::{Outside, Unanswered};
 use amf_broker::{Call, ClientId, Reply, SubId, Topic};
-use amf_plan::causes::refusal;
-use amf_plan::context::Context;
-use amf_plan::numbers::{number_in, numeral};
-use amf_plan::outside::{Outside, Unanswered};
 use amf_wire::{Memory, Name};
 use flex_msgs::Common;
 use std::alloc::Global;
@@ -36,7 +37,7 @@ pub fn acknowledged<O: Outside>(
     context: &Context,
     client: &Name,
     reply: &Reply,
-) -> Result<FlexAnswer, Memory>
+) -> Result<MessageAnswer, Memory>
     requires context { ContextFits (context_in context.now) }
     requires client { Fits client.now }
     ensures says { IfOk result (λ a. Says O.handed (acknowledged_plan (context_in context.now) client.now reply.now) outside.old outside.new a) }
@@ -54,7 +55,7 @@ fn say_subscribed<O: Outside>(
     outside: &mut O,
     context: &Context,
     reply: &Reply,
-) -> Result<FlexAnswer, Memory>
+) -> Result<MessageAnswer, Memory>
     requires context { ContextFits (context_in context.now) }
     ensures says { IfOk result (λ a. Says O.handed (say_subscribed_plan (context_in context.now) reply.now) outside.old outside.new a) }
     ensures stopped { OnErr result (Stopped O.handed (say_subscribed_plan (context_in context.now) reply.now) outside.old outside.new) }
@@ -84,7 +85,7 @@ pub fn subscribe<O: Outside>(
     alloc: Global,
     outside: &mut O,
     common: &Common,
-) -> Result<FlexAnswer, Unanswered>
+) -> Result<MessageAnswer, Unanswered>
     requires common { CommonFits common.now }
     requires ready { O.may_call outside.old }
     ensures says { IfOk result (λ a. Says O.handed (subscribe_plan (names_told common.now)) outside.old outside.new a) }
@@ -102,7 +103,7 @@ pub fn unsubscribe<O: Outside>(
     alloc: Global,
     outside: &mut O,
     common: &Common,
-) -> Result<FlexAnswer, Unanswered>
+) -> Result<MessageAnswer, Unanswered>
     requires common { CommonFits common.now }
     requires ready { O.may_call outside.old }
     ensures says { IfOk result (λ a. Says O.handed (unsubscribe_plan (names_told common.now)) outside.old outside.new a) }
@@ -120,7 +121,7 @@ pub fn disconnect<O: Outside>(
     alloc: Global,
     outside: &mut O,
     common: &Common,
-) -> Result<FlexAnswer, Unanswered>
+) -> Result<MessageAnswer, Unanswered>
     requires common { CommonFits common.now }
     requires ready { O.may_call outside.old }
     ensures says { IfOk result (λ a. Says O.handed (disconnect_plan (names_told common.now)) outside.old outside.new a) }
@@ -147,7 +148,7 @@ fn say_connected<O: Outside>(
     outside: &mut O,
     context: Context,
     reply: &Reply,
-) -> Result<FlexAnswer, Memory>
+) -> Result<MessageAnswer, Memory>
     requires context { ContextFits (context_in context) }
     ensures says { IfOk result (λ a. Says O.handed (say_connected_plan (context_in context) reply.now) outside.old outside.new a) }
     ensures stopped { OnErr result (Stopped O.handed (say_connected_plan (context_in context) reply.now) outside.old outside.new) }
@@ -167,7 +168,7 @@ fn connect<O: Outside>(
     alloc: Global,
     outside: &mut O,
     context: Context,
-) -> Result<FlexAnswer, Unanswered>
+) -> Result<MessageAnswer, Unanswered>
     requires context { ContextFits (context_in context) }
     requires ready { O.may_call outside.old }
     ensures says { IfOk result (λ a. Says O.handed (connect_in (context_in context)) outside.old outside.new a) }
@@ -182,7 +183,7 @@ pub fn ping<O: Outside>(
     alloc: Global,
     outside: &mut O,
     common: &Common,
-) -> Result<FlexAnswer, Unanswered>
+) -> Result<MessageAnswer, Unanswered>
     requires common { CommonFits common.now }
     requires ready { O.may_call outside.old }
     ensures says { IfOk result (λ a. Says O.handed (ping_plan (names_told common.now)) outside.old outside.new a) }

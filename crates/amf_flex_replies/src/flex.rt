@@ -7,24 +7,25 @@ ghost use Rattle.amf_graph.specs.Rooted.{content};
 ghost use Rattle.amf_packet.specs.Content.{body_of};
 ghost use Rattle.amf_packet.specs.PacketAnswer.{body_weight};
 ghost use Rattle.flex_msgs.specs.Asked.{IsRequest};
-ghost use Rattle.amf_plan.specs.Services.{services_of};
-ghost use Rattle.amf_plan.specs.Causes.{bad_message as bad_message_cause};
-ghost use Rattle.amf_plan.specs.Did.{Stopped};
-ghost use Rattle.amf_flex_replies.specs.Says.{Says};
+ghost use Rattle.amf_answer_plan.specs.Services.{services_of};
+ghost use Rattle.amf_answer_plan.specs.Causes.{bad_message as bad_message_cause};
+ghost use Rattle.amf_answer_plan.specs.Did.{Stopped};
+ghost use Rattle.amf_answer_plan.specs.Says.{Says};
 ghost use Rattle.amf_flex_replies.specs.KeptRequests.{request_answer, value_answer};
-ghost use Rattle.amf_plan.specs.Flex.{flex as flex_plan, message_of};
-ghost use Rattle.amf_plan.specs.Kept.{RequestFits};
-ghost use Rattle.amf_plan.specs.Replies.{no_context, error as error_plan};
+ghost use Rattle.amf_answer_plan.specs.Flex.{flex as flex_plan, message_of};
+ghost use Rattle.amf_answer_plan.specs.Kept.{RequestFits};
+ghost use Rattle.amf_answer_plan.specs.Replies.{no_context, error as error_plan};
 
 use crate::command::command;
 use crate::publishing::publish;
 use crate::remoting::remoting;
-use crate::replies::{FlexAnswer, error};
+use crate::replies::error;
+use amf_answer_plan::causes::bad_message;
+use amf_answer_plan::context::Context;
+use amf_answer_plan::message_answer::MessageAnswer;
+use amf_answer_plan::outside::{Outside, Unanswered};
 use amf_graph::{Rooted, Value};
 use amf_packet::Body;
-use amf_plan::causes::bad_message;
-use amf_plan::context::Context;
-use amf_plan::outside::{Outside, Unanswered};
 use amf_service::{Registry, one_item};
 use flex_msgs::{NotAMessage, Request, view_value};
 use std::alloc::Global;
@@ -49,7 +50,7 @@ fn value_of(body: &Body) -> Option<(&Rooted, Value)>
 }
 
 /// Answers what is no message that is served.
-fn no_message<O: Outside>(alloc: Global, outside: &mut O) -> Result<FlexAnswer, Unanswered>
+fn no_message<O: Outside>(alloc: Global, outside: &mut O) -> Result<MessageAnswer, Unanswered>
     ensures says { IfOk result (λ a. Says O.handed (error_plan no_context bad_message_cause) outside.old outside.new a) }
     ensures stopped { OnErr result (Stopped O.handed (error_plan no_context bad_message_cause) outside.old outside.new) }
 {
@@ -59,13 +60,13 @@ fn no_message<O: Outside>(alloc: Global, outside: &mut O) -> Result<FlexAnswer, 
 }
 
 /// Answers a request by its class.
-fn answer_request<O: Outside>(
+fn answer_flex_request<O: Outside>(
     alloc: Global,
     outside: &mut O,
     registry: &Registry,
     graph: &Rooted,
     request: &Request,
-) -> Result<FlexAnswer, Unanswered>
+) -> Result<MessageAnswer, Unanswered>
     requires names { IsRequest graph.now.arena request.now }
     requires fits { RequestFits request.now }
     requires light { weight graph.now.arena ≤ 1048576 }
@@ -95,7 +96,7 @@ fn answer_value<O: Outside>(
     registry: &Registry,
     graph: &Rooted,
     value: Value,
-) -> Result<FlexAnswer, Unanswered>
+) -> Result<MessageAnswer, Unanswered>
     requires names { Names graph.now.arena value }
     requires light { weight graph.now.arena ≤ 1048576 }
     requires ready { O.may_call outside.old }
@@ -104,7 +105,7 @@ fn answer_value<O: Outside>(
 {
     graph.is_finished();
     match view_value(alloc, graph, value) {
-        Ok(request) => answer_request(alloc, outside, registry, graph, &request),
+        Ok(request) => answer_flex_request(alloc, outside, registry, graph, &request),
         Err(NotAMessage::NotObject) => no_message(alloc, outside),
         Err(NotAMessage::NotServed) => no_message(alloc, outside),
         Err(NotAMessage::WrongKind(_)) => no_message(alloc, outside),
@@ -118,7 +119,7 @@ pub fn flex<O: Outside>(
     outside: &mut O,
     registry: &Registry,
     body: &Body,
-) -> Result<FlexAnswer, Unanswered>
+) -> Result<MessageAnswer, Unanswered>
     requires light { body_weight body.now ≤ 1048576 }
     requires ready { O.may_call outside.old }
     ensures says { IfOk result (λ a. Says O.handed (flex_plan (services_of registry.now knows gives) (body_of body.now)) outside.old outside.new a) }

@@ -4,20 +4,20 @@ ghost use Rattle.std.specs.Prelude.{◌≡◌, codes, IfOk, OnErr};
 ghost use Rattle.amf_graph.specs.Arena.{Names, value_content};
 ghost use Rattle.amf_graph.specs.Rooted.{content};
 ghost use Rattle.flex_msgs.specs.Asked.{IsCommon, told};
-ghost use Rattle.amf_plan.specs.Commands.{poll as poll_plan, poll_call as poll_call_of, poll_number as poll_number_of, say_batch as say_batch_plan};
-ghost use Rattle.amf_plan.specs.Did.{Stopped};
-ghost use Rattle.amf_flex_replies.specs.Says.{Says};
-ghost use Rattle.amf_plan.specs.Kept.{context_in, ContextFits, CommonFits};
-ghost use Rattle.amf_plan.specs.Small.{IsSmall};
+ghost use Rattle.amf_answer_plan.specs.Commands.{poll as poll_plan, poll_call as poll_call_of, poll_number as poll_number_of, say_batch as say_batch_plan};
+ghost use Rattle.amf_answer_plan.specs.Did.{Stopped};
+ghost use Rattle.amf_answer_plan.specs.Says.{Says};
+ghost use Rattle.amf_answer_plan.specs.Kept.{context_in, ContextFits, CommonFits};
+ghost use Rattle.amf_answer_plan.specs.Small.{IsSmall};
 
 use crate::batches::batch;
 use crate::commands::{acknowledged, ask};
-use crate::replies::FlexAnswer;
+use amf_answer_plan::context::Context;
+use amf_answer_plan::message_answer::MessageAnswer;
+use amf_answer_plan::numbers::number_in;
+use amf_answer_plan::outside::{Outside, Unanswered};
 use amf_broker::{Call, ClientId, Reply};
 use amf_graph::{Rooted, Value};
-use amf_plan::context::Context;
-use amf_plan::numbers::number_in;
-use amf_plan::outside::{Outside, Unanswered};
 use amf_wire::{Memory, Name};
 use flex_msgs::{Common, header};
 use std::alloc::Global;
@@ -56,7 +56,7 @@ fn say_batch<O: Outside>(
     outside: &mut O,
     context: &Context,
     reply: &Reply,
-) -> Result<FlexAnswer, Memory>
+) -> Result<MessageAnswer, Memory>
     requires context { ContextFits (context_in context.now) }
     requires small { IsSmall reply.now }
     ensures says { IfOk result (λ a. Says O.handed (say_batch_plan (context_in context.now) reply.now) outside.old outside.new a) }
@@ -85,7 +85,7 @@ pub fn poll<O: Outside>(
     outside: &mut O,
     graph: &Rooted,
     common: &Common,
-) -> Result<FlexAnswer, Unanswered>
+) -> Result<MessageAnswer, Unanswered>
     requires common { IsCommon graph.now.arena common.now }
     requires fits { CommonFits common.now }
     requires ready { O.may_call outside.old }

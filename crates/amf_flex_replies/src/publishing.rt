@@ -4,20 +4,21 @@ ghost use Rattle.std.specs.Prelude.{◌≤◌, Some, None, IfOk, OnErr};
 ghost use Rattle.amf_graph.specs.Bounds.{weight};
 ghost use Rattle.amf_graph.specs.Rooted.{content};
 ghost use Rattle.flex_msgs.specs.Asked.{IsCommon, told};
-ghost use Rattle.amf_plan.specs.Commands.{publish as publish_plan, publish_spelled as publish_spelled_plan};
-ghost use Rattle.amf_plan.specs.Did.{Stopped};
-ghost use Rattle.amf_flex_replies.specs.Says.{Says};
-ghost use Rattle.amf_plan.specs.Kept.{Fits, CommonFits, names_told};
+ghost use Rattle.amf_answer_plan.specs.Commands.{publish as publish_plan, publish_spelled as publish_spelled_plan};
+ghost use Rattle.amf_answer_plan.specs.Did.{Stopped};
+ghost use Rattle.amf_answer_plan.specs.Says.{Says};
+ghost use Rattle.amf_answer_plan.specs.Kept.{Fits, CommonFits, names_told};
 
 use crate::commands::{acknowledged, topic_of};
-use crate::replies::{FlexAnswer, error};
+use crate::replies::error;
+use amf_answer_plan::causes::no_form;
+use amf_answer_plan::context::Context;
+use amf_answer_plan::message_answer::MessageAnswer;
+use amf_answer_plan::messages::stored_message;
+use amf_answer_plan::numbers::number_in;
+use amf_answer_plan::outside::{Outside, Unanswered};
 use amf_broker::{Call, ClientId};
 use amf_graph::Rooted;
-use amf_plan::causes::no_form;
-use amf_plan::context::Context;
-use amf_plan::messages::stored_message;
-use amf_plan::numbers::number_in;
-use amf_plan::outside::{Outside, Unanswered};
 use amf_wire::Name;
 use flex_msgs::Common;
 use std::alloc::Global;
@@ -29,7 +30,7 @@ fn publish_message<O: Outside>(
     common: &Common,
     moment: u64,
     message: Name,
-) -> Result<FlexAnswer, Unanswered>
+) -> Result<MessageAnswer, Unanswered>
     requires common { CommonFits common.now }
     requires ready { O.may_call outside.old }
     ensures says { IfOk result (λ a. Says O.handed (publish_spelled_plan (names_told common.now) moment (Some message)) outside.old outside.new a) }
@@ -54,7 +55,7 @@ fn publish_nothing<O: Outside>(
     outside: &mut O,
     common: &Common,
     moment: u64,
-) -> Result<FlexAnswer, Unanswered>
+) -> Result<MessageAnswer, Unanswered>
     requires common { CommonFits common.now }
     ensures says { IfOk result (λ a. Says O.handed (publish_spelled_plan (names_told common.now) moment None) outside.old outside.new a) }
     ensures stopped { OnErr result (Stopped O.handed (publish_spelled_plan (names_told common.now) moment None) outside.old outside.new) }
@@ -71,7 +72,7 @@ pub fn publish<O: Outside>(
     graph: &Rooted,
     common: &Common,
     correlation: &Name,
-) -> Result<FlexAnswer, Unanswered>
+) -> Result<MessageAnswer, Unanswered>
     requires common { IsCommon graph.now.arena common.now }
     requires fits { CommonFits common.now }
     requires correlation { Fits correlation.now }

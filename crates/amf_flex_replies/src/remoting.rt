@@ -9,25 +9,26 @@ ghost use Rattle.amf_graph.specs.Rooted.{content};
 ghost use Rattle.flex_msgs.specs.Asked.{IsCommon};
 ghost use Rattle.amf_service.specs.Meaning.{Called, heaviest_arguments, heaviest_result};
 ghost use Rattle.amf_service.specs.Shipped.{items_of};
-ghost use Rattle.amf_plan.specs.Services.{services_of};
-ghost use Rattle.amf_plan.specs.Calls.{ComesTo, AnswerFits};
+ghost use Rattle.amf_answer_plan.specs.Services.{services_of};
+ghost use Rattle.amf_answer_plan.specs.Calls.{ComesTo, AnswerFits};
 ghost use Rattle.amf_flex_replies.specs.KeptArguments.{KeepsArguments, IsArgument};
 ghost use Rattle.amf_flex_replies.specs.KeptRequests.{remoting_answer, acknowledge_root, SaysCallWith, StopsCallWith, SaysCallIf, StopsCallIf};
-ghost use Rattle.amf_plan.specs.Causes.{bad_message as bad_message_cause};
-ghost use Rattle.amf_plan.specs.Did.{Stopped};
-ghost use Rattle.amf_flex_replies.specs.Says.{Says};
-ghost use Rattle.amf_plan.specs.Kept.{context_in, ContextFits, CommonFits};
-ghost use Rattle.amf_plan.specs.Remoting.{empty_arguments, arguments as arguments_of, outcome as outcome_plan};
-ghost use Rattle.amf_plan.specs.Replies.{error as error_plan};
+ghost use Rattle.amf_answer_plan.specs.Causes.{bad_message as bad_message_cause};
+ghost use Rattle.amf_answer_plan.specs.Did.{Stopped};
+ghost use Rattle.amf_answer_plan.specs.Says.{Says};
+ghost use Rattle.amf_answer_plan.specs.Kept.{context_in, ContextFits, CommonFits};
+ghost use Rattle.amf_answer_plan.specs.Remoting.{empty_arguments, arguments as arguments_of, outcome as outcome_plan};
+ghost use Rattle.amf_answer_plan.specs.Replies.{error as error_plan};
 
-use crate::replies::{FlexAnswer, answered, error, fresh};
+use crate::replies::{answered, error, fresh};
+use amf_answer_plan::arrays::add_array;
+use amf_answer_plan::calling::{ServiceAnswer, call_service};
+use amf_answer_plan::causes::bad_message;
+use amf_answer_plan::context::Context;
+use amf_answer_plan::message_answer::MessageAnswer;
+use amf_answer_plan::messages::{acknowledge_with, finished};
+use amf_answer_plan::outside::Outside;
 use amf_graph::{Builder, Rooted, Value};
-use amf_plan::arrays::add_array;
-use amf_plan::calling::{ServiceAnswer, call_service};
-use amf_plan::causes::bad_message;
-use amf_plan::context::Context;
-use amf_plan::messages::{acknowledge_with, finished};
-use amf_plan::outside::Outside;
 use amf_service::{Registry, copied, items};
 use amf_wire::{Memory, Name};
 use flex_msgs::Common;
@@ -84,7 +85,7 @@ fn acknowledge<O: Outside>(
     outside: &mut O,
     context: &Context,
     value: &Rooted,
-) -> Result<FlexAnswer, Memory>
+) -> Result<MessageAnswer, Memory>
     requires context { ContextFits (context_in context.now) }
     requires light { weight value.now.arena ≤ heaviest_result }
     ensures says { IfOk result (λ a. (g : Graph) → Isomorphic g (content value.now) → Says O.handed (acknowledge_root context.now g) outside.old outside.new a) }
@@ -103,7 +104,7 @@ fn say_called<O: Outside>(
     outside: &mut O,
     context: &Context,
     answer: &ServiceAnswer,
-) -> Result<FlexAnswer, Memory>
+) -> Result<MessageAnswer, Memory>
     requires context { ContextFits (context_in context.now) }
     requires answer { AnswerFits answer.now }
     ensures says { IfOk result (λ a. (c : Called) → ComesTo c answer.now → Says O.handed (outcome_plan (context_in context.now) c) outside.old outside.new a) }
@@ -120,7 +121,7 @@ fn say_no_arguments<O: Outside>(
     alloc: Global,
     outside: &mut O,
     context: &Context,
-) -> Result<FlexAnswer, Memory>
+) -> Result<MessageAnswer, Memory>
     requires { ContextFits (context_in context.now) }
     ensures says { IfOk result (λ a. Says O.handed (error_plan (context_in context.now) bad_message_cause) outside.old outside.new a) }
     ensures stopped { OnErr result (Stopped O.handed (error_plan (context_in context.now) bad_message_cause) outside.old outside.new) }
@@ -138,7 +139,7 @@ fn call_with<O: Outside>(
     service: &Name,
     operation: &Name,
     args: &Rooted,
-) -> Result<FlexAnswer, Memory>
+) -> Result<MessageAnswer, Memory>
     requires context { ContextFits (context_in context.now) }
     requires light { weight args.now.arena ≤ heaviest_arguments }
     ensures says { IfOk result (λ a. SaysCallWith O.handed (services_of registry.now knows gives) context.now service.now operation.now args.now outside.old outside.new a) }
@@ -157,7 +158,7 @@ fn call_if<O: Outside>(
     service: &Name,
     operation: &Name,
     args: &Option<Rooted>,
-) -> Result<FlexAnswer, Memory>
+) -> Result<MessageAnswer, Memory>
     requires context { ContextFits (context_in context.now) }
     requires light { IfSome args.now (λ args. weight args.arena ≤ heaviest_arguments) }
     ensures says { IfOk result (λ a. SaysCallIf O.handed (services_of registry.now knows gives) context.now service.now operation.now args.now outside.old outside.new a) }
@@ -178,7 +179,7 @@ pub fn remoting<O: Outside>(
     graph: &Rooted,
     common: &Common,
     operation: &Name,
-) -> Result<FlexAnswer, Memory>
+) -> Result<MessageAnswer, Memory>
     requires common { IsCommon graph.now.arena common.now }
     requires fits { CommonFits common.now }
     requires light { weight graph.now.arena ≤ heaviest_arguments }

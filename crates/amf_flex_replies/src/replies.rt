@@ -6,32 +6,26 @@ ghost use Rattle.amf_graph.specs.Isomorphic.{Isomorphic};
 ghost use Rattle.amf_graph.specs.Rooted.{content};
 ghost use Rattle.amf_graph.specs.declared.value.Value.TheVariants.{Null};
 ghost use Rattle.flex_msgs.specs.Built.{IsReply, IsShortReply};
-ghost use Rattle.amf_plan.specs.Did.{Ran, Stopped};
-ghost use Rattle.amf_flex_replies.specs.Says.{AnswersFlex, Tells, Says};
+ghost use Rattle.amf_answer_plan.specs.Did.{Ran, Stopped};
+ghost use Rattle.amf_answer_plan.specs.Says.{AnswersMessage, Tells, Says};
 ghost use Rattle.amf_packet.specs.SpelledBodies.{IsBodySpelledAlike, TellsSpelling};
 ghost use Rattle.flex_msgs.specs.Answers.{error_graph};
-ghost use Rattle.amf_plan.specs.Kept.{context_in, Fits, ContextFits, FaultFits};
-ghost use Rattle.amf_plan.specs.Replies.{reply_with, fresh as fresh_plan, failed as failed_answer, answered as answered_plan, error as error_plan, acknowledge_null as acknowledge_null_plan};
+ghost use Rattle.amf_answer_plan.specs.Kept.{context_in, Fits, ContextFits, FaultFits};
+ghost use Rattle.amf_answer_plan.specs.Replies.{reply_with, fresh as fresh_plan, failed as failed_answer, answered as answered_plan, error as error_plan, acknowledge_null as acknowledge_null_plan};
 
+use amf_answer_plan::causes::no_form;
+use amf_answer_plan::context::Context;
+use amf_answer_plan::message_answer::MessageAnswer;
+use amf_answer_plan::messages::{acknowledge_of, error_of};
+use amf_answer_plan::numbers::identifier;
+use amf_answer_plan::outside::Outside;
 use amf_graph::{Rooted, Value};
 use amf_packet::SpelledBody;
-use amf_plan::causes::no_form;
-use amf_plan::context::Context;
-use amf_plan::messages::{acknowledge_of, error_of};
-use amf_plan::numbers::identifier;
-use amf_plan::outside::Outside;
 use amf_wire::{Memory, Name};
 use amf0_spelling::Form;
 use flex_msgs::{FaultText, Reply};
 use std::alloc::Global;
 use std::hash::RandomState;
-
-/// What a Flex request is answered: a result or a status, and the spelling of the message, in AMF 3.
-#[derive(Drop)]
-pub struct FlexAnswer {
-    pub well: bool,
-    pub body: SpelledBody,
-}
 
 /// A reply of these words and this moment. It gives up where there is no memory.
 fn reply_of(
@@ -88,15 +82,15 @@ fn error_body(alloc: Global, reply: &Reply, fault: &FaultText) -> Result<Spelled
 }
 
 /// The error with this cause in the place of a reply. It gives up where there is no memory.
-pub fn failed(alloc: Global, mut reply: Reply, fault: &FaultText) -> Result<FlexAnswer, Memory>
+pub fn failed(alloc: Global, mut reply: Reply, fault: &FaultText) -> Result<MessageAnswer, Memory>
     requires texts { IsReply reply }
     requires short { IsShortReply reply }
     requires fault { FaultFits fault.now }
-    ensures { IfOk result (λ a. AnswersFlex a (failed_answer reply fault.now)) }
+    ensures { IfOk result (λ a. AnswersMessage a (failed_answer reply fault.now)) }
 {
     reply.client = Name::of_bytes(alloc, b"")?;
     let body = error_body(alloc, &reply, fault)?;
-    Ok(FlexAnswer { well: false, body })
+    Ok(MessageAnswer { well: false, body })
 }
 
 /// The spelling in AMF 3 of a graph that is then let go, if it has one. It gives up where there is no memory.
@@ -116,14 +110,14 @@ pub fn answered(
     keys: Option<RandomState>,
     reply: Reply,
     graph: Rooted,
-) -> Result<FlexAnswer, Memory>
+) -> Result<MessageAnswer, Memory>
     requires texts { IsReply reply }
     requires short { IsShortReply reply }
     ensures { IfOk result (λ a. (g : Graph) → Isomorphic g (content graph) → Tells (answered_plan reply g) a) }
 {
     let spelling = spelling_of(alloc, keys, graph)?;
     match spelling {
-        Some(body) => Ok(FlexAnswer { well: true, body }),
+        Some(body) => Ok(MessageAnswer { well: true, body }),
         None => failed(alloc, reply, &no_form(alloc)?),
     }
 }
@@ -134,7 +128,7 @@ pub fn error<O: Outside>(
     outside: &mut O,
     context: &Context,
     fault: &FaultText,
-) -> Result<FlexAnswer, Memory>
+) -> Result<MessageAnswer, Memory>
     requires context { ContextFits (context_in context.now) }
     requires fault { FaultFits fault.now }
     ensures says { IfOk result (λ a. Says O.handed (error_plan (context_in context.now) fault.now) outside.old outside.new a) }
@@ -151,7 +145,7 @@ pub fn acknowledge_null<O: Outside>(
     outside: &mut O,
     context: &Context,
     client: &Name,
-) -> Result<FlexAnswer, Memory>
+) -> Result<MessageAnswer, Memory>
     requires context { ContextFits (context_in context.now) }
     requires client { Fits client.now }
     ensures says { IfOk result (λ a. Says O.handed (acknowledge_null_plan (context_in context.now) client.now) outside.old outside.new a) }

@@ -10,12 +10,12 @@ ghost use Rattle.amf_graph.specs.Rooted.{content};
 ghost use Rattle.amf3_spelling.specs.Spells3.{Spelled3};
 ghost use Rattle.flex_msgs.specs.Built.{IsStored as HoldsStored};
 ghost use Rattle.amf_flex_replies.specs.Batching.{AnswersValue};
-ghost use Rattle.amf_plan.specs.Runs.{Finds, IsStored};
+ghost use Rattle.amf_answer_plan.specs.Runs.{Finds, IsStored};
 
+use amf_answer_plan::messages::finished;
 use amf_broker::MAX_MESSAGE;
 use amf_graph::{Builder, Rooted};
 use amf_io::{Cursor, Empty, ReadEnd, Source};
-use amf_plan::messages::finished;
 use amf_tables::Tables3;
 use amf_wire::Memory;
 use amf3_read::read3;

@@ -14,10 +14,10 @@ ghost use Rattle.amf_broker.specs.declared.limits.TheConstants.{MAX_QUEUED, MAX_
 ghost use Rattle.amf_flex_replies.specs.Batching.{Adds, AddsDelivery, GrewWithin, HoldsAll, IsSync, ReadsAll};
 
 use crate::stored::read_stored;
+use amf_answer_plan::messages::finished;
+use amf_answer_plan::numbers::numeral;
 use amf_broker::{Delivery, MAX_MESSAGE, SubId};
 use amf_graph::{Builder, Rooted, Value};
-use amf_plan::messages::finished;
-use amf_plan::numbers::numeral;
 use amf_service::kept;
 use amf_wire::Memory;
 use flex_msgs::{Reply, delivered, invalidate, sync};

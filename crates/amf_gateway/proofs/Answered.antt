@@ -8,18 +8,18 @@ use Rattle.amf_packet.specs.Packet.{Packet}
 use Rattle.amf_service.specs.Registry.{Entry}
 use Rattle.amf_gateway.specs.Answered.{packet_bytes, if_packet}
 use Rattle.amf_gateway.specs.Answering.{Next, packet, answer_with, next_by, next, goes_on, one_more}
-use Rattle.amf_plan.specs.Begun.{Begun}
-use Rattle.amf_plan.specs.Did.{taken_none, taken_both}
-use Rattle.amf_plan.specs.Links.{LinkEnd, turn_away, answer_packet, answer_body, answer_request, link_of}
+use Rattle.amf_answer_plan.specs.Begun.{Begun}
+use Rattle.amf_answer_plan.specs.Did.{taken_none, taken_both}
+use Rattle.amf_answer_plan.specs.Links.{LinkEnd, turn_away, answer_packet, answer_body, answer_request, link_of}
 use Rattle.amf_gateway.specs.LinkSteps.{Gives, HaltsBy}
-use Rattle.amf_plan.specs.Packets.{answers_to, has_long}
-use Rattle.amf_plan.specs.Plan.{Cut, at_end, cut_short, turned_away, request, Plan, gives, takes_moment, takes_word, calls, spells, reads, cuts, unpacks, packs, writes, ◌>>=◌}
-use Rattle.amf_plan.specs.Respond.{joined}
-use Rattle.amf_plan.specs.Stands.{Stands, AtWriting, AtBytes}
-use Rattle.amf_plan.specs.Runs.{Supply, Done, nothing, and_answer, Outcome, gave, Runs}
-use Rattle.amf_plan.specs.Serving.{ServeEnd, ended, read_fault, write_fault, no_memory, spent, LinkBytes, Taken, supply_of, calls_of, did, none_left, more, ServesBy}
-use Rattle.amf_plan.proofs.Composed.{both, runs_then, runs_more, begun_then}
-use Rattle.amf_plan.proofs.Standing.{at_none, stands_then, stands_on}
+use Rattle.amf_answer_plan.specs.Packets.{answers_to, has_long}
+use Rattle.amf_answer_plan.specs.Plan.{Cut, at_end, cut_short, turned_away, request, Plan, gives, takes_moment, takes_word, calls, spells, reads, cuts, unpacks, packs, writes, ◌>>=◌}
+use Rattle.amf_answer_plan.specs.Respond.{joined}
+use Rattle.amf_answer_plan.specs.Stands.{Stands, AtWriting, AtBytes}
+use Rattle.amf_answer_plan.specs.Runs.{Supply, Done, nothing, and_answer, Outcome, gave, Runs}
+use Rattle.amf_answer_plan.specs.Serving.{ServeEnd, ended, read_fault, write_fault, no_memory, spent, LinkBytes, Taken, supply_of, calls_of, did, none_left, more, ServesBy}
+use Rattle.amf_answer_plan.proofs.Composed.{both, runs_then, runs_more, begun_then}
+use Rattle.amf_answer_plan.proofs.Standing.{at_none, stands_then, stands_on}
 
 -- The plans.
 

@@ -15,15 +15,15 @@ use Rattle.amf_packet.specs.declared.write_spelled.SpelledMessage.{SpelledMessag
 use Rattle.amf_packet.specs.Packet.{Message, Packet, SpelledPacket}
 use Rattle.amf_packet.specs.SpelledBodies.{IsBodySpelledAlike, IsSpelledMessage, IsSpelledAs, HasFitUris}
 use Rattle.amf_service.specs.Registry.{Entry}
-use Rattle.amf_plain_calls.specs.declared.plain_call.MessageAnswer.{MessageAnswer}
+use Rattle.amf_answer_plan.specs.declared.message_answer.MessageAnswer.{MessageAnswer}
 use Rattle.amf_packet.specs.Alike.{MessagesMatch}
-use Rattle.amf_gateway.specs.Answered.{SaysMessage, HasRoom, AnswersBack, SaysMessages, SaysPacket}
-use Rattle.amf_plain_calls.specs.TellsMessage.{AnswersMessage}
-use Rattle.amf_plan.specs.Did.{Drawn, Ran, Stopped}
-use Rattle.amf_plan.specs.Packets.{null_uri, answer_to, suffix, message_back, messages_back, packet_back, answers_to, is_long}
-use Rattle.amf_plan.specs.Plan.{Plan, gives, ◌>>=◌}
-use Rattle.amf_plan.specs.Replies.{Answer}
-use Rattle.amf_plan.proofs.Doing.{HandsNone, HandsBoth, ran_then, ran_nothing, stopped_first, stopped_then, stopped_between}
+use Rattle.amf_gateway.specs.Answered.{HasRoom, AnswersBack, SaysMessages, SaysPacket}
+use Rattle.amf_answer_plan.specs.Says.{AnswersMessage, Says}
+use Rattle.amf_answer_plan.specs.Did.{Drawn, Ran, Stopped}
+use Rattle.amf_answer_plan.specs.Packets.{null_uri, answer_to, suffix, message_back, messages_back, packet_back, answers_to, is_long}
+use Rattle.amf_answer_plan.specs.Plan.{Plan, gives, ◌>>=◌}
+use Rattle.amf_answer_plan.specs.Replies.{Answer}
+use Rattle.amf_answer_plan.proofs.Doing.{HandsNone, HandsBoth, ran_then, ran_nothing, stopped_first, stopped_then, stopped_between}
 
 -- the message that was made is the spelling of the one that is said
 pub back_matches : (response : List ℕ) (x : MessageAnswer) (y : Answer) (m : SpelledMessage) → AnswersMessage x y → m.target ≡ response ++ suffix x.well → m.response ≡ null_uri → m.body ≡ x.body → AnswersBack (message_back response y) m
@@ -66,7 +66,7 @@ module _ {O : Type 0} (handed : O → O → Drawn → Type 0) (none : HandsNone 
   pub answered_none : (start : O) (all : List Message) (back : List SpelledMessage) → back ≡ [] → AnsweredSo handed services start start all all back
   answered_none start all back e = subst (λ (z : List SpelledMessage). AnsweredSo handed services start start all all z) (sym e) (record { done = []; match = tt; goes_on = λ c ys r. r; stops = λ c s. s; uris = tt; count = omega arith })
 
-  answered_one : (start now next : O) (all rest : List Message) (back : List SpelledMessage) (m : Message) (x : MessageAnswer) (y : SpelledMessage) → AnsweredSo handed services start now all (m ∷ rest) back → (s : SaysMessage handed (answer_to services m) now next x) → AnswersBack (message_back m.response s.answer) y → HasFitUris y → AnsweredSo handed services start next all rest (back ++ y ∷ [])
+  answered_one : (start now next : O) (all rest : List Message) (back : List SpelledMessage) (m : Message) (x : MessageAnswer) (y : SpelledMessage) → AnsweredSo handed services start now all (m ∷ rest) back → (s : Says handed (answer_to services m) now next x) → AnswersBack (message_back m.response s.answer) y → HasFitUris y → AnsweredSo handed services start next all rest (back ++ y ∷ [])
   answered_one start now next all rest back m x y so s same fits = record {
     done = so.done ++ message_back m.response s.answer ∷ [];
     match = zip_push AnswersBack so.done back (message_back m.response s.answer) y so.match same;
@@ -78,7 +78,7 @@ module _ {O : Type 0} (handed : O → O → Drawn → Type 0) (none : HandsNone 
     count = omega (arith, so.count, length-append back (y ∷ []));
   }
 
-  pub answered_more : (start now next : O) (all left rest : List Message) (back after : List SpelledMessage) (m : Message) (x : MessageAnswer) (y : SpelledMessage) → left ≡ m ∷ rest → after ≡ back ++ y ∷ [] → AnsweredSo handed services start now all left back → (s : SaysMessage handed (answer_to services m) now next x) → AnswersBack (message_back m.response s.answer) y → HasFitUris y → AnsweredSo handed services start next all rest after
+  pub answered_more : (start now next : O) (all left rest : List Message) (back after : List SpelledMessage) (m : Message) (x : MessageAnswer) (y : SpelledMessage) → left ≡ m ∷ rest → after ≡ back ++ y ∷ [] → AnsweredSo handed services start now all left back → (s : Says handed (answer_to services m) now next x) → AnswersBack (message_back m.response s.answer) y → HasFitUris y → AnsweredSo handed services start next all rest after
   answered_more start now next all left rest back after m x y e f so s same fits =
       subst (λ (z : List SpelledMessage). AnsweredSo handed services start next all rest z) (sym f)
       (answered_one start now next all rest back m x y (subst (λ (z : List Message). AnsweredSo handed services start now all z back) e so) s same fits)
@@ -90,7 +90,7 @@ module _ {O : Type 0} (handed : O → O → Drawn → Type 0) (none : HandsNone 
       at.stops next (stopped_first handed (answer_to services m) (then_rest m rest) now next s)
 
   -- a message was answered, and no more
-  pub stopped_behind : (start now next : O) (all left rest : List Message) (back : List SpelledMessage) (m : Message) (x : MessageAnswer) → left ≡ m ∷ rest → AnsweredSo handed services start now all left back → SaysMessage handed (answer_to services m) now next x → Stopped handed (messages_back services all) start next
+  pub stopped_behind : (start now next : O) (all left rest : List Message) (back : List SpelledMessage) (m : Message) (x : MessageAnswer) → left ≡ m ∷ rest → AnsweredSo handed services start now all left back → Says handed (answer_to services m) now next x → Stopped handed (messages_back services all) start next
   stopped_behind start now next all left rest back m x e so s =
       let at = subst (λ (z : List Message). AnsweredSo handed services start now all z back) e so in
       at.stops next (stopped_between handed none both (answer_to services m) (then_rest m rest) now next s.answer s.ran)

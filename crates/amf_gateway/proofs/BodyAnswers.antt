@@ -7,11 +7,11 @@ use Rattle.amf_packet.specs.Content.{packet_of}
 use Rattle.amf_packet.specs.Packet.{Packet}
 use Rattle.amf_service.specs.Registry.{Entry}
 use Rattle.amf_gateway.specs.Answered.{SaysPacket, Unpacks, packet_bytes, if_packet, body_bytes}
-use Rattle.amf_plan.specs.Did.{Drawn, Ran, Stopped}
-use Rattle.amf_plan.specs.Packets.{answers_to, has_long}
-use Rattle.amf_plan.specs.Plan.{Plan, gives, bytes_of, ◌>>=◌}
-use Rattle.amf_plan.specs.Runs.{IsUnpacked, Finds}
-use Rattle.amf_plan.proofs.Doing.{HandsNone, HandsBoth, ran_then, ran_nothing, stopped_first}
+use Rattle.amf_answer_plan.specs.Did.{Drawn, Ran, Stopped}
+use Rattle.amf_answer_plan.specs.Packets.{answers_to, has_long}
+use Rattle.amf_answer_plan.specs.Plan.{Plan, gives, bytes_of, ◌>>=◌}
+use Rattle.amf_answer_plan.specs.Runs.{IsUnpacked, Finds}
+use Rattle.amf_answer_plan.proofs.Doing.{HandsNone, HandsBoth, ran_then, ran_nothing, stopped_first}
 
 abbrev written : Packet → Plan (Option (List ℕ))
 written back = ◌>>=◌ (bytes_of back) (λ bytes. gives (Some bytes))

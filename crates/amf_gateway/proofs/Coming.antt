@@ -5,17 +5,17 @@ use Rattle.amf_service.specs.Registry.{Entry}
 use Rattle.amf_gateway.specs.declared.links.LinkEnd.{LinkEnd as Ending}
 use Rattle.amf_gateway.specs.declared.links.LinkEnd.TheVariants.{Memory}
 use Rattle.amf_gateway.specs.Answering.{one_more}
-use Rattle.amf_plan.specs.Did.{Drawn, taken_none, none_taken, taken_both, both_taken, StopsAt}
-use Rattle.amf_plan.specs.Links.{LinkEnd, closed, link_of, link, most_requests}
+use Rattle.amf_answer_plan.specs.Did.{Drawn, taken_none, none_taken, taken_both, both_taken, StopsAt}
+use Rattle.amf_answer_plan.specs.Links.{LinkEnd, closed, link_of, link, most_requests}
 use Rattle.amf_gateway.specs.LinkSteps.{HaltsBy, Halts, AllAnswered, ServedLink, Steps}
 use Rattle.amf_gateway.specs.ServesLink.{end_of}
-use Rattle.amf_plan.specs.Plan.{Plan, gives}
-use Rattle.amf_plan.specs.Respond.{joined}
-use Rattle.amf_plan.specs.Runs.{gave, Runs}
-use Rattle.amf_plan.specs.Serving.{ServeEnd, ended, LinkBytes, Taken, supply_of, did, none_left, ServesBy, Serves}
+use Rattle.amf_answer_plan.specs.Plan.{Plan, gives}
+use Rattle.amf_answer_plan.specs.Respond.{joined}
+use Rattle.amf_answer_plan.specs.Runs.{gave, Runs}
+use Rattle.amf_answer_plan.specs.Serving.{ServeEnd, ended, LinkBytes, Taken, supply_of, did, none_left, ServesBy, Serves}
 use Rattle.amf_gateway.proofs.Answered.{Carries, carries_none, carries_step, serves_carried, halts_carried, link_next, written_more}
-use Rattle.amf_plan.proofs.Composed.{none_begun}
-use Rattle.amf_plan.proofs.Standing.{at_none}
+use Rattle.amf_answer_plan.proofs.Composed.{none_begun}
+use Rattle.amf_answer_plan.proofs.Standing.{at_none}
 
 -- between two states of the outside, what all of a link says was done
 pub record ServedBy {O : Type 0} (handed : O → O → Drawn → Type 0) (all : List ℕ → Plan LinkEnd) (old new : O) (tells_left tells_held : Type 0) (b : LinkBytes) (end : ServeEnd) : Type 0 where

@@ -10,14 +10,14 @@ use Rattle.amf_desk.specs.declared.closed.DeskEnd.TheVariants.{Spent, Memory}
 use Rattle.amf_desk.specs.Ends.{Ended}
 use Rattle.amf_desk.specs.Passes.{Held, Explains, Called, Looked}
 use Rattle.amf_desk.proofs.Own.{called_own, looked_own, called_begins, looked_begins}
-use Rattle.amf_plan.specs.Did.{moment_taken, word_taken, entry_taken}
-use Rattle.amf_plan.specs.declared.outside.Unanswered.{Unanswered}
-use Rattle.amf_plan.specs.declared.outside.Unanswered.TheVariants as unanswered_by
+use Rattle.amf_answer_plan.specs.Did.{moment_taken, word_taken, entry_taken}
+use Rattle.amf_answer_plan.specs.declared.outside.Unanswered.{Unanswered}
+use Rattle.amf_answer_plan.specs.declared.outside.Unanswered.TheVariants as unanswered_by
 use Rattle.amf_gateway.specs.WorkerSteps.{reason_of}
 use Rattle.amf_gateway.specs.Handed.{Given, AidGoesOn, PassGoesOn, CallsGoOn}
 use Rattle.amf_gateway.specs.HandedLaws.{aid_none, pass_none}
 use Rattle.amf_gateway.specs.Tells.{HallMembers, LinksStay}
-use Rattle.amf_plan.specs.Small.{IsSmall}
+use Rattle.amf_answer_plan.specs.Small.{IsSmall}
 use Rattle.amf_gateway.proofs.SmallReplies.{last_small}
 
 given_none : (told tells : Type 0) (before now : List ℕ) → Keeps told tells before now → Given told tells before now []

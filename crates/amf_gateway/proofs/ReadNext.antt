@@ -9,15 +9,15 @@ use Rattle.amf_gateway.specs.declared.links.LinkEnd.{LinkEnd as Ending}
 use Rattle.amf_gateway.specs.declared.links.LinkEnd.TheVariants.{Closed, Refused, Truncated, ReadFault, WriteFault, Spent, Memory}
 use Rattle.amf_gateway.specs.Answered.{body_bytes}
 use Rattle.amf_gateway.specs.Answering.{Next, over, status_alone, packet, answer_with, next_by}
-use Rattle.amf_plan.specs.Did.{Drawn, taken_none, none_taken, StopsAt}
-use Rattle.amf_plan.specs.Links.{LinkEnd, closed, truncated}
+use Rattle.amf_answer_plan.specs.Did.{Drawn, taken_none, none_taken, StopsAt}
+use Rattle.amf_answer_plan.specs.Links.{LinkEnd, closed, truncated}
 use Rattle.amf_gateway.specs.LinkSteps.{AnswersRequest, Gives, Pauses, Comes}
-use Rattle.amf_plan.specs.Plan.{at_end, cut_short, turned_away, request, Plan, gives}
-use Rattle.amf_plan.specs.Runs.{Done, nothing, gave, Runs}
-use Rattle.amf_plan.specs.Serving.{Taken, supply_of, did, none_left}
-use Rattle.amf_plan.proofs.Composed.{both, runs_then}
-use Rattle.amf_plan.proofs.Standing.{stands_first}
-use Rattle.amf_plan.specs.Stands.{Stands}
+use Rattle.amf_answer_plan.specs.Plan.{at_end, cut_short, turned_away, request, Plan, gives}
+use Rattle.amf_answer_plan.specs.Runs.{Done, nothing, gave, Runs}
+use Rattle.amf_answer_plan.specs.Serving.{Taken, supply_of, did, none_left}
+use Rattle.amf_answer_plan.proofs.Composed.{both, runs_then}
+use Rattle.amf_answer_plan.proofs.Standing.{stands_first}
+use Rattle.amf_answer_plan.specs.Stands.{Stands}
 
 module _ (services : List Entry) (last : Bool) where
   -- what a request is answered with, once it is cut

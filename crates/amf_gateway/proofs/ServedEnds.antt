@@ -2,19 +2,19 @@
 use Rattle.std.proofs.Common.{◌≡◌, ℕ, ◌+◌, ◌-◌, ◌^◌, ◌<◌, ◌≤◌, min, Bool, true, false, Option, Some, None, List, length, refl, sym, ap, subst, arith, ◌∙◌}
 use Rattle.std.specs.Prelude.{⊤}
 use Rattle.amf_broker.specs.History.{Entry as Event}
-use Rattle.amf_plan.specs.declared.outside.Unanswered.{Unanswered}
-use Rattle.amf_plan.specs.declared.outside.Unanswered.TheVariants.{Spent}
+use Rattle.amf_answer_plan.specs.declared.outside.Unanswered.{Unanswered}
+use Rattle.amf_answer_plan.specs.declared.outside.Unanswered.TheVariants.{Spent}
 use Rattle.amf_gateway.specs.Handed.{Given, PassGoesOn, CountsCalls, unanswered_in, CallsGoOn}
 use Rattle.amf_desk.specs.Passes.{Held}
 use Rattle.amf_service.specs.Registry.{Entry}
 use Rattle.amf_gateway.specs.LinkSteps.{HaltsBy, Halts, AllAnswered}
-use Rattle.amf_plan.specs.Did.{Drawn, StopsAt}
-use Rattle.amf_plan.specs.Links.{LinkEnd, link}
-use Rattle.amf_plan.specs.Plan.{Plan}
-use Rattle.amf_plan.specs.Stands.{AtCall, StopsBy, Stops}
-use Rattle.amf_plan.proofs.Standing.{stands_weaker}
+use Rattle.amf_answer_plan.specs.Did.{Drawn, StopsAt}
+use Rattle.amf_answer_plan.specs.Links.{LinkEnd, link}
+use Rattle.amf_answer_plan.specs.Plan.{Plan}
+use Rattle.amf_answer_plan.specs.Stands.{AtCall, StopsBy, Stops}
+use Rattle.amf_answer_plan.proofs.Standing.{stands_weaker}
 use Rattle.amf_gateway.specs.ServesLink.{CountsLink, most_unanswered, ServesLink, is_starved}
-use Rattle.amf_plan.specs.Serving.{ServeEnd, ended, read_fault, write_fault, no_memory, spent, LinkBytes, Taken, supply_of, did, Serves}
+use Rattle.amf_answer_plan.specs.Serving.{ServeEnd, ended, read_fault, write_fault, no_memory, spent, LinkBytes, Taken, supply_of, did, Serves}
 use Rattle.amf_io.specs.declared.link.Link.{Ghosts as LinkMembers}
 use Rattle.amf_gateway.specs.Tells.{HallMembers, LinksStay}
 use Rattle.amf_gateway.specs.WorkerSteps.{unknown}

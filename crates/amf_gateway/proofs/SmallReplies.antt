@@ -16,7 +16,7 @@ use Rattle.amf_broker.specs.declared.reply.Reply.TheVariants.{Full, NoClient, No
 use Rattle.amf_broker.specs.State.{State, Board, Connection, Subscription, first}
 use Rattle.amf_broker.specs.Machine.{client_at, is_connected, at_client, queue_of, queue_in, ended_of, ended_in, kept_of, kept_ended_of, subs_of, places_of, is_same_topic, topic_refusal, or_then, client_refusal, last_of, refusal, new_client, connected, subscribed, unsubscribed, published, polled, with_delivery, with_ended, emptied, kept_as, seen_at, spread, ended_first, is_full, subscribers, served, same_batch, next_batch, found, without, without_all, sighted, named_by, unless, reply_on, answer_to, after, later, expired_at}
 use Rattle.amf_broker.specs.History.{Entry, IsLegal, IsAnsweredFrom}
-use Rattle.amf_plan.specs.Small.{IsSmallBatch, IsSmall}
+use Rattle.amf_answer_plan.specs.Small.{IsSmallBatch, IsSmall}
 
 abbrev IsShortMessage : Delivery → Type 0
 IsShortMessage d = length d.message ≤ MAX_MESSAGE

@@ -11,7 +11,7 @@ use Rattle.amf_gateway.specs.declared.worker.WorkerEnd.TheVariants.{Done, FrontF
 use Rattle.amf_gateway.specs.Handed.{Given, PassGoesOn, CountsCalls}
 use Rattle.amf_gateway.specs.Served.{moments_of, words_of, entries_of, IsWhole, IsWholeUnlessFault, AreSpent, Served}
 use Rattle.amf_gateway.specs.ServesLink.{CountsLink, Service, IsServed, ServesLink, is_starved}
-use Rattle.amf_plan.specs.Serving.{ServeEnd, ended, read_fault, write_fault, no_memory, spent}
+use Rattle.amf_answer_plan.specs.Serving.{ServeEnd, ended, read_fault, write_fault, no_memory, spent}
 use Rattle.amf_io.specs.declared.link.Link.{Ghosts as LinkMembers}
 use Rattle.amf_gateway.specs.Tells.{HallMembers}
 use Rattle.amf_gateway.specs.WorkerSteps.{ServedNext}

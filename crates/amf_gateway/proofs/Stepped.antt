@@ -11,18 +11,18 @@ use Rattle.amf_gateway.specs.declared.links.Answer.TheVariants.{Packet, Status}
 use Rattle.amf_gateway.specs.declared.links.LinkEnd.{LinkEnd as Ending}
 use Rattle.amf_gateway.specs.declared.links.LinkEnd.TheVariants.{Closed, Refused, Truncated, ReadFault, WriteFault, Spent, Memory}
 use Rattle.amf_gateway.specs.Answering.{Next, over, status_alone, packet, next, goes_on, one_more}
-use Rattle.amf_plan.specs.Begun.{Begun}
-use Rattle.amf_plan.specs.Links.{LinkEnd, closed, refused, truncated, closed_or}
+use Rattle.amf_answer_plan.specs.Begun.{Begun}
+use Rattle.amf_answer_plan.specs.Links.{LinkEnd, closed, refused, truncated, closed_or}
 use Rattle.amf_gateway.specs.LinkSteps.{AnswersRequest, AnsweredBy, Gives, Begins, Pauses, ComesBy, Comes, CountsReads, StepsBy, Steps, written_as, ends_with, unwritten}
 use Rattle.amf_gateway.specs.ServesLink.{end_of, CountsLink}
-use Rattle.amf_plan.specs.Stands.{Stands, AtWriting, AtBytes}
-use Rattle.amf_plan.specs.Plan.{Plan}
-use Rattle.amf_plan.specs.Respond.{joined}
-use Rattle.amf_plan.specs.Runs.{Done, nothing, and_answer, gave, Runs}
-use Rattle.amf_plan.specs.Serving.{LinkBytes, Taken, supply_of, did, none_left}
-use Rattle.amf_plan.specs.Did.{Drawn, taken_none, StopsAt}
-use Rattle.amf_plan.proofs.Composed.{both, runs_then, begun_first, begun_then, none_begun, runs_begun}
-use Rattle.amf_plan.proofs.Standing.{at_none, stands_then, stands_first, stands_begun}
+use Rattle.amf_answer_plan.specs.Stands.{Stands, AtWriting, AtBytes}
+use Rattle.amf_answer_plan.specs.Plan.{Plan}
+use Rattle.amf_answer_plan.specs.Respond.{joined}
+use Rattle.amf_answer_plan.specs.Runs.{Done, nothing, and_answer, gave, Runs}
+use Rattle.amf_answer_plan.specs.Serving.{LinkBytes, Taken, supply_of, did, none_left}
+use Rattle.amf_answer_plan.specs.Did.{Drawn, taken_none, StopsAt}
+use Rattle.amf_answer_plan.proofs.Composed.{both, runs_then, begun_first, begun_then, none_begun, runs_begun}
+use Rattle.amf_answer_plan.proofs.Standing.{at_none, stands_then, stands_first, stands_begun}
 
 module _ (services : List Entry) (last : Bool) (after : List ℕ → Plan LinkEnd) (bytes : List ℕ) (k : Taken) where
   -- the link ended before an answer

@@ -11,25 +11,16 @@ use Rattle.amf_packet.specs.Content.{packet_of}
 use Rattle.amf_packet.specs.Packet.{Message, Packet, is_version}
 use Rattle.amf_packet.specs.PacketAnswer.{body_weight}
 use Rattle.amf_service.specs.Registry.{Entry}
-use Rattle.amf_plain_calls.specs.declared.plain_call.MessageAnswer.{MessageAnswer}
 use Rattle.amf_packet.specs.declared.write_spelled.SpelledMessage.{SpelledMessage}
 use Rattle.amf_packet.specs.SpelledBodies.{IsBodySpelledAlike}
-use Rattle.amf_plain_calls.specs.TellsMessage.{AnswersMessage}
-use Rattle.amf_plan.specs.Did.{Drawn, Ran}
-use Rattle.amf_plan.specs.Packets.{answers_to, has_long}
-use Rattle.amf_plan.specs.Plan.{Plan, gives, ◌>>=◌, bytes_of, packet_in}
-use Rattle.amf_plan.specs.Replies.{Answer}
-use Rattle.amf_plan.specs.Runs.{IsPacked, IsUnpacked, Finds}
+use Rattle.amf_answer_plan.specs.Did.{Drawn, Ran}
+use Rattle.amf_answer_plan.specs.Packets.{answers_to, has_long}
+use Rattle.amf_answer_plan.specs.Plan.{Plan, gives, ◌>>=◌, bytes_of, packet_in}
+use Rattle.amf_answer_plan.specs.Runs.{IsPacked, IsUnpacked, Finds}
 
 -- the most bytes of a body
 abbrev pub most_body : ℕ
 most_body = 1048576
-
--- the plan was done, and gave this answer
-pub record SaysMessage {O : Type 0} (handed : O → O → Drawn → Type 0) (p : Plan Answer) (old new : O) (x : MessageAnswer) : Type 0 where
-  pub answer : Answer
-  pub is : AnswersMessage x answer
-  pub ran : Ran handed p old new answer
 
 -- a message that is kept is the spelling of what the plan says, up to the numbers of nodes
 pub record AnswersBack (m : Message) (s : SpelledMessage) : Type 0 where

@@ -2,9 +2,9 @@
 use Rattle.std.specs.Prelude.{ℕ, ◌||◌, Bool, List, Option, Some, None}
 use Rattle.amf_http.specs.Response.{response}
 use Rattle.amf_service.specs.Registry.{Entry}
-use Rattle.amf_plan.specs.Links.{LinkEnd, closed, truncated, turn_away, closed_or}
+use Rattle.amf_answer_plan.specs.Links.{LinkEnd, closed, truncated, turn_away, closed_or}
 use Rattle.amf_gateway.specs.Answered.{body_bytes}
-use Rattle.amf_plan.specs.Plan.{Plan, Cut, at_end, cut_short, turned_away, request, gives, writes, ◌>>=◌, first_request}
+use Rattle.amf_answer_plan.specs.Plan.{Plan, Cut, at_end, cut_short, turned_away, request, gives, writes, ◌>>=◌, first_request}
 
 -- what comes next of a link: its end; a status alone, which ends it; or a packet, and then the rest of the bytes
 pub data Next : Type 0 where

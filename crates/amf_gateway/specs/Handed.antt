@@ -4,10 +4,10 @@ use Rattle.std.specs.Borrow.{MutBor}
 use Rattle.amf_broker.specs.History.{Entry as Event}
 use Rattle.amf_desk.specs.Histories.{own, Begins}
 use Rattle.amf_desk.specs.Passes.{Held, Explains}
-use Rattle.amf_plan.specs.declared.outside.Unanswered.{Unanswered}
-use Rattle.amf_plan.specs.declared.outside.Unanswered.TheVariants.{Spent}
-use Rattle.amf_plan.specs.Did.{Drawn}
-use Rattle.amf_plan.specs.Serving.{Taken}
+use Rattle.amf_answer_plan.specs.declared.outside.Unanswered.{Unanswered}
+use Rattle.amf_answer_plan.specs.declared.outside.Unanswered.TheVariants.{Spent}
+use Rattle.amf_answer_plan.specs.Did.{Drawn}
+use Rattle.amf_answer_plan.specs.Serving.{Taken}
 use Rattle.amf_gateway.specs.Tells.{HallMembers, LinksStay}
 
 -- a meaning that grows by what was given, where it is told

@@ -5,10 +5,10 @@ use Rattle.amf_io.specs.Outside.{Keeps, SameLinks}
 use Rattle.amf_broker.specs.History.{Entry as Event}
 use Rattle.amf_desk.specs.Histories.{own, Begins}
 use Rattle.amf_desk.specs.Passes.{Held}
-use Rattle.amf_plan.specs.Did.{taken_none, taken_both, Drawn, both_taken}
-use Rattle.amf_plan.specs.declared.outside.Unanswered.{Unanswered}
+use Rattle.amf_answer_plan.specs.Did.{taken_none, taken_both, Drawn, both_taken}
+use Rattle.amf_answer_plan.specs.declared.outside.Unanswered.{Unanswered}
 use Rattle.amf_gateway.specs.Handed.{Given, AidGoesOn, PassGoesOn, CallsGoOn, CallerGoesOn}
-use Rattle.amf_plan.specs.Serving.{Taken}
+use Rattle.amf_answer_plan.specs.Serving.{Taken}
 use Rattle.amf_gateway.specs.Tells.{HallMembers}
 
 pub given_self : (told : Type 0) (before : List ℕ) → Given told told before before []

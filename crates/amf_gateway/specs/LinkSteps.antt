@@ -13,15 +13,15 @@ use Rattle.amf_gateway.specs.declared.links.LinkEnd.{LinkEnd as Ending}
 use Rattle.amf_gateway.specs.declared.links.LinkEnd.TheVariants.{Closed, Refused, Truncated, ReadFault, WriteFault, Spent, Memory}
 use Rattle.amf_gateway.specs.Answered.{body_bytes}
 use Rattle.amf_gateway.specs.Answering.{Next, over, status_alone, packet, next, one_more}
-use Rattle.amf_plan.specs.Begun.{Begun}
-use Rattle.amf_plan.specs.Did.{Drawn, none_taken, Ran, StopsAt, Stopped}
-use Rattle.amf_plan.specs.Links.{LinkEnd, closed, truncated, link}
-use Rattle.amf_plan.specs.Plan.{Plan}
-use Rattle.amf_plan.specs.Respond.{joined}
-use Rattle.amf_plan.specs.Runs.{gave, Runs}
+use Rattle.amf_answer_plan.specs.Begun.{Begun}
+use Rattle.amf_answer_plan.specs.Did.{Drawn, none_taken, Ran, StopsAt, Stopped}
+use Rattle.amf_answer_plan.specs.Links.{LinkEnd, closed, truncated, link}
+use Rattle.amf_answer_plan.specs.Plan.{Plan}
+use Rattle.amf_answer_plan.specs.Respond.{joined}
+use Rattle.amf_answer_plan.specs.Runs.{gave, Runs}
 use Rattle.amf_gateway.specs.ServesLink.{end_of, CountsLink}
-use Rattle.amf_plan.specs.Stands.{Stands, StopsBy}
-use Rattle.amf_plan.specs.Serving.{ServeEnd, no_memory, spent, Taken, supply_of, did, none_left, LinkBytes, AreWritten, ServesBy, Serves}
+use Rattle.amf_answer_plan.specs.Stands.{Stands, StopsBy}
+use Rattle.amf_answer_plan.specs.Serving.{ServeEnd, no_memory, spent, Taken, supply_of, did, none_left, LinkBytes, AreWritten, ServesBy, Serves}
 
 -- where it stops, as long as it is not known why a link was not answered whole: at such a step where memory or calls ran out
 abbrev pub HaltsBy : (At : Plan LinkEnd → Type 0) → (List ℕ → Plan LinkEnd) → LinkBytes → Taken → ServeEnd → Type 0

@@ -9,7 +9,7 @@ use Rattle.amf_gateway.specs.declared.worker.Worker.{Worker}
 use Rattle.amf_gateway.specs.declared.worker.WorkerEnd.{WorkerEnd}
 use Rattle.amf_gateway.specs.declared.worker.WorkerEnd.TheVariants.{Done, FrontFault}
 use Rattle.amf_gateway.specs.Handed.{Given, PassGoesOn, CountsCalls}
-use Rattle.amf_plan.specs.Serving.{ServeEnd, ended, spent}
+use Rattle.amf_answer_plan.specs.Serving.{ServeEnd, ended, spent}
 use Rattle.amf_gateway.specs.ServesLink.{Service, IsServed, is_starved}
 use Rattle.amf_io.specs.declared.link.Link.{Ghosts as LinkMembers}
 use Rattle.amf_gateway.specs.Tells.{HallMembers}

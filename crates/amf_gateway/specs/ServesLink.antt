@@ -6,9 +6,9 @@ use Rattle.amf_service.specs.Registry.{Entry}
 use Rattle.amf_gateway.specs.declared.links.LinkEnd.{LinkEnd as Ending}
 use Rattle.amf_gateway.specs.declared.links.LinkEnd.TheVariants.{Closed, Refused, Truncated, ReadFault, WriteFault, Spent, Memory}
 use Rattle.amf_gateway.specs.Handed.{Given, PassGoesOn}
-use Rattle.amf_plan.specs.Links.{closed, refused, truncated}
-use Rattle.amf_plan.specs.Stands.{Stops}
-use Rattle.amf_plan.specs.Serving.{ServeEnd, ended, read_fault, write_fault, no_memory, spent, LinkBytes, Taken, Serves}
+use Rattle.amf_answer_plan.specs.Links.{closed, refused, truncated}
+use Rattle.amf_answer_plan.specs.Stands.{Stops}
+use Rattle.amf_answer_plan.specs.Serving.{ServeEnd, ended, read_fault, write_fault, no_memory, spent, LinkBytes, Taken, Serves}
 use Rattle.amf_io.specs.declared.link.Link.{Ghosts as LinkMembers}
 use Rattle.amf_gateway.specs.Tells.{HallMembers, LinksStay}
 

@@ -4,12 +4,12 @@ use Rattle.amf_desk.specs.declared.closed.DeskEnd.{DeskEnd}
 use Rattle.amf_desk.specs.declared.closed.DeskEnd.TheVariants as desk_end
 use Rattle.amf_desk.specs.Passes.{Held}
 use Rattle.amf_gateway.specs.declared.worker.Worker.{Worker}
-use Rattle.amf_plan.specs.declared.outside.Unanswered.{Unanswered}
-use Rattle.amf_plan.specs.declared.outside.Unanswered.TheVariants as unanswered_by
+use Rattle.amf_answer_plan.specs.declared.outside.Unanswered.{Unanswered}
+use Rattle.amf_answer_plan.specs.declared.outside.Unanswered.TheVariants as unanswered_by
 use Rattle.amf_service.specs.Registry.{Entry}
 use Rattle.amf_gateway.specs.Handed.{Given, PassGoesOn}
 use Rattle.amf_gateway.specs.ServesLink.{Service, IsServed, is_starved}
-use Rattle.amf_plan.specs.Serving.{ServeEnd, no_memory, spent}
+use Rattle.amf_answer_plan.specs.Serving.{ServeEnd, no_memory, spent}
 use Rattle.amf_io.specs.declared.link.Link.{Ghosts as LinkMembers}
 use Rattle.amf_gateway.specs.Tells.{HallMembers}
 

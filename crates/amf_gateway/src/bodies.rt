@@ -3,12 +3,12 @@
 ghost use Rattle.std.specs.Prelude.{◌≤◌, length, Some, OnErr};
 ghost use Rattle.amf_packet.specs.Content.{packet_of};
 ghost use Rattle.amf_gateway.specs.Answered.{IsReadable, if_packet, body_bytes, most_body, RanBytes};
-ghost use Rattle.amf_plan.specs.Services.{services_of};
-ghost use Rattle.amf_plan.specs.Did.{Stopped};
+ghost use Rattle.amf_answer_plan.specs.Services.{services_of};
+ghost use Rattle.amf_answer_plan.specs.Did.{Stopped};
 
 use crate::packets::{answer_packet, has_long_uri};
+use amf_answer_plan::outside::{Outside, Unanswered};
 use amf_packet::{Packet, packet_in};
-use amf_plan::outside::{Outside, Unanswered};
 use amf_service::Registry;
 use std::alloc::Global;
 

@@ -5,10 +5,10 @@ ghost use Rattle.amf_gateway.specs.WorkerSteps.{reason_of};
 ghost use Rattle.amf_gateway.specs.HandedLaws.{aid_none, pass_none, calls_none, caller_both};
 
 use crate::at_hand::AtHand;
+use amf_answer_plan::outside::{Outside, Unanswered};
 use amf_broker::{Call, Reply};
 use amf_desk::{DeskEnd, Pass};
 use amf_io::{Gate, Hall};
-use amf_plan::outside::{Outside, Unanswered};
 use std::hash::RandomState;
 use std::sync::Wait;
 

@@ -3,15 +3,15 @@
 ghost use Rattle.std.specs.Prelude.{◌≡◌, ◌≤◌, length, ◌==◌, ◌||◌, [], IfOk};
 ghost use Rattle.amf_io.specs.Outside.{Keeps};
 ghost use Rattle.amf_http.specs.Response.{Writes, CountsWrites};
-ghost use Rattle.amf_plan.specs.Services.{services_of};
+ghost use Rattle.amf_answer_plan.specs.Services.{services_of};
 ghost use Rattle.amf_gateway.specs.Answered.{most_body};
 ghost use Rattle.amf_gateway.specs.ServesLink.{end_of, CountsLink, is_starved};
 ghost use Rattle.amf_gateway.specs.LinkSteps.{ServedOn, AnswersRequest, ComesOn, IsAnswer, written_as, ends_with, StepsOn, CountsStep, CountsReads};
 
 use crate::bodies::answer_body;
+use amf_answer_plan::outside::{Outside, Unanswered};
 use amf_http::{AnswerEnd, HttpBuffer, HttpEnd, HttpRequest, next_request, write_response};
 use amf_io::Link;
-use amf_plan::outside::{Outside, Unanswered};
 use amf_service::Registry;
 use std::alloc::Global;
 

@@ -5,19 +5,20 @@ ghost use Rattle.std.specs.List.{AllByRecursion};
 ghost use Rattle.amf_packet.specs.Content.{body_of, message_of, packet_of};
 ghost use Rattle.amf_packet.specs.PacketAnswer.{body_weight};
 ghost use Rattle.amf_packet.specs.SpelledBodies.{HasFitUris};
-ghost use Rattle.amf_gateway.specs.Answered.{SaysMessage, IsAnswerable, HasRoom, most_body, SaysAll, SaysWhole};
-ghost use Rattle.amf_plan.specs.Services.{services_of};
-ghost use Rattle.amf_plain_calls.specs.TellsMessage.{TellsMessage};
-ghost use Rattle.amf_plan.specs.Did.{Stopped};
-ghost use Rattle.amf_plan.specs.Flex.{flex as flex_plan};
-ghost use Rattle.amf_plan.specs.PlainCalls.{at_last_dot, plain_call as plain_plan};
-ghost use Rattle.amf_plan.specs.Packets.{answer_to as answer_plan, answers_to as answers_plan, messages_back as back_plan};
-ghost use Rattle.amf_plan.specs.Packets.{suffix as suffix_of, null_uri, is_long as is_long_content, has_long as has_long_content};
+ghost use Rattle.amf_gateway.specs.Answered.{IsAnswerable, HasRoom, most_body, SaysAll, SaysWhole};
+ghost use Rattle.amf_answer_plan.specs.Services.{services_of};
+ghost use Rattle.amf_answer_plan.specs.Says.{Says, Tells};
+ghost use Rattle.amf_answer_plan.specs.Did.{Stopped};
+ghost use Rattle.amf_answer_plan.specs.Flex.{flex as flex_plan};
+ghost use Rattle.amf_answer_plan.specs.PlainCalls.{at_last_dot, plain_call as plain_plan};
+ghost use Rattle.amf_answer_plan.specs.Packets.{answer_to as answer_plan, answers_to as answers_plan, messages_back as back_plan};
+ghost use Rattle.amf_answer_plan.specs.Packets.{suffix as suffix_of, null_uri, is_long as is_long_content, has_long as has_long_content};
 
+use amf_answer_plan::message_answer::MessageAnswer;
+use amf_answer_plan::outside::{Outside, Unanswered};
 use amf_flex_replies::flex::flex;
 use amf_packet::{Body, Message, Packet, SpelledMessage, spelled_packet};
-use amf_plain_calls::plain_call::{MessageAnswer, plain_call};
-use amf_plan::outside::{Outside, Unanswered};
+use amf_plain_calls::plain_call::plain_call;
 use amf_service::Registry;
 use amf_wire::{Memory, Name};
 use std::alloc::Global;
@@ -33,25 +34,6 @@ fn is_flex(target: &Name) -> bool
     target.as_bytes() == b"null".as_slice()
 }
 
-/// Answers a Flex request, in AMF 3.
-fn answer_flex<O: Outside>(
-    alloc: Global,
-    outside: &mut O,
-    registry: &Registry,
-    body: &Body,
-) -> Result<MessageAnswer, Unanswered>
-    requires light { body_weight body.now ≤ most_body }
-    requires ready { O.may_call outside.old }
-    ensures says { IfOk result (SaysMessage O.handed (flex_plan (services_of registry.now knows gives) (body_of body.now)) outside.old outside.new) }
-    ensures stopped { OnErr result (Stopped O.handed (flex_plan (services_of registry.now knows gives) (body_of body.now)) outside.old outside.new) }
-{
-    let answer = flex(alloc, outside, registry, body)?;
-    Ok(MessageAnswer {
-        well: answer.well,
-        body: answer.body,
-    })
-}
-
 /// Answers a call that names a service and an operation by its target. It asks for nothing outside.
 fn answer_call(
     alloc: Global,
@@ -60,7 +42,7 @@ fn answer_call(
     message: &Message,
 ) -> Result<MessageAnswer, Unanswered>
     requires { body_weight message.now.body ≤ most_body }
-    ensures { IfOk result (TellsMessage (plain_plan (services_of registry.now knows gives) (body_of message.now.body) (at_last_dot message.now.target))) }
+    ensures { IfOk result (Tells (plain_plan (services_of registry.now knows gives) (body_of message.now.body) (at_last_dot message.now.target))) }
 {
     Ok(plain_call(alloc, keys, registry, &message.target, &message.body)?)
 }
@@ -74,12 +56,12 @@ fn answer_message<O: Outside>(
 ) -> Result<MessageAnswer, Unanswered>
     requires light { body_weight message.now.body ≤ most_body }
     requires ready { O.may_call outside.old }
-    ensures says { IfOk result (SaysMessage O.handed (answer_plan (services_of registry.now knows gives) (message_of message.now)) outside.old outside.new) }
+    ensures says { IfOk result (Says O.handed (answer_plan (services_of registry.now knows gives) (message_of message.now)) outside.old outside.new) }
     ensures stopped { OnErr result (Stopped O.handed (answer_plan (services_of registry.now knows gives) (message_of message.now)) outside.old outside.new) }
 {
     let is_request = is_flex(&message.target);
     if is_request {
-        answer_flex(alloc, outside, registry, &message.body)
+        flex(alloc, outside, registry, &message.body)
     } else {
         answer_call(alloc, outside.keys(), registry, message)
     }

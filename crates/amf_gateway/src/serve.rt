@@ -1,19 +1,19 @@
 //! How a link is served at a desk.
 
 ghost use Rattle.std.specs.Prelude.{◌≡◌, ◌+◌, ◌-◌, ◌^◌, min, Some};
-ghost use Rattle.amf_plan.specs.Services.{services_of};
+ghost use Rattle.amf_answer_plan.specs.Services.{services_of};
 ghost use Rattle.amf_gateway.specs.Handed.{CountsCalls};
 ghost use Rattle.amf_gateway.specs.ServesLink.{end_of, most_unanswered, WasServed};
-ghost use Rattle.amf_plan.specs.declared.outside.Unanswered.TheVariants.{Spent};
-ghost use Rattle.amf_plan.specs.Serving.{spent};
+ghost use Rattle.amf_answer_plan.specs.declared.outside.Unanswered.TheVariants.{Spent};
+ghost use Rattle.amf_answer_plan.specs.Serving.{spent};
 ghost use Rattle.amf_gateway.specs.WorkerSteps.{unknown};
 
 use crate::at_hand::AtHand;
 use crate::caller::Caller;
 use crate::links::{LinkEnd, answer_link};
+use amf_answer_plan::outside::Unanswered;
 use amf_desk::{Desk, Pass};
 use amf_io::{Gate, Hall, Link};
-use amf_plan::outside::Unanswered;
 use amf_service::Registry;
 use std::alloc::Global;
 use std::sync::Wait;

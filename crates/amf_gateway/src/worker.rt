@@ -1,7 +1,7 @@
 //! Workers at a desk, each with a pass and a hall of its own.
 
 ghost use Rattle.std.specs.Prelude.{◌≡◌, ◌||◌, None};
-ghost use Rattle.amf_plan.specs.Services.{services_of};
+ghost use Rattle.amf_answer_plan.specs.Services.{services_of};
 ghost use Rattle.amf_gateway.specs.Served.{WorkerServed, WorkerCounts, CountsAnswered, CountsTold, starved_in};
 ghost use Rattle.amf_gateway.specs.WorkerSteps.{NextServed};
 

@@ -3,7 +3,7 @@ use crate::checks::{field, holds};
 use crate::requests::{put, put_bytes, put_flex_request, put_flex_response, put_words, request};
 use amf_desk::Closed;
 use amf_gateway::LinkEnd;
-use amf_rows::{Row, Table};
+use amf_test_rows::{Row, Table};
 use std::alloc::Global;
 use std::process::Abort;
 use std::sync::Wait;

@@ -3,7 +3,7 @@ use crate::checks::{bytes_in, holds};
 use crate::requests::{put, request, response};
 use amf_gateway::LinkEnd;
 use amf_io::{Failed, Link};
-use amf_rows::{Row, Table};
+use amf_test_rows::{Row, Table};
 use std::alloc::Global;
 use std::process::Abort;
 use std::sync::Wait;

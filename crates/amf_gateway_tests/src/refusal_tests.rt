@@ -2,7 +2,7 @@ use crate::answered::{NO_CALLS, PLAINLY, Want, is_answered};
 use crate::checks::{bytes_in, field, number};
 use crate::requests::{put, request};
 use amf_gateway::LinkEnd;
-use amf_rows::{Row, Table};
+use amf_test_rows::{Row, Table};
 use std::alloc::Global;
 use std::process::Abort;
 use std::sync::Wait;

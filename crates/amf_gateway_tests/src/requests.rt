@@ -1,4 +1,4 @@
-use amf_rows::bytes_of;
+use amf_test_rows::bytes_of;
 use itoa::Buffer;
 use std::alloc::Global;
 use std::process::Abort;

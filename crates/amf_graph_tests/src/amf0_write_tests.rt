@@ -5,7 +5,7 @@ use crate::amf3_write_tests::empty_tables;
 use crate::checks::{bytes_of, field, holds, holds_in, is, number};
 use amf_fixtures::{graph0, graph3};
 use amf_graph::{Lack, LackKind, Rooted, WriteEnd};
-use amf_rows::{Row, Table};
+use amf_test_rows::{Row, Table};
 use amf_wire::{U29, write_u29};
 use amf0_write::{first_lack0, lower, write0, write0_part};
 use std::alloc::Global;

@@ -1,4 +1,4 @@
-use amf_rows::Row;
+use amf_test_rows::Row;
 use std::alloc::Global;
 use std::process::Abort;
 

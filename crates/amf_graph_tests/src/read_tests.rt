@@ -2,7 +2,7 @@ use crate::checks::{bytes_of, field, holds, is, number};
 use amf_fixtures::{Reading, graph0, graph3, told_texts3, told0, told3};
 use amf_graph::{NodeId, NodeView, Rooted, Value};
 use amf_io::{faults_are_first, next_kind_is_fixed, one_verdict, reading_decides, reading_waits};
-use amf_rows::{Row, Table};
+use amf_test_rows::{Row, Table};
 use amf3_read::{Values3, pairs_have_one_verdict, texts_have_one_verdict};
 use std::alloc::Global;
 use std::process::Abort;

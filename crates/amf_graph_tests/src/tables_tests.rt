@@ -4,8 +4,8 @@ ghost use Rattle.amf_tables.specs.ShownTraits.{AreTextIds};
 use crate::checks::{bytes_of, field, holds, holds_in, number, number_in};
 use crate::graph_tests::of_two_texts;
 use amf_graph::{NodeId, Rooted, TextId, TraitsId, TraitsView, Wrapped};
-use amf_rows::{Row, Table};
 use amf_tables::{Tables3, WriterTables};
+use amf_test_rows::{Row, Table};
 use std::alloc::Global;
 use std::process::Abort;
 

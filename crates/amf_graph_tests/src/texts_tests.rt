@@ -1,6 +1,6 @@
 use crate::checks::{bytes_of, holds, holds_in, number_in};
 use amf_graph::{TextPool, Texts};
-use amf_rows::{Row, Table};
+use amf_test_rows::{Row, Table};
 use std::alloc::Global;
 use std::process::Abort;
 

@@ -1,5 +1,5 @@
 use crate::checks::{field, holds};
-use amf_rows::Row;
+use amf_test_rows::Row;
 use std::alloc::Global;
 use std::process::Abort;
 

@@ -2,7 +2,7 @@ use crate::checks::{field, holds_of};
 use crate::fields::pieces;
 use amf_http::{HttpBuffer, HttpEnd, next_request};
 use amf_io::{Joined, MemoryLink, MemorySink, MemorySource};
-use amf_rows::Row;
+use amf_test_rows::Row;
 use std::alloc::Global;
 use std::process::Abort;
 

@@ -2,7 +2,7 @@ use crate::checks::{field, holds, holds_of, number};
 use crate::fields::{put_text, text_of};
 use crate::http_firsts::{WHOLE, expect_first, expect_in_pieces, expect_truncated, first, wanted};
 use amf_http::HttpEnd;
-use amf_rows::{Row, Table};
+use amf_test_rows::{Row, Table};
 use std::alloc::Global;
 use std::process::Abort;
 

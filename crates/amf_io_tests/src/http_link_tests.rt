@@ -8,7 +8,7 @@ use crate::http_firsts::{
 };
 use amf_http::{AnswerEnd, HttpBuffer, HttpEnd, next_request, write_response};
 use amf_io::MemoryLink;
-use amf_rows::{Row, Table};
+use amf_test_rows::{Row, Table};
 use std::alloc::Global;
 use std::process::Abort;
 

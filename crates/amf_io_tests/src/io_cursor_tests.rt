@@ -4,7 +4,7 @@ ghost use Rattle.amf_io.specs.Cursor.{Counts};
 use crate::checks::{field, holds, holds_of, number};
 use crate::fields::pieces;
 use amf_io::{Cursor, CursorEnd, Empty, FaultlessSource, MemorySource, Source, Window};
-use amf_rows::{Row, Table};
+use amf_test_rows::{Row, Table};
 use std::alloc::Global;
 use std::process::Abort;
 

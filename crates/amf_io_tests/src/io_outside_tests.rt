@@ -3,7 +3,7 @@ use amf_io::{
     Failed, FaultlessSink, FaultlessSource, Joined, Link, MemorySink, MemorySource, Sink, Source,
     StandardError, StandardInput, StandardOutput,
 };
-use amf_rows::{Row, Table};
+use amf_test_rows::{Row, Table};
 use std::alloc::Global;
 use std::process::Abort;
 

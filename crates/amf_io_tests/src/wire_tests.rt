@@ -1,6 +1,6 @@
 use crate::checks::{field, holds, holds_of, number};
 use crate::fields::{bits, integer};
-use amf_rows::{Row, Table};
+use amf_test_rows::{Row, Table};
 use amf_wire::{
     Name, NameEnd, Pattern, U29, U29Read, be16_at, be32_at, be64_at, first_bad, is_amf_text,
     one_shortest_u29, pattern_of, read_u29, sign29, unsign29, whole_numbers, whole_of,

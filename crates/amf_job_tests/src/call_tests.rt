@@ -2,7 +2,7 @@ use crate::cases::{Case, How, check_rows};
 use crate::dials::{GOOD, Links, dial_of, taken};
 use crate::runs::{BY_BYTES, Told, WHOLE, Ways, check_over};
 use amf_io::{MemoryDial, MemoryLink};
-use amf_rows::{Row, Table};
+use amf_test_rows::{Row, Table};
 use std::alloc::Global;
 use std::process::Abort;
 use std::random::RandomSource;

@@ -1,7 +1,7 @@
 use crate::call_tests::{check_call, check_fault};
 use crate::listen_tests::check_sessions;
 use crate::runs::{check_listed, check_pieces};
-use amf_rows::{Row, Table};
+use amf_test_rows::{Row, Table};
 use std::alloc::Global;
 use std::process::Abort;
 use std::random::RandomSource;

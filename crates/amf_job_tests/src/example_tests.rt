@@ -1,5 +1,5 @@
 use crate::cases::{How, check_rows};
-use amf_rows::Table;
+use amf_test_rows::Table;
 
 /// What the texts of the folder `examples` print: words, a file or what the text makes of files, the status, the output and the line. The
 /// commands on `connect.rtmp` are rows of the tests of chunk streams; what is sent and served is tested over loopback.

@@ -1,6 +1,6 @@
 use crate::cases::{Case, How, check_rows};
 use crate::runs::{BY_BYTES, Ways, check};
-use amf_rows::Table;
+use amf_test_rows::Table;
 use std::alloc::Global;
 use std::process::Abort;
 use std::random::RandomSource;

@@ -1,5 +1,5 @@
 use crate::cases::{How, check_rows};
-use amf_rows::Table;
+use amf_test_rows::Table;
 
 /// Words, chunks behind a handshake, 03 and 3,072 times 00, the status, the output and the line.
 static STREAMS: Table = Table {

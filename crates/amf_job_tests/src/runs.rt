@@ -5,8 +5,8 @@ use amf_io::{
     Dial, FaultlessFront, FaultlessLink, MemoryDial, MemoryLink, MemorySink, MemorySource,
     OpenGate, Sink, Source,
 };
-use amf_rows::Row;
 use amf_service::Registry;
+use amf_test_rows::Row;
 use amf_wire::Name;
 use std::alloc::Global;
 use std::process::Abort;

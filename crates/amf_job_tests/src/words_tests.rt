@@ -1,7 +1,7 @@
 use crate::cases::{Case, field, put};
 use crate::dials::dial_of_none;
 use crate::runs::{Told, WHOLE, check, check_over};
-use amf_rows::Table;
+use amf_test_rows::Table;
 use std::alloc::Global;
 use std::process::Abort;
 use std::random::RandomSource;

@@ -9,9 +9,9 @@ use Rattle.amf_io.proofs.Inputs.{not_refused}
 use Rattle.amf_graph.specs.Building.{no_arena}
 use Rattle.amf0_spelling.specs.KeptTables0.{no_kept_tables0}
 use Rattle.amf0_spelling.specs.Values0.{IsValue0}
-use Rattle.amf0_layout.specs.Layout0.{value0_layout}
-use Rattle.amf0_layout.specs.Layout0State.{state0_of}
-use Rattle.amf0_layout.proofs.Layout0Format.{values0_is_layout}
+use Rattle.amf0_layout_laws.specs.Layout0.{value0_layout}
+use Rattle.amf0_layout_laws.specs.Layout0State.{state0_of}
+use Rattle.amf0_layout_laws.proofs.Layout0Format.{values0_is_layout}
 use Rattle.flv_meta.specs.File.{value_bytes}
 use Rattle.flv_meta.specs.Fields.{file_fields, IsFileReading}
 use Rattle.flv_meta.specs.MetadataAnswer.{value_place}

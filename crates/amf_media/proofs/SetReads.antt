@@ -11,11 +11,11 @@ use Rattle.amf_graph.specs.Building.{no_arena}
 use Rattle.amf_graph.specs.Graph.{Graph}
 use Rattle.amf_graph.specs.Rooted.{RootedArena, content}
 use Rattle.amf_graph.proofs.FinishedSmall.{completes_itself}
-use Rattle.amf3_layout.proofs.Values3Layout.{no_arena_built}
+use Rattle.amf3_layout_laws.proofs.Values3Layout.{no_arena_built}
 use Rattle.amf0_spelling.specs.KeptTables0.{KeptTables0, no_kept_tables0, tables0_of}
 use Rattle.amf0_spelling.specs.Values0.{IsValue0}
 use Rattle.amf0_spelling.specs.Spells0.{IsSpelling0}
-use Rattle.amf0_layout.proofs.Layout0Format.{reading_is_value0, answered0}
+use Rattle.amf0_layout_laws.proofs.Layout0Format.{reading_is_value0, answered0}
 use Rattle.amf0_read.specs.Answer0.{IsReadWith}
 use Rattle.amf0_read.specs.declared.formed.Read0.{Read0}
 use Rattle.flv_meta.specs.File.{tag_bytes, metadata_tag}

@@ -17,9 +17,9 @@ use Rattle.amf0_spelling.specs.Spells0.{IsSpelling0}
 use Rattle.amf0_spelling.proofs.Decides0.{same_bytes_isomorphic0, same_canonical0, alone0}
 use Rattle.amf0_spelling.proofs.LackTwice0.{spelling_or_lack0}
 use Rattle.amf0_spelling.proofs.Low.{lowered_alike}
-use Rattle.amf0_layout.specs.Layout0.{value0_layout}
-use Rattle.amf0_layout.specs.Layout0State.{state0_of}
-use Rattle.amf0_layout.proofs.Layout0Format.{values0_is_layout}
+use Rattle.amf0_layout_laws.specs.Layout0.{value0_layout}
+use Rattle.amf0_layout_laws.specs.Layout0State.{state0_of}
+use Rattle.amf0_layout_laws.proofs.Layout0Format.{values0_is_layout}
 use Rattle.flv_meta.specs.MetadataAnswer.{LacksMetadata, IsTooLong}
 use Rattle.amf_media.specs.FlvValues.{most_of_value, IsValueThere, BeginsWith}
 use Rattle.amf_media.specs.FlvLaws.{SetValuesHaveOneForm}

@@ -1,8 +1,8 @@
 -- The end of a pass as that of the job.
 use Rattle.std.proofs.Common.{◌≡◌, ℕ, List, Option, Some, None, Result, Ok, Err, sym, subst}
-use Rattle.rtmp_pass.specs.declared.pass_end.PassEnd.{PassEnd}
-use Rattle.rtmp_pass.specs.declared.pass_end.PassEnd.TheVariants as pass
-use Rattle.rtmp_pass.specs.Pass as passes
+use Rattle.rtmp_rechunk.specs.declared.pass_end.PassEnd.{PassEnd}
+use Rattle.rtmp_rechunk.specs.declared.pass_end.PassEnd.TheVariants as pass
+use Rattle.rtmp_rechunk.specs.Pass as passes
 use Rattle.amf_media.specs.declared.ending.MediaEnd.{MediaEnd}
 use Rattle.amf_media.specs.FlvRuns.{IsFileEnd, CountsReads}
 use Rattle.amf_media.specs.RtmpRuns.{stream_end, OfPass, ListsStream, RechunksStream, RunsStream}

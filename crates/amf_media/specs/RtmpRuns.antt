@@ -1,9 +1,9 @@
 -- How `rtmp` ends, by the bytes of the input and those that it left, and by what the output held before and holds now.
 use Rattle.std.specs.Prelude.{ℕ, ◌<◌, List, Option, Some, None, Result, Ok, Err}
-use Rattle.rtmp_pass.specs.declared.pass_end.PassEnd.{PassEnd}
-use Rattle.rtmp_pass.specs.declared.pass_end.PassEnd.TheVariants as pass
-use Rattle.rtmp_pass.specs.Pass.{Passes, WroteAll, WroteSome}
-use Rattle.rtmp_pass.specs.Rechunk.{Restarts, Repeats, EndsSilently}
+use Rattle.rtmp_rechunk.specs.declared.pass_end.PassEnd.{PassEnd}
+use Rattle.rtmp_rechunk.specs.declared.pass_end.PassEnd.TheVariants as pass
+use Rattle.rtmp_rechunk.specs.Pass.{Passes, WroteAll, WroteSome}
+use Rattle.rtmp_rechunk.specs.Rechunk.{Restarts, Repeats, EndsSilently}
 use Rattle.rtmp_listing.specs.Listing.{BeginsSilently, ShowsMessage, ListsOpen}
 use Rattle.amf_media.specs.declared.ending.MediaEnd.{MediaEnd}
 use Rattle.amf_media.specs.declared.ending.MediaEnd.TheVariants.{Done, Refused, ReadFault, WriteFault, NoForm, LongData, Memory}

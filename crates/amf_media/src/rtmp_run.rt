@@ -6,7 +6,7 @@ ghost use Rattle.amf_media.specs.Written.{CountsWrites};
 use crate::ending::MediaEnd;
 use amf_io::{Sink, Source};
 use rtmp_listing::Lister;
-use rtmp_pass::{PassEnd, pass_over, rechunk};
+use rtmp_rechunk::{PassEnd, pass_over, rechunk};
 use std::alloc::Global;
 use std::hash::RandomState;
 

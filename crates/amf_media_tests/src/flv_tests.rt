@@ -3,7 +3,7 @@ use crate::runs::{
     failing, front, job_of, pieces, reads_fail, run, runs_in_any_pieces, wanted, writes_fail,
 };
 use amf_media::FlvJob;
-use amf_rows::Table;
+use amf_test_rows::Table;
 use std::alloc::Global;
 use std::test::Fail;
 

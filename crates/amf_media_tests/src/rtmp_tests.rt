@@ -2,7 +2,7 @@ use crate::checks::is;
 use crate::runs::{Link, pieces, told, wanted};
 use amf_io::{MemorySink, MemorySource};
 use amf_media::{rtmp, streams_end_by_verdict};
-use amf_rows::{Row, Table};
+use amf_test_rows::{Row, Table};
 use std::alloc::Global;
 use std::process::Abort;
 use std::test::Fail;

@@ -1,7 +1,7 @@
 use crate::checks::{is, is_at};
 use amf_io::{MemorySink, MemorySource};
 use amf_media::{FlvJob, MediaEnd, flv};
-use amf_rows::{Row, Table};
+use amf_test_rows::{Row, Table};
 use std::alloc::Global;
 use std::process::Abort;
 use std::test::Fail;

@@ -1,7 +1,7 @@
 use crate::checks::is_at;
 use crate::runs::{failing, pieces, reads_fail, run, runs_in_any_pieces, wanted, writes_fail};
 use amf_media::FlvJob;
-use amf_rows::Table;
+use amf_test_rows::Table;
 use amf_wire::{U29, write_u29};
 use std::alloc::Global;
 use std::test::Fail;

@@ -10,16 +10,16 @@ use Rattle.amf_graph.specs.Graph.{Value, leaf, node, Head, xml_document, date, a
 use Rattle.amf_graph.proofs.Lists.{cons_same, split_same}
 use Rattle.amf3_spelling.specs.Tables.{Tables, no_tables, add_done}
 use Rattle.amf3_spelling.specs.Spells3.{Spells3, IsSpelling3}
-use Rattle.amf3_layout.specs.Layout3.{ValueRead, value_layout}
+use Rattle.amf3_layout_laws.specs.Layout3.{ValueRead, value_layout}
 use Rattle.amf3_spelling.proofs.Build.{absent_nil}
-use Rattle.amf3_layout.proofs.Layout3Parts.{Found}
-use Rattle.amf3_layout.proofs.Layout3Complete.{spelled_read}
+use Rattle.amf3_layout_laws.proofs.Layout3Parts.{Found}
+use Rattle.amf3_layout_laws.proofs.Layout3Complete.{spelled_read}
 use Rattle.amf0_spelling.specs.Form.{call_front}
 use Rattle.amf0_spelling.specs.Segments0.{marker0_field, Values0}
 use Rattle.amf0_spelling.specs.Spells0.{NodeBy0, Switched, SpellsIn0, Spells0}
 use Rattle.amf0_spelling.specs.Tables0.{Tables0, no_tables0, add_node0}
-use Rattle.amf0_layout.specs.Layout0State.{State0, with_node0, switched, changed0}
-use Rattle.amf0_layout.specs.Layout0.{ValueRead0, read0, shut0, value0_layout}
+use Rattle.amf0_layout_laws.specs.Layout0State.{State0, with_node0, switched, changed0}
+use Rattle.amf0_layout_laws.specs.Layout0.{ValueRead0, read0, shut0, value0_layout}
 use Rattle.amf0_spelling.proofs.Alike0.{first_kind, Start, start_leaf, start_named, start_inline}
 use Rattle.amf_graph.specs.Building.{more_value}
 use Rattle.amf_graph.specs.Arena as arena

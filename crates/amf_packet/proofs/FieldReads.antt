@@ -19,13 +19,13 @@ use Rattle.amf_io.proofs.Whole.{whole_fixed}
 use Rattle.amf_io.proofs.CursorReads.{end_reads, field_reads, field_refused}
 use Rattle.amf_wire.specs.Style.{free}
 use Rattle.amf_wire.specs.Text.{IsText}
-use Rattle.amf3_layout.specs.Layout3.{flag_layout}
-use Rattle.amf3_layout.specs.Layout3Words.{chunk}
-use Rattle.amf3_layout.proofs.Layout3SoundOpenings.{Chunk, chunk_taken}
-use Rattle.amf3_layout.proofs.Layout3SoundTexts.{taken, texts_are, give_is}
+use Rattle.amf3_layout_laws.specs.Layout3.{flag_layout}
+use Rattle.amf3_layout_laws.specs.Layout3Words.{chunk}
+use Rattle.amf3_layout_laws.proofs.Layout3SoundOpenings.{Chunk, chunk_taken}
+use Rattle.amf3_layout_laws.proofs.Layout3SoundTexts.{taken, texts_are, give_is}
 use Rattle.amf0_spelling.specs.Segments0.{Short}
-use Rattle.amf0_layout.proofs.Layout0SoundParts.{u32_is, empty_text}
-use Rattle.amf_fields.proofs.LayoutBinds.{bind_chunk, chunk_ends}
+use Rattle.amf0_layout_laws.proofs.Layout0SoundParts.{u32_is, empty_text}
+use Rattle.amf_wire_fields.proofs.LayoutBinds.{bind_chunk, chunk_ends}
 use Rattle.amf_packet.specs.Packet.{Beside, is_version, version_refusal, VersionBy, CountBy, LengthBy, MustBy}
 use Rattle.amf_packet.specs.LayoutPacket.{done, name_layout, must_layout, length_layout, version_layout}
 use Rattle.amf_packet.specs.ReadParts.{Took, Reads, count_layout}

@@ -14,12 +14,12 @@ use Rattle.amf_io.proofs.Combine.{Both, both, Times, nothing, mapped, Headed, he
 use Rattle.amf_io.proofs.Paths.{extends_same}
 use Rattle.amf_io.proofs.Whole.{whole_fixed}
 use Rattle.amf_graph.specs.Graph.{Graph}
-use Rattle.amf3_layout.specs.Layout3Words.{chunk}
+use Rattle.amf3_layout_laws.specs.Layout3Words.{chunk}
 use Rattle.amf3_spelling.proofs.Clean.{contents_clean, text_field}
-use Rattle.amf3_layout.proofs.Layout3Fills.{Filled, text_filled, raw_filled, able_field, able_chunk}
-use Rattle.amf3_layout.proofs.Layout3Parts.{chunk_runs}
-use Rattle.amf3_layout.proofs.Layout3SoundOpenings.{all_below, Chunk, chunk_taken}
-use Rattle.amf3_layout.proofs.Layout3SoundTexts.{taken, texts_are}
+use Rattle.amf3_layout_laws.proofs.Layout3Fills.{Filled, text_filled, raw_filled, able_field, able_chunk}
+use Rattle.amf3_layout_laws.proofs.Layout3Parts.{chunk_runs}
+use Rattle.amf3_layout_laws.proofs.Layout3SoundOpenings.{all_below, Chunk, chunk_taken}
+use Rattle.amf3_layout_laws.proofs.Layout3SoundTexts.{taken, texts_are}
 use Rattle.amf0_spelling.specs.declared.form.Form.{Form}
 use Rattle.amf0_spelling.specs.declared.form.Form.TheVariants.{Call, Amf3, Plain}
 use Rattle.amf0_spelling.specs.Form.{IsForm}
@@ -27,10 +27,10 @@ use Rattle.amf0_spelling.specs.Segments0.{Short}
 use Rattle.amf0_spelling.specs.Values0.{IsValue0}
 use Rattle.amf0_spelling.specs.Spells0.{Spells0}
 use Rattle.amf0_spelling.specs.Tables0.{Tables0, no_tables0}
-use Rattle.amf0_layout.specs.Layout0.{ValueRead0, value0_layout}
+use Rattle.amf0_layout_laws.specs.Layout0.{ValueRead0, value0_layout}
 use Rattle.amf0_spelling.proofs.Forms0.{forms}
-use Rattle.amf0_layout.proofs.Layout0Format.{values0_is_layout}
-use Rattle.amf0_layout.proofs.Layout0SoundParts.{u32_is, empty_text}
+use Rattle.amf0_layout_laws.proofs.Layout0Format.{values0_is_layout}
+use Rattle.amf0_layout_laws.proofs.Layout0SoundParts.{u32_is, empty_text}
 use Rattle.amf_packet.specs.Packet.{Body, Header, Message, Each, call_fields, CallBy, FormBy, BodyBy, LengthBy, MustBy, HeaderBy, MessageBy, is_version, version_refusal, VersionBy, ListBy, IsPacketReading}
 use Rattle.amf_packet.specs.LayoutPacket.{BareLayout, done, and_then, name_layout, must_layout, length_layout, no_state0, body_layout, header_layout, message_layout, version_layout, times, list_layout, packet_layout}
 use Rattle.amf3_spelling.proofs.Lighter3.{flat_bytes, bytes_joined, bytes3}

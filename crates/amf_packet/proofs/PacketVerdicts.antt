@@ -4,9 +4,9 @@ use Rattle.std.proofs.lemmas.List.{length-take}
 use Rattle.amf_io.specs.Outcomes.{Decides, read}
 use Rattle.amf_io.proofs.Inputs.{judged, judged_once, fault_is_first, outcome_decides}
 use Rattle.amf_io.proofs.NextKind.{fixes_next}
-use Rattle.amf3_layout.proofs.MiddleVerdicts.{ends_somewhere, read_once}
-use Rattle.amf3_layout.proofs.OneCut.{has_one_cut}
-use Rattle.amf3_layout.proofs.VerdictRows.{all_bytes, both_hold, are_bytes, is_short}
+use Rattle.amf3_layout_laws.proofs.MiddleVerdicts.{ends_somewhere, read_once}
+use Rattle.amf3_layout_laws.proofs.OneCut.{has_one_cut}
+use Rattle.amf3_layout_laws.proofs.VerdictRows.{all_bytes, both_hold, are_bytes, is_short}
 use Rattle.amf_packet.specs.Packet.{IsPacketReading}
 use Rattle.amf_packet.specs.LayoutPacket.{packet_layout}
 use Rattle.amf_packet.specs.VerdictLaws.{PacketVerdicts}

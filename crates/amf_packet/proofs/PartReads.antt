@@ -10,8 +10,8 @@ use Rattle.amf_io.specs.CursorReads.{Ends}
 use Rattle.amf_io.specs.Field.{Field}
 use Rattle.amf_io.proofs.CursorReads.{end_reads, goes_end}
 use Rattle.amf_wire.specs.Style.{free}
-use Rattle.amf_fields.specs.Room.{left_of}
-use Rattle.amf_fields.proofs.LayoutVerdicts.{answers_taken, answers_ended}
+use Rattle.amf_wire_fields.specs.Room.{left_of}
+use Rattle.amf_wire_fields.proofs.LayoutVerdicts.{answers_taken, answers_ended}
 use Rattle.amf_packet.specs.declared.packet.Header.{Header as KeptHeader}
 use Rattle.amf_packet.specs.declared.packet.Message.{Message as KeptMessage}
 use Rattle.amf_packet.specs.declared.packet.Packet.{Packet as KeptPacket}

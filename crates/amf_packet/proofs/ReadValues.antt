@@ -12,7 +12,7 @@ use Rattle.amf_graph.specs.Building.{no_arena, no_stored, stored_at}
 use Rattle.amf_graph.specs.Rooted.{RootedArena, content}
 use Rattle.amf_graph.proofs.FinishedSmall.{completes_itself}
 use Rattle.amf3_spelling.specs.Reads3.{Grows}
-use Rattle.amf3_layout.proofs.Values3Layout.{no_arena_built}
+use Rattle.amf3_layout_laws.proofs.Values3Layout.{no_arena_built}
 use Rattle.amf0_spelling.specs.declared.form.Form.{Form}
 use Rattle.amf0_spelling.specs.declared.form.Form.TheVariants as form
 use Rattle.amf0_spelling.specs.Form.{IsForm}

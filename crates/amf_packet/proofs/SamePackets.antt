@@ -9,7 +9,7 @@ use Rattle.amf_graph.specs.Isomorphic.{Isomorphic}
 use Rattle.amf_graph.proofs.Lists.{cons_same, split_same, no_entry}
 use Rattle.amf3_spelling.specs.Segments3.{IsFlag}
 use Rattle.amf3_spelling.proofs.Decides3.{same_bytes_isomorphic}
-use Rattle.amf3_layout.proofs.OneCut.{has_one_cut}
+use Rattle.amf3_layout_laws.proofs.OneCut.{has_one_cut}
 use Rattle.amf0_spelling.specs.declared.form.Form.{Form}
 use Rattle.amf0_spelling.specs.declared.form.Form.TheVariants.{Call, Amf3, Plain}
 use Rattle.amf0_spelling.specs.Form.{call_front, IsForm}

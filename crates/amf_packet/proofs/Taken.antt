@@ -12,7 +12,7 @@ use Rattle.amf_io.specs.Layout.{Layout, give, bind, Path}
 use Rattle.amf_io.proofs.Ables.{bytes_flat}
 use Rattle.amf_io.proofs.CursorReads.{goes_nowhere, goes_then, then_reads, leads_end, end_reads}
 use Rattle.amf_io.proofs.Paths.{runs_bind, path_join, path_bind, flat-append}
-use Rattle.amf_fields.specs.Room.{left_of}
+use Rattle.amf_wire_fields.specs.Room.{left_of}
 use Rattle.amf_packet.specs.Packet.{Beside, Each}
 use Rattle.amf_packet.specs.LayoutPacket.{BareLayout, times}
 use Rattle.amf_packet.specs.ReadParts.{Took, ListSo}

@@ -21,12 +21,12 @@ use Rattle.amf0_spelling.specs.KeptTables0.{KeptTables0, no_kept_tables0}
 use Rattle.amf0_spelling.specs.Reads0.{IsReading0}
 use Rattle.amf0_spelling.specs.Values0.{IsValue0}
 use Rattle.amf0_spelling.specs.Tables0.{no_tables0}
-use Rattle.amf0_layout.specs.Layout0.{value0_layout}
-use Rattle.amf0_layout.proofs.Layout0Format.{values0_is_layout, answered0}
+use Rattle.amf0_layout_laws.specs.Layout0.{value0_layout}
+use Rattle.amf0_layout_laws.proofs.Layout0Format.{values0_is_layout, answered0}
 use Rattle.amf0_read.specs.declared.formed.Read0.{Read0}
 use Rattle.amf0_read.specs.Answer0.{IsReadWith, Answers0}
 use Rattle.amf_io.specs.Stretch.{AnswersOf, between}
-use Rattle.amf_fields.specs.Room.{Raises, left_of}
+use Rattle.amf_wire_fields.specs.Room.{Raises, left_of}
 use Rattle.amf_packet.specs.declared.body.Body.{Body}
 use Rattle.amf_packet.specs.declared.body.Body.TheVariants.{Call, Amf3, Plain}
 use Rattle.amf_packet.specs.Content.{body_of}

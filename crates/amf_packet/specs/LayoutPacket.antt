@@ -4,10 +4,10 @@ use Rattle.std.specs.Int.{from_be_bytes, w16}
 use Rattle.amf_io.specs.Field.{raw_kind, text_kind, u16_kind, u32_kind, no_refusal}
 use Rattle.amf_io.specs.Layout.{Layout, give, want, bind}
 use Rattle.amf_graph.specs.Building.{no_arena}
-use Rattle.amf3_layout.specs.Layout3Words.{chunk}
+use Rattle.amf3_layout_laws.specs.Layout3Words.{chunk}
 use Rattle.amf0_spelling.specs.KeptTables0.{no_kept_tables0}
-use Rattle.amf0_layout.specs.Layout0State.{State0, state0_of}
-use Rattle.amf0_layout.specs.Layout0.{value0_layout}
+use Rattle.amf0_layout_laws.specs.Layout0State.{State0, state0_of}
+use Rattle.amf0_layout_laws.specs.Layout0.{value0_layout}
 use Rattle.amf_packet.specs.Packet.{version_refusal}
 
 -- a layout that gives nothing: what follows does not depend on what was read

@@ -10,7 +10,7 @@ use Rattle.amf_io.specs.Field.{Field, u16_kind, no_refusal}
 use Rattle.amf_io.specs.Layout.{Layout, give, want}
 use Rattle.amf_io.specs.LayoutAnswer.{DoneBy, LeadsBy}
 use Rattle.std.specs.Int.{from_be_bytes, w16}
-use Rattle.amf_fields.specs.Room.{left_of}
+use Rattle.amf_wire_fields.specs.Room.{left_of}
 use Rattle.amf_packet.specs.Packet.{Each}
 use Rattle.amf_packet.specs.LayoutPacket.{BareLayout, times}
 

@@ -3,7 +3,7 @@ use Rattle.std.specs.Prelude.{ℕ, ◌≤◌, List}
 use Rattle.amf_io.specs.declared.reason.Reason.{Reason}
 use Rattle.amf_io.specs.Field.{AreBytes}
 use Rattle.amf_io.specs.Verdict.{FixesNext, IsFault, IsFirstFault, IsJudged, IsJudgedOnce}
-use Rattle.amf3_layout.specs.VerdictLaws3.{HasOneCut, IsReadOnce, EndsSomewhere}
+use Rattle.amf3_layout_laws.specs.VerdictLaws3.{HasOneCut, IsReadOnce, EndsSomewhere}
 use Rattle.amf_packet.specs.Packet.{IsPacketReading}
 
 pub record PacketVerdicts : Type 0 where

@@ -2,7 +2,7 @@ ghost use Rattle.std.specs.Prelude.{◌+◌, ◌≤◌, ◌<◌, ◌^◌, IfOk, 
 ghost use Rattle.amf_io.specs.Cursor.{place};
 ghost use Rattle.amf_io.specs.ReadEnds.{IsPlaced, Goes};
 ghost use Rattle.amf_wire.specs.Style.{free};
-ghost use Rattle.amf_fields.specs.Room.{left_of};
+ghost use Rattle.amf_wire_fields.specs.Room.{left_of};
 ghost use Rattle.amf_packet.specs.Content.{header_of, message_of};
 ghost use Rattle.amf_packet.specs.LayoutPacket.{header_layout, message_layout, list_layout};
 ghost use Rattle.amf_packet.specs.Packet.{HeaderBy, MessageBy, ListBy};

@@ -3,7 +3,7 @@ ghost use Rattle.amf_io.specs.Cursor.{place};
 ghost use Rattle.amf_io.specs.ReadEnds.{IsPlaced, Goes};
 ghost use Rattle.amf_graph.specs.declared.value.Value.{Value as Stored};
 ghost use Rattle.amf_wire.specs.Style.{free};
-ghost use Rattle.amf_fields.specs.Room.{left_of};
+ghost use Rattle.amf_wire_fields.specs.Room.{left_of};
 ghost use Rattle.amf_packet.specs.Content.{body_of};
 ghost use Rattle.amf_packet.specs.LayoutPacket.{sized_layout, body_layout};
 ghost use Rattle.amf_packet.specs.Packet.{BodyBy, SizedBy};

@@ -7,9 +7,9 @@ ghost use Rattle.amf_packet.specs.LayoutPacket.{name_layout, must_layout, length
 ghost use Rattle.amf_packet.specs.Packet.{LengthBy, MustBy, is_version, VersionBy, CountBy};
 ghost use Rattle.amf_packet.specs.ReadParts.{Reads, ReadsBare, count_layout};
 
-use amf_fields::{Contents, FieldSize, read_contents, read_field, read_flag};
 use amf_io::{Cursor, ReadEnd, Reason, Source, refused};
 use amf_wire::Name;
+use amf_wire_fields::{Contents, FieldSize, read_contents, read_field, read_flag};
 use std::alloc::Global;
 
 /// Reads the version of a packet: `BadVersion` where it is not 0, 1 or 3.

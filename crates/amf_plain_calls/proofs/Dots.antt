@@ -3,7 +3,7 @@ use Rattle.std.proofs.Math.Seq.{drop-append_seam}
 use Rattle.std.proofs.lemmas.List.{take_all, take_more, length-drop}
 use Rattle.std.proofs.Common.{◌≡◌, ◌∙◌, ℕ, ◌+◌, ◌-◌, ◌<◌, get_or, take, arith, true, false, List, [], ◌∷◌, ◌++◌, Some, None, refl, sym, ap, length, drop, append_assoc, append-nil}
 use Rattle.std.specs.Prelude.{◌==◌, if◌then◌else◌}
-use Rattle.amf_plan.specs.PlainCalls.{behind, at_last_dot}
+use Rattle.amf_answer_plan.specs.PlainCalls.{behind, at_last_dot}
 
 -- no byte is a dot
 abbrev pub NoDot : List ℕ → Type 0

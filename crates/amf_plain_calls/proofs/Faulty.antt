@@ -7,7 +7,7 @@ use Rattle.amf_graph.specs.Arena.{Arena, StoredTraits, object}
 use Rattle.amf_graph.specs.Building.{no_arena, kept_text, kept_traits, kept_node, stored_traits, closed}
 use Rattle.amf_graph.specs.Grafting.{text_value}
 use Rattle.flex_msgs.specs.declared.reply.FaultText.{FaultText}
-use Rattle.amf_plain_calls.specs.TellsMessage.{fault_arena}
+use Rattle.amf_plain_calls.specs.FoundForms.{fault_arena}
 
 module _ (f : FaultText) (b0 b1 b2 b3 b4 b5 b6 b7 b8 b9 : Arena) (class x1 x2 x3 x4 x5 x6 : TextId) (t : ℕ)
     (e0 : b0 ≡ no_arena) (e1 : b1 ≡ kept_text b0 []) (e2 : b2 ≡ kept_text b1 (codes "code")) (e3 : b3 ≡ kept_text b2 f.code) (e4 : b4 ≡ kept_text b3 (codes "description")) (e5 : b5 ≡ kept_text b4 f.text)

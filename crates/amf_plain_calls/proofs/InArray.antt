@@ -17,8 +17,8 @@ use Rattle.flex_msgs.specs.Messages.{items_node}
 use Rattle.flex_msgs.proofs.BuiltAlike.{all_pairs, old_pair, behind_alike}
 use Rattle.amf_service.proofs.CopiedGraphs.{none_built, copies_closed, copies_light}
 use Rattle.amf_service.proofs.MadeArrays.{at_the_end, there_is}
-use Rattle.amf_plan.specs.PlainCalls.{in_array}
-use Rattle.amf_plan.proofs.Closed.{AllClosed}
+use Rattle.amf_answer_plan.specs.PlainCalls.{in_array}
+use Rattle.amf_answer_plan.proofs.Closed.{AllClosed}
 
 nodes_complete : (ns ms : List StoredNode) → AllClosed ns → NodesComplete ns (ns ++ ms)
 nodes_complete [] ms h = tt

@@ -21,10 +21,10 @@ use Rattle.amf0_spelling.proofs.Low.{lowered_alike}
 use Rattle.flex_msgs.specs.declared.reply.FaultText.{FaultText}
 use Rattle.amf_packet.specs.Packet.{Body}
 use Rattle.amf_packet.specs.PacketLacks.{IsBodyLack}
-use Rattle.amf_plan.specs.Plan.{lowered}
-use Rattle.amf_plan.specs.PlainCalls.{fault_node, fault_graph}
-use Rattle.amf_plan.specs.Runs.{Finds, IsSpelling}
-use Rattle.amf_plan.proofs.Spelling.{all_named}
+use Rattle.amf_answer_plan.specs.Plan.{lowered}
+use Rattle.amf_answer_plan.specs.PlainCalls.{fault_node, fault_graph}
+use Rattle.amf_answer_plan.specs.Runs.{Finds, IsSpelling}
+use Rattle.amf_answer_plan.proofs.Spelling.{all_named}
 
 -- no node of the value is without a spelling
 abbrev pub LacksNothing : Body → Type 0

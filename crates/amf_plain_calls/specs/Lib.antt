@@ -1,2 +1,2 @@
 -- Devices of the proofs: no clause of a public call of the gateway needs them.
-pub mod TellsMessage
+pub mod FoundForms

@@ -9,12 +9,12 @@ ghost use Rattle.amf_graph.specs.Rooted.{content};
 ghost use Rattle.amf_graph.specs.Views.{named};
 ghost use Rattle.amf_graph.specs.declared.limits.TheConstants.{MAX_COUNT};
 ghost use Rattle.flex_msgs.specs.Built.{HasRoomFor};
-ghost use Rattle.amf_plain_calls.specs.TellsMessage.{fault_arena};
-ghost use Rattle.amf_plan.specs.Kept.{FaultFits};
-ghost use Rattle.amf_plan.specs.PlainCalls.{fault_graph as fault_content};
+ghost use Rattle.amf_plain_calls.specs.FoundForms.{fault_arena};
+ghost use Rattle.amf_answer_plan.specs.Kept.{FaultFits};
+ghost use Rattle.amf_answer_plan.specs.PlainCalls.{fault_graph as fault_content};
 
+use amf_answer_plan::messages::finished;
 use amf_graph::{BuildEnd, Builder, NodeId, Part, Rooted, Shape, TextId, TraitsId, Value};
-use amf_plan::messages::finished;
 use amf_service::kept;
 use amf_wire::Memory;
 use flex_msgs::FaultText;

@@ -8,33 +8,28 @@ ghost use Rattle.amf_graph.specs.Rooted.{content};
 ghost use Rattle.amf_packet.specs.Content.{body_of};
 ghost use Rattle.amf_packet.specs.PacketAnswer.{body_weight};
 ghost use Rattle.amf_service.specs.Meaning.{Called, heaviest_arguments};
-ghost use Rattle.amf_plan.specs.Services.{services_of};
-ghost use Rattle.amf_plan.specs.Calls.{ForGraphsOf, ComesTo, AnswerFits};
-ghost use Rattle.amf_plain_calls.specs.TellsMessage.{FindsForm, AnswersMessage, TellsMessage};
-ghost use Rattle.amf_plan.specs.Kept.{FaultFits};
-ghost use Rattle.amf_plan.specs.PlainCalls.{at_last_dot, in_array as array_of, as_items, body_arguments, reply_form as reply_form_of, failed as failed_answer, succeeded as succeeded_plan, outcome as outcome_plan, call as call_plan, plain_call as plain_plan};
+ghost use Rattle.amf_answer_plan.specs.Services.{services_of};
+ghost use Rattle.amf_answer_plan.specs.Calls.{ForGraphsOf, ComesTo, AnswerFits};
+ghost use Rattle.amf_plain_calls.specs.FoundForms.{FindsForm};
+ghost use Rattle.amf_answer_plan.specs.Says.{AnswersMessage, Tells};
+ghost use Rattle.amf_answer_plan.specs.Kept.{FaultFits};
+ghost use Rattle.amf_answer_plan.specs.PlainCalls.{at_last_dot, in_array as array_of, as_items, body_arguments, reply_form as reply_form_of, failed as failed_answer, succeeded as succeeded_plan, outcome as outcome_plan, call as call_plan, plain_call as plain_plan};
 
 use crate::faults::fault_graph;
 use crate::target::Target;
+use amf_answer_plan::arrays::add_array;
+use amf_answer_plan::calling::{ServiceAnswer, call_service};
+use amf_answer_plan::causes::{bad_message, no_form, no_service};
+use amf_answer_plan::message_answer::MessageAnswer;
+use amf_answer_plan::messages::finished;
 use amf_graph::{Builder, Rooted};
 use amf_packet::{Body, SpelledBody};
-use amf_plan::arrays::add_array;
-use amf_plan::calling::{ServiceAnswer, call_service};
-use amf_plan::causes::{bad_message, no_form, no_service};
-use amf_plan::messages::finished;
 use amf_service::{Registry, items, kept};
 use amf_wire::{Memory, Name};
 use amf0_spelling::Form;
 use flex_msgs::FaultText;
 use std::alloc::Global;
 use std::hash::RandomState;
-
-/// What a message of a packet is answered: a result or a status, and the spelling of a value.
-#[derive(Drop)]
-pub struct MessageAnswer {
-    pub well: bool,
-    pub body: SpelledBody,
-}
 
 /// The spelling of a graph in AMF 0 where it has one, and else that in AMF 3 if it has one there. It gives up where there is no
 /// memory.
@@ -95,7 +90,7 @@ fn succeeded(
     form: Form,
     graph: &Rooted,
 ) -> Result<MessageAnswer, Memory>
-    ensures { IfOk result (λ x. (g : Graph) → Isomorphic g (content graph.now) → TellsMessage (succeeded_plan form g) x) }
+    ensures { IfOk result (λ x. (g : Graph) → Isomorphic g (content graph.now) → Tells (succeeded_plan form g) x) }
 {
     let found = spelling_for(alloc, keys, form, graph)?;
     match found {
@@ -115,7 +110,7 @@ fn outcome(
     answer: &ServiceAnswer,
 ) -> Result<MessageAnswer, Memory>
     requires { AnswerFits answer.now }
-    ensures { IfOk result (λ x. (c : Called) → ComesTo c answer.now → TellsMessage (outcome_plan form c) x) }
+    ensures { IfOk result (λ x. (c : Called) → ComesTo c answer.now → Tells (outcome_plan form c) x) }
 {
     match answer {
         ServiceAnswer::Gave(graph) => succeeded(alloc, keys, form, graph),
@@ -133,7 +128,7 @@ fn call(
     args: &Rooted,
 ) -> Result<MessageAnswer, Memory>
     requires { weight args.now.arena ≤ heaviest_arguments }
-    ensures { IfOk result (λ x. ForGraphsOf args.now (λ g. TellsMessage (call_plan (services_of registry.now knows gives) form target.now (Some g)) x)) }
+    ensures { IfOk result (λ x. ForGraphsOf args.now (λ g. Tells (call_plan (services_of registry.now knows gives) form target.now (Some g)) x)) }
 {
     let answer = call_service(alloc, registry, &target.service, &target.operation, args)?;
     outcome(alloc, keys, form, &answer)
@@ -162,7 +157,7 @@ fn call_with_items(
     graph: &Rooted,
 ) -> Result<MessageAnswer, Memory>
     requires { weight graph.now.arena ≤ heaviest_arguments }
-    ensures { IfOk result (λ x. TellsMessage (call_plan (services_of registry.now knows gives) form target.now (as_items (content graph.now))) x) }
+    ensures { IfOk result (λ x. Tells (call_plan (services_of registry.now knows gives) form target.now (as_items (content graph.now))) x) }
 {
     graph.is_finished();
     match items(graph) {
@@ -183,7 +178,7 @@ fn call_with_body(
     body: &Body,
 ) -> Result<MessageAnswer, Memory>
     requires { body_weight body.now ≤ 1048576 }
-    ensures { IfOk result (λ x. TellsMessage (call_plan (services_of registry.now knows gives) (body_of body.now).form target.now (body_arguments (body_of body.now))) x) }
+    ensures { IfOk result (λ x. Tells (call_plan (services_of registry.now knows gives) (body_of body.now).form target.now (body_arguments (body_of body.now))) x) }
 {
     match body {
         Body::Call(graph) => {
@@ -206,7 +201,7 @@ pub fn plain_call(
     body: &Body,
 ) -> Result<MessageAnswer, Memory>
     requires { body_weight body.now ≤ 1048576 }
-    ensures { IfOk result (λ x. TellsMessage (plain_plan (services_of registry.now knows gives) (body_of body.now) (at_last_dot uri.now)) x) }
+    ensures { IfOk result (λ x. Tells (plain_plan (services_of registry.now knows gives) (body_of body.now) (at_last_dot uri.now)) x) }
 {
     let target = Target::of(alloc, uri)?;
     match target {

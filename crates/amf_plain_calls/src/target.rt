@@ -1,7 +1,7 @@
 //! The target of a plain call.
 
 ghost use Rattle.std.specs.Prelude.{◌≡◌, IfOk, IfSome, IsNone, Some, None};
-ghost use Rattle.amf_plan.specs.PlainCalls.{at_last_dot};
+ghost use Rattle.amf_answer_plan.specs.PlainCalls.{at_last_dot};
 
 use amf_wire::{Memory, Name};
 use std::alloc::Global;
@@ -15,7 +15,7 @@ pub struct Target {
 }
 
 impl Model for Target {
-    ghost use Rattle.amf_plan.specs.PlainCalls.{Target};
+    ghost use Rattle.amf_answer_plan.specs.PlainCalls.{Target};
 
     ghost Value = { Target };
 

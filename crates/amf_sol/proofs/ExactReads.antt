@@ -16,8 +16,8 @@ use Rattle.amf_io.specs.Layout.{Layout, give, want, Runs}
 use Rattle.amf_io.specs.LayoutAnswer.{DoneBy, EndsBy, Came}
 use Rattle.amf_io.specs.Outcomes.{Outcome, Bad, Short, after, in_whole, field_whole, read, run, cut}
 use Rattle.amf_io.proofs.CursorReads.{gives, field_reads, field_refused}
-use Rattle.amf3_layout.specs.Layout3Words.{chunk}
-use Rattle.amf3_layout.proofs.Layout3SoundTexts.{give_is}
+use Rattle.amf3_layout_laws.specs.Layout3Words.{chunk}
+use Rattle.amf3_layout_laws.proofs.Layout3SoundTexts.{give_is}
 use Rattle.amf_sol.specs.SharedObject.{exact_kind}
 use Rattle.amf_sol.specs.FileReading.{exact_layout}
 

@@ -5,15 +5,15 @@ use Rattle.amf_io.specs.Field.{text_kind, u16_kind, u32_kind, no_refusal}
 use Rattle.amf_io.specs.Layout.{give, want, bind, Extends}
 use Rattle.amf_io.proofs.Ables.{AbleWithin, able_give, able_bind}
 use Rattle.amf_io.proofs.Paths.{extends_bind, extends_same}
-use Rattle.amf3_layout.specs.Layout3Words.{chunk, text_layout}
-use Rattle.amf3_layout.specs.Layout3.{value_layout}
-use Rattle.amf3_layout.proofs.Layout3Able.{able_text, value_able}
-use Rattle.amf3_layout.proofs.Layout3Fills.{Filled, text_filled, able_field, able_chunk}
-use Rattle.amf3_layout.proofs.Layout3Grows.{value_grows}
-use Rattle.amf0_layout.specs.Layout0.{new_text0, short_layout, value0_layout}
-use Rattle.amf0_layout.specs.Layout0State.{State0, in_amf3}
-use Rattle.amf0_layout.proofs.Layout0Able.{value0_able}
-use Rattle.amf0_layout.proofs.Layout0Grows.{value0_grows}
+use Rattle.amf3_layout_laws.specs.Layout3Words.{chunk, text_layout}
+use Rattle.amf3_layout_laws.specs.Layout3.{value_layout}
+use Rattle.amf3_layout_laws.proofs.Layout3Able.{able_text, value_able}
+use Rattle.amf3_layout_laws.proofs.Layout3Fills.{Filled, text_filled, able_field, able_chunk}
+use Rattle.amf3_layout_laws.proofs.Layout3Grows.{value_grows}
+use Rattle.amf0_layout_laws.specs.Layout0.{new_text0, short_layout, value0_layout}
+use Rattle.amf0_layout_laws.specs.Layout0State.{State0, in_amf3}
+use Rattle.amf0_layout_laws.proofs.Layout0Able.{value0_able}
+use Rattle.amf0_layout_laws.proofs.Layout0Grows.{value0_grows}
 use Rattle.amf_sol.specs.declared.sol_version.SolVersion.{SolVersion}
 use Rattle.amf_sol.specs.declared.sol_version.SolVersion.TheVariants.{Amf0, Amf3}
 use Rattle.amf_sol.specs.SharedObject.{signature, second_signature, padding, pair_end, version_kind}

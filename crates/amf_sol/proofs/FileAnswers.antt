@@ -27,8 +27,8 @@ use Rattle.amf_wire.specs.Text.{IsText}
 use Rattle.amf_graph.specs.Bounds.{weight}
 use Rattle.amf_graph.specs.Rooted.{RootedArena, content}
 use Rattle.amf_io.specs.Stretch.{Stretch, between, stretch}
-use Rattle.amf_fields.specs.Room.{left_of}
-use Rattle.amf0_layout.specs.Layout0State.{state0_of}
+use Rattle.amf_wire_fields.specs.Room.{left_of}
+use Rattle.amf0_layout_laws.specs.Layout0State.{state0_of}
 use Rattle.amf_sol.specs.declared.head.Head.{Head}
 use Rattle.amf_sol.specs.declared.sol_version.SolVersion.{SolVersion}
 use Rattle.amf_sol.specs.SharedObject.{signature, PairsOf, SpellsFile, IsFileReading}
@@ -45,7 +45,7 @@ use Rattle.amf_sol.proofs.FileVerdicts.{file_refused, file_cut}
 use Rattle.amf_io.proofs.Repeats.{fewer_first}
 use Rattle.amf_io.proofs.RepeatedVerdicts.{refusal_lifted, cut_any}
 use Rattle.amf_io.proofs.SharedPaths.{given}
-use Rattle.amf3_layout.proofs.Layout3SoundTexts.{give_is}
+use Rattle.amf3_layout_laws.proofs.Layout3SoundTexts.{give_is}
 
 -- The verdicts of ends.
 

@@ -11,8 +11,8 @@ use Rattle.amf_wire.specs.Style.{free}
 use Rattle.amf_wire.specs.U29.{IsU29}
 use Rattle.amf_wire.proofs.U29Fields.{IsOneField, one_field}
 use Rattle.amf_graph.specs.Graph.{Value, Graph}
-use Rattle.amf3_layout.specs.Layout3Words.{chunk, text_layout}
-use Rattle.amf3_layout.specs.Layout3.{value_layout}
+use Rattle.amf3_layout_laws.specs.Layout3Words.{chunk, text_layout}
+use Rattle.amf3_layout_laws.specs.Layout3.{value_layout}
 use Rattle.amf3_spelling.specs.Segments3.{Lifted}
 use Rattle.amf3_spelling.specs.Refusals3.{text_header_refusal, text_header_kind}
 use Rattle.amf3_spelling.specs.Spells3.{Spells3}
@@ -20,15 +20,15 @@ use Rattle.amf3_spelling.specs.Tables.{Words, Tables}
 use Rattle.amf3_spelling.specs.Then.{Plain}
 use Rattle.amf3_spelling.specs.Words3.{empty, whole, placed, Text}
 use Rattle.amf3_spelling.proofs.Clean.{AllClean, clean_as, text_field, contents_clean, below_length}
-use Rattle.amf3_layout.proofs.Layout3Complete.{spelled_read}
-use Rattle.amf3_layout.proofs.Layout3Parts.{Like, parts_length, like_text, chunk_runs}
-use Rattle.amf3_layout.proofs.Layout3Texts.{takes, FoundText, text_complete}
-use Rattle.amf0_layout.specs.Layout0.{new_text0, short_layout, value0_layout}
-use Rattle.amf0_layout.specs.Layout0State.{State0, in_amf3}
+use Rattle.amf3_layout_laws.proofs.Layout3Complete.{spelled_read}
+use Rattle.amf3_layout_laws.proofs.Layout3Parts.{Like, parts_length, like_text, chunk_runs}
+use Rattle.amf3_layout_laws.proofs.Layout3Texts.{takes, FoundText, text_complete}
+use Rattle.amf0_layout_laws.specs.Layout0.{new_text0, short_layout, value0_layout}
+use Rattle.amf0_layout_laws.specs.Layout0State.{State0, in_amf3}
 use Rattle.amf0_spelling.specs.Segments0.{Short}
 use Rattle.amf0_spelling.specs.Spells0.{Spells0}
 use Rattle.amf0_spelling.specs.Tables0.{Tables0}
-use Rattle.amf0_layout.proofs.Layout0Complete.{Like0, spelled_read0}
+use Rattle.amf0_layout_laws.proofs.Layout0Complete.{Like0, spelled_read0}
 use Rattle.amf_sol.specs.declared.sol_version.SolVersion.{SolVersion}
 use Rattle.amf_sol.specs.declared.sol_version.SolVersion.TheVariants.{Amf0, Amf3}
 use Rattle.amf_sol.specs.SharedObject.{signature, length_field, second_signature, padding, pair_end, version_number, version_kind, version_field, PairsBy, file_tables, file_tables0, PairsOf}

@@ -14,27 +14,27 @@ use Rattle.amf_graph.specs.Graph.{Value}
 use Rattle.amf_graph.specs.declared.value.Value.{Value as Stored}
 use Rattle.amf_graph.specs.Arena.{Arena, StoredNode, text_at, value_content, graph_of, IsTextId, Names, Completes}
 use Rattle.amf_graph.specs.Building.{more_name}
-use Rattle.amf3_layout.specs.Layout3Words.{text_layout}
-use Rattle.amf3_layout.specs.Layout3.{value_layout}
+use Rattle.amf3_layout_laws.specs.Layout3Words.{text_layout}
+use Rattle.amf3_layout_laws.specs.Layout3.{value_layout}
 use Rattle.amf3_spelling.specs.Segments3.{Lifted}
 use Rattle.amf3_spelling.specs.Spells3.{Spells3, SpellsIn}
 use Rattle.amf3_spelling.specs.Tables.{Tables, with_words}
 use Rattle.amf3_spelling.specs.Then.{Plain}
 use Rattle.amf3_spelling.specs.Words3.{Text}
-use Rattle.amf3_layout.proofs.Layout3Contents.{Larger, larger_twice, text_id, text_larger}
-use Rattle.amf3_layout.proofs.Layout3Sound.{value_sound}
-use Rattle.amf3_layout.proofs.Layout3SoundInline.{spell3}
-use Rattle.amf3_layout.proofs.Layout3SoundParts.{AllClosed, grown, same_node, Adds, adds_nothing, adds_more, here, to_changed, mid_completes, before_value, pairs_content, table, table_changed, table_text, text_content}
-use Rattle.amf3_layout.proofs.Layout3SoundTexts.{taken, give_is, text_sound}
-use Rattle.amf0_layout.specs.Layout0.{new_text0, short_layout, value0_layout}
-use Rattle.amf0_layout.specs.Layout0State.{State0, in_amf3, changed0}
+use Rattle.amf3_layout_laws.proofs.Layout3Contents.{Larger, larger_twice, text_id, text_larger}
+use Rattle.amf3_layout_laws.proofs.Layout3Sound.{value_sound}
+use Rattle.amf3_layout_laws.proofs.Layout3SoundInline.{spell3}
+use Rattle.amf3_layout_laws.proofs.Layout3SoundParts.{AllClosed, grown, same_node, Adds, adds_nothing, adds_more, here, to_changed, mid_completes, before_value, pairs_content, table, table_changed, table_text, text_content}
+use Rattle.amf3_layout_laws.proofs.Layout3SoundTexts.{taken, give_is, text_sound}
+use Rattle.amf0_layout_laws.specs.Layout0.{new_text0, short_layout, value0_layout}
+use Rattle.amf0_layout_laws.specs.Layout0State.{State0, in_amf3, changed0}
 use Rattle.amf0_spelling.specs.Segments0.{Short}
 use Rattle.amf0_spelling.specs.Spells0.{Spells0}
 use Rattle.amf0_spelling.specs.Tables0.{Tables0}
-use Rattle.amf0_layout.proofs.Layout0Contents.{Good0, table0, good0_moved, good_text0, table0_changed}
-use Rattle.amf0_layout.proofs.Layout0Sound.{value0_sound}
-use Rattle.amf0_layout.proofs.Layout0SoundNodes.{spell0}
-use Rattle.amf0_layout.proofs.Layout0SoundParts.{only_value, good_changed0, before_value0, short_sound, text_there, completed_larger}
+use Rattle.amf0_layout_laws.proofs.Layout0Contents.{Good0, table0, good0_moved, good_text0, table0_changed}
+use Rattle.amf0_layout_laws.proofs.Layout0Sound.{value0_sound}
+use Rattle.amf0_layout_laws.proofs.Layout0SoundNodes.{spell0}
+use Rattle.amf0_layout_laws.proofs.Layout0SoundParts.{only_value, good_changed0, before_value0, short_sound, text_there, completed_larger}
 use Rattle.amf_sol.specs.declared.sol_version.SolVersion.{SolVersion}
 use Rattle.amf_sol.specs.declared.sol_version.SolVersion.TheVariants.{Amf0, Amf3}
 use Rattle.amf_sol.specs.SharedObject.{exact_kind, exactly, pair_end, PairsBy}

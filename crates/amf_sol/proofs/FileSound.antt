@@ -23,16 +23,16 @@ use Rattle.amf_graph.specs.Arena as arena
 use Rattle.amf_graph.specs.Building.{no_stored, stored_at, shut}
 use Rattle.amf_graph.proofs.Lists.{no_entry}
 use Rattle.amf3_spelling.specs.KeptTables.{no_kept_tables, AreTablesIn}
-use Rattle.amf3_layout.proofs.Layout3Contents.{Larger, larger_itself, larger_twice, head_stays, KeptNode, Kept, Good, good_changed}
-use Rattle.amf3_layout.proofs.Layout3Reads.{good_start}
-use Rattle.amf3_layout.proofs.Layout3SoundInline.{shut_completes, content_at}
-use Rattle.amf3_layout.proofs.Layout3SoundParts.{AllClosed, grown, spot, kept_spot, spot_changed, nodes_changed, pairs_content}
-use Rattle.amf3_layout.proofs.Layout3SoundTexts.{taken, give_is}
-use Rattle.amf0_layout.specs.Layout0.{short_layout}
-use Rattle.amf0_layout.specs.Layout0State.{State0, changed0}
+use Rattle.amf3_layout_laws.proofs.Layout3Contents.{Larger, larger_itself, larger_twice, head_stays, KeptNode, Kept, Good, good_changed}
+use Rattle.amf3_layout_laws.proofs.Layout3Reads.{good_start}
+use Rattle.amf3_layout_laws.proofs.Layout3SoundInline.{shut_completes, content_at}
+use Rattle.amf3_layout_laws.proofs.Layout3SoundParts.{AllClosed, grown, spot, kept_spot, spot_changed, nodes_changed, pairs_content}
+use Rattle.amf3_layout_laws.proofs.Layout3SoundTexts.{taken, give_is}
+use Rattle.amf0_layout_laws.specs.Layout0.{short_layout}
+use Rattle.amf0_layout_laws.specs.Layout0State.{State0, changed0}
 use Rattle.amf0_spelling.specs.Segments0.{Short}
-use Rattle.amf0_layout.proofs.Layout0Contents.{Good0}
-use Rattle.amf0_layout.proofs.Layout0SoundParts.{short_sound, u32_is}
+use Rattle.amf0_layout_laws.proofs.Layout0Contents.{Good0}
+use Rattle.amf0_layout_laws.proofs.Layout0SoundParts.{short_sound, u32_is}
 use Rattle.amf_sol.specs.declared.sol_version.SolVersion.{SolVersion}
 use Rattle.amf_sol.specs.declared.sol_version.SolVersion.TheVariants.{Amf0, Amf3}
 use Rattle.amf_sol.specs.SharedObject.{IsPairHolder, signature, length_field, second_signature, padding, version_kind, version_field, PairsBy, PairsOf, SpellsFile}

@@ -9,14 +9,14 @@ use Rattle.amf_graph.specs.declared.value.Value.{Value as Stored}
 use Rattle.amf_graph.specs.Arena.{Arena, StoredNode}
 use Rattle.amf_graph.specs.Bounds.{weight}
 use Rattle.amf_graph.specs.Building.{stored_at, changed, more_name, shut}
-use Rattle.amf3_layout.specs.Layout3.{ValueRead, value_layout}
-use Rattle.amf3_layout.specs.Layout3Words.{TextRead, chunk, text_layout}
-use Rattle.amf3_layout.proofs.Reader3Costs.{value_costs}
-use Rattle.amf3_layout.proofs.Reader3OpeningCosts.{Costs, costs_give, costs_want, costs_bind, costs_text}
-use Rattle.amf3_layout.proofs.Reader3Weight.{weight_text, weight_more_name, weight_shut}
+use Rattle.amf3_layout_laws.specs.Layout3.{ValueRead, value_layout}
+use Rattle.amf3_layout_laws.specs.Layout3Words.{TextRead, chunk, text_layout}
+use Rattle.amf3_layout_laws.proofs.Reader3Costs.{value_costs}
+use Rattle.amf3_layout_laws.proofs.Reader3OpeningCosts.{Costs, costs_give, costs_want, costs_bind, costs_text}
+use Rattle.amf3_layout_laws.proofs.Reader3Weight.{weight_text, weight_more_name, weight_shut}
 use Rattle.amf0_spelling.specs.KeptTables0.{KeptTables0}
-use Rattle.amf0_layout.specs.Layout0.{TextRead0, ValueRead0, new_text0, short_layout, value0_layout}
-use Rattle.amf0_layout.specs.Layout0State.{State0, state0_of, in_amf3}
+use Rattle.amf0_layout_laws.specs.Layout0.{TextRead0, ValueRead0, new_text0, short_layout, value0_layout}
+use Rattle.amf0_layout_laws.specs.Layout0State.{State0, state0_of, in_amf3}
 use Rattle.amf0_read.proofs.Costs0.{value0_costs}
 use Rattle.amf_sol.specs.declared.sol_version.SolVersion.{SolVersion}
 use Rattle.amf_sol.specs.declared.sol_version.SolVersion.TheVariants.{Amf0, Amf3}

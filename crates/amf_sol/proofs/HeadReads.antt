@@ -14,8 +14,8 @@ use Rattle.amf_io.specs.Field.{fixed, whole, text_kind, u16_kind, u32_kind, no_r
 use Rattle.amf_io.specs.Layout.{give, want, bind}
 use Rattle.amf_io.proofs.CursorReads.{gives, then_reads, end_reads, field_reads, field_ended}
 use Rattle.amf_io.proofs.Whole.{whole_fixed}
-use Rattle.amf3_layout.specs.Layout3Words.{chunk}
-use Rattle.amf0_layout.specs.Layout0.{new_text0, short_layout}
+use Rattle.amf3_layout_laws.specs.Layout3Words.{chunk}
+use Rattle.amf0_layout_laws.specs.Layout0.{new_text0, short_layout}
 use Rattle.amf_sol.specs.declared.head.Head.{Head}
 use Rattle.amf_sol.specs.declared.sol_version.SolVersion.{SolVersion}
 use Rattle.amf_sol.specs.declared.sol_version.SolVersion.TheVariants.{Amf0, Amf3}

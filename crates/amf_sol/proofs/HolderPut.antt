@@ -10,7 +10,7 @@ use Rattle.amf_graph.specs.Arena.{Arena, StoredNode, IsBuilt, IsTextId, Names, h
 use Rattle.amf_graph.specs.Building.{stored_at, changed, shut, more_part, Takes, HasRoom, IsFirstOpen, size_of, no_stored}
 use Rattle.amf3_spelling.specs.KeptTables.{KeptTables, AreTablesIn}
 use Rattle.amf3_spelling.specs.Reads3.{Grows}
-use Rattle.amf3_layout.proofs.Reader3Tables.{grows_itself}
+use Rattle.amf3_layout_laws.proofs.Reader3Tables.{grows_itself}
 use Rattle.amf3_read.specs.Filling.{IsOpened, with_more}
 use Rattle.amf3_read.proofs.PartPut.{there, stays, still_open, same_head, put_node, put_built, put_tables, put_opened, put_head, put_nodes, more_size}
 use Rattle.amf_sol.specs.FileLayout.{holder_arena}

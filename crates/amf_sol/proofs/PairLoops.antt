@@ -15,14 +15,14 @@ use Rattle.amf_io.proofs.CursorReads.{goes_then, goes_nowhere, then_reads, end_r
 use Rattle.amf_io.proofs.Paths.{bind_runs, runs_bind}
 use Rattle.amf_graph.specs.Arena.{Arena}
 use Rattle.amf_graph.specs.Rooted.{RootedArena}
-use Rattle.amf3_layout.proofs.Layout3SoundTexts.{give_is}
-use Rattle.amf_fields.specs.Room.{left_of}
+use Rattle.amf3_layout_laws.proofs.Layout3SoundTexts.{give_is}
+use Rattle.amf_wire_fields.specs.Room.{left_of}
 use Rattle.amf3_read.specs.Ready.{Ready}
 use Rattle.amf0_read.specs.Ready0.{Ready0}
 use Rattle.amf3_spelling.specs.KeptTables.{KeptTables, no_kept_tables}
 use Rattle.amf_graph.proofs.Lists.{no_entry}
 use Rattle.amf0_spelling.specs.KeptTables0.{KeptTables0, no_kept_tables0}
-use Rattle.amf0_layout.specs.Layout0State.{State0, state0_of}
+use Rattle.amf0_layout_laws.specs.Layout0State.{State0, state0_of}
 use Rattle.amf0_read.proofs.ValueReads0.{led_answers}
 use Rattle.amf_sol.specs.declared.sol_version.SolVersion.{SolVersion}
 use Rattle.amf_sol.specs.declared.sol_version.SolVersion.TheVariants.{Amf0, Amf3}

@@ -16,18 +16,18 @@ use Rattle.amf_graph.specs.Arena.{Arena, IsBuilt, IsTextId, Names}
 use Rattle.amf_graph.specs.Building.{changed, more_name, more_part}
 use Rattle.amf3_spelling.specs.KeptTables.{KeptTables}
 use Rattle.amf3_spelling.specs.Reads3.{Grows}
-use Rattle.amf3_layout.specs.Layout3State.{State3, state_of}
-use Rattle.amf3_layout.specs.Layout3Words.{text_layout}
-use Rattle.amf3_layout.specs.Layout3.{read, value_layout}
-use Rattle.amf3_layout.proofs.Layout3Reads.{reads}
-use Rattle.amf3_layout.proofs.Reader3Tables.{grows_twice, text_id_after_growth}
-use Rattle.amf3_layout.proofs.Reader3States.{more_name_state}
+use Rattle.amf3_layout_laws.specs.Layout3State.{State3, state_of}
+use Rattle.amf3_layout_laws.specs.Layout3Words.{text_layout}
+use Rattle.amf3_layout_laws.specs.Layout3.{read, value_layout}
+use Rattle.amf3_layout_laws.proofs.Layout3Reads.{reads}
+use Rattle.amf3_layout_laws.proofs.Reader3Tables.{grows_twice, text_id_after_growth}
+use Rattle.amf3_layout_laws.proofs.Reader3States.{more_name_state}
 use Rattle.amf0_spelling.specs.KeptTables0.{KeptTables0}
-use Rattle.amf0_layout.specs.Layout0.{read0, short_layout, value0_layout}
-use Rattle.amf0_layout.specs.Layout0State.{State0, state0_of, in_amf3}
-use Rattle.amf0_layout.proofs.Layout0Format.{reads0}
-use Rattle.amf_fields.specs.KeptText.{KeptText}
-use Rattle.amf_fields.specs.Room.{left_of}
+use Rattle.amf0_layout_laws.specs.Layout0.{read0, short_layout, value0_layout}
+use Rattle.amf0_layout_laws.specs.Layout0State.{State0, state0_of, in_amf3}
+use Rattle.amf0_layout_laws.proofs.Layout0Format.{reads0}
+use Rattle.amf_wire_fields.specs.KeptText.{KeptText}
+use Rattle.amf_wire_fields.specs.Room.{left_of}
 use Rattle.amf3_read.specs.Ready.{Ready, Continues, text_read}
 use Rattle.amf0_read.specs.Ready0 as ready0
 use Rattle.amf0_read.specs.Ready0.{Ready0, StillReady0}

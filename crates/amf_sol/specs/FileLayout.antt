@@ -6,11 +6,11 @@ use Rattle.amf_wire.specs.Style.{free}
 use Rattle.amf_graph.specs.declared.value.Value.{Value as Stored}
 use Rattle.amf_graph.specs.Arena.{Arena, object}
 use Rattle.amf_graph.specs.Building.{more_name}
-use Rattle.amf3_layout.specs.Layout3Words.{text_layout}
-use Rattle.amf3_layout.specs.Layout3.{value_layout}
+use Rattle.amf3_layout_laws.specs.Layout3Words.{text_layout}
+use Rattle.amf3_layout_laws.specs.Layout3.{value_layout}
 use Rattle.amf0_spelling.specs.KeptTables0.{no_kept_tables0}
-use Rattle.amf0_layout.specs.Layout0State.{State0, state0_of, in_amf3, changed0}
-use Rattle.amf0_layout.specs.Layout0.{short_layout, value0_layout}
+use Rattle.amf0_layout_laws.specs.Layout0State.{State0, state0_of, in_amf3, changed0}
+use Rattle.amf0_layout_laws.specs.Layout0.{short_layout, value0_layout}
 use Rattle.amf_sol.specs.declared.sol_version.SolVersion.{SolVersion}
 use Rattle.amf_sol.specs.declared.sol_version.SolVersion.TheVariants.{Amf0, Amf3}
 use Rattle.amf_sol.specs.SharedObject.{Shared, signature, second_signature, padding, version_kind, pair_end, PairsOf, SpellsFile}

@@ -17,12 +17,12 @@ use Rattle.amf_graph.specs.Arena.{Arena, head_content}
 use Rattle.amf_graph.specs.Building.{changed, shut, stored_at}
 use Rattle.amf_graph.specs.Rooted.{RootedArena}
 use Rattle.amf3_spelling.specs.KeptTables.{KeptTables}
-use Rattle.amf3_layout.specs.Layout3Words.{chunk}
-use Rattle.amf_fields.specs.Room.{left_of}
+use Rattle.amf3_layout_laws.specs.Layout3Words.{chunk}
+use Rattle.amf_wire_fields.specs.Room.{left_of}
 use Rattle.amf3_read.specs.Filling.{IsOpened}
 use Rattle.amf0_spelling.specs.KeptTables0.{KeptTables0}
-use Rattle.amf0_layout.specs.Layout0.{short_layout}
-use Rattle.amf0_layout.specs.Layout0State.{State0, state0_of}
+use Rattle.amf0_layout_laws.specs.Layout0.{short_layout}
+use Rattle.amf0_layout_laws.specs.Layout0State.{State0, state0_of}
 use Rattle.amf_sol.specs.declared.sol_version.SolVersion.{SolVersion}
 use Rattle.amf_sol.specs.SharedObject.{exact_kind, holder_head, signature, second_signature, version_kind}
 use Rattle.amf_sol.specs.FileLayout.{FileState, file, pair_by, no_pairs, version_of, behind_name, pair_layout}

@@ -7,9 +7,9 @@ ghost use Rattle.amf_sol.specs.FileReading.{exact_layout, length_layout, name_la
 
 use crate::SolVersion;
 use crate::fixed::{PADDING, SECOND_SIGNATURE, SIGNATURE};
-use amf_fields::{Contents, FieldSize, read_contents, read_field};
 use amf_io::{Cursor, ReadEnd, Reason, Source, refused};
 use amf_wire::Name;
+use amf_wire_fields::{Contents, FieldSize, read_contents, read_field};
 use std::alloc::Global;
 
 /// What stands in a shared object file behind its length and before its pairs.

@@ -3,7 +3,7 @@ ghost use Rattle.amf_io.specs.Cursor.{place};
 ghost use Rattle.amf_io.specs.ReadEnds.{Goes};
 ghost use Rattle.amf_io.specs.Stretch.{between};
 ghost use Rattle.amf_graph.specs.Bounds.{weight};
-ghost use Rattle.amf_fields.specs.Room.{room_end, left_of};
+ghost use Rattle.amf_wire_fields.specs.Room.{room_end, left_of};
 ghost use Rattle.amf_sol.specs.FileAnswer.{AnswersFile};
 
 use crate::SharedObject;

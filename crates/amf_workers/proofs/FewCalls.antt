@@ -21,20 +21,20 @@ use Rattle.amf_service.specs.Meaning as meaning
 use Rattle.amf_service.specs.Meaning.{Called, given, fault, result}
 use Rattle.amf_service.specs.Registry.{Entry, called}
 use Rattle.amf_service.specs.Shipped.{one_of, items_of}
-use Rattle.amf_plan.specs.Batches.{about_poll, invalidates, deliveries, synced, sync, batch}
-use Rattle.amf_plan.specs.Begun.{Begun}
-use Rattle.amf_plan.specs.Causes.{refusal, not_served, no_form, no_service, no_operation, service_fault, bad_message}
-use Rattle.amf_plan.specs.Commands.{acknowledge_or, acknowledged, publish_spelled, publish, say_subscribed, subscribe, unsubscribe, say_batch, poll, is_new, say_connected, connect, ping, disconnect, by_number, command}
-use Rattle.amf_plan.specs.Flex.{asked_answer, viewed_answer, message_in, message_of, flex}
-use Rattle.amf_plan.specs.Links.{LinkEnd, closed, answer_packet, answer_body, answer_request, link_of, link}
-use Rattle.amf_plan.specs.Packets.{null_uri, message_back, answer_to, messages_back, answers_to, has_long}
-use Rattle.amf_plan.specs.Plan.{Cut, at_end, cut_short, turned_away, request, Plan, gives, takes_moment, takes_word, calls, spells, reads, cuts, unpacks, packs, writes, ◌>>=◌}
-use Rattle.amf_plan.specs.PlainCalls as plain
-use Rattle.amf_plan.specs.Remoting as remote
-use Rattle.amf_plan.specs.Replies.{context_of, with_client, no_context, Context, Answer, error, acknowledge, acknowledge_null, reply_with}
-use Rattle.amf_plan.specs.Serving.{ServeEnd, ended, read_fault, write_fault, no_memory, spent, LinkBytes, Taken, supply_of, did, Partly, ServesBy, Serves}
-use Rattle.amf_plan.proofs.Composed.{runs_begun}
-use Rattle.amf_plan.specs.Runs.{Finds, IsUnpacked, Supply, Done, nothing, Takes}
+use Rattle.amf_answer_plan.specs.Batches.{about_poll, invalidates, deliveries, synced, sync, batch}
+use Rattle.amf_answer_plan.specs.Begun.{Begun}
+use Rattle.amf_answer_plan.specs.Causes.{refusal, not_served, no_form, no_service, no_operation, service_fault, bad_message}
+use Rattle.amf_answer_plan.specs.Commands.{acknowledge_or, acknowledged, publish_spelled, publish, say_subscribed, subscribe, unsubscribe, say_batch, poll, is_new, say_connected, connect, ping, disconnect, by_number, command}
+use Rattle.amf_answer_plan.specs.Flex.{asked_answer, viewed_answer, message_in, message_of, flex}
+use Rattle.amf_answer_plan.specs.Links.{LinkEnd, closed, answer_packet, answer_body, answer_request, link_of, link}
+use Rattle.amf_answer_plan.specs.Packets.{null_uri, message_back, answer_to, messages_back, answers_to, has_long}
+use Rattle.amf_answer_plan.specs.Plan.{Cut, at_end, cut_short, turned_away, request, Plan, gives, takes_moment, takes_word, calls, spells, reads, cuts, unpacks, packs, writes, ◌>>=◌}
+use Rattle.amf_answer_plan.specs.PlainCalls as plain
+use Rattle.amf_answer_plan.specs.Remoting as remote
+use Rattle.amf_answer_plan.specs.Replies.{context_of, with_client, no_context, Context, Answer, error, acknowledge, acknowledge_null, reply_with}
+use Rattle.amf_answer_plan.specs.Serving.{ServeEnd, ended, read_fault, write_fault, no_memory, spent, LinkBytes, Taken, supply_of, did, Partly, ServesBy, Serves}
+use Rattle.amf_answer_plan.proofs.Composed.{runs_begun}
+use Rattle.amf_answer_plan.specs.Runs.{Finds, IsUnpacked, Supply, Done, nothing, Takes}
 
 no_calls : (d : Done) (n : ℕ) → d ≡ nothing → length d.calls ≤ n
 no_calls d n e = omega (arith, ap (λ (x : Done). length x.calls) e)

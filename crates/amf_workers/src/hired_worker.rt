@@ -1,5 +1,5 @@
 ghost use Rattle.std.specs.Prelude.{◌≡◌};
-ghost use Rattle.amf_plan.specs.Services.{services_of};
+ghost use Rattle.amf_answer_plan.specs.Services.{services_of};
 ghost use Rattle.amf_workers.specs.HiredWorkers.{HiredServed};
 
 use amf_desk::Desk;

@@ -1,5 +1,5 @@
 ghost use Rattle.std.specs.Prelude.{◌≡◌, ◌≤◌, ◌^◌, [], All, vec_len};
-ghost use Rattle.amf_plan.specs.Services.{services_of};
+ghost use Rattle.amf_answer_plan.specs.Services.{services_of};
 ghost use Rattle.amf_workers.specs.Together.{Serves, destinations};
 ghost use Rattle.amf_workers.specs.Halls.{ServesHalls};
 

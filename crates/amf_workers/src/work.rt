@@ -1,6 +1,6 @@
 ghost use denote.Param.Send.{IsSend, IsSync};
 ghost use Rattle.std.specs.Prelude.{◌≡◌, All};
-ghost use Rattle.amf_plan.specs.Services.{services_of};
+ghost use Rattle.amf_answer_plan.specs.Services.{services_of};
 ghost use Rattle.amf_workers.specs.HiredWorkers.{AllServed, HiredServed};
 
 use crate::hired_worker::HiredWorker;

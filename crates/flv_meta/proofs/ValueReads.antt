@@ -14,8 +14,8 @@ use Rattle.amf_graph.specs.Arena.{Arena, IsFinished}
 use Rattle.amf_graph.specs.Building.{no_arena}
 use Rattle.amf_graph.specs.Rooted.{RootedArena}
 use Rattle.amf_graph.proofs.FinishedSmall.{completes_itself}
-use Rattle.amf3_layout.proofs.Values3Layout.{no_arena_built}
-use Rattle.amf0_layout.proofs.Layout0Format.{answered0}
+use Rattle.amf3_layout_laws.proofs.Values3Layout.{no_arena_built}
+use Rattle.amf0_layout_laws.proofs.Layout0Format.{answered0}
 use Rattle.amf0_spelling.specs.KeptTables0.{KeptTables0, no_kept_tables0, tables0_of}
 use Rattle.amf0_spelling.specs.Reads0.{IsReading0}
 use Rattle.amf0_spelling.specs.Values0.{IsValue0}

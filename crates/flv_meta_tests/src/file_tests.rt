@@ -1,6 +1,6 @@
 use crate::checks::is;
 use crate::walk::{Reading, file_told};
-use amf_rows::{Row, Table};
+use amf_test_rows::{Row, Table};
 use std::alloc::Global;
 use std::process::Abort;
 use std::test::Fail;

@@ -1,7 +1,7 @@
 use crate::checks::{holds, holds_in, is};
 use amf_fixtures::{graph0, graph3};
 use amf_graph::Rooted;
-use amf_rows::{Row, Table};
+use amf_test_rows::{Row, Table};
 use amf_wire::{U29, write_u29};
 use flv_meta::{MetaTagEnd, meta_tag};
 use std::alloc::Global;

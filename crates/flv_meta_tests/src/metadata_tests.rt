@@ -2,7 +2,7 @@ ghost use Rattle.flv_meta.specs.FileAnswers.{IsStoredTag};
 
 use crate::checks::is;
 use amf_io::{Cursor, MemorySource};
-use amf_rows::{Row, Table};
+use amf_test_rows::{Row, Table};
 use flv_meta::{MetaEnd, Tag, metadata, next_tag, read_head};
 use std::alloc::Global;
 use std::process::Abort;

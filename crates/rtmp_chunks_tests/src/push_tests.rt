@@ -1,6 +1,6 @@
 use crate::checks::{field, fill, holds, is, number};
 use crate::told::{NEVER, Way, told};
-use amf_rows::{Row, Table};
+use amf_test_rows::{Row, Table};
 use rtmp_chunks::{ChunkEnd, Chunker, Message, MessageBytes};
 use std::alloc::Global;
 use std::process::Abort;

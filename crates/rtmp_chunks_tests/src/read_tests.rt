@@ -1,6 +1,6 @@
 use crate::checks::{field, fill, holds, is, number, put_bytes, put_handshake};
 use crate::told::{NEVER, Way, told};
-use amf_rows::{Row, Table};
+use amf_test_rows::{Row, Table};
 use rtmp_chunks::{
     calls_tell, one_meaning, one_verdict, pushed_reads, reading_tells, rechunked, worked_rows,
 };

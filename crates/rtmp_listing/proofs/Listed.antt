@@ -11,7 +11,7 @@ use Rattle.amf_io.specs.Verdict.{IsRefused}
 use Rattle.amf_graph.specs.Graph.{Graph}
 use Rattle.amf_show.specs.Listing.{IsListing, AppendsListing}
 use Rattle.amf0_spelling.specs.Values0.{IsValue0}
-use Rattle.rtmp_pass.specs.Pass.{Appended}
+use Rattle.rtmp_rechunk.specs.Pass.{Appended}
 use Rattle.rtmp_listing.specs.Listing.{ShowsValues, no_more, value, bad, bad_line}
 use Rattle.rtmp_listing.specs.Values.{IsReadFront, AnswersOne, Lists, ListedSoFar}
 use Rattle.rtmp_listing.proofs.OneRead.{value_some}

@@ -14,13 +14,13 @@ use Rattle.amf_graph.specs.Building.{no_arena}
 use Rattle.amf_graph.specs.Rooted.{RootedArena, content}
 use Rattle.amf_graph.proofs.FinishedSmall.{completes_itself}
 use Rattle.amf3_spelling.specs.Reads3.{Grows}
-use Rattle.amf3_layout.proofs.Values3Layout.{no_arena_built}
+use Rattle.amf3_layout_laws.proofs.Values3Layout.{no_arena_built}
 use Rattle.amf0_spelling.specs.KeptTables0.{KeptTables0, no_kept_tables0, tables0_of}
 use Rattle.amf0_spelling.specs.Reads0.{IsReading0}
 use Rattle.amf0_spelling.specs.Values0.{IsValue0}
-use Rattle.amf0_layout.specs.Layout0.{value0_layout}
-use Rattle.amf0_layout.specs.Layout0State.{state0_of}
-use Rattle.amf0_layout.proofs.Layout0Format.{values0_is_layout, reading_is_value0, answered0}
+use Rattle.amf0_layout_laws.specs.Layout0.{value0_layout}
+use Rattle.amf0_layout_laws.specs.Layout0State.{state0_of}
+use Rattle.amf0_layout_laws.proofs.Layout0Format.{values0_is_layout, reading_is_value0, answered0}
 use Rattle.amf0_read.specs.Answer0.{IsReadWith}
 use Rattle.amf0_read.specs.declared.formed.Read0.{Read0}
 use Rattle.rtmp_listing.specs.Values.{IsReadFront, AnswersOne}

@@ -9,7 +9,7 @@ use Rattle.amf_graph.specs.Graph.{Graph}
 use Rattle.amf_graph.specs.Rooted.{RootedArena, content}
 use Rattle.amf0_spelling.specs.Values0.{IsValue0}
 use Rattle.amf0_spelling.specs.Spells0.{IsSpelling0}
-use Rattle.rtmp_pass.specs.Pass.{Appended}
+use Rattle.rtmp_rechunk.specs.Pass.{Appended}
 use Rattle.rtmp_listing.specs.Listing.{ShowsValues, bad_line}
 
 -- a front of the input spells the graph

@@ -4,7 +4,7 @@ use crate::lines::{push_message_line, push_open_lines};
 use crate::values::push_values;
 use amf_wire::Memory;
 use rtmp_chunks::{Message, Open};
-use rtmp_pass::Handler;
+use rtmp_rechunk::Handler;
 use std::alloc::Global;
 use std::hash::RandomState;
 

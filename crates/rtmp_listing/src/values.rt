@@ -2,7 +2,7 @@ ghost use Rattle.std.specs.Prelude.{◌≡◌, ◌<◌, ◌^◌, ◌+◌, ◌↔
 ghost use Rattle.amf_io.specs.Cursor.{place, bound, unread};
 ghost use Rattle.amf_io.specs.InMemory.{nothing_left};
 ghost use Rattle.amf_io.specs.ReadEnds.{GoesBy};
-ghost use Rattle.rtmp_pass.specs.Pass.{Appended};
+ghost use Rattle.rtmp_rechunk.specs.Pass.{Appended};
 ghost use Rattle.rtmp_listing.specs.Listing.{ShowsValues};
 ghost use Rattle.rtmp_listing.specs.Values.{AnswersOne, Lists};
 

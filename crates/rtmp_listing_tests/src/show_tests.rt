@@ -1,7 +1,7 @@
 use amf_io::{MemorySink, MemorySource};
-use amf_rows::{Row, Table};
+use amf_test_rows::{Row, Table};
 use rtmp_listing::Lister;
-use rtmp_pass::{PassEnd, pass_over};
+use rtmp_rechunk::{PassEnd, pass_over};
 use std::alloc::{AllocError, Global};
 use std::process::Abort;
 use std::test::Fail;

@@ -1,8 +1,8 @@
 use Rattle.std.proofs.Common.{false, [], List, reverse, sym, ap, ◌∙◌, subst, arith}
 use Rattle.amf0_spelling.specs.TableParts0.{shown_tables}
-use Rattle.amf0_layout.specs.Layout0State.{state0_of}
-use Rattle.amf0_layout.specs.Layout0.{value0_layout}
-use Rattle.amf_fields.specs.Room.{left_of}
+use Rattle.amf0_layout_laws.specs.Layout0State.{state0_of}
+use Rattle.amf0_layout_laws.specs.Layout0.{value0_layout}
+use Rattle.amf_wire_fields.specs.Room.{left_of}
 use Rattle.amf0_read.specs.declared.frame.Frame.{Frame}
 use Rattle.amf0_read.specs.declared.frame.Now.{Now}
 use Rattle.amf0_read.specs.Ready0.{StillReady0}

@@ -1,7 +1,7 @@
 use Rattle.std.proofs.Common.{suc, ◌≡◌, ◌≤◌, sym, subst, arith}
 use Rattle.amf_graph.specs.Building.{changed as changed_arena, more_part, stored_at, HasRoom, PartNames}
 use Rattle.amf0_spelling.specs.TableParts0.{shown_tables}
-use Rattle.amf_fields.specs.Room.{left_of}
+use Rattle.amf_wire_fields.specs.Room.{left_of}
 use Rattle.amf3_read.proofs.Stack.{done}
 use Rattle.amf0_read.specs.Frames0.{FilledSo, CarriesEnd}
 use Rattle.amf0_read.proofs.Fills0.{fills_begin, fills_passed, fills_memory, fills_end, fills_closed, fills_wait, fills_start_end, fills_within, fills_given, fills_room, fills_there, fills_put}

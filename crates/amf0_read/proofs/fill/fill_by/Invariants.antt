@@ -1,5 +1,5 @@
 use Rattle.amf0_spelling.specs.TableParts0.{shown_tables}
-use Rattle.amf_fields.specs.Room.{left_of}
+use Rattle.amf_wire_fields.specs.Room.{left_of}
 use Rattle.amf0_read.specs.Frames0.{FilledSo}
 use Rattle.amf0_read.proofs.fill.fill_by.Given as goal
 

@@ -2,11 +2,11 @@ use Rattle.std.proofs.Common.{◌≡◌, suc, ◌-◌, true, false, eqb, length,
 use Rattle.std.proofs.lemmas.Grind.{common_steps}
 use Rattle.amf_graph.specs.Arena.{head_content, text_at}
 use Rattle.amf_graph.specs.Building.{stored_at}
-use Rattle.amf_fields.specs.Room.{left_of}
+use Rattle.amf_wire_fields.specs.Room.{left_of}
 use Rattle.amf0_spelling.specs.TableParts0.{shown_tables}
 use Rattle.amf0_spelling.specs.Segments0.{is_empty}
-use Rattle.amf0_layout.specs.Layout0State.{state0_of}
-use Rattle.amf0_layout.specs.Layout0.{value0_layout}
+use Rattle.amf0_layout_laws.specs.Layout0State.{state0_of}
+use Rattle.amf0_layout_laws.specs.Layout0.{value0_layout}
 use Rattle.amf0_read.specs.declared.frame.Todo.TheVariants.{Items, Pairs}
 use Rattle.amf0_read.specs.declared.frame.Role.TheVariants.{Item, Named}
 use Rattle.amf0_read.specs.declared.fill.Step.TheVariants as step

@@ -3,7 +3,7 @@ use Rattle.std.specs.Int.{from_be_bytes, w32}
 use Rattle.amf_io.specs.Field.{u32_kind, no_refusal}
 use Rattle.amf_io.specs.Layout.{give}
 use Rattle.amf_io.proofs.CursorReads.{field_reads, field_ended, gives}
-use Rattle.amf_fields.proofs.LayoutBinds.{passed_on}
+use Rattle.amf_wire_fields.proofs.LayoutBinds.{passed_on}
 use Rattle.amf0_read.specs.Leaves0.{count_layout}
 use Rattle.amf0_read.proofs.leaf.read_count.Goals as goal
 

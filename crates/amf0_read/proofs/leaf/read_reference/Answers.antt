@@ -6,7 +6,7 @@ use Rattle.amf_io.proofs.CursorReads.{field_reads, field_ended, gives}
 use Rattle.amf_graph.specs.declared.value.NodeId.{NodeId}
 use Rattle.amf0_spelling.specs.Refusals0.{index0_kind, index0_refusal}
 use Rattle.amf0_spelling.specs.TableParts0.{shown_tables}
-use Rattle.amf_fields.proofs.LayoutBinds.{passed_on}
+use Rattle.amf_wire_fields.proofs.LayoutBinds.{passed_on}
 use Rattle.amf0_read.proofs.FieldReads0.{refused_at, index_clean, index_past, index_names}
 use Rattle.amf0_read.proofs.leaf.read_reference.Goals as goal
 

@@ -4,7 +4,7 @@ use Rattle.amf_wire.specs.declared.pattern.Pattern.{Pattern}
 use Rattle.amf_io.specs.Field.{raw_kind}
 use Rattle.amf_io.specs.Layout.{give, want}
 use Rattle.amf_io.proofs.CursorReads.{field_reads, field_ended, gives}
-use Rattle.amf_fields.proofs.LayoutBinds.{passed_on}
+use Rattle.amf_wire_fields.proofs.LayoutBinds.{passed_on}
 use Rattle.amf0_read.proofs.leaf.read_time.Goals as goal
 
 pub returns-in_err-read_field-clause-answers : goal.returns-in_err-read_field-clause-answers

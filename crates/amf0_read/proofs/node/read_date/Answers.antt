@@ -2,10 +2,10 @@ use Rattle.std.proofs.Common.{refl, arith}
 use Rattle.amf_wire.specs.declared.pattern.Pattern.{Pattern}
 use Rattle.amf_graph.specs.declared.value.Value.TheVariants as value
 use Rattle.amf_graph.specs.Arena.{date}
-use Rattle.amf3_layout.proofs.Reader3Tables.{grows_itself}
+use Rattle.amf3_layout_laws.proofs.Reader3Tables.{grows_itself}
 use Rattle.amf0_spelling.specs.TableParts0.{shown_tables}
-use Rattle.amf0_layout.specs.Layout0.{whole0}
-use Rattle.amf0_layout.specs.Layout0State.{state0_of}
+use Rattle.amf0_layout_laws.specs.Layout0.{whole0}
+use Rattle.amf0_layout_laws.specs.Layout0State.{state0_of}
 use Rattle.amf0_read.specs.Leaves0.{time_layout}
 use Rattle.amf0_read.proofs.Stack0.{are_tables}
 use Rattle.amf0_read.proofs.Starts0.{made}

@@ -2,8 +2,8 @@ use Rattle.std.proofs.Common.{ap, length, refl, arith}
 use Rattle.amf_graph.specs.declared.value.Value.TheVariants as value
 use Rattle.amf_graph.specs.Arena.{Arena, xml_document}
 use Rattle.amf0_spelling.specs.TableParts0.{shown_tables}
-use Rattle.amf0_layout.specs.Layout0.{long_layout, whole0}
-use Rattle.amf0_layout.specs.Layout0State.{state0_of}
+use Rattle.amf0_layout_laws.specs.Layout0.{long_layout, whole0}
+use Rattle.amf0_layout_laws.specs.Layout0State.{state0_of}
 use Rattle.amf_io.specs.Layout.{give}
 use Rattle.amf0_read.specs.Ready0.{text_read}
 use Rattle.amf0_read.proofs.Stack0.{are_tables}

@@ -1,12 +1,12 @@
 use Rattle.std.proofs.Common.{suc, arith}
 use Rattle.amf_graph.specs.declared.value.Value.{Value as Stored}
-use Rattle.amf3_layout.specs.Layout3State.{state_of}
-use Rattle.amf3_layout.specs.Layout3.{read, value_layout}
+use Rattle.amf3_layout_laws.specs.Layout3State.{state_of}
+use Rattle.amf3_layout_laws.specs.Layout3.{read, value_layout}
 use Rattle.amf_io.specs.Layout.{give}
-use Rattle.amf_fields.specs.Room.{left_of}
+use Rattle.amf_wire_fields.specs.Room.{left_of}
 use Rattle.amf0_spelling.specs.TableParts0.{shown_tables}
-use Rattle.amf0_layout.specs.Layout0.{read0}
-use Rattle.amf0_layout.specs.Layout0State.{state0_of, switched}
+use Rattle.amf0_layout_laws.specs.Layout0.{read0}
+use Rattle.amf0_layout_laws.specs.Layout0State.{state0_of, switched}
 use Rattle.amf0_read.proofs.Starts0.{made, ended}
 use Rattle.amf0_read.proofs.NodeStarts0.{switched_still_ready, switched_is, switched_names}
 use Rattle.amf0_read.proofs.node.read_switched.Goals as goal

@@ -7,12 +7,12 @@ use Rattle.amf_graph.specs.declared.value.NodeId.{NodeId}
 use Rattle.amf_graph.specs.declared.value.TextId.{TextId}
 use Rattle.amf_graph.specs.declared.value.Value.TheVariants as value
 use Rattle.amf_graph.specs.Arena.{text_at}
-use Rattle.amf3_layout.specs.Layout3.{flag_layout, eight_layout}
-use Rattle.amf3_layout.proofs.Layout3Contents.{all_place}
-use Rattle.amf3_layout.proofs.Reader3Tables.{grows_itself}
+use Rattle.amf3_layout_laws.specs.Layout3.{flag_layout, eight_layout}
+use Rattle.amf3_layout_laws.proofs.Layout3Contents.{all_place}
+use Rattle.amf3_layout_laws.proofs.Reader3Tables.{grows_itself}
 use Rattle.amf0_spelling.specs.TableParts0.{shown_tables}
-use Rattle.amf0_layout.specs.Layout0.{TextRead0, new_text0, read0, short_layout, long_layout, with_members}
-use Rattle.amf0_layout.specs.Layout0State.{State0, state0_of}
+use Rattle.amf0_layout_laws.specs.Layout0.{TextRead0, new_text0, read0, short_layout, long_layout, with_members}
+use Rattle.amf0_layout_laws.specs.Layout0State.{State0, state0_of}
 use Rattle.amf0_read.specs.declared.frame.Todo.TheVariants.{Pairs}
 use Rattle.amf0_spelling.specs.declared.marker.Marker0.TheVariants as marker
 use Rattle.amf0_read.specs.declared.node.Start.TheVariants as start

@@ -1,8 +1,8 @@
 use Rattle.std.proofs.Common.{ℕ, arith}
 use Rattle.amf_graph.specs.Arena.{array}
 use Rattle.amf0_spelling.specs.TableParts0.{shown_tables}
-use Rattle.amf0_layout.specs.Layout0.{with_items}
-use Rattle.amf0_layout.specs.Layout0State.{state0_of}
+use Rattle.amf0_layout_laws.specs.Layout0.{with_items}
+use Rattle.amf0_layout_laws.specs.Layout0State.{state0_of}
 use Rattle.amf0_read.specs.declared.frame.Todo.TheVariants.{Items}
 use Rattle.amf0_read.specs.Leaves0.{count_layout}
 use Rattle.amf0_read.specs.Frames0.{todo}

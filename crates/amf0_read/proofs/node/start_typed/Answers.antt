@@ -1,8 +1,8 @@
 use Rattle.std.proofs.Common.{arith}
 use Rattle.amf_graph.specs.Arena.{text_at}
 use Rattle.amf0_spelling.specs.TableParts0.{shown_tables}
-use Rattle.amf0_layout.specs.Layout0.{short_layout, with_members}
-use Rattle.amf0_layout.specs.Layout0State.{state0_of}
+use Rattle.amf0_layout_laws.specs.Layout0.{short_layout, with_members}
+use Rattle.amf0_layout_laws.specs.Layout0State.{state0_of}
 use Rattle.amf0_read.specs.declared.frame.Todo.TheVariants.{Pairs}
 use Rattle.amf0_read.specs.Ready0.{text_read}
 use Rattle.amf0_read.specs.Frames0.{todo}

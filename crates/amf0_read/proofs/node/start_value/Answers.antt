@@ -3,11 +3,11 @@ use Rattle.amf_io.specs.Layout.{give}
 use Rattle.amf_wire.specs.declared.pattern.Pattern.{Pattern}
 use Rattle.amf_graph.specs.declared.value.TextId.{TextId}
 use Rattle.amf_graph.specs.declared.value.Value.TheVariants as value
-use Rattle.amf3_layout.specs.Layout3.{flag_layout, eight_layout}
-use Rattle.amf3_layout.proofs.Reader3Tables.{grows_itself}
+use Rattle.amf3_layout_laws.specs.Layout3.{flag_layout, eight_layout}
+use Rattle.amf3_layout_laws.proofs.Reader3Tables.{grows_itself}
 use Rattle.amf0_spelling.specs.TableParts0.{shown_tables}
-use Rattle.amf0_layout.specs.Layout0.{TextRead0, read0, short_layout}
-use Rattle.amf0_layout.specs.Layout0State.{State0, state0_of}
+use Rattle.amf0_layout_laws.specs.Layout0.{TextRead0, read0, short_layout}
+use Rattle.amf0_layout_laws.specs.Layout0State.{State0, state0_of}
 use Rattle.amf0_spelling.specs.declared.marker.Marker0.TheVariants as marker
 use Rattle.amf0_read.specs.declared.node.Start.TheVariants as start
 use Rattle.amf0_read.specs.Ready0.{text_read}

@@ -4,10 +4,10 @@ use Rattle.amf_io.specs.Field.{text_kind, u32_kind, no_refusal}
 use Rattle.amf_io.specs.Layout.{give}
 use Rattle.amf_io.specs.CursorReads.{Answers}
 use Rattle.amf_io.proofs.CursorReads.{field_reads, field_ended}
-use Rattle.amf3_layout.specs.Layout3Words.{chunk}
-use Rattle.amf0_layout.specs.Layout0.{new_text0}
-use Rattle.amf0_layout.specs.Layout0State.{state0_of}
-use Rattle.amf_fields.proofs.LayoutBinds.{passed_on}
+use Rattle.amf3_layout_laws.specs.Layout3Words.{chunk}
+use Rattle.amf0_layout_laws.specs.Layout0.{new_text0}
+use Rattle.amf0_layout_laws.specs.Layout0State.{state0_of}
+use Rattle.amf_wire_fields.proofs.LayoutBinds.{passed_on}
 use Rattle.amf0_read.specs.Ready0.{text_read}
 use Rattle.amf0_read.proofs.TextReads0.{text_reads}
 use Rattle.amf0_read.proofs.text.read_long_text.Goals as goal

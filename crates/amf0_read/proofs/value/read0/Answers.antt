@@ -1,6 +1,6 @@
 use Rattle.std.proofs.Common.{suc, reverse, ap, ◌∙◌, arith}
 use Rattle.amf0_spelling.specs.TableParts0.{shown_tables}
-use Rattle.amf_fields.specs.Room.{left_of}
+use Rattle.amf_wire_fields.specs.Room.{left_of}
 use Rattle.amf0_read.specs.Beginnings0.{form_of}
 use Rattle.amf0_read.specs.Frames0.{owed}
 use Rattle.amf0_read.proofs.Stack0.{ready_twice}

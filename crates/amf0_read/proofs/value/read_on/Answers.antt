@@ -1,7 +1,7 @@
 use Rattle.std.proofs.Common.{◌≡◌, ◌∷◌, reverse, sym, subst, arith}
 use Rattle.amf_graph.specs.Building.{changed as changed_arena, more_part}
 use Rattle.amf0_spelling.specs.TableParts0.{shown_tables}
-use Rattle.amf_fields.proofs.LayoutBinds.{passed_on}
+use Rattle.amf_wire_fields.proofs.LayoutBinds.{passed_on}
 use Rattle.amf3_read.proofs.Stack.{done}
 use Rattle.amf0_read.specs.declared.frame.Frame.{Frame}
 use Rattle.amf0_read.specs.declared.frame.Now.{Now}

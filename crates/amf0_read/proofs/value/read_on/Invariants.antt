@@ -1,6 +1,6 @@
 use Rattle.std.proofs.Common.{◌+◌, ◌*◌, length, reverse}
 use Rattle.amf0_spelling.specs.TableParts0.{shown_tables}
-use Rattle.amf_fields.specs.Room.{left_of}
+use Rattle.amf_wire_fields.specs.Room.{left_of}
 use Rattle.amf0_read.specs.Frames0.{StackSo, weight_of}
 use Rattle.amf0_read.proofs.value.read_on.Given as goal
 

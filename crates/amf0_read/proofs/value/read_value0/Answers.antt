@@ -1,10 +1,10 @@
 use Rattle.std.proofs.Common.{false, reverse}
 use Rattle.amf_io.specs.Layout.{bind}
-use Rattle.amf0_layout.specs.Layout0.{read0, value0_layout}
-use Rattle.amf0_layout.specs.Layout0State.{state0_of}
+use Rattle.amf0_layout_laws.specs.Layout0.{read0, value0_layout}
+use Rattle.amf0_layout_laws.specs.Layout0State.{state0_of}
 use Rattle.amf0_spelling.specs.TableParts0.{shown_tables}
 use Rattle.amf_graph.specs.declared.value.Value.{Value}
-use Rattle.amf_fields.proofs.LayoutBinds.{passed_on}
+use Rattle.amf_wire_fields.proofs.LayoutBinds.{passed_on}
 use Rattle.amf0_read.specs.Frames0.{current, rest, owed}
 use Rattle.amf0_read.proofs.ValueReads0.{led_answers, ready_on}
 use Rattle.amf0_read.proofs.value.read_value0.Goals as goal

@@ -1,5 +1,5 @@
 use Rattle.std.proofs.Common.{sym, ◌∙◌}
-use Rattle.amf3_layout.specs.Layout3State.{state_of}
+use Rattle.amf3_layout_laws.specs.Layout3State.{state_of}
 use Rattle.amf3_read.proofs.GoesOn.{name_ended, name_empty, name_some, name_waits, name_opens, value_waits, value_holds, closed_goes, closed_still_ready, closed_holds}
 use Rattle.amf3_read.proofs.Empties.{tells_empty, ended_step}
 use Rattle.amf3_read.proofs.fill.go_on.Goals as goal

@@ -1,8 +1,8 @@
 use Rattle.std.proofs.Common.{refl}
 use Rattle.amf_graph.specs.declared.value.Value.{Value as Stored}
 use Rattle.amf_graph.specs.declared.value.Value.TheVariants as value
-use Rattle.amf3_layout.specs.Layout3State.{state_of}
-use Rattle.amf3_layout.specs.Layout3.{read, inline_node}
+use Rattle.amf3_layout_laws.specs.Layout3State.{state_of}
+use Rattle.amf3_layout_laws.specs.Layout3.{read, inline_node}
 use Rattle.amf3_read.proofs.InlineReads.{inline_ended, whole_reads}
 use Rattle.amf3_read.proofs.Empties.{ended_start}
 use Rattle.amf3_read.proofs.NodeStarts.{inline_leads, inline_holds}

@@ -1,11 +1,11 @@
 use Rattle.std.proofs.Common.{◌∙◌, ◌/◌, ◌<◌, length}
-use Rattle.amf3_layout.proofs.Layout3Contents.{all_place}
-use Rattle.amf3_layout.proofs.Reader3Tables.{grows_itself}
+use Rattle.amf3_layout_laws.proofs.Layout3Contents.{all_place}
+use Rattle.amf3_layout_laws.proofs.Reader3Tables.{grows_itself}
 use Rattle.amf_graph.specs.declared.value.Value.{Value as Stored}
 use Rattle.amf_graph.specs.declared.value.Value.TheVariants as value
 use Rattle.amf3_spelling.specs.Markers3.{node_marker}
-use Rattle.amf3_layout.specs.Layout3State.{State3, state_of}
-use Rattle.amf3_layout.specs.Layout3.{read, node_layout}
+use Rattle.amf3_layout_laws.specs.Layout3State.{State3, state_of}
+use Rattle.amf3_layout_laws.specs.Layout3.{read, node_layout}
 use Rattle.amf3_read.specs.Headers.{IsHeader}
 use Rattle.amf3_read.specs.declared.header.Header.TheVariants.{Known, Inline}
 use Rattle.amf3_read.proofs.NodeReads.{known_node_is, node_ended, node_refused, node_known}

@@ -3,7 +3,7 @@ use Rattle.amf3_read.specs.declared.frame.Frame.{Frame}
 use Rattle.amf3_read.specs.declared.frame.Role.{Role}
 use Rattle.amf3_read.specs.declared.frame.Role.TheVariants as role
 use Rattle.amf3_read.specs.Now as now
-use Rattle.amf_fields.specs.Room.{left_of}
+use Rattle.amf_wire_fields.specs.Room.{left_of}
 use Rattle.amf3_read.specs.Roles.{IsPart}
 use Rattle.amf3_read.specs.Frames.{StackSo}
 use Rattle.amf3_read.proofs.Stack.{key_waits, key_of, so_put, so_key, follows_end, done}

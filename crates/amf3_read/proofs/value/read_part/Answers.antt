@@ -1,7 +1,7 @@
 use Rattle.std.proofs.Common.{suc, ◌≤◌, ◌∷◌, List, sym, subst, arith}
 use Rattle.amf3_read.specs.declared.frame.Frame.{Frame}
 use Rattle.amf3_read.specs.Now as now
-use Rattle.amf_fields.specs.Room.{left_of}
+use Rattle.amf_wire_fields.specs.Room.{left_of}
 use Rattle.amf3_read.specs.Frames.{StackSo}
 use Rattle.amf3_read.proofs.Stack.{so_end, so_value, so_open, follows_end, waits_grown, ready_on}
 use Rattle.amf3_read.proofs.value.read_part.Goals as goal

@@ -1,14 +1,14 @@
 use Rattle.std.proofs.Common.{suc, List, [], sym, subst, arith}
 use Rattle.amf_graph.specs.declared.value.Value.TheVariants as value
-use Rattle.amf3_layout.specs.Layout3State.{state_of}
-use Rattle.amf3_layout.specs.Layout3.{value_layout}
+use Rattle.amf3_layout_laws.specs.Layout3State.{state_of}
+use Rattle.amf3_layout_laws.specs.Layout3.{value_layout}
 use Rattle.amf3_read.specs.declared.frame.Frame.{Frame}
 use Rattle.amf3_read.specs.declared.frame.Role.TheVariants as role
 use Rattle.amf3_read.specs.Now as now
-use Rattle.amf_fields.specs.Room.{left_of}
+use Rattle.amf_wire_fields.specs.Room.{left_of}
 use Rattle.amf3_read.specs.Frames.{Nested, StackSo}
 use Rattle.amf_io.proofs.CursorReads.{goes_other}
-use Rattle.amf_fields.proofs.LayoutBinds.{passed_on}
+use Rattle.amf_wire_fields.proofs.LayoutBinds.{passed_on}
 use Rattle.amf3_read.proofs.Stack.{so_begin, so_end, so_value, so_open, go_end, go_wait, go_open, go_closed, so_done, so_continues, waits_any, goes_passed}
 use Rattle.amf3_read.proofs.value.read_value.Goals as goal
 

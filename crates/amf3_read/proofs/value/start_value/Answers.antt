@@ -12,10 +12,10 @@ use Rattle.amf_graph.specs.declared.value.TextId.{TextId}
 use Rattle.amf_graph.specs.declared.value.Value.{Value as Stored}
 use Rattle.amf_graph.specs.declared.value.Value.TheVariants as value
 use Rattle.amf3_spelling.specs.declared.marker.Marker.TheVariants as marker
-use Rattle.amf3_layout.specs.Layout3State.{State3, state_of}
-use Rattle.amf3_layout.specs.Layout3Words.{TextRead, text_layout}
-use Rattle.amf3_layout.specs.Layout3.{read, eight_layout, value_layout}
-use Rattle.amf3_layout.proofs.Reader3Tables.{grows_itself}
+use Rattle.amf3_layout_laws.specs.Layout3State.{State3, state_of}
+use Rattle.amf3_layout_laws.specs.Layout3Words.{TextRead, text_layout}
+use Rattle.amf3_layout_laws.specs.Layout3.{read, eight_layout, value_layout}
+use Rattle.amf3_layout_laws.proofs.Reader3Tables.{grows_itself}
 use Rattle.amf3_read.specs.declared.node.Start.TheVariants as start
 use Rattle.amf3_read.specs.Ready.{text_read}
 use Rattle.amf3_read.proofs.ValueReads.{integer_fits}

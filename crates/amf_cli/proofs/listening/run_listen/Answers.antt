@@ -1,5 +1,5 @@
 -- The gateway was listened to, and its end told.
-use Rattle.amf_listening.proofs.Bounds.{every_session}
+use Rattle.amf_poll_session.proofs.Bounds.{every_session}
 use Rattle.amf_cli.specs.ListenEnds.{heard}
 use Rattle.amf_cli.proofs.ListenLaws.{writes_for}
 use Rattle.amf_cli.proofs.listening.run_listen.Goals as goal

@@ -1,6 +1,6 @@
 use Rattle.std.proofs.Common.{◌≡◌, [], refl, sym, subst, arith}
-use Rattle.amf_plan.specs.Kept.{Fits}
-use Rattle.amf_plan.proofs.Texts.{tested}
+use Rattle.amf_answer_plan.specs.Kept.{Fits}
+use Rattle.amf_answer_plan.proofs.Texts.{tested}
 use Rattle.amf_flex_replies.proofs.batches.about_poll.Goals as goal
 
 pub returns-clause-fits : goal.returns-clause-fits

@@ -1,14 +1,14 @@
 use Rattle.std.proofs.Common.{◌≡◌, ◌∙◌, ℕ, List, IfOk, subst, sym}
 use Rattle.std.proofs.lemmas.Result.{IfOk-weaker, on_err_weaker}
 use Rattle.amf_broker.specs.declared.reply.Delivery.{Delivery}
-use Rattle.amf_plan.specs.Batches.{batch, sync}
-use Rattle.amf_flex_replies.specs.Says.{Says}
-use Rattle.amf_plan.specs.Did.{Stopped}
-use Rattle.amf_plan.specs.Kept.{context_in}
-use Rattle.amf_plan.specs.Plan.{Plan}
-use Rattle.amf_plan.specs.Replies.{Answer, acknowledge_null}
-use Rattle.amf_plan.specs.Small.{IsSmallBatch}
-use Rattle.amf_plan.proofs.Doing.{at_err, not_begun}
+use Rattle.amf_answer_plan.specs.Batches.{batch, sync}
+use Rattle.amf_answer_plan.specs.Says.{Says}
+use Rattle.amf_answer_plan.specs.Did.{Stopped}
+use Rattle.amf_answer_plan.specs.Kept.{context_in}
+use Rattle.amf_answer_plan.specs.Plan.{Plan}
+use Rattle.amf_answer_plan.specs.Replies.{Answer, acknowledge_null}
+use Rattle.amf_answer_plan.specs.Small.{IsSmallBatch}
+use Rattle.amf_answer_plan.proofs.Doing.{at_err, not_begun}
 use Rattle.amf_flex_replies.proofs.Ending.{none_batch, sync_batch}
 use Rattle.amf_flex_replies.proofs.batches.batch.Goals as goal
 

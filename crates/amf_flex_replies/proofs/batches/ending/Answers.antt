@@ -1,9 +1,9 @@
 use Rattle.std.proofs.Common.{◌≡◌, ◌∙◌, ap, ℕ, List, decimal, IfOk, subst}
 use Rattle.std.proofs.lemmas.Result.{IfOk-weaker, on_err_weaker}
-use Rattle.amf_plan.specs.Did.{Ran, Stopped}
-use Rattle.amf_plan.specs.Kept.{context_in}
-use Rattle.amf_plan.specs.Replies.{fresh}
-use Rattle.amf_plan.proofs.Doing.{at_err, not_begun}
+use Rattle.amf_answer_plan.specs.Did.{Ran, Stopped}
+use Rattle.amf_answer_plan.specs.Kept.{context_in}
+use Rattle.amf_answer_plan.specs.Replies.{fresh}
+use Rattle.amf_answer_plan.proofs.Doing.{at_err, not_begun}
 use Rattle.amf_flex_replies.proofs.batches.ending.Goals as goal
 
 pub returns-in_err-client-clause-stopped : goal.returns-in_err-client-clause-stopped

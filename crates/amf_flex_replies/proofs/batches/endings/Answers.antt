@@ -4,9 +4,9 @@ use Rattle.amf_graph.proofs.Alls.{all_push}
 use Rattle.flex_msgs.specs.declared.reply.Reply.{Reply}
 use Rattle.flex_msgs.specs.Answers.{invalidate_graph}
 use Rattle.flex_msgs.specs.Built.{IsReply, IsShortReply}
-use Rattle.amf_plan.specs.Batches.{invalidates}
-use Rattle.amf_plan.specs.Kept.{context_in}
-use Rattle.amf_plan.proofs.Doing.{at_err, not_begun}
+use Rattle.amf_answer_plan.specs.Batches.{invalidates}
+use Rattle.amf_answer_plan.specs.Kept.{context_in}
+use Rattle.amf_answer_plan.proofs.Doing.{at_err, not_begun}
 use Rattle.amf_flex_replies.proofs.Ending.{Ahead, ahead_none, loop_end, loop_more, loop_stopped, loop_between}
 use Rattle.amf_flex_replies.proofs.batches.endings.Goals as goal
 

@@ -2,8 +2,8 @@ use Rattle.std.proofs.Common.{◌≡◌, length, map, drop}
 use Rattle.std.specs.List.{AllByRecursion}
 use Rattle.flex_msgs.specs.Answers.{invalidate_graph}
 use Rattle.flex_msgs.specs.Built.{IsReply, IsShortReply}
-use Rattle.amf_plan.specs.Batches.{invalidates}
-use Rattle.amf_plan.specs.Kept.{context_in}
+use Rattle.amf_answer_plan.specs.Batches.{invalidates}
+use Rattle.amf_answer_plan.specs.Kept.{context_in}
 use Rattle.amf_flex_replies.proofs.Ending.{Ahead}
 use Rattle.amf_flex_replies.proofs.batches.endings.Given as goal
 

@@ -2,13 +2,13 @@ use Rattle.std.proofs.Common.{◌≡◌, ℕ, List, map, IfOk, subst}
 use Rattle.std.proofs.lemmas.Result.{IfOk-weaker}
 use Rattle.flex_msgs.specs.declared.reply.Reply.{Reply}
 use Rattle.flex_msgs.specs.Answers.{invalidate_graph}
-use Rattle.amf_plan.specs.Batches.{sync}
+use Rattle.amf_answer_plan.specs.Batches.{sync}
 use Rattle.amf_flex_replies.specs.Batching.{say_sync}
-use Rattle.amf_plan.specs.Did.{Ran, Stopped}
-use Rattle.amf_flex_replies.specs.Says.{Tells}
-use Rattle.amf_plan.specs.Kept.{context_in}
-use Rattle.amf_plan.specs.Replies.{fresh}
-use Rattle.amf_plan.proofs.Doing.{at_err, not_begun}
+use Rattle.amf_answer_plan.specs.Did.{Ran, Stopped}
+use Rattle.amf_answer_plan.specs.Says.{Tells}
+use Rattle.amf_answer_plan.specs.Kept.{context_in}
+use Rattle.amf_answer_plan.specs.Replies.{fresh}
+use Rattle.amf_answer_plan.proofs.Doing.{at_err, not_begun}
 use Rattle.amf_flex_replies.proofs.Ending.{sync_first, sync_stopped, sync_between, sync_says}
 use Rattle.amf_flex_replies.proofs.batches.sync.Goals as goal
 

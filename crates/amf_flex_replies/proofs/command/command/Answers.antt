@@ -5,10 +5,10 @@ use mir.Val.{of_z}
 use mir.Syntax.{w64}
 use Rattle.amf_graph.specs.Rooted.{content}
 use Rattle.flex_msgs.specs.Asked.{told}
-use Rattle.amf_plan.specs.Did.{Stopped}
-use Rattle.amf_flex_replies.specs.Says.{Says}
-use Rattle.amf_plan.specs.Plan.{Plan}
-use Rattle.amf_plan.specs.Replies.{Answer}
+use Rattle.amf_answer_plan.specs.Did.{Stopped}
+use Rattle.amf_answer_plan.specs.Says.{Says}
+use Rattle.amf_answer_plan.specs.Plan.{Plan}
+use Rattle.amf_answer_plan.specs.Replies.{Answer}
 use Rattle.amf_flex_replies.proofs.Operations.{operation_is, other_operation}
 use Rattle.amf_flex_replies.proofs.command.command.Goals as goal
 

@@ -1,7 +1,7 @@
 use Rattle.std.proofs.Common.{◌≡◌}
-use Rattle.amf_plan.specs.Commands.{acknowledged}
-use Rattle.amf_plan.specs.Kept.{context_in}
-use Rattle.amf_plan.proofs.Doing.{at_err, not_begun}
+use Rattle.amf_answer_plan.specs.Commands.{acknowledged}
+use Rattle.amf_answer_plan.specs.Kept.{context_in}
+use Rattle.amf_answer_plan.proofs.Doing.{at_err, not_begun}
 use Rattle.amf_flex_replies.proofs.commands.acknowledged.Goals as goal
 
 pub returns-in_err-fault-clause-stopped : goal.returns-in_err-fault-clause-stopped

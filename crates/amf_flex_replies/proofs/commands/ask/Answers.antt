@@ -1,6 +1,6 @@
 use Rattle.std.proofs.Common.{◌≡◌, IfOk}
 use Rattle.std.proofs.lemmas.Result.{IfOk-weaker, on_err_weaker}
-use Rattle.amf_plan.specs.Did.{moment_taken}
+use Rattle.amf_answer_plan.specs.Did.{moment_taken}
 use Rattle.amf_flex_replies.proofs.Saying.{asked_ran, asked_stopped}
 use Rattle.amf_flex_replies.proofs.commands.ask.Goals as goal
 

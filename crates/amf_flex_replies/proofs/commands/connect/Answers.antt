@@ -1,9 +1,9 @@
 use Rattle.std.proofs.Common.{◌≡◌, refl}
 use Rattle.amf_broker.specs.declared.call.Call.TheVariants.{Connect}
 use Rattle.amf_broker.specs.declared.reply.Reply.{Reply}
-use Rattle.amf_plan.specs.Commands.{say_connected}
-use Rattle.amf_plan.specs.Kept.{context_in}
-use Rattle.amf_plan.proofs.Doing.{at_err}
+use Rattle.amf_answer_plan.specs.Commands.{say_connected}
+use Rattle.amf_answer_plan.specs.Kept.{context_in}
+use Rattle.amf_answer_plan.proofs.Doing.{at_err}
 use Rattle.amf_flex_replies.proofs.Saying.{asked_says, asked_ended, asked_first}
 use Rattle.amf_flex_replies.proofs.commands.connect.Goals as goal
 

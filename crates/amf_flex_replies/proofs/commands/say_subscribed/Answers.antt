@@ -1,12 +1,12 @@
 use Rattle.std.proofs.Common.{◌≡◌, ◌∙◌, [], decimal, IfOk, ap, subst}
 use Rattle.std.proofs.lemmas.Result.{IfOk-weaker, on_err_weaker}
-use Rattle.amf_plan.specs.Did.{Stopped}
-use Rattle.amf_flex_replies.specs.Says.{Says}
-use Rattle.amf_plan.specs.Plan.{Plan}
-use Rattle.amf_plan.specs.Replies.{Answer, acknowledge_null}
-use Rattle.amf_plan.specs.Kept.{context_in}
-use Rattle.amf_plan.specs.Commands.{say_subscribed, acknowledged}
-use Rattle.amf_plan.proofs.Doing.{at_err, not_begun}
+use Rattle.amf_answer_plan.specs.Did.{Stopped}
+use Rattle.amf_answer_plan.specs.Says.{Says}
+use Rattle.amf_answer_plan.specs.Plan.{Plan}
+use Rattle.amf_answer_plan.specs.Replies.{Answer, acknowledge_null}
+use Rattle.amf_answer_plan.specs.Kept.{context_in}
+use Rattle.amf_answer_plan.specs.Commands.{say_subscribed, acknowledged}
+use Rattle.amf_answer_plan.proofs.Doing.{at_err, not_begun}
 use Rattle.amf_flex_replies.proofs.Saying.{other_subscribed, said_subscribed}
 use Rattle.amf_flex_replies.proofs.commands.say_subscribed.Goals as goal
 

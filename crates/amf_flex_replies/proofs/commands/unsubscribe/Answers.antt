@@ -1,11 +1,11 @@
 use Rattle.std.proofs.Common.{◌≡◌, ◌∙◌, ℕ, ap}
 use Rattle.amf_broker.specs.declared.call.Call.TheVariants.{Unsubscribe}
 use Rattle.amf_broker.specs.declared.reply.Reply.{Reply}
-use Rattle.amf_plan.specs.Commands.{unsubscribe, client_of, acknowledged}
-use Rattle.amf_plan.specs.Kept.{names_told}
-use Rattle.amf_plan.specs.Numbers.{number_in}
-use Rattle.amf_plan.specs.Replies.{Context, context_of}
-use Rattle.amf_plan.proofs.Doing.{at_err, not_begun}
+use Rattle.amf_answer_plan.specs.Commands.{unsubscribe, client_of, acknowledged}
+use Rattle.amf_answer_plan.specs.Kept.{names_told}
+use Rattle.amf_answer_plan.specs.Numbers.{number_in}
+use Rattle.amf_answer_plan.specs.Replies.{Context, context_of}
+use Rattle.amf_answer_plan.proofs.Doing.{at_err, not_begun}
 use Rattle.amf_flex_replies.proofs.Saying.{asked_says, asked_ended, asked_first}
 use Rattle.amf_flex_replies.proofs.commands.unsubscribe.Goals as goal
 

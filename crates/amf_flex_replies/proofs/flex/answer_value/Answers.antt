@@ -1,22 +1,22 @@
 use Rattle.std.proofs.Common.{◌≡◌, IfOk, subst}
 use Rattle.std.proofs.lemmas.Result.{IfOk-weaker, on_err_weaker}
 use Rattle.amf_graph.specs.Rooted.{content}
-use Rattle.amf_plan.specs.Did.{Stopped}
-use Rattle.amf_flex_replies.specs.Says.{Says}
-use Rattle.amf_plan.specs.Plan.{Plan}
-use Rattle.amf_plan.specs.Replies.{Answer}
-use Rattle.amf_plan.proofs.Doing.{not_begun}
+use Rattle.amf_answer_plan.specs.Did.{Stopped}
+use Rattle.amf_answer_plan.specs.Says.{Says}
+use Rattle.amf_answer_plan.specs.Plan.{Plan}
+use Rattle.amf_answer_plan.specs.Replies.{Answer}
+use Rattle.amf_answer_plan.proofs.Doing.{not_begun}
 use Rattle.amf_flex_replies.proofs.Fitting.{request_fits, refused_answer}
 use Rattle.amf_flex_replies.proofs.flex.answer_value.Goals as goal
 
-pub answer_request-requires-clause-fits : goal.answer_request-requires-clause-fits
-answer_request-requires-clause-fits g c = request_fits c.args.graph.now.arena c.args.graph.now.root c.args.value c.in-Ok.request c.is_finished.ensures.finished c.is_finished.ensures.bounds c.in-Ok.ensures.names c.in-Ok.ensures.ok
+pub answer_flex_request-requires-clause-fits : goal.answer_flex_request-requires-clause-fits
+answer_flex_request-requires-clause-fits g c = request_fits c.args.graph.now.arena c.args.graph.now.root c.args.value c.in-Ok.request c.is_finished.ensures.finished c.is_finished.ensures.bounds c.in-Ok.ensures.names c.in-Ok.ensures.ok
 
 pub returns-in-Ok-clause-says : goal.returns-in-Ok-clause-says
-returns-in-Ok-clause-says g c = rw c.in-Ok.ensures.ok c.answer_request.ensures.says
+returns-in-Ok-clause-says g c = rw c.in-Ok.ensures.ok c.answer_flex_request.ensures.says
 
 pub returns-in-Ok-clause-stopped : goal.returns-in-Ok-clause-stopped
-returns-in-Ok-clause-stopped g c = rw c.in-Ok.ensures.ok c.answer_request.ensures.stopped
+returns-in-Ok-clause-stopped g c = rw c.in-Ok.ensures.ok c.answer_flex_request.ensures.stopped
 
 pub returns-in-Err-NotObject-clause-says : goal.returns-in-Err-NotObject-clause-says
 returns-in-Err-NotObject-clause-says g c =

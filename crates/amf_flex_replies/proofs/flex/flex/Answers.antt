@@ -1,10 +1,10 @@
 use Rattle.std.proofs.Common.{◌≡◌, IfOk, refl, subst}
 use Rattle.std.proofs.lemmas.Result.{IfOk-weaker, on_err_weaker}
 use Rattle.amf_packet.specs.Content.{body_of}
-use Rattle.amf_plan.specs.Did.{Stopped}
-use Rattle.amf_flex_replies.specs.Says.{Says}
-use Rattle.amf_plan.specs.Plan.{Plan}
-use Rattle.amf_plan.specs.Replies.{Answer}
+use Rattle.amf_answer_plan.specs.Did.{Stopped}
+use Rattle.amf_answer_plan.specs.Says.{Says}
+use Rattle.amf_answer_plan.specs.Plan.{Plan}
+use Rattle.amf_answer_plan.specs.Replies.{Answer}
 use Rattle.amf_flex_replies.proofs.Fitting.{flex_is, flex_none}
 use Rattle.amf_flex_replies.proofs.flex.flex.Goals as goal
 

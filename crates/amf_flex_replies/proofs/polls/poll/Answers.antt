@@ -4,9 +4,9 @@ use Rattle.amf_graph.specs.Rooted.{content}
 use Rattle.amf_broker.specs.declared.reply.Reply.{Reply}
 use Rattle.flex_msgs.specs.Asked.{told}
 use Rattle.flex_msgs.specs.Lookup.{pairs_of}
-use Rattle.amf_plan.specs.Commands.{poll, poll_call, named_in, client_of, say_batch}
-use Rattle.amf_plan.specs.Replies.{Context, context_of}
-use Rattle.amf_plan.proofs.Doing.{at_err, not_begun}
+use Rattle.amf_answer_plan.specs.Commands.{poll, poll_call, named_in, client_of, say_batch}
+use Rattle.amf_answer_plan.specs.Replies.{Context, context_of}
+use Rattle.amf_answer_plan.proofs.Doing.{at_err, not_begun}
 use Rattle.amf_flex_replies.proofs.Saying.{asked_says, asked_ended, asked_first}
 use Rattle.amf_flex_replies.proofs.Polled.{call_made}
 use Rattle.amf_flex_replies.proofs.polls.poll.Goals as goal

@@ -3,11 +3,11 @@ use Rattle.std.proofs.lemmas.Result.{IfOk-weaker, on_err_weaker}
 use Rattle.amf_graph.specs.Rooted.{content}
 use Rattle.flex_msgs.specs.Answers.{published_graph}
 use Rattle.flex_msgs.specs.Asked.{told}
-use Rattle.amf_plan.specs.Commands.{publish_spelled}
-use Rattle.amf_plan.specs.Did.{moment_taken}
-use Rattle.amf_plan.specs.Plan.{Plan, whole, ◌>>=◌, moment, spelling_of}
-use Rattle.amf_plan.specs.Replies.{Answer}
-use Rattle.amf_plan.proofs.Doing.{at_err, moment_ran, stopped_then, stopped_between}
+use Rattle.amf_answer_plan.specs.Commands.{publish_spelled}
+use Rattle.amf_answer_plan.specs.Did.{moment_taken}
+use Rattle.amf_answer_plan.specs.Plan.{Plan, whole, ◌>>=◌, moment, spelling_of}
+use Rattle.amf_answer_plan.specs.Replies.{Answer}
+use Rattle.amf_answer_plan.proofs.Doing.{at_err, moment_ran, stopped_then, stopped_between}
 use Rattle.amf_flex_replies.proofs.Saying.{spelled_says, spelled_stopped, says_then}
 use Rattle.amf_flex_replies.proofs.publishing.publish.Goals as goal
 

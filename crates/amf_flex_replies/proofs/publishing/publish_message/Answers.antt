@@ -2,11 +2,11 @@ use Rattle.std.proofs.Common.{◌≡◌, ◌∙◌, ℕ, [], ap, Some}
 use Rattle.amf_broker.specs.declared.topic.Topic.{Topic}
 use Rattle.amf_broker.specs.declared.call.Call.TheVariants.{Publish}
 use Rattle.amf_broker.specs.declared.reply.Reply.{Reply}
-use Rattle.amf_plan.specs.Commands.{publish_spelled, client_of, topic_of, acknowledged}
-use Rattle.amf_plan.specs.Kept.{names_told}
-use Rattle.amf_plan.specs.Plan.{reply_to}
-use Rattle.amf_plan.specs.Replies.{Context, context_of}
-use Rattle.amf_plan.proofs.Doing.{at_err, not_begun, replied_ran, replied_stopped}
+use Rattle.amf_answer_plan.specs.Commands.{publish_spelled, client_of, topic_of, acknowledged}
+use Rattle.amf_answer_plan.specs.Kept.{names_told}
+use Rattle.amf_answer_plan.specs.Plan.{reply_to}
+use Rattle.amf_answer_plan.specs.Replies.{Context, context_of}
+use Rattle.amf_answer_plan.proofs.Doing.{at_err, not_begun, replied_ran, replied_stopped}
 use Rattle.amf_flex_replies.proofs.Saying.{made_says, made_ended, made_first}
 use Rattle.amf_flex_replies.proofs.publishing.publish_message.Goals as goal
 

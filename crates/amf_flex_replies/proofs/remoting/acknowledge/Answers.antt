@@ -7,11 +7,11 @@ use Rattle.amf_graph.proofs.Isomorphisms.{isomorphic_trans}
 use Rattle.flex_msgs.specs.declared.reply.Reply.{Reply}
 use Rattle.flex_msgs.specs.Answers.{acknowledge_graph}
 use Rattle.flex_msgs.proofs.GraphsAlike.{answers_alike}
-use Rattle.amf_plan.specs.Did.{Ran, Stopped}
-use Rattle.amf_flex_replies.specs.Says.{Tells}
-use Rattle.amf_plan.specs.Kept.{context_in}
-use Rattle.amf_plan.specs.Replies.{fresh, answered, acknowledge}
-use Rattle.amf_plan.proofs.Doing.{at_err, not_begun, stopped_first, stopped_between}
+use Rattle.amf_answer_plan.specs.Did.{Ran, Stopped}
+use Rattle.amf_answer_plan.specs.Says.{Tells}
+use Rattle.amf_answer_plan.specs.Kept.{context_in}
+use Rattle.amf_answer_plan.specs.Replies.{fresh, answered, acknowledge}
+use Rattle.amf_answer_plan.proofs.Doing.{at_err, not_begun, stopped_first, stopped_between}
 use Rattle.amf_flex_replies.proofs.Saying.{says_told}
 use Rattle.amf_flex_replies.proofs.remoting.acknowledge.Goals as goal
 

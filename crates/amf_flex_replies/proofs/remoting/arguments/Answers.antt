@@ -2,7 +2,7 @@ use Rattle.std.proofs.Common.{◌≡◌, Option, sym, subst}
 use Rattle.amf_graph.specs.Rooted.{RootedArena, content}
 use Rattle.amf_graph.specs.Arena.{value_content}
 use Rattle.amf_flex_replies.specs.KeptArguments.{KeepsArguments}
-use Rattle.amf_plan.specs.Remoting.{arguments}
+use Rattle.amf_answer_plan.specs.Remoting.{arguments}
 use Rattle.amf_flex_replies.proofs.Arguments.{arguments_some, arguments_none, by_test}
 use Rattle.amf_flex_replies.proofs.remoting.arguments.Goals as goal
 

@@ -7,7 +7,7 @@ use Rattle.amf_graph.specs.Building.{no_arena, kept_node, closed}
 use Rattle.amf_graph.specs.Grafting.{node_value}
 use Rattle.amf_graph.specs.Rooted.{RootedArena, content}
 use Rattle.amf_service.specs.Meaning.{heaviest_arguments}
-use Rattle.amf_plan.proofs.Closed.{AllClosed}
+use Rattle.amf_answer_plan.proofs.Closed.{AllClosed}
 use Rattle.amf_flex_replies.proofs.remoting.empty_array.Goals as goal
 
 pub finished-requires-clause-closed : goal.finished-requires-clause-closed

@@ -1,9 +1,9 @@
 use Rattle.std.proofs.Common.{◌≡◌, IfOk, subst}
 use Rattle.std.proofs.lemmas.Result.{IfOk-weaker, on_err_weaker}
 use Rattle.amf_service.specs.Meaning.{Called}
-use Rattle.amf_plan.specs.declared.calling.ServiceAnswer.{ServiceAnswer}
-use Rattle.amf_plan.specs.Calls.{AnswerFits}
-use Rattle.amf_plan.specs.Kept.{context_in}
+use Rattle.amf_answer_plan.specs.declared.calling.ServiceAnswer.{ServiceAnswer}
+use Rattle.amf_answer_plan.specs.Calls.{AnswerFits}
+use Rattle.amf_answer_plan.specs.Kept.{context_in}
 use Rattle.amf_flex_replies.proofs.Remote.{said_result, stopped_result, said_cause, stopped_cause}
 use Rattle.amf_flex_replies.proofs.remoting.say_called.Goals as goal
 

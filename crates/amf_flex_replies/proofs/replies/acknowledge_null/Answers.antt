@@ -3,9 +3,9 @@ use Rattle.std.proofs.lemmas.Result.{IfOk-weaker}
 use Rattle.flex_msgs.specs.declared.reply.Reply.{Reply}
 use Rattle.flex_msgs.specs.Answers.{acknowledge_graph}
 use Rattle.flex_msgs.specs.Messages.{null_value}
-use Rattle.amf_plan.specs.Kept.{context_in}
-use Rattle.amf_plan.specs.Replies.{fresh, answered, no_nodes}
-use Rattle.amf_plan.proofs.Doing.{at_err, stopped_between}
+use Rattle.amf_answer_plan.specs.Kept.{context_in}
+use Rattle.amf_answer_plan.specs.Replies.{fresh, answered, no_nodes}
+use Rattle.amf_answer_plan.proofs.Doing.{at_err, stopped_between}
 use Rattle.amf_flex_replies.proofs.Saying.{says_told}
 use Rattle.amf_flex_replies.proofs.replies.acknowledge_null.Goals as goal
 

@@ -1,8 +1,8 @@
 use Rattle.std.proofs.Common.{◌≡◌, IfOk, sym, subst}
 use Rattle.std.proofs.lemmas.Result.{IfOk-weaker}
 use Rattle.flex_msgs.specs.Built.{IsReply, IsShortReply}
-use Rattle.amf_plan.specs.Kept.{context_in}
-use Rattle.amf_plan.proofs.Doing.{at_err}
+use Rattle.amf_answer_plan.specs.Kept.{context_in}
+use Rattle.amf_answer_plan.proofs.Doing.{at_err}
 use Rattle.amf_flex_replies.proofs.Saying.{fresh_ran, fresh_stopped}
 use Rattle.amf_flex_replies.proofs.Filled.{reply_texts, reply_short}
 use Rattle.amf_flex_replies.proofs.replies.fresh.Goals as goal

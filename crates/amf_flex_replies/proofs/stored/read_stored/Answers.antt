@@ -5,7 +5,7 @@ use Rattle.amf_graph.specs.Bounds.{weight}
 use Rattle.amf_graph.specs.Rooted.{RootedArena, content}
 use Rattle.amf3_spelling.specs.Spells3.{Spelled3}
 use Rattle.flex_msgs.specs.Built.{IsStored as HoldsStored}
-use Rattle.amf_plan.specs.Runs.{Finds}
+use Rattle.amf_answer_plan.specs.Runs.{Finds}
 use Rattle.amf_flex_replies.proofs.ReadStored.{found_if_stored, none_stored, some_weaker}
 use Rattle.amf_flex_replies.proofs.stored.read_stored.Goals as goal
 

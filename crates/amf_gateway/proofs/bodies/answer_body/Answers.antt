@@ -2,10 +2,10 @@ use Rattle.std.proofs.Common.{Option, Some, None, subst, arith}
 use Rattle.std.proofs.lemmas.Result.{IfOk-weaker, on_err_weaker}
 use Rattle.amf_packet.specs.declared.packet.Packet.{Packet as KeptPacket}
 use Rattle.amf_gateway.specs.Answered.{Unpacks}
-use Rattle.amf_plan.specs.Services.{services_by}
+use Rattle.amf_answer_plan.specs.Services.{services_by}
 use Rattle.amf_gateway.proofs.Unpacked.{body_unpacked}
 use Rattle.amf_gateway.proofs.BodyAnswers.{ran_body, stopped_body, ran_none}
-use Rattle.amf_plan.proofs.Doing.{at_err, not_begun}
+use Rattle.amf_answer_plan.proofs.Doing.{at_err, not_begun}
 use Rattle.amf_gateway.proofs.bodies.answer_body.Goals as goal
 
 pub returns-in_err-packet-clause-stopped : goal.returns-in_err-packet-clause-stopped

@@ -2,7 +2,7 @@ use Rattle.std.proofs.Common.{◌∙◌, Some, refl, sym}
 use Rattle.amf_packet.specs.Content.{packet_of}
 use Rattle.amf_gateway.proofs.Answering.{short_uris}
 use Rattle.amf_gateway.proofs.BodyAnswers.{ran_bytes, ran_long, ran_short, stopped_answers, stopped_short}
-use Rattle.amf_plan.proofs.Doing.{at_err}
+use Rattle.amf_answer_plan.proofs.Doing.{at_err}
 use Rattle.amf_gateway.proofs.bodies.answer_read.Goals as goal
 
 pub answer_packet-requires-clause-packet : goal.answer_packet-requires-clause-packet

@@ -1,7 +1,7 @@
 use Rattle.std.proofs.Common.{◌≡◌, ◌++◌}
 use Rattle.amf_gateway.proofs.Coming.{Come, rest_of}
-use Rattle.amf_plan.specs.Links.{most_requests}
-use Rattle.amf_plan.specs.Services.{services_by}
+use Rattle.amf_answer_plan.specs.Links.{most_requests}
+use Rattle.amf_answer_plan.specs.Services.{services_by}
 use Rattle.amf_gateway.proofs.links.answer_requests.Given as goal
 
 abbrev pub invariant-loop-more : goal.invariant-loop-more

@@ -7,7 +7,7 @@ use Rattle.amf_packet.specs.PacketAnswer.{body_weight}
 use Rattle.amf_packet.specs.SpelledBodies.{HasFitUris}
 use Rattle.amf_gateway.specs.Answered.{HasRoom, most_body}
 use Rattle.amf_gateway.proofs.Answering.{packet_said, packet_stopped, packet_between}
-use Rattle.amf_plan.proofs.Doing.{at_err}
+use Rattle.amf_answer_plan.proofs.Doing.{at_err}
 use Rattle.amf_gateway.proofs.packets.answer_packet.Goals as goal
 
 pub messages_back-requires-clause-light : goal.messages_back-requires-clause-light

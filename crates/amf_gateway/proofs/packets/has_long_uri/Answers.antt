@@ -5,7 +5,7 @@ use Rattle.std.proofs.lemmas.Iterator.{YieldsList-from_slice}
 use Rattle.std.proofs.lemmas.Iterator.Search.{any_from_yields_List}
 use Rattle.amf_packet.specs.declared.packet.Message.{Message as KeptMessage}
 use Rattle.amf_packet.specs.Content.{message_of}
-use Rattle.amf_plan.specs.Packets.{is_long}
+use Rattle.amf_answer_plan.specs.Packets.{is_long}
 use Rattle.amf_gateway.proofs.Answering.{any_told}
 use Rattle.amf_gateway.proofs.packets.has_long_uri.Goals as goal
 

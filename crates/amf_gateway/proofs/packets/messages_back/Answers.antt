@@ -7,7 +7,7 @@ use Rattle.amf_packet.specs.Packet.{Message}
 use Rattle.amf_packet.specs.PacketAnswer.{body_weight}
 use Rattle.amf_gateway.specs.Answered.{HasRoom, most_body}
 use Rattle.amf_gateway.proofs.Answering.{answered_none, answered_more, answered_all, stopped_in, stopped_behind, back_matches, back_fits, next_told, none_told, at_item}
-use Rattle.amf_plan.proofs.Doing.{at_err}
+use Rattle.amf_answer_plan.proofs.Doing.{at_err}
 use Rattle.amf_gateway.proofs.packets.messages_back.Goals as goal
 
 pub loop-message-init : goal.loop-message-init

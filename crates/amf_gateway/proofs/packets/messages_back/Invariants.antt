@@ -1,6 +1,6 @@
 use Rattle.std.proofs.Common.{drop, map}
 use Rattle.amf_packet.specs.Content.{message_of}
-use Rattle.amf_plan.specs.Services.{services_by}
+use Rattle.amf_answer_plan.specs.Services.{services_by}
 use Rattle.amf_gateway.proofs.Answering.{AnsweredSo}
 use Rattle.amf_gateway.proofs.packets.messages_back.Given as goal
 

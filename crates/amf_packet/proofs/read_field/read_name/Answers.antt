@@ -4,7 +4,7 @@ use Rattle.amf_io.specs.Field.{text_kind, u16_kind, no_refusal}
 use Rattle.amf_io.specs.Layout.{give}
 use Rattle.amf_io.specs.CursorReads.{Answers, Ends}
 use Rattle.amf_io.proofs.CursorReads.{field_ended}
-use Rattle.amf3_layout.specs.Layout3Words.{chunk}
+use Rattle.amf3_layout_laws.specs.Layout3Words.{chunk}
 use Rattle.amf0_spelling.specs.Segments0.{Short}
 use Rattle.amf_packet.specs.LayoutPacket.{done, name_layout}
 use Rattle.amf_packet.specs.ReadParts.{Took}

@@ -3,7 +3,7 @@ use Rattle.std.proofs.Common.{◌∙◌, ap}
 use Rattle.amf_graph.specs.Arena.{Arena, graph_of}
 use Rattle.amf_graph.specs.declared.value.Value.{Value as Stored}
 use Rattle.amf_graph.specs.Rooted.{content}
-use Rattle.amf_plain_calls.specs.TellsMessage.{fault_arena}
+use Rattle.amf_plain_calls.specs.FoundForms.{fault_arena}
 use Rattle.amf_plain_calls.proofs.faults.fault_graph.Goals as goal
 
 pub returns : goal.returns

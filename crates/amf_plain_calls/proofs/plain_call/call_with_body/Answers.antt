@@ -4,9 +4,9 @@ use Rattle.amf_graph.specs.Rooted.{content}
 use Rattle.amf_graph.proofs.Finished.{finished}
 use Rattle.amf_packet.specs.declared.body.Body.{Body as KeptBody}
 use Rattle.amf_packet.specs.PacketAnswer.{body_weight}
-use Rattle.amf_plan.specs.PlainCalls.{in_array}
+use Rattle.amf_answer_plan.specs.PlainCalls.{in_array}
 use Rattle.amf_plain_calls.proofs.Plain.{with_body}
-use Rattle.amf_plan.proofs.Wholes.{array_whole}
+use Rattle.amf_answer_plan.proofs.Wholes.{array_whole}
 use Rattle.amf_plain_calls.proofs.plain_call.call_with_body.Goals as goal
 
 pub in_array-requires : goal.in_array-requires

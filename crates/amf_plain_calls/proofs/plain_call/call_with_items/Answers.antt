@@ -4,8 +4,8 @@ use Rattle.amf_graph.specs.Rooted.{content}
 use Rattle.amf_graph.proofs.Finished.{finished}
 use Rattle.amf_graph.proofs.OrderExists.{isomorphic_refl}
 use Rattle.flex_msgs.specs.declared.reply.FaultText.{FaultText}
-use Rattle.amf_plain_calls.specs.TellsMessage.{AnswersMessage}
-use Rattle.amf_plan.specs.PlainCalls.{failed as failed_answer}
+use Rattle.amf_answer_plan.specs.Says.{AnswersMessage}
+use Rattle.amf_answer_plan.specs.PlainCalls.{failed as failed_answer}
 use Rattle.amf_plain_calls.proofs.Plain.{with_items, without_items}
 use Rattle.amf_plain_calls.proofs.plain_call.call_with_items.Goals as goal
 

@@ -4,7 +4,7 @@ use Rattle.amf_graph.specs.Rooted.{content}
 use Rattle.amf0_spelling.specs.declared.form.Form.{Form}
 use Rattle.amf_packet.specs.Packet.{Body}
 use Rattle.amf_packet.specs.SpelledBodies.{IsBodySpelling}
-use Rattle.amf_plan.specs.PlainCalls.{reply_form}
+use Rattle.amf_answer_plan.specs.PlainCalls.{reply_form}
 use Rattle.amf_plain_calls.proofs.NoLacks.{LacksNothing}
 use Rattle.amf_plain_calls.proofs.Plain.{body_with, fault_is, fault_lacks}
 use Rattle.amf_plain_calls.proofs.plain_call.failed.Goals as goal

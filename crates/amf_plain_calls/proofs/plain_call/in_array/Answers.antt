@@ -11,7 +11,7 @@ use Rattle.amf_service.proofs.Answering.{from_if_ok}
 use Rattle.amf_service.proofs.CopiedGraphs.{copies_light}
 use Rattle.amf_service.proofs.MadeArrays.{there_is}
 use Rattle.amf_service.proofs.Room.{has_room}
-use Rattle.amf_plan.specs.PlainCalls.{in_array}
+use Rattle.amf_answer_plan.specs.PlainCalls.{in_array}
 use Rattle.amf_plain_calls.proofs.InArray.{array_closed, array_light, array_same}
 use Rattle.amf_plain_calls.proofs.plain_call.in_array.Goals as goal
 

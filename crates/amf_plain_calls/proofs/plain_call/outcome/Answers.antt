@@ -1,8 +1,8 @@
 use Rattle.std.proofs.Common.{subst}
 use Rattle.std.proofs.lemmas.Result.{IfOk-weaker}
 use Rattle.amf_service.specs.Meaning.{Called}
-use Rattle.amf_plan.specs.declared.calling.ServiceAnswer.{ServiceAnswer}
-use Rattle.amf_plan.specs.Calls.{AnswerFits, ComesTo}
+use Rattle.amf_answer_plan.specs.declared.calling.ServiceAnswer.{ServiceAnswer}
+use Rattle.amf_answer_plan.specs.Calls.{AnswerFits, ComesTo}
 use Rattle.amf_plain_calls.proofs.Plain.{told_fault, told_result}
 use Rattle.amf_plain_calls.proofs.plain_call.outcome.Goals as goal
 

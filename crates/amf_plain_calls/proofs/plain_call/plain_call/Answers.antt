@@ -3,8 +3,8 @@ use Rattle.std.proofs.lemmas.Result.{IfOk-weaker}
 use Rattle.amf0_spelling.specs.declared.form.Form.{Form}
 use Rattle.amf_packet.specs.Content.{body_of}
 use Rattle.flex_msgs.specs.declared.reply.FaultText.{FaultText}
-use Rattle.amf_plain_calls.specs.TellsMessage.{AnswersMessage}
-use Rattle.amf_plan.specs.PlainCalls.{failed as failed_answer}
+use Rattle.amf_answer_plan.specs.Says.{AnswersMessage}
+use Rattle.amf_answer_plan.specs.PlainCalls.{failed as failed_answer}
 use Rattle.amf_plain_calls.proofs.Plain.{with_target, without_target}
 use Rattle.amf_plain_calls.proofs.plain_call.plain_call.Goals as goal
 

@@ -3,7 +3,7 @@ use Rattle.std.proofs.Common.{IfOk, sym, subst}
 use Rattle.std.proofs.lemmas.Result.{IfOk-weaker}
 use Rattle.amf_graph.specs.Rooted.{content}
 use Rattle.amf0_spelling.specs.declared.form.Form.{Form}
-use Rattle.amf_plain_calls.specs.TellsMessage.{FindsForm}
+use Rattle.amf_plain_calls.specs.FoundForms.{FindsForm}
 use Rattle.amf_plain_calls.proofs.Plain.{amf3_found, call_found}
 use Rattle.amf_plain_calls.proofs.plain_call.spelling_for.Goals as goal
 

@@ -3,8 +3,9 @@ use Rattle.std.proofs.lemmas.Result.{IfOk-weaker}
 use Rattle.amf_graph.specs.Graph.{Graph}
 use Rattle.amf_graph.specs.Rooted.{content}
 use Rattle.flex_msgs.specs.declared.reply.FaultText.{FaultText}
-use Rattle.amf_plain_calls.specs.TellsMessage.{FindsForm, AnswersMessage}
-use Rattle.amf_plan.specs.PlainCalls.{failed as failed_answer}
+use Rattle.amf_plain_calls.specs.FoundForms.{FindsForm}
+use Rattle.amf_answer_plan.specs.Says.{AnswersMessage}
+use Rattle.amf_answer_plan.specs.PlainCalls.{failed as failed_answer}
 use Rattle.amf_plain_calls.proofs.Plain.{result_is, told_formed}
 use Rattle.amf_plain_calls.proofs.plain_call.succeeded.Goals as goal
 

@@ -1,4 +1,4 @@
-use Rattle.amf_fields.proofs.LayoutBinds.{passed_on}
+use Rattle.amf_wire_fields.proofs.LayoutBinds.{passed_on}
 use Rattle.amf_sol.proofs.HeadReads.{signature_ended, name_ended, padding_ended, version_ended, head_read}
 use Rattle.amf_sol.proofs.head.read_head.Goals as goal
 

@@ -2,8 +2,8 @@ use Rattle.std.proofs.Common.{List, ℕ, Ok, Err, sym, ◌∙◌, subst}
 use Rattle.amf_io.specs.Field.{text_kind}
 use Rattle.amf_io.specs.Layout.{give}
 use Rattle.amf_io.specs.CursorReads.{Answers, Ends}
-use Rattle.amf3_layout.specs.Layout3Words.{chunk}
-use Rattle.amf_fields.proofs.LayoutBinds.{passed_on}
+use Rattle.amf3_layout_laws.specs.Layout3Words.{chunk}
+use Rattle.amf_wire_fields.proofs.LayoutBinds.{passed_on}
 use Rattle.amf_sol.specs.FileReading.{name_layout}
 use Rattle.amf_sol.proofs.HeadReads.{name_reads, name_cut}
 use Rattle.amf_sol.proofs.head.read_name.Goals as goal

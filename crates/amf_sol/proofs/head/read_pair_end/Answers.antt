@@ -1,5 +1,5 @@
 use Rattle.std.proofs.Common.{sym, ◌∙◌}
-use Rattle.amf_fields.proofs.LayoutBinds.{passed_on}
+use Rattle.amf_wire_fields.proofs.LayoutBinds.{passed_on}
 use Rattle.amf_sol.proofs.HeadReads.{end_came, end_cut}
 use Rattle.amf_sol.proofs.head.read_pair_end.Goals as goal
 

@@ -3,7 +3,7 @@ use Rattle.std.specs.Int.{from_be_bytes, w32}
 use Rattle.amf_io.specs.Field.{u32_kind, no_refusal}
 use Rattle.amf_io.specs.Layout.{give}
 use Rattle.amf_io.proofs.CursorReads.{field_ended}
-use Rattle.amf_fields.proofs.LayoutBinds.{passed_on}
+use Rattle.amf_wire_fields.proofs.LayoutBinds.{passed_on}
 use Rattle.amf_sol.proofs.HeadReads.{length_ended, length_behind, four_read}
 use Rattle.amf_sol.proofs.head.read_signature_and_length.Goals as goal
 

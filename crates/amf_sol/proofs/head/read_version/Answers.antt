@@ -1,5 +1,5 @@
 use Rattle.std.proofs.Common.{sym, ◌∙◌}
-use Rattle.amf_fields.proofs.LayoutBinds.{passed_on}
+use Rattle.amf_wire_fields.proofs.LayoutBinds.{passed_on}
 use Rattle.amf_sol.proofs.HeadReads.{version_is0, version_is3, version_cut}
 use Rattle.amf_sol.proofs.head.read_version.Goals as goal
 

@@ -2,8 +2,8 @@ use Rattle.std.proofs.Common.{◌≡◌, ◌≤◌, ◌<◌, true, length, sym, 
 use Rattle.amf_graph.specs.declared.part.Part.TheVariants.{Named}
 use Rattle.amf_graph.specs.Building.{changed, more_part, stored_at, HasRoom, size_of}
 use Rattle.amf0_spelling.specs.TableParts0.{shown_tables}
-use Rattle.amf_fields.specs.Room.{left_of}
-use Rattle.amf_fields.proofs.LayoutBinds.{passed_on}
+use Rattle.amf_wire_fields.specs.Room.{left_of}
+use Rattle.amf_wire_fields.proofs.LayoutBinds.{passed_on}
 use Rattle.amf3_read.proofs.Stack.{done}
 use Rattle.amf0_read.specs.Ready0.{Ready0}
 use Rattle.amf_sol.proofs.HolderPut.{holder_there, holder_open, holder_room, not_full}

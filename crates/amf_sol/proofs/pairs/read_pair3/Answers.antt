@@ -1,8 +1,8 @@
 use Rattle.std.proofs.Common.{◌≡◌, ◌≤◌, sym, ap, ◌∙◌, subst, arith}
 use Rattle.amf_graph.specs.declared.part.Part.TheVariants.{Named}
 use Rattle.amf_graph.specs.Building.{changed, more_part, stored_at, HasRoom}
-use Rattle.amf_fields.specs.Room.{left_of}
-use Rattle.amf_fields.proofs.LayoutBinds.{passed_on}
+use Rattle.amf_wire_fields.specs.Room.{left_of}
+use Rattle.amf_wire_fields.proofs.LayoutBinds.{passed_on}
 use Rattle.amf3_read.proofs.Stack.{done}
 use Rattle.amf_sol.proofs.HolderPut.{holder_room}
 use Rattle.amf_sol.proofs.PairReads.{name3_ended, value3_ended, end3_ended, pair3_read, pair3_grows, pair3_text, pair3_names, pair3_ready, pair3_holder}

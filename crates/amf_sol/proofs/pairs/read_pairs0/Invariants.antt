@@ -1,6 +1,6 @@
 use Rattle.amf0_spelling.specs.TableParts0.{shown_tables}
 use Rattle.amf0_read.specs.Ready0.{Ready0}
-use Rattle.amf_fields.specs.Room.{left_of}
+use Rattle.amf_wire_fields.specs.Room.{left_of}
 use Rattle.amf_sol.specs.declared.sol_version.SolVersion.TheVariants.{Amf0}
 use Rattle.amf_sol.proofs.PairLoops.{PairsSo}
 use Rattle.amf_sol.proofs.pairs.read_pairs0.Given as goal

@@ -2,7 +2,7 @@ use Rattle.std.proofs.Common.{Err, sym, ap, subst, arith}
 use Rattle.amf_io.specs.declared.ends.ReadEnd.{ReadEnd}
 use Rattle.amf_io.specs.declared.ends.ReadEnd.TheVariants.{Memory}
 use Rattle.amf_sol.specs.FileReading.{tables3}
-use Rattle.amf_fields.specs.Room.{left_of}
+use Rattle.amf_wire_fields.specs.Room.{left_of}
 use Rattle.amf_sol.specs.declared.sol_version.SolVersion.TheVariants.{Amf3}
 use Rattle.amf_sol.specs.FileReading.{IsOpenHolder, AnswersPairs}
 use Rattle.amf_sol.proofs.HolderPut.{holder_new}

@@ -1,4 +1,4 @@
-use Rattle.amf_fields.specs.Room.{left_of}
+use Rattle.amf_wire_fields.specs.Room.{left_of}
 use Rattle.amf3_read.specs.Ready.{Ready}
 use Rattle.amf_sol.specs.FileReading.{tables3}
 use Rattle.amf_sol.specs.declared.sol_version.SolVersion.TheVariants.{Amf3}

@@ -1,6 +1,6 @@
 use Rattle.std.proofs.Common.{◌≡◌, List, length, vec_len, Err, ap, ◌∙◌, arith, rules}
 use Rattle.amf_service.specs.Registry.{Entry}
-use Rattle.amf_plan.specs.Services.{services_by}
+use Rattle.amf_answer_plan.specs.Services.{services_by}
 use Rattle.amf_gateway.specs.Tells.{of_hall}
 use Rattle.amf_workers.proofs.Opened.{not_asked, failed, no_memory, serves}
 use Rattle.amf_workers.proofs.serving.serve.Goals as goal

@@ -1,7 +1,7 @@
 use Rattle.std.proofs.Common.{List, subst, rules}
 use Rattle.std.specs.Prelude.{slice_index_or}
 use Rattle.amf_service.specs.Registry.{Entry}
-use Rattle.amf_plan.specs.Services.{services_by}
+use Rattle.amf_answer_plan.specs.Services.{services_by}
 use Rattle.amf_gateway.specs.Tells.{HallMembers, of_hall}
 use Rattle.amf_workers.specs.declared.hired_worker.HiredWorker.{HiredWorker}
 use Rattle.amf_workers.specs.HiredWorkers.{HiredServed}

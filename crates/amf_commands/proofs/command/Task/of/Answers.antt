@@ -2,7 +2,7 @@ use Rattle.std.proofs.Common.{◌≡◌, ◌∙◌, ap, subst, arith, List, take
 use Rattle.std.specs.List.{AllByRecursion}
 use Rattle.std.specs.Str.{IsUtf8}
 use Rattle.std.proofs.lemmas.List.{take_all}
-use Rattle.amf_words.specs.Words.{Text, texts}
+use Rattle.amf_options.specs.Words.{Text, texts}
 use Rattle.amf_commands.proofs.Asked.{answer_reads, answer_none}
 use Rattle.amf_commands.proofs.command.Task.of.Goals as goal
 

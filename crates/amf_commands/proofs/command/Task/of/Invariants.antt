@@ -1,7 +1,7 @@
 use Rattle.std.proofs.Common.{◌≡◌, take}
 use Rattle.std.specs.List.{AllByRecursion}
 use Rattle.std.specs.Str.{IsUtf8}
-use Rattle.amf_words.specs.Words.{texts}
+use Rattle.amf_options.specs.Words.{texts}
 use Rattle.amf_commands.proofs.command.Task.of.Given as goal
 
 -- the words so far are UTF-8, and were taken as they are

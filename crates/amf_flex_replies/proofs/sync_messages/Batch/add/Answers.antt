@@ -2,7 +2,7 @@ use Rattle.std.proofs.Common.{◌≡◌, List, ℕ, Option, Some, sym, refl, sub
 use Rattle.std.specs.Option.{option_map}
 use Rattle.amf_graph.specs.Graph.{Graph}
 use Rattle.amf_graph.specs.Rooted.{RootedArena, content}
-use Rattle.amf_plan.specs.Runs.{IsStored, Finds}
+use Rattle.amf_answer_plan.specs.Runs.{IsStored, Finds}
 use Rattle.amf_flex_replies.proofs.sync_messages.Batch.add.Goals as goal
 
 pub returns-in_ok-deliver-in-Some-clause-adds : goal.returns-in_ok-deliver-in-Some-clause-adds

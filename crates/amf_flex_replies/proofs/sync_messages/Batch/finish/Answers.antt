@@ -2,7 +2,7 @@ use Rattle.std.proofs.Common.{◌≡◌, map}
 use Rattle.amf_graph.specs.Arena.{value_content}
 use Rattle.flex_msgs.specs.Messages.{sync_nodes}
 use Rattle.amf_flex_replies.proofs.Batched.{held_closed, held_names, room_for_sync, sync_built}
-use Rattle.amf_plan.proofs.Closed.{adds_closed}
+use Rattle.amf_answer_plan.proofs.Closed.{adds_closed}
 use Rattle.amf_flex_replies.proofs.sync_messages.Batch.finish.Goals as goal
 
 pub sync-requires-clause-batch : goal.sync-requires-clause-batch

@@ -1,6 +1,6 @@
 use Rattle.std.proofs.Common.{◌≡◌, ◌-◌, ◌<◌, false}
 use Rattle.amf_gateway.specs.Handed.{CountsCalls}
-use Rattle.amf_plan.specs.Services.{services_by}
+use Rattle.amf_answer_plan.specs.Services.{services_by}
 use Rattle.amf_gateway.specs.Tells.{of_hall}
 use Rattle.amf_gateway.proofs.SoFar.{SoFar}
 use Rattle.amf_gateway.proofs.worker.Worker.serve.Given as goal

@@ -1,5 +1,0 @@
-use Rattle.amf0_layout.proofs.VerdictRows0 as law
-use Rattle.amf0_layout.proofs.facts.verdict_rows0.Goals as goal
-
-pub returns : goal.returns
-returns c = law.verdicts0

@@ -1,5 +1,0 @@
-use Rattle.amf0_layout.proofs.Layout0Format as law
-use Rattle.amf0_layout.proofs.layout_laws.layouts0_are_sound.Goals as goal
-
-pub returns : goal.returns
-returns c = law.reads0

@@ -1,5 +1,0 @@
-use Rattle.amf0_layout.proofs.Verdicts0 as law
-use Rattle.amf0_layout.proofs.verdict_laws.bytes_fix_fields0.Goals as goal
-
-pub returns : goal.returns
-returns c = law.one_cut

@@ -1,6 +1,0 @@
--- The layouts are those of the spellings.
-use Rattle.amf3_layout.proofs.Layout3Format.{is_layout}
-use Rattle.amf3_layout.proofs.layout_laws.layouts_are_of_spellings.Goals as goal
-
-pub returns : goal.returns
-returns c = is_layout

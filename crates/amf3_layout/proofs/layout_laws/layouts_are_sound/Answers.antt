@@ -1,6 +1,0 @@
--- What is read is spelled so.
-use Rattle.amf3_layout.proofs.Layout3Reads.{reads}
-use Rattle.amf3_layout.proofs.layout_laws.layouts_are_sound.Goals as goal
-
-pub returns : goal.returns
-returns c = reads

@@ -1,6 +1,0 @@
--- What is read is spelled.
-use Rattle.amf3_layout.proofs.Layout3Filled.{reading}
-use Rattle.amf3_layout.proofs.layout_laws.layouts_read_only_spellings.Goals as goal
-
-pub returns : goal.returns
-returns c = reading

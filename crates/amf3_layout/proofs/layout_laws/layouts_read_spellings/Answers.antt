@@ -1,6 +1,0 @@
--- What is spelled is read.
-use Rattle.amf3_layout.proofs.Layout3Format.{accepted_read}
-use Rattle.amf3_layout.proofs.layout_laws.layouts_read_spellings.Goals as goal
-
-pub returns : goal.returns
-returns c = accepted_read

@@ -1,6 +1,0 @@
-use Rattle.std.proofs.Common.{take}
-use Rattle.amf_listening.specs.Steps.{SoFar}
-use Rattle.amf_listening.proofs.reply.bodies_of.Given as goal
-
-abbrev pub invariant-loop-item : goal.invariant-loop-item
-invariant-loop-item l = SoFar l.graph (take l.item-index l.items) l.bodies.items

@@ -1,5 +1,0 @@
-use Rattle.amf_plan_laws.proofs.Computed.{tried_runs}
-use Rattle.amf_plan_laws.proofs.facts.tried_is_run.Goals as goal
-
-pub returns : goal.returns
-returns c = tried_runs

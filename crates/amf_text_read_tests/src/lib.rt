@@ -1,0 +1,5 @@
+//! Tests of the parts that read the JSON text of AMF data, and nothing else.
+#![tactic(auto)]
+
+#[cfg(test)]
+mod scalars_tests;
