@@ -14,7 +14,7 @@ from pathlib import Path
 ROOT = Path(__file__).resolve().parent.parent
 CRATES = {path.name for path in (ROOT / "crates").iterdir()}
 # The crates whose names stand in a section without them.
-USUAL = {"3": ["amf_cli", "amf_commands", "amf_plan_laws", "amf_words", "amf_workers", "amf_main"], "5": ["amf_desk"]}
+USUAL = {"3": ["amf_cli", "amf_commands", "amf_answer_laws", "amf_options", "amf_workers", "amf_main"], "5": ["amf_desk"]}
 FUNCTION = re.compile(r"\bfn (\w+)")
 TYPE = re.compile(r"\b(?:struct|enum|trait|type) ([A-Z]\w+)| as ([A-Z]\w+)")
 LABEL = re.compile(r"\bensures (\w+) \{")

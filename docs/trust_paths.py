@@ -45,10 +45,10 @@ program only that of `rtmp` speaks of devices: `Layout` and `Repeated` of `amf_i
 which stand in its path. No promise about a Flex message speaks of one. Of the promises of the libraries these do:
 
 - laws about layouts, and the trait `Format`;
-- the calls by which a reader of another format reads on: those of `amf_fields`, `append_field`, `append_raw`, `append_exactly` and
+- the calls by which a reader of another format reads on: those of `amf_wire_fields`, `append_field`, `append_raw`, `append_exactly` and
   `append_basic` of `amf_io`, `read_text` and `read_value` of `amf3_read`, and `read_short_text` and `read_value0` of `amf0_read`;
 - the readers and laws of `rtmp_chunks`, which speak of the layouts of `amf_io`;
-- the steps that the gateway's crates share: `amf_plan`, `amf_flex_replies` and `amf_plain_calls`.
+- the steps that the gateway's crates share: `amf_answer_plan`, `amf_flex_replies` and `amf_plain_calls`.
 
 Of the laws these do, and whoever goes by one has to read as much of the device as is named:
 
@@ -69,12 +69,12 @@ TITLES = {
     "amf_io": "The outside, fields and the verdict",
     "amf_graph": "Graphs",
     "amf3_spelling": "AMF 3",
-    "amf3_layout": "The verdict on AMF 3",
+    "amf3_layout_laws": "The verdict on AMF 3",
     "amf_tables": "Reference tables",
     "amf0_spelling": "AMF 0",
-    "amf0_layout": "The verdict on AMF 0",
+    "amf0_layout_laws": "The verdict on AMF 0",
     "amf_iso": "The order of the nodes",
-    "amf_fields": "Reading fields",
+    "amf_wire_fields": "Reading fields",
     "amf3_read": "Reading AMF 3",
     "amf3_write": "Writing AMF 3",
     "amf0_read": "Reading AMF 0",
@@ -83,14 +83,16 @@ TITLES = {
     "amf_sol": "Shared object files",
     "amf_show": "The listing of a graph",
     "amf_text": "The JSON text of AMF data",
+    "amf_text_write": "Writing the JSON text",
+    "amf_text_read": "Reading the JSON text",
     "amf_listings": "The listings of packets and of shared object files, and their laws",
     "flv_meta": "FLV script data",
     "rtmp_chunks": "RTMP chunk streams",
-    "rtmp_pass": "Chunk streams that are written again",
+    "rtmp_rechunk": "Rechunking, and the pass over a chunk stream",
     "rtmp_listing": "The listing of a chunk stream",
     "amf_media": "Jobs on media",
     "amf_vectors": "Values that are made",
-    "amf_words": "The options of a command line",
+    "amf_options": "The options of a command line",
     "amf_commands": "The commands of data",
     "flex_msgs": "Flex messages",
     "amf_service": "Services",
@@ -101,11 +103,11 @@ TITLES = {
     "amf_once": "Polls that survive losses",
     "amf_client": "Calling the gateway",
     "amf_calling": "One call over a dial",
-    "amf_listening": "A session of polls over a dial",
-    "amf_plan": "What a link is answered",
-    "amf_plan_laws": "The laws of what a link is answered",
-    "amf_round_laws": "What comes back of a call",
-    "amf_round": "A call over memory",
+    "amf_poll_session": "A session of polls over a dial",
+    "amf_answer_plan": "What a link is answered",
+    "amf_answer_laws": "The laws of what a link is answered",
+    "amf_round_trip_laws": "What comes back of a call",
+    "amf_round_trip": "A call over memory",
     "amf_flex_replies": "Replies to Flex clients",
     "amf_plain_calls": "Plain calls",
     "amf_gateway": "The gateway",
@@ -120,7 +122,7 @@ ABOUT = re.compile(r"Worked|Laws|Facts$|^Agreement|^OneShortest$|^GraftKeeps$|^T
 SHIPPED = ("amf_service", "Shipped", "shipped")
 
 # What the promises of a run name for one kind of command alone.
-OF_SERVE = ["amf_service.", "amf_plan.", "amf_gateway.", "amf_workers.", "amf_cli.Serving.", "amf_commands.Commands.ReadsServe",
+OF_SERVE = ["amf_service.", "amf_answer_plan.", "amf_gateway.", "amf_workers.", "amf_cli.Serving.", "amf_commands.Commands.ReadsServe",
             "amf_commands.Commands.IsServing"]
 OF_DATA = ["amf_commands.Run.", "amf_commands.Input.", "amf_commands.Commands.Reads", "amf_graph."]
 OF_FLV = ["amf_media.FlvRuns.", "amf_commands.Commands.ReadsFlv"]
@@ -131,8 +133,9 @@ OF_LISTEN = ["amf_cli.ListenEnds.", "amf_commands.Commands.ReadsListen", "amf_co
 OF_LINKS = [*OF_CALL, *OF_LISTEN, "amf_commands.Commands.IsDialling"]
 
 # The crates that speak of media, of calls, and of none of the promises.
-MEDIA = ["flv_meta", "amf_media", "rtmp_chunks", "rtmp_pass", "rtmp_listing"]
-CALLS = ["amf_client", "amf_calling", "amf_listening", "amf_round_laws", "amf_round"]
+MEDIA = ["flv_meta", "amf_media", "rtmp_chunks", "rtmp_rechunk", "rtmp_listing"]
+ROUND_TRIPS = ["amf_round_trip_laws", "amf_round_trip"]
+CALLS = ["amf_client", "amf_calling", "amf_poll_session", *ROUND_TRIPS]
 OTHERS = ["amf_vectors", "amf_once"]
 FILES = ["amf_packet", "amf_sol", "amf_listings"]
 
@@ -150,23 +153,23 @@ PATHS = [
                 "amf_listings.PacketNodes", "amf_listings.PacketLaws"], ["Ends"]),
     ("To trust an answer of `serve`", "That what a connection is sent is the definition's answer to the bytes that came: what a request means, which calls of "
      "services and of the broker it makes, and which bytes tell what they gave.",
-     [], ["amf_sol", "amf_show", "amf_listings", *OTHERS, *MEDIA, *CALLS], [], "amf_plan.Respond"),
+     [], ["amf_sol", "amf_show", "amf_listings", *OTHERS, *MEDIA, *CALLS], [], "amf_answer_plan.Respond"),
     ("To trust `serve`", "That each connection is answered as the definition says, and that all connections have one legal history of the broker.",
      [*OF_DATA, *OF_MEDIA, *OF_LINKS], ["amf_sol", "amf_show", "amf_listings", *OTHERS, *MEDIA, *CALLS], ["ServesWords"]),
     ("To trust `flv`", "That `amf flv` lists the metadata of an FLV file, or writes the file without them or with others, and all else as it was.",
-     [*OF_SERVE, *OF_DATA, *OF_RTMP, *OF_LINKS], [*FILES, *OTHERS, *CALLS, "rtmp_chunks", "rtmp_pass", "rtmp_listing"], ["Ends", "MediaEnds"]),
+     [*OF_SERVE, *OF_DATA, *OF_RTMP, *OF_LINKS], [*FILES, *OTHERS, *CALLS, "rtmp_chunks", "rtmp_rechunk", "rtmp_listing"], ["Ends", "MediaEnds"]),
     ("To trust `rtmp`", "That `amf rtmp` lists the messages of a chunk stream, or writes the same messages in chunks of another size.",
      [*OF_SERVE, *OF_DATA, *OF_FLV, *OF_LINKS], [*FILES, *OTHERS, *CALLS, "flv_meta"], ["Ends", "MediaEnds"]),
     ("To trust `call`", "That `amf call` makes one call with the arguments that it was given, and writes what the bytes that come back mean.",
-     [*OF_SERVE, *OF_DATA, *OF_MEDIA, *OF_LISTEN], ["amf_sol", "amf_listings", *OTHERS, *MEDIA, "amf_listening", "amf_round_laws", "amf_round"],
+     [*OF_SERVE, *OF_DATA, *OF_MEDIA, *OF_LISTEN], ["amf_sol", "amf_listings", *OTHERS, *MEDIA, "amf_poll_session", *ROUND_TRIPS],
      ["CallsWords"]),
     ("To trust `listen`", "That `amf listen` sends the requests of one session, again where a connection was lost, and writes the bodies of each "
      "batch once and in order. That these are the messages that were published is the path below.",
      [*OF_SERVE, *OF_DATA, *OF_MEDIA, *OF_CALL],
-     ["amf_sol", "amf_listings", "amf_vectors", *MEDIA, "amf_calling", "amf_round_laws", "amf_round"], ["ListensWords"]),
+     ["amf_sol", "amf_listings", "amf_vectors", *MEDIA, "amf_calling", *ROUND_TRIPS], ["ListensWords"]),
     ("To trust that `listen` loses nothing", "That what a listener has written is what was published while it was subscribed, each message once and in order: the law "
-     "`what_was_published_is_written` of `amf_listening`, over the listener's session and the broker.",
-     [], ["amf_sol", "amf_listings", "amf_vectors", *MEDIA, "amf_calling", "amf_round_laws", "amf_round"], [], "amf_listening.Delivered"),
+     "`what_was_published_is_written` of `amf_poll_session`, over the listener's session and the broker.",
+     [], ["amf_sol", "amf_listings", "amf_vectors", *MEDIA, "amf_calling", *ROUND_TRIPS], [], "amf_poll_session.Delivered"),
 ]
 
 # Definitions stand at the margin, or two spaces in where a file has parameters for all of them.
