@@ -15,9 +15,9 @@ use Rattle.amf3_spelling.proofs.LacksAlike.{lacks_alike}
 use Rattle.amf_listings.specs.SamePacket.{SamePacket, IsLoweredPacket}
 use Rattle.amf_listings.proofs.PacketLawRows.{packet_laws}
 use Rattle.amf_client.specs.Asking.{IsAsk, are_arguments, are_arguments_at, call_packet, is_unnamed_array}
-use Rattle.amf_calling.specs.declared.answer.CallAnswer.{CallAnswer}
-use Rattle.amf_calling.specs.declared.answer.CallAnswer.TheVariants.{Graph as Given, Fault, BadReply, LinkFault, NotArgs, NoSpelling, Memory}
-use Rattle.amf_calling.specs.Called.{Calls, Counts, IsNumbered}
+use Rattle.amf_dial_and_call.specs.declared.answer.CallAnswer.{CallAnswer}
+use Rattle.amf_dial_and_call.specs.declared.answer.CallAnswer.TheVariants.{Graph as Given, Fault, BadReply, LinkFault, NotArgs, NoSpelling, Memory}
+use Rattle.amf_dial_and_call.specs.Called.{Calls, Counts, IsNumbered}
 use Rattle.amf_commands.specs.declared.command.CallOptions.{CallOptions}
 use Rattle.amf_commands.specs.declared.format.Format.TheVariants.{Amf3}
 use Rattle.amf_commands.specs.Content.{value}

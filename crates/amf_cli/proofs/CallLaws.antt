@@ -7,9 +7,9 @@ use Rattle.amf_io.specs.declared.source.Source.{Ghosts as SourceMembers}
 use Rattle.amf_io.specs.declared.sink.Sink.{Ghosts as SinkMembers}
 use Rattle.amf_io.specs.declared.dial.Dial.{Ghosts as DialMembers}
 use Rattle.amf_io.specs.declared.link.Link.{Ghosts as LinkMembers}
-use Rattle.amf_calling.specs.declared.answer.CallAnswer.{CallAnswer}
-use Rattle.amf_calling.specs.declared.answer.CallAnswer.TheVariants.{Graph as Given, Fault, BadReply, LinkFault, NotArgs, NoSpelling, Memory}
-use Rattle.amf_calling.specs.Called.{Counts}
+use Rattle.amf_dial_and_call.specs.declared.answer.CallAnswer.{CallAnswer}
+use Rattle.amf_dial_and_call.specs.declared.answer.CallAnswer.TheVariants.{Graph as Given, Fault, BadReply, LinkFault, NotArgs, NoSpelling, Memory}
+use Rattle.amf_dial_and_call.specs.Called.{Counts}
 use Rattle.amf_commands.specs.declared.command.CallOptions.{CallOptions}
 use Rattle.amf_commands.specs.declared.command.Command.TheVariants.{Canon}
 use Rattle.amf_commands.specs.declared.command.Task.TheVariants.{Call}

@@ -10,9 +10,9 @@ use Rattle.amf_graph.specs.Graph.{Graph}
 use Rattle.amf_graph.specs.Rooted.{content}
 use Rattle.amf3_spelling.specs.Spells3.{Spelled3}
 use Rattle.amf_client.specs.Asking.{are_arguments}
-use Rattle.amf_calling.specs.declared.answer.CallAnswer.{CallAnswer}
-use Rattle.amf_calling.specs.declared.answer.CallAnswer.TheVariants.{Graph as Given, Fault, BadReply, LinkFault, NotArgs, NoSpelling, Memory}
-use Rattle.amf_calling.specs.Called.{Calls, Counts, IsNumbered}
+use Rattle.amf_dial_and_call.specs.declared.answer.CallAnswer.{CallAnswer}
+use Rattle.amf_dial_and_call.specs.declared.answer.CallAnswer.TheVariants.{Graph as Given, Fault, BadReply, LinkFault, NotArgs, NoSpelling, Memory}
+use Rattle.amf_dial_and_call.specs.Called.{Calls, Counts, IsNumbered}
 use Rattle.amf_commands.specs.declared.command.CallOptions.{CallOptions}
 use Rattle.amf_commands.specs.declared.format.Format.TheVariants.{Amf3}
 use Rattle.amf_commands.specs.declared.run_end.RunEnd.TheVariants.{WriteFault, ReadFault, NoMemory}

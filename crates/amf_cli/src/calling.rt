@@ -1,7 +1,7 @@
 ghost use Rattle.std.specs.Prelude.{◌+◌, ◌≤◌, length};
 ghost use Rattle.amf_graph.specs.Reached.{IsNamed};
 ghost use Rattle.amf_graph.specs.Rooted.{content};
-ghost use Rattle.amf_calling.specs.Called.{HasNames};
+ghost use Rattle.amf_dial_and_call.specs.Called.{HasNames};
 ghost use Rattle.amf_commands.specs.declared.format.Format.TheVariants.{Amf3};
 ghost use Rattle.amf_commands.specs.Askable.{IsCallable};
 ghost use Rattle.amf_commands.specs.Content.{value};
@@ -12,8 +12,8 @@ ghost use Rattle.amf_cli.specs.CallEnds.{AnswerEnds, CallEnds};
 ghost use Rattle.amf_cli.specs.CallSteps.{CallCounts, WritesFor};
 
 use crate::telling::{tell, tell_bad_reply, tell_fault, tell_link_fault};
-use amf_calling::{CallAnswer, call_keyed};
 use amf_commands::{CallOptions, Content, Format, RunEnd, end_with, read_in_format, spell3};
+use amf_dial_and_call::{CallAnswer, call_keyed};
 use amf_graph::{Rooted, WriteEnd};
 use amf_io::{Dial, Sink, Source, write_whole};
 use std::alloc::Global;

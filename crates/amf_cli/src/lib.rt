@@ -21,7 +21,7 @@ mod telling;
 pub use amf_commands::{
     CallOptions, Command, Format, ListenOptions, RunEnd, ServeOptions, Task, end_with, run_rows,
 };
-pub use amf_round_trip::{RoundEnd, may_call, round};
+pub use amf_self_call::{RoundEnd, may_call, round};
 pub use arguments::{Arguments, Environment, words_of};
 pub use facts::serve_rows;
 pub use services::start_with_services;

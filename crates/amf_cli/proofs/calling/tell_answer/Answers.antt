@@ -1,6 +1,6 @@
 -- The line of a lack is that of any command.
 use Rattle.std.proofs.Common.{refl, sym, subst}
-use Rattle.amf_calling.specs.declared.answer.CallAnswer.{CallAnswer}
+use Rattle.amf_dial_and_call.specs.declared.answer.CallAnswer.{CallAnswer}
 use Rattle.amf_commands.specs.Lines.{line_of}
 use Rattle.amf_cli.specs.CallEnds.{AnswerEnds}
 use Rattle.amf_cli.proofs.calling.tell_answer.Goals as goal

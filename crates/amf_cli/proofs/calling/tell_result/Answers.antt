@@ -1,7 +1,7 @@
 -- No name of a result is empty, so it lacks nothing.
 use Rattle.std.proofs.Common.{Err, ap}
 use Rattle.amf_graph.specs.Rooted.{content}
-use Rattle.amf_calling.proofs.Lackless.{lacks_nothing}
+use Rattle.amf_dial_and_call.proofs.Lackless.{lacks_nothing}
 use Rattle.amf_cli.proofs.calling.tell_result.Goals as goal
 
 pub unreachable-requires : goal.unreachable-requires

@@ -1,5 +1,0 @@
-use Rattle.amf_round_trip_laws.proofs.Rounds.{round_holds}
-use Rattle.amf_round_trip_laws.proofs.laws.a_call_comes_back.Goals as goal
-
-pub returns : goal.returns
-returns c = round_holds

@@ -1,5 +1,0 @@
-use Rattle.amf_round_trip_laws.proofs.Answered.{call_is_answered}
-use Rattle.amf_round_trip_laws.proofs.laws.a_call_is_answered.Goals as goal
-
-pub returns : goal.returns
-returns c = call_is_answered

@@ -1,5 +1,0 @@
-use Rattle.amf_round_trip_laws.proofs.Quiets.{call_is_quiet}
-use Rattle.amf_round_trip_laws.proofs.laws.a_call_is_quiet.Goals as goal
-
-pub returns : goal.returns
-returns c = call_is_quiet

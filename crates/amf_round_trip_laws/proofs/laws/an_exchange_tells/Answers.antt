@@ -1,5 +1,0 @@
-use Rattle.amf_round_trip_laws.proofs.Exchanges.{exchange_holds}
-use Rattle.amf_round_trip_laws.proofs.laws.an_exchange_tells.Goals as goal
-
-pub returns : goal.returns
-returns c = exchange_holds
