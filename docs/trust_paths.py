@@ -102,12 +102,12 @@ TITLES = {
     "amf_http": "The HTTP front",
     "amf_once": "Polls that survive losses",
     "amf_client": "Calling the gateway",
-    "amf_calling": "One call over a dial",
+    "amf_dial_and_call": "One call over a dial",
     "amf_poll_session": "A session of polls over a dial",
     "amf_answer_plan": "What a link is answered",
     "amf_answer_laws": "The laws of what a link is answered",
-    "amf_round_trip_laws": "What comes back of a call",
-    "amf_round_trip": "A call over memory",
+    "amf_self_call_laws": "What comes back of a call",
+    "amf_self_call": "A call over memory",
     "amf_flex_replies": "Replies to Flex clients",
     "amf_plain_calls": "Plain calls",
     "amf_gateway": "The gateway",
@@ -134,8 +134,8 @@ OF_LINKS = [*OF_CALL, *OF_LISTEN, "amf_commands.Commands.IsDialling"]
 
 # The crates that speak of media, of calls, and of none of the promises.
 MEDIA = ["flv_meta", "amf_media", "rtmp_chunks", "rtmp_rechunk", "rtmp_listing"]
-ROUND_TRIPS = ["amf_round_trip_laws", "amf_round_trip"]
-CALLS = ["amf_client", "amf_calling", "amf_poll_session", *ROUND_TRIPS]
+SELF_CALLS = ["amf_self_call_laws", "amf_self_call"]
+CALLS = ["amf_client", "amf_dial_and_call", "amf_poll_session", *SELF_CALLS]
 OTHERS = ["amf_vectors", "amf_once"]
 FILES = ["amf_packet", "amf_sol", "amf_listings"]
 
@@ -161,15 +161,15 @@ PATHS = [
     ("To trust `rtmp`", "That `amf rtmp` lists the messages of a chunk stream, or writes the same messages in chunks of another size.",
      [*OF_SERVE, *OF_DATA, *OF_FLV, *OF_LINKS], [*FILES, *OTHERS, *CALLS, "flv_meta"], ["Ends", "MediaEnds"]),
     ("To trust `call`", "That `amf call` makes one call with the arguments that it was given, and writes what the bytes that come back mean.",
-     [*OF_SERVE, *OF_DATA, *OF_MEDIA, *OF_LISTEN], ["amf_sol", "amf_listings", *OTHERS, *MEDIA, "amf_poll_session", *ROUND_TRIPS],
+     [*OF_SERVE, *OF_DATA, *OF_MEDIA, *OF_LISTEN], ["amf_sol", "amf_listings", *OTHERS, *MEDIA, "amf_poll_session", *SELF_CALLS],
      ["CallsWords"]),
     ("To trust `listen`", "That `amf listen` sends the requests of one session, again where a connection was lost, and writes the bodies of each "
      "batch once and in order. That these are the messages that were published is the path below.",
      [*OF_SERVE, *OF_DATA, *OF_MEDIA, *OF_CALL],
-     ["amf_sol", "amf_listings", "amf_vectors", *MEDIA, "amf_calling", *ROUND_TRIPS], ["ListensWords"]),
+     ["amf_sol", "amf_listings", "amf_vectors", *MEDIA, "amf_dial_and_call", *SELF_CALLS], ["ListensWords"]),
     ("To trust that `listen` loses nothing", "That what a listener has written is what was published while it was subscribed, each message once and in order: the law "
      "`what_was_published_is_written` of `amf_poll_session`, over the listener's session and the broker.",
-     [], ["amf_sol", "amf_listings", "amf_vectors", *MEDIA, "amf_calling", *ROUND_TRIPS], [], "amf_poll_session.Delivered"),
+     [], ["amf_sol", "amf_listings", "amf_vectors", *MEDIA, "amf_dial_and_call", *SELF_CALLS], [], "amf_poll_session.Delivered"),
 ]
 
 # Definitions stand at the margin, or two spaces in where a file has parameters for all of them.
