@@ -5,11 +5,10 @@ use Rattle.std.specs.List.{list_all, list_any}
 use Rattle.std.proofs.lemmas.Bool.Decides.{nat_tests}
 use Rattle.std.proofs.lemmas.List.{append-nil}
 use Rattle.amf_broker.specs.declared.topic.Topic.{Topic}
-use Rattle.amf_broker.specs.declared.member.Member.{Member}
 use Rattle.amf_broker.specs.Machine.{is_same_topic}
 use Rattle.amf_broker.specs.Moments.{stays}
 use Rattle.amf_broker.specs.Lines.{TopicLog, Span, Waiter, floor, IsKept, posts_of, posts_before, is_covered, delivered, covered, spans_of, gathered, put_all, waits, clients_by, subs_by, is_above, is_reached_by}
-use Rattle.amf_broker.specs.Members.{Line, logs_of, seat_of, is_present, member_in, members_in, members_at, are_apart, is_at_home, raised, IsLined, floor_of, with_member, enlisted, seated_in, line_left, lines_left}
+use Rattle.amf_broker.specs.Members.{Line, Listener, logs_of, is_present, listener, members_in, members_at, are_apart, is_at_home, raised, IsLined, floor_of, with_member, enlisted, line_left, lines_left}
 use Rattle.amf_broker.proofs.Posts.{same-topic, same-self}
 use Rattle.amf_broker.proofs.Floors.{all-append, all-weaker, counts-as, new_span, begun-kept, begun-floor}
 use Rattle.amf_broker.proofs.Publishes.{clients-logs}
@@ -66,7 +65,7 @@ either-same false x = refl
 
 -- The lines.
 
-module _ (t : Topic) (m : Member) where
+module _ (t : Topic) (m : Listener) where
   pub enlisted-found : (ls : List Line) → list_any (λ l. is_same_topic t l.topic) ls ≡ true → at_first (λ l. is_same_topic t l.topic) (with_member m) ls ≡ enlisted t m ls
   enlisted-found [] here = cc
   enlisted-found (l ∷ ls) here = step (is_same_topic t l.topic) refl (enlisted-found ls)
@@ -146,21 +145,21 @@ module _ (t : Topic) (m : Member) where
           grind (arith, first, ih, other, none)
 
 -- others have left before it is put there
-pub enlisted-left : (t : Topic) (m : Member) (ks : List ℕ) (vs : List Waiter) (ls : List Line) → stays ks m.client ≡ true → lines_left ks vs (enlisted t m ls) ≡ enlisted t (seated_in vs m) (lines_left ks vs ls)
-enlisted-left t m ks vs [] stay = ap (λ b. record { topic = t; posts = []; members = map (seated_in vs) (if b then m ∷ [] else []) } ∷ []) stay
-enlisted-left t m ks vs (l ∷ ls) stay = step (is_same_topic t l.topic) (enlisted-left t m ks vs ls stay)
+pub enlisted-left : (t : Topic) (m : Listener) (ks : List ℕ) (ls : List Line) → stays ks m.client ≡ true → lines_left ks (enlisted t m ls) ≡ enlisted t m (lines_left ks ls)
+enlisted-left t m ks [] stay = ap (λ b. record { topic = t; posts = []; members = if b then m ∷ [] else [] } ∷ []) stay
+enlisted-left t m ks (l ∷ ls) stay = step (is_same_topic t l.topic) (enlisted-left t m ks ls stay)
   where
-    more : (ms : List Member) → map (seated_in vs) (filter (λ m. stays ks m.client) (ms ++ (m ∷ []))) ≡ map (seated_in vs) (filter (λ m. stays ks m.client) ms) ++ (seated_in vs m ∷ [])
-    more [] = ap (λ b. map (seated_in vs) (if b then m ∷ [] else [])) stay
-    more (x ∷ ms) = elim (stays ks x.client) as (λ b. map (seated_in vs) (if b then x ∷ filter (λ m. stays ks m.client) (ms ++ (m ∷ [])) else filter (λ m. stays ks m.client) (ms ++ (m ∷ []))) ≡ map (seated_in vs) (if b then x ∷ filter (λ m. stays ks m.client) ms else filter (λ m. stays ks m.client) ms) ++ (seated_in vs m ∷ [])) [
-      | true ↦ ap (λ y. seated_in vs x ∷ y) (more ms)
+    more : (ms : List Listener) → filter (λ m. stays ks m.client) (ms ++ (m ∷ [])) ≡ filter (λ m. stays ks m.client) ms ++ (m ∷ [])
+    more [] = ap (λ b. if b then m ∷ [] else []) stay
+    more (x ∷ ms) = elim (stays ks x.client) as (λ b. (if b then x ∷ filter (λ m. stays ks m.client) (ms ++ (m ∷ [])) else filter (λ m. stays ks m.client) (ms ++ (m ∷ []))) ≡ (if b then x ∷ filter (λ m. stays ks m.client) ms else filter (λ m. stays ks m.client) ms) ++ (m ∷ [])) [
+      | true ↦ ap (λ y. x ∷ y) (more ms)
       | false ↦ more ms
     ]
 
-    step : (b : Bool) → lines_left ks vs (enlisted t m ls) ≡ enlisted t (seated_in vs m) (lines_left ks vs ls)
-        → lines_left ks vs (if b then with_member m l ∷ ls else l ∷ enlisted t m ls) ≡ (if b then with_member (seated_in vs m) (line_left ks vs l) ∷ lines_left ks vs ls else line_left ks vs l ∷ enlisted t (seated_in vs m) (lines_left ks vs ls))
-    step true ih = ap (λ x. record { topic = l.topic; posts = l.posts; members = x } ∷ lines_left ks vs ls) (more l.members)
-    step false ih = ap (λ x. line_left ks vs l ∷ x) ih
+    step : (b : Bool) → lines_left ks (enlisted t m ls) ≡ enlisted t m (lines_left ks ls)
+        → lines_left ks (if b then with_member m l ∷ ls else l ∷ enlisted t m ls) ≡ (if b then with_member m (line_left ks l) ∷ lines_left ks ls else line_left ks l ∷ enlisted t m (lines_left ks ls))
+    step true ih = ap (λ x. record { topic = l.topic; posts = l.posts; members = x } ∷ lines_left ks ls) (more l.members)
+    step false ih = ap (λ x. line_left ks l ∷ x) ih
 
 -- What is so between calls.
 
@@ -179,8 +178,8 @@ module _ (ls : List Line) (us : List Span) (ws : List Waiter) (c n : ℕ) (k : I
   abbrev new : Span
   new = new_span id client t n
 
-  abbrev joining : Member
-  joining = record { sub = id; client = client; seat = seat_of client ws }
+  abbrev joining : Listener
+  joining = record { sub = id; client = client }
 
   raised-all : map (raised n) (us ++ (new ∷ [])) ≡ map (raised n) us ++ (new ∷ [])
   raised-all = more us
@@ -189,19 +188,19 @@ module _ (ls : List Line) (us : List Span) (ws : List Waiter) (c n : ℕ) (k : I
       more [] = refl
       more (x ∷ xs) = ap (λ m. raised n x ∷ m) (more xs)
 
-  listed-all : (s : Topic) → members_at s (enlisted t joining ls) ≡ members_in s (us ++ (new ∷ [])) ws
-  listed-all s = step (is_same_topic s t) refl ∙ sym (members-begun s us new ws)
+  listed-all : (s : Topic) → members_at s (enlisted t joining ls) ≡ members_in s (us ++ (new ∷ []))
+  listed-all s = step (is_same_topic s t) refl ∙ sym (members-begun s us new)
     where
-      step : (b : Bool) → is_same_topic s t ≡ b → members_at s (enlisted t joining ls) ≡ members_in s us ws ++ (if is_reached_by s new then member_in ws new ∷ [] else [])
+      step : (b : Bool) → is_same_topic s t ≡ b → members_at s (enlisted t joining ls) ≡ members_in s us ++ (if is_reached_by s new then listener new ∷ [] else [])
       step true e =
           let same = same-topic s t e in
           let back : is_same_topic t s ≡ true = topic-other s t true e in
           ap (λ x. members_at x (enlisted t joining ls)) same
-          ∙ (at-own t joining ls ∙ (ap (λ x. x ++ (joining ∷ [])) (k.listed t) ∙ (ap (λ x. members_in x us ws ++ (joining ∷ [])) (sym same) ∙ sym (ap (λ b. members_in s us ws ++ (if b then member_in ws new ∷ [] else [])) back))))
+          ∙ (at-own t joining ls ∙ (ap (λ x. x ++ (joining ∷ [])) (k.listed t) ∙ (ap (λ x. members_in x us ++ (joining ∷ [])) (sym same) ∙ sym (ap (λ b. members_in s us ++ (if b then listener new ∷ [] else [])) back))))
       step false e =
           let back : is_same_topic t s ≡ false = topic-other s t false e in
           at-other t joining s e ls
-          ∙ (k.listed s ∙ (sym (append-nil (members_in s us ws)) ∙ sym (ap (λ b. members_in s us ws ++ (if b then member_in ws new ∷ [] else [])) back)))
+          ∙ (k.listed s ∙ (sym (append-nil (members_in s us)) ∙ sym (ap (λ b. members_in s us ++ (if b then listener new ∷ [] else [])) back)))
 
   pub lined-begun : IsLined (enlisted t joining ls) (us ++ (new ∷ [])) ws c n
   lined-begun = record {

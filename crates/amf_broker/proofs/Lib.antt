@@ -24,6 +24,7 @@ mod Tallies
 mod Stops
 mod Seats
 mod Firsts
+mod Goes
 mod Lined
 mod Enlists
 mod Published
@@ -32,4 +33,7 @@ mod Trims
 mod Rounds
 mod Noted
 mod Slots
+mod Among
+mod Owners
+mod Parts
 mod Awake

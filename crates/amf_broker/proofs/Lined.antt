@@ -8,13 +8,13 @@ use Rattle.amf_broker.specs.Machine.{at_client, emptied, kept_as, seen_at, is_sa
 use Rattle.amf_broker.specs.Delivery.{Message}
 use Rattle.amf_broker.specs.Moments.{stays, clients_left, subs_left}
 use Rattle.amf_broker.specs.Lines.{TopicLog, Span, Waiter, floor, IsKept, posts_of, is_covered, delivered, covered, spans_of, gathered, put_all, waits, clients_by, subs_by, spans_left, waiters_left, waiter_at, closed, begun_anew, outlasts, cleared, new_waiter, emptied_waiter, kept_waiter, seen_waiter, is_above}
-use Rattle.amf_broker.specs.Members.{Line, log_of, logs_of, is_present, are_apart, is_at_home, raised, stopped, IsLined, floor_of, is_waited, remains, seated_in, line_left, lines_left, line_without}
+use Rattle.amf_broker.specs.Members.{Line, log_of, logs_of, is_present, are_apart, is_at_home, raised, stopped, IsLined, floor_of, is_waited, remains_of, line_left, lines_left, line_without}
 use Rattle.amf_broker.proofs.Spans.{clients-as}
 use Rattle.amf_broker.proofs.Floors.{all-filter, all-weaker, all-map, counts-as, left-kept, left-floor, come-kept, come-clients, new_span, closed-kept, closed-floor}
 use Rattle.amf_broker.proofs.Polls.{cleared-kept, emptied-clients, kept-clients, seen-kept, seen-clients, subs-cleared}
 use Rattle.amf_broker.proofs.Raises.{subs-raised}
 use Rattle.amf_broker.proofs.Stops.{raised-live, raised-dead, stopped-yes, stopped-no, stopped-dead, closed-yes, closed-no, closed-dead}
-use Rattle.amf_broker.proofs.Seats.{seat-changed, present-changed, present-more, present-left, members-as, members-more, members-stopped, members-left, members-filter, members-cleared, at-left, at-without}
+use Rattle.amf_broker.proofs.Seats.{present-changed, present-more, present-left, members-stopped, members-left, members-filter, members-cleared, at-left, at-without}
 
 -- Lists.
 
@@ -49,9 +49,9 @@ apart-map f same (l ∷ ls) =
 
 -- The logs of lines whose members change.
 
-pub logs-left : (ks : List ℕ) (vs : List Waiter) (ls : List Line) → logs_of (lines_left ks vs ls) ≡ logs_of ls
-logs-left ks vs [] = refl
-logs-left ks vs (l ∷ ls) = ap (λ m. log_of l ∷ m) (logs-left ks vs ls)
+pub logs-left : (ks : List ℕ) (ls : List Line) → logs_of (lines_left ks ls) ≡ logs_of ls
+logs-left ks [] = refl
+logs-left ks (l ∷ ls) = ap (λ m. log_of l ∷ m) (logs-left ks ls)
 
 pub logs-without : (o : ℕ → Bool) (ls : List Line) → logs_of (map (line_without o) ls) ≡ logs_of ls
 logs-without o [] = refl
@@ -119,6 +119,9 @@ raised-new n id client t us = map-more (raised n) us (new_span id client t n ∷
 
 raised-id : (n : ℕ) (u : Span) → (raised n u).id ≡ u.id
 raised-id n u = elim u.live as (λ l. (if l then record u { stop = n } else u).id ≡ u.id) [ true ↦ refl | false ↦ refl ]
+
+raised-client : (n : ℕ) (u : Span) → (raised n u).client ≡ u.client
+raised-client n u = elim u.live as (λ l. (if l then record u { stop = n } else u).client ≡ u.client) [ true ↦ refl | false ↦ refl ]
 
 -- Subscriptions that have ended and for which nothing waits.
 
@@ -205,24 +208,24 @@ home-map f ws one us home = all-map (is_at_home ws) (is_at_home ws) f one us hom
 -- Clients leave.
 
 module _ (ls : List Line) (us : List Span) (ws : List Waiter) (c n : ℕ) (k : IsLined ls us ws c n) where
-  pub lined-left : (ks : List ℕ) → IsLined (lines_left ks (waiters_left ks ws) ls) (spans_left ks us) (waiters_left ks ws) c n
+  pub lined-left : (ks : List ℕ) → IsLined (lines_left ks ls) (spans_left ks us) (waiters_left ks ws) c n
   lined-left ks = record {
-    kept = rw (logs-left ks (waiters_left ks ws) ls, raised-left n ks us) (left-kept ks (logs_of ls) (map (raised n) us) ws c n k.kept);
-    listed = λ t. at-left t ks (waiters_left ks ws) ls ∙ (ap (λ m. map (seated_in (waiters_left ks ws)) (filter (λ m. stays ks m.client) m)) (k.listed t) ∙ sym (members-left t ks us ws (waiters_left ks ws)));
+    kept = rw (logs-left ks ls, raised-left n ks us) (left-kept ks (logs_of ls) (map (raised n) us) ws c n k.kept);
+    listed = λ t. at-left t ks ls ∙ (ap (λ m. filter (λ m. stays ks m.client) m) (k.listed t) ∙ sym (members-left t ks us));
     home = home-left ks ws us k.home;
-    apart = apart-map (line_left ks (waiters_left ks ws)) (λ l. refl) ls ∙ k.apart;
+    apart = apart-map (line_left ks) (λ l. refl) ls ∙ k.apart;
   }
 
-  pub floor-left : (ks : List ℕ) → floor_of (lines_left ks (waiters_left ks ws) ls) (spans_left ks us) (waiters_left ks ws) c n
+  pub floor-left : (ks : List ℕ) → floor_of (lines_left ks ls) (spans_left ks us) (waiters_left ks ws) c n
       ≡ record { clients = clients_left ks (clients_by (logs_of ls) (map (raised n) us) ws); subs = subs_left ks (subs_by (map (raised n) us)); next_client = c; next_message = n }
-  floor-left ks = rw (logs-left ks (waiters_left ks ws) ls, raised-left n ks us) (left-floor ks (logs_of ls) (map (raised n) us) ws c n)
+  floor-left ks = rw (logs-left ks ls, raised-left n ks us) (left-floor ks (logs_of ls) (map (raised n) us) ws c n)
 
   -- A client comes.
 
   pub lined-come : (present : ℕ) → IsLined ls us (ws ++ (new_waiter c present ∷ [])) (c + 1) n
   lined-come present = record {
     kept = come-kept (logs_of ls) (map (raised n) us) ws c n present k.kept;
-    listed = λ t. k.listed t ∙ sym (members-more t us ws (new_waiter c present) k.home);
+    listed = k.listed;
     home = home-as ws (ws ++ (new_waiter c present ∷ [])) (λ j here. present-more j ws (new_waiter c present) here) us k.home;
     apart = k.apart;
   }
@@ -239,7 +242,7 @@ module _ (ls : List Line) (us : List Span) (ws : List Waiter) (c n : ℕ) (k : I
   pub lined-stopped : (o : ℕ → Bool) → IsLined (map (line_without o) ls) (map (stopped n o) us) ws c n
   lined-stopped o = record {
     kept = rw (logs-without o ls, closed-raised n o us) (closed-kept o (logs_of ls) (map (raised n) us) ws c n k.kept);
-    listed = λ t. at-without t o ls ∙ (ap (filter (λ m. not (o m.sub))) (k.listed t) ∙ sym (members-stopped t n o us ws));
+    listed = λ t. at-without t o ls ∙ (ap (filter (λ m. not (o m.sub))) (k.listed t) ∙ sym (members-stopped t n o us));
     home = home-map (stopped n o) ws (stopped-home o) us k.home;
     apart = apart-map (line_without o) (λ l. refl) ls ∙ k.apart;
   }
@@ -248,32 +251,34 @@ module _ (ls : List Line) (us : List Span) (ws : List Waiter) (c n : ℕ) (k : I
       ≡ record { clients = clients_by (logs_of ls) (map (raised n) us) ws; subs = filter (λ u. not (o u.id)) (subs_by (map (raised n) us)); next_client = c; next_message = n }
   floor-stopped o = rw (logs-without o ls, closed-raised n o us) (closed-floor o (logs_of ls) (map (raised n) us) ws c n)
 
-  module _ (o : ℕ → Bool) where
-    -- of what is shown: none of these, or live, or something waits
+  module _ (own : ℕ → Bool) (o : ℕ → Bool) where
+    -- of what is shown: of none of these clients, or none of these, or live, or something waits
     abbrev left : Span → Bool
-    left v = not (o v.id) || is_waited (logs_of ls) v
+    left v = not (own v.client) || (not (o v.id) || is_waited (logs_of ls) v)
 
     left-unwaited : (v : Span) → left v ≡ false → is_waited (logs_of ls) v ≡ false
     left-unwaited v e = grind (arith, e)
 
-    left-raised : map (raised n) (filter (remains o (logs_of ls) n) us) ≡ filter left (map (raised n) us)
-    left-raised = map-filter (raised n) left (remains o (logs_of ls) n) (λ u. ap (λ i. not (o i) || is_waited (logs_of ls) (raised n u)) (raised-id n u)) us
+    left-raised : map (raised n) (filter (remains_of own o (logs_of ls) n) us) ≡ filter left (map (raised n) us)
+    left-raised = map-filter (raised n) left (remains_of own o (logs_of ls) n)
+        (λ u. ap (λ i. not (own i) || (not (o (raised n u).id) || is_waited (logs_of ls) (raised n u))) (raised-client n u)
+        ∙ ap (λ i. not (own u.client) || (not (o i) || is_waited (logs_of ls) (raised n u))) (raised-id n u)) us
 
-    live-remains : (u : Span) → u.live ≡ true → remains o (logs_of ls) n u ≡ true
+    live-remains : (u : Span) → u.live ≡ true → remains_of own o (logs_of ls) n u ≡ true
     live-remains u live =
         let waited : is_waited (logs_of ls) (raised n u) ≡ true =
         ap (is_waited (logs_of ls)) (raised-live n u live) ∙ ap (λ l. l || list_any (is_covered u.start n) (posts_of u.topic (logs_of ls))) live in
         grind (arith, waited)
 
-    pub lined-waited : IsLined ls (filter (remains o (logs_of ls) n) us) ws c n
+    pub lined-waited : IsLined ls (filter (remains_of own o (logs_of ls) n) us) ws c n
     lined-waited = record {
       kept = rw left-raised (waited-kept (logs_of ls) left left-unwaited (map (raised n) us) ws c n k.kept);
-      listed = λ t. k.listed t ∙ sym (members-filter t (remains o (logs_of ls) n) live-remains us ws);
-      home = home-filter (remains o (logs_of ls) n) ws us k.home;
+      listed = λ t. k.listed t ∙ sym (members-filter t (remains_of own o (logs_of ls) n) live-remains us);
+      home = home-filter (remains_of own o (logs_of ls) n) ws us k.home;
       apart = k.apart;
     }
 
-    pub floor-waited : floor_of ls (filter (remains o (logs_of ls) n) us) ws c n ≡ floor_of ls us ws c n
+    pub floor-waited : floor_of ls (filter (remains_of own o (logs_of ls) n) us) ws c n ≡ floor_of ls us ws c n
     floor-waited = rw left-raised (waited-floor (logs_of ls) left left-unwaited (map (raised n) us) ws c n)
 
   -- A poll.
@@ -287,7 +292,7 @@ module _ (ls : List Line) (us : List Span) (ws : List Waiter) (c n : ℕ) (k : I
   pub lined-cleared : (j : ℕ) (g : Waiter → Waiter) → ((w : Waiter) → (g w).id ≡ w.id) → ((w : Waiter) → (g w).waiting ≡ 0) → IsLined ls (cleared j n us) (waiter_at j g ws) c n
   lined-cleared j g same zero = record {
     kept = rw (raised-cleared n j us) (cleared-kept (logs_of ls) (map (raised n) us) ws c n k.kept j g same zero);
-    listed = λ t. k.listed t ∙ (sym (members-as t us ws (waiter_at j g ws) (λ i. seat-changed j g same i ws)) ∙ sym (members-cleared t j n us (waiter_at j g ws)));
+    listed = λ t. k.listed t ∙ sym (members-cleared t j n us);
     home = home-as ws (waiter_at j g ws) (λ i here. present-changed j g same i ws ∙ here) (cleared j n us) (cleared-home j);
     apart = k.apart;
   }
@@ -314,7 +319,7 @@ module _ (ls : List Line) (us : List Span) (ws : List Waiter) (c n : ℕ) (k : I
   pub lined-seen : (j present : ℕ) → IsLined ls us (waiter_at j (seen_waiter present) ws) c n
   lined-seen j present = record {
     kept = seen-kept (logs_of ls) (map (raised n) us) ws c n k.kept j present;
-    listed = λ t. k.listed t ∙ sym (members-as t us ws (waiter_at j (seen_waiter present) ws) (λ i. seat-changed j (seen_waiter present) (λ w. refl) i ws));
+    listed = k.listed;
     home = home-as ws (waiter_at j (seen_waiter present) ws) (λ i here. present-changed j (seen_waiter present) (λ w. refl) i ws ∙ here) us k.home;
     apart = k.apart;
   }

@@ -4,19 +4,18 @@ use Rattle.std.specs.Prelude.{◌==◌, ◌&&◌, ◌||◌, nat_lt, filter, map,
 use Rattle.std.specs.List.{list_all, list_any}
 use Rattle.std.proofs.lemmas.Bool.Decides.{nat_tests}
 use Rattle.amf_broker.specs.declared.topic.Topic.{Topic}
-use Rattle.amf_broker.specs.declared.member.Member.{Member}
 use Rattle.amf_broker.specs.State.{Subscription}
 use Rattle.amf_broker.specs.Machine.{is_same_topic, spread, Spread, subscribers, still_live}
 use Rattle.amf_broker.specs.Sound.{rises_by}
 use Rattle.amf_broker.specs.Delivery.{Message}
 use Rattle.amf_broker.specs.Lines.{TopicLog, Span, Waiter, IsKept, posted, clients_by, subs_by, closed, setting_out, deal_all, Deal}
-use Rattle.amf_broker.specs.Members.{Line, log_of, logs_of, member_in, members_in, members_at, are_apart, is_at_home, raised, stopped, IsLined, floor_of, with_post, posted_line, line_without, waiters_after, ended_after}
+use Rattle.amf_broker.specs.Members.{Line, Listener, log_of, logs_of, listener, members_in, members_at, are_apart, is_at_home, raised, stopped, IsLined, floor_of, with_post, posted_line, line_without, waiters_after, ended_after}
 use Rattle.amf_broker.proofs.Floors.{all-weaker, all-map, more-most}
 use Rattle.amf_broker.proofs.Publishes.{is_over, publish-kept, publish-ended, publish-clients, publish-subs}
 use Rattle.amf_broker.proofs.Raises.{raised-kept, raised-floor, subs-raised}
 use Rattle.amf_broker.proofs.Tallies.{deal-waiters, deal-ended}
 use Rattle.amf_broker.proofs.Stops.{raised-live, raised-dead, all-stopped}
-use Rattle.amf_broker.proofs.Seats.{seat-after, present-after, members-as, members-raised, members-stopped, at-without}
+use Rattle.amf_broker.proofs.Seats.{present-after, members-raised, members-stopped, at-without}
 use Rattle.amf_broker.proofs.Lined.{apart-map, logs-without, map-twice, home-as, stopped-home}
 use Rattle.amf_broker.proofs.Firsts.{at_first}
 
@@ -96,8 +95,8 @@ module _ (t : Topic) (m : Message) (ls ps : List Line) (us : List Span) (ws : Li
   abbrev seen : List Span
   seen = map (raised m.number) us
 
-  abbrev members : List Member
-  members = members_in t us ws
+  abbrev members : List Listener
+  members = members_in t us
 
   abbrev pub told : List ℕ
   told = ended_after members ws
@@ -106,10 +105,10 @@ module _ (t : Topic) (m : Message) (ls ps : List Line) (us : List Span) (ws : Li
   deal = deal_all t m.number (setting_out ws) seen
 
   waiters-is : deal.waiters ≡ waiters_after members ws
-  waiters-is = deal-waiters t m.number ws (setting_out ws) seen ∙ ap (λ x. waiters_after x ws) (members-raised t m.number us ws)
+  waiters-is = deal-waiters t m.number (setting_out ws) seen ∙ ap (λ x. waiters_after x ws) (members-raised t m.number us)
 
   ended-is : deal.ended ≡ told
-  ended-is = deal-ended t m.number ws (setting_out ws) seen ∙ ap (λ x. ended_after x ws) (members-raised t m.number us ws)
+  ended-is = deal-ended t m.number (setting_out ws) seen ∙ ap (λ x. ended_after x ws) (members-raised t m.number us)
 
   spans-is : map (raised (m.number + 1)) (map (closed (is_over deal.ended)) deal.spans) ≡ map (raised (m.number + 1)) (map (stopped m.number (is_over told)) us)
   spans-is =
@@ -130,8 +129,7 @@ module _ (t : Topic) (m : Message) (ls ps : List Line) (us : List Span) (ws : Li
     listed = λ s.
         at-without s (is_over told) ps
         ∙ (ap (filter (λ m. not (is_over told m.sub))) (at s ∙ k.listed s)
-        ∙ (sym (members-stopped s m.number (is_over told) us ws)
-        ∙ sym (members-as s (map (stopped m.number (is_over told)) us) ws (waiters_after members ws) (λ j. seat-after j members ws))));
+        ∙ sym (members-stopped s m.number (is_over told) us));
     home = home-as ws (waiters_after members ws) (λ j here. present-after j members ws ∙ here) (map (stopped m.number (is_over told)) us)
         (all-map (is_at_home ws) (is_at_home ws) (stopped m.number (is_over told)) (stopped-home ls us ws c m.number k (is_over told)) us k.home);
     apart = apart-map (line_without (is_over told)) (λ l. refl) ps ∙ apart;
@@ -194,14 +192,14 @@ module _ (ls : List Line) (us : List Span) (ws : List Waiter) (c n : ℕ) (k : I
   pub floor-later : floor_of ls us ws c (n + 1) ≡ record { clients = clients_by (logs_of ls) (map (raised n) us) ws; subs = subs_by (map (raised n) us); next_client = c; next_message = n + 1 }
   floor-later = rw (← raised-twice (n + 1) n us) (raised-floor (logs_of ls) (map (raised n) us) ws c (n + 1) kept-later)
 
-  none-subscribe : (t : Topic) (vs : List Span) → members_in t vs ws ≡ [] → subscribers t (subs_by vs) ≡ []
+  none-subscribe : (t : Topic) (vs : List Span) → members_in t vs ≡ [] → subscribers t (subs_by vs) ≡ []
   none-subscribe t [] none = refl
   none-subscribe t (v ∷ vs) none = step v.live (is_same_topic v.topic t) refl refl (none-subscribe t vs)
     where
-      step : (l s : Bool) → v.live ≡ l → is_same_topic v.topic t ≡ s → (members_in t vs ws ≡ [] → subscribers t (subs_by vs) ≡ []) → subscribers t (subs_by (v ∷ vs)) ≡ []
-      step true true a b ih = let some : members_in t (v ∷ vs) ws ≡ member_in ws v ∷ members_in t vs ws = grind (arith, a, b) in let no = sym some ∙ none in absurd (cc)
-      step true false a b ih = let rest : members_in t vs ws ≡ [] = grind (arith, a, b, none) in let more = ih rest in grind (arith, a, b, more)
-      step false s a b ih = let rest : members_in t vs ws ≡ [] = grind (arith, a, none) in let more = ih rest in grind (arith, a, more)
+      step : (l s : Bool) → v.live ≡ l → is_same_topic v.topic t ≡ s → (members_in t vs ≡ [] → subscribers t (subs_by vs) ≡ []) → subscribers t (subs_by (v ∷ vs)) ≡ []
+      step true true a b ih = let some : members_in t (v ∷ vs) ≡ listener v ∷ members_in t vs = grind (arith, a, b) in let no = sym some ∙ none in absurd (cc)
+      step true false a b ih = let rest : members_in t vs ≡ [] = grind (arith, a, b, none) in let more = ih rest in grind (arith, a, b, more)
+      step false s a b ih = let rest : members_in t vs ≡ [] = grind (arith, a, none) in let more = ih rest in grind (arith, a, more)
 
   pub nobody-listens : (t : Topic) → members_at t ls ≡ [] → subscribers t (subs_by (map (raised n) us)) ≡ []
   nobody-listens t none = ap (subscribers t) (subs-raised n us) ∙ none-subscribe t us (sym (k.listed t) ∙ none)

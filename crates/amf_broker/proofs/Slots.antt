@@ -31,7 +31,7 @@ kept-with f (s ∷ ss) = elim s.kept as (λ k. map (λ (x : Slot). x.place) (if 
       | false ↦ kept-with f ss
     ]
 
-map-two : {A B C : Type 0} (f : A → B) (g : B → C) (xs : List A) → map g (map f xs) ≡ map (λ x. g (f x)) xs
+pub map-two : {A B C : Type 0} (f : A → B) (g : B → C) (xs : List A) → map g (map f xs) ≡ map (λ x. g (f x)) xs
 map-two f g [] = refl
 map-two f g (x ∷ xs) = ap (λ m. g (f x) ∷ m) (map-two f g xs)
 
@@ -386,7 +386,7 @@ less-begun k j n s own = step s.kept refl (s.place.client == j) refl own
 pub less-if : (k : ℕ) (p : Span → Bool) (s : Slot) → is_own k (kept_if p s) ≡ true → is_own k s ≡ true
 less-if k p s own = grind (arith, own)
 
-stopped-client : (n : ℕ) (o : ℕ → Bool) (u : Span) → (stopped n o u).client ≡ u.client
+pub stopped-client : (n : ℕ) (o : ℕ → Bool) (u : Span) → (stopped n o u).client ≡ u.client
 stopped-client n o u = elim (u.live && o u.id) as (λ b. (if b then record u { stop = n; live = false } else u).client ≡ u.client) [ true ↦ refl | false ↦ refl ]
 
 pub less-ended : (k stop next : ℕ) (over : ℕ → Bool) (logs : List TopicLog) (s : Slot) → is_own k (slot_ended stop next over logs s) ≡ true → is_own k s ≡ true

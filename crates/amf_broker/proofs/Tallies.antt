@@ -8,36 +8,36 @@ use Rattle.amf_broker.specs.declared.topic.Topic.{Topic}
 use Rattle.amf_broker.specs.Machine.{is_same_topic}
 use Rattle.amf_broker.specs.Sound.{rises_by}
 use Rattle.amf_broker.specs.State.{Subscription}
-use Rattle.amf_broker.specs.Lines.{Span, Waiter, Deal, subs_by, is_reached_by, is_crowded, counted, noted, waiter_at, dealt_as, deal_all}
-use Rattle.amf_broker.specs.Members.{member_in, members_in, waiters_after, ended_after}
+use Rattle.amf_broker.specs.Lines.{Span, Deal, subs_by, is_reached_by, is_crowded, counted, noted, waiter_at, dealt_as, deal_all}
+use Rattle.amf_broker.specs.Members.{listener, members_in, waiters_after, ended_after}
 use Rattle.amf_broker.proofs.Publishes.{is_over}
 
 -- The clients and what ended.
 
-pub deal-waiters : (t : Topic) (n : ℕ) (seats : List Waiter) (d : Deal) (us : List Span) → (deal_all t n d us).waiters ≡ waiters_after (members_in t us seats) d.waiters
-deal-waiters t n seats d [] = refl
-deal-waiters t n seats d (u ∷ us) = step (is_reached_by t u) (is_crowded u.client d.waiters) refl (λ e. deal-waiters t n seats e us)
+pub deal-waiters : (t : Topic) (n : ℕ) (d : Deal) (us : List Span) → (deal_all t n d us).waiters ≡ waiters_after (members_in t us) d.waiters
+deal-waiters t n d [] = refl
+deal-waiters t n d (u ∷ us) = step (is_reached_by t u) (is_crowded u.client d.waiters) refl (λ e. deal-waiters t n e us)
   where
-    step : (b f : Bool) → is_crowded u.client d.waiters ≡ f → ((e : Deal) → (deal_all t n e us).waiters ≡ waiters_after (members_in t us seats) e.waiters)
-        → (deal_all t n (dealt_as b f n d u) us).waiters ≡ waiters_after (map (member_in seats) (if b then u ∷ filter (is_reached_by t) us else filter (is_reached_by t) us)) d.waiters
+    step : (b f : Bool) → is_crowded u.client d.waiters ≡ f → ((e : Deal) → (deal_all t n e us).waiters ≡ waiters_after (members_in t us) e.waiters)
+        → (deal_all t n (dealt_as b f n d u) us).waiters ≡ waiters_after (map listener (if b then u ∷ filter (is_reached_by t) us else filter (is_reached_by t) us)) d.waiters
     step false f e again = again (dealt_as false f n d u)
-    step true true e again = again (dealt_as true true n d u) ∙ ap (λ b. waiters_after (members_in t us seats) (if b then waiter_at u.client (noted u.id) d.waiters else waiter_at u.client counted d.waiters)) (sym e)
-    step true false e again = again (dealt_as true false n d u) ∙ ap (λ b. waiters_after (members_in t us seats) (if b then waiter_at u.client (noted u.id) d.waiters else waiter_at u.client counted d.waiters)) (sym e)
+    step true true e again = again (dealt_as true true n d u) ∙ ap (λ b. waiters_after (members_in t us) (if b then waiter_at u.client (noted u.id) d.waiters else waiter_at u.client counted d.waiters)) (sym e)
+    step true false e again = again (dealt_as true false n d u) ∙ ap (λ b. waiters_after (members_in t us) (if b then waiter_at u.client (noted u.id) d.waiters else waiter_at u.client counted d.waiters)) (sym e)
 
-pub deal-ended : (t : Topic) (n : ℕ) (seats : List Waiter) (d : Deal) (us : List Span) → (deal_all t n d us).ended ≡ d.ended ++ ended_after (members_in t us seats) d.waiters
-deal-ended t n seats d [] = sym (append-nil d.ended)
-deal-ended t n seats d (u ∷ us) = step (is_reached_by t u) (is_crowded u.client d.waiters) refl (λ e. deal-ended t n seats e us)
+pub deal-ended : (t : Topic) (n : ℕ) (d : Deal) (us : List Span) → (deal_all t n d us).ended ≡ d.ended ++ ended_after (members_in t us) d.waiters
+deal-ended t n d [] = sym (append-nil d.ended)
+deal-ended t n d (u ∷ us) = step (is_reached_by t u) (is_crowded u.client d.waiters) refl (λ e. deal-ended t n e us)
   where
-    step : (b f : Bool) → is_crowded u.client d.waiters ≡ f → ((e : Deal) → (deal_all t n e us).ended ≡ e.ended ++ ended_after (members_in t us seats) e.waiters)
-        → (deal_all t n (dealt_as b f n d u) us).ended ≡ d.ended ++ ended_after (map (member_in seats) (if b then u ∷ filter (is_reached_by t) us else filter (is_reached_by t) us)) d.waiters
+    step : (b f : Bool) → is_crowded u.client d.waiters ≡ f → ((e : Deal) → (deal_all t n e us).ended ≡ e.ended ++ ended_after (members_in t us) e.waiters)
+        → (deal_all t n (dealt_as b f n d u) us).ended ≡ d.ended ++ ended_after (map listener (if b then u ∷ filter (is_reached_by t) us else filter (is_reached_by t) us)) d.waiters
     step false f e again = again (dealt_as false f n d u)
     step true true e again =
         again (dealt_as true true n d u)
-        ∙ (append_assoc d.ended (u.id ∷ []) (ended_after (members_in t us seats) (waiter_at u.client (noted u.id) d.waiters))
-        ∙ ap (λ b. d.ended ++ cons_option (if b then Some u.id else None) (ended_after (members_in t us seats) (if b then waiter_at u.client (noted u.id) d.waiters else waiter_at u.client counted d.waiters))) (sym e))
+        ∙ (append_assoc d.ended (u.id ∷ []) (ended_after (members_in t us) (waiter_at u.client (noted u.id) d.waiters))
+        ∙ ap (λ b. d.ended ++ cons_option (if b then Some u.id else None) (ended_after (members_in t us) (if b then waiter_at u.client (noted u.id) d.waiters else waiter_at u.client counted d.waiters))) (sym e))
     step true false e again =
         again (dealt_as true false n d u)
-        ∙ ap (λ b. d.ended ++ cons_option (if b then Some u.id else None) (ended_after (members_in t us seats) (if b then waiter_at u.client (noted u.id) d.waiters else waiter_at u.client counted d.waiters))) (sym e)
+        ∙ ap (λ b. d.ended ++ cons_option (if b then Some u.id else None) (ended_after (members_in t us) (if b then waiter_at u.client (noted u.id) d.waiters else waiter_at u.client counted d.waiters))) (sym e)
 
 -- The places: a live one that did not end is shown past the message.
 

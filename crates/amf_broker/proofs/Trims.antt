@@ -7,7 +7,7 @@ use Rattle.amf_broker.specs.declared.topic.Topic.{Topic}
 use Rattle.amf_broker.specs.Machine.{is_same_topic}
 use Rattle.amf_broker.specs.Delivery.{Message}
 use Rattle.amf_broker.specs.Lines.{Span, Waiter, IsKept, floor, posts_of, posts_before, is_covered, delivered, covered, spans_of, gathered, put_all, waits, subs_by, is_above, is_reached_by}
-use Rattle.amf_broker.specs.Members.{Line, logs_of, member_in, members_in, members_at, are_apart, raised, IsLined, floor_of}
+use Rattle.amf_broker.specs.Members.{Line, logs_of, listener, members_in, members_at, are_apart, raised, IsLined, floor_of}
 use Rattle.amf_broker.specs.Trims.{is_first, is_debt, is_owed, is_needed, IsTrimmed, is_wanted, is_kept}
 use Rattle.amf_broker.proofs.Floors.{all-filter, all-append, all-weaker, counts-as}
 use Rattle.amf_broker.proofs.Publishes.{clients-logs}
@@ -354,41 +354,41 @@ module _ (us : List Span) where
       step false e false is ih = ih
 
 -- nobody of these is a member of the topic
-none-reached : (s : Topic) (us : List Span) (ws : List Waiter) → list_any (λ u. is_same_topic u.topic s) us ≡ false → members_in s us ws ≡ []
-none-reached s [] ws none = refl
-none-reached s (u ∷ us) ws none =
+none-reached : (s : Topic) (us : List Span) → list_any (λ u. is_same_topic u.topic s) us ≡ false → members_in s us ≡ []
+none-reached s [] none = refl
+none-reached s (u ∷ us) none =
     let here : is_same_topic u.topic s ≡ false = grind (arith, none) in
     let rest : list_any (λ (u : Span). is_same_topic u.topic s) us ≡ false = grind (arith, none) in
-    let ih = none-reached s us ws rest in
+    let ih = none-reached s us rest in
     let missed : is_reached_by s u ≡ false = elim u.live as (λ l. (l && is_same_topic u.topic s) ≡ false) [ true ↦ here | false ↦ refl ] in
-    ap (λ b. map (member_in ws) (if b then u ∷ filter (is_reached_by s) us else filter (is_reached_by s) us)) missed ∙ ih
+    ap (λ b. map listener (if b then u ∷ filter (is_reached_by s) us else filter (is_reached_by s) us)) missed ∙ ih
 
 -- a line with members is wanted
-module _ (us : List Span) (ws : List Waiter) where
-  one-kept : (l : Line) → l.members ≡ members_in l.topic us ws → is_kept us l ≡ is_wanted us l
+module _ (us : List Span) where
+  one-kept : (l : Line) → l.members ≡ members_in l.topic us → is_kept us l ≡ is_wanted us l
   one-kept l is = step (is_wanted us l) refl
     where
       step : (b : Bool) → is_wanted us l ≡ b → (not (length l.members == 0) || b) ≡ b
       step true e = elim (not (length l.members == 0)) as (λ x. (x || true) ≡ true) [ true ↦ refl | false ↦ refl ]
       step false e =
-          let none : l.members ≡ [] = is ∙ none-reached l.topic us ws e in
+          let none : l.members ≡ [] = is ∙ none-reached l.topic us e in
           ap (λ ms. not (length ms == 0) || false) none
 
-  all-kept : (ls : List Line) → are_apart ls ≡ true → ((s : Topic) → list_any (λ l. is_same_topic s l.topic) ls ≡ true → members_at s ls ≡ members_in s us ws) → filter (is_kept us) ls ≡ filter (is_wanted us) ls
+  all-kept : (ls : List Line) → are_apart ls ≡ true → ((s : Topic) → list_any (λ l. is_same_topic s l.topic) ls ≡ true → members_at s ls ≡ members_in s us) → filter (is_kept us) ls ≡ filter (is_wanted us) ls
   all-kept [] apart listed = refl
   all-kept (l ∷ ls) apart listed =
       let first : list_any (λ (x : Line). is_same_topic l.topic x.topic) ls ≡ false = grind (arith, apart) in
       let rest : are_apart ls ≡ true = grind (arith, apart) in
       let self = same-self l.topic in
-      let mine : l.members ≡ members_in l.topic us ws = sym (ap (λ b. if b then l.members else members_at l.topic ls) self) ∙ listed l.topic (ap (λ b. b || list_any (λ x. is_same_topic l.topic x.topic) ls) self) in
+      let mine : l.members ≡ members_in l.topic us = sym (ap (λ b. if b then l.members else members_at l.topic ls) self) ∙ listed l.topic (ap (λ b. b || list_any (λ x. is_same_topic l.topic x.topic) ls) self) in
       let one = one-kept l mine in
       let ih = all-kept ls rest (λ s some. later s some first) in
       ap (λ b. if b then l ∷ filter (is_kept us) ls else filter (is_kept us) ls) one ∙ ap (λ m. if is_wanted us l then l ∷ m else m) ih
     where
-      later : (s : Topic) → list_any (λ l. is_same_topic s l.topic) ls ≡ true → list_any (λ x. is_same_topic l.topic x.topic) ls ≡ false → members_at s ls ≡ members_in s us ws
+      later : (s : Topic) → list_any (λ l. is_same_topic s l.topic) ls ≡ true → list_any (λ x. is_same_topic l.topic x.topic) ls ≡ false → members_at s ls ≡ members_in s us
       later s some first = step (is_same_topic s l.topic) refl
         where
-          step : (b : Bool) → is_same_topic s l.topic ≡ b → members_at s ls ≡ members_in s us ws
+          step : (b : Bool) → is_same_topic s l.topic ≡ b → members_at s ls ≡ members_in s us
           step true e =
               let same = same-topic s l.topic e in
               let no : true ≡ false = sym some ∙ (ap (λ t. list_any (λ (x : Line). is_same_topic t x.topic) ls) same ∙ first) in absurd (cc)
@@ -412,14 +412,14 @@ module _ (ls : List Line) (us : List Span) (ws : List Waiter) (c n : ℕ) (k : I
   shown = wanted-all us (λ s some. some)
 
   pub swept-is : filter (is_kept us) ls ≡ filter (is_wanted us) ls
-  swept-is = all-kept us ws ls k.apart (λ s some. k.listed s)
+  swept-is = all-kept us ls k.apart (λ s some. k.listed s)
 
-  swept-listed : (s : Topic) → members_at s (filter (is_wanted us) ls) ≡ members_in s us ws
+  swept-listed : (s : Topic) → members_at s (filter (is_wanted us) ls) ≡ members_in s us
   swept-listed s = step (list_any (λ (u : Span). is_same_topic u.topic s) us) refl
     where
-      step : (b : Bool) → list_any (λ u. is_same_topic u.topic s) us ≡ b → members_at s (filter (is_wanted us) ls) ≡ members_in s us ws
+      step : (b : Bool) → list_any (λ u. is_same_topic u.topic s) us ≡ b → members_at s (filter (is_wanted us) ls) ≡ members_in s us
       step true some = wanted-members us s some ls ∙ k.listed s
-      step false none = unwanted-members us s none ls ∙ sym (none-reached s us ws none)
+      step false none = unwanted-members us s none ls ∙ sym (none-reached s us none)
 
   pub lined-swept : IsLined (filter (is_wanted us) ls) us ws c n
   lined-swept = record {

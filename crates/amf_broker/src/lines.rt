@@ -1,25 +1,26 @@
-ghost use Rattle.std.specs.Prelude.{◌≡◌, [], ◌+◌, ◌<◌, ◌≤◌, ◌^◌, ◌==◌, ◌&&◌, not, true, length, map, filter, count_by, sum_by};
+ghost use Rattle.std.specs.Prelude.{◌≡◌, [], ◌∷◌, ◌+◌, ◌<◌, ◌≤◌, ◌^◌, ◌==◌, ◌&&◌, not, true, length, map, filter, count_by, sum_by};
 ghost use Rattle.std.specs.Prelude.{vec_len, vec_capacity, IfOk, OnOk, OnErr};
 ghost use Rattle.std.specs.List.{list_any};
 ghost use Rattle.amf_broker.specs.declared.limits.TheConstants.{MAX_CLIENTS};
+ghost use Rattle.amf_broker.specs.declared.topic.Topic.{Topic};
 ghost use Rattle.amf_broker.specs.Machine.{at_client, emptied, kept_as, seen_at, is_idle, is_connected, queue_of, ended_of, last_of, kept_of, kept_ended_of};
 ghost use Rattle.amf_broker.specs.Sound.{are_in_order, rises_by};
 ghost use Rattle.amf_broker.specs.Moments.{stays, clients_left, subs_left};
 ghost use Rattle.amf_broker.specs.Awake.{are_awake};
 ghost use Rattle.amf_broker.specs.Lines.{with_client, with_sub, with_message, AreFew, reached_of, waiters_rise, waiters_left, spans_left};
-ghost use Rattle.amf_broker.specs.Members.{logs_of, lines_without, line_without, spans_ended};
+ghost use Rattle.amf_broker.specs.Members.{logs_of, members_in, members_at, are_apart, lines_left, line_without, is_among, AreAlone, are_of, spans_after};
 ghost use Rattle.amf_broker.specs.Slots.{standing};
 
 use crate::ended::Ended;
 use crate::log::copy_of;
 use crate::logs::Logs;
 use crate::mailbox::{Mailbox, awake_until, has_idle, idle_among, place_in_order, queued, staying};
-use crate::member::{Member, hand_round, seat_of};
+use crate::member::Member;
 use crate::merge::shared;
 use crate::moment::is_in;
 use crate::place::Place;
 use crate::room::Room;
-use crate::roster::Roster;
+use crate::roster::{Roster, end_members, part_clients};
 use crate::{ClientId, Deliveries, MAX_CLIENTS, SubId, SubIds, Topic};
 use amf_wire::{Memory, Name};
 use std::alloc::Global;
@@ -61,7 +62,7 @@ impl Lines {
     {
         Lines {
             clients: Vec::new(alloc),
-            places: Roster::new(alloc),
+            places: Roster::new(alloc, start),
             logs: Logs::new(alloc, start),
             next_client: 1,
             next_message: 1,
@@ -208,7 +209,7 @@ impl Lines {
         let own = copy_of(alloc, &topic)?;
         let next = self.next_message;
         self.places.push(alloc, Place::new(id, client, own, next))?;
-        let member = Member::new(id, client, seat_of(&self.clients, client));
+        let member = Member::new(id, client);
         match self.logs.enlist(alloc, &topic, member) {
             Ok(()) => {
                 leave(&mut self.clients, &mut self.places, &mut self.logs, left);
@@ -221,13 +222,17 @@ impl Lines {
         }
     }
 
-    /// The subscription ends. What waits for it stays.
-    pub(crate) fn unsubscribe(&mut self, sub: SubId)
+    /// The client's subscription ends. What waits for it stays.
+    pub(crate) fn unsubscribe(&mut self, client: ClientId, sub: SubId)
+        requires own { list_any (λ u. u.id == sub && u.client == client) self.old.subs ≡ true }
+        requires ordered { rises_by (λ u. u.id) 0 self.old.subs ≡ true }
         ensures { self.new ≡ record self.old { subs = filter (λ u. not (u.id == sub)) self.old.subs } }
     {
-        self.logs.drop_sub(sub);
+        let spot = self.places.live_spot(sub, client).unwrap();
+        self.logs
+            .drop_sub(self.places.slots()[spot].place.topic(), sub);
         let next = self.next_message;
-        self.places.end_sub(&self.logs, sub, next);
+        self.places.end_sub(&self.logs, client, sub, next);
     }
 
     /// These clients leave, and the message comes to each subscription of the topic. Answers those that end by that. The
@@ -251,11 +256,10 @@ impl Lines {
         let ended = Vec::with_capacity(alloc, self.logs.members_of(topic).len())?;
         self.logs.put_up_message(alloc, topic, number, message)?;
         leave(&mut self.clients, &mut self.places, &mut self.logs, left);
-        let members = self.logs.members_of(topic);
-        let ended = hand_round(members, &mut self.clients, ended);
+        let ended = self.logs.hand_round(topic, &mut self.clients, ended);
         self.next_message += 1;
         let ended = Ended { subs: ended };
-        end_all(&mut self.places, &mut self.logs, &ended, number);
+        end_all(&mut self.places, &mut self.logs, topic, &ended, number);
         Ok(ended.subs)
     }
 
@@ -343,8 +347,8 @@ impl Lines {
         self.tidy();
     }
 
-    /// The next log is to be looked through, however short it is. That takes a look at all places, so some calls pass before
-    /// the one after it.
+    /// The next log is to be looked through, however short it is. That takes a look at all places of its topic, so some calls
+    /// pass before the one after it where logs have many places.
     fn take_turn(&mut self)
         ensures { self.new ≡ self.old }
     {
@@ -352,7 +356,7 @@ impl Lines {
             self.turn_in -= 1;
             return;
         }
-        self.turn_in = self.places.slots().len() / 16;
+        self.turn_in = pause_of(self.places.slots().len(), self.logs.len());
         self.turn = turn_after(self.turn, self.logs.len());
         self.logs.call_up(self.turn);
     }
@@ -365,11 +369,11 @@ impl Lines {
             return;
         }
         let next = self.next_message;
-        self.logs.trim(at, self.places.slots(), next);
+        self.logs.trim(at, &mut self.places, next);
     }
 
-    /// Logs that nobody needs go. That takes a look at all logs, and for each one to which nobody listens at all places, so some
-    /// calls pass before the next time.
+    /// Logs that nobody needs go. That takes a look at all logs, and for each one to which nobody listens at the places of its
+    /// topic, so some calls pass before the next time.
     fn sweep(&mut self)
         ensures { self.new ≡ self.old }
     {
@@ -377,8 +381,8 @@ impl Lines {
             self.sweep_in -= 1;
             return;
         }
-        self.logs.sweep(self.places.slots());
-        self.sweep_in = (self.logs.len() / 16).saturating_add(self.logs.unheard());
+        self.logs.sweep(&self.places);
+        self.sweep_in = (self.logs.len() / 16).saturating_add(self.places.slots().len() / 16);
     }
 
     /// The slots of places that have gone are given up. That takes a look at all, so as many calls pass before the next time.
@@ -403,33 +407,75 @@ fn turn_after(turn: usize, count: usize) -> usize {
     }
 }
 
+/// How many calls pass from one log's turn to the next, of so many logs. A round of all looks at each slot once.
+fn pause_of(slots: usize, logs: usize) -> usize {
+    slots / logs.saturating_mul(16).saturating_add(1)
+}
+
 /// These clients leave, and their subscriptions end.
 fn leave(clients: &mut Vec<Mailbox>, places: &mut Roster, logs: &mut Logs, left: &[ClientId])
     requires left { are_in_order left.now ≡ true }
+    requires listed { (topic : Topic) → members_at topic logs.old ≡ members_in topic (standing places.old) }
+    requires apart { are_apart logs.old ≡ true }
     requires rise { waiters_rise 0 clients.old.items ≡ true }
     ensures clients { clients.new.items ≡ waiters_left left.now clients.old.items }
     ensures places { standing places.new ≡ spans_left left.now (standing places.old) }
-    ensures logs { logs.new ≡ lines_without left.now (waiters_left left.now clients.old.items) logs.old }
+    ensures logs { logs.new ≡ lines_left left.now logs.old }
     ensures clients_len { vec_len clients.new ≤ vec_len clients.old }
     ensures clients_room { vec_capacity clients.new ≡ vec_capacity clients.old }
 {
     if left.is_empty() {
         return;
     }
-    clients.retain(|mailbox| !is_in(left, mailbox.id()));
-    places.part(left);
-    logs.part_all(left, clients);
+    part_mailboxes(clients, left);
+    part_clients(places, logs, left);
 }
 
-/// These subscriptions, if there are any, end before the message of this number, which is the last one.
-fn end_all(places: &mut Roster, logs: &mut Logs, ended: &Ended, number: u64)
-    requires { number < 2 ^ 63 }
-    ensures logs { logs.new ≡ map (line_without (λ sub. list_any (λ id. id == sub) ended.now.subs.items)) logs.old }
-    ensures places { standing places.new ≡ spans_ended ended.now.subs.items number (logs_of logs.old) (standing places.old) }
+/// These clients go from the others. Where one goes, the others are not looked at.
+fn part_mailboxes(clients: &mut Vec<Mailbox>, left: &[ClientId])
+    requires left { are_in_order left.now ≡ true }
+    requires rise { waiters_rise 0 clients.old.items ≡ true }
+    ensures clients { clients.new.items ≡ waiters_left left.now clients.old.items }
+    ensures clients_len { vec_len clients.new ≤ vec_len clients.old }
+    ensures clients_room { vec_capacity clients.new ≡ vec_capacity clients.old }
+{
+    match left {
+        [client] => part_mailbox(clients, *client),
+        _ => clients.retain(|mailbox| !is_in(left, mailbox.id())),
+    }
+}
+
+/// This client goes from the others.
+fn part_mailbox(clients: &mut Vec<Mailbox>, client: ClientId)
+    requires rise { waiters_rise 0 clients.old.items ≡ true }
+    ensures clients { clients.new.items ≡ waiters_left (client ∷ []) clients.old.items }
+    ensures clients_len { vec_len clients.new ≤ vec_len clients.old }
+    ensures clients_room { vec_capacity clients.new ≡ vec_capacity clients.old }
+{
+    if let Some(place) = place_in_order(clients, client) {
+        clients.remove(place);
+    }
+}
+
+/// These subscriptions, if there are any, end before the message of this number, which is the last one. They listen to the topic
+/// alone.
+fn end_all(places: &mut Roster, logs: &mut Logs, topic: &Topic, ended: &Ended, number: u64)
+    requires number { number < 2 ^ 63 }
+    requires alone { AreAlone topic.now ended.now.subs.items logs.old }
+    requires theirs { are_of (members_at topic.now logs.old) ended.now.subs.items (standing places.old) ≡ true }
+    ensures logs { logs.new ≡ map (line_without (is_among ended.now.subs.items)) logs.old }
+    ensures places { standing places.new ≡ spans_after (members_at topic.now logs.old) ended.now.subs.items number (logs_of logs.old) (standing places.old) }
 {
     if ended.subs.is_empty() {
         return;
     }
-    logs.drop_subs(ended);
-    places.end_among(logs, ended, number, number + 1);
+    end_members(
+        places,
+        logs,
+        logs.members_of(topic),
+        ended,
+        number,
+        number + 1,
+    );
+    logs.drop_subs(topic, ended);
 }

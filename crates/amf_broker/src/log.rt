@@ -1,17 +1,17 @@
-ghost use Rattle.std.specs.Prelude.{◌≡◌, ◌++◌, ◌∷◌, ◌<◌, ◌≤◌, [], ℕ, IfOk, IfSome, OnOk, OnErr};
-ghost use Rattle.std.specs.Prelude.{position, ◌==◌, ◌&&◌, length, map, true};
-ghost use Rattle.std.specs.List.{list_any};
+ghost use Rattle.std.specs.Prelude.{◌≡◌, ◌+◌, ◌∷◌, ◌<◌, ◌≤◌, [], ℕ, IfOk, IfSome, OnOk, OnErr};
+ghost use Rattle.std.specs.Prelude.{position, ◌==◌, ◌&&◌, length, true, vec_capacity};
+ghost use Rattle.std.specs.List.{list_all, list_any};
 ghost use Rattle.amf_broker.specs.Machine.{is_same_topic};
-ghost use Rattle.amf_broker.specs.Sound.{are_in_order};
-ghost use Rattle.amf_broker.specs.Lines.{posts_of, waiters_rise};
-ghost use Rattle.amf_broker.specs.Members.{logs_of, seated_in, members_at, with_post, posted_line, with_member, enlisted, line_left, lines_left, line_without};
+ghost use Rattle.amf_broker.specs.declared.limits.TheConstants.{MAX_SUBS};
+ghost use Rattle.amf_broker.specs.Lines.{untold_of, waiters_rise};
+ghost use Rattle.amf_broker.specs.Members.{is_present, members_of, waiters_after, ended_after, with_post, with_member, line_parted, is_among, line_without};
 ghost use Rattle.amf_broker.specs.Trims.{IsTrimmed, is_wanted, is_kept};
-ghost use Rattle.amf_broker.specs.Slots.{standing};
+ghost use Rattle.amf_broker.specs.Slots.{standing, stands_at};
 
 use crate::ended::Ended;
 use crate::mailbox::Mailbox;
-use crate::member::Member;
-use crate::moment::is_in;
+use crate::member::{Member, hand_round};
+use crate::roster::Roster;
 use crate::slot::Slot;
 use crate::trim::{debtors, first_of, keep_needed};
 use crate::{ClientId, Payload, SubId, Topic};
@@ -145,26 +145,37 @@ impl Log {
         Ok(())
     }
 
-    /// These clients have left, and the others stand so.
-    fn part(&mut self, left: &[ClientId], clients: &[Mailbox])
-        requires left { are_in_order left.now ≡ true }
-        requires clients { waiters_rise 0 clients.now ≡ true }
-        ensures { self.new ≡ line_left left.now clients.now self.old }
+    /// The message comes to all that listen. Those that end by that go into `ended`, which has room for them.
+    pub(crate) fn hand_round(&mut self, clients: &mut [Mailbox], ended: Vec<SubId>) -> Vec<SubId>
+        requires rise { waiters_rise 0 clients.old ≡ true }
+        requires present { list_all (λ m. is_present m.client clients.old) self.old.members ≡ true }
+        requires places { (k : ℕ) → length (members_of k self.old.members) + untold_of k clients.old ≤ MAX_SUBS }
+        requires empty { ended.items ≡ [] }
+        requires room { length self.old.members ≤ vec_capacity ended }
+        ensures clients { clients.new ≡ waiters_after self.old.members clients.old }
+        ensures ended { result.items ≡ ended_after self.old.members clients.old }
+        ensures same { self.new ≡ self.old }
     {
-        self.members.retain(|member| !is_in(left, member.client()));
-        sit_all(&mut self.members, clients);
+        hand_round(&mut self.members, clients, ended)
+    }
+
+    /// The client's subscriptions listen no more.
+    pub(crate) fn part(&mut self, client: ClientId)
+        ensures { self.new ≡ line_parted client self.old }
+    {
+        self.members.retain(|member| member.client() != client);
     }
 
     /// The subscription has ended.
-    fn drop_sub(&mut self, sub: SubId)
+    pub(crate) fn drop_sub(&mut self, sub: SubId)
         ensures { self.new ≡ line_without (λ id. id == sub) self.old }
     {
         self.members.retain(|member| member.sub() != sub);
     }
 
     /// These subscriptions have ended.
-    fn drop_subs(&mut self, ended: &Ended)
-        ensures { self.new ≡ line_without (λ sub. list_any (λ id. id == sub) ended.now.subs.items) self.old }
+    pub(crate) fn drop_subs(&mut self, ended: &Ended)
+        ensures { self.new ≡ line_without (is_among ended.now.subs.items) self.old }
     {
         self.members.retain(|member| !ended.has(member.sub()));
     }
@@ -181,26 +192,31 @@ impl Log {
         self.limit = 0;
     }
 
-    /// Messages that nobody waits for go, if it has come to its limit. These are the places of all subscriptions, and `next`
-    /// is the number of the next message. The new limit is so far off that a message takes little of that time.
-    pub(crate) fn trim(&mut self, places: &[Slot], next: u64)
-        ensures { IsTrimmed (standing places.now) self.old self.new }
+    /// Messages that nobody waits for go, if it has come to its limit. Of the places of all subscriptions those of its topic are
+    /// looked at, and `next` is the number of the next message. The new limit is so far off that a message takes little of that
+    /// time.
+    pub(crate) fn trim(&mut self, places: &mut Roster, next: u64)
+        ensures log { IsTrimmed (standing places.old) self.old self.new }
+        ensures places { places.new ≡ places.old }
     {
         if self.is_short() {
             return;
         }
-        let first = first_of(places, &self.topic, next);
-        let debtors = debtors(places, &self.topic);
-        keep_needed(&mut self.posts, debtors, &self.topic, first);
-        self.limit = limit_of(self.posts.len(), self.members.len());
+        places.prune_topic(&self.topic);
+        let slots = places.slots();
+        let spots = places.of_topic(&self.topic);
+        let first = first_of(slots, spots, &self.topic, next);
+        let debtors = debtors(slots, spots, &self.topic);
+        keep_needed(&mut self.posts, slots, debtors, &self.topic, first);
+        self.limit = limit_of(self.posts.len(), spots.len());
     }
 }
 
-/// How long a log of so many messages and members may become.
-fn limit_of(posts: usize, members: usize) -> usize {
+/// How long a log of so many messages and places may become.
+fn limit_of(posts: usize, places: usize) -> usize {
     posts
         .saturating_mul(2)
-        .saturating_add(members / 16)
+        .saturating_add(places / 16)
         .saturating_add(SHORT)
 }
 
@@ -210,16 +226,6 @@ pub(crate) fn is_same_topic(one: &Topic, other: &Topic) -> bool
 {
     one.destination.as_bytes() == other.destination.as_bytes()
         && one.subtopic.as_bytes() == other.subtopic.as_bytes()
-}
-
-/// Their clients have other seats since others have left.
-fn sit_all(members: &mut [Member], clients: &[Mailbox])
-    requires { waiters_rise 0 clients.now ≡ true }
-    ensures { members.new ≡ map (seated_in clients.now) members.old }
-{
-    for member in members.iter_mut() {
-        member.sit(clients);
-    }
 }
 
 /// Where the log of the topic stands, if there is one. It looks at one after another.
@@ -237,52 +243,35 @@ fn is_placed(slot: &Slot, log: &Log) -> bool
     slot.kept && log.is_of(slot.place.topic())
 }
 
-/// Whether a subscription has its place in the log.
-fn is_wanted(log: &Log, places: &[Slot]) -> bool
+/// Whether a place is there, and in the log.
+fn is_placed_at(slots: &[Slot], at: usize, log: &Log) -> bool
+    ensures { result ≡ stands_at (λ u. is_same_topic u.topic log.now.topic) slots.now at }
+{
+    if at >= slots.len() {
+        return false;
+    }
+    is_placed(&slots[at], log)
+}
+
+/// Whether one of these places is in the log.
+fn has_placed(slots: &[Slot], spots: &[usize], log: &Log) -> bool
+    ensures { result ≡ list_any (stands_at (λ u. is_same_topic u.topic log.now.topic) slots.now) spots.now }
+{
+    spots.iter().any(|at| is_placed_at(slots, *at, log))
+}
+
+/// Whether a subscription has its place in the log. It looks at the places of the topic alone.
+fn is_wanted(log: &Log, places: &Roster) -> bool
     ensures { result ≡ is_wanted (standing places.now) log.now }
 {
-    places.iter().any(|slot| is_placed(slot, log))
+    has_placed(places.slots(), places.of_topic(&log.topic), log)
 }
 
 /// Whether someone listens to the log, or has a place in it.
-pub(crate) fn is_kept(log: &Log, places: &[Slot]) -> bool
+pub(crate) fn is_kept(log: &Log, places: &Roster) -> bool
     ensures { result ≡ is_kept (standing places.now) log.now }
 {
     !log.is_unheard() || is_wanted(log, places)
-}
-
-/// How many logs nobody listens to.
-pub(crate) fn unheard(logs: &[Log]) -> usize {
-    logs.iter().filter(|log| log.is_unheard()).count()
-}
-
-/// These clients have left, and the others stand so.
-pub(crate) fn part_all(logs: &mut [Log], left: &[ClientId], clients: &[Mailbox])
-    requires left { are_in_order left.now ≡ true }
-    requires clients { waiters_rise 0 clients.now ≡ true }
-    ensures { logs.new ≡ lines_left left.now clients.now logs.old }
-{
-    for log in logs.iter_mut() {
-        log.part(left, clients);
-    }
-}
-
-/// The subscription has ended.
-pub(crate) fn drop_sub(logs: &mut [Log], sub: SubId)
-    ensures { logs.new ≡ map (line_without (λ id. id == sub)) logs.old }
-{
-    for log in logs.iter_mut() {
-        log.drop_sub(sub);
-    }
-}
-
-/// These subscriptions have ended.
-pub(crate) fn drop_subs(logs: &mut [Log], ended: &Ended)
-    ensures { logs.new ≡ map (line_without (λ sub. list_any (λ id. id == sub) ended.now.subs.items)) logs.old }
-{
-    for log in logs.iter_mut() {
-        log.drop_subs(ended);
-    }
 }
 
 /// The topic once more.

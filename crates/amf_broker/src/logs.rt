@@ -1,38 +1,29 @@
 //! The logs of all topics, and where each of them stands.
-ghost use Rattle.std.specs.Prelude.{◌≡◌, ◌<◌, ◌≤◌, ℕ, [], ◌∷◌, ◌++◌, true, false, length, map, filter, position, ◌==◌, IfOk, IfSome, OnOk, OnErr, Some, nat_eq};
+ghost use Rattle.std.specs.Prelude.{◌≡◌, ◌+◌, ◌<◌, ◌≤◌, ◌==◌, ℕ, [], ◌∷◌, ◌++◌, true, false, length, filter, position};
+ghost use Rattle.std.specs.Prelude.{IfOk, IfSome, OnOk, OnErr, Some, nat_eq, vec_capacity};
 ghost use Rattle.indexmap.specs.IndexMap.{get};
-ghost use Rattle.std.specs.List.{list_any};
+ghost use Rattle.std.specs.List.{list_all, list_any};
 ghost use Rattle.amf_broker.specs.Machine.{is_same_topic};
-ghost use Rattle.amf_broker.specs.Sound.{are_in_order};
-ghost use Rattle.amf_broker.specs.Lines.{posts_of, waiters_rise};
-ghost use Rattle.amf_broker.specs.Members.{logs_of, members_at, posted_line, enlisted, lines_left, line_without};
+ghost use Rattle.amf_broker.specs.declared.limits.TheConstants.{MAX_SUBS};
+ghost use Rattle.amf_broker.specs.Lines.{posts_of, untold_of, waiters_rise};
+ghost use Rattle.amf_broker.specs.Members.{logs_of, members_at, is_present, members_of, waiters_after, ended_after};
+ghost use Rattle.amf_broker.specs.Members.{posted_line, enlisted, line_changed, line_parted, is_among, line_without};
 ghost use Rattle.amf_broker.specs.Trims.{is_kept};
 ghost use Rattle.amf_broker.specs.Slots.{standing};
-ghost use Rattle.amf_broker.specs.Index.{topic_hash, is_noted, are_noted, IsTrimmedAt};
+ghost use Rattle.amf_broker.specs.Index.{is_noted, are_noted, IsTrimmedAt};
 
 use crate::ended::Ended;
-use crate::log::{Log, Post, drop_sub, drop_subs, is_kept, part_all, place_of_log, unheard};
+use crate::log::{Log, Post, is_kept, place_of_log};
 use crate::mailbox::Mailbox;
 use crate::member::Member;
-use crate::slot::Slot;
+use crate::roster::Roster;
+use crate::topic::hash_of;
 use crate::{ClientId, Payload, SubId, Topic};
 use amf_wire::{Memory, Name};
 use indexmap::IndexMap;
 use std::alloc::Global;
-use std::hash::{DefaultHasher, Hasher};
+use std::hash::DefaultHasher;
 use std::marker::Model;
-
-/// The hash of the topic, by the keys of the hasher that it begins with.
-#[tactic(auto, unfolding(crate::specs::Index::topic_hash))]
-fn hash_of(start: DefaultHasher, topic: &Topic) -> u64
-    ensures { result ≡ topic_hash start topic.now }
-{
-    let mut state = start;
-    state.write(topic.destination.as_bytes());
-    state.write(&[255]);
-    state.write(topic.subtopic.as_bytes());
-    state.finish()
-}
 
 /// Notes the place under the hash. What was noted stays so, after an error too.
 fn note(places: &mut IndexMap<u64, usize>, hash: u64, place: usize) -> Result<(), Memory>
@@ -133,11 +124,6 @@ impl Logs {
     /// Where the log stands to which a message came last, if none has gone since.
     pub(crate) fn last(&self) -> usize {
         self.last
-    }
-
-    /// How many logs nobody listens to.
-    pub(crate) fn unheard(&self) -> usize {
-        unheard(&self.list)
     }
 
     /// Whether the log of the topic stands at this place.
@@ -243,27 +229,53 @@ impl Logs {
         Ok(())
     }
 
-    /// These clients have left, and the others stand so.
-    pub(crate) fn part_all(&mut self, left: &[ClientId], clients: &[Mailbox])
-        requires left { are_in_order left.now ≡ true }
-        requires clients { waiters_rise 0 clients.now ≡ true }
-        ensures { self.new ≡ lines_left left.now clients.now self.old }
+    /// The message comes to all that listen to the topic. Those that end by that go into `ended`, which has room for them.
+    pub(crate) fn hand_round(
+        &mut self,
+        topic: &Topic,
+        clients: &mut [Mailbox],
+        ended: Vec<SubId>,
+    ) -> Vec<SubId>
+        requires rise { waiters_rise 0 clients.old ≡ true }
+        requires present { list_all (λ m. is_present m.client clients.old) (members_at topic.now self.old) ≡ true }
+        requires places { (k : ℕ) → length (members_of k (members_at topic.now self.old)) + untold_of k clients.old ≤ MAX_SUBS }
+        requires empty { ended.items ≡ [] }
+        requires room { length (members_at topic.now self.old) ≤ vec_capacity ended }
+        ensures clients { clients.new ≡ waiters_after (members_at topic.now self.old) clients.old }
+        ensures ended { result.items ≡ ended_after (members_at topic.now self.old) clients.old }
+        ensures same { self.new ≡ self.old }
     {
-        part_all(&mut self.list, left, clients);
+        if let Some(place) = self.place_of(topic) {
+            return self.list[place].hand_round(clients, ended);
+        }
+        ended
     }
 
-    /// The subscription has ended.
-    pub(crate) fn drop_sub(&mut self, sub: SubId)
-        ensures { self.new ≡ map (line_without (λ id. id == sub)) self.old }
+    /// The client's subscriptions to the topic listen no more.
+    pub(crate) fn part(&mut self, topic: &Topic, client: ClientId)
+        ensures { self.new ≡ line_changed topic.now (line_parted client) self.old }
     {
-        drop_sub(&mut self.list, sub);
+        if let Some(place) = self.place_of(topic) {
+            self.list[place].part(client);
+        }
     }
 
-    /// These subscriptions have ended.
-    pub(crate) fn drop_subs(&mut self, ended: &Ended)
-        ensures { self.new ≡ map (line_without (λ sub. list_any (λ id. id == sub) ended.now.subs.items)) self.old }
+    /// The subscription has ended, which listened to the topic.
+    pub(crate) fn drop_sub(&mut self, topic: &Topic, sub: SubId)
+        ensures { self.new ≡ line_changed topic.now (line_without (λ id. id == sub)) self.old }
     {
-        drop_subs(&mut self.list, ended);
+        if let Some(place) = self.place_of(topic) {
+            self.list[place].drop_sub(sub);
+        }
+    }
+
+    /// These subscriptions have ended, which listened to the topic.
+    pub(crate) fn drop_subs(&mut self, topic: &Topic, ended: &Ended)
+        ensures { self.new ≡ line_changed topic.now (line_without (is_among ended.now.subs.items)) self.old }
+    {
+        if let Some(place) = self.place_of(topic) {
+            self.list[place].drop_subs(ended);
+        }
     }
 
     /// The log at this place, if there is one, is at its limit, however short it is.
@@ -277,16 +289,17 @@ impl Logs {
     }
 
     /// Messages of the log at this place that nobody waits for go, if it has come to its limit.
-    pub(crate) fn trim(&mut self, at: usize, places: &[Slot], next: u64)
+    pub(crate) fn trim(&mut self, at: usize, places: &mut Roster, next: u64)
         requires { at < length self.old }
-        ensures { IsTrimmedAt (standing places.now) at self.old self.new }
+        ensures logs { IsTrimmedAt (standing places.old) at self.old self.new }
+        ensures places { places.new ≡ places.old }
     {
         self.list[at].trim(places, next);
     }
 
     /// Logs to which nobody listens, and in which nobody has a place, go. The places of the others are noted anew, if there is
     /// room for that: else they are looked for.
-    pub(crate) fn sweep(&mut self, places: &[Slot])
+    pub(crate) fn sweep(&mut self, places: &Roster)
         ensures { self.new ≡ filter (is_kept (standing places.now)) self.old }
     {
         let before = self.list.len();

@@ -1,7 +1,7 @@
 ghost use Rattle.std.specs.Prelude.{◌≡◌, ◌==◌, ◌≤◌, IfOk, OnOk, nat_lt, map, length, position};
 ghost use Rattle.std.specs.List.{list_any, position_or_len};
 ghost use Rattle.amf_broker.specs.Lines.{put, put_all, waits, is_covered, delivered};
-ghost use Rattle.amf_broker.specs.Members.{raised, covered_in, logs_of, is_waited, remains};
+ghost use Rattle.amf_broker.specs.Members.{raised, covered_in, logs_of, is_among, is_waited, remains};
 
 use crate::ended::Ended;
 use crate::log::Post;
@@ -99,7 +99,7 @@ pub(crate) fn remains_sub(place: &Place, logs: &Logs, sub: SubId, next: u64) -> 
 
 /// Whether the place is none of these subscriptions', or its subscription is live, or something waits for it.
 pub(crate) fn remains(place: &Place, logs: &Logs, ended: &Ended, next: u64) -> bool
-    ensures { result ≡ remains (λ sub. list_any (λ id. id == sub) ended.now.subs.items) (logs_of logs.now) next place.now }
+    ensures { result ≡ remains (is_among ended.now.subs.items) (logs_of logs.now) next place.now }
 {
     !ended.has(place.id()) || is_waited(place, logs, next)
 }

@@ -1,8 +1,7 @@
 ghost use Rattle.std.specs.Prelude.{◌≡◌, ◌+◌, ◌<◌, ◌^◌, ◌==◌, ◌&&◌, true, false, count_by};
-ghost use Rattle.std.specs.List.{list_any};
 ghost use Rattle.amf_broker.specs.Lines.{is_covered, is_reached_by, begun_anew, outlasts};
 ghost use Rattle.amf_broker.specs.Machine.{is_same_topic};
-ghost use Rattle.amf_broker.specs.Members.{raised, stopped};
+ghost use Rattle.amf_broker.specs.Members.{raised, is_among, stopped};
 ghost use Rattle.amf_broker.specs.Trims.{is_debt, is_owed};
 
 use crate::ended::Ended;
@@ -131,7 +130,7 @@ impl Place {
 
     /// It ends before the message of this number, if it is live and one of these.
     pub(crate) fn stop_among(&mut self, ended: &Ended, number: u64)
-        ensures { self.new ≡ stopped number (λ sub. list_any (λ id. id == sub) ended.now.subs.items) self.old }
+        ensures { self.new ≡ stopped number (is_among ended.now.subs.items) self.old }
     {
         if self.live && ended.has(self.id) {
             self.stop = number;

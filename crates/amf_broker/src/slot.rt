@@ -1,14 +1,10 @@
-ghost use Rattle.std.specs.Prelude.{◌≡◌, ◌==◌, true};
-ghost use Rattle.std.specs.List.{list_any};
-ghost use Rattle.amf_broker.specs.Moments.{stays};
-ghost use Rattle.amf_broker.specs.Members.{logs_of};
-ghost use Rattle.amf_broker.specs.Sound.{are_in_order};
-ghost use Rattle.amf_broker.specs.Slots.{kept_if, is_own, slot_ended, slot_begun};
+ghost use Rattle.std.specs.Prelude.{◌≡◌, ◌==◌, not, true};
+ghost use Rattle.amf_broker.specs.Members.{logs_of, is_among};
+ghost use Rattle.amf_broker.specs.Slots.{kept_if, is_own, own_ended, slot_begun};
 
 use crate::ended::Ended;
 use crate::logs::Logs;
 use crate::merge::{remains, remains_sub};
-use crate::moment::is_in;
 use crate::place::Place;
 use crate::{ClientId, SubId};
 
@@ -33,28 +29,39 @@ impl Slot {
         self.kept && self.place.client() == client
     }
 
-    /// The place goes, if its client is one of these.
-    pub(crate) fn part(&mut self, left: &[ClientId])
-        requires { are_in_order left.now ≡ true }
-        ensures { self.new ≡ kept_if (λ u. stays left.now u.client) self.old }
+    /// The place goes, if it is the client's.
+    pub(crate) fn part(&mut self, client: ClientId)
+        ensures { self.new ≡ kept_if (λ u. not (u.client == client)) self.old }
     {
-        self.kept = self.kept && !is_in(left, self.place.client());
+        self.kept = self.kept && self.place.client() != client;
     }
 
-    /// The subscription ends before the message of this number. Its place goes, if nothing waits for it.
-    pub(crate) fn end_sub(&mut self, logs: &Logs, sub: SubId, next: u64)
-        ensures { self.new ≡ slot_ended next next (λ id. id == sub) (logs_of logs.now) self.old }
+    /// The client's subscription ends before the message of this number. Its place goes, if nothing waits for it.
+    pub(crate) fn end_sub(&mut self, logs: &Logs, client: ClientId, sub: SubId, next: u64)
+        ensures { self.new ≡ own_ended (λ k. k == client) next next (λ id. id == sub) (logs_of logs.now) self.old }
     {
-        self.place.stop_sub(sub, next);
-        self.kept = self.kept && remains_sub(&self.place, logs, sub, next);
+        if self.is_own(client) {
+            self.place.stop_sub(sub, next);
+            self.kept = remains_sub(&self.place, logs, sub, next);
+        }
     }
 
-    /// These subscriptions end before the message of this number, which is before `next`. Their places go, where nothing waits.
-    pub(crate) fn end_among(&mut self, logs: &Logs, ended: &Ended, number: u64, next: u64)
-        ensures { self.new ≡ slot_ended number next (λ sub. list_any (λ id. id == sub) ended.now.subs.items) (logs_of logs.now) self.old }
+    /// The client's subscription, if it is one of these, ends before the message of this number, which is before `next`. Its place
+    /// goes, if nothing waits for it.
+    pub(crate) fn end_among(
+        &mut self,
+        logs: &Logs,
+        client: ClientId,
+        ended: &Ended,
+        number: u64,
+        next: u64,
+    )
+        ensures { self.new ≡ own_ended (λ k. k == client) number next (is_among ended.now.subs.items) (logs_of logs.now) self.old }
     {
-        self.place.stop_among(ended, number);
-        self.kept = self.kept && remains(&self.place, logs, ended, next);
+        if self.is_own(client) {
+            self.place.stop_among(ended, number);
+            self.kept = remains(&self.place, logs, ended, next);
+        }
     }
 
     /// After a poll of the client its place goes, if it has ended, and else begins anew at the message of this number.

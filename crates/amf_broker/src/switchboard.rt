@@ -12,7 +12,9 @@ use std::marker::Model;
 
 mod admission;
 
-ghost use Rattle.std.specs.Prelude.{◌≡◌, ℕ, List, [], ◌+◌, ◌<◌, ◌≤◌, ◌^◌, IfOk, OnOk, OnErr, IsOk, None, length, true, sum_by, vec_len, vec_capacity};
+ghost use Rattle.std.specs.Prelude.{◌≡◌, ℕ, List, [], ◌+◌, ◌<◌, ◌≤◌, ◌^◌, ◌==◌, ◌&&◌, length, true, sum_by, vec_len, vec_capacity};
+ghost use Rattle.std.specs.Prelude.{IfOk, OnOk, OnErr, IsOk, None};
+ghost use Rattle.std.specs.List.{list_any};
 ghost use Rattle.amf_broker.specs.State.{first_board};
 ghost use Rattle.amf_broker.specs.Machine.{connected, subscribed, unsubscribed, published, polled, kept_as, at_client, next_batch, same_batch, polled_numbered, disconnected, served, refusal, is_connected, places_of, queue_of, ended_of, last_of, later, expired_at, sighted};
 ghost use Rattle.amf_broker.specs.Memory.{is_unsubscribe, nobody};
@@ -144,11 +146,12 @@ impl Switchboard {
         Ok(Reply::Subscribed(id))
     }
 
-    fn unsubscribe(&mut self, sub: SubId) -> Reply
+    fn unsubscribe(&mut self, client: ClientId, sub: SubId) -> Reply
+        requires { list_any (λ u. u.id == sub && u.client == client) self.old.subs ≡ true }
         ensures reply { result ≡ (unsubscribed self.old sub).0 }
         ensures state { self.new ≡ (unsubscribed self.old sub).1 }
     {
-        self.lines.unsubscribe(sub);
+        self.lines.unsubscribe(client, sub);
         Reply::Unsubscribed(sub)
     }
 
@@ -314,9 +317,9 @@ impl Switchboard {
         match call {
             Call::Connect => self.connect(alloc, moment),
             Call::Subscribe { client, topic } => self.subscribe(alloc, moment, client, topic),
-            Call::Unsubscribe { client: _, sub } => {
+            Call::Unsubscribe { client, sub } => {
                 self.advance(moment);
-                Ok(self.unsubscribe(sub))
+                Ok(self.unsubscribe(client, sub))
             }
             Call::Publish {
                 client: _,

@@ -1,16 +1,15 @@
--- It is asked of those that are there.
-use Rattle.std.proofs.Common.{◌≡◌, ◌∙◌, rules, tests}
-use Rattle.std.specs.Prelude.{◌&&◌}
-use Rattle.std.specs.List.{list_any}
-use Rattle.std.proofs.lemmas.Iterator.{YieldsList-from_slice}
-use Rattle.std.proofs.lemmas.Iterator.Search.{any_from_yields_List}
-use Rattle.amf_broker.specs.declared.slot.Slot.{Slot}
+-- It is asked of the places of the topic.
+use Rattle.std.proofs.Common.{◌∙◌, ap, subst}
+use Rattle.amf_broker.specs.declared.topic.Topic.{Topic}
 use Rattle.amf_broker.specs.Machine.{is_same_topic}
-use Rattle.amf_broker.proofs.Slots.{any-kept}
+use Rattle.amf_broker.specs.Members.{Line}
+use Rattle.amf_broker.specs.Slots.{AreAmong}
+use Rattle.amf_broker.proofs.Among.{any-among}
 use Rattle.amf_broker.proofs.log.is_wanted.Goals as goal
 
 pub returns : goal.returns
 returns c =
-    let plain : c.any.result ≡ list_any (λ (s : Slot). s.kept && is_same_topic s.place.topic c.args.log.now.topic) c.args.places.now =
-    any_from_yields_List (λ (s : Slot). s.kept && is_same_topic s.place.topic c.args.log.now.topic) _ _ c.any.result c.any.ensures.ran (YieldsList-from_slice c.args.places.now cc) (λ x b q k. search (rules, tests)) in
-    plain ∙ any-kept (λ u. is_same_topic u.topic c.args.log.now.topic) c.args.places.now
+    let t = c.args.log.now.topic in
+    let ss = c.args.places.now in
+    let among = subst (λ (s : Topic). AreAmong s c.of_topic.result.now ss) (ap (λ (l : Line). l.topic) c.log.view_is) c.of_topic.ensures in
+    rw c.slots.ensures at c.has_placed.ensures ∙ any-among (λ u. is_same_topic u.topic t) t c.of_topic.result.now ss among (λ u e. e)

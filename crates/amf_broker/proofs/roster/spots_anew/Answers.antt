@@ -23,8 +23,8 @@ loop-slot-preserved c =
           let is = w.at-is in
           record {
             found = λ k.
-                let noted = w.in_ok-note_spot.ensures.ok k ∙ ap (λ n. if w.client.result == k then spots_of c.loop-slot.spots k ++ (n ∷ []) else spots_of c.loop-slot.spots k) c.loop-slot.invariant.count in
-                rw (w.spots-is, now) (found-noted k w.client.result (spots_of c.loop-slot.spots k) (spots_of w.note_spot.new.spots k) before s w.if-slot.true (sym w.client.ensures) noted (c.loop-slot.invariant.found k));
+                let noted = w.in_ok-note_spot.ensures.ok k ∙ ap (λ n. if w.note_spot.inside.0 == k then spots_of c.loop-slot.spots k ++ (n ∷ []) else spots_of c.loop-slot.spots k) c.loop-slot.invariant.count in
+                rw (w.spots-is, now) (found-noted k w.note_spot.inside.0 (spots_of c.loop-slot.spots k) (spots_of w.note_spot-then-slot.new.spots k) before s w.if-slot.true (sym (w.note_spot.view_is ∙ w.client.ensures)) noted (c.loop-slot.invariant.found k));
             count = w.at-is ∙ (ap (λ n. n + 1) c.loop-slot.invariant.count ∙ sym (ap length now ∙ length-end before s));
             fits = omega (arith, is, fits);
           }

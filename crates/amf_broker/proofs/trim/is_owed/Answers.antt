@@ -1,16 +1,10 @@
--- It is asked of those that are there.
-use Rattle.std.proofs.Common.{◌≡◌, ◌∙◌, rules, tests}
-use Rattle.std.specs.Prelude.{◌&&◌}
-use Rattle.std.specs.List.{list_any}
+-- It is asked of those that are noted.
+use Rattle.std.proofs.Common.{rules, tests}
 use Rattle.std.proofs.lemmas.Iterator.{YieldsList-from_slice}
 use Rattle.std.proofs.lemmas.Iterator.Search.{any_from_yields_List}
-use Rattle.amf_broker.specs.declared.slot.Slot.{Slot}
 use Rattle.amf_broker.specs.Trims.{is_owed}
-use Rattle.amf_broker.proofs.Slots.{any-kept}
+use Rattle.amf_broker.specs.Slots.{stands_at}
 use Rattle.amf_broker.proofs.trim.is_owed.Goals as goal
 
 pub returns : goal.returns
-returns c =
-    let plain : c.any.result ≡ list_any (λ (s : Slot). s.kept && is_owed c.args.topic.now c.args.post.now s.place) c.args.places.now =
-    any_from_yields_List (λ (s : Slot). s.kept && is_owed c.args.topic.now c.args.post.now s.place) _ _ c.any.result c.any.ensures.ran (YieldsList-from_slice c.args.places.now cc) (λ x b q k. search (rules, tests)) in
-    plain ∙ any-kept (is_owed c.args.topic.now c.args.post.now) c.args.places.now
+returns c = any_from_yields_List (stands_at (is_owed c.args.topic.now c.args.post.now) c.args.slots.now) _ _ c.any.result c.any.ensures.ran (YieldsList-from_slice c.args.spots.now cc) (λ x b q k. search (rules, tests))

@@ -2,6 +2,12 @@
 use Rattle.amf_broker.proofs.Gone.{lined-gone, floor-gone}
 use Rattle.amf_broker.proofs.lines.Lines.leave.Goals as goal
 
+pub leave-requires-clause-listed : goal.leave-requires-clause-listed
+leave-requires-clause-listed c = c.self.invariant.listed
+
+pub leave-requires-clause-apart : goal.leave-requires-clause-apart
+leave-requires-clause-apart c = c.self.invariant.apart
+
 pub leave-requires-clause-rise : goal.leave-requires-clause-rise
 leave-requires-clause-rise c = c.self.invariant.kept.rise
 

@@ -9,11 +9,11 @@ use Rattle.amf_broker.proofs.lines.Lines.sweep.Goals as goal
 pub invariant_of-self-2 : goal.invariant_of-self-2
 invariant_of-self-2 c =
     let swept : c.sweep.new.self ≡ filter (is_wanted (standing c.self.inside.places)) c.self.inside.logs =
-    rw c.slots.ensures at c.sweep.ensures ∙ swept-is _ _ _ _ _ c.self.invariant in
+    c.sweep.ensures ∙ swept-is _ _ _ _ _ c.self.invariant in
     rw swept (lined-swept _ _ _ _ _ c.self.invariant)
 
 pub returns : goal.returns
 returns c =
     let swept : c.sweep.new.self ≡ filter (is_wanted (standing c.self.inside.places)) c.self.inside.logs =
-    rw c.slots.ensures at c.sweep.ensures ∙ swept-is _ _ _ _ _ c.self.invariant in
+    c.sweep.ensures ∙ swept-is _ _ _ _ _ c.self.invariant in
     rw (← c.self.view_is, swept) (floor-swept _ _ _ _ _ c.self.invariant)

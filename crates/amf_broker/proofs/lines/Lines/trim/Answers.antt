@@ -3,7 +3,7 @@ use Rattle.amf_broker.proofs.Trims.{lined-trimmed, floor-lined-trimmed}
 use Rattle.amf_broker.proofs.lines.Lines.trim.Goals as goal
 
 pub invariant_of-self : goal.invariant_of-self
-invariant_of-self c = let t = rw c.slots.ensures at c.trim.ensures in rw t.is (lined-trimmed _ _ _ _ _ c.self.invariant c.args.at t.was t.line t.within t.trimmed)
+invariant_of-self c = let t = c.trim.ensures.logs in rw (c.trim.ensures.places, t.is) (lined-trimmed _ _ _ _ _ c.self.invariant c.args.at t.was t.line t.within t.trimmed)
 
 pub returns : goal.returns
-returns c = let t = rw c.slots.ensures at c.trim.ensures in rw (← c.self.view_is, t.is) (floor-lined-trimmed _ _ _ _ _ c.self.invariant c.args.at t.was t.line t.within t.trimmed)
+returns c = let t = c.trim.ensures.logs in rw (← c.self.view_is, c.trim.ensures.places, t.is) (floor-lined-trimmed _ _ _ _ _ c.self.invariant c.args.at t.was t.line t.within t.trimmed)

@@ -1,17 +1,37 @@
--- The topics of the lines stay.
-use Rattle.std.proofs.Common.{◌∙◌, sym, refl}
-use Rattle.std.specs.Prelude.{◌==◌}
-use Rattle.amf_broker.specs.Members.{line_without}
-use Rattle.amf_broker.proofs.Lined.{apart-map}
-use Rattle.amf_broker.proofs.Rounds.{mapped}
-use Rattle.amf_broker.proofs.Noted.{noted-map}
+-- The line of the topic is changed, and its topic stays.
+use Rattle.std.proofs.Common.{◌∙◌, ap, sym}
+use Rattle.std.specs.Prelude.{◌==◌, slice_set}
+use Rattle.amf_broker.specs.Machine.{is_same_topic}
+use Rattle.amf_broker.specs.Members.{Line, line_without}
+use Rattle.amf_broker.proofs.Firsts.{first-changed, absent-any, not-some}
+use Rattle.amf_broker.proofs.Noted.{apart-set, noted-set}
+use Rattle.amf_broker.proofs.Owners.{first-line, no-line-changed}
 use Rattle.amf_broker.proofs.logs.Logs.drop_sub.Goals as goal
 
 pub invariant_of-self : goal.invariant_of-self
 invariant_of-self c =
     let lines = c.self.inside.list.items in
-    let is = mapped (line_without (λ id. id == c.args.sub)) c.self.inside.list.len lines c.drop_sub.new.logs (sym c.self.inside.list.ok.0) (rw c.deref_mut.ensures.value at c.drop_sub.ensures) in
-    rw is (apart-map (line_without (λ id. id == c.args.sub)) (λ l. refl) lines ∙ c.self.invariant.0, noted-map c.self.inside.start c.self.inside.places (line_without (λ id. id == c.args.sub)) (λ l. refl) lines ∙ c.self.invariant.1)
+    let same = ap (λ (l : Line). l.topic) c.drop_sub.ensures ∙ ap (λ (l : Line). l.topic) c.index_mut.ensures.value in (
+      apart-set lines c.in-Some.place c.drop_sub.new.self c.index_mut.result.now same ∙ c.self.invariant.0,
+      noted-set c.self.inside.start c.self.inside.places lines c.in-Some.place c.drop_sub.new.self c.index_mut.result.now same ∙ c.self.invariant.1,
+    )
 
-pub returns : goal.returns
-returns c = rw (← c.self.view_is) (mapped (line_without (λ id. id == c.args.sub)) c.self.inside.list.len c.self.inside.list.items c.drop_sub.new.logs (sym c.self.inside.list.ok.0) (rw c.deref_mut.ensures.value at c.drop_sub.ensures))
+pub returns-in-Some : goal.returns-in-Some
+returns-in-Some c =
+    let lines = c.self.inside.list.items in
+    let topic = c.args.topic.now in
+    let change = line_without (λ id. id == c.args.sub) in
+    let place = rw (← c.self.view_is) at c.place_of.ensures.place in
+    let is = sym c.in-Some.is ∙ place in
+    rw (← c.self.view_is)
+    (ap (slice_set lines c.in-Some.place) c.drop_sub.ensures
+    ∙ (ap (λ l. slice_set lines c.in-Some.place (change l)) c.index_mut.ensures.value
+    ∙ (first-changed (λ (l : Line). is_same_topic topic l.topic) change c.index_mut.result.now lines c.in-Some.place is ∙ first-line topic change lines)))
+
+pub returns-in_default : goal.returns-in_default
+returns-in_default c =
+    let lines = c.self.inside.list.items in
+    let topic = c.args.topic.now in
+    let place = rw (← c.self.view_is) at c.place_of.ensures.place in
+    let absent = absent-any (λ (l : Line). is_same_topic topic l.topic) lines (not-some c.place_of.result c.in_default.not-Some ∙ place) in
+    rw (← c.self.view_is) (no-line-changed topic (line_without (λ id. id == c.args.sub)) lines absent)

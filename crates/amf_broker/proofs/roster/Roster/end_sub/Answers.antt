@@ -1,17 +1,41 @@
--- None becomes another's.
-use Rattle.std.proofs.Common.{sym}
+-- The subscription ends, by what is noted of its client.
+use Rattle.std.proofs.Common.{◌≡◌, ℕ, ◌∙◌, sym, map}
 use Rattle.std.specs.Prelude.{◌==◌}
 use Rattle.amf_broker.specs.Members.{logs_of}
-use Rattle.amf_broker.specs.Slots.{slot_ended}
+use Rattle.amf_broker.specs.Slots.{own_ended, spots_of}
+use Rattle.amf_broker.specs.Index.{topic_hash}
 use Rattle.amf_broker.proofs.Rounds.{mapped}
-use Rattle.amf_broker.proofs.Slots.{found-map, less-ended}
+use Rattle.amf_broker.proofs.Among.{among-map, of-own}
+use Rattle.amf_broker.proofs.Slots.{changed-all, found-map, found-pruning}
+use Rattle.amf_broker.proofs.Owners.{less-own, own-idle}
 use Rattle.amf_broker.proofs.roster.Roster.end_sub.Goals as goal
 
 pub invariant_of-self : goal.invariant_of-self
 invariant_of-self c =
-    let g = slot_ended c.args.next c.args.next (λ id. id == c.args.sub) (logs_of c.args.logs.now) in
-    let is = mapped g c.self.inside.slots.len c.self.inside.slots.items c.end_sub.new.slots (sym c.self.inside.slots.ok.0) (rw c.deref_mut.ensures.value at c.end_sub.ensures) in
-    λ k. rw is (found-map k g (less-ended k c.args.next c.args.next (λ id. id == c.args.sub) (logs_of c.args.logs.now)) _ c.self.inside.slots.items (c.self.invariant k))
+    let k = c.args.client in
+    let n = c.args.next in
+    let o = λ (id : ℕ). id == c.args.sub in
+    let logs = logs_of c.args.logs.now in
+    let g = own_ended (λ (j : ℕ). j == k) n n o logs in
+    let ss = c.self.inside.slots.items in
+    let changed : c.end_sub.new.slots ≡ map g ss =
+    (rw (c.deref_mut.ensures.value, c.spots_of.ensures) at c.end_sub.ensures) ∙ changed-all k g (own-idle (λ (j : ℕ). j == k) n n o logs) (spots_of c.self.inside.spots k) ss (c.self.invariant.0 k) in
+    let is = mapped g c.self.inside.slots.len ss c.end_sub.new.slots (sym c.self.inside.slots.ok.0) changed in (
+      λ j.
+          let noted = rw (c.deref.ensures.value, is) at (c.prune_spots.ensures j) in
+          rw is (found-pruning k j (spots_of c.self.inside.spots j) (spots_of c.prune_spots.new.spots j) (map g ss) noted
+          (found-map j g (less-own (λ (j : ℕ). j == k) n n o logs j) (spots_of c.self.inside.spots j) ss (c.self.invariant.0 j))),
+      λ t. rw is (among-map t g (of-own t (λ (j : ℕ). j == k) n n o logs) (spots_of c.self.inside.topics (topic_hash c.self.inside.start t)) ss (c.self.invariant.1 t)),
+    )
 
 pub returns : goal.returns
-returns c = rw (← c.self.view_is) (mapped (slot_ended c.args.next c.args.next (λ id. id == c.args.sub) (logs_of c.args.logs.now)) c.self.inside.slots.len c.self.inside.slots.items c.end_sub.new.slots (sym c.self.inside.slots.ok.0) (rw c.deref_mut.ensures.value at c.end_sub.ensures))
+returns c =
+    let k = c.args.client in
+    let n = c.args.next in
+    let o = λ (id : ℕ). id == c.args.sub in
+    let logs = logs_of c.args.logs.now in
+    let g = own_ended (λ (j : ℕ). j == k) n n o logs in
+    let ss = c.self.inside.slots.items in
+    let changed : c.end_sub.new.slots ≡ map g ss =
+    (rw (c.deref_mut.ensures.value, c.spots_of.ensures) at c.end_sub.ensures) ∙ changed-all k g (own-idle (λ (j : ℕ). j == k) n n o logs) (spots_of c.self.inside.spots k) ss (c.self.invariant.0 k) in
+    rw (← c.self.view_is) (mapped g c.self.inside.slots.len ss c.end_sub.new.slots (sym c.self.inside.slots.ok.0) changed)

@@ -12,4 +12,4 @@ returns c =
     let ss = c.self.inside.slots.items in
     rw (← c.self.view_is)
     ((rw (c.deref.ensures.value, c.spots_of.ensures) at c.live_at.ensures)
-    ∙ (ap (count_by (λ (u : Span). u.live && u.client == k)) (own-all k (spots_of c.self.inside.spots k) ss (c.self.invariant k)) ∙ live-own k (standing ss)))
+    ∙ (ap (count_by (λ (u : Span). u.live && u.client == k)) (own-all k (spots_of c.self.inside.spots k) ss (c.self.invariant.0 k)) ∙ live-own k (standing ss)))

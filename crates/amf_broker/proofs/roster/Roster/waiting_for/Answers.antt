@@ -14,7 +14,7 @@ returns c =
     let ss = c.self.inside.slots.items in
     let logs = logs_of c.args.logs.now in
     let own = own_of k ss (spots_of c.self.inside.spots k) in
-    let same = ap (λ us. waits logs (map (raised n) us) k) (own-all k (spots_of c.self.inside.spots k) ss (c.self.invariant k)) ∙ waits-own logs k n (standing ss) in
+    let same = ap (λ us. waits logs (map (raised n) us) k) (own-all k (spots_of c.self.inside.spots k) ss (c.self.invariant.0 k)) ∙ waits-own logs k n (standing ss) in
     rw (← c.self.view_is) (IfOk-weaker c.waiting_at.result (λ queue. queue ≡ waits logs (map (raised n) own) k)
     (λ queue. queue ≡ waits logs (map (raised n) (standing ss)) k)
     (λ queue is. is ∙ same)

@@ -1,0 +1,10 @@
+-- It is asked of those that are noted.
+use Rattle.std.proofs.Common.{rules, tests}
+use Rattle.std.proofs.lemmas.Iterator.{YieldsList-from_slice}
+use Rattle.std.proofs.lemmas.Iterator.Search.{any_from_yields_List}
+use Rattle.amf_broker.specs.Machine.{is_same_topic}
+use Rattle.amf_broker.specs.Slots.{stands_at}
+use Rattle.amf_broker.proofs.log.has_placed.Goals as goal
+
+pub returns : goal.returns
+returns c = any_from_yields_List (stands_at (λ u. is_same_topic u.topic c.args.log.now.topic) c.args.slots.now) _ _ c.any.result c.any.ensures.ran (YieldsList-from_slice c.args.spots.now cc) (λ x b q k. search (rules, tests))

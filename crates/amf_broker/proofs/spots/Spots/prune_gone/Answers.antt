@@ -1,0 +1,7 @@
+-- Those stay in which a place is.
+use Rattle.std.proofs.Common.{rules}
+use Rattle.std.proofs.lemmas.Fn.{filter_same}
+use Rattle.amf_broker.proofs.spots.Spots.prune_gone.Goals as goal
+
+pub returns : goal.returns
+returns c = rw (← c.self.view_is) (filter_same _ _ _ (λ x b f' k. search rules) _ _ c.retain.ensures.filtered)
