@@ -23,5 +23,6 @@ mod ReadAnswers
 mod ValueReads
 mod NodeReads
 mod InlineReads
+pub mod Items
 pub mod Pairs
 pub mod PairLayouts

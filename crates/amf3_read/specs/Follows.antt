@@ -31,6 +31,10 @@ IsWaiting left b f = Waits Anything left b f
 abbrev pub entry_of : NodeId → Value → Parts → Frame
 entry_of i k p = record { node = i; role = role.Entry k; todo = p }
 
+-- a node that waits for an item
+abbrev pub item_of : NodeId → Parts → Frame
+item_of i p = record { node = i; role = role.Item; todo = p }
+
 -- wherever the loop began, it goes on with an open node, or ends as the layout does
 pub record Follows {S : Type 0} (tells : S → Type 0) (left : S → List ℕ) (faults : S → ℕ) (b b1 : Arena) (u u1 : KeptTables) (d e : Cursor S Window) (w : Now) (fs gs : List Frame) (result : Result OpenNode ReadEnd) : Type 0 where
   pub goes_on : (a : Arena) (t : KeptTables) (c : Cursor S Window) → StackSo tells left faults a b t u c d w fs → IfOk result (λ o. StackSo tells left faults a b1 t u1 c e (now.unfinished o.node o.todo) gs)
@@ -39,3 +43,13 @@ pub record Follows {S : Type 0} (tells : S → Type 0) (left : S → List ℕ) (
 -- the same by the members of the source
 abbrev pub FollowsOver : {S : Type 0} → SourceMembers S → (b b1 : Arena) (u u1 : KeptTables) (d e : Cursor S Window) → Now → (fs gs : List Frame) → Result OpenNode ReadEnd → Type 0
 FollowsOver s b b1 u u1 d e w fs gs result = Follows s.tells s.left s.faults b b1 u u1 d e w fs gs result
+
+-- the loop began somewhere, and stands so
+pub record Stands {S : Type 0} (tells : S → Type 0) (left : S → List ℕ) (faults : S → ℕ) (b : Arena) (u : KeptTables) (d : Cursor S Window) (w : Now) (fs : List Frame) : Type 0 where
+  pub arena : Arena
+  pub tables : KeptTables
+  pub cursor : Cursor S Window
+  pub so : StackSo tells left faults arena b tables u cursor d w fs
+
+abbrev pub StandsOver : {S : Type 0} → SourceMembers S → Arena → KeptTables → Cursor S Window → Now → List Frame → Type 0
+StandsOver s b u d w fs = Stands s.tells s.left s.faults b u d w fs

@@ -14,11 +14,11 @@ ghost use Rattle.amf_wire_fields.specs.Room.{HasRoomFor, Raises, left_of};
 ghost use Rattle.amf3_read.specs.Answer.{Answers3};
 ghost use Rattle.amf3_read.specs.Steps.{marker_layout};
 ghost use Rattle.amf3_read.specs.Frames.{Starts, StartHolds, StillReady, AnswersValue3};
-ghost use Rattle.amf3_read.specs.Follows.{FollowsOver, IsWaiting, entry_of};
+ghost use Rattle.amf3_read.specs.Follows.{FollowsOver, StandsOver, IsWaiting, entry_of, item_of};
 ghost use Rattle.amf3_read.specs.Now as now;
 ghost use Rattle.amf_graph.specs.Arena.{Names};
 
-use crate::fill::{Step, go_on};
+use crate::fill::{Step, behind_item, go_on};
 use crate::frame::{Frame, OpenNode, Role, part_of};
 use crate::frames::Frames;
 use crate::node::{Start, start_node};
@@ -82,11 +82,9 @@ pub fn read_value<S: Source>(
         let OpenNode { node, todo } = innermost;
         match go_on(alloc, cursor, builder, tables, node, todo)? {
             Step::Open(todo) => innermost = OpenNode { node, todo },
-            // Most values are items: these have code of their own.
+            // Most values are items: these are read one after the other.
             Step::Wait(Role::Item, todo) => {
-                let role = Role::Item;
-                let frame = Frame { node, role, todo };
-                innermost = read_part(alloc, cursor, builder, tables, &mut frames, frame)?;
+                innermost = read_items(alloc, cursor, builder, tables, &mut frames, node, todo)?;
             }
             Step::Wait(role, todo) => {
                 let frame = Frame { node, role, todo };
@@ -99,6 +97,43 @@ pub fn read_value<S: Source>(
                 };
                 innermost = give(alloc, cursor, builder, tables, &mut frames, frame, value)?;
             }
+        }
+    }
+}
+
+/// Reads the item that a node waits for, and those that follow it, up to one that is a node with values: of that the start, and the
+/// frame goes onto the stack. The answer is the node that is innermost then.
+#[inline(always)]
+fn read_items<S: Source>(
+    alloc: Global,
+    cursor: &mut Cursor<'_, S>,
+    builder: &mut Builder,
+    tables: &mut Tables3,
+    frames: &mut Frames,
+    node: NodeId,
+    todo: Parts,
+) -> Result<OpenNode, ReadEnd>
+    requires { StandsOver S.Source builder.old tables.old cursor.old now.wanted (item_of node todo ∷ frames.old) }
+    ensures goes { Goes S.Source cursor.old cursor.new result }
+    ensures follows { FollowsOver S.Source builder.old builder.new tables.old tables.new cursor.old cursor.new now.wanted (item_of node todo ∷ frames.old) frames.new result }
+    ensures less { OnOk result (2 * left_of cursor.new + length frames.new < 2 * left_of cursor.old + length frames.old) }
+{
+    let mut todo = todo;
+    loop {
+        match start_value(alloc, cursor, builder, tables)? {
+            Start::Value(value) => kept(builder.put(node, Part::Item(value)))?,
+            Start::Open(child, parts) => {
+                let role = Role::Item;
+                frames.push(Frame { node, role, todo })?;
+                return Ok(OpenNode {
+                    node: child,
+                    todo: parts,
+                });
+            }
+        }
+        match behind_item(todo) {
+            Some(rest) => todo = rest,
+            None => return Ok(OpenNode { node, todo }),
         }
     }
 }

@@ -1,6 +1,6 @@
 //! The lists of a node that is open.
 
-ghost use Rattle.std.specs.Prelude.{◌≡◌, [], ◌∷◌, ◌++◌, IfOk, OnOk, OnErr};
+ghost use Rattle.std.specs.Prelude.{◌≡◌, [], ◌∷◌, ◌++◌, is_ok, if◌then◌else◌, IfOk, OnOk, OnErr};
 ghost use Rattle.amf_graph.specs.Slots.{no_lists, more_values, more_names, more_entries};
 
 use crate::{TextId, Value};
@@ -43,6 +43,27 @@ impl Lists {
             entries: Vec::new(alloc),
         }
     }
+}
+
+/// Adds a value to a list that has no room left. After an end nothing has changed.
+#[inline(never)]
+fn push_grown(values: &mut Vec<Value>, value: Value) -> Result<(), Memory>
+    ensures { values.new.items ≡ (if is_ok result then values.old.items ++ value ∷ [] else values.old.items) }
+{
+    values.push(value)?;
+    Ok(())
+}
+
+/// Adds a value to a list. Most lists have room for it: these need no call. After an end nothing has changed.
+#[inline(always)]
+fn push_to(values: &mut Vec<Value>, value: Value) -> Result<(), Memory>
+    ensures { values.new.items ≡ (if is_ok result then values.old.items ++ value ∷ [] else values.old.items) }
+{
+    if values.len() >= values.capacity() {
+        return push_grown(values, value);
+    }
+    values.push_reserved(value);
+    Ok(())
 }
 
 /// Lists with one value.
@@ -152,7 +173,7 @@ impl PartLists {
         ensures err { OnErr result (self.new ≡ self.old) }
     {
         if let Some(lists) = &mut self.lists {
-            lists.values.push(value)?;
+            push_to(&mut lists.values, value)?;
         } else {
             *self = first_value(alloc, value)?;
         }

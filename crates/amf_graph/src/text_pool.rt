@@ -9,6 +9,12 @@ use amf_wire::Memory;
 use std::alloc::Global;
 use std::marker::Model;
 
+/// For how many texts there is room at first.
+pub(crate) const FIRST_TEXTS: usize = 16;
+
+/// For how many bytes there is room at first.
+const FIRST_BYTES: usize = 256;
+
 /// Texts in the order in which they were kept, each by the place where its bytes end. A content may stand more than once: nothing is looked up.
 ///
 /// A text takes its bytes, and four more. All bytes together are below 2^32, else there is no memory.
@@ -27,6 +33,14 @@ impl Model for TextPool {
     ghost view = { λ p. pieces p.bytes.items 0 p.ends.items };
 
     ghost invariant = { λ p. AreEnds 0 (length p.bytes.items) p.ends.items };
+}
+
+/// How much room a list of so many asks for: for its first parts at once, since most lists get some, and then for one.
+pub(crate) fn room_for(count: usize, first: usize) -> usize
+    requires { 0 < first }
+    ensures { 0 < result }
+{
+    if count == 0 { first } else { 1 }
 }
 
 /// Where the text at a place begins: where the one before ends.
@@ -92,7 +106,9 @@ impl TextPool {
         ensures err { OnErr result (self.new ≡ self.old) }
     {
         let Span { end, .. } = span_from(self.bytes.len(), text.len())?;
-        self.ends.reserve(1)?;
+        self.ends.reserve(room_for(self.ends.len(), FIRST_TEXTS))?;
+        self.bytes
+            .reserve(room_for(self.bytes.len(), FIRST_BYTES).max(text.len()))?;
         self.bytes.extend_from_slice(text)?;
         self.ends.push(end)?;
         Ok(())

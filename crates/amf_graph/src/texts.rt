@@ -8,7 +8,7 @@ ghost use Rattle.amf_graph.specs.KeptTexts.{content_at, text_hash};
 
 use crate::chains::Chains;
 use crate::text_keys::TextKeys;
-use crate::text_pool::TextPool;
+use crate::text_pool::{FIRST_TEXTS, TextPool, room_for};
 use amf_wire::Memory;
 use std::alloc::Global;
 use std::hash::RandomState;
@@ -219,7 +219,8 @@ impl Texts {
         ensures ok { OnOk result (self.new ≡ self.old ++ bytes.now ∷ []) }
         ensures err { OnErr result (self.new ≡ self.old) }
     {
-        self.numbers.reserve(1)?;
+        self.numbers
+            .reserve(room_for(self.numbers.len(), FIRST_TEXTS))?;
         let number = number_for(
             &mut self.contents,
             &mut self.chains,
@@ -242,7 +243,8 @@ impl Texts {
         if let Some(number) = number_of(&self.contents, &self.chains, bytes, self.keys, hash) {
             return Ok(Some(number));
         }
-        self.numbers.reserve(1)?;
+        self.numbers
+            .reserve(room_for(self.numbers.len(), FIRST_TEXTS))?;
         let number = enter(&mut self.contents, &mut self.chains, bytes, self.keys, hash)?;
         self.empty = empty_after(self.empty, number, bytes);
         self.numbers.push(number)?;

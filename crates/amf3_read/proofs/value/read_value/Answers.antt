@@ -78,18 +78,18 @@ loop-frames-preserved-in-Open-2 g c =
     let so = go_open S.tells S.left S.faults a b t u k d fs i p c.loop-frames.invariant b1 u1 e h.still_ready h.stays (let x = h.goes.same_bound in let y = h.stays in omega arith) c.in-Open-2.todo h.goes h.answers h.holds in
     so
 
-pub read_part-requires-clause-ready : goal.read_part-requires-clause-ready
-read_part-requires-clause-ready g c =
+pub read_items-requires : goal.read_items-requires
+read_items-requires g c =
     let S = g.S.Source in
     let a = c.args.builder.now in let t = c.args.tables.now in let k = c.args.cursor.now in let b = c.loop-frames.builder in let u = c.loop-frames.tables in let d = c.loop-frames.cursor in let fs = c.loop-frames.frames in
     let i = c.loop-frames.innermost.node in let p = c.loop-frames.innermost.todo in
     let b1 = c.go_on.new.builder in let u1 = c.go_on.new.tables in let e = c.go_on.new.cursor in
     let h = rw (c.in-Wait-Item-default.is, c.in-Wait-Item-default.field-0-is) at c.in_ok-todo.ensures in
     let so = go_wait S.tells S.left S.faults a b t u k d fs i p c.loop-frames.invariant b1 u1 e h.still_ready h.stays (let x = h.goes.same_bound in let y = h.stays in omega arith) role.Item c.in-Wait-Item-default.todo h.goes h.answers h.holds in
-    so.ready
+    record { arena = a; tables = t; cursor = k; so = so }
 
-pub read_part-requires-in-Wait-clause-ready : goal.read_part-requires-in-Wait-clause-ready
-read_part-requires-in-Wait-clause-ready g c =
+pub read_part-requires-clause-ready : goal.read_part-requires-clause-ready
+read_part-requires-clause-ready g c =
     let S = g.S.Source in
     let a = c.args.builder.now in let t = c.args.tables.now in let k = c.args.cursor.now in let b = c.loop-frames.builder in let u = c.loop-frames.tables in let d = c.loop-frames.cursor in let fs = c.loop-frames.frames in
     let i = c.loop-frames.innermost.node in let p = c.loop-frames.innermost.todo in
@@ -100,17 +100,6 @@ read_part-requires-in-Wait-clause-ready g c =
 
 pub read_part-requires-clause-waits : goal.read_part-requires-clause-waits
 read_part-requires-clause-waits g c =
-    let S = g.S.Source in
-    let a = c.args.builder.now in let t = c.args.tables.now in let k = c.args.cursor.now in let b = c.loop-frames.builder in let u = c.loop-frames.tables in let d = c.loop-frames.cursor in let fs = c.loop-frames.frames in
-    let i = c.loop-frames.innermost.node in let p = c.loop-frames.innermost.todo in
-    let b1 = c.go_on.new.builder in let u1 = c.go_on.new.tables in let e = c.go_on.new.cursor in
-    let h = rw (c.in-Wait-Item-default.is, c.in-Wait-Item-default.field-0-is) at c.in_ok-todo.ensures in
-    let so = go_wait S.tells S.left S.faults a b t u k d fs i p c.loop-frames.invariant b1 u1 e h.still_ready h.stays (let x = h.goes.same_bound in let y = h.stays in omega arith) role.Item c.in-Wait-Item-default.todo h.goes h.answers h.holds in
-    let f : Frame = record { node = i; role = role.Item; todo = c.in-Wait-Item-default.todo } in
-    waits_any (Nested a (suc (left_of e)) fs) (left_of e) b1 f so.holds
-
-pub read_part-requires-in-Wait-clause-waits : goal.read_part-requires-in-Wait-clause-waits
-read_part-requires-in-Wait-clause-waits g c =
     let S = g.S.Source in
     let a = c.args.builder.now in let t = c.args.tables.now in let k = c.args.cursor.now in let b = c.loop-frames.builder in let u = c.loop-frames.tables in let d = c.loop-frames.cursor in let fs = c.loop-frames.frames in
     let i = c.loop-frames.innermost.node in let p = c.loop-frames.innermost.todo in
@@ -128,7 +117,7 @@ returns-in_err-innermost-in-Wait-Item-default-clause-goes g c =
     let b1 = c.go_on.new.builder in let u1 = c.go_on.new.tables in let e = c.go_on.new.cursor in
     let h = rw (c.in-Wait-Item-default.is, c.in-Wait-Item-default.field-0-is) at c.in_ok-todo.ensures in
     let so = go_wait S.tells S.left S.faults a b t u k d fs i p c.loop-frames.invariant b1 u1 e h.still_ready h.stays (let x = h.goes.same_bound in let y = h.stays in omega arith) role.Item c.in-Wait-Item-default.todo h.goes h.answers h.holds in
-    goes_passed S.tells S.left S.faults k e c.read_part.new.cursor c.from_residual-in_err-innermost-in-Wait-Item-default.result c.in_err-innermost-in-Wait-Item-default.field-0.0 c.from_residual-in_err-innermost-in-Wait-Item-default.ensures.1 so.goes c.in_err-innermost-in-Wait-Item-default.ensures.goes
+    goes_passed S.tells S.left S.faults k e c.read_items.new.cursor c.from_residual-in_err-innermost-in-Wait-Item-default.result c.in_err-innermost-in-Wait-Item-default.field-0.0 c.from_residual-in_err-innermost-in-Wait-Item-default.ensures.1 so.goes c.in_err-innermost-in-Wait-Item-default.ensures.goes
 
 pub returns-in_err-innermost-in-Wait-clause-goes : goal.returns-in_err-innermost-in-Wait-clause-goes
 returns-in_err-innermost-in-Wait-clause-goes g c =
@@ -138,7 +127,7 @@ returns-in_err-innermost-in-Wait-clause-goes g c =
     let b1 = c.go_on.new.builder in let u1 = c.go_on.new.tables in let e = c.go_on.new.cursor in
     let h = rw c.in-Wait.is at c.in_ok-todo.ensures in
     let so = go_wait S.tells S.left S.faults a b t u k d fs i p c.loop-frames.invariant b1 u1 e h.still_ready h.stays (let x = h.goes.same_bound in let y = h.stays in omega arith) c.in-Wait.role c.in-Wait.todo h.goes h.answers h.holds in
-    goes_passed S.tells S.left S.faults k e c.read_part-in-Wait.new.cursor c.from_residual-in_err-innermost-in-Wait.result c.in_err-innermost-in-Wait.field-0.0 c.from_residual-in_err-innermost-in-Wait.ensures.1 so.goes c.in_err-innermost-in-Wait.ensures.goes
+    goes_passed S.tells S.left S.faults k e c.read_part.new.cursor c.from_residual-in_err-innermost-in-Wait.result c.in_err-innermost-in-Wait.field-0.0 c.from_residual-in_err-innermost-in-Wait.ensures.1 so.goes c.in_err-innermost-in-Wait.ensures.goes
 
 pub returns-in_err-innermost-in-Wait-Item-default-clause-answers : goal.returns-in_err-innermost-in-Wait-Item-default-clause-answers
 returns-in_err-innermost-in-Wait-Item-default-clause-answers g c = λ n lt.
@@ -149,7 +138,7 @@ returns-in_err-innermost-in-Wait-Item-default-clause-answers g c = λ n lt.
     let h = rw (c.in-Wait-Item-default.is, c.in-Wait-Item-default.field-0-is) at c.in_ok-todo.ensures in
     let so = go_wait S.tells S.left S.faults a b t u k d fs i p c.loop-frames.invariant b1 u1 e h.still_ready h.stays (let x = h.goes.same_bound in let y = h.stays in omega arith) role.Item c.in-Wait-Item-default.todo h.goes h.answers h.holds in
     let x = c.in_err-innermost-in-Wait-Item-default.ensures.follows in
-    passed_on S.tells S.left S.faults _ (value_layout n (state_of a t)) k c.read_part.new.cursor c.from_residual-in_err-innermost-in-Wait-Item-default.result c.in_err-innermost-in-Wait-Item-default.field-0.0 c.from_residual-in_err-innermost-in-Wait-Item-default.ensures.1 (x.ends a t k so n lt)
+    passed_on S.tells S.left S.faults _ (value_layout n (state_of a t)) k c.read_items.new.cursor c.from_residual-in_err-innermost-in-Wait-Item-default.result c.in_err-innermost-in-Wait-Item-default.field-0.0 c.from_residual-in_err-innermost-in-Wait-Item-default.ensures.1 (x.ends a t k so n lt)
 
 pub returns-in_err-innermost-in-Wait-clause-answers : goal.returns-in_err-innermost-in-Wait-clause-answers
 returns-in_err-innermost-in-Wait-clause-answers g c = λ n lt.
@@ -160,7 +149,7 @@ returns-in_err-innermost-in-Wait-clause-answers g c = λ n lt.
     let h = rw c.in-Wait.is at c.in_ok-todo.ensures in
     let so = go_wait S.tells S.left S.faults a b t u k d fs i p c.loop-frames.invariant b1 u1 e h.still_ready h.stays (let x = h.goes.same_bound in let y = h.stays in omega arith) c.in-Wait.role c.in-Wait.todo h.goes h.answers h.holds in
     let x = c.in_err-innermost-in-Wait.ensures.follows in
-    passed_on S.tells S.left S.faults _ (value_layout n (state_of a t)) k c.read_part-in-Wait.new.cursor c.from_residual-in_err-innermost-in-Wait.result c.in_err-innermost-in-Wait.field-0.0 c.from_residual-in_err-innermost-in-Wait.ensures.1 (x.ends a t k so n lt)
+    passed_on S.tells S.left S.faults _ (value_layout n (state_of a t)) k c.read_part.new.cursor c.from_residual-in_err-innermost-in-Wait.result c.in_err-innermost-in-Wait.field-0.0 c.from_residual-in_err-innermost-in-Wait.ensures.1 (x.ends a t k so n lt)
 
 pub loop-frames-preserved-in-Wait-Item-default : goal.loop-frames-preserved-in-Wait-Item-default
 loop-frames-preserved-in-Wait-Item-default g c =
