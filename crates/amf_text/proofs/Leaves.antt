@@ -36,7 +36,7 @@ byte_small : (k n : ℕ) → byte_at k n < 256
 byte_small zero n = mod-lt n (omega arith)
 byte_small (suc k) n = mod-lt (n / 256 ^ suc k) (omega arith)
 
-bytes_small : (k n : ℕ) → AllByRecursion (λ b. b < 256) (bytes_high_first k n)
+pub bytes_small : (k n : ℕ) → AllByRecursion (λ b. b < 256) (bytes_high_first k n)
 bytes_small zero n = tt
 bytes_small (suc k) n = (byte_small k n, bytes_small k n)
 

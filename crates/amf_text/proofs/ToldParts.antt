@@ -48,7 +48,7 @@ module _ (g : Graph) (w : Way) (few : length g.nodes < 2 ^ 64) (a : IsOrder g w.
       let within : o.0 < length w.order = slice_get_within w.order o.0 i o.1 in
       (o.0, o.1, place_there w.order o.0 i (order_once g w.order a) o.1, omega (arith, short, within, few))
 
-  labels_differ : (j k b c : ℕ) → j < k → slice_get w.table j ≡ Some b → slice_get w.table k ≡ Some c → label_of w b ≡ label_of w c → ⊥
+  pub labels_differ : (j k b c : ℕ) → j < k → slice_get w.table j ≡ Some b → slice_get w.table k ≡ Some c → label_of w b ≡ label_of w c → ⊥
   labels_differ j k b c l e f same =
       let p = placed j b e in
       let q = placed k c f in
@@ -58,7 +58,7 @@ module _ (g : Graph) (w : Way) (few : length g.nodes < 2 ^ 64) (a : IsOrder g w.
       let equal : p.0 ≡ q.0 = sym one ∙ ap (digits_value 10) same ∙ two in
       omega (arith, less, equal)
 
-not_same : (x y : List ℕ) → (x ≡ y → ⊥) → bytes_eq x y ≡ false
+pub not_same : (x y : List ℕ) → (x ≡ y → ⊥) → bytes_eq x y ≡ false
 not_same x y n = go (bytes_eq x y) refl
   where
     go : (b : Bool) → bytes_eq x y ≡ b → bytes_eq x y ≡ false
@@ -107,7 +107,7 @@ head_is_body (doubles f ns) ps ts = refl
 head_is_body (values f x) ps ts = refl
 head_is_body (dictionary f) ps ts = refl
 
-tree_is_body : (tr : Value → Tree) (n : Node) → is_body (node_tree tr n) ≡ true
+pub tree_is_body : (tr : Value → Tree) (n : Node) → is_body (node_tree tr n) ≡ true
 tree_is_body tr n = head_is_body n.head (map (λ p. (p.0, tr p.1)) (by_name n.names)) (map tr n.values)
 
 module _ (digits : Digits) (bare : Bool) (g : Graph) (w : Way) (d : AreDigits digits) (whole : IsWhole g) (few : length g.nodes < 2 ^ 64) (way : IsWay digits bare g w) where

@@ -19,6 +19,12 @@ pub mod TextTheorems
 pub mod ToldTrees
 pub mod ValueLaws
 pub mod DocumentLaws
+pub mod LinkLaws
+pub mod DigitLaws
+pub mod TokenLaws
+pub mod GraphLaws
+pub mod ReadsBack
+pub mod OneMeaning
 pub mod WorkedTexts
 pub mod WorkedMeanings
 pub mod WorkedRefusals

@@ -1,9 +1,15 @@
 ghost use Rattle.amf_text.specs.AskLaws.{FaultLawsHold, GoalLawsHold};
+ghost use Rattle.amf_text.specs.DigitLaws.{AnyDigits};
 ghost use Rattle.amf_text.specs.DocumentLaws.{DocumentIsMeant};
+ghost use Rattle.amf_text.specs.GraphLaws.{GraphIsRead};
 ghost use Rattle.amf_text.specs.LeafLaws.{LeafLaws};
+ghost use Rattle.amf_text.specs.LinkLaws.{LinkLaws};
 ghost use Rattle.amf_text.specs.NumberLaws.{DigitsExist, NumberLaws};
+ghost use Rattle.amf_text.specs.OneMeaning.{OneMeaning};
+ghost use Rattle.amf_text.specs.ReadsBack.{ReadsBack};
 ghost use Rattle.amf_text.specs.TextLaws.{TextLaws};
 ghost use Rattle.amf_text.specs.TextTheorems.{SameJson, JsonExists};
+ghost use Rattle.amf_text.specs.TokenLaws.{TextIsJson};
 ghost use Rattle.amf_text.specs.ToldTrees.{ToldIsMeant};
 ghost use Rattle.amf_text.specs.ValueLaws.{ValueLaws};
 ghost use Rattle.amf_text.specs.WorkedDocuments.{DocumentRows};
@@ -90,4 +96,34 @@ pub fn value_laws()
 /// The canonical JSON of each document means something, where labels may still lead nowhere.
 pub fn document_laws()
     ensures { DocumentIsMeant }
+{}
+
+/// Each label in the canonical JSON of a value or a file is one of a row of its table.
+pub fn link_laws()
+    ensures { LinkLaws }
+{}
+
+/// In whatever digits its doubles are told, a text is that of JSON which means the same.
+pub fn digit_laws()
+    ensures { AnyDigits }
+{}
+
+/// A canonical text is UTF-8, and that of JSON which means what the canonical JSON does.
+pub fn token_laws()
+    ensures { TextIsJson }
+{}
+
+/// The graph that the canonical JSON of a value means is isomorphic to the one of which it is told; of one that is told bare, to the one with integers.
+pub fn graph_laws()
+    ensures { GraphIsRead }
+{}
+
+/// A canonical text reads back: it means a document whose graphs are isomorphic to those of which it is told; what is told bare is read with integers.
+pub fn reads_back()
+    ensures { ReadsBack }
+{}
+
+/// A text means at most one document; what a canonical text means matches the document of which it is told.
+pub fn one_meaning()
+    ensures { OneMeaning }
 {}
