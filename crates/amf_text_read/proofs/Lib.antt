@@ -4,3 +4,8 @@ pub mod ModeSteps
 pub mod Parting
 pub mod Passing
 pub mod Scanning
+pub mod Tagged
+pub mod Left
+pub mod Counted
+pub mod Labels
+pub mod BadNext

@@ -2,3 +2,12 @@
 pub mod Places
 -- Devices of the proofs: no clause of a public call needs them.
 pub mod Modes
+pub mod TagNames
+pub mod Names
+pub mod Goals
+pub mod Flags
+pub mod Reasons
+pub mod Nesting
+pub mod NextGoals
+pub mod Lists
+pub mod Meets

@@ -1,9 +1,10 @@
 -- What is told one after another.
-use Rattle.std.proofs.Common.{◌≡◌, ℕ, List, [], ◌∷◌, ◌++◌, refl, sym, ap, ◌∙◌, append_assoc, append-nil, inl}
+use Rattle.std.proofs.Common.{◌≡◌, ℕ, Bool, true, false, List, [], ◌∷◌, ◌++◌, refl, sym, ap, ◌∙◌, append_assoc, append-nil, inl}
 use Rattle.std.specs.Prelude.{Result, Ok, Err, OnOk}
-use Rattle.json.specs.Token.{Token, begin_object, end_object, key}
+use Rattle.json.specs.Token.{Token, begin_object, end_object, key, boolean}
 use Rattle.amf_text_write.specs.Laid.{Shown, with_more}
 use Rattle.amf_text_write.specs.Tells.{AreTokensOf, Tells}
+use Rattle.amf_text_write.specs.Flags.{flag_tokens}
 
 pub more_then : (s : Shown) (ts us : List Token) → with_more (with_more s ts) us ≡ with_more s (ts ++ us)
 more_then s ts us = ap (λ l. record { by_lines = s.by_lines; tokens = l }) (append_assoc s.tokens ts us)
@@ -55,3 +56,13 @@ pub alone_told : (tag : List ℕ) (ts : List Token) (a b c e f : Shown)
 alone_told tag ts a b c e f x y z w =
     tells_then (begin_object ∷ []) (key tag ∷ (ts ++ end_object ∷ [])) a b f (exactly (begin_object ∷ []) a b x)
     (tells_then (key tag ∷ []) (ts ++ end_object ∷ []) b c f (exactly (key tag ∷ []) b c y) (tells_then ts (end_object ∷ []) c e f z (exactly (end_object ∷ []) e f w)))
+
+-- a member that stands where its flag holds
+
+pub flag_off : (s : Shown) (name : List ℕ) (f : Bool) → f ≡ false → s ≡ with_more s (flag_tokens name f)
+flag_off s name true e = cc
+flag_off s name false e = more_none s
+
+pub flag_on : (a b : Shown) (name : List ℕ) (f : Bool) → f ≡ true → b ≡ with_more a (key name ∷ boolean true ∷ []) → b ≡ with_more a (flag_tokens name f)
+flag_on a b name true e is = is
+flag_on a b name false e is = cc

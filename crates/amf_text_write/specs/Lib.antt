@@ -4,3 +4,17 @@ pub mod ValueTexts
 pub mod Laid
 pub mod Tells
 pub mod TellsLeaves
+pub mod Flags
+pub mod Parts
+pub mod Pieces
+pub mod Ways
+pub mod Names
+pub mod Opening
+pub mod Objects
+pub mod PutParts
+pub mod OpenedNodes
+pub mod PartsInWay
+pub mod Walk
+pub mod Counts
+pub mod Levels
+pub mod Rows

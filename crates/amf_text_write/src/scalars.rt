@@ -5,6 +5,7 @@ ghost use Rattle.json.specs.Token as spec;
 ghost use Rattle.json.specs.Tree.{json_tokens, members_tokens};
 ghost use Rattle.amf_wire.specs.Text.{IsText};
 ghost use Rattle.amf_text.specs.Scalars.{word, alone, hex, told_text};
+ghost use Rattle.amf_text_write.specs.Flags.{flag_tokens};
 ghost use Rattle.amf_text_write.specs.Laid.{with_more};
 
 use crate::layout::Output;
@@ -13,7 +14,7 @@ use itoa::Buffer;
 use json::Token;
 use std::alloc::Global;
 
-/// Texts, integers, and what stands for undefined.
+/// Texts, integers, flags, and what stands for undefined.
 impl Output {
     /// An integer in decimal digits.
     pub(crate) fn int(&mut self, int: i64) -> Result<(), Memory>
@@ -21,6 +22,14 @@ impl Output {
     {
         let mut digits = Buffer::new();
         self.token(Token::Number(digits.format(int)))
+    }
+
+    /// A number in decimal digits.
+    pub(crate) fn uint(&mut self, uint: u64) -> Result<(), Memory>
+        ensures { OnOk result (self.new ≡ with_more self.old (spec.number (decimal uint) ∷ [])) }
+    {
+        let mut digits = Buffer::new();
+        self.token(Token::Number(digits.format(uint)))
     }
 
     /// Bytes as a string of their hexadecimal digits.
@@ -52,6 +61,17 @@ impl Output {
         }
     }
 
+    /// An object of one member whose value is a text.
+    pub(crate) fn text_alone(&mut self, alloc: Global, tag: &str, text: &[u8]) -> Result<(), Memory>
+        requires { IsText text.now }
+        ensures { OnOk result (self.new ≡ with_more self.old (json_tokens (alone tag.now (told_text text.now)))) }
+    {
+        self.token(Token::BeginObject)?;
+        self.key(tag)?;
+        self.text(alloc, text)?;
+        self.token(Token::EndObject)
+    }
+
     /// What stands for undefined.
     pub(crate) fn undefined(&mut self) -> Result<(), Memory>
         ensures { OnOk result (self.new ≡ with_more self.old (json_tokens (alone (codes "$undefined") (json.boolean true)))) }
@@ -60,5 +80,16 @@ impl Output {
         self.key("$undefined")?;
         self.flag(true)?;
         self.token(Token::EndObject)
+    }
+
+    /// A member that stands where its flag holds.
+    pub(crate) fn flag_member(&mut self, name: &str, flag: bool) -> Result<(), Memory>
+        ensures { OnOk result (self.new ≡ with_more self.old (flag_tokens name.now flag)) }
+    {
+        if !flag {
+            return Ok(());
+        }
+        self.key(name)?;
+        self.flag(true)
     }
 }
