@@ -9,7 +9,6 @@ ghost use Rattle.amf_gateway.specs.Answered.{IsAnswerable, HasRoom, most_body, S
 ghost use Rattle.amf_answer_plan.specs.Services.{services_of};
 ghost use Rattle.amf_answer_plan.specs.Says.{Says, Tells};
 ghost use Rattle.amf_answer_plan.specs.Did.{Stopped};
-ghost use Rattle.amf_answer_plan.specs.Flex.{flex as flex_plan};
 ghost use Rattle.amf_answer_plan.specs.PlainCalls.{at_last_dot, plain_call as plain_plan};
 ghost use Rattle.amf_answer_plan.specs.Packets.{answer_to as answer_plan, answers_to as answers_plan, messages_back as back_plan};
 ghost use Rattle.amf_answer_plan.specs.Packets.{suffix as suffix_of, null_uri, is_long as is_long_content, has_long as has_long_content};
@@ -17,7 +16,7 @@ ghost use Rattle.amf_answer_plan.specs.Packets.{suffix as suffix_of, null_uri, i
 use amf_answer_plan::message_answer::MessageAnswer;
 use amf_answer_plan::outside::{Outside, Unanswered};
 use amf_flex_replies::flex::flex;
-use amf_packet::{Body, Message, Packet, SpelledMessage, spelled_packet};
+use amf_packet::{Message, Packet, SpelledMessage, spelled_packet};
 use amf_plain_calls::plain_call::plain_call;
 use amf_service::Registry;
 use amf_wire::{Memory, Name};

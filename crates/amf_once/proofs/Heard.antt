@@ -4,7 +4,7 @@ use Rattle.std.specs.Prelude.{◌==◌, nat_lt, if◌then◌else◌, slice_get, 
 use Rattle.std.proofs.lemmas.List.{append-nil}
 use Rattle.amf_broker.specs.declared.reply.Delivery.{Delivery}
 use Rattle.amf_broker.specs.declared.reply.Answer.{Answer as Told}
-use Rattle.amf_once.specs.declared.bench.Bench.{Bench}
+use Rattle.amf_once.specs.declared.exchange.Exchange.{Exchange}
 use Rattle.amf_once.specs.declared.taker.Taken.TheVariants.{New, Old, Ahead}
 use Rattle.amf_once.specs.Taking.{Said, fresh, repeated, other, says}
 use Rattle.amf_once.specs.Hearing.{asks_then, taken_of}
@@ -33,7 +33,7 @@ hears w (fresh n ds) = took_hears w ds (n == w.asks) (nat_lt n w.asks)
 hears w (repeated n ds) = took_hears w ds (n == w.asks) (nat_lt n w.asks)
 hears w other = record { asks_is = refl; taken_is = sym (append-nil w.taken); state_is = refl; requests_is = refl; answers_is = refl }
 
-pub heard_shown : (old new : Bench) (w : Course) (a : Told) (place : ℕ) → slice_get old.answers.items place ≡ Some a
+pub heard_shown : (old new : Exchange) (w : Course) (a : Told) (place : ℕ) → slice_get old.answers.items place ≡ Some a
     → new.broker ≡ old.broker → new.requests.items ≡ old.requests.items → new.answers.items ≡ old.answers.items
     → new.taker ≡ asks_then (says a.reply) old.taker → new.taken.items ≡ old.taken.items ++ taken_of (says a.reply) old.taker
     → Shows old w → Shows new (answered (slice_get w.answers place) w)

@@ -11,7 +11,7 @@ use Rattle.amf_once.specs.declared.taker.Taken.{Taken}
 use Rattle.amf_once.specs.declared.taker.Taken.TheVariants.{New, Old, Ahead}
 use Rattle.amf_once.specs.declared.event.Event.{Event}
 use Rattle.amf_once.specs.declared.event.Event.TheVariants.{Ask, Arrive, Answer, Other}
-use Rattle.amf_once.specs.declared.bench.Bench.{Bench}
+use Rattle.amf_once.specs.declared.exchange.Exchange.{Exchange}
 use Rattle.amf_once.specs.Taking.{judged, Said, fresh, repeated, other, says}
 use Rattle.amf_once.specs.Hearing.{Below, AllSay}
 use Rattle.amf_once.specs.Course.{Course, start, took, heard, answered, arrived, called, is_barred, step, run}
@@ -80,9 +80,9 @@ form-below w n less (inr l) = all_weaken (Near w.asks l.batch) (Below n) w.answe
     far (repeated k ds) (inr e) = let is = e.0 in omega arith
     far other b = tt
 
--- What the next event asks of a bench.
+-- What the next event asks of an exchange.
 
-pub calls_fit : (names : List (List ℕ)) (es later all : List Event) (b : Bench) → es ++ later ≡ all → length all < 4294967296 → Shows b (run es (start names)) → b.broker.calls < 4611686018427387904
+pub calls_fit : (names : List (List ℕ)) (es later all : List Event) (b : Exchange) → es ++ later ≡ all → length all < 4294967296 → Shows b (run es (start names)) → b.broker.calls < 4611686018427387904
 calls_fit names es later all b parts few s =
     let more = run-calls es (start names) in
     let one = start-calls names in
@@ -91,7 +91,7 @@ calls_fit names es later all b parts few s =
     let less : (run es (start names)).state.calls < 4611686018427387904 = omega arith in
     subst (λ (t : State). t.calls < 4611686018427387904) (sym s.state) less
 
-pub answers_fit : (names : List (List ℕ)) (es later all : List Event) (b : Bench) → es ++ later ≡ all → length all < 4294967296 → Shows b (run es (start names)) → AllSay (Below 4611686018427387904) b.answers.items
+pub answers_fit : (names : List (List ℕ)) (es later all : List Event) (b : Exchange) → es ++ later ≡ all → length all < 4294967296 → Shows b (run es (start names)) → AllSay (Below 4611686018427387904) b.answers.items
 answers_fit names es later all b parts few s =
     let w = run es (start names) in
     let asked = few_asked names es in

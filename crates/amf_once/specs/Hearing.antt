@@ -1,4 +1,4 @@
--- What a bench keeps of a reply that its taker hears, and what it needs of the replies that it may hear. A device of proofs.
+-- What an exchange keeps of a reply that its taker hears, and what it needs of the replies that it may hear. A device of proofs.
 use Rattle.std.specs.Prelude.{ℕ, ◌+◌, ◌<◌, ◌==◌, if◌then◌else◌, List, [], ◌∷◌}
 use Rattle.amf_broker.specs.declared.reply.Delivery.{Delivery}
 use Rattle.amf_broker.specs.declared.reply.Answer.{Answer as Told}

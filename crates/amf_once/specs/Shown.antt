@@ -1,10 +1,10 @@
--- What of a course a bench holds. A device of proofs.
+-- What of a course an exchange holds. A device of proofs.
 use Rattle.std.specs.Prelude.{◌≡◌}
-use Rattle.amf_once.specs.declared.bench.Bench.{Bench}
+use Rattle.amf_once.specs.declared.exchange.Exchange.{Exchange}
 use Rattle.amf_once.specs.Course.{Course}
 
 -- a broker, a taker and the lists between them are those of the course
-pub record Shows (b : Bench) (w : Course) : Type 0 where
+pub record Shows (b : Exchange) (w : Course) : Type 0 where
   pub state : b.broker ≡ w.state
   pub asks : b.taker ≡ w.asks
   pub requests : b.requests.items ≡ w.requests

@@ -8,8 +8,8 @@
 //! contract says what holds after every such list: nothing is lost, nothing comes twice, and all is in order.
 #![tactic(auto)]
 
-mod bench;
 mod event;
+mod exchange;
 mod laws;
 mod playing;
 mod taker;

@@ -3,7 +3,7 @@ ghost use Rattle.amf_once.specs.Course.{start, run};
 ghost use Rattle.amf_once.specs.Once.{IsOnce};
 ghost use Rattle.amf_once.specs.Worlds.{IsWorldOf};
 
-use crate::bench::Bench;
+use crate::exchange::Exchange;
 use crate::{Event, World};
 use amf_wire::{Memory, Name};
 use std::alloc::Global;
@@ -22,9 +22,9 @@ pub fn replay(alloc: Global, destinations: Vec<Name>, events: Vec<Event>) -> Res
     // So each message is taken at most once and in order, and none is lost.
     ensures once { IsOnce events.items (run events.items (start destinations.items)) }
 {
-    let mut bench = Bench::new(alloc, destinations)?;
+    let mut exchange = Exchange::new(alloc, destinations)?;
     for event in events {
-        bench.happen(alloc, event)?;
+        exchange.happen(alloc, event)?;
     }
-    Ok(bench.into_world())
+    Ok(exchange.into_world())
 }

@@ -1,4 +1,4 @@
-//! Graphs that are made of a seed, as large inputs.
+//! Graphs that are made of a seed, as large inputs; and values with their canonical spellings.
 #![tactic(auto)]
 
 mod facts;

@@ -1,4 +1,4 @@
-//! Passes over RTMP chunk streams: what a handler makes of each message is written to a sink.
+//! Writes RTMP chunk streams again, in chunks of another size; and the pass by which it does so: what a handler makes of each message is written to a sink.
 #![tactic(auto)]
 
 mod handler;

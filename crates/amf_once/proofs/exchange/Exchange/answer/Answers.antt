@@ -9,7 +9,7 @@ use Rattle.amf_once.specs.Course.{answered}
 use Rattle.amf_once.specs.Shown.{Shows}
 use Rattle.amf_once.proofs.Answering.{all_item}
 use Rattle.amf_once.proofs.Heard.{on_ok, heard_shown}
-use Rattle.amf_once.proofs.bench.Bench.answer.Goals as goal
+use Rattle.amf_once.proofs.exchange.Exchange.answer.Goals as goal
 
 pub hear-requires : goal.hear-requires
 hear-requires c =

@@ -12,7 +12,7 @@ use std::alloc::Global;
 
 /// A broker with its client 1, and a taker, with the requests and answers between them.
 #[derive(Drop)]
-pub(crate) struct Bench {
+pub(crate) struct Exchange {
     broker: Broker,
     taker: Taker,
     requests: Vec<u64>,
@@ -20,14 +20,14 @@ pub(crate) struct Bench {
     taken: Vec<Delivery>,
 }
 
-impl Bench {
+impl Exchange {
     /// A new broker of these destinations, to which client 1 comes at moment 0.
-    pub(crate) fn new(alloc: Global, destinations: Vec<Name>) -> Result<Bench, Memory>
-        ensures { IfOk result (λ bench. Shows bench (start destinations.items)) }
+    pub(crate) fn new(alloc: Global, destinations: Vec<Name>) -> Result<Exchange, Memory>
+        ensures { IfOk result (λ exchange. Shows exchange (start destinations.items)) }
     {
         let mut broker = Broker::new(alloc, destinations)?;
         broker.step(alloc, 0, Call::Connect)?;
-        Ok(Bench {
+        Ok(Exchange {
             broker,
             taker: Taker::new(),
             requests: Vec::new(alloc),
