@@ -4,3 +4,5 @@ pub mod Held
 pub mod Viewed
 pub mod Alike
 pub mod Rows
+pub mod Texts
+pub mod Hexes

@@ -3,7 +3,6 @@ ghost use Rattle.std.specs.Fmt.{signed_decimal};
 ghost use Rattle.amf_show.specs.Joining.{separator_before};
 ghost use Rattle.amf_show.specs.Shown.{shown_double};
 
-use crate::text::push_hex;
 use amf_wire::{Memory, Pattern};
 use itoa::Buffer;
 
@@ -45,10 +44,15 @@ pub(crate) fn push_uint(uint: u32, out: &mut Vec<u8>) -> Result<(), Memory>
 }
 
 /// Appends the sixteen hexadecimal digits of a double's bits behind a `d`.
-#[tactic(auto, unfolding(crate::specs::Shown::shown_double))]
 pub(crate) fn push_double(double: Pattern, out: &mut Vec<u8>) -> Result<(), Memory>
     ensures { OnOk result (out.new.items ≡ out.old.items ++ shown_double double.0) }
 {
-    out.extend_from_slice(b"d")?;
-    push_hex(&double.0.to_be_bytes(), out)
+    let mut digits = [0; 16];
+    match hex::encode_to_slice(double.0.to_be_bytes(), &mut digits) {
+        Ok(()) => {}
+        Err(_) => unreachable!(),
+    }
+    out.push(b'd')?;
+    out.extend_from_slice(&digits)?;
+    Ok(())
 }

@@ -1,5 +1,5 @@
 ghost use Rattle.std.specs.Prelude.{◌≡◌, ◌<◌, ◌++◌, OnOk, OnErr};
-ghost use Rattle.std.specs.List.{flat_map};
+ghost use Rattle.std.specs.List.{flat_map, list_all};
 ghost use Rattle.amf_show.specs.Shown.{hex_digit, hex_byte, is_plain, shown_byte, shown_text};
 
 use amf_wire::Memory;
@@ -71,14 +71,33 @@ fn push_byte(byte: u8, out: &mut Vec<u8>) -> Result<(), Memory>
     push_hex_byte(byte, out)
 }
 
-/// Appends the bytes of a text.
-fn push_bytes(bytes: &[u8], out: &mut Vec<u8>) -> Result<(), Memory>
+/// Whether each byte of a text stands for itself.
+fn are_plain(bytes: &[u8]) -> bool
+    ensures { result ≡ list_all is_plain bytes.now }
+{
+    bytes.iter().all(|byte| is_plain(*byte))
+}
+
+/// Appends the bytes of a text one after the other.
+fn push_each_byte(bytes: &[u8], out: &mut Vec<u8>) -> Result<(), Memory>
     ensures { OnOk result (out.new.items ≡ out.old.items ++ flat_map shown_byte bytes.now) }
 {
     for byte in bytes {
         push_byte(*byte, out)?;
     }
     Ok(())
+}
+
+/// Appends the bytes of a text: at once where each stands for itself.
+#[tactic(auto, using(crate::proofs::Texts::plain_shown))]
+fn push_bytes(bytes: &[u8], out: &mut Vec<u8>) -> Result<(), Memory>
+    ensures { OnOk result (out.new.items ≡ out.old.items ++ flat_map shown_byte bytes.now) }
+{
+    if are_plain(bytes) {
+        out.extend_from_slice(bytes)?;
+        return Ok(());
+    }
+    push_each_byte(bytes, out)
 }
 
 /// Appends a text between its quotation marks.
