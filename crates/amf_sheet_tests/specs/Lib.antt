@@ -1,0 +1,2 @@
+-- What the sheets of the tests hold.
+pub mod Sheets
