@@ -36,6 +36,13 @@ pub mod Rewritten
 pub mod RewrittenDocuments
 pub mod OtherDigits
 pub mod PlainTexts
+pub mod IfThere
+pub mod Utf8Texts
+pub mod TokenTexts
+pub mod WholeScalars
+pub mod WholeTrees
+pub mod WholeGraphs
+pub mod WholeDocuments
 pub mod Writable
 pub mod ToldWritable
 pub mod TextsRead
@@ -47,3 +54,4 @@ pub mod TextLists
 pub mod ReadGraph
 pub mod ReadsBack
 pub mod OneMeaning
+pub mod RoundTrip

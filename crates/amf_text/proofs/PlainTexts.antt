@@ -1,14 +1,14 @@
--- A text is UTF-8 where none of its units is a zero by two bytes or a surrogate.
+-- A text is UTF-8 exactly where none of its units is a zero by two bytes or a surrogate.
 use Rattle.std.proofs.Common.{◌≡◌, ◌≢◌, ℕ, ◌+◌, ◌-◌, ◌*◌, ◌/◌, ◌%◌, ◌≤◌, ◌<◌, ◌⊎◌, inl, inr, zero, suc, lit<, lit≤, Option, None, Bool, true, false, List, [], ◌∷◌, ◌++◌, refl, sym, ap, ap₂, ◌∙◌, subst, arith}
 use Rattle.std.specs.Prelude.{nat_le, ◌==◌, ◌&&◌, not, slice_get, Some}
 use Rattle.std.specs.List.{AllZip, AllByRecursion, concat}
 use Rattle.std.specs.Str.{IsUtf8}
 use Rattle.std.specs.Char.{IsScalar}
-use Rattle.std.proofs.lemmas.Bool.{cases_lt, cases_eq}
+use Rattle.std.proofs.lemmas.Bool.{and_parts, cases_lt, cases_eq}
 use Rattle.std.proofs.lemmas.Option.{same_Some}
 use Rattle.std.proofs.lemmas.Bool.Decides.{nat_tests}
 use Rattle.std.proofs.lemmas.Str.{IsUtf8-append, IsUtf8-nil, IsUtf8-encode}
-use Rattle.std.proofs.Math.Utf8.{encode}
+use Rattle.std.proofs.Math.Utf8.{scalars, encode, encodes, scalar_cases}
 use Rattle.amf_wire.specs.Text.{Range, rows, IsWithin, IsUnit, IsText}
 use Rattle.amf_text.specs.Scalars.{is_plain}
 
@@ -24,19 +24,19 @@ eq_false a b n = grind arith
 eq_true : (a b : ℕ) → a ≡ b → (a == b) ≡ true
 eq_true a b e = grind arith
 
-one_byte : (c : ℕ) → c < 128 → encode c ≡ c ∷ []
+pub one_byte : (c : ℕ) → c < 128 → encode c ≡ c ∷ []
 unfolding encode
 one_byte c below = grind (arith, nat_tests)
 
-two_bytes : (c : ℕ) → 128 ≤ c → c < 2048 → encode c ≡ (192 + c / 64) ∷ (128 + c % 64) ∷ []
+pub two_bytes : (c : ℕ) → 128 ≤ c → c < 2048 → encode c ≡ (192 + c / 64) ∷ (128 + c % 64) ∷ []
 unfolding encode
 two_bytes c above below = grind (arith, nat_tests)
 
-three_bytes : (c : ℕ) → 2048 ≤ c → c < 65536 → encode c ≡ (224 + c / 4096) ∷ (128 + (c / 64) % 64) ∷ (128 + c % 64) ∷ []
+pub three_bytes : (c : ℕ) → 2048 ≤ c → c < 65536 → encode c ≡ (224 + c / 4096) ∷ (128 + (c / 64) % 64) ∷ (128 + c % 64) ∷ []
 unfolding encode
 three_bytes c above below = grind (arith, nat_tests)
 
-four_bytes : (c : ℕ) → 65536 ≤ c → encode c ≡ (240 + c / 262144) ∷ (128 + (c / 4096) % 64) ∷ (128 + (c / 64) % 64) ∷ (128 + c % 64) ∷ []
+pub four_bytes : (c : ℕ) → 65536 ≤ c → encode c ≡ (240 + c / 262144) ∷ (128 + (c / 4096) % 64) ∷ (128 + (c / 64) % 64) ∷ (128 + c % 64) ∷ []
 unfolding encode
 four_bytes c above = grind (arith, nat_tests)
 
@@ -52,6 +52,39 @@ past_low b c bytes x l = go (b == 0xED)
     go : (t : Bool) → (not (b == 0xC0) && (not (t && nat_le 0xA0 c) && is_plain (c ∷ bytes))) ≡ is_plain (c ∷ bytes)
     go true = rw (eq_false b 0xC0 x, le_false 0xA0 c l) refl
     go false = rw (eq_false b 0xC0 x) refl
+
+-- UTF-8 has neither.
+
+-- 0x80 to 0xBF
+past_rest : (n : ℕ) (bytes : List ℕ) → is_plain ((128 + n % 64) ∷ bytes) ≡ is_plain bytes
+past_rest n bytes = past (128 + n % 64) bytes (λ e. omega (arith, e)) (λ e. omega (arith, e))
+
+past_three : (c : ℕ) (bytes : List ℕ) → 2048 ≤ c → (c < 55296) ⊎ (57344 ≤ c) → c < 65536 → is_plain ((224 + c / 4096) ∷ (128 + (c / 64) % 64) ∷ bytes) ≡ is_plain ((128 + (c / 64) % 64) ∷ bytes)
+past_three c bytes above side below = elim (cases_eq (c / 4096) 13) [
+  | inl e ↦ past_low (224 + c / 4096) (128 + (c / 64) % 64) bytes (λ x. omega (arith, x)) (elim side [ inl l ↦ omega (arith, l, e) | inr l ↦ absurd (omega (arith, l, e)) ])
+  | inr n ↦ past (224 + c / 4096) ((128 + (c / 64) % 64) ∷ bytes) (λ x. omega (arith, x)) (λ x. n (omega (arith, x)))
+]
+
+past_char : (c : ℕ) (bytes : List ℕ) → (c < 55296) ⊎ ((57344 ≤ c) × (c < 1114112)) → is_plain (encode c ++ bytes) ≡ is_plain bytes
+past_char c bytes side = elim (cases_lt c 128) [
+  | inl one ↦ rw (one_byte c one) (past c bytes (λ e. omega (arith, e)) (λ e. omega (arith, e)))
+  | inr more ↦ elim (cases_lt c 2048) [
+    | inl two ↦ rw (two_bytes c more two) (past (192 + c / 64) ((128 + c % 64) ∷ bytes) (λ e. omega (arith, e)) (λ e. omega (arith, e)) ∙ past_rest c bytes)
+    | inr more ↦ elim (cases_lt c 65536) [
+      | inl three ↦ rw (three_bytes c more three) (past_three c ((128 + c % 64) ∷ bytes) more (elim side [ inl l ↦ inl l | inr l ↦ inr l.0 ]) three ∙ past_rest (c / 64) ((128 + c % 64) ∷ bytes) ∙ past_rest c bytes)
+      | inr four ↦ rw (four_bytes c four) (past (240 + c / 262144) ((128 + (c / 4096) % 64) ∷ (128 + (c / 64) % 64) ∷ (128 + c % 64) ∷ bytes) (λ e. omega (arith, e)) (λ e. omega (arith, e)) ∙ past_rest (c / 4096) ((128 + (c / 64) % 64) ∷ (128 + c % 64) ∷ bytes) ∙ past_rest (c / 64) ((128 + c % 64) ∷ bytes) ∙ past_rest c bytes)
+    ]
+  ]
+]
+
+chars_plain : (cs : List ℕ) → scalars cs ≡ true → is_plain (encodes cs) ≡ true
+chars_plain [] e = refl
+chars_plain (c ∷ cs) e =
+    let parts = and_parts _ _ e in
+    past_char c (encodes cs) (scalar_cases c parts.0) ∙ chars_plain cs parts.1
+
+pub utf8_is_plain : (bytes : List ℕ) → IsUtf8 bytes → is_plain bytes ≡ true
+utf8_is_plain bytes (cs, (are, is)) = subst (λ b. is_plain b ≡ true) is (chars_plain cs are)
 
 -- a text without a zero by two bytes and without surrogates is UTF-8
 
@@ -187,3 +220,11 @@ units_utf8 (u ∷ us) all e =
 
 pub plain_is_utf8 : (bytes : List ℕ) → IsText bytes → is_plain bytes ≡ true → IsUtf8 bytes
 plain_is_utf8 bytes text e = subst IsUtf8 (sym text.2) (units_utf8 text.0 text.1 (ap is_plain (sym text.2) ∙ e))
+
+-- and what is not UTF-8 is not plain
+pub not_plain : (bytes : List ℕ) → IsText bytes → (IsUtf8 bytes → ⊥) → is_plain bytes ≡ false
+not_plain bytes text never = go (is_plain bytes) refl
+  where
+    go : (t : Bool) → is_plain bytes ≡ t → t ≡ false
+    go true e = absurd (never (plain_is_utf8 bytes text e))
+    go false e = refl

@@ -25,6 +25,8 @@ pub mod TokenLaws
 pub mod GraphLaws
 pub mod ReadsBack
 pub mod OneMeaning
+pub mod WholeLaws
+pub mod RoundTrip
 pub mod WorkedTexts
 pub mod WorkedMeanings
 pub mod WorkedRefusals

@@ -1,4 +1,4 @@
--- A text means at most one document, so what a canonical text means is the document of which it is told, but for the numbers of nodes.
+-- A text means at most one document, so what a canonical text means matches the document of which it is told, up to numbers of nodes and integers of bare ones.
 use Rattle.std.specs.Prelude.{◌≡◌, ℕ, List}
 use Rattle.amf_graph.specs.Graph.{Graph}
 use Rattle.amf_text.specs.Scalars.{Reads, read_number}

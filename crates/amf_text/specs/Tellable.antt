@@ -40,6 +40,13 @@ IsTellable (value0 g) = IsWhole g
 IsTellable (file name version g) = IsShortText name × IsWhole g × (i : ℕ) × HoldsPairs g i
 IsTellable (packet version headers messages) = IsTellablePacket version headers messages
 
+-- each graph of the document
+abbrev pub EachGraph : (Graph → Type 0) → Document Graph → Type 0
+EachGraph P (value3 g) = P g
+EachGraph P (value0 g) = P g
+EachGraph P (file name version g) = P g
+EachGraph P (packet version headers messages) = AllByRecursion (λ h. P h.graph) headers × AllByRecursion (λ m. P m.graph) messages
+
 -- The same document but for its graphs, which stand in a relation; the flag says that whole doubles stand bare.
 
 pub record HeadersMatch (R : Bool → Graph → Graph → Type 0) (a b : Header Graph) : Type 0 where

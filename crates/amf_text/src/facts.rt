@@ -7,11 +7,13 @@ ghost use Rattle.amf_text.specs.LinkLaws.{LinkLaws};
 ghost use Rattle.amf_text.specs.NumberLaws.{DigitsExist, NumberLaws};
 ghost use Rattle.amf_text.specs.OneMeaning.{OneMeaning};
 ghost use Rattle.amf_text.specs.ReadsBack.{ReadsBack};
+ghost use Rattle.amf_text.specs.RoundTrip.{RoundTrip};
 ghost use Rattle.amf_text.specs.TextLaws.{TextLaws};
 ghost use Rattle.amf_text.specs.TextTheorems.{SameJson, JsonExists};
 ghost use Rattle.amf_text.specs.TokenLaws.{TextIsJson};
 ghost use Rattle.amf_text.specs.ToldTrees.{ToldIsMeant};
 ghost use Rattle.amf_text.specs.ValueLaws.{ValueLaws};
+ghost use Rattle.amf_text.specs.WholeLaws.{WholeLaws};
 ghost use Rattle.amf_text.specs.WorkedDocuments.{DocumentRows};
 ghost use Rattle.amf_text.specs.WorkedMeanings.{MeaningRows};
 ghost use Rattle.amf_text.specs.WorkedRefusals.{RefusalRows};
@@ -126,4 +128,14 @@ pub fn reads_back()
 /// A text means at most one document; what a canonical text means matches the document of which it is told.
 pub fn one_meaning()
     ensures { OneMeaning }
+{}
+
+/// The graphs that a text means are whole, and what a text means can be told.
+pub fn whole_laws()
+    ensures { WholeLaws }
+{}
+
+/// There and back: a canonical text of a document means one that matches it and can be told again, and so does a canonical text of what any text means.
+pub fn round_trip()
+    ensures { RoundTrip }
 {}
