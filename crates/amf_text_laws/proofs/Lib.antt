@@ -1,0 +1,12 @@
+-- The lemmas.
+pub mod Kept
+pub mod LowAgain
+pub mod ThereAndBack
+pub mod Scanned
+pub mod SomeVerdict
+pub mod Counted
+pub mod CallPlaces
+pub mod Verdicts
+pub mod Sizes
+pub mod TokenSizes
+pub mod TextBounds

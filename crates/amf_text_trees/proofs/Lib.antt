@@ -1,0 +1,12 @@
+-- The lemmas.
+pub mod Taking
+pub mod Scalars
+pub mod Values
+pub mod Objects
+pub mod Documents
+pub mod Numbered
+pub mod Linking
+pub mod Shapes
+pub mod Placed
+pub mod Goods
+pub mod Laws
