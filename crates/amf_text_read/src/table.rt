@@ -124,7 +124,7 @@ pub(crate) fn when(test: bool, goals: &'static [Goal]) -> Option<&'static [Goal]
 }
 
 /// What comes in place of a goal that is met by the first key of a node.
-#[tactic(auto, unfolding(amf_text::specs::Asks::node_key))]
+#[tactic(auto, unfolding(amf_text::specs::Asks::node_key, amf_text::specs::Asks::vector_tag))]
 fn node_goals(tag: Tag) -> Option<&'static [Goal]>
     ensures { AreBehind node_key tag (listed result) }
 {
@@ -144,15 +144,7 @@ fn node_goals(tag: Tag) -> Option<&'static [Goal]>
         Tag::Doubles => Some(&[Goal::PatternList, Goal::FlagOrClose(Key::Fixed)]),
         Tag::Dictionary => Some(&[Goal::EntriesList, Goal::FlagOrClose(Key::Weak)]),
         Tag::Fixed => Some(&[Goal::Flag, Goal::VectorKey]),
-        Tag::Ints => Some(&[Goal::IntList, Goal::Close]),
-        Tag::Uints => Some(&[Goal::UintList, Goal::Close]),
-        Tag::Type => Some(&[
-            Goal::Text,
-            Goal::KeyIs(Key::Values),
-            Goal::List,
-            Goal::Close,
-        ]),
-        _ => None,
+        _ => vector_goals(tag),
     }
 }
 
@@ -189,15 +181,13 @@ fn vector_goals(tag: Tag) -> Option<&'static [Goal]>
 }
 
 /// What stands behind the first key that follows a class.
-#[tactic(auto, unfolding(amf_text::specs::Asks::class_key))]
+#[tactic(auto, unfolding(amf_text::specs::Asks::class_key, amf_text::specs::Asks::begun_key))]
 fn class_goals(tag: Tag) -> Option<&'static [Goal]>
     ensures { AreBehind class_key tag (listed result) }
 {
     match tag {
         Tag::Dynamic => Some(&[Goal::Members, Goal::Begun]),
-        Tag::Names => Some(&[Goal::ClassNames]),
-        Tag::Sealed => Some(&[Goal::Sealed, Goal::Close]),
-        _ => None,
+        _ => begun_goals(tag),
     }
 }
 

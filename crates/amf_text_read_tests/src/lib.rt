@@ -3,3 +3,5 @@
 
 #[cfg(test)]
 mod scalars_tests;
+#[cfg(test)]
+mod verdict_tests;
