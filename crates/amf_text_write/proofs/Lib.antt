@@ -4,7 +4,6 @@ pub mod Hexes
 pub mod Finite
 pub mod Telling
 pub mod ToldLeaves
-pub mod LeafTexts
 pub mod LeafValues
 pub mod Jsons
 pub mod Each
@@ -26,3 +25,9 @@ pub mod LevelSteps
 pub mod Tables
 pub mod RowSteps
 pub mod TableMarks
+pub mod Planned
+pub mod TableTokens
+pub mod Documented
+pub mod WholeTexts
+pub mod HolderPairs
+pub mod PacketParts

@@ -1,6 +1,6 @@
 -- What is told one after another.
 use Rattle.std.proofs.Common.{◌≡◌, ℕ, Bool, true, false, List, [], ◌∷◌, ◌++◌, refl, sym, ap, ◌∙◌, append_assoc, append-nil, inl}
-use Rattle.std.specs.Prelude.{Result, Ok, Err, OnOk}
+use Rattle.std.specs.Prelude.{Result, Ok, Err, OnOk, IfOk}
 use Rattle.json.specs.Token.{Token, begin_object, end_object, key, boolean}
 use Rattle.amf_text_write.specs.Laid.{Shown, with_more}
 use Rattle.amf_text_write.specs.Tells.{AreTokensOf, Tells}
@@ -40,6 +40,10 @@ tells_then ts us a b c x y = record {
 pub on_ok : {T E P Q : Type 0} (r : Result T E) → (P → Q) → OnOk r P → OnOk r Q
 on_ok (Ok v) f h = f h
 on_ok (Err e) f h = tt
+
+pub if_ok : {T E : Type 0} (r : Result T E) (P Q : T → Type 0) → ((x : T) → P x → Q x) → IfOk r P → IfOk r Q
+if_ok (Ok v) P Q f h = f v h
+if_ok (Err e) P Q f h = tt
 
 -- an object of one member
 

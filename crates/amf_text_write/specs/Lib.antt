@@ -1,5 +1,6 @@
 -- The definitions that contracts cite.
 pub mod ValueTexts
+pub mod PacketTexts
 -- Devices of the proofs: no clause of a public call needs them.
 pub mod Laid
 pub mod Tells
@@ -18,3 +19,5 @@ pub mod Walk
 pub mod Counts
 pub mod Levels
 pub mod Rows
+pub mod Plans
+pub mod Graphs

@@ -1,20 +1,11 @@
 -- What is told of a value that is no node, in each way of telling. A device of proofs.
-use Rattle.std.specs.Prelude.{◌≡◌, Bool, [], ◌∷◌, ◌++◌, Result, OnOk}
-use Rattle.json.specs.Token.{end_object}
+use Rattle.std.specs.Prelude.{◌≡◌, Bool, Result, OnOk}
 use Rattle.json.specs.Tree.{json_tokens}
 use Rattle.amf_graph.specs.Graph.{Leaf, leaf, Value}
 use Rattle.amf_text.specs.Scalars.{AreDigits}
 use Rattle.amf_text.specs.Told.{Way, told_leaf}
-use Rattle.amf_text_write.specs.declared.leaves.ValueForm.{ValueForm}
 use Rattle.amf_text_write.specs.Laid.{Shown}
 use Rattle.amf_text_write.specs.Tells.{Tells}
-use Rattle.amf_text_write.specs.ValueTexts.{is_bare, front_of}
 
--- the value
 abbrev pub TellsLeaf : {T E : Type 0} → Bool → Value → Result T E → Shown → Shown → Type 0
 TellsLeaf bare v result old new = (w : Way) (x : Leaf) → AreDigits w.digits → w.bare ≡ bare → v ≡ leaf x → OnOk result (Tells (json_tokens (told_leaf w x)) old new)
-
--- the object of its text
-abbrev pub TellsLeafObject : {T E : Type 0} → ValueForm → Value → Result T E → Shown → Shown → Type 0
-TellsLeafObject form v result old new =
-    (w : Way) (x : Leaf) → AreDigits w.digits → w.bare ≡ is_bare form → v ≡ leaf x → OnOk result (Tells (front_of form ++ (json_tokens (told_leaf w x) ++ end_object ∷ [])) old new)

@@ -82,7 +82,7 @@ impl Output {
     }
 
     /// All that waits.
-    fn drain(&mut self, way: &Way<'_>, waiting: &mut Vec<Piece>) -> Result<(), Memory>
+    pub(crate) fn drain(&mut self, way: &Way<'_>, waiting: &mut Vec<Piece>) -> Result<(), Memory>
         requires { ArePieces (arena_in way.now) waiting.old.items }
         ensures { (w : told.Way) → IsWayOf way.now w → OnOk result (Tells (left_in way.now waiting.old.items w) self.old self.new) }
     {

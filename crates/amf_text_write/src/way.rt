@@ -21,6 +21,8 @@ pub(crate) struct Way<'g> {
     pub(crate) numbering: &'g Numbering,
     /// By number, whether the node stands in the table.
     pub(crate) marks: &'g [bool],
+    /// The numbers of these nodes, from the least on.
+    pub(crate) rows: &'g [u32],
     /// How many digits the largest number of the table has.
     pub(crate) width: usize,
     /// Whether whole doubles stand by their digits alone.
@@ -57,7 +59,7 @@ impl Way<'_> {
     }
 
     /// The label of a node: its number, in as many digits as the largest one of the table has.
-    fn label(&self, node: NodeId) -> Result<String, Memory>
+    pub(crate) fn label(&self, node: NodeId) -> Result<String, Memory>
         ensures { (w : told.Way) → IsWayOf self.now w → IfOk result (λ label. string_bytes label ≡ told.label_of w node.0) }
     {
         let mut digits = Buffer::new();

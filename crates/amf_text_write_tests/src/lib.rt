@@ -2,4 +2,10 @@
 #![tactic(auto)]
 
 #[cfg(test)]
-mod leaf_tests;
+mod checks;
+#[cfg(test)]
+mod file_tests;
+#[cfg(test)]
+mod packet_tests;
+#[cfg(test)]
+mod value_tests;
