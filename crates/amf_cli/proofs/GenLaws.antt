@@ -2,7 +2,7 @@
 use Rattle.std.proofs.Common.{◌≡◌, ◌≢◌, ℕ, List, Ok, Err, refl, sym, subst}
 use Rattle.amf_graph.specs.declared.lack.Lack.{Lack}
 use Rattle.amf_commands.specs.declared.command.Command.{Command}
-use Rattle.amf_commands.specs.declared.command.Command.TheVariants.{Canon, Check, Show, Same, Gen}
+use Rattle.amf_commands.specs.declared.command.Command.TheVariants.{Canon, Check, Show, Json, Same, Gen}
 use Rattle.amf_commands.specs.declared.run_end.RunEnd.TheVariants.{Refused, Usage, ReadFault, WriteFault, NoMemory, FrontFault, NoForm}
 use Rattle.amf_commands.specs.Run.{TakesInput, MayLack, CountsReads, IsReading, RunsTo}
 use Rattle.amf_cli.specs.ServeEnds.{End}
@@ -40,5 +40,6 @@ pub takes_unless : (c : Command) → ((seed size : ℕ) → c ≢ Gen seed size)
 takes_unless (Canon from to) other = tt
 takes_unless (Check from) other = tt
 takes_unless (Show from) other = tt
+takes_unless (Json from layout) other = tt
 takes_unless Same other = tt
 takes_unless (Gen seed size) other = absurd (other seed size refl)

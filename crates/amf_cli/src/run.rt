@@ -29,7 +29,9 @@ use std::thread::Threads;
 /// With `canon` the input is one value, packet or file in the format that `--from` names, and the output is its canonical
 /// spelling in the format that `--to` names. With `check` and `show` the input is so too; the output is the line `ok nodes N`,
 /// where N is how many nodes the root of the value leads to, added over the values of a packet, or for a file that of its pairs,
-/// and its listing. With `same`, which has no options, the input is two AMF 3 values, one after the other, and the output is the
+/// and its listing. With `json` the input is so too, and the output is its JSON text (RFC 8259), in the kinds of nodes and values that
+/// its format has, with a line for each item and member, or without spaces, as `--layout` says: `lines`, which it is without it, or
+/// `compact`. With `same`, which has no options, the input is two AMF 3 values, one after the other, and the output is the
 /// line `same` or `different`. With `gen` nothing is read: the output is the line `nodes N bytes B sum S` for the graph that is
 /// made of the numbers of `--seed`, 0 to 4,294,967,295, and `--size`, 1 to 1,000,000, and its canonical spelling in AMF 3. A
 /// number is 1 to 10 decimal digits.

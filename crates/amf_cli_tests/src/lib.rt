@@ -8,6 +8,8 @@ mod command_tests;
 #[cfg(test)]
 mod hostile_tests;
 #[cfg(test)]
+mod json_tests;
+#[cfg(test)]
 mod large_tests;
 #[cfg(test)]
 mod packet_tests;

@@ -132,7 +132,7 @@ fn words_for_amf_3(rt: HostRuntime) {
 
 /// Words without a reading.
 static NO_READING: Table = Table {
-    rows: 35,
+    rows: 38,
     fields: 5,
     text: r#"
 | 01 | 2 | | 'amf: usage' 0A
@@ -149,6 +149,9 @@ check --from=file | 01 | 2 | | 'amf: usage' 0A
 canon --from packet --to amf3 | 01 | 2 | | 'amf: usage' 0A
 canon --to packet | 01 | 2 | | 'amf: usage' 0A
 show --from amf0 --from amf0 | 01 | 2 | | 'amf: usage' 0A
+json --layout wide | 01 | 2 | | 'amf: usage' 0A
+json --layout compact --layout=compact | 01 | 2 | | 'amf: usage' 0A
+json --to amf3 | 01 | 2 | | 'amf: usage' 0A
 serve | 01 | 2 | | 'amf: usage' 0A
 serve --port=0 --workers=1 | 01 | 2 | | 'amf: usage' 0A
 serve --port=65536 --workers=1 --each=1 | 01 | 2 | | 'amf: usage' 0A
@@ -180,7 +183,7 @@ fn words_without_a_reading(rt: HostRuntime) {
 
 /// Streams that fail.
 static FAULTS: Table = Table {
-    rows: 19,
+    rows: 21,
     fields: 9,
     text: r#"
 # Streams that fail at once.
@@ -190,6 +193,7 @@ canon | 01 | 4 | | 'amf: write fault' 0A | 100 1 | 0 | | 0
 same | 01 01 | 4 | 'sa' | 'amf: write fault' 0A | 100 | 0 | | 1
 canon | 04 C0 80 80 00 | 4 | 04 C0 | 'amf: write fault' 0A | 100 | 0 | | 1
 gen --seed 1 --size 3 | | 4 | 'no' | 'amf: write fault' 0A | 1 | 0 | | 1
+json | 01 | 4 | '{' 0A | 'amf: write fault' 0A | 100 | 0 | | 1
 # The read behind the input fails, unless a refusal comes before.
 same | 01 | 3 | | 'amf: read fault' 0A | 100 | 0 | 1 |
 same | 01 01 | 3 | | 'amf: read fault' 0A | 100 | 0 | 1 |
@@ -199,6 +203,7 @@ canon | 01 | 3 | | 'amf: read fault' 0A | 100 | 0 | 1 |
 canon | 09 | 3 | | 'amf: read fault' 0A | 100 | 0 | 1 |
 canon | 12 | 1 | | 'amf: refused BadMarker at 0' 0A | 100 | 0 | 1 |
 check --from=sol | 00 BF 00 00 00 17 'TCSO' 00 04 00 00 00 00 00 01 74 00 00 00 00 00 01 61 01 01 00 | 3 | | 'amf: read fault' 0A | 100 | 0 | 1 |
+json | 01 | 3 | | 'amf: read fault' 0A | 100 | 0 | 1 |
 check --from=sol | 00 BE | 1 | | 'amf: refused BadSignature at 0' 0A | 100 | 0 | 1 |
 canon --from packet | 00 02 00 00 | 3 | | 'amf: read fault' 0A | 1 | 0 | 0 |
 canon --from packet | 00 02 00 00 | 3 | | 'amf: read fault' 0A | 1 | 0 | 1 |

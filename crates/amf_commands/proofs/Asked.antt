@@ -8,6 +8,7 @@ use Rattle.std.specs.List.{AllByRecursion, list_all, slice_index_or}
 use Rattle.std.specs.Str.{bytes_eq, IsUtf8}
 use Rattle.amf_wire.specs.Text.{IsText}
 use Rattle.amf_options.specs.Words.{Text, HasOptions, is_name, value_of}
+use Rattle.amf_text_write.specs.declared.layout.Layout.{Layout}
 use Rattle.flv_meta.specs.declared.flv_job.FlvJob.{FlvJob}
 use Rattle.amf_options.proofs.OneValue.{one_value}
 use Rattle.amf_commands.proofs.Utf8.{utf8_is_text, value_utf8}
@@ -22,25 +23,27 @@ use Rattle.amf_commands.specs.declared.format.Format.{Format}
 use Rattle.amf_commands.specs.declared.format.Format.TheVariants.{Amf3}
 use Rattle.amf_commands.specs.declared.command_name.CommandName.{CommandName}
 use Rattle.amf_commands.specs.declared.command_name.CommandName.TheVariants as command_name
-use Rattle.amf_commands.specs.Commands.{Asks, AsksFor, HasReading, IsCalling, IsDialling, IsListening, IsMedia, Reads, ReadsCall, ReadsFlv, ReadsListen, ReadsRtmp, ReadsServe, IsServing, call_of, canon_from, canon_to, destination_at, flv_job_named, format_or, gen_of, goes_to, is_numeral, listen_of, name_of, number_at, options_for, rtmp_of, rtmp_show, serve_of, target_at, task_for}
+use Rattle.amf_commands.specs.Commands.{Asks, AsksFor, HasReading, IsCalling, IsDialling, IsListening, IsMedia, Reads, ReadsCall, ReadsFlv, ReadsListen, ReadsRtmp, ReadsServe, IsServing, call_of, canon_from, canon_to, destination_at, flv_job_named, format_or, gen_of, goes_to, is_numeral, json_of, layout_or, listen_of, name_of, number_at, options_for, rtmp_of, rtmp_show, serve_of, target_at, task_for}
 use Rattle.amf_commands.specs.Askable.{IsAskable, IsCallable, IsChunkable, IsListenable, IsPossible, IsServable}
 
 named : Text → CommandName
 named t = if bytes_eq t (codes "canon") then command_name.Canon
     else (if bytes_eq t (codes "check") then command_name.Check
     else (if bytes_eq t (codes "show") then command_name.Show
+    else (if bytes_eq t (codes "json") then command_name.Json
     else (if bytes_eq t (codes "same") then command_name.Same
     else (if bytes_eq t (codes "gen") then command_name.Gen
     else (if bytes_eq t (codes "serve") then command_name.Serve
     else (if bytes_eq t (codes "flv") then command_name.Flv
     else (if bytes_eq t (codes "rtmp") then command_name.Rtmp
-    else (if bytes_eq t (codes "call") then command_name.Call else command_name.Listen))))))))
+    else (if bytes_eq t (codes "call") then command_name.Call else command_name.Listen)))))))))
 
 named_is : (k : CommandName) → named (name_of k) ≡ k
 unfolding named
 named_is command_name.Canon = refl
 named_is command_name.Check = refl
 named_is command_name.Show = refl
+named_is command_name.Json = refl
 named_is command_name.Same = refl
 named_is command_name.Gen = refl
 named_is command_name.Serve = refl
@@ -53,6 +56,7 @@ good : (k : CommandName) → list_all is_name (options_for k) ≡ true
 good command_name.Canon = refl
 good command_name.Check = refl
 good command_name.Show = refl
+good command_name.Json = refl
 good command_name.Same = refl
 good command_name.Gen = refl
 good command_name.Serve = refl
@@ -122,6 +126,11 @@ canon_sized (Some from) to c e = step (format_or from to) e
 mapped_sized : (make : Format → Command) (all : (f : Format) → IsAskable (make f)) (o : Option Format) (c : Command) → option_map make o ≡ Some c → IsAskable c
 mapped_sized make all None c e = cc
 mapped_sized make all (Some f) c e = subst IsAskable (same_Some (make f) c e) (all f)
+
+json_sized : (from : Option Format) (layout : Option Layout) (c : Command) → json_of from layout ≡ Some c → IsAskable c
+json_sized None layout c e = cc
+json_sized (Some from) None c e = cc
+json_sized (Some from) (Some layout) c e = subst IsAskable (same_Some (command.Json from layout) c e) tt
 
 serve_sized : (port workers each : Option ℕ) (o : ServeOptions) → ((n : ℕ) → workers ≡ Some n → (1 ≤ n) × (n ≤ 64)) → serve_of port workers each ≡ Some o → IsServable o
 serve_sized None workers each o h e = cc
@@ -196,6 +205,7 @@ task_possible : (k : CommandName) (value : Text → Option Text) (all : (x text 
 task_possible command_name.Canon value all t e = output_possible (canon_from (format_or Amf3 (value (codes "from"))) (value (codes "to"))) (canon_sized (format_or Amf3 (value (codes "from"))) (value (codes "to"))) t e
 task_possible command_name.Check value all t e = output_possible (option_map command.Check (format_or Amf3 (value (codes "from")))) (mapped_sized command.Check (λ f. tt) (format_or Amf3 (value (codes "from")))) t e
 task_possible command_name.Show value all t e = output_possible (option_map command.Show (format_or Amf3 (value (codes "from")))) (mapped_sized command.Show (λ f. tt) (format_or Amf3 (value (codes "from")))) t e
+task_possible command_name.Json value all t e = output_possible (json_of (format_or Amf3 (value (codes "from"))) (layout_or (value (codes "layout")))) (json_sized (format_or Amf3 (value (codes "from"))) (layout_or (value (codes "layout")))) t e
 task_possible command_name.Same value all t e = subst IsPossible (same_Some (task.Output command.Same) t e) tt
 task_possible command_name.Gen value all t e = output_possible (gen_of (number_at 0 4294967295 (value (codes "seed"))) (number_at 1 1000000 (value (codes "size")))) (λ c. gen_sized (number_at 0 4294967295 (value (codes "seed"))) (number_at 1 1000000 (value (codes "size"))) c (number_within 1 1000000 (value (codes "size")))) t e
 task_possible command_name.Serve value all t e = serve_possible (serve_of (number_at 0 65535 (value (codes "port"))) (number_at 1 64 (value (codes "workers"))) (number_at 1 1000000 (value (codes "each")))) (λ s. serve_sized (number_at 0 65535 (value (codes "port"))) (number_at 1 64 (value (codes "workers"))) (number_at 1 1000000 (value (codes "each"))) s (number_within 1 64 (value (codes "workers")))) t e

@@ -3,6 +3,7 @@ pub mod Utf8
 pub mod Asked
 mod Formats
 mod Goes
+pub mod Told
 pub mod Spelled
 mod Inputs
 pub mod Statuses

@@ -43,7 +43,7 @@ use Rattle.amf0_spelling.specs.Tables0.{no_tables0}
 use Rattle.amf0_layout_laws.proofs.Layout0Complete.{Found0, spelled_read0}
 use Rattle.amf0_layout_laws.proofs.Layout0Format.{values0_is_layout}
 use Rattle.amf_commands.specs.declared.command.Command.{Command}
-use Rattle.amf_commands.specs.declared.command.Command.TheVariants.{Canon, Check, Show, Same, Gen}
+use Rattle.amf_commands.specs.declared.command.Command.TheVariants.{Canon, Check, Show, Json, Same, Gen}
 use Rattle.amf3_read.specs.Pairs.{Pair}
 use Rattle.amf3_read.proofs.PairLayouts.{pair_layout, pairs_are_layouts}
 use Rattle.amf_commands.specs.declared.format.Format.{Format}
@@ -53,7 +53,8 @@ use Rattle.amf_commands.specs.Formats.{IsSpelling, Spelled, IsWritten, IsUnwritt
 use Rattle.amf_commands.specs.Input.{most, Input, nothing, one, two, input_of, IsAcceptedAs, IsRefusedAs}
 use Rattle.amf_commands.specs.Run.{IsInputOf, ArePairIn, Says, Makes, Decides, Lacks, LacksEver, MayLack, IsOutputOf}
 use Rattle.amf_commands.specs.Lines.{measure_line}
-use Rattle.amf_commands.proofs.Formats.{SameContent, decides_alike, lacks_too, not_both_alike, same_bytes, written_again}
+use Rattle.amf_commands.proofs.Told.{told_content, meant_content}
+use Rattle.amf_commands.proofs.Formats.{SameContent, decides_alike, fits_alike, lacks_too, not_both_alike, same_bytes, written_again}
 
 abbrev pub layouts : ℕ → Layout ValueRead
 layouts n = value_layout n no_state
@@ -168,6 +169,7 @@ pub made_not_refused : (c : Command) (input bytes : List ℕ) (reason : Reason) 
 made_not_refused (Canon from to) input bytes reason at (c, i, s) q = never_refused from c input reason at i q
 made_not_refused (Check from) input bytes reason at (c, i, s) q = never_refused from c input reason at i q
 made_not_refused (Show from) input bytes reason at (c, i, s) q = never_refused from c input reason at i q
+made_not_refused (Json from layout) input bytes reason at (c, i, s) q = never_refused from c input reason at i q
 made_not_refused Same input bytes reason at (g, h, p, s) q = pair_never_refused g h input reason at p q
 made_not_refused (Gen seed size) input bytes reason at m q = none_refused input reason at q
 
@@ -176,6 +178,7 @@ pub lacking_not_refused : (c : Command) (input : List ℕ) (number : ℕ) (l : L
 lacking_not_refused (Canon from to) input number l reason at (c, i, k) q = never_refused from c input reason at i q
 lacking_not_refused (Check from) input number l reason at k q = k
 lacking_not_refused (Show from) input number l reason at k q = k
+lacking_not_refused (Json from layout) input number l reason at k q = k
 lacking_not_refused Same input number l reason at k q = k
 lacking_not_refused (Gen seed size) input number l reason at k q = k
 
@@ -190,6 +193,7 @@ pub made_not_lacking : (c : Command) (input bytes : List ℕ) (number : ℕ) (l 
 made_not_lacking (Canon from to) input bytes number l (c, i, (fit, d, s)) (k, j, (other, e, lacks)) = not_both_alike to c k fit other (same_input from c k input i j) d e bytes number l s lacks
 made_not_lacking (Check from) input bytes number l m k = k
 made_not_lacking (Show from) input bytes number l m k = k
+made_not_lacking (Json from layout) input bytes number l m k = k
 made_not_lacking Same input bytes number l m k = k
 made_not_lacking (Gen seed size) input bytes number l m k = k
 
@@ -198,6 +202,7 @@ pub lacks_ever : (c : Command) (input : List ℕ) (number : ℕ) (l : Lack) → 
 lacks_ever (Canon from to) input number l (c, i, (fit, d, k)) = λ h other j e. lacks_too to c h fit other (same_input from c h input i j) d e number l k
 lacks_ever (Check from) input number l k = k
 lacks_ever (Show from) input number l k = k
+lacks_ever (Json from layout) input number l k = k
 lacks_ever Same input number l k = k
 lacks_ever (Gen seed size) input number l k = k
 
@@ -216,6 +221,7 @@ made_again (Canon from to) input bytes (h, i, w) (same, c, s) =
     written_again from c h input bytes (subst (λ (f : Format). IsWritten f c input) (sym same) s) (spells_free from h input i) (subst (λ (f : Format). IsWritten f h bytes) (sym same) w)
 made_again (Check from) input bytes m o = absurd o
 made_again (Show from) input bytes m o = absurd o
+made_again (Json from layout) input bytes m o = absurd o
 made_again Same input bytes m o = absurd o
 made_again (Gen seed size) input bytes m o = absurd o
 
@@ -264,6 +270,9 @@ pub decides : (c : Command) (input bytes : List ℕ) → Makes c input bytes →
 decides (Canon from to) input bytes (r, j, (fit, e, s)) = λ g other h i d. decides_alike to r g fit other (same_input from r g input j i) e d bytes s h
 decides (Check from) input bytes (r, j, (nodes, has, is)) = λ c i. (nodes, counted_content r c nodes (same_input from r c input j i) has, is)
 decides (Show from) input bytes (r, j, s) = λ c i. listed_content r c bytes (same_input from r c input j i) s
+decides (Json from layout) input bytes (r, j, (fit, e, s, m)) = λ c other i d.
+    let same = same_input from r c input j i in
+    (told_content layout from r c fit other bytes same e d s, meant_content from fit other bytes (fits_alike from r c fit other same e d) m)
 decides (Gen seed size) input bytes (spelled, s, is) = λ other o. is ∙ ap (measure_line (length (made seed size).nodes)) (canonical_is_alone (made seed size) spelled other s o)
 decides Same input bytes (g, h, p, s) = λ f e q.
     let a = cut_alike g h f e input p q in

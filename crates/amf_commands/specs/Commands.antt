@@ -5,6 +5,8 @@ use Rattle.std.specs.List.{list_all, AllByRecursion}
 use Rattle.std.specs.Str.{bytes_eq, IsUtf8}
 use Rattle.std.specs.Str.Parse.{digits_value}
 use Rattle.amf_options.specs.Words.{Text, Given, HasOptions, value_of}
+use Rattle.amf_text_write.specs.declared.layout.Layout.{Layout}
+use Rattle.amf_text_write.specs.declared.layout.Layout.TheVariants.{Lines, Compact}
 use Rattle.flv_meta.specs.declared.flv_job.FlvJob.{FlvJob}
 use Rattle.flv_meta.specs.declared.flv_job.FlvJob.TheVariants as flv
 use Rattle.amf_commands.specs.declared.command.CallOptions.{CallOptions}
@@ -23,6 +25,7 @@ abbrev pub name_of : CommandName → Text
 name_of command_name.Canon = codes "canon"
 name_of command_name.Check = codes "check"
 name_of command_name.Show = codes "show"
+name_of command_name.Json = codes "json"
 name_of command_name.Same = codes "same"
 name_of command_name.Gen = codes "gen"
 name_of command_name.Serve = codes "serve"
@@ -35,6 +38,7 @@ abbrev pub options_for : CommandName → List Text
 options_for command_name.Canon = codes "from" ∷ codes "to" ∷ []
 options_for command_name.Check = codes "from" ∷ []
 options_for command_name.Show = codes "from" ∷ []
+options_for command_name.Json = codes "from" ∷ codes "layout" ∷ []
 options_for command_name.Same = []
 options_for command_name.Gen = codes "seed" ∷ codes "size" ∷ []
 options_for command_name.Serve = codes "port" ∷ codes "workers" ∷ codes "each" ∷ []
@@ -52,6 +56,15 @@ format_named text = if bytes_eq text (codes "amf3") then Some Amf3 else (if byte
 abbrev pub format_or : Format → Option Text → Option Format
 format_or default None = Some default
 format_or default (Some text) = format_named text
+
+-- the layout of a text that a value names
+abbrev pub layout_named : Text → Option Layout
+layout_named text = if bytes_eq text (codes "lines") then Some Lines else (if bytes_eq text (codes "compact") then Some Compact else None)
+
+-- without a value it is by lines
+abbrev pub layout_or : Option Text → Option Layout
+layout_or None = Some Lines
+layout_or (Some text) = layout_named text
 
 abbrev pub is_digit : ℕ → Bool
 is_digit b = nat_le 48 b && nat_le b 57
@@ -100,6 +113,11 @@ abbrev pub canon_from : Option Format → Option Text → Option Command
 canon_from None to = None
 canon_from (Some from) to = canon_to from (format_or from to)
 
+-- both values name something
+abbrev pub json_of : Option Format → Option Layout → Option Command
+json_of (Some from) (Some layout) = Some (command.Json from layout)
+json_of from layout = None
+
 -- both numbers are given
 abbrev pub gen_of : Option ℕ → Option ℕ → Option Command
 gen_of (Some seed) (Some size) = Some (command.Gen seed size)
@@ -137,6 +155,10 @@ abbrev pub listen_of : Option ℕ → Option Text → Option ℕ → Option List
 listen_of (Some port) (Some destination) (Some polls) = Some (record { port = port; destination = destination; polls = polls })
 listen_of port destination polls = None
 
+-- `json`, by the values of its options
+abbrev pub json_by : (Text → Option Text) → Option Command
+json_by value = json_of (format_or Amf3 (value (codes "from"))) (layout_or (value (codes "layout")))
+
 -- `gen`, by the values of its options
 abbrev pub gen_by : (Text → Option Text) → Option Command
 gen_by value = gen_of (number_at 0 4294967295 (value (codes "seed"))) (number_at 1 1000000 (value (codes "size")))
@@ -158,6 +180,7 @@ abbrev pub task_for : CommandName → (Text → Option Text) → Option Task
 task_for command_name.Canon value = option_map task.Output (canon_from (format_or Amf3 (value (codes "from"))) (value (codes "to")))
 task_for command_name.Check value = option_map task.Output (option_map command.Check (format_or Amf3 (value (codes "from"))))
 task_for command_name.Show value = option_map task.Output (option_map command.Show (format_or Amf3 (value (codes "from"))))
+task_for command_name.Json value = option_map task.Output (json_by value)
 task_for command_name.Same value = Some (task.Output command.Same)
 task_for command_name.Gen value = option_map task.Output (gen_by value)
 task_for command_name.Serve value = option_map task.Serve (serve_by value)

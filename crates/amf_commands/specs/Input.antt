@@ -7,7 +7,7 @@ use Rattle.amf3_read.specs.Pairs.{Pair}
 use Rattle.amf3_spelling.specs.Values3.{IsValue3}
 use Rattle.amf_sol.specs.FileVerdict.{IsFileAccepted, IsFileRefused}
 use Rattle.amf_commands.specs.declared.command.Command.{Command}
-use Rattle.amf_commands.specs.declared.command.Command.TheVariants.{Canon, Check, Show, Same, Gen}
+use Rattle.amf_commands.specs.declared.command.Command.TheVariants.{Canon, Check, Show, Json, Same, Gen}
 use Rattle.amf_commands.specs.declared.format.Format.{Format}
 use Rattle.amf_commands.specs.declared.format.Format.TheVariants.{Sol}
 use Rattle.amf_commands.specs.Formats.{IsContent}
@@ -26,6 +26,7 @@ abbrev pub input_of : Command → Input
 input_of (Canon from to) = one from
 input_of (Check from) = one from
 input_of (Show from) = one from
+input_of (Json from layout) = one from
 input_of Same = two
 input_of (Gen seed size) = nothing
 

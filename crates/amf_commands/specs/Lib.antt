@@ -2,6 +2,7 @@
 pub mod Commands
 pub mod Content
 pub mod Formats
+pub mod Told
 pub mod Input
 pub mod Lines
 pub mod Run

@@ -10,13 +10,15 @@ use Rattle.amf_graph.specs.declared.lack.Lack.{Lack}
 use Rattle.amf_graph.specs.Graph.{Graph}
 use Rattle.amf_graph.specs.Isomorphic.{Isomorphic}
 use Rattle.amf3_spelling.specs.Spells3.{IsSpelling3, Spelled3}
+use Rattle.amf_text_write.specs.declared.layout.Layout.{Layout}
 use Rattle.amf_vectors.specs.Made.{made}
 use Rattle.amf_commands.specs.declared.command.Command.{Command}
-use Rattle.amf_commands.specs.declared.command.Command.TheVariants.{Canon, Check, Show, Same, Gen}
+use Rattle.amf_commands.specs.declared.command.Command.TheVariants.{Canon, Check, Show, Json, Same, Gen}
 use Rattle.amf_commands.specs.declared.format.Format.{Format}
 use Rattle.amf_commands.specs.declared.format.Format.TheVariants.{Amf3}
 use Rattle.amf_commands.specs.Content.{Content, HasNodes, IsListed}
 use Rattle.amf_commands.specs.Formats.{GivesLength, IsSpelling, Spelled, IsFitted, IsAlike, IsLackIn, IsWritten, IsUnwritten}
+use Rattle.amf_commands.specs.Told.{Tells, IsMeant, IsTold}
 use Rattle.amf_commands.specs.Input.{most, Input, input_of, IsRefusedAs, IsUnsettledAs}
 use Rattle.amf_commands.specs.declared.run_end.RunEnd.{RunEnd}
 use Rattle.amf_commands.specs.declared.run_end.RunEnd.TheVariants.{Refused, Usage, ReadFault, WriteFault, NoMemory, FrontFault, NoForm}
@@ -65,6 +67,10 @@ IsChecked from input line = (c : Content) × IsInputOf from c input × IsCounted
 abbrev pub IsShown : Format → List ℕ → List ℕ → Type 0
 IsShown from input bytes = (c : Content) × IsInputOf from c input × IsListed c bytes
 
+-- the bytes are the JSON text of a content that the input is a spelling of
+abbrev pub IsJson : Format → Layout → List ℕ → List ℕ → Type 0
+IsJson from layout input bytes = (c : Content) × IsInputOf from c input × IsTold layout from c bytes
+
 -- the line says whether P is so
 abbrev pub Says : Type 0 → List ℕ → Type 0
 Says P line = (P × (line ≡ codes "same\n")) ⊎ ((P → ⊥) × (line ≡ codes "different\n"))
@@ -78,14 +84,16 @@ abbrev pub Makes : Command → List ℕ → List ℕ → Type 0
 Makes (Canon from to) input bytes = IsConverted from to input bytes
 Makes (Check from) input bytes = IsChecked from input bytes
 Makes (Show from) input bytes = IsShown from input bytes
+Makes (Json from layout) input bytes = IsJson from layout input bytes
 Makes Same input bytes = IsCompared input bytes
 Makes (Gen seed size) input bytes = IsMeasured (made seed size) bytes
 
--- it holds of whatever the input spells: canonical bytes are so for exactly the contents that are alike, in the kinds that the format has; the count and the listing are those of each content; the line is the answer for each two graphs; and it measures whatever canonical bytes the graph that is made has
+-- it holds of whatever the input spells: canonical bytes are so for exactly the contents that are alike, in the kinds that the format has; the count and the listing are those of each content; the text is that of each in the kinds of its format, and means it; the line is the answer for each two graphs; and it measures whatever canonical bytes the graph that is made has
 abbrev pub Decides : Command → List ℕ → List ℕ → Type 0
 Decides (Canon from to) input bytes = (c fit other : Content) → IsInputOf from c input → IsFitted to c fit → IsAlike to other fit ↔ Spelled to canonical other bytes
 Decides (Check from) input bytes = (c : Content) → IsInputOf from c input → IsCounted c bytes
 Decides (Show from) input bytes = (c : Content) → IsInputOf from c input → IsListed c bytes
+Decides (Json from layout) input bytes = (c fit : Content) → IsInputOf from c input → IsFitted from c fit → Tells layout from fit bytes × IsMeant from fit bytes
 Decides Same input bytes = (g h : Graph) → ArePairIn g h input → Says (Isomorphic g h) bytes
 Decides (Gen seed size) input bytes = (spelled : List ℕ) → Spelled3 canonical (made seed size) spelled → bytes ≡ measure_line (length (made seed size).nodes) spelled
 

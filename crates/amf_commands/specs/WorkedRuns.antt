@@ -8,10 +8,11 @@ use Rattle.amf_options.specs.Words.{Text}
 use Rattle.amf_graph.specs.declared.lack.LackKind.TheVariants.{NoForm}
 use Rattle.amf_graph.specs.Graph.{Graph, date, array, node}
 use Rattle.amf_listings.specs.WorkedPacketListings.{called}
+use Rattle.amf_text_write.specs.declared.layout.Layout.TheVariants.{Lines, Compact}
 use Rattle.amf_sol.specs.WorkedFiles.{one_true_bytes}
 use Rattle.amf_listings.specs.WorkedFileListings.{one_array_twice}
 use Rattle.amf_commands.specs.declared.command.Command.{Command}
-use Rattle.amf_commands.specs.declared.command.Command.TheVariants.{Canon, Check, Show, Same}
+use Rattle.amf_commands.specs.declared.command.Command.TheVariants.{Canon, Check, Show, Json, Same}
 use Rattle.amf_commands.specs.declared.command.Task.TheVariants.{Output, Serve}
 use Rattle.amf_commands.specs.declared.format.Format.TheVariants.{Amf3, Amf0, Packet, Sol}
 use Rattle.amf_commands.specs.declared.command_name.CommandName.TheVariants as command_name
@@ -37,6 +38,10 @@ from_to from to option = if bytes_eq option (codes "from") then from else (if by
 -- the values of options: these three
 abbrev pub at_by_each : Text → Text → Text → Text → Option Text
 at_by_each port workers each option = if bytes_eq option (codes "port") then Some port else (if bytes_eq option (codes "workers") then Some workers else (if bytes_eq option (codes "each") then Some each else None))
+
+-- the value of the option of a layout
+abbrev pub laid_out : Text → Text → Option Text
+laid_out layout option = if bytes_eq option (codes "layout") then Some layout else None
 
 -- a date, behind an array to which the root does not lead
 abbrev pub second_reached : Graph
@@ -68,6 +73,10 @@ pub record RunRows : Type 0 where
   pub packet_to_file : task_for command_name.Canon (from_to (Some (codes "packet")) (Some (codes "sol"))) ≡ None
   pub value_to_file : task_for command_name.Canon (from_to None (Some (codes "sol"))) ≡ None
   pub gen_alone : task_for command_name.Gen (λ option. None) ≡ None
+  -- a text is by lines where nothing else is asked for
+  pub json_alone : task_for command_name.Json (λ option. None) ≡ Some (Output (Json Amf3 Lines))
+  pub json_compact : task_for command_name.Json (laid_out (codes "compact")) ≡ Some (Output (Json Amf3 Compact))
+  pub json_wide : task_for command_name.Json (laid_out (codes "wide")) ≡ None
   -- links are served at a port, by 1 to 64 workers, 1 to 1,000,000 each
   pub serve_one : task_for command_name.Serve (at_by_each (codes "0") (codes "1") (codes "1")) ≡ Some (Serve (record { port = 0; workers = 1; each = 1 }))
   pub serve_most : task_for command_name.Serve (at_by_each (codes "65535") (codes "64") (codes "1000000")) ≡ Some (Serve (record { port = 65535; workers = 64; each = 1000000 }))

@@ -5,6 +5,7 @@ ghost use Rattle.amf_commands.specs.Commands.{Asks, AsksFor, HasReading};
 
 use crate::command_name::CommandName;
 use crate::format::Format;
+use amf_json::Layout;
 use amf_options::options_of;
 use amf_wire::{Memory, Name};
 use flv_meta::FlvJob;
@@ -21,6 +22,8 @@ pub enum Command {
     Check { from: Format },
     /// `show`: the listing of one value, of one packet, or of one file.
     Show { from: Format },
+    /// `json`: the JSON text of one value, of one packet, or of one file.
+    Json { from: Format, layout: Layout },
     /// `same`: whether two values of AMF 3, one after the other, are the same graph.
     Same,
     /// `gen`: the nodes, the number of bytes and the sum of the bytes of the graph that is made of a seed, of 1 to 1,000,000 nodes.

@@ -2,13 +2,14 @@ ghost use Rattle.std.specs.Prelude.{◌≡◌, ◌≤◌, IfOk, IfSome, IfNone, 
 ghost use Rattle.clap.specs.Matches.{first_value, found_of};
 ghost use Rattle.amf_options.specs.Words.{texts};
 ghost use Rattle.amf_commands.specs.Commands.{canon_from, flv_job_named, format_or, name_of, number_at, options_for, task_for};
-ghost use Rattle.amf_commands.specs.Commands.{call_by, gen_by, listen_by, rtmp_of, serve_by};
+ghost use Rattle.amf_commands.specs.Commands.{call_by, gen_by, json_by, layout_named, layout_or, listen_by, rtmp_of, serve_by};
 ghost use Rattle.amf_commands.specs.declared.command.Task.TheVariants as task;
 ghost use Rattle.amf_commands.specs.declared.format.Format.TheVariants.{Amf3};
 
 use crate::command::{CallOptions, Command, ListenOptions, ServeOptions, Task};
 use crate::format::Format;
 use crate::number::number_in;
+use amf_json::Layout;
 use amf_wire::{Memory, Name};
 use clap::ArgMatches;
 use flv_meta::FlvJob;
@@ -23,6 +24,8 @@ pub enum CommandName {
     Check,
     /// `show`.
     Show,
+    /// `json`.
+    Json,
     /// `same`.
     Same,
     /// `gen`.
@@ -42,6 +45,8 @@ pub enum CommandName {
 static CANON: [&str; 2] = ["from", "to"];
 
 static FROM: [&str; 1] = ["from"];
+
+static JSON: [&str; 2] = ["from", "layout"];
 
 static SAME: [&str; 0] = [];
 
@@ -67,6 +72,7 @@ impl CommandName {
             "canon" => Some(CommandName::Canon),
             "check" => Some(CommandName::Check),
             "show" => Some(CommandName::Show),
+            "json" => Some(CommandName::Json),
             "same" => Some(CommandName::Same),
             "gen" => Some(CommandName::Gen),
             "serve" => Some(CommandName::Serve),
@@ -85,6 +91,7 @@ impl CommandName {
         match self {
             CommandName::Canon => CANON.as_slice(),
             CommandName::Check | CommandName::Show => FROM.as_slice(),
+            CommandName::Json => JSON.as_slice(),
             CommandName::Same => SAME.as_slice(),
             CommandName::Gen => GEN.as_slice(),
             CommandName::Serve => SERVE.as_slice(),
@@ -109,6 +116,7 @@ impl CommandName {
                 Some(from) => Some(Task::Output(Command::Show { from })),
                 None => None,
             },
+            CommandName::Json => output(json(matches)),
             CommandName::Same => Some(Task::Output(Command::Same)),
             CommandName::Gen => output(generate(matches)),
             CommandName::Serve => match serve(matches) {
@@ -167,6 +175,35 @@ fn canon(matches: &ArgMatches<'_>) -> Option<Command>
         Some(Command::Canon { from, to })
     } else {
         None
+    }
+}
+
+fn json(matches: &ArgMatches<'_>) -> Option<Command>
+    ensures { result ≡ json_by (first_value (found_of matches.now)) }
+{
+    let from = from(matches)?;
+    let layout = layout(matches)?;
+    Some(Command::Json { from, layout })
+}
+
+/// The layout that `--layout` names, and by lines without it.
+fn layout(matches: &ArgMatches<'_>) -> Option<Layout>
+    ensures { result ≡ layout_or (first_value (found_of matches.now) (codes "layout")) }
+{
+    match matches.get_str("layout") {
+        Some(name) => layout_of(name),
+        None => Some(Layout::Lines),
+    }
+}
+
+/// The layout of this name.
+fn layout_of(name: &str) -> Option<Layout>
+    ensures { result ≡ layout_named name.now }
+{
+    match name {
+        "lines" => Some(Layout::Lines),
+        "compact" => Some(Layout::Compact),
+        _ => None,
     }
 }
 

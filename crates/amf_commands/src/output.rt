@@ -4,12 +4,13 @@ ghost use Rattle.amf_graph.specs.Rooted.{content};
 ghost use Rattle.amf_commands.specs.declared.command.Command.TheVariants.{Canon};
 ghost use Rattle.amf_commands.specs.Commands.{goes_to};
 ghost use Rattle.amf_commands.specs.Input.{most, one, two};
-ghost use Rattle.amf_commands.specs.Run.{TakesInput, IsConverted, IsUnconverted, IsChecked, IsShown, IsCompared, CountsReads, IsReadEnd, IsOutputEnd, Says};
+ghost use Rattle.amf_commands.specs.Run.{TakesInput, IsConverted, IsUnconverted, IsChecked, IsShown, IsJson, IsCompared};
+ghost use Rattle.amf_commands.specs.Run.{CountsReads, IsReadEnd, IsOutputEnd, Says};
 ghost use Rattle.amf_commands.specs.ReadContent.{ReadsSource, ReadsAll, OutputOf};
 ghost use Rattle.amf_commands.specs.Askable.{IsAskable};
 
 use crate::command::Command;
-use crate::content::{counted, listed};
+use crate::content::{counted, listed, told};
 use crate::format::Format;
 use crate::lines::count_line;
 use crate::making::measurement;
@@ -19,6 +20,7 @@ use crate::spelling::{SpellEnd, spelled};
 use amf_graph::Rooted;
 use amf_io::Source;
 use amf_iso::isomorphic;
+use amf_json::Layout;
 use amf_wire::Memory;
 use std::alloc::Global;
 use std::hash::RandomState;
@@ -41,6 +43,7 @@ pub fn output_of<I: Source>(
         Command::Canon { from, to } => converted(alloc, keys, from, to, input),
         Command::Check { from } => checked(alloc, keys, from, input),
         Command::Show { from } => shown(alloc, keys, from, input),
+        Command::Json { from, layout } => written_as_json(alloc, keys, from, layout, input),
         Command::Same => comparison(alloc, keys, input),
         Command::Gen { seed, size } => Ok(measurement(alloc, keys, seed, size)?),
     }
@@ -137,4 +140,21 @@ fn shown<I: Source>(
 {
     let content = read_in_format(alloc, keys, from, input)?;
     Ok(listed(alloc, content)?)
+}
+
+/// The JSON text of what the input is.
+fn written_as_json<I: Source>(
+    alloc: Global,
+    keys: Option<RandomState>,
+    from: Format,
+    layout: Layout,
+    input: &mut I,
+) -> Result<Vec<u8>, RunEnd>
+    ensures reads { ReadsAll I.Source (one from) (λ whole bytes. IsJson from layout whole bytes.items) input.old input.new result }
+    ensures taken { I.tells input.old → length (I.left input.old) ≤ length (I.left input.new) + (most + 1) }
+    ensures counts { CountsReads (I.faults input.old) (I.faults input.new) result }
+    ensures ends { IsReadEnd result }
+{
+    let content = read_in_format(alloc, keys, from, input)?;
+    Ok(told(alloc, layout, from, content)?)
 }

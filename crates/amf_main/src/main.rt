@@ -1,5 +1,5 @@
 //! The program `amf`: writes the canonical spelling of any value of AMF 3 or AMF 0, in either, of any packet and of any shared object
-//! file, checks it, lists it, tells whether two values are the same graph, lists and rewrites FLV files and RTMP chunk streams, serves
+//! file, checks it, lists it, writes it as JSON, tells whether two values are the same graph, lists and rewrites FLV files and RTMP chunk streams, serves
 //! and makes remoting calls over HTTP, and polls a gateway.
 #![tactic(auto)]
 
