@@ -3,7 +3,7 @@
 
     docs/trust_paths.py [--check]
 
-For each of ten promises it follows the definitions that the promises of a run (`Ends`, `ServesWords`, `CallsWords` and `ListensWords`
+For each of eleven promises it follows the definitions that the promises of a run (`Ends`, `ServesWords`, `CallsWords` and `ListensWords`
 in crates/amf_cli/specs, which the contract of `run` cites) name, from name to name by the imports of each file, and lists them in an order in
 which they can be read. What a file says is its own first line, and what a definition says is the comment above it, or its sentence in
 docs/trust_words.txt. With --check nothing is written, and the status is 1 if the page is not what would be written.
@@ -24,7 +24,7 @@ A proof says that the code meets its contract. What the contract means is said i
 every proof above it worthless. So these files, with the contracts on the functions in `crates/NAME/src`, are what has to be read to know
 what is promised. The toolchain, and what else is trusted, are named in [PROMISES.md](PROMISES.md#what-it-stands-on).
 
-Nobody has to read all of them. Each of the ten paths below lists what one promise rests on, in an order in which it can be read: each file,
+Nobody has to read all of them. Each of the eleven paths below lists what one promise rests on, in an order in which it can be read: each file,
 those of its definitions that the promise needs, with a sentence for each, and how many lines these have. Much of a later path is known from
 an earlier one; such definitions are named again, and their sentences stand in the path where they come first. The first path has some 1,400
 lines, and each later one at most 1,200 that no path above it has: about an hour each. `serve` has two, the first for what one connection is
@@ -48,6 +48,8 @@ which stand in its path. No promise about a Flex message speaks of one. Of the p
 - the calls by which a reader of another format reads on: those of `amf_wire_fields`, `append_field`, `append_raw`, `append_exactly` and
   `append_basic` of `amf_io`, `read_text` and `read_value` of `amf3_read`, and `read_short_text` and `read_value0` of `amf0_read`;
 - the readers and laws of `rtmp_chunks`, which speak of the layouts of `amf_io`;
+- the calls by which a packet is told part by part: `HeaderTexts` and `MessageTexts` of `amf_text_write`, which speak of `Laid`, `Tells` and
+  `Parts`;
 - the steps that the gateway's crates share: `amf_answer_plan`, `amf_flex_replies` and `amf_plain_calls`.
 
 Of the laws these do, and whoever goes by one has to read as much of the device as is named:
@@ -68,6 +70,7 @@ TITLES = {
     "amf_wire": "Numbers, texts and doubles",
     "amf_io": "The outside, fields and the verdict",
     "amf_graph": "Graphs",
+    "amf_sheet": "Graphs told in any order",
     "amf3_spelling": "AMF 3",
     "amf3_layout_laws": "The verdict on AMF 3",
     "amf_tables": "Reference tables",
@@ -83,9 +86,12 @@ TITLES = {
     "amf_sol": "Shared object files",
     "amf_show": "The listing of a graph",
     "amf_text": "The JSON text of AMF data",
+    "amf_text_trees": "What is gathered of a text, token by token",
+    "amf_text_laws": "There and back through the JSON text",
     "amf_text_write": "Writing the JSON text",
     "amf_text_read": "Reading the JSON text",
     "amf_listings": "The listings of packets and of shared object files, and their laws",
+    "amf_json": "The JSON text of what was read",
     "flv_meta": "FLV script data",
     "rtmp_chunks": "RTMP chunk streams",
     "rtmp_rechunk": "Rechunking, and the pass over a chunk stream",
@@ -132,10 +138,11 @@ OF_CALL = ["amf_cli.CallEnds.", "amf_commands.Commands.ReadsCall", "amf_commands
 OF_LISTEN = ["amf_cli.ListenEnds.", "amf_commands.Commands.ReadsListen", "amf_commands.Commands.IsListening"]
 OF_LINKS = [*OF_CALL, *OF_LISTEN, "amf_commands.Commands.IsDialling"]
 
-# The crates that speak of media, of calls, and of none of the promises.
+# The crates that speak of media, of calls, of JSON texts, and of none of the promises.
 MEDIA = ["flv_meta", "amf_media", "rtmp_chunks", "rtmp_rechunk", "rtmp_listing"]
 SELF_CALLS = ["amf_self_call_laws", "amf_self_call"]
 CALLS = ["amf_client", "amf_dial_and_call", "amf_poll_session", *SELF_CALLS]
+TEXTS = ["amf_text", "amf_text_write", "amf_json", "amf_commands.Told"]
 OTHERS = ["amf_vectors", "amf_once"]
 FILES = ["amf_packet", "amf_sol", "amf_listings"]
 
@@ -144,32 +151,37 @@ FILES = ["amf_packet", "amf_sol", "amf_listings"]
 PATHS = [
     ("To trust `canon` on values", "That the output of `amf canon` is the one canonical encoding of the value in the input, from and to AMF 3 "
      "and AMF 0, that a refusal names the first invalid field, and that status 7 names the first node without an encoding.",
-     [*OF_SERVE, *OF_MEDIA, *OF_LINKS], [*FILES, "amf_show", *OTHERS, *MEDIA, *CALLS], ["Ends"]),
+     [*OF_SERVE, *OF_MEDIA, *OF_LINKS], [*FILES, "amf_show", *OTHERS, *TEXTS, *MEDIA, *CALLS], ["Ends"]),
     ("To trust `same`", "That `amf same` says `same` exactly where two values of AMF 3 are the same graph.",
-     [*OF_SERVE, *OF_MEDIA, *OF_LINKS], [*FILES, "amf_show", *OTHERS, *MEDIA, *CALLS, "amf0_spelling",
+     [*OF_SERVE, *OF_MEDIA, *OF_LINKS], [*FILES, "amf_show", *OTHERS, *TEXTS, *MEDIA, *CALLS, "amf0_spelling",
                 "amf3_spelling.Lacks3", "amf_graph.Lacks", "amf_graph.Order"], ["Ends"]),
     ("To trust a `.sol`", "That `amf show`, `check` and `canon` with `--from sol` say what stands in a shared object file, or where it is damaged.",
-     [*OF_SERVE, *OF_MEDIA, *OF_LINKS], ["amf_packet", *OTHERS, *MEDIA, *CALLS, "amf_listings.SamePacket", "amf_listings.PacketListing",
+     [*OF_SERVE, *OF_MEDIA, *OF_LINKS], ["amf_packet", *OTHERS, *TEXTS, *MEDIA, *CALLS, "amf_listings.SamePacket", "amf_listings.PacketListing",
                 "amf_listings.PacketNodes", "amf_listings.PacketLaws"], ["Ends"]),
+    ("To trust `json`", "That the output of `amf json` is the canonical JSON text of what stands in the input, and that this text means it, but for the numbers of nodes, and in AMF 0 with integers in place of doubles.",
+     [*OF_SERVE, *OF_MEDIA, *OF_LINKS], ["amf_show", *OTHERS, *MEDIA, *CALLS, "amf_listings.PacketListing", "amf_listings.PacketNodes",
+                "amf_listings.FileListing", "amf_listings.PacketLaws", "amf_listings.FileLaws", "amf_packet.PacketLacks",
+                "amf_sol.FileLacks", "amf3_spelling.Lacks3", "amf0_spelling.Lacks0", "amf_graph.Lacks"], ["Ends"]),
     ("To trust an answer of `serve`", "That what a connection is sent is the definition's answer to the bytes that came: what a request means, which calls of "
      "services and of the broker it makes, and which bytes tell what they gave.",
-     [], ["amf_sol", "amf_show", "amf_listings", *OTHERS, *MEDIA, *CALLS], [], "amf_answer_plan.Respond"),
+     [], ["amf_sol", "amf_show", "amf_listings", *OTHERS, *TEXTS, *MEDIA, *CALLS], [], "amf_answer_plan.Respond"),
     ("To trust `serve`", "That each connection is answered as the definition says, and that all connections have one legal history of the broker.",
-     [*OF_DATA, *OF_MEDIA, *OF_LINKS], ["amf_sol", "amf_show", "amf_listings", *OTHERS, *MEDIA, *CALLS], ["ServesWords"]),
+     [*OF_DATA, *OF_MEDIA, *OF_LINKS], ["amf_sol", "amf_show", "amf_listings", *OTHERS, *TEXTS, *MEDIA, *CALLS], ["ServesWords"]),
     ("To trust `flv`", "That `amf flv` lists the metadata of an FLV file, or writes the file without them or with others, and all else as it was.",
-     [*OF_SERVE, *OF_DATA, *OF_RTMP, *OF_LINKS], [*FILES, *OTHERS, *CALLS, "rtmp_chunks", "rtmp_rechunk", "rtmp_listing"], ["Ends", "MediaEnds"]),
+     [*OF_SERVE, *OF_DATA, *OF_RTMP, *OF_LINKS], [*FILES, *OTHERS, *TEXTS, *CALLS, "rtmp_chunks", "rtmp_rechunk", "rtmp_listing"],
+     ["Ends", "MediaEnds"]),
     ("To trust `rtmp`", "That `amf rtmp` lists the messages of a chunk stream, or writes the same messages in chunks of another size.",
-     [*OF_SERVE, *OF_DATA, *OF_FLV, *OF_LINKS], [*FILES, *OTHERS, *CALLS, "flv_meta"], ["Ends", "MediaEnds"]),
+     [*OF_SERVE, *OF_DATA, *OF_FLV, *OF_LINKS], [*FILES, *OTHERS, *TEXTS, *CALLS, "flv_meta"], ["Ends", "MediaEnds"]),
     ("To trust `call`", "That `amf call` makes one call with the arguments that it was given, and writes what the bytes that come back mean.",
-     [*OF_SERVE, *OF_DATA, *OF_MEDIA, *OF_LISTEN], ["amf_sol", "amf_listings", *OTHERS, *MEDIA, "amf_poll_session", *SELF_CALLS],
+     [*OF_SERVE, *OF_DATA, *OF_MEDIA, *OF_LISTEN], ["amf_sol", "amf_listings", *OTHERS, *TEXTS, *MEDIA, "amf_poll_session", *SELF_CALLS],
      ["CallsWords"]),
     ("To trust `listen`", "That `amf listen` sends the requests of one session, again where a connection was lost, and writes the bodies of each "
      "batch once and in order. That these are the messages that were published is the path below.",
      [*OF_SERVE, *OF_DATA, *OF_MEDIA, *OF_CALL],
-     ["amf_sol", "amf_listings", "amf_vectors", *MEDIA, "amf_dial_and_call", *SELF_CALLS], ["ListensWords"]),
+     ["amf_sol", "amf_listings", "amf_vectors", *TEXTS, *MEDIA, "amf_dial_and_call", *SELF_CALLS], ["ListensWords"]),
     ("To trust that `listen` loses nothing", "That what a listener has written is what was published while it was subscribed, each message once and in order: the law "
      "`what_was_published_is_written` of `amf_poll_session`, over the listener's session and the broker.",
-     [], ["amf_sol", "amf_listings", "amf_vectors", *MEDIA, "amf_dial_and_call", *SELF_CALLS], [], "amf_poll_session.Delivered"),
+     [], ["amf_sol", "amf_listings", "amf_vectors", *TEXTS, *MEDIA, "amf_dial_and_call", *SELF_CALLS], [], "amf_poll_session.Delivered"),
 ]
 
 # Definitions stand at the margin, or two spaces in where a file has parameters for all of them.
@@ -260,6 +272,8 @@ def load():
     """All files of definitions, in the order of the crates and of each Lib."""
     files = {}
     libs = {lib.parent.parent.name: lib for lib in ROOT.glob("crates/*/specs/Lib.antt")}
+    # what the graphs of tests hold is no promise
+    libs = {name: lib for name, lib in libs.items() if not name.endswith("_tests")}
     words = words_of_file()
     untitled = sorted(crate for crate, lib in libs.items() if crate not in TITLES and "pub mod" in lib.read_text())
     if untitled:
