@@ -26,3 +26,4 @@ mod InlineReads
 pub mod Items
 pub mod Pairs
 pub mod PairLayouts
+mod PlainReads

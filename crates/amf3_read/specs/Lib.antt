@@ -20,3 +20,4 @@ pub mod OpeningNames
 pub mod OpeningShapes
 pub mod Steps
 pub mod Vectors
+pub mod Plain

@@ -11,6 +11,7 @@ mod leaf;
 mod node;
 mod number;
 mod opening;
+mod plain;
 mod text;
 mod traits;
 mod value;

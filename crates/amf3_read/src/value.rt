@@ -23,6 +23,7 @@ use crate::frame::{Frame, OpenNode, Role, part_of};
 use crate::frames::Frames;
 use crate::node::{Start, start_node};
 use crate::opening::Parts;
+use crate::plain::read_plain;
 use crate::text::read_text;
 use amf_graph::{Builder, NodeId, Part, Value};
 use amf_io::{Cursor, ReadEnd, Reason, Source, refused};
@@ -120,7 +121,7 @@ fn read_items<S: Source>(
 {
     let mut todo = todo;
     loop {
-        match start_value(alloc, cursor, builder, tables)? {
+        match start_item(alloc, cursor, builder, tables)? {
             Start::Value(value) => kept(builder.put(node, Part::Item(value)))?,
             Start::Open(child, parts) => {
                 let role = Role::Item;
@@ -244,6 +245,27 @@ fn start_apart<S: Source>(
     ensures moves { OnOk result (place cursor.old < place cursor.new) }
 {
     start_value(alloc, cursor, builder, tables)
+}
+
+/// Reads the start of an item as [`start_value`] does. Most items are plain values of which all bytes are ahead.
+#[inline(always)]
+fn start_item<S: Source>(
+    alloc: Global,
+    cursor: &mut Cursor<'_, S>,
+    builder: &mut Builder,
+    tables: &mut Tables3,
+) -> Result<Start, ReadEnd>
+    requires { Ready 0 builder.old tables.old cursor.old }
+    ensures goes { Goes S.Source cursor.old cursor.new result }
+    ensures starts { (n : ℕ) → left_of cursor.old < n → Starts S.tells S.left n (state_of builder.old tables.old) (state_of builder.new tables.new) cursor.old cursor.new result }
+    ensures still_ready { OnOk result (StillReady 0 builder.old builder.new tables.new cursor.old cursor.new) }
+    ensures holds { IfOk result (StartHolds builder.old builder.new (left_of cursor.new)) }
+    ensures moves { OnOk result (place cursor.old < place cursor.new) }
+{
+    match read_plain(cursor, tables) {
+        Some(value) => Ok(Start::Value(value)),
+        None => start_value(alloc, cursor, builder, tables),
+    }
 }
 
 /// Reads the start of a value: all of it, or a node up to its first value.

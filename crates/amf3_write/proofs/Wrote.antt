@@ -33,6 +33,10 @@ raw_tables x o m h = h.spelled.2 ∙ ap (λ w. with_words o.tables w) h.spelled.
 joined : (o m n p : List ℕ) (b c : List ℕ) → m ≡ o ++ b → n ≡ m ++ c → p ≡ n → p ≡ o ++ (b ++ c)
 joined o m n p b c e f h = h ∙ f ∙ ap (λ x. x ++ c) e ∙ append_assoc o b c
 
+-- one byte more
+pub one_more : (o m n b : List ℕ) (x : ℕ) → m ≡ o ++ b → n ≡ m ++ x ∷ [] → n ≡ o ++ (b ++ x ∷ [])
+one_more o m n b x e f = joined o m n n b (x ∷ []) e f refl
+
 -- a text by its first place
 pub wrote_place : (x : List ℕ) (o m : Output) (n k : ℕ) → x ≢ [] → IsFirstPlace o.tables.words.texts x k → n ≡ 2 * k → WritesStep (number n) o m → WritesStep (word x) o m
 wrote_place x o m n k ne at e h = record {

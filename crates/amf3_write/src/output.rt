@@ -1,4 +1,4 @@
-ghost use Rattle.std.specs.Prelude.{◌≡◌, ◌≢◌, ◌<◌, ◌≤◌, ◌^◌, [], length, take, true, false, OnOk, OnErr, IfOk, IfSome, IfNone};
+ghost use Rattle.std.specs.Prelude.{◌≡◌, ◌≢◌, ◌<◌, ◌≤◌, ◌+◌, ◌^◌, [], length, take, vec_len, vec_capacity, true, false, OnOk, OnErr, IfOk, IfSome, IfNone};
 ghost use Rattle.amf_graph.specs.Arena.{Arena};
 ghost use Rattle.amf_wire.specs.Text.{IsText};
 ghost use Rattle.amf_graph.specs.Bounds.{count_end};
@@ -11,13 +11,38 @@ ghost use Rattle.amf3_write.specs.Writes.{WritesStep, Keeps, IsReady};
 
 use crate::GraphTables;
 use amf_tables::{KnownWords, WriterTables};
-use amf_wire::{Memory, U29, write_u29};
+use amf_wire::Memory;
 use amf3_spelling::Marker;
 use std::alloc::Global;
 use std::mem;
 
 /// How many places of the table of texts a header can name (1.3.2).
 const NAMEABLE_TEXTS: u32 = 268_435_456;
+
+/// No number of 29 bits takes more bytes.
+const LONGEST_NUMBER: usize = 4;
+
+/// Asks for room for a number. After an end nothing has changed.
+#[inline(never)]
+fn grow(bytes: &mut Vec<u8>) -> Result<(), Memory>
+    ensures same { bytes.new.items ≡ bytes.old.items }
+    ensures room { OnOk result (vec_len bytes.new + LONGEST_NUMBER ≤ vec_capacity bytes.new) }
+{
+    bytes.reserve(LONGEST_NUMBER)?;
+    Ok(())
+}
+
+/// Makes room for a number: mostly it is there. After an end nothing has changed.
+#[inline(always)]
+fn make_room(bytes: &mut Vec<u8>) -> Result<(), Memory>
+    ensures same { bytes.new.items ≡ bytes.old.items }
+    ensures room { OnOk result (vec_len bytes.new + LONGEST_NUMBER ≤ vec_capacity bytes.new) }
+{
+    if bytes.capacity() - bytes.len() < LONGEST_NUMBER {
+        return grow(bytes);
+    }
+    Ok(())
+}
 
 /// What has been written: the tables that it leads to, and the bytes.
 #[derive(Drop)]
@@ -78,7 +103,8 @@ impl Output {
         ensures tables { self.new.tables ≡ self.old.tables }
         ensures known { self.new.known ≡ self.old.known }
     {
-        self.bytes.push(marker.byte())?;
+        make_room(&mut self.bytes)?;
+        self.bytes.push_reserved(marker.byte());
         Ok(())
     }
 
@@ -90,42 +116,98 @@ impl Output {
         ensures tables { self.new.tables ≡ self.old.tables }
         ensures known { self.new.known ≡ self.old.known }
     {
+        make_room(&mut self.bytes)?;
+        self.number_in_room(number);
+        Ok(())
+    }
+
+    /// A number, for which there is room.
+    #[inline(always)]
+    fn number_in_room(&mut self, number: u32)
+        requires small { number < u29_end }
+        requires room { vec_len self.old.bytes + LONGEST_NUMBER ≤ vec_capacity self.old.bytes }
+        ensures writes { WritesStep (spell.number number) self.old self.new }
+        ensures keeps { Keeps self.old self.new }
+        ensures tables { self.new.tables ≡ self.old.tables }
+        ensures known { self.new.known ≡ self.old.known }
+    {
         if number < 0x80 {
             return self.one_byte(number);
         }
         if number < 0x4000 {
             return self.two_bytes(number);
         }
-        match U29::new(number) {
-            Some(number) => self.raw(write_u29(number).as_slice()),
-            None => unreachable!(),
+        if number < 0x20_0000 {
+            return self.three_bytes(number);
         }
+        self.four_bytes(number)
     }
 
     /// A number of one byte.
-    fn one_byte(&mut self, number: u32) -> Result<(), Memory>
-        requires { number < 2 ^ 7 }
-        ensures ok { OnOk result (WritesStep (spell.number number) self.old self.new) }
+    #[inline(always)]
+    fn one_byte(&mut self, number: u32)
+        requires small { number < 2 ^ 7 }
+        requires room { vec_len self.old.bytes + 1 ≤ vec_capacity self.old.bytes }
+        ensures writes { WritesStep (spell.number number) self.old self.new }
         ensures keeps { Keeps self.old self.new }
         ensures tables { self.new.tables ≡ self.old.tables }
         ensures known { self.new.known ≡ self.old.known }
     {
-        self.bytes.push(number as u8)?;
-        Ok(())
+        self.bytes.push_reserved(number as u8);
     }
 
     /// A number of two bytes.
-    fn two_bytes(&mut self, number: u32) -> Result<(), Memory>
+    #[inline(always)]
+    fn two_bytes(&mut self, number: u32)
         requires large { 2 ^ 7 ≤ number }
         requires small { number < 2 ^ 14 }
-        ensures ok { OnOk result (WritesStep (spell.number number) self.old self.new) }
+        requires room { vec_len self.old.bytes + 2 ≤ vec_capacity self.old.bytes }
+        ensures writes { WritesStep (spell.number number) self.old self.new }
         ensures keeps { Keeps self.old self.new }
         ensures tables { self.new.tables ≡ self.old.tables }
         ensures known { self.new.known ≡ self.old.known }
     {
-        self.bytes.push(0x80 + (number / 0x80 % 0x80) as u8)?;
-        self.bytes.push((number % 0x80) as u8)?;
-        Ok(())
+        self.bytes
+            .push_reserved(0x80 + (number / 0x80 % 0x80) as u8);
+        self.bytes.push_reserved((number % 0x80) as u8);
+    }
+
+    /// A number of three bytes.
+    #[inline(always)]
+    fn three_bytes(&mut self, number: u32)
+        requires large { 2 ^ 14 ≤ number }
+        requires small { number < 2 ^ 21 }
+        requires room { vec_len self.old.bytes + 3 ≤ vec_capacity self.old.bytes }
+        ensures writes { WritesStep (spell.number number) self.old self.new }
+        ensures keeps { Keeps self.old self.new }
+        ensures tables { self.new.tables ≡ self.old.tables }
+        ensures known { self.new.known ≡ self.old.known }
+    {
+        self.bytes
+            .push_reserved(0x80 + (number / 0x4000 % 0x80) as u8);
+        self.bytes
+            .push_reserved(0x80 + (number / 0x80 % 0x80) as u8);
+        self.bytes.push_reserved((number % 0x80) as u8);
+    }
+
+    /// A number of four bytes.
+    #[inline(always)]
+    fn four_bytes(&mut self, number: u32)
+        requires large { 2 ^ 21 ≤ number }
+        requires small { number < u29_end }
+        requires room { vec_len self.old.bytes + 4 ≤ vec_capacity self.old.bytes }
+        ensures writes { WritesStep (spell.number number) self.old self.new }
+        ensures keeps { Keeps self.old self.new }
+        ensures tables { self.new.tables ≡ self.old.tables }
+        ensures known { self.new.known ≡ self.old.known }
+    {
+        self.bytes
+            .push_reserved(0x80 + (number / 0x40_0000 % 0x80) as u8);
+        self.bytes
+            .push_reserved(0x80 + (number / 0x8000 % 0x80) as u8);
+        self.bytes
+            .push_reserved(0x80 + (number / 0x100 % 0x80) as u8);
+        self.bytes.push_reserved((number % 0x100) as u8);
     }
 
     /// Bytes as they are.

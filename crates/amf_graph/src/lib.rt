@@ -9,6 +9,7 @@ mod classes;
 mod copying;
 mod facts;
 mod grafts;
+mod guesses;
 mod held;
 mod kind;
 mod lack;

@@ -101,7 +101,7 @@ fn push_row(
 {
     rows.reserve(1)?;
     kinds.push(kind)?;
-    rows.push(row)?;
+    rows.push_reserved(row);
     Ok(())
 }
 
@@ -175,6 +175,7 @@ impl Nodes {
     }
 
     /// What a node is and holds.
+    #[inline(always)]
     pub(crate) fn held(&self, place: usize) -> Held<'_>
         requires { place < length self.now }
         ensures { get_or self.now place no_stored ≡ held_node (get_or self.now place no_stored).is_open result }
@@ -243,8 +244,8 @@ impl Nodes {
         self.kinds.reserve(1)?;
         next_slot(&mut self.slots, self.used, place, shape)?;
         self.used += 1;
-        self.kinds.push(shape.kind())?;
-        self.rows.push(Row::Slot(slot))?;
+        self.kinds.push_reserved(shape.kind());
+        self.rows.push_reserved(Row::Slot(slot));
         Ok(())
     }
 

@@ -45,24 +45,24 @@ impl Lists {
     }
 }
 
-/// Adds a value to a list that has no room left. After an end nothing has changed.
+/// Adds a part to a list that has no room left. After an end nothing has changed.
 #[inline(never)]
-fn push_grown(values: &mut Vec<Value>, value: Value) -> Result<(), Memory>
-    ensures { values.new.items ≡ (if is_ok result then values.old.items ++ value ∷ [] else values.old.items) }
+fn push_grown<T: Copy>(parts: &mut Vec<T>, part: T) -> Result<(), Memory>
+    ensures { parts.new.items ≡ (if is_ok result then parts.old.items ++ part ∷ [] else parts.old.items) }
 {
-    values.push(value)?;
+    parts.push(part)?;
     Ok(())
 }
 
-/// Adds a value to a list. Most lists have room for it: these need no call. After an end nothing has changed.
+/// Adds a part to a list. Most lists have room for it: these need no call. After an end nothing has changed.
 #[inline(always)]
-fn push_to(values: &mut Vec<Value>, value: Value) -> Result<(), Memory>
-    ensures { values.new.items ≡ (if is_ok result then values.old.items ++ value ∷ [] else values.old.items) }
+fn push_to<T: Copy>(parts: &mut Vec<T>, part: T) -> Result<(), Memory>
+    ensures { parts.new.items ≡ (if is_ok result then parts.old.items ++ part ∷ [] else parts.old.items) }
 {
-    if values.len() >= values.capacity() {
-        return push_grown(values, value);
+    if parts.len() >= parts.capacity() {
+        return push_grown(parts, part);
     }
-    values.push_reserved(value);
+    parts.push_reserved(part);
     Ok(())
 }
 
@@ -78,6 +78,7 @@ fn first_value(alloc: Global, value: Value) -> Result<PartLists, Memory>
 }
 
 /// Lists with one pair by name.
+#[inline(never)]
 fn first_name(alloc: Global, name: TextId, value: Value) -> Result<PartLists, Memory>
     ensures { IfOk result (λ lists. lists ≡ more_names (name, value) no_lists) }
 {
@@ -88,6 +89,7 @@ fn first_name(alloc: Global, name: TextId, value: Value) -> Result<PartLists, Me
 }
 
 /// Lists with one entry.
+#[inline(never)]
 fn first_entry(alloc: Global, key: Value, value: Value) -> Result<PartLists, Memory>
     ensures { IfOk result (λ lists. lists ≡ more_entries (key, value) no_lists) }
 {
@@ -192,7 +194,7 @@ impl PartLists {
         ensures err { OnErr result (self.new ≡ self.old) }
     {
         if let Some(lists) = &mut self.lists {
-            lists.names.push((name, value))?;
+            push_to(&mut lists.names, (name, value))?;
         } else {
             *self = first_name(alloc, name, value)?;
         }
@@ -200,6 +202,7 @@ impl PartLists {
     }
 
     /// Adds an entry. After an end nothing has changed.
+    #[inline(always)]
     pub(crate) fn push_entry(
         &mut self,
         alloc: Global,
@@ -210,7 +213,7 @@ impl PartLists {
         ensures err { OnErr result (self.new ≡ self.old) }
     {
         if let Some(lists) = &mut self.lists {
-            lists.entries.push((key, value))?;
+            push_to(&mut lists.entries, (key, value))?;
         } else {
             *self = first_entry(alloc, key, value)?;
         }

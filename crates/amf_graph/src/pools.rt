@@ -116,6 +116,7 @@ impl Pools {
     }
 
     /// Keeps the values and the pairs of a node. After an end what was there is there.
+    #[inline(always)]
     pub(crate) fn keep_parts(
         &mut self,
         form: Form,

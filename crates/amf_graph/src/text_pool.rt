@@ -110,7 +110,7 @@ impl TextPool {
         self.bytes
             .reserve(room_for(self.bytes.len(), FIRST_BYTES).max(text.len()))?;
         self.bytes.extend_from_slice(text)?;
-        self.ends.push(end)?;
+        self.ends.push_reserved(end);
         Ok(())
     }
 

@@ -7,6 +7,7 @@ ghost use Rattle.amf_graph.specs.TextNumbers.{with_content, contents_of};
 ghost use Rattle.amf_graph.specs.KeptTexts.{content_at, text_hash};
 
 use crate::chains::Chains;
+use crate::guesses::Guesses;
 use crate::text_keys::TextKeys;
 use crate::text_pool::{FIRST_TEXTS, TextPool, room_for};
 use amf_wire::Memory;
@@ -21,8 +22,7 @@ pub struct Texts {
     contents: TextPool,
     chains: Chains,
     numbers: Vec<u32>,
-    /// Where the empty content was met last. It may stand elsewhere, or not be there.
-    empty: u32,
+    guesses: Guesses,
 }
 
 impl Model for Texts {
@@ -88,29 +88,26 @@ fn enter(
     }
 }
 
-/// Whether a content is the empty one, and stands at this number.
-fn is_empty_at(contents: &TextPool, number: u32, bytes: &[u8]) -> bool
+/// Whether a content stands at this number, if there is one.
+#[inline(always)]
+fn is_at(contents: &TextPool, number: u32, bytes: &[u8]) -> bool
     ensures { result ≡ true → slice_get contents.now number ≡ Some bytes.now }
 {
     let place = number as usize;
-    if !bytes.is_empty() || place >= contents.len() {
+    if place >= contents.len() {
         return false;
     }
     contents.get(place) == bytes
 }
 
-/// Where the empty content was met last, once this one is met too.
-fn empty_after(empty: u32, number: u32, bytes: &[u8]) -> u32 {
-    if bytes.is_empty() { number } else { empty }
-}
-
-/// The number of a content, which is kept behind the others where it is not there. After an end nothing has changed.
-fn number_for(
+/// The number of a content, which is looked up by its hash, and kept behind the others where it is not there. After an end nothing
+/// has changed.
+#[inline(always)]
+fn number_by_hash(
     contents: &mut TextPool,
     chains: &mut Chains,
     bytes: &[u8],
     keys: TextKeys,
-    empty: u32,
 ) -> Result<u32, Memory>
     requires { chains.old ≡ map (text_hash keys) contents.old }
     ensures number { IfOk result (λ n. slice_get contents.new n ≡ Some bytes.now) }
@@ -118,14 +115,33 @@ fn number_for(
     ensures err { OnErr result (contents.new ≡ contents.old) }
     ensures hashes { chains.new ≡ map (text_hash keys) contents.new }
 {
-    if is_empty_at(contents, empty, bytes) {
-        return Ok(empty);
-    }
     let hash = keys.hash(bytes);
     match number_of(contents, chains, bytes, keys, hash) {
         Some(number) => Ok(number),
         None => enter(contents, chains, bytes, keys, hash),
     }
+}
+
+/// The number of a content, which may be this one, and is kept behind the others where it is not there. After an end nothing has
+/// changed.
+#[inline(always)]
+fn number_for(
+    contents: &mut TextPool,
+    chains: &mut Chains,
+    bytes: &[u8],
+    keys: TextKeys,
+    guess: u32,
+) -> Result<u32, Memory>
+    requires { chains.old ≡ map (text_hash keys) contents.old }
+    ensures number { IfOk result (λ n. slice_get contents.new n ≡ Some bytes.now) }
+    ensures ok { OnOk result (contents.new ≡ with_content contents.old bytes.now) }
+    ensures err { OnErr result (contents.new ≡ contents.old) }
+    ensures hashes { chains.new ≡ map (text_hash keys) contents.new }
+{
+    if is_at(contents, guess, bytes) {
+        return Ok(guess);
+    }
+    number_by_hash(contents, chains, bytes, keys)
 }
 
 /// The bytes of a text, or none where there is no such text.
@@ -160,7 +176,7 @@ impl Texts {
             contents: TextPool::new(alloc),
             chains: Chains::new(alloc),
             numbers: Vec::new(alloc),
-            empty: 0,
+            guesses: Guesses::new(alloc),
         }
     }
 
@@ -173,7 +189,7 @@ impl Texts {
             contents: TextPool::new(alloc),
             chains: Chains::new(alloc),
             numbers: Vec::new(alloc),
-            empty: 0,
+            guesses: Guesses::new(alloc),
         }
     }
 
@@ -226,10 +242,10 @@ impl Texts {
             &mut self.chains,
             bytes,
             self.keys,
-            self.empty,
+            self.guesses.next(bytes),
         )?;
-        self.empty = empty_after(self.empty, number, bytes);
-        self.numbers.push(number)?;
+        self.guesses.note(number, bytes, self.numbers.len());
+        self.numbers.push_reserved(number);
         Ok(())
     }
 
@@ -246,8 +262,7 @@ impl Texts {
         self.numbers
             .reserve(room_for(self.numbers.len(), FIRST_TEXTS))?;
         let number = enter(&mut self.contents, &mut self.chains, bytes, self.keys, hash)?;
-        self.empty = empty_after(self.empty, number, bytes);
-        self.numbers.push(number)?;
+        self.numbers.push_reserved(number);
         Ok(None)
     }
 
@@ -304,7 +319,7 @@ impl Texts {
             contents: self.contents.copy(alloc)?,
             chains: self.chains.copy(alloc)?,
             numbers: self.numbers.to_vec(alloc)?,
-            empty: self.empty,
+            guesses: Guesses::new(alloc),
         })
     }
 }

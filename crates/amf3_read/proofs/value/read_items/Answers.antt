@@ -14,7 +14,7 @@ returns-in_err-value-clause-follows g c =
     let S = g.S.Source in
     let b = c.args.builder.now in let u = c.args.tables.now in let d = c.args.cursor.now in let fs = c.args.frames.now in let i = c.args.node in let p = c.args.todo in
     let b1 = c.loop-value.builder in let u1 = c.loop-value.tables in let e = c.loop-value.cursor in let q = c.loop-value.todo in let h = c.loop-value.invariant.lasts in
-    let b2 = c.start_value.new.builder in let u2 = c.start_value.new.tables in let e2 = c.start_value.new.cursor in
+    let b2 = c.start_item.new.builder in let u2 = c.start_item.new.tables in let e2 = c.start_item.new.cursor in
     let end = c.in_err-value.field-0.0 in
     follows_end S.tells S.left S.faults b b2 u u2 d e2 now.wanted (item_of i p ∷ fs) c.loop-value.frames c.from_residual.result end c.from_residual.ensures.1
     (λ a t k so. so_end S.tells S.left S.faults a b1 t u1 k e (item_of i q ∷ fs) (h.goes_on a t k so) b2 u2 e2 end c.in_err-value.ensures.starts)
@@ -24,7 +24,7 @@ put-requires-clause-room g c =
     let S = g.S.Source in
     let b = c.args.builder.now in let u = c.args.tables.now in let d = c.args.cursor.now in let fs = c.args.frames.now in let i = c.args.node in let p = c.args.todo in
     let b1 = c.loop-value.builder in let u1 = c.loop-value.tables in let e = c.loop-value.cursor in let q = c.loop-value.todo in let h = c.loop-value.invariant.lasts in
-    let b2 = c.start_value.new.builder in let u2 = c.start_value.new.tables in let e2 = c.start_value.new.cursor in
+    let b2 = c.start_item.new.builder in let u2 = c.start_item.new.tables in let e2 = c.start_item.new.cursor in
     let v = c.in-Value.value in let k = rw c.in-Value.is at c.in_ok-value.ensures in
     part_room (suc (left_of e2)) b2 (item_of i q) (item_waits S.tells S.left S.faults b b1 u u1 d e i p q fs h b2 u2 e2 v k.goes k.starts k.still_ready k.holds k.moves) v (part.Item v) refl
 
@@ -33,7 +33,7 @@ loop-value-preserved g c =
     let S = g.S.Source in
     let b = c.args.builder.now in let u = c.args.tables.now in let d = c.args.cursor.now in let fs = c.args.frames.now in let i = c.args.node in let p = c.args.todo in
     let b1 = c.loop-value.builder in let u1 = c.loop-value.tables in let e = c.loop-value.cursor in let q = c.loop-value.todo in let h = c.loop-value.invariant.lasts in
-    let b2 = c.start_value.new.builder in let u2 = c.start_value.new.tables in let e2 = c.start_value.new.cursor in
+    let b2 = c.start_item.new.builder in let u2 = c.start_item.new.tables in let e2 = c.start_item.new.cursor in
     let v = c.in-Value.value in let k = rw c.in-Value.is at c.in_ok-value.ensures in
     let b3 = c.put.new.self in
     let was = done _ c.put.result c.in_ok-kept-in-Value.field-0 c.in_ok-kept-in-Value.ensures.ok c.put.ensures.ok in
@@ -48,7 +48,7 @@ returns-in-None-clause-follows g c =
     let S = g.S.Source in
     let b = c.args.builder.now in let u = c.args.tables.now in let d = c.args.cursor.now in let fs = c.args.frames.now in let i = c.args.node in let p = c.args.todo in
     let b1 = c.loop-value.builder in let u1 = c.loop-value.tables in let e = c.loop-value.cursor in let q = c.loop-value.todo in let h = c.loop-value.invariant.lasts in
-    let b2 = c.start_value.new.builder in let u2 = c.start_value.new.tables in let e2 = c.start_value.new.cursor in
+    let b2 = c.start_item.new.builder in let u2 = c.start_item.new.tables in let e2 = c.start_item.new.cursor in
     let v = c.in-Value.value in let k = rw c.in-Value.is at c.in_ok-value.ensures in
     let b3 = c.put.new.self in
     let was = done _ c.put.result c.in_ok-kept-in-Value.field-0 c.in_ok-kept-in-Value.ensures.ok c.put.ensures.ok in
@@ -62,7 +62,7 @@ returns-in-Open-clause-follows g c =
     let S = g.S.Source in
     let b = c.args.builder.now in let u = c.args.tables.now in let d = c.args.cursor.now in let fs = c.args.frames.now in let i = c.args.node in let p = c.args.todo in
     let b1 = c.loop-value.builder in let u1 = c.loop-value.tables in let e = c.loop-value.cursor in let q = c.loop-value.todo in let h = c.loop-value.invariant.lasts in
-    let b2 = c.start_value.new.builder in let u2 = c.start_value.new.tables in let e2 = c.start_value.new.cursor in
+    let b2 = c.start_item.new.builder in let u2 = c.start_item.new.tables in let e2 = c.start_item.new.cursor in
     let k = rw c.in-Open.is at c.in_ok-value.ensures in
     let j = c.in-Open.child in let r = c.in-Open.parts in
     let gs : c.push.new.self ≡ item_of i q ∷ fs = c.in_ok-push-in-Open.ensures ∙ ap (λ (l : List Frame). item_of i q ∷ l) c.loop-value.invariant.same in

@@ -1,10 +1,7 @@
--- A content that is there is not kept again.
+-- The content that was guessed is there.
 use Rattle.std.proofs.Common.{sym}
 use Rattle.amf_graph.proofs.Contents.{content_there}
 use Rattle.amf_graph.proofs.texts.number_for.Goals as goal
 
-pub returns-in-Some-clause-ok : goal.returns-in-Some-clause-ok
-returns-in-Some-clause-ok c = sym (content_there c.args.contents.now c.args.bytes.now c.in-Some.number c.in-Some.ensures)
-
-pub returns-then-is_empty_at-clause-ok : goal.returns-then-is_empty_at-clause-ok
-returns-then-is_empty_at-clause-ok c = sym (content_there c.args.contents.now c.args.bytes.now c.args.empty (c.is_empty_at.ensures c.if-is_empty_at.true))
+pub returns-then-is_at-clause-ok : goal.returns-then-is_at-clause-ok
+returns-then-is_at-clause-ok c = sym (content_there c.args.contents.now c.args.bytes.now c.args.guess (c.is_at.ensures c.if-is_at.true))

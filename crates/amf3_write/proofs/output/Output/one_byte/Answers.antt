@@ -3,9 +3,9 @@ use Rattle.amf_wire.specs.Style.{canonical}
 use Rattle.amf_wire.proofs.Shortest.{small}
 use Rattle.amf3_write.proofs.output.Output.one_byte.Goals as goal
 
-pub returns-clause-ok : goal.returns-clause-ok
-returns-clause-ok c = record {
+pub returns-clause-writes : goal.returns-clause-writes
+returns-clause-writes c = record {
   bytes = c.args.number ∷ [];
-  spelled = (c.args.self.now.tables.words, (small canonical c.args.number c.requires, refl), refl);
-  appended = c.in_ok-push.ensures.items;
+  spelled = (c.args.self.now.tables.words, (small canonical c.args.number c.requires.small, refl), refl);
+  appended = c.push_reserved.ensures.items;
 }

@@ -21,9 +21,9 @@ invariant_of-self-2 c =
     let kinds = c.self.inside.kinds.items in
     let node = begun (shape_head c.args.shape) in
     let slot : ℕ → KeptSlot = λ n. record { owner = Some n; node = node } in
-    let last = c.in_ok-push-2.ensures.items ∙ ap (λ w. w ++ row.Slot c.in_ok-slot.slot ∷ []) c.reserve.ensures.items ∙ ap (λ n. rows ++ row.Slot n ∷ []) c.in_ok-slot.ensures in
-    let kind = c.in_ok-push.ensures.items ∙ ap (λ w. w ++ c.kind.result ∷ []) c.reserve-2.ensures.items in
-    are_opened c.self.inside.pools c.self.inside.slots.items c.next_slot.new.slots.items c.self.inside.used rows c.push-2.new.self.items kinds c.push.new.self.items node c.kind.result last kind c.kind.ensures
+    let last = c.push_reserved-2.ensures.items ∙ ap (λ w. w ++ row.Slot c.in_ok-slot.slot ∷ []) c.reserve.ensures.items ∙ ap (λ n. rows ++ row.Slot n ∷ []) c.in_ok-slot.ensures in
+    let kind = c.push_reserved.ensures.items ∙ ap (λ w. w ++ c.kind.result ∷ []) c.reserve-2.ensures.items in
+    are_opened c.self.inside.pools c.self.inside.slots.items c.next_slot.new.slots.items c.self.inside.used rows c.push_reserved-2.new.self.items kinds c.push_reserved.new.self.items node c.kind.result last kind c.kind.ensures
     (omega (arith, c.in_ok-next_slot.ensures.there)) c.in_ok-next_slot.ensures.others
     (c.in_ok-next_slot.ensures.begun ∙ ap slot (c.in_ok-place.ensures ∙ c.len.ensures ∙ c.self.inside.rows.ok.0)) c.self.invariant
 
@@ -32,7 +32,7 @@ returns-clause-ok c =
     let rows = c.self.inside.rows.items in
     let node = begun (shape_head c.args.shape) in
     let slot : ℕ → KeptSlot = λ n. record { owner = Some n; node = node } in
-    let last = c.in_ok-push-2.ensures.items ∙ ap (λ w. w ++ row.Slot c.in_ok-slot.slot ∷ []) c.reserve.ensures.items ∙ ap (λ n. rows ++ row.Slot n ∷ []) c.in_ok-slot.ensures in
-    nodes_open c.self.inside.pools c.self.inside.slots.items c.next_slot.new.slots.items c.self.inside.used rows c.push-2.new.self.items node last c.in_ok-next_slot.ensures.others
+    let last = c.push_reserved-2.ensures.items ∙ ap (λ w. w ++ row.Slot c.in_ok-slot.slot ∷ []) c.reserve.ensures.items ∙ ap (λ n. rows ++ row.Slot n ∷ []) c.in_ok-slot.ensures in
+    nodes_open c.self.inside.pools c.self.inside.slots.items c.next_slot.new.slots.items c.self.inside.used rows c.push_reserved-2.new.self.items node last c.in_ok-next_slot.ensures.others
     (c.in_ok-next_slot.ensures.begun ∙ ap slot (c.in_ok-place.ensures ∙ c.len.ensures ∙ c.self.inside.rows.ok.0)) c.self.invariant.placed
     ∙ ap (λ w. w ++ node ∷ []) c.self.view_is

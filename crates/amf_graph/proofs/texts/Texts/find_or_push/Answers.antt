@@ -5,11 +5,11 @@ use Rattle.amf_graph.proofs.texts.Texts.find_or_push.Goals as goal
 
 pub invariant_of-self-2 : goal.invariant_of-self-2
 invariant_of-self-2 c =
-    kept_pushed c.self.inside.keys c.self.inside.contents c.enter.new.contents c.self.inside.chains c.enter.new.chains c.self.inside.numbers.items c.push.new.self.items c.args.bytes.now c.in_ok-number.number
-    c.in_ok-number.ensures.ok c.in_ok-number.ensures.number c.in_ok-number.ensures.hashes (c.in_ok-push.ensures.items ∙ ap (λ w. w ++ c.in_ok-number.number ∷ []) c.reserve.ensures.items) c.self.invariant
+    kept_pushed c.self.inside.keys c.self.inside.contents c.enter.new.contents c.self.inside.chains c.enter.new.chains c.self.inside.numbers.items c.push_reserved.new.self.items c.args.bytes.now c.in_ok-number.number
+    c.in_ok-number.ensures.ok c.in_ok-number.ensures.number c.in_ok-number.ensures.hashes (c.push_reserved.ensures.items ∙ ap (λ w. w ++ c.in_ok-number.number ∷ []) c.reserve.ensures.items) c.self.invariant
 
 pub returns-clause-texts : goal.returns-clause-texts
 returns-clause-texts c =
-    shown_pushed c.self.inside.keys c.self.inside.contents c.enter.new.contents c.self.inside.chains c.self.inside.numbers.items c.push.new.self.items c.args.bytes.now c.in_ok-number.number
-    c.in_ok-number.ensures.ok c.in_ok-number.ensures.number (c.in_ok-push.ensures.items ∙ ap (λ w. w ++ c.in_ok-number.number ∷ []) c.reserve.ensures.items) c.self.invariant
+    shown_pushed c.self.inside.keys c.self.inside.contents c.enter.new.contents c.self.inside.chains c.self.inside.numbers.items c.push_reserved.new.self.items c.args.bytes.now c.in_ok-number.number
+    c.in_ok-number.ensures.ok c.in_ok-number.ensures.number (c.push_reserved.ensures.items ∙ ap (λ w. w ++ c.in_ok-number.number ∷ []) c.reserve.ensures.items) c.self.invariant
     ∙ ap (λ w. w ++ c.args.bytes.now ∷ []) c.self.view_is

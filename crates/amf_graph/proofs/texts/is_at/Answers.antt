@@ -2,7 +2,7 @@
 use Rattle.std.proofs.Common.{◌∙◌, [], Some, sym, ap, arith}
 use Rattle.std.proofs.lemmas.Option.{slice_get-get_or}
 use Rattle.std.proofs.lemmas.Slice.Eq.{bytes_eq-Decides}
-use Rattle.amf_graph.proofs.texts.is_empty_at.Goals as goal
+use Rattle.amf_graph.proofs.texts.is_at.Goals as goal
 
 pub returns : goal.returns
 returns c =
