@@ -23,4 +23,5 @@ pub mod CharEnds
 pub mod StringsOn
 pub mod WordsOn
 pub mod CanEnds
+pub mod LabelNumbers
 pub mod BrokenEnds

@@ -17,3 +17,4 @@ pub mod Scanned
 pub mod Judgements
 pub mod Stops
 pub mod FrontEnds
+pub mod LabelNumbers

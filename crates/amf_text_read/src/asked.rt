@@ -3,8 +3,9 @@
 ghost use Rattle.std.specs.Prelude.{◌≡◌, ◌-◌, [], ◌∷◌, ◌++◌, IfOk, OnOk, MatchOption, length, reverse, take};
 ghost use Rattle.json.specs.Reads.{token_of};
 ghost use Rattle.amf_text.specs.Asks.{start};
+ghost use Rattle.amf_text.specs.Refused.{is_label};
 ghost use Rattle.amf_text_read.specs.NextGoals.{with_more};
-ghost use Rattle.amf_text_read.specs.Verdicts.{asked_of, is_empty, Judges};
+ghost use Rattle.amf_text_read.specs.Verdicts.{asked_of, is_empty, IsFirst, Judges};
 
 use crate::goal::Goal;
 use crate::held::Lists;
@@ -17,7 +18,7 @@ use std::hash::RandomState;
 
 /// What has to stand next in a text of which some tokens have been read.
 #[derive(Drop)]
-pub(crate) struct Asked {
+pub struct Asked {
     /// The last of these has to stand next, then the one before it, and so on.
     goals: Vec<Goal>,
     lists: Lists,
@@ -54,7 +55,7 @@ fn put(goals: &mut Vec<Goal>, next: Next) -> Result<(), Memory>
 
 impl Asked {
     /// Nothing has been read: the whole text has to come. What is looked up is found by these keys.
-    pub(crate) fn new(alloc: Global, keys: Option<RandomState>) -> Result<Asked, Memory>
+    pub fn new(alloc: Global, keys: Option<RandomState>) -> Result<Asked, Memory>
         ensures { IfOk result (λ asked. asked_of asked ≡ start ∷ []) }
     {
         let mut goals = Vec::new(alloc);
@@ -65,8 +66,15 @@ impl Asked {
         })
     }
 
+    /// What has to stand next, if anything has to come.
+    pub fn goal(&self) -> Option<Goal>
+        ensures { MatchOption result (asked_of self.now ≡ []) (λ g. IsFirst g (asked_of self.now)) }
+    {
+        next_goal(&self.goals)
+    }
+
     /// Takes a token: `None` where it is asked for, else the reason why it is refused, and then nothing changes.
-    pub(crate) fn take(&mut self, token: &Token<'_>) -> Result<Option<TextReason>, Memory>
+    pub fn take(&mut self, token: &Token<'_>) -> Result<Option<TextReason>, Memory>
         ensures { IfOk result (Judges (asked_of self.old) (asked_of self.new) (token_of token.now)) }
     {
         let Some(goal) = next_goal(&self.goals) else {
@@ -83,8 +91,15 @@ impl Asked {
         }
     }
 
+    /// Whether a label has to come.
+    pub(crate) fn wants_label(&self) -> bool
+        ensures { result ≡ is_label (asked_of self.now) }
+    {
+        matches!(next_goal(&self.goals), Some(Goal::Label))
+    }
+
     /// Whether nothing has to come any more.
-    pub(crate) fn is_whole(&self) -> bool
+    pub fn is_whole(&self) -> bool
         ensures { result ≡ is_empty (asked_of self.now) }
     {
         self.goals.is_empty()

@@ -5,7 +5,7 @@ ghost use Rattle.amf_text_read.specs.Goals.{key_name};
 
 /// A key that has its place.
 #[derive(Clone, Copy, Debug, PartialEq, Eq)]
-pub(crate) enum Key {
+pub enum Key {
     Fixed,
     Form,
     Headers,
@@ -25,7 +25,7 @@ pub(crate) enum Key {
 }
 
 impl Key {
-    pub(crate) fn name(self) -> &'static str
+    pub fn name(self) -> &'static str
         ensures { result.now ≡ key_name self }
     {
         match self {
@@ -51,7 +51,7 @@ impl Key {
 
 /// What has to stand at one place of a text.
 #[derive(Clone, Copy, Debug, PartialEq, Eq)]
-pub(crate) enum Goal {
+pub enum Goal {
     /// The whole text; then the key `amf`, and the word behind it.
     Start,
     FormKey,

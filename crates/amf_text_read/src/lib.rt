@@ -3,6 +3,7 @@
 #![tactic(auto)]
 
 mod asked;
+mod called;
 mod cut;
 mod goal;
 mod held;
@@ -22,8 +23,12 @@ mod tag;
 mod verdict;
 mod word_table;
 
+pub use asked::Asked;
+pub use called::label_place;
+pub use goal::{Goal, Key};
 pub use place::{ends_inside, line_and_column, place_of};
 pub use scalars::{
     as_int, as_integer, as_uint, hex_bytes, number_pattern, number_whole, word_pattern,
 };
+pub use tag::{Tag, tag_of};
 pub use verdict::{Refusal, text_verdict};

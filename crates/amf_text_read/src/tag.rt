@@ -7,7 +7,7 @@ ghost use Rattle.amf_text_read.specs.TagNames.{tag_named};
 
 /// A word that begins with a dollar sign, or another key.
 #[derive(Clone, Copy, Debug, PartialEq, Eq)]
-pub(crate) enum Tag {
+pub enum Tag {
     Collection,
     List,
     Proxy,
@@ -49,7 +49,7 @@ fn begins_tag(key: &str) -> bool
 }
 
 /// The word that a key is.
-pub(crate) fn tag_of(key: &str) -> Tag
+pub fn tag_of(key: &str) -> Tag
     ensures { tag_named result ≡ tag_spec key.now }
 {
     match key {

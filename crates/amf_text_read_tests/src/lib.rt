@@ -2,6 +2,8 @@
 #![tactic(auto)]
 
 #[cfg(test)]
+mod called_tests;
+#[cfg(test)]
 mod scalars_tests;
 #[cfg(test)]
 mod verdict_tests;
