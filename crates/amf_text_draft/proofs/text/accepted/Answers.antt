@@ -1,0 +1,20 @@
+use Rattle.amf_text.specs.Scalars.{read_number}
+use Rattle.amf_text_draft.specs.Graphs.{graphs_in}
+use Rattle.amf_text_draft.specs.Pages.{document_of}
+use Rattle.amf_text_draft.specs.Written.{document_written}
+use Rattle.amf_text_draft.proofs.Verdicts.{are_writable, is_written, means_graphs}
+use Rattle.amf_text_draft.proofs.text.accepted.Goals as goal
+
+pub write-requires : goal.write-requires
+write-requires c =
+    let pages = document_of c.in_ok-document.document in
+    let linked = rw c.in-None.is at c.in_ok-refusal.ensures in
+    let means = means_graphs (c.tree_laws.ensures read_number) c.args.text.now pages c.requires c.in_ok-document.ensures linked in
+    are_writable c.whole_laws.ensures c.few_nodes.ensures c.args.text.now (graphs_in pages) c.requires means
+
+pub returns-in_ok-write-in-None-clause-written : goal.returns-in_ok-write-in-None-clause-written
+returns-in_ok-write-in-None-clause-written c =
+    let pages = document_of c.in_ok-document.document in
+    let linked = rw c.in-None.is at c.in_ok-refusal.ensures in
+    let means = means_graphs (c.tree_laws.ensures read_number) c.args.text.now pages c.requires c.in_ok-document.ensures linked in
+    is_written c.args.text.now (graphs_in pages) (document_written c.in_ok-write-in-None.field-0) c.requires means c.in_ok-write-in-None.ensures
