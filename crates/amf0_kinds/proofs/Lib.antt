@@ -1,0 +1,3 @@
+-- Lemmas.
+pub mod Own
+mod Keeping
