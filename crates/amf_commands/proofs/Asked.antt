@@ -23,7 +23,7 @@ use Rattle.amf_commands.specs.declared.format.Format.{Format}
 use Rattle.amf_commands.specs.declared.format.Format.TheVariants.{Amf3}
 use Rattle.amf_commands.specs.declared.command_name.CommandName.{CommandName}
 use Rattle.amf_commands.specs.declared.command_name.CommandName.TheVariants as command_name
-use Rattle.amf_commands.specs.Commands.{Asks, AsksFor, HasReading, IsCalling, IsDialling, IsListening, IsMedia, Reads, ReadsCall, ReadsFlv, ReadsListen, ReadsRtmp, ReadsServe, IsServing, call_of, canon_from, canon_to, destination_at, flv_job_named, format_or, gen_of, goes_to, is_numeral, json_of, layout_or, listen_of, name_of, number_at, options_for, rtmp_of, rtmp_show, serve_of, target_at, task_for}
+use Rattle.amf_commands.specs.Commands.{Asks, AsksFor, HasReading, IsCalling, IsDialling, IsListening, IsMedia, Reads, ReadsBytes, ReadsCall, ReadsFlv, ReadsListen, ReadsRtmp, ReadsServe, IsServing, call_of, canon_from, canon_to, destination_at, flv_job_named, format_or, gen_of, goes_to, is_numeral, json_of, layout_or, listen_of, name_of, number_at, options_for, rtmp_of, rtmp_show, serve_of, target_at, task_for}
 use Rattle.amf_commands.specs.Askable.{IsAskable, IsCallable, IsChunkable, IsListenable, IsPossible, IsServable}
 
 named : Text → CommandName
@@ -31,12 +31,13 @@ named t = if bytes_eq t (codes "canon") then command_name.Canon
     else (if bytes_eq t (codes "check") then command_name.Check
     else (if bytes_eq t (codes "show") then command_name.Show
     else (if bytes_eq t (codes "json") then command_name.Json
+    else (if bytes_eq t (codes "bytes") then command_name.Bytes
     else (if bytes_eq t (codes "same") then command_name.Same
     else (if bytes_eq t (codes "gen") then command_name.Gen
     else (if bytes_eq t (codes "serve") then command_name.Serve
     else (if bytes_eq t (codes "flv") then command_name.Flv
     else (if bytes_eq t (codes "rtmp") then command_name.Rtmp
-    else (if bytes_eq t (codes "call") then command_name.Call else command_name.Listen)))))))))
+    else (if bytes_eq t (codes "call") then command_name.Call else command_name.Listen))))))))))
 
 named_is : (k : CommandName) → named (name_of k) ≡ k
 unfolding named
@@ -44,6 +45,7 @@ named_is command_name.Canon = refl
 named_is command_name.Check = refl
 named_is command_name.Show = refl
 named_is command_name.Json = refl
+named_is command_name.Bytes = refl
 named_is command_name.Same = refl
 named_is command_name.Gen = refl
 named_is command_name.Serve = refl
@@ -57,6 +59,7 @@ good command_name.Canon = refl
 good command_name.Check = refl
 good command_name.Show = refl
 good command_name.Json = refl
+good command_name.Bytes = refl
 good command_name.Same = refl
 good command_name.Gen = refl
 good command_name.Serve = refl
@@ -206,6 +209,7 @@ task_possible command_name.Canon value all t e = output_possible (canon_from (fo
 task_possible command_name.Check value all t e = output_possible (option_map command.Check (format_or Amf3 (value (codes "from")))) (mapped_sized command.Check (λ f. tt) (format_or Amf3 (value (codes "from")))) t e
 task_possible command_name.Show value all t e = output_possible (option_map command.Show (format_or Amf3 (value (codes "from")))) (mapped_sized command.Show (λ f. tt) (format_or Amf3 (value (codes "from")))) t e
 task_possible command_name.Json value all t e = output_possible (json_of (format_or Amf3 (value (codes "from"))) (layout_or (value (codes "layout")))) (json_sized (format_or Amf3 (value (codes "from"))) (layout_or (value (codes "layout")))) t e
+task_possible command_name.Bytes value all t e = subst IsPossible (same_Some task.Bytes t e) tt
 task_possible command_name.Same value all t e = subst IsPossible (same_Some (task.Output command.Same) t e) tt
 task_possible command_name.Gen value all t e = output_possible (gen_of (number_at 0 4294967295 (value (codes "seed"))) (number_at 1 1000000 (value (codes "size")))) (λ c. gen_sized (number_at 0 4294967295 (value (codes "seed"))) (number_at 1 1000000 (value (codes "size"))) c (number_within 1 1000000 (value (codes "size")))) t e
 task_possible command_name.Serve value all t e = serve_possible (serve_of (number_at 0 65535 (value (codes "port"))) (number_at 1 64 (value (codes "workers"))) (number_at 1 1000000 (value (codes "each")))) (λ s. serve_sized (number_at 0 65535 (value (codes "port"))) (number_at 1 64 (value (codes "workers"))) (number_at 1 1000000 (value (codes "each"))) s (number_within 1 64 (value (codes "workers")))) t e
@@ -405,6 +409,36 @@ dialling_is_no_media words a (inr b) = listener_is_no_media words a b
 
 pub not_serving : (words : List Text) (c : Command) → Reads words c → IsServing words → ⊥
 not_serving words c a b = not_both words c b.0 a b.1
+
+-- what is no text to be written as bytes
+
+reads_text : Task → Bool
+reads_text task.Bytes = true
+reads_text t = false
+
+no_bytes : (words : List Text) (t : Task) → AsksFor words t → reads_text t ≡ false → ReadsBytes words → ⊥
+unfolding reads_text
+no_bytes words t a is b =
+    let e : true ≡ false = ap reads_text (one_task words task.Bytes t b a) ∙ is in
+    cc
+
+pub bytes_is_no_output : (words : List Text) (c : Command) → Reads words c → ReadsBytes words → ⊥
+unfolding reads_text
+bytes_is_no_output words c a b = no_bytes words (task.Output c) a refl b
+
+pub bytes_is_no_serving : (words : List Text) → IsServing words → ReadsBytes words → ⊥
+unfolding reads_text
+bytes_is_no_serving words a b = no_bytes words (task.Serve a.0) a.1 refl b
+
+pub bytes_is_no_media : (words : List Text) → IsMedia words → ReadsBytes words → ⊥
+unfolding reads_text
+bytes_is_no_media words (inl a) b = no_bytes words (task.Flv a.0) a.1 refl b
+bytes_is_no_media words (inr a) b = no_bytes words (task.Rtmp a.0) a.1 refl b
+
+pub bytes_is_no_dialling : (words : List Text) → IsDialling words → ReadsBytes words → ⊥
+unfolding reads_text
+bytes_is_no_dialling words (inl a) b = no_bytes words (task.Call a.0) a.1 refl b
+bytes_is_no_dialling words (inr a) b = no_bytes words (task.Listen a.0) a.1 refl b
 
 -- ---- words that are UTF-8
 

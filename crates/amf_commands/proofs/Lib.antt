@@ -1,8 +1,8 @@
 mod Fronts
 pub mod Utf8
 pub mod Asked
-mod Formats
-mod Goes
+pub mod Formats
+pub mod Goes
 pub mod Told
 pub mod Spelled
 mod Inputs

@@ -68,6 +68,7 @@ run_rows = record {
   json_alone = refl;
   json_compact = refl;
   json_wide = refl;
+  bytes_alone = refl;
   serve_one = refl;
   serve_most = refl;
   port_too_great = refl;

@@ -270,7 +270,7 @@ pub decides : (c : Command) (input bytes : List ℕ) → Makes c input bytes →
 decides (Canon from to) input bytes (r, j, (fit, e, s)) = λ g other h i d. decides_alike to r g fit other (same_input from r g input j i) e d bytes s h
 decides (Check from) input bytes (r, j, (nodes, has, is)) = λ c i. (nodes, counted_content r c nodes (same_input from r c input j i) has, is)
 decides (Show from) input bytes (r, j, s) = λ c i. listed_content r c bytes (same_input from r c input j i) s
-decides (Json from layout) input bytes (r, j, (fit, e, s, m)) = λ c other i d.
+decides (Json from layout) input bytes (r, j, (ready, fit, e, s, m)) = λ c other i d.
     let same = same_input from r c input j i in
     (told_content layout from r c fit other bytes same e d s, meant_content from fit other bytes (fits_alike from r c fit other same e d) m)
 decides (Gen seed size) input bytes (spelled, s, is) = λ other o. is ∙ ap (measure_line (length (made seed size).nodes)) (canonical_is_alone (made seed size) spelled other s o)

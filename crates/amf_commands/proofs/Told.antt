@@ -75,16 +75,16 @@ spelled_file Sol o fs s = refl
 -- and is told
 
 value_is_told : (layout : Layout) (f : Format) (g : Graph) (text : List ℕ) → IsOfValues f → IsReadyGraph g → IsValueJson layout (form_in f) g text → IsTold layout f (value g) text
-value_is_told layout Amf3 g text of ready (fit, is, tells) = (value fit, is, tells, json_laws.value_means layout form.Amf3 g fit text ready is tells)
-value_is_told layout Amf0 g text of ready (fit, is, tells) = (value fit, is, tells, json_laws.value_means layout form.Amf0 g fit text ready is tells)
+value_is_told layout Amf3 g text of ready (fit, is, tells) = (ready, value fit, is, tells, json_laws.value_means layout form.Amf3 g fit text ready is tells)
+value_is_told layout Amf0 g text of ready (fit, is, tells) = (ready, value fit, is, tells, json_laws.value_means layout form.Amf0 g fit text ready is tells)
 value_is_told layout Packet g text of ready told = absurd of
 value_is_told layout Sol g text of ready told = absurd of
 
 packet_is_told : (layout : Layout) (p : PacketOf) (text : List ℕ) → IsReadyPacket p → IsPacketJson layout p text → IsTold layout Packet (packet p) text
-packet_is_told layout p text ready (fit, is, tells) = (packet fit, is, tells, json_laws.packet_means layout p fit text ready is tells)
+packet_is_told layout p text ready (fit, is, tells) = (ready, packet fit, is, tells, json_laws.packet_means layout p fit text ready is tells)
 
 file_is_told : (layout : Layout) (o : Shared) (text : List ℕ) → IsReadyFile o → IsFileJson layout o text → IsTold layout Sol (file o) text
-file_is_told layout o text ready (fit, is, tells) = (file fit, is, tells, json_laws.file_means layout o fit text ready is tells)
+file_is_told layout o text ready (fit, is, tells) = (ready, file fit, is, tells, json_laws.file_means layout o fit text ready is tells)
 
 -- by what was answered, whose bytes these are
 module _ {X E : Type 0} (items : X → List ℕ) (layout : Layout) where

@@ -8,7 +8,7 @@ use Rattle.amf_commands.specs.declared.command.Command.TheVariants.{Canon, Check
 use Rattle.amf_commands.specs.declared.command.ListenOptions.{ListenOptions}
 use Rattle.amf_commands.specs.declared.command.ServeOptions.{ServeOptions}
 use Rattle.amf_commands.specs.declared.command.Task.{Task}
-use Rattle.amf_commands.specs.declared.command.Task.TheVariants.{Output, Serve, Flv, Rtmp, Call, Listen}
+use Rattle.amf_commands.specs.declared.command.Task.TheVariants.{Output, Bytes, Serve, Flv, Rtmp, Call, Listen}
 use Rattle.amf_commands.specs.Commands.{goes_to}
 
 abbrev pub IsAskable : Command → Type 0
@@ -35,6 +35,7 @@ IsListenable o = IsText o.destination × (length o.destination ≤ 65535) × (1 
 
 abbrev pub IsPossible : Task → Type 0
 IsPossible (Output c) = IsAskable c
+IsPossible Bytes = Unit {0}
 IsPossible (Serve o) = IsServable o
 IsPossible (Flv job) = Unit {0}
 IsPossible (Rtmp size) = IsChunkable size

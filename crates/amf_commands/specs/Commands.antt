@@ -26,6 +26,7 @@ name_of command_name.Canon = codes "canon"
 name_of command_name.Check = codes "check"
 name_of command_name.Show = codes "show"
 name_of command_name.Json = codes "json"
+name_of command_name.Bytes = codes "bytes"
 name_of command_name.Same = codes "same"
 name_of command_name.Gen = codes "gen"
 name_of command_name.Serve = codes "serve"
@@ -39,6 +40,7 @@ options_for command_name.Canon = codes "from" ∷ codes "to" ∷ []
 options_for command_name.Check = codes "from" ∷ []
 options_for command_name.Show = codes "from" ∷ []
 options_for command_name.Json = codes "from" ∷ codes "layout" ∷ []
+options_for command_name.Bytes = []
 options_for command_name.Same = []
 options_for command_name.Gen = codes "seed" ∷ codes "size" ∷ []
 options_for command_name.Serve = codes "port" ∷ codes "workers" ∷ codes "each" ∷ []
@@ -181,6 +183,7 @@ task_for command_name.Canon value = option_map task.Output (canon_from (format_o
 task_for command_name.Check value = option_map task.Output (option_map command.Check (format_or Amf3 (value (codes "from"))))
 task_for command_name.Show value = option_map task.Output (option_map command.Show (format_or Amf3 (value (codes "from"))))
 task_for command_name.Json value = option_map task.Output (json_by value)
+task_for command_name.Bytes value = Some task.Bytes
 task_for command_name.Same value = Some (task.Output command.Same)
 task_for command_name.Gen value = option_map task.Output (gen_by value)
 task_for command_name.Serve value = option_map task.Serve (serve_by value)
@@ -200,6 +203,10 @@ AsksFor words t = AllByRecursion IsUtf8 words × Asks words t
 -- for a command that writes an output
 abbrev pub Reads : List Text → Command → Type 0
 Reads words c = AsksFor words (task.Output c)
+
+-- for a JSON text to be written as bytes
+abbrev pub ReadsBytes : List Text → Type 0
+ReadsBytes words = AsksFor words task.Bytes
 
 -- for links to be served
 abbrev pub ReadsServe : List Text → ServeOptions → Type 0

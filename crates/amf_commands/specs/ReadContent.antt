@@ -12,14 +12,15 @@ use Rattle.amf_io.specs.declared.reason.Reason.TheVariants.{Trailing}
 use Rattle.amf_io.specs.declared.ends.ReadEnd.{ReadEnd}
 use Rattle.amf_io.specs.declared.ends.ReadEnd.TheVariants.{Refused, ReadFault, Memory}
 use Rattle.amf_graph.specs.declared.lack.Lack.{Lack}
-use Rattle.amf_packet.specs.Packet.{Packet, SpellsPacket}
+use Rattle.amf_packet.specs.Packet.{Packet as PacketOf, SpellsPacket, is_version}
+use Rattle.amf_packet.specs.PacketLacks.{IsTooMany, IsLongText}
+use Rattle.amf_packet.specs.WrittenPacket.{HasTexts}
 use Rattle.amf_io.specs.Stretch.{IsTaken, AnswersOf, stretch}
 use Rattle.amf_commands.specs.declared.command.Command.{Command}
 use Rattle.amf_commands.specs.declared.run_end.RunEnd.{RunEnd}
 use Rattle.amf_commands.specs.declared.format.Format.{Format}
-use Rattle.amf_commands.specs.declared.format.Format.TheVariants.{Amf3, Amf0}
-use Rattle.amf_commands.specs.Commands.{goes_to}
-use Rattle.amf_commands.specs.Content.{Content}
+use Rattle.amf_commands.specs.declared.format.Format.TheVariants.{Amf3, Amf0, Packet, Sol}
+use Rattle.amf_commands.specs.Content.{Content, value, packet, file}
 use Rattle.amf_commands.specs.Formats.{IsContent, IsSpelling}
 use Rattle.amf_commands.specs.Input.{most, Input}
 use Rattle.amf_commands.specs.Run.{Makes, NeverLacks, ReadsInput, OutputEnds}
@@ -64,9 +65,20 @@ AnswersEnd input rest at (Err (Refused f)) = (f.reason ≡ Trailing) × (f.at �
 AnswersEnd input rest at (Err ReadFault) = rest ≡ input
 AnswersEnd input rest at (Err Memory) = ⊥
 
--- it was read in a format that goes to this one
-abbrev pub GoesInto : Format → Content → Type 0
-GoesInto to c = (from : Format) × (fs : List Field) × IsSpelling from free c fs × (goes_to from to ≡ true)
+-- a packet that its writer takes: with a version that there is, and with names and counts that fit their fields
+pub record IsPacketReady (p : PacketOf) : Type 0 where
+  pub version : is_version p.version ≡ true
+  pub texts : HasTexts p
+  pub few : IsTooMany p → ⊥
+  pub short : (value : ℕ) → IsLongText p value → ⊥
+
+-- it is a content of the format, and its writer takes it
+abbrev pub IsSpellable : Format → Content → Type 0
+IsSpellable Amf3 (value g) = Unit {0}
+IsSpellable Amf0 (value g) = Unit {0}
+IsSpellable Packet (packet p) = IsPacketReady p
+IsSpellable Sol (file o) = Unit {0}
+IsSpellable _ _ = ⊥
 
 -- a format of one value
 abbrev pub IsOfValues : Format → Type 0
@@ -75,5 +87,5 @@ IsOfValues Amf0 = Unit {0}
 IsOfValues _ = ⊥
 
 -- the packet was read
-abbrev pub IsPacketRead : Packet → Type 0
+abbrev pub IsPacketRead : PacketOf → Type 0
 IsPacketRead p = (fs : List Field) × SpellsPacket free p fs

@@ -63,6 +63,8 @@ pub struct ListenOptions {
 pub enum Task {
     /// A command that writes an output.
     Output(Command),
+    /// `bytes`: the canonical bytes of the value, the packet or the file that a JSON text means.
+    Bytes,
     /// `serve`: links are served, and a line tells how many calls, messages and deliveries there were.
     Serve(ServeOptions),
     /// `flv`: a job on an FLV file.

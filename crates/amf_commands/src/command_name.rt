@@ -26,6 +26,8 @@ pub enum CommandName {
     Show,
     /// `json`.
     Json,
+    /// `bytes`.
+    Bytes,
     /// `same`.
     Same,
     /// `gen`.
@@ -48,7 +50,7 @@ static FROM: [&str; 1] = ["from"];
 
 static JSON: [&str; 2] = ["from", "layout"];
 
-static SAME: [&str; 0] = [];
+static NONE: [&str; 0] = [];
 
 static GEN: [&str; 2] = ["seed", "size"];
 
@@ -73,6 +75,7 @@ impl CommandName {
             "check" => Some(CommandName::Check),
             "show" => Some(CommandName::Show),
             "json" => Some(CommandName::Json),
+            "bytes" => Some(CommandName::Bytes),
             "same" => Some(CommandName::Same),
             "gen" => Some(CommandName::Gen),
             "serve" => Some(CommandName::Serve),
@@ -92,7 +95,7 @@ impl CommandName {
             CommandName::Canon => CANON.as_slice(),
             CommandName::Check | CommandName::Show => FROM.as_slice(),
             CommandName::Json => JSON.as_slice(),
-            CommandName::Same => SAME.as_slice(),
+            CommandName::Bytes | CommandName::Same => NONE.as_slice(),
             CommandName::Gen => GEN.as_slice(),
             CommandName::Serve => SERVE.as_slice(),
             CommandName::Flv => FLV.as_slice(),
@@ -117,6 +120,7 @@ impl CommandName {
                 None => None,
             },
             CommandName::Json => output(json(matches)),
+            CommandName::Bytes => Some(Task::Bytes),
             CommandName::Same => Some(Task::Output(Command::Same)),
             CommandName::Gen => output(generate(matches)),
             CommandName::Serve => match serve(matches) {

@@ -24,4 +24,4 @@ pub use format::Format;
 pub use reading::{LIMIT, read_in_format};
 pub use report::end_with;
 pub use run_end::RunEnd;
-pub use spelling::spell3;
+pub use spelling::{SpellEnd, spell, spell3};

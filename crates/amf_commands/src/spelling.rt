@@ -2,15 +2,16 @@ ghost use Rattle.std.specs.Prelude.{ℕ, IfOk};
 ghost use Rattle.std.specs.Result.{IsErrOf};
 ghost use Rattle.amf_graph.specs.declared.lack.Lack.{Lack};
 ghost use Rattle.amf_graph.specs.Rooted.{content as graph_of};
+ghost use Rattle.amf0_spelling.specs.Lowered.{IsLowered};
 ghost use Rattle.amf3_spelling.specs.Lacks3.{IsLack3};
 ghost use Rattle.amf3_spelling.specs.Spells3.{Spelled3};
 ghost use Rattle.amf_packet.specs.Content.{packet_of};
 ghost use Rattle.amf_sol.specs.StoredFile.{shared};
 ghost use Rattle.amf_wire.specs.Style.{canonical};
 ghost use Rattle.amf_commands.specs.declared.format.Format.TheVariants as form;
-ghost use Rattle.amf_commands.specs.Content.{content_of, value as of_graph, packet as of_packet, file as of_file};
-ghost use Rattle.amf_commands.specs.Formats.{IsWritten, IsUnwritten};
-ghost use Rattle.amf_commands.specs.ReadContent.{GoesInto, IsPacketRead, IsOfValues};
+ghost use Rattle.amf_commands.specs.Content.{Content as Whole, content_of, value as of_graph, packet as of_packet, file as of_file};
+ghost use Rattle.amf_commands.specs.Formats.{IsFitted, IsWritten, IsUnwritten};
+ghost use Rattle.amf_commands.specs.ReadContent.{IsSpellable, IsPacketReady, IsOfValues};
 
 use crate::content::Content;
 use crate::format::Format;
@@ -18,6 +19,7 @@ use amf_graph::{Lack, Rooted, WriteEnd};
 use amf_listings::{file_has_lowering, packet_has_lowering};
 use amf_packet::{Packet, PacketEnd, write_packet_keyed};
 use amf_sol::{SharedObject, write_sol_keyed};
+use amf0_kinds::has_only_kinds0;
 use amf0_write::{lower, write0};
 use amf3_write::write3_keyed;
 use std::alloc::Global;
@@ -39,7 +41,7 @@ pub fn spell(
     to: Format,
     content: &Content,
 ) -> Result<Vec<u8>, SpellEnd>
-    requires { GoesInto to (content_of content.now) }
+    requires { IsSpellable to (content_of content.now) }
     ensures written { IfOk result (λ bytes. IsWritten to (content_of content.now) bytes.items) }
     ensures lack { (number : ℕ) (l : Lack) → IsErrOf result (SpellEnd.NoForm number l) → IsUnwritten to (content_of content.now) number l }
 {
@@ -57,7 +59,7 @@ pub(crate) fn spelled(
     to: Format,
     content: Content,
 ) -> Result<Vec<u8>, SpellEnd>
-    requires { GoesInto to (content_of content) }
+    requires { IsSpellable to (content_of content) }
     ensures written { IfOk result (λ bytes. IsWritten to (content_of content) bytes.items) }
     ensures lack { (number : ℕ) (l : Lack) → IsErrOf result (SpellEnd.NoForm number l) → IsUnwritten to (content_of content) number l }
 {
@@ -100,13 +102,13 @@ fn spell_graph(
     }
 }
 
-/// The canonical spelling of a packet that was read.
+/// The canonical spelling of a packet whose names and counts fit their fields.
 fn spell_packet(
     alloc: Global,
     keys: Option<RandomState>,
     packet: &Packet,
 ) -> Result<Vec<u8>, SpellEnd>
-    requires { IsPacketRead (packet_of packet.now) }
+    requires { IsPacketReady (packet_of packet.now) }
     ensures written { IfOk result (λ bytes. IsWritten form.Packet (of_packet (packet_of packet.now)) bytes.items) }
     ensures lack { (number : ℕ) (l : Lack) → IsErrOf result (SpellEnd.NoForm number l) → IsUnwritten form.Packet (of_packet (packet_of packet.now)) number l }
 {
@@ -116,7 +118,6 @@ fn spell_packet(
         Ok(()) => Ok(bytes),
         Err(PacketEnd::NoSpelling { value, lack }) => Err(SpellEnd::NoForm { value, lack }),
         Err(PacketEnd::Memory) => Err(SpellEnd::Memory),
-        // What was read fits its counts and its lengths.
         Err(PacketEnd::TooMany) => unreachable!(),
         Err(PacketEnd::LongText(_)) => unreachable!(),
     }
@@ -140,20 +141,31 @@ fn spell_file(
     }
 }
 
+/// The canonical spelling in AMF 0 of a graph that is a lowering.
+fn spell_low(alloc: Global, low: &Rooted) -> Result<Vec<u8>, WriteEnd>
+    requires { IsLowered (graph_of low.now) }
+    ensures written { (c : Whole) → IsFitted form.Amf0 c (of_graph (graph_of low.now)) → IfOk result (λ bytes. IsWritten form.Amf0 c bytes.items) }
+    ensures lack { (c : Whole) (l : Lack) → IsFitted form.Amf0 c (of_graph (graph_of low.now)) → IsErrOf result (WriteEnd.NoSpelling l) → IsUnwritten form.Amf0 c 0 l }
+{
+    let mut bytes = Vec::new(alloc);
+    match write0(alloc, low, &mut bytes) {
+        Ok(()) => Ok(bytes),
+        Err(end) => Err(end),
+    }
+}
+
 /// The canonical spelling of a graph in AMF 0, in the kinds of nodes and values that it has. What is lowered is a lowered graph
-/// (`lowering_is_lowered`).
+/// (`lowering_is_lowered`), and a graph that has those kinds alone is written as it stands.
 fn spell0(alloc: Global, graph: &Rooted) -> Result<Vec<u8>, WriteEnd>
     ensures written { IfOk result (λ bytes. IsWritten form.Amf0 (of_graph (graph_of graph.now)) bytes.items) }
     ensures lack { (l : Lack) → IsErrOf result (WriteEnd.NoSpelling l) → IsUnwritten form.Amf0 (of_graph (graph_of graph.now)) 0 l }
 {
-    let low = match lower(alloc, graph) {
-        Ok(low) => low,
-        Err(_) => return Err(WriteEnd::Memory),
-    };
-    let mut bytes = Vec::new(alloc);
-    match write0(alloc, &low, &mut bytes) {
-        Ok(()) => Ok(bytes),
-        Err(end) => Err(end),
+    if has_only_kinds0(graph) {
+        return spell_low(alloc, graph);
+    }
+    match lower(alloc, graph) {
+        Ok(low) => spell_low(alloc, &low),
+        Err(_) => Err(WriteEnd::Memory),
     }
 }
 

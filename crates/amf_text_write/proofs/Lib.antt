@@ -1,5 +1,4 @@
 pub mod Bools
-pub mod Plain
 pub mod Hexes
 pub mod Finite
 pub mod Telling

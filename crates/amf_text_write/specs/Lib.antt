@@ -1,12 +1,13 @@
 -- The definitions that contracts cite.
 pub mod ValueTexts
 pub mod PacketTexts
--- Devices of the proofs: no clause of a public call needs them.
+-- What the clauses of a packet's parts, written one after the other, speak of.
 pub mod Laid
 pub mod Tells
+pub mod Parts
+-- Devices of the proofs: no clause of a public call needs them.
 pub mod TellsLeaves
 pub mod Flags
-pub mod Parts
 pub mod Pieces
 pub mod Ways
 pub mod Names

@@ -1,20 +1,22 @@
-use Rattle.std.proofs.Common.{◌≡◌, ◌++◌, Err, refl, ap, ◌∙◌}
-use Rattle.amf_io.specs.Field.{flat}
-use Rattle.amf_graph.specs.declared.write_end.WriteEnd.TheVariants as writer
 use Rattle.amf_graph.specs.Rooted.{content}
-use Rattle.amf_commands.specs.Content.{value}
 use Rattle.amf0_spelling.proofs.LoweredLow.{lowering_is_lowered}
+use Rattle.amf_commands.specs.Content.{value}
 use Rattle.amf_commands.proofs.spelling.spell0.Goals as goal
 
-pub write0-requires : goal.write0-requires
-write0-requires c = lowering_is_lowered (content c.args.graph.now) (content c.in-Ok.low) c.in-Ok.ensures
+pub spell_low-requires : goal.spell_low-requires
+spell_low-requires c = let g = content c.args.graph.now in lowering_is_lowered g g (c.has_only_kinds0.ensures.own c.if-has_only_kinds0.true)
 
-pub returns-in-Ok-write0-clause-written : goal.returns-in-Ok-write0-clause-written
-returns-in-Ok-write0-clause-written c =
-    let w = c.in-Ok-write0.ensures.written in
-    (value (content c.in-Ok.low), c.in-Ok.ensures, (w.0, w.1, w.2 ∙ ap (λ o. o ++ flat w.0) c.new-bytes.ensures.items))
+pub returns-then-has_only_kinds0-clause-written : goal.returns-then-has_only_kinds0-clause-written
+returns-then-has_only_kinds0-clause-written c = c.spell_low.ensures.written (value (content c.args.graph.now)) (c.has_only_kinds0.ensures.own c.if-has_only_kinds0.true)
 
-pub returns-clause-lack : goal.returns-clause-lack
-returns-clause-lack c = λ l is.
-    let e : c.in-Err-write0.end ≡ writer.NoSpelling l = cc in
-    (value (content c.in-Ok.low), c.in-Ok.ensures, (refl, c.in-Err-write0.ensures.lack l (ap Err e)))
+pub returns-then-has_only_kinds0-clause-lack : goal.returns-then-has_only_kinds0-clause-lack
+returns-then-has_only_kinds0-clause-lack c = λ l is. c.spell_low.ensures.lack (value (content c.args.graph.now)) l (c.has_only_kinds0.ensures.own c.if-has_only_kinds0.true) is
+
+pub spell_low-requires-in-Ok : goal.spell_low-requires-in-Ok
+spell_low-requires-in-Ok c = lowering_is_lowered (content c.args.graph.now) (content c.in-Ok.low) c.in-Ok.ensures
+
+pub returns-in-Ok-clause-written : goal.returns-in-Ok-clause-written
+returns-in-Ok-clause-written c = c.spell_low-in-Ok.ensures.written (value (content c.args.graph.now)) c.in-Ok.ensures
+
+pub returns-in-Ok-clause-lack : goal.returns-in-Ok-clause-lack
+returns-in-Ok-clause-lack c = λ l is. c.spell_low-in-Ok.ensures.lack (value (content c.args.graph.now)) l c.in-Ok.ensures is

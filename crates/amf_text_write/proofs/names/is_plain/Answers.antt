@@ -1,5 +1,5 @@
 use Rattle.std.proofs.Common.{sym}
-use Rattle.amf_text_write.proofs.Plain.{utf8_is_plain, not_plain}
+use Rattle.amf_text.proofs.PlainTexts.{utf8_is_plain, not_plain}
 use Rattle.amf_text_write.proofs.names.is_plain.Goals as goal
 
 pub returns-in-Ok : goal.returns-in-Ok

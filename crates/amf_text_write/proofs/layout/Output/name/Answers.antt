@@ -5,7 +5,7 @@ use Rattle.amf_graph.specs.Arena.{text_at}
 use Rattle.amf_iso.proofs.NamedPairs.{text_there}
 use Rattle.amf_text_write.specs.Laid.{with_more}
 use Rattle.amf_text_write.specs.Ways.{arena_in}
-use Rattle.amf_text_write.proofs.Plain.{plain_is_utf8}
+use Rattle.amf_text.proofs.PlainTexts.{plain_is_utf8}
 use Rattle.amf_text_write.proofs.Telling.{on_ok}
 use Rattle.amf_text_write.proofs.layout.Output.name.Goals as goal
 

@@ -2,7 +2,7 @@ use Rattle.std.proofs.Common.{sym, ap, ◌∙◌, ◌∷◌, []}
 use Rattle.json.specs.Token.{string}
 use Rattle.json.specs.Tree.{json_tokens}
 use Rattle.amf_text_write.specs.Laid.{with_more}
-use Rattle.amf_text_write.proofs.Plain.{utf8_is_plain, not_plain}
+use Rattle.amf_text.proofs.PlainTexts.{utf8_is_plain, not_plain}
 use Rattle.amf_text_write.proofs.ToldLeaves.{plain_text, hex_text}
 use Rattle.amf_text_write.proofs.Telling.{on_ok}
 use Rattle.amf_text_write.proofs.layout.Output.text.Goals as goal

@@ -1,0 +1,11 @@
+-- The lemmas that several proofs share.
+mod Documents
+mod Mapped
+mod Ready
+mod MeantBytes
+mod Taken
+mod RunsOfTexts
+pub mod TextStatuses
+mod ComesBack
+pub mod ThereAndBackRows
+pub mod FirstFaults
