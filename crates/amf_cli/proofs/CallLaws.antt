@@ -21,7 +21,7 @@ use Rattle.amf_commands.specs.Content.{value}
 use Rattle.amf_commands.specs.Input.{most, one, IsAcceptedAs, IsRefusedAs}
 use Rattle.amf_commands.specs.Lines.{status_of, line_of}
 use Rattle.amf_commands.specs.Run.{IsReadEnd, ReadsInput, NeverLacks}
-use Rattle.amf_commands.proofs.Asked.{call_is_no_flv, call_is_no_output, call_is_no_rtmp, call_is_no_serving, dialling_is_no_serving, listener_is_no_call, one_call}
+use Rattle.amf_commands.proofs.Asked.{bytes_is_no_dialling, call_is_no_flv, call_is_no_output, call_is_no_rtmp, call_is_no_serving, dialling_is_no_serving, listener_is_no_call, one_call}
 use Rattle.amf_commands.proofs.Spelled.{once, never_refused}
 use Rattle.amf_cli.specs.CallEnds.{AnswerEnds, CallEnds, unread, answered, Starves}
 use Rattle.amf_cli.specs.CallSteps.{CallCounts}
@@ -264,10 +264,11 @@ module _ {I O E D L : Type 0} (i : SourceMembers I) (o : SinkMembers O) (e : Sin
         links = λ s. absurd (call_links s);
         untouched = λ h m n. keeps status (wrote ≡ out) call_status h;
         unwritten = λ five n m k. keeps_at_5 status (wrote ≡ out) call_status five;
-        taken = λ t m. taken t;
+        taken = λ t m b. taken t;
+        bytes = λ v. absurd (bytes_is_no_dialling words (inl (options, w)) v);
         flv = λ job v. absurd (call_is_no_flv words job v (options, w));
         rtmp = λ size v. absurd (call_is_no_rtmp words size v (options, w));
-        line = λ t s m n. absurd (n (inl (options, w)));
+        line = λ t s m n b. absurd (n (inl (options, w)));
       }
 
   -- The same from streams that are these.

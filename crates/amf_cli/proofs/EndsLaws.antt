@@ -7,7 +7,10 @@ use Rattle.amf_graph.specs.declared.lack.Lack.{Lack}
 use Rattle.amf_commands.specs.declared.command.Command.{Command}
 use Rattle.amf_commands.specs.declared.command.ServeOptions.{ServeOptions}
 use Rattle.amf_commands.specs.declared.command.Task.{Task}
-use Rattle.amf_commands.specs.declared.command.Task.TheVariants.{Output, Serve, Flv, Rtmp, Call, Listen}
+use Rattle.amf_commands.specs.declared.command.Task.TheVariants.{Output, Bytes, Serve, Flv, Rtmp, Call, Listen}
+use Rattle.amf_text.specs.Refused.{text_limit}
+use Rattle.amf_bytes.specs.declared.ending.BytesEnd.TheVariants as text
+use Rattle.amf_bytes.specs.TextRuns.{CountsTextReads, CountsTextWrites, IsTextUntouched, RunsTextOver}
 use Rattle.flv_meta.specs.declared.flv_job.FlvJob.{FlvJob}
 use Rattle.amf_media.specs.declared.ending.MediaEnd.{MediaEnd}
 use Rattle.amf_media.specs.declared.ending.MediaEnd.TheVariants as media
@@ -17,18 +20,22 @@ use Rattle.amf_media.specs.RtmpRuns.{RunsStream}
 use Rattle.amf_media.specs.Written.{CountsWrites as CountsMediaWrites}
 use Rattle.amf_commands.specs.declared.run_end.RunEnd.{RunEnd}
 use Rattle.amf_commands.specs.declared.run_end.RunEnd.TheVariants.{Refused, Usage, ReadFault, WriteFault, NoMemory, FrontFault, NoForm}
-use Rattle.amf_commands.specs.Commands.{AsksFor, HasReading, IsDialling, IsListening, IsMedia, IsServing, Reads, ReadsFlv, ReadsRtmp, ReadsServe}
+use Rattle.amf_commands.specs.Commands.{AsksFor, HasReading, IsDialling, IsListening, IsMedia, IsServing, Reads, ReadsBytes, ReadsFlv, ReadsRtmp, ReadsServe}
 use Rattle.amf_commands.specs.Input.{most}
 use Rattle.amf_commands.specs.Lines.{status_of, line_of}
 use Rattle.amf_commands.specs.Run.{TakesInput, MayLack, CountsReads, CountsWrites, IsReading, IsUntouched, RunsTo}
-use Rattle.amf_commands.proofs.Asked.{dialling_is_no_media, flv_is_no_output, flv_is_no_rtmp, flv_is_no_serving, listener_is_no_media, listener_is_no_output, media_is_no_output, media_is_no_serving, not_both, not_serving, one_job, one_reading, one_size, rtmp_is_no_output, rtmp_is_no_serving}
+use Rattle.amf_commands.proofs.Asked.{bytes_is_no_dialling, bytes_is_no_media, bytes_is_no_output, bytes_is_no_serving, dialling_is_no_media, flv_is_no_output, flv_is_no_rtmp, flv_is_no_serving, listener_is_no_media, listener_is_no_output, media_is_no_output, media_is_no_serving, not_both, not_serving, one_job, one_reading, one_size, rtmp_is_no_output, rtmp_is_no_serving}
 use Rattle.amf_commands.proofs.Spelled.{made_again, made_not_lacking}
 use Rattle.amf_commands.proofs.Statuses.{refused_says, hidden_says, front_says, no_form_says, accepted_says, not_accepted_says, formed_says, lacking_says, done_not_refused, line_says, usage_end, form_status, reading_says, reads_steady, writes_steady, never_0, within_7, memory_end}
+use Rattle.amf_bytes.proofs.FirstFaults.{first_faults}
+use Rattle.amf_bytes.proofs.ThereAndBackRows.{text_there_and_back}
+use Rattle.amf_cli.specs.BytesEnds.{EndsBytes, text_line, text_status}
 use Rattle.amf_cli.specs.MediaEnds.{EndsJob, status_of as media_status_of, error_line}
 use Rattle.amf_cli.specs.CallEnds.{Starves}
 use Rattle.amf_cli.specs.Ends.{Ends}
 use Rattle.amf_cli.specs.Told.{Tells}
 use Rattle.amf_cli.proofs.MediaLaws.{flv_memory, rtmp_memory}
+use Rattle.amf_cli.proofs.TextLaws.{TextEnd, text_within_7, text_not_2, text_not_6, text_reads_steady, text_writes_steady, text_reads_rose, text_writes_rose, text_kept, not_0_or_4, five_is_none, accepted_text, refused_text, formed_text, lacking_text}
 use Rattle.amf_cli.specs.ServeEnds.{End, IsServeEnd, status_for, ReportsEnd}
 
 abbrev Ended : RunEnd → End
@@ -208,8 +215,15 @@ no_media_links : (words : List (List ℕ)) → IsServing words ⊎ IsListening w
 no_media_links words (inl s) m = media_is_no_serving words s m
 no_media_links words (inr s) m = listener_is_no_media words m s
 
+no_text_links : (words : List (List ℕ)) → IsServing words ⊎ IsListening words → ReadsBytes words → ⊥
+no_text_links words (inl s) b = bytes_is_no_serving words s b
+no_text_links words (inr s) b = bytes_is_no_dialling words (inr s) b
+
 within_limit : (n : ℕ) → n ≤ n + (most + 1)
 within_limit n = omega arith
+
+within_text : (n : ℕ) → n ≤ n + (text_limit + 1)
+within_text n = omega arith
 
 within_media : (n : ℕ) → n ≤ n + (4294967295 + 1)
 within_media n = omega arith
@@ -252,10 +266,11 @@ module _ {I O E : Type 0} (i : SourceMembers I) (o : SinkMembers O) (e : SinkMem
     links = λ s. same;
     untouched = λ h m k. kept;
     unwritten = λ five n m k. kept;
-    taken = λ t m. same_taken same;
+    taken = λ t m b. same_taken same;
+    bytes = λ w. absurd (none (Bytes, w));
     flv = λ job w. absurd (none (Flv job, w));
     rtmp = λ size w. absurd (none (Rtmp size, w));
-    line = λ t s m n. line_says Usage _ _ (line t s);
+    line = λ t s m n b. line_says Usage _ _ (line t s);
   }
 
   abbrev Does : Type 1
@@ -278,6 +293,25 @@ module _ {I O E : Type 0} (i : SourceMembers I) (o : SinkMembers O) (e : SinkMem
     reads = ap i.faults same;
     writes = ap o.faults kept;
     line = line;
+  }
+
+  memory_bytes : rest ≡ input → wrote ≡ out → (e.tells told → Steady (e.faults err) (e.faults told) → e.held told ≡ e.held err ++ line_of NoMemory) → EndsBytes i o e 5 input rest out wrote err told
+  unfolding text_line
+  memory_bytes same kept line = record {
+    end = Err text.Memory;
+    its_status = refl;
+    runs = λ t. tt;
+    taken = λ t. subst (λ (r : I). length (i.left input) ≤ length (i.left r) + (text_limit + 1)) (sym same) (within_text (length (i.left input)));
+    untouched = kept;
+    reads = ap i.faults same;
+    writes = ap o.faults kept;
+    line = line;
+    accepted = λ t d a. inr (inr (inr (inl refl)));
+    not_accepted = λ t reason at q. inr (inr refl);
+    formed = λ t bytes m. inr (inr (inr refl));
+    lacking = λ t number l k. inr (inl refl);
+    back = λ t. text_there_and_back (i.left input);
+    first = λ t reason at n m q. first_faults (i.left input) reason at n m q;
   }
 
   -- memory was wanting before anything was asked of a stream
@@ -310,10 +344,11 @@ module _ {I O E : Type 0} (i : SourceMembers I) (o : SinkMembers O) (e : SinkMem
     links = λ s. same;
     untouched = λ h m k. kept;
     unwritten = λ five n m k. kept;
-    taken = λ t m. same_taken same;
+    taken = λ t m b. same_taken same;
+    bytes = λ w. memory_bytes same kept line;
     flv = λ job w. memory_job (RunsFlv job) (MayEnd job) (flv_memory job (i.left input) (i.left rest) (o.tells wrote) (o.held out) (o.held wrote) (ap i.left same) (ap o.held kept)) (may_memory job) same kept line;
     rtmp = λ size w. memory_job (RunsStream size) IsFileEnd (rtmp_memory size (i.left input) (i.left rest) (o.tells wrote) (o.held out) (o.held wrote) (ap i.left same) (ap o.held kept)) tt same kept line;
-    line = λ t s m n. line_says NoMemory _ _ (line t s);
+    line = λ t s m n b. line_says NoMemory _ _ (line t s);
   }
 
   -- A command was done.
@@ -356,10 +391,11 @@ module _ {I O E : Type 0} (i : SourceMembers I) (o : SinkMembers O) (e : SinkMem
       links = λ s. absurd (no_links words c w s);
       untouched = λ h m k. absurd (none_of 0 (λ z. absurd (omega arith)) (λ z. absurd (omega arith)) (λ z. absurd (omega arith)) (λ z. absurd (omega arith)) h);
       unwritten = λ five n m k. absurd (omega arith);
-      taken = λ t m. taken t;
+      taken = λ t m b. taken t;
+      bytes = λ v. absurd (bytes_is_no_output words c w v);
       flv = λ job v. absurd (flv_is_no_output words c job w v);
       rtmp = λ size v. absurd (rtmp_is_no_output words c size w v);
-      line = λ t s m n. line t s;
+      line = λ t s m n b. line t s;
     }
 
     failed_ends : (x : RunEnd) → Ended x ≢ Err Usage → ((number : ℕ) (l : Lack) → Ended x ≡ Err (NoForm number l) → MayLack c) → IsReading c (Ended x) → ((TakesInput c → ⊥) → rest ≡ input) → Runs (Ended x) → (i.tells input → length (i.left input) ≤ length (i.left rest) + (most + 1)) → IsUntouched out wrote (Ended x) → (Ended x ≡ Err NoMemory → wrote ≡ out) → CountsReads (i.faults input) (i.faults rest) (Ended x) → CountsWrites (o.faults out) (o.faults wrote) (Ended x) → e.faults err ≤ e.faults told → (e.tells told → Steady (e.faults err) (e.faults told) → e.held told ≡ e.held err ++ line_of x) → Promises (status_of x)
@@ -391,10 +427,11 @@ module _ {I O E : Type 0} (i : SourceMembers I) (o : SinkMembers O) (e : SinkMem
       links = λ s. absurd (no_links words c w s);
       untouched = λ h m k. kept_with out wrote x h untouched;
       unwritten = λ five n m k. unwritten (memory_end x five);
-      taken = λ t m. taken t;
+      taken = λ t m b. taken t;
+      bytes = λ v. absurd (bytes_is_no_output words c w v);
       flv = λ job v. absurd (flv_is_no_output words c job w v);
       rtmp = λ size v. absurd (rtmp_is_no_output words c size w v);
-      line = λ t s m n. line_says x _ _ (line t s);
+      line = λ t s m n b. line_says x _ _ (line t s);
     }
 
     -- a command was done, and ended so
@@ -432,10 +469,11 @@ module _ {I O E : Type 0} (i : SourceMembers I) (o : SinkMembers O) (e : SinkMem
     links = λ z. same;
     untouched = λ h m k. absurd (none_of 0 (λ z. absurd (omega arith)) (λ z. absurd (omega arith)) (λ z. absurd (omega arith)) (λ z. absurd (omega arith)) h);
     unwritten = λ five n m k. absurd (n (s, w));
-    taken = λ t m. same_taken same;
+    taken = λ t m b. same_taken same;
+    bytes = λ v. absurd (bytes_is_no_serving words (s, w) v);
     flv = λ job v. absurd (flv_is_no_serving words s job w v);
     rtmp = λ size v. absurd (rtmp_is_no_serving words s size w v);
-    line = λ t z m n. line t z;
+    line = λ t z m n b. line t z;
   }
   served_ends s w (Err x) ends same writes counted line = record {
     statuses = below_10 (status_of x) (within_7 x);
@@ -465,10 +503,11 @@ module _ {I O E : Type 0} (i : SourceMembers I) (o : SinkMembers O) (e : SinkMem
     links = λ z. same;
     untouched = λ h m k. absurd (serve_writes x ends h);
     unwritten = λ five n m k. absurd (n (s, w));
-    taken = λ t m. same_taken same;
+    taken = λ t m b. same_taken same;
+    bytes = λ v. absurd (bytes_is_no_serving words (s, w) v);
     flv = λ job v. absurd (flv_is_no_serving words s job w v);
     rtmp = λ size v. absurd (rtmp_is_no_serving words s size w v);
-    line = λ t z m n. line_says x _ _ (line t z);
+    line = λ t z m n b. line_says x _ _ (line t z);
   }
 
   -- a job on media was done, or not
@@ -501,10 +540,11 @@ module _ {I O E : Type 0} (i : SourceMembers I) (o : SinkMembers O) (e : SinkMem
     links = λ s. absurd (no_media_links words s m);
     untouched = λ h n k. absurd (n m);
     unwritten = λ five s n k. absurd (n m);
-    taken = λ t n. absurd (n m);
+    taken = λ t n b. absurd (n m);
+    bytes = λ v. absurd (bytes_is_no_media words m v);
     flv = flv;
     rtmp = rtmp;
-    line = λ t s n k. absurd (n m);
+    line = λ t s n k b. absurd (n m);
   }
 
   -- By what the job says of itself, where the streams are these.
@@ -521,6 +561,58 @@ module _ {I O E : Type 0} (i : SourceMembers I) (o : SinkMembers O) (e : SinkMem
     rtmp_ends size w runs may =
         let it : Job (RunsStream size) IsFileEnd (media_status_of x) = job_of (RunsStream size) IsFileEnd runs may (λ seven. absurd (file_end_not_7 x may seven)) in
         subst Promises (sym is) (job_ends (inr (size, w)) x reads writes counted (λ job v. absurd (flv_is_no_rtmp words job size v w)) (λ other v. subst (λ (s : Option ℕ). Job (RunsStream s) IsFileEnd (media_status_of x)) (one_size words size other w v) it))
+
+  -- bytes were made of a text, or not
+  pub text_ends : (w : ReadsBytes words) (x : TextEnd) (status : ℕ) → status ≡ text_status x → (i.tells input → RunsTextOver i o input rest out wrote x) → (i.tells input → length (i.left input) ≤ length (i.left rest) + (text_limit + 1)) → IsTextUntouched out wrote x → CountsTextReads (i.faults input) (i.faults rest) x → CountsTextWrites (o.faults out) (o.faults wrote) x → e.faults err ≤ e.faults told → Tells e err told (text_line x) → Promises status
+  text_ends w x status is runs taken kept reads writes counted line = subst Promises (sym is) (record {
+    statuses = below_10 (text_status x) (text_within_7 x);
+    of_peer = λ h. not_above (text_status x) (text_within_7 x) h;
+    usage = λ two. absurd (text_not_2 x two);
+    no_reading = λ none. absurd (none (Bytes, w));
+    read = λ two five. (Bytes, w);
+    unread = λ none. absurd (none (Bytes, w));
+    done = λ c v zero t. absurd (bytes_is_no_output words c v w);
+    again = λ c v zero t u own. absurd (bytes_is_no_output words c v w);
+    no_read_fault = λ n four. text_reads_steady x _ _ n reads;
+    no_write_fault = λ n five. text_writes_steady x _ _ n writes;
+    counted = counted;
+    refused = λ c v one t. absurd (bytes_is_no_output words c v w);
+    read_fault = λ h. text_reads_rose x _ _ h reads;
+    hidden = λ c v three t. absurd (bytes_is_no_output words c v w);
+    write_fault = λ h. text_writes_rose x _ _ h writes;
+    front = λ c v four t. absurd (bytes_is_no_output words c v w);
+    accepted = λ c v t a. absurd (bytes_is_no_output words c v w);
+    not_accepted = λ c v t reason at q. absurd (bytes_is_no_output words c v w);
+    no_form = λ c v seven t. absurd (bytes_is_no_output words c v w);
+    alone = λ c v seven. absurd (bytes_is_no_output words c v w);
+    formed = λ c v t bytes m. absurd (bytes_is_no_output words c v w);
+    lacking = λ c v t number l k. absurd (bytes_is_no_output words c v w);
+    untaken = λ c v n. absurd (bytes_is_no_output words c v w);
+    reading = λ c v h. absurd (bytes_is_no_output words c v w);
+    links = λ s. absurd (no_text_links words s w);
+    untouched = λ h m k. let n = not_0_or_4 (text_status x) h in text_kept out wrote x n.0 n.1 kept;
+    unwritten = λ five n m k. let n = five_is_none (text_status x) five in text_kept out wrote x n.0 n.1 kept;
+    taken = λ t m b. absurd (b w);
+    bytes = λ v. record {
+      end = x;
+      its_status = refl;
+      runs = runs;
+      taken = taken;
+      untouched = kept;
+      reads = reads;
+      writes = writes;
+      line = line;
+      accepted = λ t d a. accepted_text (i.left input) (i.left rest) (o.tells wrote) (o.held out) (o.held wrote) x d (runs t) a;
+      not_accepted = λ t reason at q. refused_text (i.left input) (i.left rest) (o.tells wrote) (o.held out) (o.held wrote) x reason at (runs t) q;
+      formed = λ t b m. formed_text (i.left input) (i.left rest) (o.tells wrote) (o.held out) (o.held wrote) x b (runs t) m;
+      lacking = λ t number l k. lacking_text (i.left input) (i.left rest) (o.tells wrote) (o.held out) (o.held wrote) x number l (runs t) k;
+      back = λ t. text_there_and_back (i.left input);
+      first = λ t reason at n m q. first_faults (i.left input) reason at n m q;
+    };
+    flv = λ job v. absurd (bytes_is_no_media words (inl (job, v)) w);
+    rtmp = λ size v. absurd (bytes_is_no_media words (inr (size, v)) w);
+    line = λ t s m n b. absurd (b w);
+  })
 
   -- The same of a status that is that of the end.
 
@@ -591,3 +683,7 @@ five_not_six status five six = omega (arith, five, six)
 -- a job on media fails for no front, serves no links and dials no gateway
 pub media_data : (words : List (List ℕ)) (x : MediaEnd) (status : ℕ) (P : Type 0) → IsMedia words → status ≡ media_status_of x → (IsServing words ⊎ IsDialling words → P) × (status ≢ 6)
 media_data words x status P m is = (λ s. absurd (elim s [ inl a ↦ media_is_no_serving words a m | inr b ↦ dialling_is_no_media words m b ]), λ six. media_not_6 x (sym is ∙ six))
+
+-- and so does `bytes`
+pub text_data : (words : List (List ℕ)) (x : TextEnd) (status : ℕ) (P : Type 0) → ReadsBytes words → status ≡ text_status x → (IsServing words ⊎ IsDialling words → P) × (status ≢ 6)
+text_data words x status P w is = (λ s. absurd (elim s [ inl a ↦ bytes_is_no_serving words a w | inr b ↦ bytes_is_no_dialling words b w ]), λ six. text_not_6 x (sym is ∙ six))

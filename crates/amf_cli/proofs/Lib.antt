@@ -1,6 +1,7 @@
 mod ServeRows
 mod ServeLaws
 mod MediaLaws
+mod TextLaws
 mod EndsLaws
 mod CallAlike
 mod CallLaws

@@ -17,7 +17,7 @@ use Rattle.amf_commands.specs.declared.run_end.RunEnd.TheVariants.{NoMemory}
 use Rattle.amf_commands.specs.Commands.{ReadsListen, IsListening}
 use Rattle.amf_commands.specs.Input.{most}
 use Rattle.amf_commands.specs.Lines.{line_of}
-use Rattle.amf_commands.proofs.Asked.{listener_is_no_call, listener_is_no_flv, listener_is_no_output, listener_is_no_rtmp, one_listener}
+use Rattle.amf_commands.proofs.Asked.{bytes_is_no_dialling, listener_is_no_call, listener_is_no_flv, listener_is_no_output, listener_is_no_rtmp, one_listener}
 use Rattle.amf_cli.specs.CallEnds.{Starves}
 use Rattle.amf_cli.specs.CallSteps.{WritesFor}
 use Rattle.amf_cli.specs.CallsWords.{CallsWords}
@@ -158,10 +158,11 @@ module _ {I O E D L : Type 0} (i : SourceMembers I) (o : SinkMembers O) (e : Sin
         links = λ s. refl;
         untouched = λ h m n. absurd (n (options, w));
         unwritten = λ five n m k. absurd (k (options, w));
-        taken = λ t m. within_most (length (i.left input));
+        taken = λ t m b. within_most (length (i.left input));
+        bytes = λ v. absurd (bytes_is_no_dialling words (inr (options, w)) v);
         flv = λ job v. absurd (listener_is_no_flv words job v (options, w));
         rtmp = λ size v. absurd (listener_is_no_rtmp words size v (options, w));
-        line = λ t s m n. absurd (n (inr (options, w)));
+        line = λ t s m n b. absurd (n (inr (options, w)));
       }
         where
           within_most : (n : ℕ) → n ≤ n + (most + 1)

@@ -9,8 +9,9 @@ use Rattle.amf_commands.specs.declared.command.Command.{Command}
 use Rattle.flv_meta.specs.declared.flv_job.FlvJob.{FlvJob}
 use Rattle.amf_media.specs.FlvRuns.{Runs, MayEnd, IsFileEnd}
 use Rattle.amf_media.specs.RtmpRuns.{RunsStream}
-use Rattle.amf_commands.specs.Commands.{Reads, ReadsFlv, ReadsRtmp, IsDialling, IsListening, IsMedia, IsServing, HasReading}
+use Rattle.amf_commands.specs.Commands.{Reads, ReadsBytes, ReadsFlv, ReadsRtmp, IsDialling, IsListening, IsMedia, IsServing, HasReading}
 use Rattle.amf_commands.specs.Input.{most, input_of, IsAcceptedAs, IsRefusedAs}
+use Rattle.amf_cli.specs.BytesEnds.{EndsBytes}
 use Rattle.amf_cli.specs.MediaEnds.{EndsJob}
 use Rattle.amf_commands.specs.Run.{TakesInput, Makes, Lacks, MayLack, IsOutputOf, WritesAll, WritesSome, IsRefusedWith, IsHidden, HasNoForm, Reports}
 
@@ -58,10 +59,12 @@ pub record Ends {I O E : Type 0} (i : SourceMembers I) (o : SinkMembers O) (e : 
   -- with 1, 2, 3 and from 7 on nothing is asked of the output, and but for `serve` not with 5 either; of a job on media, and of a listener, this stands with it
   pub untouched : (status ≡ 1) ⊎ (status ≡ 2) ⊎ (status ≡ 3) ⊎ (7 ≤ status) → (IsMedia words → ⊥) → (IsListening words → ⊥) → out_now ≡ out
   pub unwritten : status ≡ 5 → (IsServing words → ⊥) → (IsMedia words → ⊥) → (IsListening words → ⊥) → out_now ≡ out
-  -- no byte of the input past the most is taken but the one that shows that there is more; a job on media has its own limit
-  pub taken : i.tells input → (IsMedia words → ⊥) → length (i.left input) ≤ length (i.left input_now) + (most + 1)
+  -- no byte of the input past the most is taken but the one that shows that there is more; a job on media, and `bytes`, have their own limits
+  pub taken : i.tells input → (IsMedia words → ⊥) → (ReadsBytes words → ⊥) → length (i.left input) ≤ length (i.left input_now) + (most + 1)
+  -- `bytes` ends as it says of itself
+  pub bytes : ReadsBytes words → EndsBytes i o e status input input_now out out_now err err_now
   -- a job on an FLV file, or on a chunk stream, ends as it says of itself
   pub flv : (job : FlvJob) → ReadsFlv words job → EndsJob i o e (Runs job) (MayEnd job) status input input_now out out_now err err_now
   pub rtmp : (size : Option ℕ) → ReadsRtmp words size → EndsJob i o e (RunsStream size) IsFileEnd status input input_now out out_now err err_now
-  -- the error line is that of the status; those of a job on media, of a call and of a listener stand with them
-  pub line : e.tells err_now → Steady (e.faults err) (e.faults err_now) → (IsMedia words → ⊥) → (IsDialling words → ⊥) → Reports status (e.held err) (e.held err_now)
+  -- the error line is that of the status; those of `bytes`, of a job on media, of a call and of a listener stand with them
+  pub line : e.tells err_now → Steady (e.faults err) (e.faults err_now) → (IsMedia words → ⊥) → (IsDialling words → ⊥) → (ReadsBytes words → ⊥) → Reports status (e.held err) (e.held err_now)

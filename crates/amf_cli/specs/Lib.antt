@@ -2,6 +2,7 @@
 pub mod Lines
 pub mod Told
 pub mod Serving
+pub mod BytesEnds
 pub mod MediaEnds
 pub mod Ends
 pub mod ServesWords

@@ -15,6 +15,8 @@ ghost use Rattle.amf_cli.specs.Ends.{Ends};
 use crate::ending::status_with;
 use crate::media::media_status;
 use crate::no_input::NoInput;
+use crate::textual::text_status_with;
+use amf_bytes::write_bytes;
 use amf_commands::perform::perform;
 use amf_commands::{CallOptions, Command, ListenOptions, RunEnd, ServeOptions, Task};
 use amf_io::{Sink, Source};
@@ -58,6 +60,10 @@ pub fn run_data<I: Source, O: Sink, E: Sink>(
         Ok(Task::Output(command)) => {
             let end = carry_out(alloc, keys, command, input, out);
             Ok(status_with(end, err))
+        }
+        Ok(Task::Bytes) => {
+            let end = write_bytes(alloc, keys, input, out);
+            Ok(text_status_with(end, err))
         }
         Ok(Task::Flv(job)) => {
             let end = flv_keyed(alloc, keys, job, input, out);

@@ -1,5 +1,5 @@
 //! What the program `amf` does: writes the canonical spelling of any value of AMF 3 or AMF 0, in either, of any packet and of any
-//! shared object file, checks it, lists it, writes it as JSON, tells whether two values are the same graph, lists and rewrites FLV files and RTMP chunk
+//! shared object file, checks it, lists it, writes it as JSON and back, tells whether two values are the same graph, lists and rewrites FLV files and RTMP chunk
 //! streams, serves and makes remoting calls over HTTP, and polls a gateway.
 #![tactic(auto)]
 
@@ -17,6 +17,7 @@ mod services;
 mod serving;
 pub mod start;
 mod telling;
+mod textual;
 
 pub use amf_commands::{
     CallOptions, Command, Format, ListenOptions, RunEnd, ServeOptions, Task, end_with, run_rows,

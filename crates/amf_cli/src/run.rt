@@ -31,7 +31,9 @@ use std::thread::Threads;
 /// where N is how many nodes the root of the value leads to, added over the values of a packet, or for a file that of its pairs,
 /// and its listing. With `json` the input is so too, and the output is its JSON text (RFC 8259), in the kinds of nodes and values that
 /// its format has, with a line for each item and member, or without spaces, as `--layout` says: `lines`, which it is without it, or
-/// `compact`. With `same`, which has no options, the input is two AMF 3 values, one after the other, and the output is the
+/// `compact`. With `bytes`, which has no options, the input is such a text, of at most 268,435,456 bytes, with any white space and
+/// escapes and labels of any kind, and the output is the canonical spelling of the value, the packet or the file that it means, in
+/// the format that it names. With `same`, which has no options either, the input is two AMF 3 values, one after the other, and the output is the
 /// line `same` or `different`. With `gen` nothing is read: the output is the line `nodes N bytes B sum S` for the graph that is
 /// made of the numbers of `--seed`, 0 to 4,294,967,295, and `--size`, 1 to 1,000,000, and its canonical spelling in AMF 3. A
 /// number is 1 to 10 decimal digits.

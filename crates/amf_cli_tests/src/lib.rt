@@ -4,6 +4,8 @@
 #[cfg(test)]
 mod amf0_tests;
 #[cfg(test)]
+mod bytes_tests;
+#[cfg(test)]
 mod command_tests;
 #[cfg(test)]
 mod hostile_tests;

@@ -1,9 +1,9 @@
 -- What the words ask for was done, or there is nothing that they ask for, or memory was wanting.
 use Rattle.std.proofs.Common.{◌≡◌, inl, inr, refl, subst}
-use Rattle.amf_commands.specs.declared.command.Task.TheVariants.{Output, Serve, Flv, Rtmp, Call, Listen}
+use Rattle.amf_commands.specs.declared.command.Task.TheVariants.{Output, Bytes, Serve, Flv, Rtmp, Call, Listen}
 use Rattle.amf_commands.specs.Commands.{AsksFor}
 use Rattle.amf_commands.proofs.Asked.{asked_possible, dialling_is_no_output, not_serving}
-use Rattle.amf_cli.proofs.EndsLaws.{command_ends, flv_ends, media_data, rtmp_ends, no_task_ends, not_front_fault, task_not_6, task_starves, was_asked_for}
+use Rattle.amf_cli.proofs.EndsLaws.{command_ends, flv_ends, media_data, rtmp_ends, no_task_ends, not_front_fault, task_not_6, task_starves, text_data, text_ends, was_asked_for}
 use Rattle.amf_cli.proofs.MediaLaws.{chunkable}
 use Rattle.amf_cli.proofs.data.run_data.Goals as goal
 
@@ -24,6 +24,18 @@ returns-in-Ok-Output-clause-data g c =
       (λ s. absurd (elim s [ inl a ↦ not_serving c.args.words.now c.in-Ok-Output.command w a | inr b ↦ dialling_is_no_output c.args.words.now c.in-Ok-Output.command w b ])),
       not_front_fault c.carry_out-end.result _ c.carry_out-end.ensures.no_front c.status_with.ensures.status,
     )
+
+pub returns-in-Ok-Bytes-clause-ends : goal.returns-in-Ok-Bytes-clause-ends
+returns-in-Ok-Bytes-clause-ends g c =
+    let w : AsksFor c.args.words.now Bytes = was_asked_for c.args.words.now _ _ _ c.in-Ok-Bytes.is c.in-Ok-Bytes.field-0-is c.task_of.ensures.asked in
+    text_ends g.I.Source g.O.Sink g.E.Sink c.args.words.now c.args.input.now c.write_bytes-end.new.input c.args.out.now c.write_bytes-end.new.out c.args.err.now c.text_status_with.new.err
+    w c.write_bytes-end.result _ c.text_status_with.ensures.status c.write_bytes-end.ensures.runs c.write_bytes-end.ensures.taken c.write_bytes-end.ensures.untouched c.write_bytes-end.ensures.reads c.write_bytes-end.ensures.writes
+    c.text_status_with.ensures.counted c.text_status_with.ensures.line
+
+pub returns-in-Ok-Bytes-clause-data : goal.returns-in-Ok-Bytes-clause-data
+returns-in-Ok-Bytes-clause-data g c =
+    let w : AsksFor c.args.words.now Bytes = was_asked_for c.args.words.now _ _ _ c.in-Ok-Bytes.is c.in-Ok-Bytes.field-0-is c.task_of.ensures.asked in
+    text_data c.args.words.now c.write_bytes-end.result _ _ w c.text_status_with.ensures.status
 
 pub returns-in-Ok-Flv-clause-ends : goal.returns-in-Ok-Flv-clause-ends
 returns-in-Ok-Flv-clause-ends g c =
