@@ -3,7 +3,7 @@
 
     docs/trust_paths.py [--check]
 
-For each of eleven promises it follows the definitions that the promises of a run (`Ends`, `ServesWords`, `CallsWords` and `ListensWords`
+For each of twelve promises it follows the definitions that the promises of a run (`Ends`, `ServesWords`, `CallsWords` and `ListensWords`
 in crates/amf_cli/specs, which the contract of `run` cites) name, from name to name by the imports of each file, and lists them in an order in
 which they can be read. What a file says is its own first line, and what a definition says is the comment above it, or its sentence in
 docs/trust_words.txt. With --check nothing is written, and the status is 1 if the page is not what would be written.
@@ -24,7 +24,7 @@ A proof says that the code meets its contract. What the contract means is said i
 every proof above it worthless. So these files, with the contracts on the functions in `crates/NAME/src`, are what has to be read to know
 what is promised. The toolchain, and what else is trusted, are named in [PROMISES.md](PROMISES.md#what-it-stands-on).
 
-Nobody has to read all of them. Each of the eleven paths below lists what one promise rests on, in an order in which it can be read: each file,
+Nobody has to read all of them. Each of the twelve paths below lists what one promise rests on, in an order in which it can be read: each file,
 those of its definitions that the promise needs, with a sentence for each, and how many lines these have. Much of a later path is known from
 an earlier one; such definitions are named again, and their sentences stand in the path where they come first. The first path has some 1,400
 lines, and each later one at most 1,200 that no path above it has: about an hour each. `serve` has two, the first for what one connection is
@@ -76,6 +76,7 @@ TITLES = {
     "amf_tables": "Reference tables",
     "amf0_spelling": "AMF 0",
     "amf0_layout_laws": "The verdict on AMF 0",
+    "amf0_kinds": "Graphs that AMF 0 has as they are",
     "amf_iso": "The order of the nodes",
     "amf_wire_fields": "Reading fields",
     "amf3_read": "Reading AMF 3",
@@ -92,6 +93,8 @@ TITLES = {
     "amf_text_read": "Reading the JSON text",
     "amf_listings": "The listings of packets and of shared object files, and their laws",
     "amf_json": "The JSON text of what was read",
+    "amf_text_draft": "Reading what a JSON text means",
+    "amf_bytes": "The bytes of a JSON text",
     "flv_meta": "FLV script data",
     "rtmp_chunks": "RTMP chunk streams",
     "rtmp_rechunk": "Rechunking, and the pass over a chunk stream",
@@ -134,6 +137,7 @@ OF_DATA = ["amf_commands.Run.", "amf_commands.Input.", "amf_commands.Commands.Re
 OF_FLV = ["amf_media.FlvRuns.", "amf_commands.Commands.ReadsFlv"]
 OF_RTMP = ["amf_media.RtmpRuns.", "amf_commands.Commands.ReadsRtmp"]
 OF_MEDIA = [*OF_FLV, *OF_RTMP, "amf_cli.MediaEnds.", "amf_commands.Commands.IsMedia"]
+OF_BYTES = ["amf_bytes.", "amf_text_draft.", "amf_cli.BytesEnds.", "amf_commands.Commands.ReadsBytes"]
 OF_CALL = ["amf_cli.CallEnds.", "amf_commands.Commands.ReadsCall", "amf_commands.Commands.IsCalling"]
 OF_LISTEN = ["amf_cli.ListenEnds.", "amf_commands.Commands.ReadsListen", "amf_commands.Commands.IsListening"]
 OF_LINKS = [*OF_CALL, *OF_LISTEN, "amf_commands.Commands.IsDialling"]
@@ -142,7 +146,7 @@ OF_LINKS = [*OF_CALL, *OF_LISTEN, "amf_commands.Commands.IsDialling"]
 MEDIA = ["flv_meta", "amf_media", "rtmp_chunks", "rtmp_rechunk", "rtmp_listing"]
 SELF_CALLS = ["amf_self_call_laws", "amf_self_call"]
 CALLS = ["amf_client", "amf_dial_and_call", "amf_poll_session", *SELF_CALLS]
-TEXTS = ["amf_text", "amf_text_write", "amf_json", "amf_commands.Told"]
+TEXTS = ["amf_text", "amf_text_write", "amf_json", "amf_commands.Told", "amf_bytes", "amf_text_draft", "amf_text_read", "amf_cli.BytesEnds"]
 OTHERS = ["amf_vectors", "amf_once"]
 FILES = ["amf_packet", "amf_sol", "amf_listings"]
 
@@ -151,33 +155,37 @@ FILES = ["amf_packet", "amf_sol", "amf_listings"]
 PATHS = [
     ("To trust `canon` on values", "That the output of `amf canon` is the one canonical encoding of the value in the input, from and to AMF 3 "
      "and AMF 0, that a refusal names the first invalid field, and that status 7 names the first node without an encoding.",
-     [*OF_SERVE, *OF_MEDIA, *OF_LINKS], [*FILES, "amf_show", *OTHERS, *TEXTS, *MEDIA, *CALLS], ["Ends"]),
+     [*OF_SERVE, *OF_MEDIA, *OF_LINKS, *OF_BYTES], [*FILES, "amf_show", *OTHERS, *TEXTS, *MEDIA, *CALLS], ["Ends"]),
     ("To trust `same`", "That `amf same` says `same` exactly where two values of AMF 3 are the same graph.",
-     [*OF_SERVE, *OF_MEDIA, *OF_LINKS], [*FILES, "amf_show", *OTHERS, *TEXTS, *MEDIA, *CALLS, "amf0_spelling",
+     [*OF_SERVE, *OF_MEDIA, *OF_LINKS, *OF_BYTES], [*FILES, "amf_show", *OTHERS, *TEXTS, *MEDIA, *CALLS, "amf0_spelling",
                 "amf3_spelling.Lacks3", "amf_graph.Lacks", "amf_graph.Order"], ["Ends"]),
     ("To trust a `.sol`", "That `amf show`, `check` and `canon` with `--from sol` say what stands in a shared object file, or where it is damaged.",
-     [*OF_SERVE, *OF_MEDIA, *OF_LINKS], ["amf_packet", *OTHERS, *TEXTS, *MEDIA, *CALLS, "amf_listings.SamePacket", "amf_listings.PacketListing",
+     [*OF_SERVE, *OF_MEDIA, *OF_LINKS, *OF_BYTES], ["amf_packet", *OTHERS, *TEXTS, *MEDIA, *CALLS, "amf_listings.SamePacket", "amf_listings.PacketListing",
                 "amf_listings.PacketNodes", "amf_listings.PacketLaws"], ["Ends"]),
     ("To trust `json`", "That the output of `amf json` is the canonical JSON text of what stands in the input, and that this text means it, but for the numbers of nodes, and in AMF 0 with integers in place of doubles.",
-     [*OF_SERVE, *OF_MEDIA, *OF_LINKS], ["amf_show", *OTHERS, *MEDIA, *CALLS, "amf_listings.PacketListing", "amf_listings.PacketNodes",
+     [*OF_SERVE, *OF_MEDIA, *OF_LINKS, *OF_BYTES], ["amf_show", *OTHERS, *MEDIA, *CALLS, "amf_listings.PacketListing", "amf_listings.PacketNodes",
                 "amf_listings.FileListing", "amf_listings.PacketLaws", "amf_listings.FileLaws", "amf_packet.PacketLacks",
                 "amf_sol.FileLacks", "amf3_spelling.Lacks3", "amf0_spelling.Lacks0", "amf_graph.Lacks"], ["Ends"]),
+    ("To trust `bytes`", "That the output of `amf bytes` is the canonical encoding of what the JSON text in the input means, and that a refusal names the "
+     "first token that is wrong.",
+     [*OF_SERVE, *OF_MEDIA, *OF_LINKS, "amf_commands.Run."], ["amf_show", *OTHERS, *MEDIA, *CALLS, "amf_listings.PacketListing", "amf_listings.PacketNodes",
+                "amf_listings.FileListing", "amf_listings.PacketLaws", "amf_listings.FileLaws", "amf_packet.PacketLacks"], ["BytesEnds"]),
     ("To trust an answer of `serve`", "That what a connection is sent is the definition's answer to the bytes that came: what a request means, which calls of "
      "services and of the broker it makes, and which bytes tell what they gave.",
      [], ["amf_sol", "amf_show", "amf_listings", *OTHERS, *TEXTS, *MEDIA, *CALLS], [], "amf_answer_plan.Respond"),
     ("To trust `serve`", "That each connection is answered as the definition says, and that all connections have one legal history of the broker.",
-     [*OF_DATA, *OF_MEDIA, *OF_LINKS], ["amf_sol", "amf_show", "amf_listings", *OTHERS, *TEXTS, *MEDIA, *CALLS], ["ServesWords"]),
+     [*OF_DATA, *OF_MEDIA, *OF_LINKS, *OF_BYTES], ["amf_sol", "amf_show", "amf_listings", *OTHERS, *TEXTS, *MEDIA, *CALLS], ["ServesWords"]),
     ("To trust `flv`", "That `amf flv` lists the metadata of an FLV file, or writes the file without them or with others, and all else as it was.",
-     [*OF_SERVE, *OF_DATA, *OF_RTMP, *OF_LINKS], [*FILES, *OTHERS, *TEXTS, *CALLS, "rtmp_chunks", "rtmp_rechunk", "rtmp_listing"],
+     [*OF_SERVE, *OF_DATA, *OF_RTMP, *OF_LINKS, *OF_BYTES], [*FILES, *OTHERS, *TEXTS, *CALLS, "rtmp_chunks", "rtmp_rechunk", "rtmp_listing"],
      ["Ends", "MediaEnds"]),
     ("To trust `rtmp`", "That `amf rtmp` lists the messages of a chunk stream, or writes the same messages in chunks of another size.",
-     [*OF_SERVE, *OF_DATA, *OF_FLV, *OF_LINKS], [*FILES, *OTHERS, *TEXTS, *CALLS, "flv_meta"], ["Ends", "MediaEnds"]),
+     [*OF_SERVE, *OF_DATA, *OF_FLV, *OF_LINKS, *OF_BYTES], [*FILES, *OTHERS, *TEXTS, *CALLS, "flv_meta"], ["Ends", "MediaEnds"]),
     ("To trust `call`", "That `amf call` makes one call with the arguments that it was given, and writes what the bytes that come back mean.",
-     [*OF_SERVE, *OF_DATA, *OF_MEDIA, *OF_LISTEN], ["amf_sol", "amf_listings", *OTHERS, *TEXTS, *MEDIA, "amf_poll_session", *SELF_CALLS],
+     [*OF_SERVE, *OF_DATA, *OF_MEDIA, *OF_LISTEN, *OF_BYTES], ["amf_sol", "amf_listings", *OTHERS, *TEXTS, *MEDIA, "amf_poll_session", *SELF_CALLS],
      ["CallsWords"]),
     ("To trust `listen`", "That `amf listen` sends the requests of one session, again where a connection was lost, and writes the bodies of each "
      "batch once and in order. That these are the messages that were published is the path below.",
-     [*OF_SERVE, *OF_DATA, *OF_MEDIA, *OF_CALL],
+     [*OF_SERVE, *OF_DATA, *OF_MEDIA, *OF_CALL, *OF_BYTES],
      ["amf_sol", "amf_listings", "amf_vectors", *TEXTS, *MEDIA, "amf_dial_and_call", *SELF_CALLS], ["ListensWords"]),
     ("To trust that `listen` loses nothing", "That what a listener has written is what was published while it was subscribed, each message once and in order: the law "
      "`what_was_published_is_written` of `amf_poll_session`, over the listener's session and the broker.",
