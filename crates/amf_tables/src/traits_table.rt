@@ -1,4 +1,4 @@
-ghost use Rattle.std.specs.Prelude.{◌≡◌, ◌≤◌, ◌++◌, ◌∷◌, [], length, map, IfSome, IfNone, OnOk, OnErr};
+ghost use Rattle.std.specs.Prelude.{◌≡◌, ◌≤◌, ◌++◌, ◌∷◌, [], true, length, map, IfSome, IfNone, OnOk, OnErr};
 ghost use Rattle.std.specs.List.{AllByRecursion};
 ghost use Rattle.amf_graph.specs.Order.{Absent};
 ghost use Rattle.amf_tables.specs.FirstPlace.{IsFirstPlace};
@@ -40,6 +40,17 @@ impl Model for TraitsTable {
     ghost view = { λ t. t.entries.items };
 
     ghost invariant = { λ t. AreHashed t.start t.entries.items t.places t.has_copies };
+}
+
+/// Whether the first of these is this entry, which has no copies.
+fn is_first(entries: &[WrittenEntry], entry: &WrittenEntry) -> bool
+    requires { IsNoCopy entry.now }
+    ensures { result ≡ true → IsFirstPlace entries.now entry.now 0 }
+{
+    match entries.first() {
+        Some(first) => first.is_same(entry),
+        None => false,
+    }
 }
 
 /// The first place of this entry, which has no copies, among these.
@@ -87,8 +98,21 @@ impl TraitsTable {
         }
     }
 
-    /// The first place of an entry without copies.
+    /// The first place of an entry without copies. Most tables have few entries, and most traits are those of the first: that is
+    /// compared before anything is hashed.
     fn place_of_entry(&self, entry: &WrittenEntry) -> Option<u32>
+        requires { IsNoCopy entry.now }
+        ensures first { IfSome result (IsFirstPlace self.now entry.now) }
+        ensures none { IfNone result (Absent self.now entry.now) }
+    {
+        if is_first(&self.entries, entry) {
+            return Some(0);
+        }
+        self.place_by_hash(entry)
+    }
+
+    /// Does what `place_of_entry` does, by the hash of the entry.
+    fn place_by_hash(&self, entry: &WrittenEntry) -> Option<u32>
         requires { IsNoCopy entry.now }
         ensures first { IfSome result (IsFirstPlace self.now entry.now) }
         ensures none { IfNone result (Absent self.now entry.now) }
