@@ -8,6 +8,7 @@ ghost use Rattle.amf3_write.specs.Writes.{Keeps, IsReady};
 
 use crate::output::Output;
 use amf_graph::{NodeId, Rooted, TextId, Value};
+use amf_iso::LastOrder;
 use amf_wire::Memory;
 
 /// A run of what is still to be written, within one node.
@@ -32,6 +33,7 @@ impl Output {
         &mut self,
         run: Unwritten<'g>,
         graph: &'g Rooted,
+        order: &mut LastOrder,
         waiting: &mut Vec<Unwritten<'g>>,
     ) -> Result<Option<NodeId>, Memory>
         requires run { IsRunOf graph.now.arena run }
@@ -41,6 +43,7 @@ impl Output {
         ensures runs { AreRunsOf graph.now.arena waiting.old.items → OnOk result (AreRunsOf graph.now.arena waiting.new.items) }
         ensures turns { OnOk result (turns_left waiting.new.items + 1 ≤ run_turns run.entry + turns_left waiting.old.items) }
         ensures keeps { Keeps self.old self.new }
+        ensures order { order.new ≡ order.old }
         ensures ready { OnOk result (IsReady graph.now.arena self.new.tables self.new.known) }
     {
         match run {
@@ -48,7 +51,7 @@ impl Output {
             Unwritten::Values(values) => self.values(values, graph, waiting),
             Unwritten::Entries(entries) => self.entries(entries, graph, waiting),
             Unwritten::Pairs(pairs) => self.pairs(pairs, graph, waiting),
-            Unwritten::Sorted(pairs) => self.sorted(pairs, graph, waiting),
+            Unwritten::Sorted(pairs) => self.sorted(pairs, graph, order, waiting),
         }
     }
 
@@ -147,6 +150,7 @@ impl Output {
         &mut self,
         mut pairs: Vec<(TextId, Value)>,
         graph: &'g Rooted,
+        order: &mut LastOrder,
         waiting: &mut Vec<Unwritten<'g>>,
     ) -> Result<Option<NodeId>, Memory>
         requires run { AreStoredPairs graph.now.arena pairs.items }
@@ -156,6 +160,7 @@ impl Output {
         ensures runs { AreRunsOf graph.now.arena waiting.old.items → OnOk result (AreRunsOf graph.now.arena waiting.new.items) }
         ensures turns { OnOk result (turns_left waiting.new.items ≤ length pairs.items + turns_left waiting.old.items) }
         ensures keeps { Keeps self.old self.new }
+        ensures order { order.new ≡ order.old }
         ensures ready { OnOk result (IsReady graph.now.arena self.new.tables self.new.known) }
     {
         while let Some((name, value)) = pairs.pop() {
@@ -166,6 +171,7 @@ impl Output {
             }
         }
         self.text(b"")?;
+        order.take_back(pairs);
         Ok(None)
     }
 }

@@ -6,6 +6,7 @@ ghost use Rattle.amf_graph.specs.Graph as graph_of_values;
 ghost use Rattle.amf_graph.specs.Order.{Absent};
 ghost use Rattle.amf_graph.specs.Rooted.{content};
 ghost use Rattle.amf_wire.specs.Integer.{IsInteger};
+ghost use Rattle.amf_iso.specs.Remembered.{AreInOrder};
 ghost use Rattle.amf3_spelling.specs.ByteSpelling as spell;
 ghost use Rattle.amf3_write.specs.Unwritten.{AreRunsOf, IsNextOf, turns_left, Falls, LeadsToRest, LeadsValue, StopsWithin};
 ghost use Rattle.amf3_write.specs.Writes.{Stops, WritesSteps, WritesValue, Keeps, IsReady};
@@ -14,6 +15,7 @@ use crate::nodes::is_unnamed;
 use crate::output::Output;
 use crate::unwritten::Unwritten;
 use amf_graph::{Lack, LackKind, NodeId, Rooted, Value, WriteEnd};
+use amf_iso::LastOrder;
 use amf_wire::{Memory, Pattern, unsign29};
 use amf3_spelling::Marker;
 
@@ -57,11 +59,12 @@ impl Output {
         ensures keeps { Keeps self.old self.new }
         ensures ready { OnOk result (IsReady graph.now.arena self.new.tables self.new.known) }
     {
+        let mut order = LastOrder::new(self.alloc);
         let mut waiting = vec![in self.alloc; Unwritten::One(value)]?;
         while let Some(top) = waiting.pop() {
-            let next = self.run(top, graph, &mut waiting)?;
+            let next = self.run(top, graph, &mut order, &mut waiting)?;
             if let Some(node) = next {
-                self.new_node(node, graph, &mut waiting)?;
+                self.new_node(node, graph, &mut order, &mut waiting)?;
             }
         }
         Ok(())
@@ -120,17 +123,20 @@ impl Output {
         &mut self,
         node: NodeId,
         graph: &'g Rooted,
+        order: &mut LastOrder,
         waiting: &mut Vec<Unwritten<'g>>,
     ) -> Result<(), WriteEnd>
         requires there { node.0 < length graph.now.arena.nodes }
         requires new { Absent self.old.tables.nodes node.0 }
         requires runs { AreRunsOf graph.now.arena waiting.old.items }
+        requires order { AreInOrder graph.now.arena order.old }
         requires ready { IsReady graph.now.arena self.old.tables self.old.known }
         ensures leads { OnOk result (LeadsToRest graph.now (spell.value (graph_of_values.node node.0) ∷ []) waiting.old.items waiting.new.items self.old self.new) }
         ensures lack { (l : Lack) → IsErrOf result (WriteEnd.NoSpelling l) → StopsWithin graph.now (spell.value (graph_of_values.node node.0) ∷ []) waiting.old.items self.old l }
         ensures runs { OnOk result (AreRunsOf graph.now.arena waiting.new.items) }
         ensures falls { OnOk result (Falls (length graph.now.arena.nodes) self.old.tables.nodes self.new.tables.nodes (turns_left waiting.old.items) (turns_left waiting.new.items)) }
         ensures keeps { Keeps self.old self.new }
+        ensures order { AreInOrder graph.now.arena order.new }
         ensures ready { OnOk result (IsReady graph.now.arena self.new.tables self.new.known) }
     {
         graph.is_finished();
@@ -143,7 +149,7 @@ impl Output {
         }
         self.marker(Marker::Node(view.kind()))?;
         self.tables.add_node(node)?;
-        self.open(node, view, graph, waiting)?;
+        self.open(node, view, graph, order, waiting)?;
         Ok(())
     }
 }

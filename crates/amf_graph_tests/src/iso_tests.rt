@@ -4,7 +4,9 @@ use crate::checks::holds;
 use crate::graph_tests::of_two_texts;
 use amf_fixtures::{graph3, rooted_at};
 use amf_graph::{NodeId, Rooted, TextId, Value};
-use amf_iso::{Numbering, are_by_name, by_name, ids_by_name, isomorphic, relabel, values_met};
+use amf_iso::{
+    LastOrder, Numbering, are_by_name, by_name, ids_by_name, isomorphic, relabel, values_met,
+};
 use std::alloc::Global;
 use std::process::Abort;
 
@@ -144,9 +146,24 @@ fn sorts_ids_by_name(rt: &impl Abort, alloc: Global, graph: &Rooted)
     holds(rt, are_by_name(&ids, graph), "in order");
 }
 
+/// The second time the order is the one that is remembered.
+fn remembers_the_order(rt: &impl Abort, alloc: Global, graph: &Rooted)
+    requires { length graph.now.arena.texts ≡ 2 }
+{
+    let mut last = LastOrder::new(alloc);
+    let wanted = [(TextId(1), Value::Null), (TextId(0), Value::Null)];
+    let first = last.ids_by_name(&PAIRS, graph).expect(rt, "memory");
+    holds(rt, first.as_slice() == wanted.as_slice(), "learned");
+    holds(rt, !last.are_by_name(&PAIRS, graph), "known");
+    last.take_back(first);
+    let second = last.ids_by_name(&PAIRS, graph).expect(rt, "memory");
+    holds(rt, second.as_slice() == wanted.as_slice(), "remembered");
+}
+
 #[test]
 fn sorts_by_name(rt: HostRuntime) {
     let graph = of_two_texts(&rt, rt.alloc(), b"b", b"a");
     sorts_pairs_by_name(&rt, rt.alloc(), &graph);
     sorts_ids_by_name(&rt, rt.alloc(), &graph);
+    remembers_the_order(&rt, rt.alloc(), &graph);
 }

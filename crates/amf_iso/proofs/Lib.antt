@@ -13,6 +13,7 @@ mod Relabelled
 pub mod EntriesRemain
 mod Joins
 pub mod InOrder
+mod LastOrders
 mod Held
 pub mod Meeting
 mod NamesAlike

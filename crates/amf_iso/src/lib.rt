@@ -6,6 +6,7 @@
 mod compare;
 mod equal_texts;
 mod heads;
+mod last_order;
 mod matches;
 mod met;
 mod numbering;
@@ -15,6 +16,7 @@ mod waiting;
 mod walk;
 
 pub use compare::isomorphic;
+pub use last_order::LastOrder;
 pub use met::values_met;
 pub use numbering::Numbering;
 pub use pairs::{are_by_name, by_name, ids_by_name};

@@ -4,6 +4,7 @@ ghost use Rattle.amf_graph.specs.Renumbered.{numbers_of};
 ghost use Rattle.amf_graph.specs.Rooted.{content};
 ghost use Rattle.amf_iso.specs.Numbers.{HasReached};
 
+use crate::LastOrder;
 use crate::waiting::{push_met, push_node};
 use amf_graph::{NodeId, Rooted};
 use amf_wire::Memory;
@@ -40,13 +41,14 @@ impl Numbering {
         graph.is_finished();
         let mut nodes = Vec::new(alloc);
         let mut numbers = vec![in alloc; None; graph.node_count() as usize]?;
+        let mut order = LastOrder::new(alloc);
         let mut waiting = Vec::new(alloc);
         push_node(graph.root(), &mut waiting)?;
         while let Some(node) = waiting.pop() {
             if numbers[node.0 as usize].is_none() {
                 numbers[node.0 as usize] = Some(nodes.len() as u32);
                 nodes.push(node)?;
-                push_met(alloc, node, graph, &mut waiting)?;
+                push_met(node, graph, &mut order, &mut waiting)?;
             }
         }
         Ok(Numbering { nodes, numbers })

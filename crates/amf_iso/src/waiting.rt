@@ -8,12 +8,12 @@ ghost use Rattle.amf_graph.specs.Renumbered.{numbers_of};
 ghost use Rattle.amf_graph.specs.Rooted.{content};
 ghost use Rattle.amf_graph.specs.Views.{flat};
 ghost use Rattle.amf_iso.specs.Contents.{pairs_of, ArePairs};
+ghost use Rattle.amf_iso.specs.Remembered.{AreInOrder};
 ghost use Rattle.amf_iso.specs.Waiting.{node_of, nodes_of, seconds_of, node_numbers};
 
-use crate::pairs::{are_by_name, ids_by_name};
+use crate::LastOrder;
 use amf_graph::{NodeId, NodeView, Rooted, TextId, Value};
 use amf_wire::Memory;
-use std::alloc::Global;
 
 /// Puts a value onto the stack, if it is a node.
 pub(crate) fn push_node(value: Value, waiting: &mut Vec<NodeId>) -> Result<(), Memory>
@@ -85,46 +85,52 @@ fn has_node(pairs: &[(TextId, Value)]) -> bool
 /// Puts the nodes among the values of pairs onto the stack, the first in by-name order on top. A list is made only where
 /// there are some, and the pairs do not stand in this order.
 fn push_by_name(
-    alloc: Global,
     pairs: &[(TextId, Value)],
     graph: &Rooted,
+    order: &mut LastOrder,
     waiting: &mut Vec<NodeId>,
 ) -> Result<(), Memory>
-    requires { ArePairs graph.now.arena pairs.now }
-    ensures { OnOk result (numbers_of waiting.new.items ≡ numbers_of waiting.old.items ++ reverse (node_numbers (seconds (by_name (pairs_of graph.now.arena pairs.now))))) }
+    requires pairs { ArePairs graph.now.arena pairs.now }
+    requires order { AreInOrder graph.now.arena order.old }
+    ensures order { AreInOrder graph.now.arena order.new }
+    ensures waiting { OnOk result (numbers_of waiting.new.items ≡ numbers_of waiting.old.items ++ reverse (node_numbers (seconds (by_name (pairs_of graph.now.arena pairs.now))))) }
 {
     if !has_node(pairs) {
         return Ok(());
     }
-    if are_by_name(pairs, graph) {
+    if order.are_by_name(pairs, graph) {
         return push_second_nodes(pairs, waiting);
     }
-    let sorted = ids_by_name(alloc, pairs, graph)?;
-    push_second_nodes(&sorted, waiting)
+    let sorted = order.ids_by_name(pairs, graph)?;
+    push_second_nodes(&sorted, waiting)?;
+    order.take_back(sorted);
+    Ok(())
 }
 
 /// Puts the nodes that a node holds onto the stack, the first that is met on top. The node is the graph's.
 pub(crate) fn push_met(
-    alloc: Global,
     node: NodeId,
     graph: &Rooted,
+    order: &mut LastOrder,
     waiting: &mut Vec<NodeId>,
 ) -> Result<(), Memory>
-    requires { node.0 < length graph.now.arena.nodes }
-    ensures { OnOk result (numbers_of waiting.new.items ≡ numbers_of waiting.old.items ++ reverse (node_numbers (values_met (node_at (content graph.now) node.0)))) }
+    requires there { node.0 < length graph.now.arena.nodes }
+    requires order { AreInOrder graph.now.arena order.old }
+    ensures order { AreInOrder graph.now.arena order.new }
+    ensures waiting { OnOk result (numbers_of waiting.new.items ≡ numbers_of waiting.old.items ++ reverse (node_numbers (values_met (node_at (content graph.now) node.0)))) }
 {
     graph.is_finished();
     match graph.node(node) {
         NodeView::Array { items, names } => {
             push_nodes(items, waiting)?;
-            push_by_name(alloc, names, graph, waiting)
+            push_by_name(names, graph, order, waiting)
         }
         NodeView::Object {
             sealed,
             members,
             ..
         } => {
-            push_by_name(alloc, members, graph, waiting)?;
+            push_by_name(members, graph, order, waiting)?;
             push_nodes(sealed, waiting)
         }
         NodeView::Wrapper { value, .. } => push_node(value, waiting),

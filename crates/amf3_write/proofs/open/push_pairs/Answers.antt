@@ -37,12 +37,12 @@ returns-then-are_by_name-clause-left c =
     let a = c.args.graph.now.arena in
     let old = c.args.waiting.now.items in
     segments_pushed a old c.push.new.self.items (Pairs c.args.pairs) c.in_ok-push.ensures.items
-    ∙ ap (λ ws. pairs_then ws [] ++ segments_left a old) (already_by_name (pairs_of a c.args.pairs.now) (c.are_by_name.ensures.0 (true_is c.are_by_name.result c.if-are_by_name.true)))
+    ∙ ap (λ ws. pairs_then ws [] ++ segments_left a old) (already_by_name (pairs_of a c.args.pairs.now) (c.are_by_name.ensures (true_is c.are_by_name.result c.if-are_by_name.true)))
 
 pub returns-then-are_by_name-clause-runs : goal.returns-then-are_by_name-clause-runs
 returns-then-are_by_name-clause-runs c = λ h.
     let a = c.args.graph.now.arena in
-    runs_pushed a c.args.waiting.now.items c.push.new.self.items (Pairs c.args.pairs) c.in_ok-push.ensures.items h (stored_pairs a c.args.pairs.now c.requires)
+    runs_pushed a c.args.waiting.now.items c.push.new.self.items (Pairs c.args.pairs) c.in_ok-push.ensures.items h (stored_pairs a c.args.pairs.now c.requires.pairs)
 
 pub returns-then-are_by_name-clause-turns : goal.returns-then-are_by_name-clause-turns
 returns-then-are_by_name-clause-turns c = omega (arith, turns_pushed c.args.waiting.now.items c.push.new.self.items (Pairs c.args.pairs) c.in_ok-push.ensures.items)

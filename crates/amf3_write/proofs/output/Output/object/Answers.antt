@@ -7,6 +7,7 @@ use Rattle.amf_graph.specs.Rooted.{content}
 use Rattle.amf3_spelling.specs.Tables.{plain}
 use Rattle.amf3_spelling.specs.ByteSpelling.{step, traits, values_then, pairs_then, segments_of}
 use Rattle.amf_iso.specs.Contents.{pairs_of, values_of}
+use Rattle.amf_iso.specs.Remembered.{AreInOrder}
 use Rattle.amf3_write.specs.Unwritten.{AreRunsOf, segments_left, turns_left}
 use Rattle.amf3_write.specs.Writes.{Leads, WritesStep}
 use Rattle.amf3_write.proofs.Leading.{leads_to, leads_step}
@@ -54,3 +55,11 @@ returns-clause-runs c =
       | else-class w ↦ subst (λ z. AreRunsOf a z.items) (sym w.waiting-is) c.requires.runs
     ] in
     c.in_ok-push_values.ensures.runs a c.requires.values mid
+
+pub returns-clause-order : goal.returns-clause-order
+returns-clause-order c =
+    let a = c.args.graph.now.arena in
+    elim c.if-class.branch [
+      | then-class+in_ok-push_pairs w ↦ subst (λ z. AreInOrder a z) (sym w.order-is) w.push_pairs.ensures.order
+      | else-class w ↦ subst (λ z. AreInOrder a z) (sym w.order-is) c.requires.order
+    ]

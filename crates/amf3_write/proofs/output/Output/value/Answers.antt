@@ -3,6 +3,7 @@ use Rattle.std.proofs.lemmas.List.{append-nil, nil_from_length}
 use Rattle.amf_graph.specs.Arena.{value_content}
 use Rattle.amf_graph.specs.Graph.{node}
 use Rattle.amf_graph.specs.Rooted.{content}
+use Rattle.amf_iso.specs.Remembered.{AreInOrder}
 use Rattle.amf3_spelling.specs.ByteSpelling.{value}
 use Rattle.amf3_write.specs.Unwritten.{IsRunOf, IsNextOf, next_segments, segments_left}
 use Rattle.amf3_write.specs.Writes.{Leads}
@@ -53,6 +54,7 @@ loop-top-preserved-in-Continue-branch-3 c =
     record {
       leads = leads_then g whole now (segments_left a c.new_node.new.waiting.items) c.args.self.now c.run.new.self c.new_node.new.self begun c.in_ok-new_node.ensures.leads;
       runs = c.in_ok-new_node.ensures.runs;
+      order = c.new_node.ensures.order;
       ready = c.in_ok-new_node.ensures.ready;
       keeps = λ front h. c.in_ok-new_node.ensures.keeps front (c.in_ok-next.ensures.keeps front (c.loop-top.invariant.keeps front h));
     }
@@ -76,6 +78,7 @@ loop-top-preserved c =
     record {
       leads = subst (λ next. Leads g whole (next_segments next ++ segments_left a left) c.args.self.now c.run.new.self) c.in_default-next.is before;
       runs = c.in_ok-next.ensures.runs rest;
+      order = subst (AreInOrder a) (sym c.in_ok-next.ensures.order) c.loop-top.invariant.order;
       ready = c.in_ok-next.ensures.ready;
       keeps = λ front h. c.in_ok-next.ensures.keeps front (c.loop-top.invariant.keeps front h);
     }
@@ -95,3 +98,6 @@ returns-clause-ok c =
     let none : c.pop.new.self.items ≡ [] = nil_from_length c.pop.new.self.items (sym c.pop.new.self.ok.0 ∙ c.in_default.ensures.cases.1) in
     let empty : c.loop-top.waiting.items ≡ [] = c.in_default.ensures.items ∙ append-nil c.pop.new.self.items ∙ none in
     written_value g v c.args.self.now c.loop-top.self (leads_to g (value v ∷ []) (segments_left a c.loop-top.waiting.items) [] c.args.self.now c.loop-top.self (ap (segments_left a) empty) c.loop-top.invariant.leads)
+
+pub new_node-requires-clause-order : goal.new_node-requires-clause-order
+new_node-requires-clause-order c = subst (AreInOrder c.args.graph.now.arena) (sym c.in_ok-next.ensures.order) c.loop-top.invariant.order

@@ -28,8 +28,8 @@ index_mut-requires c =
     let there = top_in c.args.graph.now.arena (numbers_of c.loop-node.waiting.items) (numbers_of c.pop.new.self.items) c.in-Some.node.0 top c.loop-node.invariant.waits in
     omega (arith, there, c.loop-node.invariant.room, c.loop-node.numbers.ok)
 
-pub push_met-requires : goal.push_met-requires
-push_met-requires c =
+pub push_met-requires-clause-there : goal.push_met-requires-clause-there
+push_met-requires-clause-there c =
     let top : numbers_of c.loop-node.waiting.items ≡ numbers_of c.pop.new.self.items ++ c.in-Some.node.0 ∷ [] = ap numbers_of c.in-Some.ensures.items ∙ map-append (λ n. n.0) c.pop.new.self.items (c.in-Some.node ∷ []) in
     top_in c.args.graph.now.arena (numbers_of c.loop-node.waiting.items) (numbers_of c.pop.new.self.items) c.in-Some.node.0 top c.loop-node.invariant.waits
 
@@ -43,6 +43,7 @@ loop-node-init c =
       room = ap length blank ∙ length-replicate c.node_count.result None ∙ c.node_count.ensures;
       tally = rw (c.new-nodes.ensures.items) (omega (arith, missing_none (length a.nodes)));
       waits = subst (λ ns. AreNodes a ns) (sym begun) (root_there a c.args.graph.now.root c.is_finished.ensures.names);
+      order = c.new-order.ensures.order a;
       walk = rw (c.new-nodes.ensures.items) (started a c.args.graph.now.root (numbers_of c.push_node.new.waiting.items) begun);
     }
 
@@ -63,6 +64,7 @@ loop-node-preserved c =
       room = inv.room;
       tally = inv.tally;
       waits = rest_in a (numbers_of c.loop-node.waiting.items) rest i.0 top inv.waits;
+      order = inv.order;
       walk = met_again g met (numbers_of c.loop-node.waiting.items) rest i.0 some.0 top (inv.numbered.placed some.0 i.0 read) inv.walk;
     }
 
@@ -87,8 +89,9 @@ loop-node-preserved-in-Continue-branch-4 c =
           (numbered_push met c.loop-node.numbers.items i.0 inv.numbered read (omega (arith, inv.tally, c.is_finished.ensures.bounds.few_nodes))));
       room = length-set c.loop-node.numbers.items i.0 (Some c.len.result) ∙ inv.room;
       tally = rw (pushed) (omega (arith, inv.tally, less, length_pushed met i.0));
-      waits = subst (λ ns. AreNodes a ns) (sym c.in_ok-push_met.ensures) (all_append (λ i. i < length a.nodes) rest (reverse (node_numbers (values_met (node_at g i.0)))) (rest_in a (numbers_of c.loop-node.waiting.items) rest i.0 top inv.waits) (all_reverse (λ i. i < length a.nodes) (node_numbers (values_met (node_at g i.0))) (met_there a c.args.graph.now.root i.0 c.is_finished.ensures.finished there)));
-      walk = subst (λ ns. Leads g ns (numbers_of c.push_met.new.waiting.items)) (sym pushed) (met_first g met (numbers_of c.loop-node.waiting.items) rest (numbers_of c.push_met.new.waiting.items) i.0 top (subst (λ n. i.0 < n) (sym (length-map a.nodes (node_content a))) there) new c.in_ok-push_met.ensures inv.walk);
+      waits = subst (λ ns. AreNodes a ns) (sym c.in_ok-push_met.ensures.waiting) (all_append (λ i. i < length a.nodes) rest (reverse (node_numbers (values_met (node_at g i.0)))) (rest_in a (numbers_of c.loop-node.waiting.items) rest i.0 top inv.waits) (all_reverse (λ i. i < length a.nodes) (node_numbers (values_met (node_at g i.0))) (met_there a c.args.graph.now.root i.0 c.is_finished.ensures.finished there)));
+      order = c.push_met.ensures.order;
+      walk = subst (λ ns. Leads g ns (numbers_of c.push_met.new.waiting.items)) (sym pushed) (met_first g met (numbers_of c.loop-node.waiting.items) rest (numbers_of c.push_met.new.waiting.items) i.0 top (subst (λ n. i.0 < n) (sym (length-map a.nodes (node_content a))) there) new c.in_ok-push_met.ensures.waiting inv.walk);
     }
 
 pub loop-node-smaller-in-Continue-branch-4 : goal.loop-node-smaller-in-Continue-branch-4
@@ -108,7 +111,7 @@ loop-node-smaller-in-Continue-branch-4 c =
     let held = values_met (node_at g i.0) in
     let few : length held < 536870912 = met_few a c.args.graph.now.root i.0 c.is_finished.ensures.bounds there in
     let fewer : length (node_numbers held) ≤ length held = numbers_few held in
-    let grown : length c.push_met.new.waiting.items ≡ length rest + length (node_numbers held) = sym (length-map c.push_met.new.waiting.items (λ n. n.0)) ∙ ap length c.in_ok-push_met.ensures ∙ length-append rest (reverse (node_numbers held)) ∙ ap (λ k. length rest + k) (length-reverse (node_numbers held)) in
+    let grown : length c.push_met.new.waiting.items ≡ length rest + length (node_numbers held) = sym (length-map c.push_met.new.waiting.items (λ n. n.0)) ∙ ap length c.in_ok-push_met.ensures.waiting ∙ length-append rest (reverse (node_numbers held)) ∙ ap (λ k. length rest + k) (length-reverse (node_numbers held)) in
     let one : length c.loop-node.waiting.items ≡ length rest + 1 = sym (length-map c.loop-node.waiting.items (λ n. n.0)) ∙ ap length top ∙ length-append rest (i.0 ∷ []) in
     omega (arith, less, few, fewer, grown, one)
 

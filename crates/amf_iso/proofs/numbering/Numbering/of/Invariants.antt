@@ -3,6 +3,7 @@ use Rattle.amf_graph.specs.Rooted.{content}
 use Rattle.amf_graph.specs.Renumbered.{numbers_of}
 use Rattle.amf_graph.proofs.Counting.{missing}
 use Rattle.amf_iso.specs.Numbers.{AreNumbers}
+use Rattle.amf_iso.specs.Remembered.{AreInOrder}
 use Rattle.amf_iso.proofs.Steps.{Leads, AreNodes}
 use Rattle.amf_iso.proofs.numbering.Numbering.of.Given as goal
 
@@ -12,6 +13,7 @@ invariant-loop-node l = record {
   room : length l.numbers.items ≡ length l.graph.arena.nodes;
   tally : length (numbers_of l.nodes.items) + missing (length l.graph.arena.nodes) (numbers_of l.nodes.items) ≤ length l.graph.arena.nodes;
   waits : AreNodes l.graph.arena (numbers_of l.waiting.items);
+  order : AreInOrder l.graph.arena l.order;
   walk : Leads (content l.graph) (numbers_of l.nodes.items) (numbers_of l.waiting.items);
 }
 
