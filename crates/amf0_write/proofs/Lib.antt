@@ -2,6 +2,7 @@
 pub mod WrapperNodes
 pub mod ChainEnds
 pub mod Lowers
+pub mod Standing
 pub mod MeetingSteps
 pub mod FirstReasons
 pub mod ShortNames

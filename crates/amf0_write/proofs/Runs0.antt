@@ -12,13 +12,13 @@ use Rattle.amf_graph.specs.Arena.{Arena, text_at, value_content}
 use Rattle.amf_graph.specs.Rooted.{RootedArena}
 use Rattle.amf_graph.proofs.Counting.{missing, missing_push}
 use Rattle.amf_graph.proofs.Walks.{each_left, each_right}
-use Rattle.amf_iso.specs.Contents.{pairs_of}
+use Rattle.amf_iso.specs.Contents.{values_of, pairs_of}
 use Rattle.amf0_write.specs.declared.output.Output.{Output}
 use Rattle.amf0_write.specs.declared.stop.Stop.{Stop}
 use Rattle.amf0_write.specs.declared.stop.Stop.TheVariants.{Lack}
 use Rattle.amf0_write.specs.declared.unwritten.Unwritten.{Unwritten}
 use Rattle.amf0_write.specs.Unwritten0.{run_segments, next_segments, segments_left, IsRunOf, AreRunsOf, run_turns, turns_left, Falls}
-use Rattle.amf0_write.specs.Writes0.{Segment, name, value, pairs_then, Leads, Stops}
+use Rattle.amf0_write.specs.Writes0.{Segment, name, value, values_then, pairs_then, Leads, Stops}
 use Rattle.amf0_write.proofs.Leading0.{leads_then, leads_from, leads_to, stops_behind}
 
 pub on_ok : {T E P Q : Type 0} (r : Result T E) → (P → Q) → OnOk r P → OnOk r Q
@@ -60,6 +60,9 @@ turns_pushed runs now run e = ap turns_left e ∙ turns_push runs run
 -- the last of pairs in reverse is the first
 pub pairs_popped : (a : Arena) (all rest : List (TextId × Stored)) (p : TextId × Stored) → all ≡ rest ++ p ∷ [] → pairs_then (pairs_of a (reverse all)) ≡ name (text_at a p.0.0) ∷ value (value_content a p.1) ∷ pairs_then (pairs_of a (reverse rest))
 pairs_popped a all rest p e = ap (λ w. pairs_then (pairs_of a w)) (ap reverse e ∙ reverse-append rest (p ∷ []))
+
+pub values_popped : (a : Arena) (all rest : List Stored) (v : Stored) → all ≡ rest ++ v ∷ [] → values_then (values_of a (reverse all)) ≡ value (value_content a v) ∷ values_then (values_of a (reverse rest))
+values_popped a all rest v e = ap (λ w. values_then (values_of a w)) (ap reverse e ∙ reverse-append rest (v ∷ []))
 
 pub runs_pushed : (g : RootedArena) (runs now : List Unwritten) (run : Unwritten) → now ≡ runs ++ run ∷ [] → AreRunsOf g runs → IsRunOf g run → AreRunsOf g now
 runs_pushed g runs now run e h k = subst (λ w. AreRunsOf g w) (sym e) (each_append (IsRunOf g) runs (run ∷ []) h (k, tt))

@@ -7,3 +7,4 @@ pub mod Meetings
 pub mod Searched
 pub mod Writes0
 pub mod Unwritten0
+pub mod Stood

@@ -14,7 +14,7 @@ use Rattle.amf_graph.specs.Rooted.{RootedArena, content}
 use Rattle.amf_iso.specs.Contents.{values_of, pairs_of, ArePairs}
 use Rattle.amf0_spelling.specs.Lacks0.{IsShortName}
 use Rattle.amf0_write.specs.declared.unwritten.Unwritten.{Unwritten}
-use Rattle.amf0_write.specs.declared.unwritten.Unwritten.TheVariants.{One, Values, Pairs, Sorted}
+use Rattle.amf0_write.specs.declared.unwritten.Unwritten.TheVariants.{One, Values, Made, Pairs, Sorted}
 use Rattle.amf0_write.specs.declared.output.Output.{Output}
 use Rattle.amf0_write.specs.Writes0.{Segment, value, values_then, pairs_then, Leads, Stops, Opened}
 
@@ -22,6 +22,7 @@ use Rattle.amf0_write.specs.Writes0.{Segment, value, values_then, pairs_then, Le
 abbrev pub run_segments : Arena → Unwritten → List Segment
 run_segments a (One v) = value (value_content a v) ∷ []
 run_segments a (Values vs) = values_then (values_of a vs.now)
+run_segments a (Made vs) = values_then (values_of a (reverse vs.items))
 run_segments a (Pairs ps) = pairs_then (pairs_of a ps.now)
 run_segments a (Sorted ps) = pairs_then (pairs_of a (reverse ps.items))
 
@@ -60,6 +61,7 @@ IsNextOf g done (Some n) = IsMetValue g (NodeRef n) × Absent done n.0
 abbrev pub IsRunOf : RootedArena → Unwritten → Type 0
 IsRunOf g (One v) = IsMetValue g v
 IsRunOf g (Values vs) = AllByRecursion (IsMetValue g) vs.now
+IsRunOf g (Made vs) = AllByRecursion (IsMetValue g) vs.items
 IsRunOf g (Pairs ps) = AllByRecursion (IsMetPair g) ps.now
 IsRunOf g (Sorted ps) = AllByRecursion (IsMetPair g) ps.items
 
@@ -70,6 +72,7 @@ AreRunsOf g runs = AllByRecursion (IsRunOf g) runs
 abbrev pub run_turns : Unwritten → ℕ
 run_turns (One v) = 1
 run_turns (Values vs) = 1 + length vs.now
+run_turns (Made vs) = 1 + length vs.items
 run_turns (Pairs ps) = 1 + length ps.now
 run_turns (Sorted ps) = 1 + length ps.items
 

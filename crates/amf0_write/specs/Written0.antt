@@ -5,7 +5,9 @@ use Rattle.amf_wire.specs.Style.{canonical}
 use Rattle.amf_graph.specs.Graph.{Value, Graph, node_at}
 use Rattle.amf_graph.specs.Order.{IsDistinct}
 use Rattle.amf3_spelling.specs.Tables.{Tables}
-use Rattle.amf0_spelling.specs.Lacks0.{enters0, is_loose0, entered}
+use Rattle.amf_graph.specs.declared.lack.LackKind.{LackKind}
+use Rattle.amf0_spelling.specs.Lacks0.{enters0, is_loose0, entered, IsLack0}
+use Rattle.amf0_spelling.specs.Lowered.{IsLoweringOf}
 use Rattle.amf0_spelling.specs.Spells0.{Spells0, IsSpelling0}
 use Rattle.amf0_spelling.specs.Tables0.{Tables0}
 
@@ -27,3 +29,11 @@ pub record AreTables0 (g : Graph) (t : Tables0) : Type 0 where
   pub outside : List ℕ
   pub level : outside ++ t.nodes ≡ entered g t.amf3.done
   pub loose : (k i : ℕ) → slice_get t.amf3.done k ≡ Some i → enters0 (node_at g i).head ≡ false → is_loose0 (node_at g i).head ≡ true
+
+-- the bytes of the canonical spelling of what the graph is when it is lowered
+abbrev pub AppendsLowered0 : Graph → List ℕ → List ℕ → Type 0
+AppendsLowered0 g old new = (low : Graph) × IsLoweringOf g low × AppendsCanonical0 low old new
+
+-- the first node of the lowering that has no spelling, and why
+abbrev pub IsLoweredLack0 : Graph → ℕ → LackKind → Type 0
+IsLoweredLack0 g number kind = (low : Graph) × IsLoweringOf g low × IsLack0 low number kind

@@ -2,7 +2,7 @@ ghost use Rattle.std.specs.Prelude.{◌≡◌, ℕ, ◌+◌, ◌<◌, true, fals
 ghost use Rattle.std.specs.List.{AllByRecursion};
 ghost use Rattle.amf_graph.specs.Arena.{Names, value_content};
 ghost use Rattle.amf_graph.specs.Graph as graph_of_values;
-ghost use Rattle.amf_graph.specs.Graph.{node_at};
+ghost use Rattle.amf_graph.specs.Graph.{node_at, IsPattern};
 ghost use Rattle.amf_graph.specs.Rooted.{RootedArena, content};
 ghost use Rattle.amf_wire.specs.Integer.{IsInteger};
 ghost use Rattle.amf_wire.specs.Whole.{IsPatternOf};
@@ -116,9 +116,10 @@ fn chain_ends(alloc: Global, graph: &Rooted) -> Result<Vec<Value>, Memory>
 }
 
 /// The double that is this integer.
-fn double_of(integer: i32) -> Pattern
+pub(crate) fn double_of(integer: i32) -> Pattern
     requires { IsInteger integer }
-    ensures { IsPatternOf result.0 integer }
+    ensures pattern { IsPatternOf result.0 integer }
+    ensures fits { IsPattern result.0 }
 {
     match pattern_of(integer as i64) {
         Some(pattern) => pattern,

@@ -3,6 +3,9 @@
 
 mod chains;
 mod first_lack;
+mod low_node;
+mod low_open;
+mod lowered;
 mod lowering;
 mod meeting;
 mod meetings;
@@ -17,4 +20,4 @@ mod write;
 
 pub use first_lack::first_lack0;
 pub use lowering::lower;
-pub use write::{write0, write0_part};
+pub use write::{write_lowered0, write0, write0_part};

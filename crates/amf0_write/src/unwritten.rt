@@ -13,9 +13,10 @@ ghost use Rattle.amf0_write.specs.Writes0 as segment;
 ghost use Rattle.amf0_write.specs.Writes0.{tables_of, done_of, Still, Leads, Keeps};
 ghost use Rattle.amf0_write.specs.Written0.{AreTables0};
 
+use crate::lowered::Lowered;
 use crate::output::Output;
 use crate::stop::Stop;
-use amf_graph::{NodeId, Rooted, TextId, Value};
+use amf_graph::{NodeId, TextId, Value};
 use amf_wire::Memory;
 
 /// A run of what is still to be written, within one node.
@@ -25,6 +26,8 @@ pub(crate) enum Unwritten<'g> {
     One(Value),
     /// Values, one after another.
     Values(&'g [Value]),
+    /// Values that were made, from the last to the first.
+    Made(Vec<Value>),
     /// Pairs as they stand, ended by the empty name and the marker of the end (2.5, 2.10).
     Pairs(&'g [(TextId, Value)]),
     /// Pairs that were sorted, from the last to the first, ended in the same way.
@@ -37,7 +40,7 @@ impl Output {
     pub(crate) fn run<'g>(
         &mut self,
         run: Unwritten<'g>,
-        graph: &'g Rooted,
+        graph: &'g Lowered<'g>,
         waiting: &mut Vec<Unwritten<'g>>,
     ) -> Result<Option<NodeId>, Stop>
         requires low { IsLowered (content graph.now) }
@@ -55,6 +58,7 @@ impl Output {
         match run {
             Unwritten::One(value) => self.whole(value, graph),
             Unwritten::Values(values) => self.values(values, graph, waiting),
+            Unwritten::Made(values) => self.made(values, graph, waiting),
             Unwritten::Pairs(pairs) => self.pairs(pairs, graph, waiting),
             Unwritten::Sorted(pairs) => self.sorted(pairs, graph, waiting),
         }
@@ -64,7 +68,7 @@ impl Output {
     fn values<'g>(
         &mut self,
         values: &'g [Value],
-        graph: &'g Rooted,
+        graph: &'g Lowered<'g>,
         waiting: &mut Vec<Unwritten<'g>>,
     ) -> Result<Option<NodeId>, Stop>
         requires low { IsLowered (content graph.now) }
@@ -90,11 +94,39 @@ impl Output {
         Ok(None)
     }
 
+    /// Values from the last to the first.
+    fn made<'g>(
+        &mut self,
+        mut values: Vec<Value>,
+        graph: &'g Lowered<'g>,
+        waiting: &mut Vec<Unwritten<'g>>,
+    ) -> Result<Option<NodeId>, Stop>
+        requires low { IsLowered (content graph.now) }
+        requires run { AllByRecursion (IsMetValue graph.now) values.items }
+        requires tables { AreTables0 (content graph.now) (tables_of self.old) }
+        ensures leads { IfOk result (λ next. LeadsToNext graph.now (values_ahead graph.now.arena (reverse values.items)) waiting.old.items waiting.new.items next self.old self.new) }
+        ensures lack { IsErrOf result Lack → StopsWithin graph.now (values_ahead graph.now.arena (reverse values.items)) waiting.old.items self.old }
+        ensures next { IfOk result (IsNextOf graph.now (done_of self.new)) }
+        ensures runs { AreRunsOf graph.now waiting.old.items → OnOk result (AreRunsOf graph.now waiting.new.items) }
+        ensures turns { OnOk result (turns_left waiting.new.items ≤ length values.items + turns_left waiting.old.items) }
+        ensures still { OnOk result (Still self.old self.new) }
+        ensures stopped { IsErrOf result Lack → Still self.old self.new }
+        ensures keeps { Keeps self.old self.new }
+    {
+        while let Some(value) = values.pop() {
+            if let Some(node) = self.whole(value, graph)? {
+                waiting.push(Unwritten::Made(values))?;
+                return Ok(Some(node));
+            }
+        }
+        Ok(None)
+    }
+
     /// Pairs as they stand: each name, and then its value, and the end behind them.
     fn pairs<'g>(
         &mut self,
         pairs: &'g [(TextId, Value)],
-        graph: &'g Rooted,
+        graph: &'g Lowered<'g>,
         waiting: &mut Vec<Unwritten<'g>>,
     ) -> Result<Option<NodeId>, Stop>
         requires low { IsLowered (content graph.now) }
@@ -127,7 +159,7 @@ impl Output {
     fn sorted<'g>(
         &mut self,
         mut pairs: Vec<(TextId, Value)>,
-        graph: &'g Rooted,
+        graph: &'g Lowered<'g>,
         waiting: &mut Vec<Unwritten<'g>>,
     ) -> Result<Option<NodeId>, Stop>
         requires low { IsLowered (content graph.now) }
@@ -155,7 +187,7 @@ impl Output {
 
     /// A name.
     #[inline]
-    fn name(&mut self, name: TextId, graph: &Rooted) -> Result<(), Memory>
+    fn name(&mut self, name: TextId, graph: &Lowered<'_>) -> Result<(), Memory>
         requires there { name.0 < length graph.now.arena.texts }
         requires fits { IsShortName (text_at graph.now.arena name.0) }
         ensures leads { OnOk result ((ps : List segment.Segment) → Leads (content graph.now) (segment.name (text_at graph.now.arena name.0) ∷ ps) ps self.old self.new) }

@@ -15,6 +15,8 @@ ghost use Rattle.amf0_write.specs.Writes0 as segment;
 ghost use Rattle.amf0_write.specs.Writes0.{tables_of, done_of, IsLeafSpelled, Adds, AddsBy, Still, Grown, Leads, Keeps, Stops};
 ghost use Rattle.amf0_write.specs.Written0.{AreTables0};
 
+use crate::low_node::LowNode;
+use crate::lowered::Lowered;
 use crate::nodes::{has_no_form, has_short_names};
 use crate::output::Output;
 use crate::stop::Stop;
@@ -30,7 +32,7 @@ pub(crate) const FAR: u32 = 65_536;
 
 impl Output {
     /// A value of a lowered graph, and all to which it leads that has not been written (2.2 to 2.18).
-    pub(crate) fn value(&mut self, value: Value, graph: &Rooted) -> Result<(), Stop>
+    pub(crate) fn value<'g>(&mut self, value: Value, graph: &'g Lowered<'g>) -> Result<(), Stop>
         requires low { IsLowered (content graph.now) }
         requires met { IsMetValue graph.now value }
         requires tables { AreTables0 (content graph.now) (tables_of self.old) }
@@ -52,7 +54,11 @@ impl Output {
     /// Writes a value that is whole where it starts: one that is no node, or a node by its index. A node that has not been
     /// written is given back. It stops at one that was, and that no index can say.
     #[inline(always)]
-    pub(crate) fn whole(&mut self, value: Value, graph: &Rooted) -> Result<Option<NodeId>, Stop>
+    pub(crate) fn whole(
+        &mut self,
+        value: Value,
+        graph: &Lowered<'_>,
+    ) -> Result<Option<NodeId>, Stop>
         requires low { IsLowered (content graph.now) }
         requires met { IsMetValue graph.now value }
         requires tables { AreTables0 (content graph.now) (tables_of self.old) }
@@ -74,7 +80,7 @@ impl Output {
 
     /// A value that is no node.
     #[inline(always)]
-    fn plain(&mut self, value: Value, graph: &Rooted) -> Result<(), Memory>
+    fn plain(&mut self, value: Value, graph: &Lowered<'_>) -> Result<(), Memory>
         requires low { IsLowered (content graph.now) }
         requires met { IsMetValue graph.now value }
         requires leaf { (n : NodeId) → value ≢ NodeRef n }
@@ -156,6 +162,36 @@ impl Output {
     /// A node that has not been written, up to its first value. It stops where the node has no form, or a name that is too
     /// long.
     fn new_node<'g>(
+        &mut self,
+        node: NodeId,
+        graph: &'g Lowered<'g>,
+        waiting: &mut Vec<Unwritten<'g>>,
+    ) -> Result<(), Stop>
+        requires low { IsLowered (content graph.now) }
+        requires met { IsMetValue graph.now (NodeRef node) }
+        requires new { Absent (done_of self.old) node.0 }
+        requires runs { AreRunsOf graph.now waiting.old.items }
+        ensures leads { OnOk result (LeadsToRest graph.now (segment.value (graph_of_values.node node.0) ∷ []) waiting.old.items waiting.new.items self.old self.new) }
+        ensures lack { IsErrOf result Lack → StopsWithin graph.now (segment.value (graph_of_values.node node.0) ∷ []) waiting.old.items self.old }
+        ensures still { IsErrOf result Lack → Still self.old self.new }
+        ensures runs { OnOk result (AreRunsOf graph.now waiting.new.items) }
+        ensures falls { OnOk result (Falls (length graph.now.arena.nodes) (done_of self.old) (done_of self.new) (turns_left waiting.old.items) (turns_left waiting.new.items)) }
+        ensures keeps { Keeps self.old self.new }
+    {
+        match graph.node(self.alloc, node)? {
+            LowNode::AsItStands(graph) => self.stored_node(node, graph, waiting),
+            LowNode::NoForm => Err(Stop::Lack),
+            LowNode::Date(milliseconds) => self.low_date(node, milliseconds, graph, waiting),
+            LowNode::XmlDocument(text) => self.low_document(node, text, graph, waiting),
+            LowNode::Array(items, names) => self.low_array(node, items, names, graph, waiting),
+            LowNode::Object(traits, members) => {
+                self.low_object(node, traits, members, graph, waiting)
+            }
+        }
+    }
+
+    /// A node of a graph that is seen as it stands.
+    fn stored_node<'g>(
         &mut self,
         node: NodeId,
         graph: &'g Rooted,

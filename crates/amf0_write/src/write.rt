@@ -11,9 +11,11 @@ ghost use Rattle.amf0_write.specs.declared.stop.Stop.TheVariants.{Lack as Stoppe
 ghost use Rattle.amf0_write.specs.PartLacks0.{IsPartLack0};
 ghost use Rattle.amf0_write.specs.Searched.{HasPartLack0, HasLackBehind, IsLackBehind, AreGrownTables, HaveGrown};
 ghost use Rattle.amf0_write.specs.Unwritten0.{IsMetValue};
-ghost use Rattle.amf0_write.specs.Written0.{tables0, AreTables0, AppendsCanonical0, AppendsPart0};
+ghost use Rattle.amf0_write.specs.Written0.{tables0, AreTables0, AppendsCanonical0, AppendsPart0, AppendsLowered0, IsLoweredLack0};
 ghost use Rattle.amf_graph.specs.Bounds.{count_end};
 
+use crate::lowered::Lowered;
+use crate::lowering::lower;
 use crate::meeting::meetings_before;
 use crate::output::Output;
 use crate::part_lack::part_lack;
@@ -25,9 +27,9 @@ use std::alloc::Global;
 
 /// Appends the canonical case of a value, from the tables of what is written before it, and tells the nodes that were entered
 /// without a place. After an end `out` is as before. It stops where the value leads to a lack.
-fn write_value(
+fn write_value<'g>(
     alloc: Global,
-    graph: &Rooted,
+    graph: &'g Lowered<'g>,
     value: Value,
     tables: &mut WriterTables,
     loose: &mut Vec<NodeId>,
@@ -94,7 +96,8 @@ pub fn write0_part(
 {
     let count = tables.node_count();
     let mut loose = Vec::new(alloc);
-    match write_value(alloc, graph, value, tables, &mut loose, out) {
+    let seen = Lowered::as_it_stands(alloc, graph);
+    match write_value(alloc, &seen, value, tables, &mut loose, out) {
         Ok(()) => Ok(()),
         Err(Stop::Memory) => Err(WriteEnd::Memory),
         Err(Stop::Lack) => {
@@ -117,4 +120,44 @@ pub fn write0(alloc: Global, graph: &Rooted, out: &mut Vec<u8>) -> Result<(), Wr
     graph.is_finished();
     let mut tables = WriterTables::new(alloc)?;
     write0_part(alloc, graph, graph.root(), &mut tables, out)
+}
+
+/// Appends the canonical case of the root of a lowering. It stops where there is none.
+fn write_seen<'g>(alloc: Global, graph: &'g Lowered<'g>, out: &mut Vec<u8>) -> Result<(), Stop>
+    requires { IsLowered (content graph.now) }
+    ensures written { OnOk result (AppendsCanonical0 (content graph.now) out.old.items out.new.items) }
+    ensures untouched { OnErr result (out.new.items ≡ out.old.items) }
+{
+    graph.is_finished();
+    let mut tables = WriterTables::new(alloc)?;
+    let mut loose = Vec::new(alloc);
+    write_value(alloc, graph, graph.root(), &mut tables, &mut loose, out)
+}
+
+/// Appends the canonical spelling of a lowered copy of a graph.
+fn write_copied(alloc: Global, graph: &Rooted, out: &mut Vec<u8>) -> Result<(), WriteEnd>
+    ensures written { OnOk result (AppendsLowered0 (content graph.now) out.old.items out.new.items) }
+    ensures lack { (l : Lack) → IsErrOf result (WriteEnd.NoSpelling l) → IsLoweredLack0 (content graph.now) l.node l.kind }
+    ensures untouched { OnErr result (out.new.items ≡ out.old.items) }
+{
+    let low = lower(alloc, graph)?;
+    write0(alloc, &low, out)
+}
+
+/// Appends the canonical spelling of what a graph is when it is lowered, and makes no lowered copy of it, unless there is no
+/// spelling: then the copy tells the first lack.
+///
+/// After an end `out` is as before. `NoSpelling` comes only where the lowering has no canonical spelling, and tells its first
+/// lack; `Memory` where there is no room for a value of each node, for the tables or the bytes.
+pub fn write_lowered0(alloc: Global, graph: &Rooted, out: &mut Vec<u8>) -> Result<(), WriteEnd>
+    ensures written { OnOk result (AppendsLowered0 (content graph.now) out.old.items out.new.items) }
+    ensures lack { (l : Lack) → IsErrOf result (WriteEnd.NoSpelling l) → IsLoweredLack0 (content graph.now) l.node l.kind }
+    ensures untouched { OnErr result (out.new.items ≡ out.old.items) }
+{
+    let seen = Lowered::of(alloc, graph)?;
+    match write_seen(alloc, &seen, out) {
+        Ok(()) => Ok(()),
+        Err(Stop::Memory) => Err(WriteEnd::Memory),
+        Err(Stop::Lack) => write_copied(alloc, graph, out),
+    }
 }

@@ -1,16 +1,16 @@
-ghost use Rattle.std.specs.Prelude.{ℕ, IfOk};
+ghost use Rattle.std.specs.Prelude.{ℕ, IfOk, OnOk};
 ghost use Rattle.std.specs.Result.{IsErrOf};
 ghost use Rattle.amf_graph.specs.declared.lack.Lack.{Lack};
 ghost use Rattle.amf_graph.specs.Rooted.{content as graph_of};
-ghost use Rattle.amf0_spelling.specs.Lowered.{IsLowered};
+ghost use Rattle.amf0_write.specs.Written0.{AppendsLowered0, IsLoweredLack0};
 ghost use Rattle.amf3_spelling.specs.Lacks3.{IsLack3};
 ghost use Rattle.amf3_spelling.specs.Spells3.{Spelled3};
 ghost use Rattle.amf_packet.specs.Content.{packet_of};
 ghost use Rattle.amf_sol.specs.StoredFile.{shared};
 ghost use Rattle.amf_wire.specs.Style.{canonical};
 ghost use Rattle.amf_commands.specs.declared.format.Format.TheVariants as form;
-ghost use Rattle.amf_commands.specs.Content.{Content as Whole, content_of, value as of_graph, packet as of_packet, file as of_file};
-ghost use Rattle.amf_commands.specs.Formats.{IsFitted, IsWritten, IsUnwritten};
+ghost use Rattle.amf_commands.specs.Content.{content_of, value as of_graph, packet as of_packet, file as of_file};
+ghost use Rattle.amf_commands.specs.Formats.{IsWritten, IsUnwritten};
 ghost use Rattle.amf_commands.specs.ReadContent.{IsSpellable, IsPacketReady, IsOfValues};
 
 use crate::content::Content;
@@ -20,7 +20,7 @@ use amf_listings::{file_has_lowering, packet_has_lowering};
 use amf_packet::{Packet, PacketEnd, write_packet_keyed};
 use amf_sol::{SharedObject, write_sol_keyed};
 use amf0_kinds::has_only_kinds0;
-use amf0_write::{lower, write0};
+use amf0_write::{write_lowered0, write0};
 use amf3_write::write3_keyed;
 use std::alloc::Global;
 use std::hash::RandomState;
@@ -141,31 +141,27 @@ fn spell_file(
     }
 }
 
-/// The canonical spelling in AMF 0 of a graph that is a lowering.
-fn spell_low(alloc: Global, low: &Rooted) -> Result<Vec<u8>, WriteEnd>
-    requires { IsLowered (graph_of low.now) }
-    ensures written { (c : Whole) → IsFitted form.Amf0 c (of_graph (graph_of low.now)) → IfOk result (λ bytes. IsWritten form.Amf0 c bytes.items) }
-    ensures lack { (c : Whole) (l : Lack) → IsFitted form.Amf0 c (of_graph (graph_of low.now)) → IsErrOf result (WriteEnd.NoSpelling l) → IsUnwritten form.Amf0 c 0 l }
+/// Appends the canonical spelling in AMF 0 of what a graph is when it is lowered. A graph that has the kinds of nodes and
+/// values of AMF 0 alone is written as it stands.
+fn append0(alloc: Global, graph: &Rooted, out: &mut Vec<u8>) -> Result<(), WriteEnd>
+    ensures written { OnOk result (AppendsLowered0 (graph_of graph.now) out.old.items out.new.items) }
+    ensures lack { (l : Lack) → IsErrOf result (WriteEnd.NoSpelling l) → IsLoweredLack0 (graph_of graph.now) l.node l.kind }
 {
-    let mut bytes = Vec::new(alloc);
-    match write0(alloc, low, &mut bytes) {
-        Ok(()) => Ok(bytes),
-        Err(end) => Err(end),
+    if has_only_kinds0(graph) {
+        return write0(alloc, graph, out);
     }
+    write_lowered0(alloc, graph, out)
 }
 
-/// The canonical spelling of a graph in AMF 0, in the kinds of nodes and values that it has. What is lowered is a lowered graph
-/// (`lowering_is_lowered`), and a graph that has those kinds alone is written as it stands.
+/// The canonical spelling of a graph in AMF 0, in the kinds of nodes and values that it has.
 fn spell0(alloc: Global, graph: &Rooted) -> Result<Vec<u8>, WriteEnd>
     ensures written { IfOk result (λ bytes. IsWritten form.Amf0 (of_graph (graph_of graph.now)) bytes.items) }
     ensures lack { (l : Lack) → IsErrOf result (WriteEnd.NoSpelling l) → IsUnwritten form.Amf0 (of_graph (graph_of graph.now)) 0 l }
 {
-    if has_only_kinds0(graph) {
-        return spell_low(alloc, graph);
-    }
-    match lower(alloc, graph) {
-        Ok(low) => spell_low(alloc, &low),
-        Err(_) => Err(WriteEnd::Memory),
+    let mut bytes = Vec::new(alloc);
+    match append0(alloc, graph, &mut bytes) {
+        Ok(()) => Ok(bytes),
+        Err(end) => Err(end),
     }
 }
 

@@ -7,7 +7,7 @@ use amf_fixtures::{graph0, graph3};
 use amf_graph::{Lack, LackKind, Rooted, WriteEnd};
 use amf_test_rows::{Row, Table};
 use amf_wire::{U29, write_u29};
-use amf0_write::{first_lack0, lower, write0, write0_part};
+use amf0_write::{first_lack0, lower, write_lowered0, write0, write0_part};
 use std::alloc::Global;
 use std::process::Abort;
 
@@ -48,8 +48,8 @@ fn write_twice(
     }
 }
 
-/// The format of a value and its bytes, and what is written of it behind a byte, or its least lack: `graph` whole, and
-/// `parts` where the root is written as two parts.
+/// The format of a value and its bytes, and what is written of it behind a byte, or its least lack: `graph` whole, of the
+/// lowered copy and without a copy, and `parts` where the root is written as two parts.
 static WRITTEN: Table = Table {
     rows: 17,
     fields: 5,
@@ -116,6 +116,9 @@ fn are_bytes(rt: &impl Abort, alloc: Global, row: Row<'_>, out: &[u8]) {
 fn is_written(rt: &impl Abort, alloc: Global, row: Row<'_>) {
     let graph = graph_in(rt, alloc, row);
     graph_is_written(rt, alloc, row, &graph);
+    if field(rt, row, 0) == "graph" {
+        is_written_without_copy(rt, alloc, row, &graph);
+    }
 }
 
 fn graph_is_written(rt: &impl Abort, alloc: Global, row: Row<'_>, graph: &Rooted) {
@@ -124,8 +127,19 @@ fn graph_is_written(rt: &impl Abort, alloc: Global, row: Row<'_>, graph: &Rooted
         "parts" => write_twice(rt, alloc, graph, &mut out),
         _ => write_lowered(rt, alloc, graph, &mut out),
     };
+    is_end(rt, alloc, row, end, &out);
+}
+
+fn is_written_without_copy(rt: &impl Abort, alloc: Global, row: Row<'_>, graph: &Rooted) {
+    let mut out = vec![in alloc; 0xAA].expect(rt, "memory");
+    let end = write_lowered0(alloc, graph, &mut out);
+    is_end(rt, alloc, row, end, &out);
+}
+
+/// Compares how a writer ended, and what it wrote, with what the row says.
+fn is_end(rt: &impl Abort, alloc: Global, row: Row<'_>, end: Result<(), WriteEnd>, out: &[u8]) {
     match end {
-        Ok(()) => are_bytes(rt, alloc, row, &out),
+        Ok(()) => are_bytes(rt, alloc, row, out),
         Err(end) => is_lacking(rt, alloc, row, end),
     }
 }

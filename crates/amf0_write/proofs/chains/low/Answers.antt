@@ -32,7 +32,7 @@ returns-in-Integer-clause-low c = λ steps i e o.
     let p = c.double_of.result in
     let is : wraps (content g) (value_content g.arena c.args.end) ≡ false = sym c.wraps.ensures ∙ c.if-wraps.false in
     let own : IsInteger n = subst (Names g.arena) c.in-Integer.is c.requires in
-    let pattern : IsPatternOf p.0 n = subst (IsPatternOf p.0) (to_z-of_z w32 n (fits_wide n own)) c.double_of.ensures in
+    let pattern : IsPatternOf p.0 n = subst (IsPatternOf p.0) (to_z-of_z w32 n (fits_wide n own)) c.double_of.ensures.pattern in
     low_end g steps i c.args.end (Double p) e is (subst (λ v. LowPlain (value_content g.arena v) (leaf (double p.0))) (sym c.in-Integer.is) (p.0, pattern, refl))
 
 pub returns-in_default : goal.returns-in_default

@@ -1,22 +1,16 @@
-use Rattle.amf_graph.specs.Rooted.{content}
-use Rattle.amf0_spelling.proofs.LoweredLow.{lowering_is_lowered}
+use Rattle.std.proofs.Common.{◌≡◌, ◌++◌, Err, refl, ap, ◌∙◌}
+use Rattle.amf_io.specs.Field.{flat}
+use Rattle.amf_graph.specs.declared.write_end.WriteEnd.TheVariants.{NoSpelling}
 use Rattle.amf_commands.specs.Content.{value}
 use Rattle.amf_commands.proofs.spelling.spell0.Goals as goal
 
-pub spell_low-requires : goal.spell_low-requires
-spell_low-requires c = let g = content c.args.graph.now in lowering_is_lowered g g (c.has_only_kinds0.ensures.own c.if-has_only_kinds0.true)
-
-pub returns-then-has_only_kinds0-clause-written : goal.returns-then-has_only_kinds0-clause-written
-returns-then-has_only_kinds0-clause-written c = c.spell_low.ensures.written (value (content c.args.graph.now)) (c.has_only_kinds0.ensures.own c.if-has_only_kinds0.true)
-
-pub returns-then-has_only_kinds0-clause-lack : goal.returns-then-has_only_kinds0-clause-lack
-returns-then-has_only_kinds0-clause-lack c = λ l is. c.spell_low.ensures.lack (value (content c.args.graph.now)) l (c.has_only_kinds0.ensures.own c.if-has_only_kinds0.true) is
-
-pub spell_low-requires-in-Ok : goal.spell_low-requires-in-Ok
-spell_low-requires-in-Ok c = lowering_is_lowered (content c.args.graph.now) (content c.in-Ok.low) c.in-Ok.ensures
-
 pub returns-in-Ok-clause-written : goal.returns-in-Ok-clause-written
-returns-in-Ok-clause-written c = c.spell_low-in-Ok.ensures.written (value (content c.args.graph.now)) c.in-Ok.ensures
+returns-in-Ok-clause-written c =
+    let w = c.in-Ok.ensures.written in
+    (value w.0, w.1, (w.2.0, w.2.1, w.2.2 ∙ ap (λ o. o ++ flat w.2.0) c.new-bytes.ensures.items))
 
-pub returns-in-Ok-clause-lack : goal.returns-in-Ok-clause-lack
-returns-in-Ok-clause-lack c = λ l is. c.spell_low-in-Ok.ensures.lack (value (content c.args.graph.now)) l c.in-Ok.ensures is
+pub returns-in-Err-clause-lack : goal.returns-in-Err-clause-lack
+returns-in-Err-clause-lack c = λ l is.
+    let e : c.in-Err.end ≡ NoSpelling l = cc in
+    let w = c.in-Err.ensures.lack l (ap Err e) in
+    (value w.0, w.1, (refl, w.2))

@@ -14,6 +14,15 @@ returns-in-Values-clause-leads c = rw (c.in-Values.is) c.values.ensures.leads
 pub returns-in-Values-clause-lack : goal.returns-in-Values-clause-lack
 returns-in-Values-clause-lack c = rw (c.in-Values.is) c.values.ensures.lack
 
+pub made-requires-clause-run : goal.made-requires-clause-run
+made-requires-clause-run c = subst (λ run. IsRunOf c.args.graph.now run) c.in-Made.is c.requires.run
+
+pub returns-in-Made-clause-leads : goal.returns-in-Made-clause-leads
+returns-in-Made-clause-leads c = rw (c.in-Made.is) c.made.ensures.leads
+
+pub returns-in-Made-clause-lack : goal.returns-in-Made-clause-lack
+returns-in-Made-clause-lack c = rw (c.in-Made.is) c.made.ensures.lack
+
 pub pairs-requires-clause-run : goal.pairs-requires-clause-run
 pairs-requires-clause-run c = subst (λ run. IsRunOf c.args.graph.now run) c.in-Pairs.is c.requires.run
 
