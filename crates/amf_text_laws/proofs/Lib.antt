@@ -9,4 +9,5 @@ pub mod CallPlaces
 pub mod Verdicts
 pub mod Sizes
 pub mod TokenSizes
+pub mod Weights
 pub mod TextBounds

@@ -1,10 +1,11 @@
 -- A value has no more parts than its JSON has bytes.
-use Rattle.std.proofs.Common.{◌≡◌, ℕ, suc, ◌+◌, ◌≤◌, Bool, true, false, List, [], ◌∷◌, ◌++◌, length, Option, Some, None, refl, arith}
+use Rattle.std.proofs.Common.{◌≡◌, ℕ, suc, ◌+◌, ◌≤◌, Bool, true, false, cond, if◌then◌else◌, List, [], ◌∷◌, ◌++◌, length, Option, Some, None, ℤ, refl, ap, arith}
 use Rattle.std.specs.Prelude.{⊤, option_map, option_and_then, codes, bytes_eq}
+use Rattle.std.proofs.lemmas.List.{append_assoc, append-nil}
 use Rattle.json.specs.Json.{Json, no_items, no_members, item, member, Items, Members}
 use Rattle.json.specs.Json as json
 use Rattle.json.specs.Tree.{json_tokens, items_tokens, members_tokens}
-use Rattle.json.specs.Token.{Token}
+use Rattle.json.specs.Token.{Token, begin_object, end_object, begin_array, end_array, key, bad}
 use Rattle.amf_wire.specs.Text.{is_text}
 use Rattle.amf_wire.specs.WholeNumbers.{whole_of}
 use Rattle.amf_graph.specs.declared.wrapped.Wrapped.{Wrapped}
@@ -13,13 +14,23 @@ use Rattle.amf_graph.specs.Graph as graph
 use Rattle.amf_graph.specs.Graph.{Traits, Head}
 use Rattle.amf_text.specs.Tags.{Tag, tag_of}
 use Rattle.amf_text.specs.Tags as tag
-use Rattle.amf_text.specs.Scalars.{Reads}
+use Rattle.amf_text.specs.Scalars.{Reads, is_small}
 use Rattle.amf_text.specs.Told.{is_rising}
 use Rattle.amf_text.specs.Meant.{Tree, said, called, body, mixed, Trees, no_trees, tree, Named, no_named, named, keys_of, trees_of, hex_pair, unhex, if_text, bytes_meant, text_meant, pattern_meant, as_integer, whole_meant, fits_int, fits_uint, flag_meant, last_flag, true_meant, label_meant, each, list_meant, name_meant, are_new, class_names, if_true, Begun, traits_with, object_body, rising_body, are_those, mixed_body, entry, both, ints_meant, uints_meant, if_last, simple_body, plain_object, meant, items_meant, values_meant, members_meant, keys_meant, pairs_meant, entries_meant, dictionary_meant, plain_meant, object_meant, array_names, fixed_meant, typed_meant, class_meant, begun_meant, sealed_meant, mixed_meant}
 use Rattle.amf_text.proofs.IfThere.{Each, each_from, then_each, map_each, if_each}
 use Rattle.amf_text.proofs.WholeTrees.{last_each}
 use Rattle.amf_text.proofs.CompleteMembers.{by_tag, plain_by, fixed_by, is_dynamic, not_dynamic, class_by, begun_by}
-use Rattle.amf_text_laws.specs.TextBounds.{names_size, head_size, tokens_size}
+use Rattle.amf_text_laws.specs.TextBounds.{names_size, leaf_weight, token_size}
+
+-- An array of n items has n - 1 commas, and where it has none it has two brackets all the same.
+
+abbrev count : Items → ℕ
+count no_items = 0
+count (item j js) = suc (count js)
+
+abbrev room : Items → ℕ
+room no_items = 1
+room (item j js) = suc (count js)
 
 abbrev mutual
   pub json_size : Json → ℕ
@@ -27,7 +38,7 @@ abbrev mutual
   json_size (json.boolean b) = 1
   json_size (json.number s) = 1
   json_size (json.string s) = 2 + length s
-  json_size (json.array js) = suc (items_size js)
+  json_size (json.array js) = room js + items_size js
   json_size (json.object ms) = suc (members_size ms)
 
   pub items_size : Items → ℕ
@@ -38,26 +49,47 @@ abbrev mutual
   members_size no_members = 1
   members_size (member k j ms) = 3 + length k + (json_size j + members_size ms)
 
-size_both : (a b : List Token) → tokens_size (a ++ b) ≡ tokens_size a + tokens_size b
-size_both [] b = omega arith
-size_both (t ∷ a) b = omega (arith, size_both a b)
+-- What tokens and the commas between them take: a comma stands where one token ends a value and the next begins another.
+
+abbrev pub begins : Token → ℕ
+begins end_object = 0
+begins end_array = 0
+begins bad = 0
+begins _ = 1
+
+abbrev pub ends : Token → Bool
+ends begin_object = false
+ends begin_array = false
+ends (key s) = false
+ends _ = true
+
+abbrev pub spaced : Bool → List Token → ℕ
+spaced after [] = 0
+spaced after (t ∷ ts) = token_size t + (cond after (begins t) 0 + spaced (ends t) ts)
 
 mutual
-  pub json_is : (j : Json) → tokens_size (json_tokens j) ≡ json_size j
-  json_is json.null = refl
-  json_is (json.boolean b) = refl
-  json_is (json.number s) = refl
-  json_is (json.string s) = omega arith
-  json_is (json.array js) = omega (arith, items_is js)
-  json_is (json.object ms) = omega (arith, members_is ms)
+  json_in : (b : Bool) (j : Json) (rest : List Token) → cond b 1 0 + json_size j + spaced true rest ≤ spaced b (json_tokens j ++ rest)
+  json_in b json.null rest = omega arith
+  json_in b (json.boolean x) rest = omega arith
+  json_in b (json.number s) rest = omega arith
+  json_in b (json.string s) rest = omega arith
+  json_in b (json.array js) rest = omega (arith, first_in js rest)
+  json_in b (json.object ms) rest = omega (arith, keys_in false ms rest)
 
-  items_is : (js : Items) → tokens_size (items_tokens js) ≡ items_size js
-  items_is no_items = refl
-  items_is (item j js) = omega (arith, size_both (json_tokens j) (items_tokens js), json_is j, items_is js)
+  first_in : (js : Items) (rest : List Token) → room js + items_size js + spaced true rest ≤ suc (spaced false (items_tokens js ++ rest))
+  first_in no_items rest = omega arith
+  first_in (item j js) rest = omega (arith, json_in false j (items_tokens js ++ rest), more_in js rest, ap (spaced false) (append_assoc (json_tokens j) (items_tokens js) rest))
 
-  members_is : (ms : Members) → tokens_size (members_tokens ms) ≡ members_size ms
-  members_is no_members = refl
-  members_is (member k j ms) = omega (arith, size_both (json_tokens j) (members_tokens ms), json_is j, members_is ms)
+  more_in : (js : Items) (rest : List Token) → count js + items_size js + spaced true rest ≤ spaced true (items_tokens js ++ rest)
+  more_in no_items rest = omega arith
+  more_in (item j js) rest = omega (arith, json_in true j (items_tokens js ++ rest), more_in js rest, ap (spaced true) (append_assoc (json_tokens j) (items_tokens js) rest))
+
+  keys_in : (b : Bool) (ms : Members) (rest : List Token) → members_size ms + spaced true rest ≤ spaced b (members_tokens ms ++ rest)
+  keys_in b no_members rest = omega arith
+  keys_in b (member k j ms) rest = omega (arith, json_in false j (members_tokens ms ++ rest), keys_in true ms rest, ap (spaced false) (append_assoc (json_tokens j) (members_tokens ms) rest))
+
+pub json_spaced : (j : Json) → json_size j ≤ spaced false (json_tokens j)
+json_spaced j = omega (arith, json_in false j [], ap (spaced false) (append-nil (json_tokens j)))
 
 -- What a value holds: a name and its value take two bytes more than the name.
 
@@ -65,12 +97,38 @@ abbrev pub names_room : List (List ℕ) → ℕ
 names_room [] = 0
 names_room (x ∷ xs) = 2 + length x + names_room xs
 
+-- an item of doubles has a comma
+abbrev pub head_room : Head → ℕ
+head_room (graph.xml_document x) = length x
+head_room (graph.object t) = length t.class + names_size t.sealed
+head_room (graph.xml x) = length x
+head_room (graph.bytes x) = length x
+head_room (graph.ints f ns) = length ns
+head_room (graph.uints f ns) = length ns
+head_room (graph.doubles f ns) = length ns + length ns
+head_room (graph.values f x) = length x
+head_room _ = 0
+
+-- the bytes of a value that is a text, and of the one that has this name
+abbrev pub text_bytes : Tree → ℕ
+text_bytes (said (graph.text x)) = length x
+text_bytes _ = 0
+
+abbrev pub bytes_at : List ℕ → Named → ℕ
+bytes_at x no_named = 0
+bytes_at x (named y t ts) = if bytes_eq x y then text_bytes t else bytes_at x ts
+
+abbrev pub bytes_of : List (List ℕ) → Named → ℕ
+bytes_of [] ns = 0
+bytes_of (x ∷ xs) ns = bytes_at x ns + bytes_of xs ns
+
+-- of names that differ no value is met twice
 abbrev mutual
   pub tree_size : Tree → ℕ
-  tree_size (said x) = 1
+  tree_size (said x) = leaf_weight x
   tree_size (called x) = 1
-  tree_size (body h ns vs) = 2 + (head_size h + (named_size ns + trees_size vs))
-  tree_size (mixed t ns ss) = 2 + (length t.class + (names_room t.sealed + (named_size ns + named_size ss)))
+  tree_size (body h ns vs) = 2 + (head_room h + (named_size ns + trees_size vs))
+  tree_size (mixed t ns ss) = 2 + (length t.class + (names_room t.sealed + (named_size ns + (named_size ss + cond (are_new [] t.sealed) 0 (bytes_of t.sealed ss)))))
 
   pub trees_size : Trees → ℕ
   trees_size no_trees = 0
@@ -110,13 +168,25 @@ both_each {X = X} {Y = Y} P x y h = then_each P (λ (p : X × Y). P p.0) (λ a. 
 
 -- Scalars.
 
+pub one_room : (js : Items) → 1 ≤ room js
+one_room no_items = omega arith
+one_room (item j js) = omega arith
+
 pub one_byte : (j : Json) → 1 ≤ json_size j
 one_byte json.null = omega arith
 one_byte (json.boolean b) = omega arith
 one_byte (json.number s) = omega arith
 one_byte (json.string s) = omega arith
-one_byte (json.array js) = omega arith
+one_byte (json.array js) = omega (arith, one_room js)
 one_byte (json.object ms) = omega arith
+
+number_short : (p : ℕ) (o : Option ℤ) → leaf_weight (as_integer p o) ≤ 1
+number_short p None = omega arith
+number_short p (Some n) = go (is_small n)
+  where
+    go : (b : Bool) → leaf_weight (if b then graph.integer n else graph.double p) ≤ 1
+    go true = omega arith
+    go false = omega arith
 
 unhex_short : (s : List ℕ) → Each (LongIn 0 (length s)) (unhex s)
 unhex_short [] = omega arith
@@ -167,8 +237,31 @@ list_in f json.null = tt
 list_in f (json.boolean b) = tt
 list_in f (json.number s) = tt
 list_in f (json.string s) = tt
-list_in f (json.array js) = weaker (LongIn 1 (items_size js)) (LongIn 2 (suc (items_size js))) (each f js) (each_in f js) (λ xs h. omega (arith, h))
+list_in f (json.array js) = weaker (LongIn 1 (items_size js)) (LongIn 2 (json_size (json.array js))) (each f js) (each_in f js) (λ xs h. omega (arith, h, one_room js))
 list_in f (json.object ms) = tt
+
+-- with their commas
+
+abbrev TwiceIn : {X : Type 0} → ℕ → List X → Type 0
+TwiceIn n xs = length xs + length xs + 1 ≤ n
+
+each_twice : {X : Type 0} (f : Json → Option X) (js : Items) → Each (TwiceIn (count js + items_size js)) (each f js)
+each_twice f no_items = omega arith
+each_twice {X = X} f (item j js) =
+    then_each (λ (x : X). ⊤) (TwiceIn (count (item j js) + items_size (item j js))) (λ x. option_map (λ xs. x ∷ xs) (each f js)) (f j) (any (f j))
+    (λ x t. map_each (TwiceIn (count js + items_size js)) (TwiceIn (count (item j js) + items_size (item j js))) (λ xs. x ∷ xs) (each f js) (each_twice f js) (λ xs h. omega (arith, h, one_byte j)))
+
+counted : (js : Items) → count js ≤ room js
+counted no_items = omega arith
+counted (item j js) = omega arith
+
+list_twice : {X : Type 0} (f : Json → Option X) (j : Json) → Each (TwiceIn (json_size j)) (list_meant f j)
+list_twice f json.null = tt
+list_twice f (json.boolean b) = tt
+list_twice f (json.number s) = tt
+list_twice f (json.string s) = tt
+list_twice f (json.array js) = weaker (TwiceIn (count js + items_size js)) (TwiceIn (json_size (json.array js))) (each f js) (each_twice f js) (λ xs h. omega (arith, h, counted js))
+list_twice f (json.object ms) = tt
 
 abbrev RoomIn : ℕ → ℕ → List (List ℕ) → Type 0
 RoomIn k n xs = names_room xs + k ≤ n
@@ -184,11 +277,14 @@ names_list json.null = tt
 names_list (json.boolean b) = tt
 names_list (json.number s) = tt
 names_list (json.string s) = tt
-names_list (json.array js) = weaker (RoomIn 1 (items_size js)) (RoomIn 2 (suc (items_size js))) (each name_meant js) (each_name js) (λ xs h. omega (arith, h))
+names_list (json.array js) = weaker (RoomIn 1 (items_size js)) (RoomIn 2 (json_size (json.array js))) (each name_meant js) (each_name js) (λ xs h. omega (arith, h, one_room js))
 names_list (json.object ms) = tt
 
-names_in : (j : Json) → Each (RoomIn 2 (json_size j)) (class_names j)
-names_in j = then_each (RoomIn 2 (json_size j)) (RoomIn 2 (json_size j)) (if_true (are_new [])) (list_meant name_meant j) (names_list j) (λ xs h. if_each (RoomIn 2 (json_size j)) (are_new [] xs) (Some xs) None (λ e. h) (λ e. tt))
+abbrev DifferIn : ℕ → List (List ℕ) → Type 0
+DifferIn n xs = RoomIn 2 n xs × (are_new [] xs ≡ true)
+
+names_in : (j : Json) → Each (DifferIn (json_size j)) (class_names j)
+names_in j = then_each (RoomIn 2 (json_size j)) (DifferIn (json_size j)) (if_true (are_new [])) (list_meant name_meant j) (names_list j) (λ xs h. if_each (DifferIn (json_size j)) (are_new [] xs) (Some xs) None (λ e. (h, e)) (λ e. tt))
 
 truth_in : (n : ℕ) (j : Json) → 1 ≤ n → Each (TreeIn n) (true_meant j)
 truth_in n json.null h = tt
@@ -229,7 +325,7 @@ module _ (reads : Reads) where
     pub members : Each (NamedIn 2 (json_size j)) (members_meant reads j)
     pub dictionary : Each (TreesIn 2 (json_size j)) (dictionary_meant reads j)
     pub sealed : (o : Begun) → Each (TreeIn (begun_size o + json_size j)) (sealed_meant reads o j)
-    pub mixed : (o : Begun) (names : List (List ℕ)) (k : List ℕ) → Each (TreeIn (begun_size o + names_room names + json_size j)) (mixed_meant reads o names (member k j no_members))
+    pub mixed : (o : Begun) (names : List (List ℕ)) (k : List ℕ) → are_new [] names ≡ true → Each (TreeIn (begun_size o + names_room names + json_size j)) (mixed_meant reads o names (member k j no_members))
     pub pair : (rest : Items) → Pairs rest → Pairs (item j rest)
     pub part : (rest : Items) → Entries rest → Entries (item j rest)
 
@@ -252,31 +348,31 @@ module _ (reads : Reads) where
     pub typed : (b : Bool) (x : List ℕ) → Each (TreeIn (length x + members_size ms)) (typed_meant reads b x ms)
     pub class : (x : List ℕ) → Each (TreeIn (length x + 2 + members_size ms)) (class_meant reads x ms)
     pub begun : (o : Begun) → Each (TreeIn (begun_size o + 2 + members_size ms)) (begun_meant reads o ms)
-    pub mixed : (o : Begun) (names : List (List ℕ)) → Each (TreeIn (begun_size o + names_room names + 2 + members_size ms)) (mixed_meant reads o names ms)
+    pub mixed : (o : Begun) (names : List (List ℕ)) → are_new [] names ≡ true → Each (TreeIn (begun_size o + names_room names + 2 + members_size ms)) (mixed_meant reads o names ms)
 
   -- Values.
 
   of_null : OfValue json.null
   unfolding meant
-  of_null = record { value = omega arith; list = tt; members = tt; dictionary = tt; sealed = λ o. tt; mixed = λ o names k. tt; pair = λ rest p. tt; part = λ rest p. tt }
+  of_null = record { value = omega arith; list = tt; members = tt; dictionary = tt; sealed = λ o. tt; mixed = λ o names k w. tt; pair = λ rest p. tt; part = λ rest p. tt }
 
   of_boolean : (b : Bool) → OfValue (json.boolean b)
   unfolding meant
-  of_boolean b = record { value = omega arith; list = tt; members = tt; dictionary = tt; sealed = λ o. tt; mixed = λ o names k. tt; pair = λ rest p. tt; part = λ rest p. tt }
+  of_boolean b = record { value = omega arith; list = tt; members = tt; dictionary = tt; sealed = λ o. tt; mixed = λ o names k w. tt; pair = λ rest p. tt; part = λ rest p. tt }
 
   of_string : (s : List ℕ) → OfValue (json.string s)
   unfolding meant
-  of_string s = record { value = omega arith; list = tt; members = tt; dictionary = tt; sealed = λ o. tt; mixed = λ o names k. tt; pair = λ rest p. tt; part = λ rest p. tt }
+  of_string s = record { value = omega arith; list = tt; members = tt; dictionary = tt; sealed = λ o. tt; mixed = λ o names k w. tt; pair = λ rest p. tt; part = λ rest p. tt }
 
   of_number : (s : List ℕ) → OfValue (json.number s)
   unfolding meant
   of_number s = record {
-    value = map_each (λ (p : ℕ). ⊤) (TreeIn 1) (λ p. said (as_integer p (whole_of p))) (reads s) (any (reads s)) (λ p t. omega arith);
+    value = map_each (λ (p : ℕ). ⊤) (TreeIn 1) (λ p. said (as_integer p (whole_of p))) (reads s) (any (reads s)) (λ p t. number_short p (whole_of p));
     list = tt;
     members = tt;
     dictionary = tt;
     sealed = λ o. tt;
-    mixed = λ o names k. tt;
+    mixed = λ o names k w. tt;
     pair = λ rest p. tt;
     part = λ rest p. tt;
   }
@@ -284,12 +380,12 @@ module _ (reads : Reads) where
   of_array : (js : Items) → OfItems js → OfValue (json.array js)
   unfolding meant
   of_array js s = record {
-    value = map_each (TreesIn 1 (items_size js)) (TreeIn (suc (items_size js))) (body graph.array no_named) (items_meant reads js) s.items (λ ts h. omega (arith, h));
-    list = weaker (TreesIn 1 (items_size js)) (TreesIn 2 (suc (items_size js))) (items_meant reads js) s.items (λ ts h. omega (arith, h));
-    members = weaker (NamedIn 1 (items_size js)) (NamedIn 2 (suc (items_size js))) (pairs_meant reads js) s.pairs (λ ns h. omega (arith, h));
-    dictionary = weaker (TreesIn 1 (items_size js)) (TreesIn 2 (suc (items_size js))) (entries_meant reads js) s.entries (λ ts h. omega (arith, h));
-    sealed = λ o. map_each (NamedIn 1 (items_size js)) (TreeIn (begun_size o + suc (items_size js))) (object_body o) (pairs_meant reads js) s.pairs (λ ns h. omega (arith, h, body_size o ns));
-    mixed = λ o names k. tt;
+    value = map_each (TreesIn 1 (items_size js)) (TreeIn (json_size (json.array js))) (body graph.array no_named) (items_meant reads js) s.items (λ ts h. omega (arith, h, one_room js));
+    list = weaker (TreesIn 1 (items_size js)) (TreesIn 2 (json_size (json.array js))) (items_meant reads js) s.items (λ ts h. omega (arith, h, one_room js));
+    members = weaker (NamedIn 1 (items_size js)) (NamedIn 2 (json_size (json.array js))) (pairs_meant reads js) s.pairs (λ ns h. omega (arith, h, one_room js));
+    dictionary = weaker (TreesIn 1 (items_size js)) (TreesIn 2 (json_size (json.array js))) (entries_meant reads js) s.entries (λ ts h. omega (arith, h, one_room js));
+    sealed = λ o. map_each (NamedIn 1 (items_size js)) (TreeIn (begun_size o + json_size (json.array js))) (object_body o) (pairs_meant reads js) s.pairs (λ ns h. omega (arith, h, body_size o ns, one_room js));
+    mixed = λ o names k w. tt;
     pair = s.pair;
     part = s.part;
   }
@@ -297,9 +393,9 @@ module _ (reads : Reads) where
   rising_in : (o : Begun) (ms : Members) (ns : Named) → NamedIn 1 (members_size ms) ns → Each (TreeIn (begun_size o + suc (members_size ms))) (rising_body o ns)
   rising_in o ms ns h = if_each (TreeIn (begun_size o + suc (members_size ms))) (is_rising (keys_of ns)) (Some (object_body o ns)) None (λ e. omega (arith, h, body_size o ns)) (λ e. tt)
 
-  mixed_in : (o : Begun) (names : List (List ℕ)) (ms : Members) (ns : Named) → NamedIn 1 (members_size ms) ns → Each (TreeIn (begun_size o + names_room names + suc (members_size ms))) (mixed_body o names ns)
-  mixed_in o names ms ns h =
-      if_each (TreeIn (begun_size o + names_room names + suc (members_size ms))) (are_those names (keys_of ns)) (Some (mixed (traits_with o names) o.names ns)) None (λ e. omega (arith, h)) (λ e. tt)
+  mixed_in : (o : Begun) (names : List (List ℕ)) (ms : Members) (ns : Named) → are_new [] names ≡ true → NamedIn 1 (members_size ms) ns → Each (TreeIn (begun_size o + names_room names + suc (members_size ms))) (mixed_body o names ns)
+  mixed_in o names ms ns w h =
+      if_each (TreeIn (begun_size o + names_room names + suc (members_size ms))) (are_those names (keys_of ns)) (Some (mixed (traits_with o names) o.names ns)) None (λ e. omega (arith, h, ap (λ b. cond b 0 (bytes_of names ns)) w)) (λ e. tt)
 
   of_object : (ms : Members) → OfMembers ms → OfValue (json.object ms)
   unfolding meant
@@ -309,9 +405,9 @@ module _ (reads : Reads) where
     members = weaker (NamedIn 1 (members_size ms)) (NamedIn 2 (suc (members_size ms))) (keys_meant reads ms) m.keys (λ ns h. omega (arith, h));
     dictionary = tt;
     sealed = λ o. then_each (NamedIn 1 (members_size ms)) (TreeIn (begun_size o + suc (members_size ms))) (rising_body o) (keys_meant reads ms) m.keys (λ ns h. rising_in o ms ns h);
-    mixed = λ o names k.
+    mixed = λ o names k w.
         if_each (TreeIn (begun_size o + names_room names + suc (members_size ms))) (bytes_eq k (codes "$sealed")) (option_and_then (mixed_body o names) (keys_meant reads ms)) None
-        (λ e. then_each (NamedIn 1 (members_size ms)) (TreeIn (begun_size o + names_room names + suc (members_size ms))) (mixed_body o names) (keys_meant reads ms) m.keys (λ ns h. mixed_in o names ms ns h)) (λ e. tt);
+        (λ e. then_each (NamedIn 1 (members_size ms)) (TreeIn (begun_size o + names_room names + suc (members_size ms))) (mixed_body o names) (keys_meant reads ms) m.keys (λ ns h. mixed_in o names ms ns w h)) (λ e. tt);
     pair = λ rest p. tt;
     part = λ rest p. tt;
   }
@@ -375,11 +471,11 @@ module _ (reads : Reads) where
     typed = λ b x. tt;
     class = λ x. omega arith;
     begun = λ o. omega arith;
-    mixed = λ o names. tt;
+    mixed = λ o names w. tt;
   }
 
   -- a node that holds a list of items, or a text, of the size of its JSON
-  listed : {X : Type 0} (make : List X → Head) → ((xs : List X) → head_size (make xs) ≡ length xs) → (j : Json) (n : ℕ) → json_size j ≤ n → (o : Option (List X)) → Each (LongIn 2 (json_size j)) o
+  listed : {X : Type 0} (make : List X → Head) → ((xs : List X) → head_room (make xs) ≡ length xs) → (j : Json) (n : ℕ) → json_size j ≤ n → (o : Option (List X)) → Each (LongIn 2 (json_size j)) o
       → Each (TreeIn n) (option_map (λ xs. simple_body (make xs)) o)
   listed make is j n l o h = map_each (LongIn 2 (json_size j)) (TreeIn n) (λ xs. simple_body (make xs)) o h (λ xs k. omega (arith, k, is xs, l))
 
@@ -402,7 +498,7 @@ module _ (reads : Reads) where
         (map_each (λ (p : ℕ). ⊤) (TreeIn all) (λ p. said (graph.double p)) (pattern_meant reads j) (any (pattern_meant reads j)) (λ p t. omega arith))
     object_in tag.text =
         last_each (TreeIn all) ms (option_map (λ y. said (graph.text y)) (option_and_then if_text (bytes_meant j)))
-        (map_each (λ (y : List ℕ). ⊤) (TreeIn all) (λ y. said (graph.text y)) (option_and_then if_text (bytes_meant j)) (any (option_and_then if_text (bytes_meant j))) (λ y t. omega arith))
+        (map_each (LongIn 2 (json_size j)) (TreeIn all) (λ y. said (graph.text y)) (option_and_then if_text (bytes_meant j)) (hex_in j) (λ y h. omega (arith, h)))
     object_in tag.node = last_each (TreeIn all) ms (label_meant j) (label_in all j (omega arith))
     object_in tag.array =
         then_each (TreesIn 2 (json_size j)) (TreeIn all) (λ ts. array_names reads ts ms) (values_meant reads j) o.list
@@ -420,8 +516,8 @@ module _ (reads : Reads) where
         (map_each (λ (p : ℕ). ⊤) (TreeIn all) (λ p. simple_body (graph.date p)) (pattern_meant reads j) (any (pattern_meant reads j)) (λ p t. omega arith))
     object_in tag.bytes = last_each (TreeIn all) ms (option_map (λ x. simple_body (graph.bytes x)) (bytes_meant j)) (listed graph.bytes (λ xs. refl) j all (omega arith) (bytes_meant j) (bytes_in j))
     object_in tag.doubles =
-        map_each (λ (p : List ℕ × Bool). LongIn 2 (json_size j) p.0) (TreeIn all) (λ (p : List ℕ × Bool). simple_body (graph.doubles p.1 p.0)) (both (list_meant (pattern_meant reads) j) (last_flag (codes "$fixed") ms))
-        (both_each (LongIn 2 (json_size j)) (list_meant (pattern_meant reads) j) (last_flag (codes "$fixed") ms) (list_in (pattern_meant reads) j)) (λ p h. omega (arith, h))
+        map_each (λ (p : List ℕ × Bool). TwiceIn (json_size j) p.0) (TreeIn all) (λ (p : List ℕ × Bool). simple_body (graph.doubles p.1 p.0)) (both (list_meant (pattern_meant reads) j) (last_flag (codes "$fixed") ms))
+        (both_each (TwiceIn (json_size j)) (list_meant (pattern_meant reads) j) (last_flag (codes "$fixed") ms) (list_twice (pattern_meant reads) j)) (λ p h. omega (arith, h))
     object_in tag.dictionary =
         map_each (λ (p : Trees × Bool). TreesIn 2 (json_size j) p.0) (TreeIn all) (λ (p : Trees × Bool). body (graph.dictionary p.1) no_named p.0) (both (dictionary_meant reads j) (last_flag (codes "$weak") ms))
         (both_each (TreesIn 2 (json_size j)) (dictionary_meant reads j) (last_flag (codes "$weak") ms) o.dictionary) (λ p h. omega (arith, h))
@@ -468,8 +564,8 @@ module _ (reads : Reads) where
 
     told_names : (b : Begun) → Each (TreeIn (begun_size b + 2 + members_size (member k j ms))) (option_and_then (λ xs. mixed_meant reads b xs ms) (class_names j))
     told_names b =
-        then_each (RoomIn 2 (json_size j)) (TreeIn (begun_size b + 2 + members_size (member k j ms))) (λ xs. mixed_meant reads b xs ms) (class_names j) (names_in j)
-        (λ xs h. weaker (TreeIn (begun_size b + names_room xs + 2 + members_size ms)) (TreeIn (begun_size b + 2 + members_size (member k j ms))) (mixed_meant reads b xs ms) (m.mixed b xs) (λ t l. omega (arith, h, l)))
+        then_each (DifferIn (json_size j)) (TreeIn (begun_size b + 2 + members_size (member k j ms))) (λ xs. mixed_meant reads b xs ms) (class_names j) (names_in j)
+        (λ xs h. weaker (TreeIn (begun_size b + names_room xs + 2 + members_size ms)) (TreeIn (begun_size b + 2 + members_size (member k j ms))) (mixed_meant reads b xs ms) (m.mixed b xs h.1) (λ t l. omega (arith, h, l)))
 
     told_sealed : (b : Begun) → Each (TreeIn (begun_size b + 2 + members_size (member k j ms))) (if_last ms (sealed_meant reads b j))
     told_sealed b =
@@ -511,16 +607,16 @@ module _ (reads : Reads) where
       (λ e. map_each (TreesIn 2 (json_size j)) All (body (graph.values b x) no_named) (values_meant reads j) o.list (λ ts s. omega (arith, s))) (λ e. tt)
   typed_last k j (member l i ms) o b x = tt
 
-  mixed_last : (k : List ℕ) (j : Json) (ms : Members) → OfValue j → (b : Begun) (names : List (List ℕ)) → Each (TreeIn (begun_size b + names_room names + 2 + members_size (member k j ms))) (mixed_meant reads b names (member k j ms))
+  mixed_last : (k : List ℕ) (j : Json) (ms : Members) → OfValue j → (b : Begun) (names : List (List ℕ)) → are_new [] names ≡ true → Each (TreeIn (begun_size b + names_room names + 2 + members_size (member k j ms))) (mixed_meant reads b names (member k j ms))
   unfolding meant
-  mixed_last k j no_members o b names =
-      weaker (TreeIn (begun_size b + names_room names + json_size j)) (TreeIn (begun_size b + names_room names + 2 + members_size (member k j no_members))) (mixed_meant reads b names (member k j no_members)) (o.mixed b names k) (λ t l. omega (arith, l))
-  mixed_last k json.null (member l i ms) o b names = tt
-  mixed_last k (json.boolean c) (member l i ms) o b names = tt
-  mixed_last k (json.number n) (member l i ms) o b names = tt
-  mixed_last k (json.string n) (member l i ms) o b names = tt
-  mixed_last k (json.array js) (member l i ms) o b names = tt
-  mixed_last k (json.object ns) (member l i ms) o b names = tt
+  mixed_last k j no_members o b names w =
+      weaker (TreeIn (begun_size b + names_room names + json_size j)) (TreeIn (begun_size b + names_room names + 2 + members_size (member k j no_members))) (mixed_meant reads b names (member k j no_members)) (o.mixed b names k w) (λ t l. omega (arith, l))
+  mixed_last k json.null (member l i ms) o b names w = tt
+  mixed_last k (json.boolean c) (member l i ms) o b names w = tt
+  mixed_last k (json.number n) (member l i ms) o b names w = tt
+  mixed_last k (json.string n) (member l i ms) o b names w = tt
+  mixed_last k (json.array js) (member l i ms) o b names w = tt
+  mixed_last k (json.object ns) (member l i ms) o b names w = tt
 
   of_member : (k : List ℕ) (j : Json) (ms : Members) → OfValue j → OfMembers ms → OfMembers (member k j ms)
   unfolding meant plain_by fixed_by class_by begun_by

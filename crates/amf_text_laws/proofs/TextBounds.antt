@@ -1,5 +1,5 @@
--- What a text means has no more parts than the text has bytes.
-use Rattle.std.proofs.Common.{map, ◌≡◌, ℕ, suc, ◌+◌, ◌≤◌, ◌<◌, Bool, true, false, if◌then◌else◌, List, [], ◌∷◌, ◌++◌, length, Option, Some, None, ap, arith}
+-- What a text means has no more parts than the text has bytes, and weighs at most four times as much.
+use Rattle.std.proofs.Common.{map, ◌≡◌, ℕ, suc, ◌+◌, ◌*◌, ◌≤◌, ◌<◌, Bool, true, false, if◌then◌else◌, List, [], ◌∷◌, ◌++◌, length, Option, Some, None, ap, arith}
 use Rattle.std.specs.Prelude.{⊤, codes, bytes_eq, option_map}
 use Rattle.std.specs.List.{AllByRecursion}
 use Rattle.std.proofs.lemmas.List.{length-map}
@@ -8,7 +8,8 @@ use Rattle.json.specs.Json as json
 use Rattle.amf_graph.specs.Arena as stored
 use Rattle.amf_graph.specs.Arena.{Arena, StoredHead, StoredNode, head_content, node_content}
 use Rattle.amf_graph.specs.declared.value.Value.{Value as Stored}
-use Rattle.amf_graph.specs.Graph.{Value, Head, Node, Graph}
+use Rattle.amf_graph.specs.Graph as graph
+use Rattle.amf_graph.specs.Graph.{Leaf, Value, Head, Node, Graph}
 use Rattle.amf_graph.specs.Bounds.{count_end, items_of, parts_of, NodeWithin}
 use Rattle.amf_graph.specs.Order.{is_array}
 use Rattle.amf_graph.proofs.Alls.{all_weaker}
@@ -25,9 +26,10 @@ use Rattle.amf_text.proofs.IfThere.{Each, each_is, then_each, map_each, if_each}
 use Rattle.amf_text.proofs.Goals.{no_answer}
 use Rattle.amf_text.proofs.Asked.{if_is}
 use Rattle.amf_text.proofs.WholeTrees.{last_each}
-use Rattle.amf_text_laws.specs.TextBounds.{head_size, names_size, pairs_size, node_size, nodes_size, tokens_size, HasNumbers, TextBounds}
-use Rattle.amf_text_laws.proofs.Sizes.{json_size, items_size, members_size, json_is, names_room, tree_size, trees_size, named_size, TreeIn, NamedIn, any, weaker, value_in, members_in}
-use Rattle.amf_text_laws.proofs.TokenSizes.{tokens_in}
+use Rattle.amf_text_laws.specs.TextBounds.{head_size, names_size, pairs_size, node_size, nodes_size, leaf_weight, graph_weight, graphs_weight, total, HasNumbers, TextBounds}
+use Rattle.amf_text_laws.proofs.Sizes.{json_size, items_size, members_size, spaced, json_spaced, names_room, head_room, tree_size, trees_size, named_size, TreeIn, NamedIn, any, weaker, value_in, members_in}
+use Rattle.amf_text_laws.proofs.TokenSizes.{spaced_in, tokens_in}
+use Rattle.amf_text_laws.proofs.Weights.{graph_weighs}
 
 -- The nodes of a value.
 
@@ -46,16 +48,38 @@ room_is : (xs : List (List ℕ)) → names_room xs ≡ names_size xs + length xs
 room_is [] = omega arith
 room_is (x ∷ xs) = omega (arith, room_is xs)
 
+head_under : (h : Head) → head_size h ≤ head_room h
+head_under (graph.xml_document x) = omega arith
+head_under (graph.date p) = omega arith
+head_under graph.array = omega arith
+head_under (graph.object t) = omega arith
+head_under (graph.wrapper c) = omega arith
+head_under (graph.xml x) = omega arith
+head_under (graph.bytes x) = omega arith
+head_under (graph.ints f ns) = omega arith
+head_under (graph.uints f ns) = omega arith
+head_under (graph.doubles f ns) = omega arith
+head_under (graph.values f x) = omega arith
+head_under (graph.dictionary f) = omega arith
+
+one_leaf : (x : Leaf) → 1 ≤ leaf_weight x
+one_leaf graph.undefined = omega arith
+one_leaf graph.null = omega arith
+one_leaf (graph.boolean b) = omega arith
+one_leaf (graph.integer n) = omega arith
+one_leaf (graph.double p) = omega arith
+one_leaf (graph.text x) = omega arith
+
 mutual
   nodes_in : (labels : Numbers) (n : ℕ) (t : Tree) → nodes_size (nodes_from labels n t) + 1 ≤ tree_size t
-  nodes_in labels n (said x) = omega arith
+  nodes_in labels n (said x) = omega (arith, one_leaf x)
   nodes_in labels n (called x) = omega arith
   nodes_in labels n (body h ns vs) =
       let names = named_nodes labels (names_begin h (suc n) vs) ns in
       let values = trees_nodes labels (values_begin h (suc n) ns) vs in
       let first = named_in labels (names_begin h (suc n) vs) (names_begin h (suc n) vs) ns in
       let second = trees_in labels (values_begin h (suc n) ns) (values_begin h (suc n) ns) vs in
-      omega (arith, in_text_size h names values, first, second)
+      omega (arith, in_text_size h names values, first, second, head_under h)
   nodes_in labels n (mixed t ns ss) =
       let names = named_nodes labels (suc n) ns in
       let sealed = named_nodes labels (suc n + size_named ns) ss in
@@ -121,33 +145,28 @@ of_members_in P f one more (json.object ms) = weaker (P (members_size ms)) (P (s
 abbrev IsIn : {X : Type 0} → (X → ℕ) → ℕ → X → Type 0
 IsIn long n x = long x ≤ n
 
-each_all : {X : Type 0} (long : X → ℕ) (f : Json → Option X) → ((j : Json) → Each (IsIn long (json_size j)) (f j)) → (n : ℕ) (js : Items) → items_size js ≤ n → Each (AllByRecursion (IsIn long n)) (each f js)
-each_all long f one n no_items l = tt
-each_all long f one n (item j js) l =
-    then_each (IsIn long (json_size j)) (AllByRecursion (IsIn long n)) (λ x. option_map (λ xs. x ∷ xs) (each f js)) (f j) (one j)
-    (λ x h. map_each (AllByRecursion (IsIn long n)) (AllByRecursion (IsIn long n)) (λ xs. x ∷ xs) (each f js) (each_all long f one n js (omega (arith, l))) (λ xs q. (omega (arith, h, l), q)))
+abbrev SumIn : {X : Type 0} → (X → ℕ) → ℕ → List X → Type 0
+SumIn long n xs = total long xs ≤ n
 
-list_all : {X : Type 0} (long : X → ℕ) (f : Json → Option X) → ((j : Json) → Each (IsIn long (json_size j)) (f j)) → (n : ℕ) (j : Json) → json_size j ≤ n → Each (AllByRecursion (IsIn long n)) (list_meant f j)
-list_all long f one n json.null l = tt
-list_all long f one n (json.boolean b) l = tt
-list_all long f one n (json.number s) l = tt
-list_all long f one n (json.string s) l = tt
-list_all long f one n (json.array js) l = each_all long f one n js (omega (arith, l))
-list_all long f one n (json.object ms) l = tt
+each_sum : {X : Type 0} (long : X → ℕ) (f : Json → Option X) → ((j : Json) → Each (IsIn long (json_size j)) (f j)) → (js : Items) → Each (SumIn long (items_size js)) (each f js)
+each_sum long f one no_items = omega arith
+each_sum long f one (item j js) =
+    then_each (IsIn long (json_size j)) (SumIn long (items_size (item j js))) (λ x. option_map (λ xs. x ∷ xs) (each f js)) (f j) (one j)
+    (λ x h. map_each (SumIn long (items_size js)) (SumIn long (items_size (item j js))) (λ xs. x ∷ xs) (each f js) (each_sum long f one js) (λ xs q. omega (arith, h, q)))
 
-few_all : {X : Type 0} (long : X → ℕ) (f : Members → Option X) → ((ms : Members) → Each (IsIn long (members_size ms)) (f ms)) → (n : ℕ) (j : Json) → json_size j ≤ n → Each (AllByRecursion (IsIn long n)) (few_meant f j)
-few_all {X = X} long f one n j l =
-    let All : List X → Type 0 = AllByRecursion (IsIn long n) in
-    then_each All All (if_true is_few) (list_meant (of_members f) j) (list_all long (of_members f) (of_members_in (IsIn long) f one (λ m x h. omega (arith, h))) n j l)
+list_sum : {X : Type 0} (long : X → ℕ) (f : Json → Option X) → ((j : Json) → Each (IsIn long (json_size j)) (f j)) → (j : Json) → Each (SumIn long (json_size j)) (list_meant f j)
+list_sum long f one json.null = tt
+list_sum long f one (json.boolean b) = tt
+list_sum long f one (json.number s) = tt
+list_sum long f one (json.string s) = tt
+list_sum long f one (json.array js) = weaker (SumIn long (items_size js)) (SumIn long (json_size (json.array js))) (each f js) (each_sum long f one js) (λ xs h. omega (arith, h))
+list_sum long f one (json.object ms) = tt
+
+few_sum : {X : Type 0} (long : X → ℕ) (f : Members → Option X) → ((ms : Members) → Each (IsIn long (members_size ms)) (f ms)) → (j : Json) → Each (SumIn long (json_size j)) (few_meant f j)
+few_sum long f one j =
+    let All = SumIn long (json_size j) in
+    then_each All All (if_true is_few) (list_meant (of_members f) j) (list_sum long (of_members f) (of_members_in (IsIn long) f one (λ m x h. omega (arith, h))) j)
     (λ xs a. if_each All (is_few xs) (Some xs) None (λ e. a) (λ e. tt))
-
-taken_all : {X : Type 0} (long : X → ℕ) (n : ℕ) (k : List ℕ) (f : Json → Option (List X)) → ((j : Json) → json_size j ≤ n → Each (AllByRecursion (IsIn long n)) (f j)) → (ms : Members) → members_size ms ≤ n
-    → Each (λ (p : List X × Members). AllByRecursion (IsIn long n) p.0 × (members_size p.1 ≤ n)) (take k f ms)
-taken_all long n k f one no_members l = tt
-taken_all {X = X} long n k f one (member y j ms) l =
-    let Q : List X × Members → Type 0 = λ p. AllByRecursion (IsIn long n) p.0 × (members_size p.1 ≤ n) in
-    if_each Q (bytes_eq y k) (option_map (λ x. (x, ms)) (f j)) None
-    (λ e. map_each (AllByRecursion (IsIn long n)) Q (λ x. (x, ms)) (f j) (one j (omega (arith, l))) (λ x h. (h, omega (arith, l)))) (λ e. tt)
 
 -- Parts.
 
@@ -161,7 +180,7 @@ abbrev PartsIn : ℕ → Document Part → Type 0
 PartsIn n (value3 p) = part_size p ≤ n
 PartsIn n (value0 p) = part_size p ≤ n
 PartsIn n (file name version p) = part_size p ≤ n
-PartsIn n (packet version headers messages) = AllByRecursion (IsIn header_size n) headers × AllByRecursion (IsIn message_size n) messages
+PartsIn n (packet version headers messages) = total header_size headers + total message_size messages ≤ n
 
 module _ (reads : Reads) where
   value_each : (j : Json) → Each (TreeIn (json_size j)) (meant reads j)
@@ -230,14 +249,13 @@ module _ (reads : Reads) where
 
   packet_each : (ms : Members) → Each (PartsIn (members_size ms)) (packet_meant reads ms)
   packet_each ms =
-      let n = members_size ms in
-      let Q = PartsIn n in
-      then_each (λ (p : List (Header Part) × Members). AllByRecursion (IsIn header_size n) p.0 × (members_size p.1 ≤ n)) Q (λ p. packet_headers reads p.0 p.1) (take (codes "headers") (few_meant (header_members reads)) ms)
-      (taken_all header_size n (codes "headers") (few_meant (header_members reads)) (few_all header_size (header_members reads) header_each n) ms (omega arith)) (λ p a.
-      then_each (λ (q : List (Message Part) × Members). AllByRecursion (IsIn message_size n) q.0 × (members_size q.1 ≤ n)) Q (λ q. packet_messages reads p.0 q.0 q.1) (take (codes "messages") (few_meant (message_members reads)) p.1)
-      (taken_all message_size n (codes "messages") (few_meant (message_members reads)) (few_all message_size (message_members reads) message_each n) p.1 a.1) (λ q b.
-      and_in {X = ℕ} nothing (members_size q.1) Q (take (codes "version") (packet_version_of reads) q.1) (λ version more. if_last more (Some (packet version p.0 q.0))) (take_any (codes "version") (packet_version_of reads) q.1) (λ version more v.
-      last_each Q more (Some (packet version p.0 q.0)) (a.0, b.0))))
+      let Q = PartsIn (members_size ms) in
+      and_in {X = List (Header Part)} (total header_size) (members_size ms) Q (take (codes "headers") (few_meant (header_members reads)) ms) (packet_headers reads)
+      (take_in {X = List (Header Part)} (total header_size) (codes "headers") (few_meant (header_members reads)) (few_sum header_size (header_members reads) header_each) ms) (λ headers more h.
+      and_in {X = List (Message Part)} (total message_size) (members_size more) Q (take (codes "messages") (few_meant (message_members reads)) more) (packet_messages reads headers)
+      (take_in {X = List (Message Part)} (total message_size) (codes "messages") (few_meant (message_members reads)) (few_sum message_size (message_members reads) message_each) more) (λ messages more2 m.
+      and_in {X = ℕ} nothing (members_size more2) Q (take (codes "version") (packet_version_of reads) more2) (λ version more3. if_last more3 (Some (packet version headers messages))) (take_any (codes "version") (packet_version_of reads) more2) (λ version more3 v.
+      last_each Q more3 (Some (packet version headers messages)) (omega (arith, h, m, v)))))
 
   form_members_each : (s : List ℕ) (ms : Members) → Each (PartsIn (members_size ms)) (form_members reads s ms)
   form_members_each s ms =
@@ -249,29 +267,52 @@ module _ (reads : Reads) where
 
 -- With labels followed.
 
-abbrev GraphIn : ℕ → Graph → Type 0
-GraphIn n g = nodes_size g.nodes + 2 ≤ n
+-- n bytes are those of the graph itself, of the m of the text
+record GraphIn (n m : ℕ) (g : Graph) : Type 0 where
+  parts : nodes_size g.nodes + 2 ≤ m
+  weighs : graph_weight g ≤ 4 * n
 
-linked_in : (n : ℕ) (p : Part) → part_size p + 1 ≤ n → Each (GraphIn n) (linked_part p)
-linked_in n p h = if_each (GraphIn n) (are_linked p.table p.root) (Some (graph_of p.table p.root)) None (λ e. omega (arith, h, graph_in p)) (λ e. tt)
+linked_in : (m : ℕ) (p : Part) → part_size p + 1 ≤ m → Each (GraphIn (part_size p) m) (linked_part p)
+linked_in m p h = if_each (GraphIn (part_size p) m) (are_linked p.table p.root) (Some (graph_of p.table p.root)) None (λ e. record { parts = omega (arith, h, graph_in p); weighs = graph_weighs p }) (λ e. tt)
 
-all_each : {X Y : Type 0} (P : X → Type 0) (Q : Y → Type 0) (f : X → Option Y) → ((x : X) → P x → Each Q (f x)) → (xs : List X) → AllByRecursion P xs → Each (AllByRecursion Q) (all_linked f xs)
-all_each P Q f one [] h = tt
-all_each P Q f one (x ∷ xs) h =
-    then_each Q (AllByRecursion Q) (λ y. option_map (λ ys. y ∷ ys) (all_linked f xs)) (f x) (one x h.0) (λ y q. map_each (AllByRecursion Q) (AllByRecursion Q) (λ ys. y ∷ ys) (all_linked f xs) (all_each P Q f one xs h.1) (λ ys r. (q, r)))
+abbrev PartsOf : ℕ → Graph → Type 0
+PartsOf m g = nodes_size g.nodes + 2 ≤ m
 
-document_in : (n m : ℕ) → n + 1 ≤ m → (p : Document Part) → PartsIn n p → Each (EachGraph (GraphIn m)) (linked p)
-document_in n m l (value3 p) h = map_each (GraphIn m) (EachGraph (GraphIn m)) value3 (linked_part p) (linked_in m p (omega (arith, l, h))) (λ g q. q)
-document_in n m l (value0 p) h = map_each (GraphIn m) (EachGraph (GraphIn m)) value0 (linked_part p) (linked_in m p (omega (arith, l, h))) (λ g q. q)
-document_in n m l (file name version p) h = map_each (GraphIn m) (EachGraph (GraphIn m)) (file name version) (linked_part p) (linked_in m p (omega (arith, l, h))) (λ g q. q)
+-- graphs of a list
+record AllIn {Y : Type 0} (graph : Y → Graph) (n m : ℕ) (ys : List Y) : Type 0 where
+  parts : AllByRecursion (λ y. PartsOf m (graph y)) ys
+  weighs : total (λ y. graph_weight (graph y)) ys ≤ 4 * n
+
+all_in : {X Y : Type 0} (long : X → ℕ) (graph : Y → Graph) (m : ℕ) (f : X → Option Y) → ((x : X) → long x + 1 ≤ m → Each (λ y. GraphIn (long x) m (graph y)) (f x)) → (xs : List X) → total long xs + 1 ≤ m → Each (AllIn graph (total long xs) m) (all_linked f xs)
+all_in long graph m f one [] h = record { parts = tt; weighs = omega arith }
+all_in long graph m f one (x ∷ xs) h =
+    let All = AllIn graph (total long (x ∷ xs)) m in
+    then_each (λ y. GraphIn (long x) m (graph y)) All (λ y. option_map (λ ys. y ∷ ys) (all_linked f xs)) (f x) (one x (omega (arith, h)))
+    (λ y q. map_each (AllIn graph (total long xs) m) All (λ ys. y ∷ ys) (all_linked f xs) (all_in long graph m f one xs (omega (arith, h))) (λ ys r.
+    let first = q.weighs in
+    let rest = r.weighs in
+    record { parts = (q.parts, r.parts); weighs = omega (arith, first, rest) }))
+
+record DocumentIn (m : ℕ) (d : Document Graph) : Type 0 where
+  parts : EachGraph (PartsOf m) d
+  weighs : graphs_weight d ≤ 4 * m
+
+one_in : (n m : ℕ) (g : Graph) → n ≤ m → GraphIn n m g → PartsOf m g × (graph_weight g ≤ 4 * m)
+one_in n m g l h = let w = h.weighs in (h.parts, omega (arith, w, l))
+
+document_in : (n m : ℕ) → n + 1 ≤ m → (p : Document Part) → PartsIn n p → Each (DocumentIn m) (linked p)
+document_in n m l (value3 p) h = map_each (GraphIn (part_size p) m) (DocumentIn m) value3 (linked_part p) (linked_in m p (omega (arith, l, h))) (λ g q. let k = one_in (part_size p) m g (omega (arith, l, h)) q in record { parts = k.0; weighs = k.1 })
+document_in n m l (value0 p) h = map_each (GraphIn (part_size p) m) (DocumentIn m) value0 (linked_part p) (linked_in m p (omega (arith, l, h))) (λ g q. let k = one_in (part_size p) m g (omega (arith, l, h)) q in record { parts = k.0; weighs = k.1 })
+document_in n m l (file name version p) h =
+    map_each (GraphIn (part_size p) m) (DocumentIn m) (file name version) (linked_part p) (linked_in m p (omega (arith, l, h))) (λ g q. let k = one_in (part_size p) m g (omega (arith, l, h)) q in record { parts = k.0; weighs = k.1 })
 document_in n m l (packet version headers messages) h =
-    let Heads : List (Header Graph) → Type 0 = AllByRecursion (λ y. GraphIn m y.graph) in
-    let Mails : List (Message Graph) → Type 0 = AllByRecursion (λ y. GraphIn m y.graph) in
-    then_each Heads (EachGraph (GraphIn m)) (λ hs. option_map (packet version hs) (all_linked linked_message messages)) (all_linked linked_header headers)
-    (all_each (IsIn header_size n) (λ (y : Header Graph). GraphIn m y.graph) linked_header (λ x s. map_each (GraphIn m) (λ (y : Header Graph). GraphIn m y.graph) (λ g. record { name = x.name; must = x.must; form = x.form; graph = g }) (linked_part x.graph) (linked_in m x.graph (omega (arith, l, s))) (λ g q. q)) headers h.0)
-    (λ hs a. map_each Mails (EachGraph (GraphIn m)) (packet version hs) (all_linked linked_message messages)
-    (all_each (IsIn message_size n) (λ (y : Message Graph). GraphIn m y.graph) linked_message (λ x s. map_each (GraphIn m) (λ (y : Message Graph). GraphIn m y.graph) (λ g. record { target = x.target; response = x.response; form = x.form; graph = g }) (linked_part x.graph) (linked_in m x.graph (omega (arith, l, s))) (λ g q. q)) messages h.1)
-    (λ ms b. (a, b)))
+    let Heads : List (Header Graph) → Type 0 = AllIn (λ y. y.graph) (total header_size headers) m in
+    let Mails : List (Message Graph) → Type 0 = AllIn (λ y. y.graph) (total message_size messages) m in
+    then_each Heads (DocumentIn m) (λ hs. option_map (packet version hs) (all_linked linked_message messages)) (all_linked linked_header headers)
+    (all_in header_size (λ (y : Header Graph). y.graph) m linked_header (λ x s. map_each (GraphIn (header_size x) m) (λ (y : Header Graph). GraphIn (header_size x) m y.graph) (λ g. record { name = x.name; must = x.must; form = x.form; graph = g }) (linked_part x.graph) (linked_in m x.graph s) (λ g q. q)) headers (omega (arith, l, h)))
+    (λ hs a. map_each Mails (DocumentIn m) (packet version hs) (all_linked linked_message messages)
+    (all_in message_size (λ (y : Message Graph). y.graph) m linked_message (λ x s. map_each (GraphIn (message_size x) m) (λ (y : Message Graph). GraphIn (message_size x) m y.graph) (λ g. record { target = x.target; response = x.response; form = x.form; graph = g }) (linked_part x.graph) (linked_in m x.graph s) (λ g q. q)) messages (omega (arith, l, h)))
+    (λ ms b. let first = a.weighs in let second = b.weighs in record { parts = (a.parts, b.parts); weighs = omega (arith, first, second, l, h) }))
 
 -- the key and the word of the form stand before its members
 members_each : (reads : Reads) (ms : Members) (p : Document Part) → document_members reads ms ≡ Some p → (n : ℕ) × PartsIn n p × (n + 1 ≤ members_size ms)
@@ -293,12 +334,12 @@ parts_each reads (json.number s) p e = no_answer p e
 parts_each reads (json.string s) p e = no_answer p e
 parts_each reads (json.array js) p e = no_answer p e
 
-parts : (reads : Reads) (text : List ℕ) (d : Document Graph) → Means reads text d → EachGraph (GraphIn (length text)) d
-parts reads text d (p, (j, t, m), l) =
+within_text : (reads : Reads) (text : List ℕ) (d : Document Graph) → Means reads text d → DocumentIn (length text) d
+within_text reads text d (p, (j, t, m), l) =
     let n = parts_each reads j p m in
     let under = n.2 in
-    let enough : n.0 + 1 ≤ length text = omega (arith, under, json_is j, ap tokens_size t.same, tokens_in text) in
-    each_is (EachGraph (GraphIn (length text))) (linked p) d (document_in n.0 (length text) enough p n.1) l
+    let enough : n.0 + 1 ≤ length text = omega (arith, under, json_spaced j, ap (spaced false) t.same, spaced_in text) in
+    each_is (DocumentIn (length text)) (linked p) d (document_in n.0 (length text) enough p n.1) l
 
 -- Within the limit there are numbers for all.
 
@@ -310,7 +351,7 @@ all_under : (m : ℕ) (ns : List Node) → nodes_size ns < m → AllByRecursion 
 all_under m [] h = tt
 all_under m (a ∷ ns) h = (omega (arith, h), all_under m ns (omega (arith, h)))
 
-has_numbers : (n : ℕ) → n ≤ text_limit → (g : Graph) → GraphIn n g → HasNumbers g
+has_numbers : (n : ℕ) → n ≤ text_limit → (g : Graph) → PartsOf n g → HasNumbers g
 has_numbers n l g h = record { few_nodes = omega (arith, l, h, nodes_long g.nodes); few_parts = all_under count_end g.nodes (omega (arith, l, h)) }
 
 each_graph : (P Q : Graph → Type 0) → ((g : Graph) → P g → Q g) → (d : Document Graph) → EachGraph P d → EachGraph Q d
@@ -328,6 +369,19 @@ few_nodes (packet version headers messages) h = (
   all_weaker (λ (x : Header Graph). HasNumbers x.graph) (λ x. IsFew x.graph) headers (λ x k. let l = k.few_nodes in omega (arith, l)) h.0,
   all_weaker (λ (x : Message Graph). HasNumbers x.graph) (λ x. IsFew x.graph) messages (λ x k. let l = k.few_nodes in omega (arith, l)) h.1,
 )
+
+-- Each graph weighs no more than all together.
+
+each_under : {X : Type 0} (weight : X → ℕ) (n : ℕ) (xs : List X) → total weight xs ≤ n → AllByRecursion (λ x. weight x ≤ n) xs
+each_under weight n [] h = tt
+each_under weight n (x ∷ xs) h = (omega (arith, h), each_under weight n xs (omega (arith, h)))
+
+each_weighs : (n : ℕ) (d : Document Graph) → graphs_weight d ≤ 4 * n → EachGraph (λ g. graph_weight g ≤ 4 * n) d
+each_weighs n (value3 g) h = h
+each_weighs n (value0 g) h = h
+each_weighs n (file name version g) h = h
+each_weighs n (packet version headers messages) h =
+    (each_under (λ (x : Header Graph). graph_weight x.graph) (4 * n) headers (omega (arith, h)), each_under (λ (x : Message Graph). graph_weight x.graph) (4 * n) messages (omega (arith, h)))
 
 -- In an arena.
 
@@ -383,8 +437,10 @@ kept a root h =
 pub text_bounds : TextBounds
 text_bounds = record {
   tokens = tokens_in;
-  parts = parts;
-  within = λ reads text d l m. each_graph (GraphIn (length text)) HasNumbers (has_numbers (length text) l) d (parts reads text d m);
-  few = λ reads text d l m. few_nodes d (each_graph (GraphIn (length text)) HasNumbers (has_numbers (length text) l) d (parts reads text d m));
+  parts = λ reads text d m. (within_text reads text d m).parts;
+  weighs = λ reads text d m. each_weighs (length text) d (within_text reads text d m).weighs;
+  together = λ reads text d m. (within_text reads text d m).weighs;
+  within = λ reads text d l m. each_graph (PartsOf (length text)) HasNumbers (has_numbers (length text) l) d (within_text reads text d m).parts;
+  few = λ reads text d l m. few_nodes d (each_graph (PartsOf (length text)) HasNumbers (has_numbers (length text) l) d (within_text reads text d m).parts);
   kept = kept;
 }

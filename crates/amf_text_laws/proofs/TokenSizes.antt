@@ -1,4 +1,4 @@
--- A text has the bytes of its tokens.
+-- A text has the bytes of its tokens, and of the commas between them.
 use Rattle.std.proofs.Common.{◌≡◌, ℕ, suc, ◌+◌, ◌≤◌, Bool, true, false, cond, List, [], ◌∷◌, ◌++◌, length, Option, Some, None, refl, sym, ap, ◌∙◌, subst, arith, length-append}
 use Rattle.std.specs.Prelude.{⊤, ◌==◌, ◌&&◌, nat_lt}
 use Rattle.std.specs.Char.{is_digit, encode_utf8}
@@ -13,7 +13,7 @@ use Rattle.json.specs.Lex.{Lexeme, token, comma, colon, Class, quote, backslash,
 use Rattle.amf_text.proofs.IfThere.{Each, then_each, map_each, if_each}
 use Rattle.amf_text_laws.specs.TextBounds.{token_size, tokens_size}
 use Rattle.amf_text_laws.proofs.Scanned.{not_true}
-use Rattle.amf_text_laws.proofs.Sizes.{any, weaker}
+use Rattle.amf_text_laws.proofs.Sizes.{begins, ends, spaced, any, weaker}
 
 abbrev lexeme_size : Lexeme → ℕ
 lexeme_size (token t) = token_size t
@@ -223,25 +223,60 @@ abbrev owed : Place → ℕ
 owed after_key = 1
 owed _ = 0
 
+abbrev behind_value : Place → Bool
+behind_value after_value = true
+behind_value _ = false
+
 abbrev Punctuated : List Lexeme → Type 0
-Punctuated ls = (p : Place) → Colon p ls → tokens_size (punctuate p ls) + owed p ≤ lexemes_size ls
+Punctuated ls = (p : Place) → Colon p ls → spaced (behind_value p) (punctuate p ls) + owed p ≤ lexemes_size ls
 
-allowed_in : (a : Bool) (t : Token) (k : Place → List Token) (next : Place) (n : ℕ) → token_size t + tokens_size (k next) ≤ n → tokens_size (kit.if_allowed a t k next) ≤ n
-allowed_in true t k next n h = h
-allowed_in false t k next n h = omega arith
+no_comma : (b : Bool) → ◌≡◌ {A = ℕ} (cond b 0 0) 0
+no_comma true = refl
+no_comma false = refl
 
-token_in : (p : Place) (t : Token) (ls : List Lexeme) (c : Bool) → begins_colon ls ≡ c → Punctuated ls → tokens_size (kit.place_token p t c (λ next. punctuate next ls)) ≤ token_size t + lexemes_size ls
-token_in p begin_object ls c e more = allowed_in (may_begin p) begin_object (λ next. punctuate next ls) fresh (1 + lexemes_size ls) (omega (arith, more fresh tt))
-token_in p end_object ls c e more = allowed_in (may_close p) end_object (λ next. punctuate next ls) after_value (1 + lexemes_size ls) (omega (arith, more after_value tt))
-token_in p begin_array ls c e more = allowed_in (may_begin p) begin_array (λ next. punctuate next ls) fresh (1 + lexemes_size ls) (omega (arith, more fresh tt))
-token_in p end_array ls c e more = allowed_in (may_close p) end_array (λ next. punctuate next ls) after_value (1 + lexemes_size ls) (omega (arith, more after_value tt))
-token_in p (key s) ls c e more = omega arith
-token_in p (string s) ls true e more = allowed_in (may_begin p) (key s) (λ next. punctuate next ls) after_key (2 + length s + lexemes_size ls) (omega (arith, more after_key e))
-token_in p (string s) ls false e more = allowed_in (may_begin p) (string s) (λ next. punctuate next ls) after_value (2 + length s + lexemes_size ls) (omega (arith, more after_value tt))
-token_in p (number s) ls c e more = allowed_in (may_begin p) (number s) (λ next. punctuate next ls) after_value (1 + lexemes_size ls) (omega (arith, more after_value tt))
-token_in p (boolean b) ls c e more = allowed_in (may_begin p) (boolean b) (λ next. punctuate next ls) after_value (1 + lexemes_size ls) (omega (arith, more after_value tt))
-token_in p null ls c e more = allowed_in (may_begin p) null (λ next. punctuate next ls) after_value (1 + lexemes_size ls) (omega (arith, more after_value tt))
-token_in p bad ls c e more = omega arith
+-- the tokens end here
+ended : (b : Bool) → spaced b (bad ∷ []) ≡ 0
+ended true = refl
+ended false = refl
+
+begin_alone : (p : Place) (n : ℕ) → may_begin p ≡ true → cond (behind_value p) n 0 ≡ 0
+begin_alone fresh n h = refl
+begin_alone after_value n h = absurd (false≢true h)
+begin_alone after_comma n h = refl
+begin_alone after_key n h = refl
+
+allowed_in : (a b : Bool) (t : Token) (k : Place → List Token) (next : Place) (n : ℕ) → (a ≡ true → cond b (begins t) 0 ≡ 0) → token_size t + spaced (ends t) (k next) ≤ n → spaced b (kit.if_allowed a t k next) ≤ n
+allowed_in true b t k next n g h = omega (arith, h, g refl)
+allowed_in false b t k next n g h = omega (arith, ended b)
+
+token_in : (p : Place) (t : Token) (ls : List Lexeme) (c : Bool) → begins_colon ls ≡ c → Punctuated ls → spaced (behind_value p) (kit.place_token p t c (λ next. punctuate next ls)) ≤ token_size t + lexemes_size ls
+token_in p begin_object ls c e more = allowed_in (may_begin p) (behind_value p) begin_object (λ next. punctuate next ls) fresh (1 + lexemes_size ls) (begin_alone p 1) (omega (arith, more fresh tt))
+token_in p end_object ls c e more = allowed_in (may_close p) (behind_value p) end_object (λ next. punctuate next ls) after_value (1 + lexemes_size ls) (λ h. no_comma (behind_value p)) (omega (arith, more after_value tt))
+token_in p begin_array ls c e more = allowed_in (may_begin p) (behind_value p) begin_array (λ next. punctuate next ls) fresh (1 + lexemes_size ls) (begin_alone p 1) (omega (arith, more fresh tt))
+token_in p end_array ls c e more = allowed_in (may_close p) (behind_value p) end_array (λ next. punctuate next ls) after_value (1 + lexemes_size ls) (λ h. no_comma (behind_value p)) (omega (arith, more after_value tt))
+token_in p (key s) ls c e more = omega (arith, ended (behind_value p))
+token_in p (string s) ls true e more = allowed_in (may_begin p) (behind_value p) (key s) (λ next. punctuate next ls) after_key (2 + length s + lexemes_size ls) (begin_alone p 1) (omega (arith, more after_key e))
+token_in p (string s) ls false e more = allowed_in (may_begin p) (behind_value p) (string s) (λ next. punctuate next ls) after_value (2 + length s + lexemes_size ls) (begin_alone p 1) (omega (arith, more after_value tt))
+token_in p (number s) ls c e more = allowed_in (may_begin p) (behind_value p) (number s) (λ next. punctuate next ls) after_value (1 + lexemes_size ls) (begin_alone p 1) (omega (arith, more after_value tt))
+token_in p (boolean b) ls c e more = allowed_in (may_begin p) (behind_value p) (boolean b) (λ next. punctuate next ls) after_value (1 + lexemes_size ls) (begin_alone p 1) (omega (arith, more after_value tt))
+token_in p null ls c e more = allowed_in (may_begin p) (behind_value p) null (λ next. punctuate next ls) after_value (1 + lexemes_size ls) (begin_alone p 1) (omega (arith, more after_value tt))
+token_in p bad ls c e more = omega (arith, ended (behind_value p))
+
+one_begins : (t : Token) → begins t ≤ 1
+one_begins begin_object = omega arith
+one_begins end_object = omega arith
+one_begins begin_array = omega arith
+one_begins end_array = omega arith
+one_begins (key s) = omega arith
+one_begins (string s) = omega arith
+one_begins (number s) = omega arith
+one_begins (boolean b) = omega arith
+one_begins null = omega arith
+one_begins bad = omega arith
+
+one_comma : (ts : List Token) → spaced true ts ≤ suc (spaced false ts)
+one_comma [] = omega arith
+one_comma (t ∷ ts) = omega (arith, one_begins t)
 
 punctuated : (ls : List Lexeme) → Punctuated ls
 unfolding punctuate
@@ -254,7 +289,7 @@ punctuated (token t ∷ ls) after_value h = omega (arith, token_in after_value t
 punctuated (token t ∷ ls) after_comma h = omega (arith, token_in after_comma t ls (begins_colon ls) refl (punctuated ls))
 punctuated (token t ∷ ls) after_key h = absurd (false≢true h)
 punctuated (comma ∷ ls) fresh h = omega arith
-punctuated (comma ∷ ls) after_value h = omega (arith, punctuated ls after_comma tt)
+punctuated (comma ∷ ls) after_value h = omega (arith, punctuated ls after_comma tt, one_comma (punctuate after_comma ls))
 punctuated (comma ∷ ls) after_comma h = omega arith
 punctuated (comma ∷ ls) after_key h = absurd (false≢true h)
 punctuated (colon ∷ ls) fresh h = omega arith
@@ -262,5 +297,12 @@ punctuated (colon ∷ ls) after_value h = omega arith
 punctuated (colon ∷ ls) after_comma h = omega arith
 punctuated (colon ∷ ls) after_key h = omega (arith, punctuated ls fresh tt)
 
+pub spaced_in : (text : List ℕ) → spaced false (tokens text) ≤ length text
+spaced_in text = omega (arith, punctuated (lex between text) fresh tt, lex_in between text)
+
+without_commas : (b : Bool) (ts : List Token) → tokens_size ts ≤ spaced b ts
+without_commas b [] = omega arith
+without_commas b (t ∷ ts) = omega (arith, without_commas (ends t) ts)
+
 pub tokens_in : (text : List ℕ) → tokens_size (tokens text) ≤ length text
-tokens_in text = omega (arith, punctuated (lex between text) fresh tt, lex_in between text)
+tokens_in text = omega (arith, without_commas false (tokens text), spaced_in text)
