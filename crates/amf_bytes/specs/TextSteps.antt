@@ -4,9 +4,9 @@ use Rattle.std.specs.declared.vec.Vec.{Vec}
 use Rattle.std.specs.declared.alloc.Global.{Global}
 use Rattle.amf_text.specs.Scalars.{read_number}
 use Rattle.amf_text.specs.Refused.{IsTextAccepted, text_limit}
-use Rattle.amf_text_draft.specs.declared.written.Written.{Written}
+use Rattle.amf_text_pages.specs.declared.written.Written.{Written}
 use Rattle.amf_text_read.specs.TextVerdicts.{IsRefusedSo}
-use Rattle.amf_text_draft.specs.Written.{document_written}
+use Rattle.amf_text_pages.specs.Written.{document_written}
 use Rattle.amf_commands.specs.Content.{content_of}
 use Rattle.amf_commands.specs.Formats.{IsWritten, IsUnwritten}
 use Rattle.amf_commands.specs.ReadContent.{IsSpellable}

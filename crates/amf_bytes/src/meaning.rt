@@ -6,7 +6,7 @@ ghost use Rattle.amf_sol.specs.StoredFile.{shared};
 ghost use Rattle.amf_text.specs.Scalars.{read_number};
 ghost use Rattle.amf_text.specs.Accepted.{Means};
 ghost use Rattle.amf_text.specs.Documents.{file};
-ghost use Rattle.amf_text_draft.specs.Written.{document_written, version_named};
+ghost use Rattle.amf_text_pages.specs.Written.{document_written, version_named};
 ghost use Rattle.amf_json.specs.JsonTexts.{file_document, version_told};
 ghost use Rattle.amf_bytes.specs.TextSteps.{IsMeaning};
 

@@ -2,7 +2,7 @@ ghost use Rattle.std.specs.Prelude.{◌≡◌, map, IfOk};
 ghost use Rattle.amf_graph.specs.Rooted.{content};
 ghost use Rattle.amf_packet.specs.Content.{body_of as body_seen, header_of as header_seen, message_of as message_seen, packet_of as packet_seen};
 ghost use Rattle.amf_text.specs.Documents.{packet};
-ghost use Rattle.amf_text_draft.specs.Written.{form_named, header_written, message_written};
+ghost use Rattle.amf_text_pages.specs.Written.{form_named, header_written, message_written};
 ghost use Rattle.amf_json.specs.JsonTexts.{form_told, header_told, message_told, packet_document};
 
 use amf_graph::Rooted;

@@ -7,7 +7,7 @@ use Rattle.amf_text.specs.Accepted.{all_linked}
 use Rattle.amf_text.specs.Refused.{first_false}
 use Rattle.amf_text_trees.specs.Sheets.{Page}
 use Rattle.amf_text_trees.specs.Pages.{page_graph, page_calls, page_linked, are_true, header_linked, message_linked, pages_linked, pages_calls}
-use Rattle.amf_text_draft.specs.Graphs.{header_graph, message_graph, graphs_in}
+use Rattle.amf_text_graphs.specs.Graphs.{header_graph, message_graph, graphs_in}
 
 none_before : (o : Option ℕ) → option_map suc o ≡ None → o ≡ None
 none_before None e = refl

@@ -1,6 +1,5 @@
 -- What has been gathered of a text that means something, but for labels that may lead nowhere.
-use Rattle.std.proofs.Common.{◌≡◌, ◌≤◌, ℕ, List, [], ◌∷◌, length, map, Option, Some, None, sym, ap, ◌∙◌, subst}
-use Rattle.std.specs.Prelude.{MatchOption}
+use Rattle.std.proofs.Common.{◌≡◌, ℕ, List, [], ◌∷◌, Some, None, sym, subst}
 use Rattle.std.specs.List.{AllByRecursion}
 use Rattle.std.specs.Str.{IsUtf8}
 use Rattle.json.specs.Json.{Json}
@@ -8,10 +7,10 @@ use Rattle.json.specs.Json as json
 use Rattle.json.specs.Lex.{tokens}
 use Rattle.amf_graph.specs.Graph.{Graph}
 use Rattle.amf_text.specs.Scalars.{read_number}
-use Rattle.amf_text.specs.Documents.{Header, Message, Document, value3, value0, file, packet}
+use Rattle.amf_text.specs.Documents.{Document, value3, value0, file, packet}
 use Rattle.amf_text.specs.Accepted.{Part, IsJsonText, MeansPart, Means, document_meant}
 use Rattle.amf_text.specs.Scan.{ended, scan}
-use Rattle.amf_text.specs.Refused.{first_false, text_limit, IsTextAccepted}
+use Rattle.amf_text.specs.Refused.{first_false, IsTextAccepted}
 use Rattle.amf_text.specs.Tellable.{EachGraph}
 use Rattle.amf_text.specs.WholeLaws.{IsSoundGraph, WholeLaws}
 use Rattle.amf_text.proofs.Goals.{no_answer}
@@ -21,11 +20,11 @@ use Rattle.amf_text_trees.specs.Sheets.{Page, pages_of}
 use Rattle.amf_text_trees.specs.Pages.{pages_calls}
 use Rattle.amf_text_trees.specs.TreeLaws.{Gathers, TreeLaws}
 use Rattle.amf_text_read.specs.TextVerdicts.{IsAcceptedButLabels}
-use Rattle.amf_text_draft.specs.declared.page.Document.{Document as Gathered}
-use Rattle.amf_text_draft.specs.Graphs.{graphs_in, IsWritable}
-use Rattle.amf_text_draft.specs.Pages.{document_of}
+use Rattle.amf_text_pages.specs.declared.page.Document.{Document as Gathered}
+use Rattle.amf_text_graphs.specs.Graphs.{graphs_in, IsWritable}
+use Rattle.amf_text_pages.specs.Pages.{document_of}
 use Rattle.amf_text_draft.specs.Results.{IsLost}
-use Rattle.amf_text_draft.specs.States.{IsGathered}
+use Rattle.amf_text_gather.specs.States.{IsGathered}
 use Rattle.amf_text_draft.proofs.Linked.{pages_are}
 
 -- It comes to what the text means.

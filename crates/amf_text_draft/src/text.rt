@@ -1,26 +1,25 @@
 //! Reads a text.
 
-ghost use Rattle.std.specs.Prelude.{◌≡◌, ◌≤◌, None, length, IfOk, MatchOption};
+ghost use Rattle.std.specs.Prelude.{◌≡◌, ◌*◌, ◌≤◌, None, length, IfOk, MatchOption};
 ghost use Rattle.std.specs.Result.{IsErrOf};
 ghost use Rattle.json.specs.Lex.{tokens};
 ghost use Rattle.amf_text.specs.Scalars.{read_number};
 ghost use Rattle.amf_text.specs.Scan.{scan, ended};
 ghost use Rattle.amf_text.specs.Refused.{IsTextAccepted, first_false, text_limit};
+ghost use Rattle.amf_text_laws.specs.TextBounds.{graphs_weight};
 ghost use Rattle.amf_text_trees.specs.Pages.{pages_calls};
 ghost use Rattle.amf_text_trees.specs.TreeLaws.{Gathers};
 ghost use Rattle.amf_text_read.specs.TextVerdicts.{IsAcceptedButLabels, IsRefusedSo};
 ghost use Rattle.amf_text_draft.specs.declared.text.TextEnd.TheVariants.{Memory as NoMemory};
-ghost use Rattle.amf_text_draft.specs.Pages.{document_of};
+ghost use Rattle.amf_text_pages.specs.Pages.{document_of};
 ghost use Rattle.amf_text_draft.specs.Results.{IsLost};
-ghost use Rattle.amf_text_draft.specs.Written.{document_written};
+ghost use Rattle.amf_text_pages.specs.Written.{document_written};
 
-use crate::calls::lost_call;
-use crate::page::Document;
-use crate::reading::gather_text;
-use crate::write::write;
-use crate::written::Written;
 use amf_text::{TextReason, whole_laws};
+use amf_text_gather::gather_text;
+use amf_text_graphs::{lost_call, write};
 use amf_text_laws::{few_nodes, one_verdict};
+use amf_text_pages::{Document, Written};
 use amf_text_read::{Refusal, label_place, line_and_column, text_verdict};
 use amf_text_trees::tree_laws;
 use amf_wire::Memory;
@@ -104,6 +103,7 @@ fn lost_label(
 fn accepted(alloc: Global, keys: Option<RandomState>, text: &str) -> Result<Written, TextEnd>
     requires { IsAcceptedButLabels text.now }
     ensures written { IfOk result (λ w. IsTextAccepted read_number text.now (document_written w)) }
+    ensures weighs { IfOk result (λ w. graphs_weight (document_written w) ≤ 4 * length text.now) }
     ensures refused { (r : Refusal) → IsErrOf result (TextEnd.Refused r) → IsRefusedSo text.now r }
 {
     tree_laws();
@@ -119,9 +119,10 @@ fn accepted(alloc: Global, keys: Option<RandomState>, text: &str) -> Result<Writ
 /// What a text means: a value of AMF 3 or AMF 0, a shared object file or a packet, with its graphs; or why it means nothing, and where.
 /// A text is JSON in UTF-8 (RFC 8259) of at most 268,435,456 bytes; it is refused at its first token that is wrong, or, where all of them
 /// are right, at the first label that is called and that no row of its part has. What is looked up is found by these keys.
-/// It gives up where there is no memory.
+/// What is read weighs at most four times the bytes of the text. It gives up where there is no memory.
 pub fn read_text(alloc: Global, keys: Option<RandomState>, text: &[u8]) -> Result<Written, TextEnd>
     ensures written { IfOk result (λ w. IsTextAccepted read_number text.now (document_written w)) }
+    ensures weighs { IfOk result (λ w. graphs_weight (document_written w) ≤ 4 * length text.now) }
     ensures refused { (r : Refusal) → IsErrOf result (TextEnd.Refused r) → IsRefusedSo text.now r }
 {
     if let Some(refusal) = text_verdict(alloc, keys, text)? {

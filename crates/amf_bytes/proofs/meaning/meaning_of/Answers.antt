@@ -4,8 +4,8 @@ use Rattle.amf_wire.specs.Text.{IsText}
 use Rattle.amf_graph.specs.Rooted.{content}
 use Rattle.amf_packet.specs.Content.{packet_of}
 use Rattle.amf_text.specs.Tellable.{IsTellable}
-use Rattle.amf_text_draft.specs.declared.written.Written.{Written}
-use Rattle.amf_text_draft.specs.Written.{document_written}
+use Rattle.amf_text_pages.specs.declared.written.Written.{Written}
+use Rattle.amf_text_pages.specs.Written.{document_written}
 use Rattle.amf_json.proofs.FittedInputs.{is_holder}
 use Rattle.amf_bytes.proofs.Ready.{packet_ready}
 use Rattle.amf_bytes.proofs.meaning.meaning_of.Goals as goal

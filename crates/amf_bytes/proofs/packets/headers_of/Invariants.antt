@@ -1,7 +1,7 @@
 -- The headers so far, and those that are left.
 use Rattle.std.proofs.Common.{◌≡◌, ◌++◌, map}
 use Rattle.amf_packet.specs.Content.{header_of as header_seen}
-use Rattle.amf_text_draft.specs.Written.{header_written}
+use Rattle.amf_text_pages.specs.Written.{header_written}
 use Rattle.amf_json.specs.JsonTexts.{header_told}
 use Rattle.amf_bytes.proofs.packets.headers_of.Given as goal
 

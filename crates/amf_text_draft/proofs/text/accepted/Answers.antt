@@ -1,7 +1,7 @@
 use Rattle.amf_text.specs.Scalars.{read_number}
-use Rattle.amf_text_draft.specs.Graphs.{graphs_in}
-use Rattle.amf_text_draft.specs.Pages.{document_of}
-use Rattle.amf_text_draft.specs.Written.{document_written}
+use Rattle.amf_text_graphs.specs.Graphs.{graphs_in}
+use Rattle.amf_text_pages.specs.Pages.{document_of}
+use Rattle.amf_text_pages.specs.Written.{document_written}
 use Rattle.amf_text_draft.proofs.Verdicts.{are_writable, is_written, means_graphs}
 use Rattle.amf_text_draft.proofs.text.accepted.Goals as goal
 
@@ -18,3 +18,11 @@ returns-in_ok-write-in-None-clause-written c =
     let linked = rw c.in-None.is at c.in_ok-refusal.ensures in
     let means = means_graphs (c.tree_laws.ensures read_number) c.args.text.now pages c.requires c.in_ok-document.ensures linked in
     is_written c.args.text.now (graphs_in pages) (document_written c.in_ok-write-in-None.field-0) c.requires means c.in_ok-write-in-None.ensures
+
+pub returns-in_ok-write-in-None-clause-weighs : goal.returns-in_ok-write-in-None-clause-weighs
+returns-in_ok-write-in-None-clause-weighs c =
+    let pages = document_of c.in_ok-document.document in
+    let linked = rw c.in-None.is at c.in_ok-refusal.ensures in
+    let means = means_graphs (c.tree_laws.ensures read_number) c.args.text.now pages c.requires c.in_ok-document.ensures linked in
+    let written = is_written c.args.text.now (graphs_in pages) (document_written c.in_ok-write-in-None.field-0) c.requires means c.in_ok-write-in-None.ensures in
+    c.few_nodes.ensures.together read_number c.args.text.now (document_written c.in_ok-write-in-None.field-0) written.means

@@ -1,7 +1,7 @@
 use Rattle.std.proofs.Common.{subst}
 use Rattle.json.specs.Lex.{tokens}
 use Rattle.amf_text.specs.Scalars.{read_number}
-use Rattle.amf_text_draft.specs.States.{IsGathered}
+use Rattle.amf_text_gather.specs.States.{IsGathered}
 use Rattle.amf_text_draft.proofs.Verdicts.{is_gathered}
 use Rattle.amf_text_draft.proofs.text.gathered.Goals as goal
 

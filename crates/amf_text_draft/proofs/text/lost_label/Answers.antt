@@ -1,6 +1,6 @@
 use Rattle.std.proofs.Common.{sym, ◌∙◌}
 use Rattle.amf_text.specs.Scalars.{read_number}
-use Rattle.amf_text_draft.specs.Pages.{document_of}
+use Rattle.amf_text_pages.specs.Pages.{document_of}
 use Rattle.amf_text_draft.proofs.Verdicts.{ends, is_lost}
 use Rattle.amf_text_draft.proofs.text.lost_label.Goals as goal
 

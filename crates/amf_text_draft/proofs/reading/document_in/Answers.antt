@@ -1,5 +1,0 @@
-use Rattle.amf_text_draft.proofs.Ends.{not_ended}
-use Rattle.amf_text_draft.proofs.reading.document_in.Goals as goal
-
-pub returns : goal.returns
-returns c = λ p e. not_ended c.args.frame p c.in_default.not-Ended e

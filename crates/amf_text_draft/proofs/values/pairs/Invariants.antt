@@ -1,8 +1,0 @@
-use Rattle.std.proofs.Common.{map, take}
-use Rattle.amf_graph.specs.Arena.{Arena}
-use Rattle.amf_text_draft.specs.Entries.{pair_of}
-use Rattle.amf_text_draft.specs.Showing.{IsMore, Adds, ArePairsShown}
-use Rattle.amf_text_draft.proofs.values.pairs.Given as goal
-
-abbrev pub invariant-loop-pair : goal.invariant-loop-pair
-invariant-loop-pair l = ((a : Arena) → IsMore l.book a → ArePairsShown l.rows a l.all.items (map pair_of (take l.pair-index l.fn.pairs))) × Adds l.fn.book l.book

@@ -1,8 +1,0 @@
-use Rattle.std.proofs.Common.{map, take}
-use Rattle.amf_graph.specs.Arena.{Arena}
-use Rattle.amf_text_draft.specs.Entries.{entry_of}
-use Rattle.amf_text_draft.specs.Showing.{IsMore, Adds, AreShown}
-use Rattle.amf_text_draft.proofs.values.values.Given as goal
-
-abbrev pub invariant-loop-entry : goal.invariant-loop-entry
-invariant-loop-entry l = ((a : Arena) → IsMore l.book a → AreShown l.rows a l.values.items (map entry_of (take l.entry-index l.fn.entries))) × Adds l.fn.book l.book

@@ -1,0 +1,3 @@
+-- The lemmas.
+pub mod Ends
+pub mod LonePieces

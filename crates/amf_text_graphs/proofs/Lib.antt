@@ -1,0 +1,13 @@
+-- The lemmas.
+pub mod RowCalls
+pub mod Lookups
+pub mod Numbering
+pub mod Fronts
+pub mod Wholes
+pub mod Showing
+pub mod Members
+pub mod Naming
+pub mod Classes
+pub mod Tellings
+pub mod NodesTold
+pub mod Soundness

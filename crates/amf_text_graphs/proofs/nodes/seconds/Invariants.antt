@@ -1,0 +1,5 @@
+use Rattle.std.proofs.Common.{◌≡◌, map, take}
+use Rattle.amf_text_graphs.proofs.nodes.seconds.Given as goal
+
+abbrev pub invariant-loop-pair : goal.invariant-loop-pair
+invariant-loop-pair l = l.values.items ≡ map (λ p. p.1) (take l.pair-index l.fn.pairs)
