@@ -8,7 +8,9 @@ use Rattle.amf_commands.specs.declared.command.Command.{Command}
 use Rattle.amf_commands.specs.declared.command.ServeOptions.{ServeOptions}
 use Rattle.amf_commands.specs.declared.command.Task.{Task}
 use Rattle.amf_commands.specs.declared.command.Task.TheVariants.{Output, Bytes, Serve, Flv, Rtmp, Call, Listen}
+use Rattle.amf_text.specs.Scalars.{read_number}
 use Rattle.amf_text.specs.Refused.{text_limit}
+use Rattle.amf_text_laws.proofs.TextBounds.{text_bounds}
 use Rattle.amf_bytes.specs.declared.ending.BytesEnd.TheVariants as text
 use Rattle.amf_bytes.specs.TextRuns.{CountsTextReads, CountsTextWrites, IsTextUntouched, RunsTextOver}
 use Rattle.flv_meta.specs.declared.flv_job.FlvJob.{FlvJob}
@@ -312,6 +314,7 @@ module _ {I O E : Type 0} (i : SourceMembers I) (o : SinkMembers O) (e : SinkMem
     lacking = λ t number l k. inr (inl refl);
     back = λ t. text_there_and_back (i.left input);
     first = λ t reason at n m q. first_faults (i.left input) reason at n m q;
+    weighs = λ t d a. text_bounds.together read_number (i.left input) d a.means;
   }
 
   -- memory was wanting before anything was asked of a stream
@@ -608,6 +611,7 @@ module _ {I O E : Type 0} (i : SourceMembers I) (o : SinkMembers O) (e : SinkMem
       lacking = λ t number l k. lacking_text (i.left input) (i.left rest) (o.tells wrote) (o.held out) (o.held wrote) x number l (runs t) k;
       back = λ t. text_there_and_back (i.left input);
       first = λ t reason at n m q. first_faults (i.left input) reason at n m q;
+      weighs = λ t d a. text_bounds.together read_number (i.left input) d a.means;
     };
     flv = λ job v. absurd (bytes_is_no_media words (inl (job, v)) w);
     rtmp = λ size v. absurd (bytes_is_no_media words (inr (size, v)) w);

@@ -1,5 +1,5 @@
 -- What a run promises of `bytes`.
-use Rattle.std.specs.Prelude.{◌≡◌, ◌≢◌, ℕ, ◌+◌, ◌≤◌, ◌⊎◌, List, [], ◌++◌, length, codes, decimal, Result, Ok, Err}
+use Rattle.std.specs.Prelude.{◌≡◌, ◌≢◌, ℕ, ◌+◌, ◌*◌, ◌≤◌, ◌⊎◌, List, [], ◌++◌, length, codes, decimal, Result, Ok, Err}
 use Rattle.amf_io.specs.declared.source.Source.{Ghosts as SourceMembers}
 use Rattle.amf_io.specs.declared.sink.Sink.{Ghosts as SinkMembers}
 use Rattle.amf_text.specs.declared.reason.TextReason.{TextReason}
@@ -9,6 +9,7 @@ use Rattle.amf_graph.specs.Graph.{Graph}
 use Rattle.amf_text.specs.Scalars.{read_number}
 use Rattle.amf_text.specs.Documents.{Document}
 use Rattle.amf_text.specs.Refused.{IsTextAccepted, IsTextRefused, text_limit}
+use Rattle.amf_text_laws.specs.TextBounds.{graphs_weight}
 use Rattle.amf_text_read.specs.declared.verdict.Refusal.{Refusal}
 use Rattle.amf_commands.specs.declared.run_end.RunEnd.TheVariants as run
 use Rattle.amf_commands.specs.Lines.{line_feed, line_of}
@@ -82,3 +83,5 @@ pub record EndsBytes {I O E : Type 0} (i : SourceMembers I) (o : SinkMembers O) 
   pub back : i.tells input → GoesBack (i.left input)
   -- a refusal names the first fault: what stands before it begins a text that means something; a text that is too long is refused for that, and a label that leads nowhere where all else is right
   pub first : i.tells input → (reason : TextReason) (at : ℕ) → reason ≢ text.TooLarge → reason ≢ text.NoLabel → IsTextRefused read_number (i.left input) reason at → IsFirstFaultAt (i.left input) at
+  -- what a text means weighs at most four times its bytes: 1 for each node, each class of an object and each value, the bytes of texts, names and contents, and 1 more for each name; all graphs of a packet together
+  pub weighs : i.tells input → (d : Document Graph) → IsTextAccepted read_number (i.left input) d → graphs_weight d ≤ 4 * length (i.left input)
