@@ -39,7 +39,7 @@ of a definition is the comment above it, or a sentence of `docs/trust_words.txt`
 
 ## Devices
 
-Besides the definitions there are devices of the proofs. They are listed at the end of each `specs/Lib.antt`, and each says so in its first
+Besides the definitions there are devices of the proofs. They are listed at the end of each `specs/Lib.antt`, and most say so in their first
 line. A wrong one can make a proof fail, but cannot make a promise false that does not speak of it. Of the promises about a run of the
 program only that of `rtmp` speaks of devices: `Layout` and `Repeated` of `amf_io`, by which the fields of a chunk stream are defined, and
 which stand in its path. No promise about a Flex message speaks of one. Of the promises of the libraries these do:
@@ -50,6 +50,7 @@ which stand in its path. No promise about a Flex message speaks of one. Of the p
 - the readers and laws of `rtmp_chunks`, which speak of the layouts of `amf_io`;
 - the calls by which a packet is told part by part: `HeaderTexts` and `MessageTexts` of `amf_text_write`, which speak of `Laid`, `Tells` and
   `Parts`;
+- the parts of the reader of JSON texts: `amf_text_pages`, `amf_text_gather` and `amf_text_graphs`;
 - the steps that the gateway's crates share: `amf_answer_plan`, `amf_flex_replies` and `amf_plain_calls`.
 
 Of the laws these do, and whoever goes by one has to read as much of the device as is named:
@@ -93,6 +94,9 @@ TITLES = {
     "amf_text_read": "Reading the JSON text",
     "amf_listings": "The listings of packets and of shared object files, and their laws",
     "amf_json": "The JSON text of what was read",
+    "amf_text_pages": "What a JSON text says, as it is gathered",
+    "amf_text_gather": "Gathering what a JSON text says",
+    "amf_text_graphs": "The graphs of a JSON text",
     "amf_text_draft": "Reading what a JSON text means",
     "amf_bytes": "The bytes of a JSON text",
     "flv_meta": "FLV script data",
@@ -137,7 +141,7 @@ OF_DATA = ["amf_commands.Run.", "amf_commands.Input.", "amf_commands.Commands.Re
 OF_FLV = ["amf_media.FlvRuns.", "amf_commands.Commands.ReadsFlv"]
 OF_RTMP = ["amf_media.RtmpRuns.", "amf_commands.Commands.ReadsRtmp"]
 OF_MEDIA = [*OF_FLV, *OF_RTMP, "amf_cli.MediaEnds.", "amf_commands.Commands.IsMedia"]
-OF_BYTES = ["amf_bytes.", "amf_text_draft.", "amf_cli.BytesEnds.", "amf_commands.Commands.ReadsBytes"]
+OF_BYTES = ["amf_bytes.", "amf_text_pages.", "amf_cli.BytesEnds.", "amf_commands.Commands.ReadsBytes"]
 OF_CALL = ["amf_cli.CallEnds.", "amf_commands.Commands.ReadsCall", "amf_commands.Commands.IsCalling"]
 OF_LISTEN = ["amf_cli.ListenEnds.", "amf_commands.Commands.ReadsListen", "amf_commands.Commands.IsListening"]
 OF_LINKS = [*OF_CALL, *OF_LISTEN, "amf_commands.Commands.IsDialling"]
@@ -146,7 +150,7 @@ OF_LINKS = [*OF_CALL, *OF_LISTEN, "amf_commands.Commands.IsDialling"]
 MEDIA = ["flv_meta", "amf_media", "rtmp_chunks", "rtmp_rechunk", "rtmp_listing"]
 SELF_CALLS = ["amf_self_call_laws", "amf_self_call"]
 CALLS = ["amf_client", "amf_dial_and_call", "amf_poll_session", *SELF_CALLS]
-TEXTS = ["amf_text", "amf_text_write", "amf_json", "amf_commands.Told", "amf_bytes", "amf_text_draft", "amf_text_read", "amf_cli.BytesEnds"]
+TEXTS = ["amf_text", "amf_text_write", "amf_json", "amf_commands.Told", "amf_bytes", "amf_text_pages", "amf_text_read", "amf_cli.BytesEnds"]
 OTHERS = ["amf_vectors", "amf_once"]
 FILES = ["amf_packet", "amf_sol", "amf_listings"]
 
@@ -166,8 +170,8 @@ PATHS = [
      [*OF_SERVE, *OF_MEDIA, *OF_LINKS, *OF_BYTES], ["amf_show", *OTHERS, *MEDIA, *CALLS, "amf_listings.PacketListing", "amf_listings.PacketNodes",
                 "amf_listings.FileListing", "amf_listings.PacketLaws", "amf_listings.FileLaws", "amf_packet.PacketLacks",
                 "amf_sol.FileLacks", "amf3_spelling.Lacks3", "amf0_spelling.Lacks0", "amf_graph.Lacks"], ["Ends"]),
-    ("To trust `bytes`", "That the output of `amf bytes` is the canonical encoding of what the JSON text in the input means, and that a refusal names the "
-     "first token that is wrong.",
+    ("To trust `bytes`", "That the output of `amf bytes` is the canonical encoding of what the JSON text in the input means, that a refusal names the "
+     "first token that is wrong, and that the graphs which a text means weigh at most four times its bytes.",
      [*OF_SERVE, *OF_MEDIA, *OF_LINKS, "amf_commands.Run."], ["amf_show", *OTHERS, *MEDIA, *CALLS, "amf_listings.PacketListing", "amf_listings.PacketNodes",
                 "amf_listings.FileListing", "amf_listings.PacketLaws", "amf_listings.FileLaws", "amf_packet.PacketLacks"], ["BytesEnds"]),
     ("To trust an answer of `serve`", "That what a connection is sent is the definition's answer to the bytes that came: what a request means, which calls of "
