@@ -75,6 +75,7 @@ at_split P rows r h l i m = decide (lt_or_eq i (length rows) (omega (arith, leng
 fits_grows : (p q : Pool) (ss : List KeptSlot) (used i : ℕ) (r : Row) → Grows p q → RowFits p ss used i r → RowFits q ss used i r
 fits_grows p q ss used i (row.Slot s) g h = h
 fits_grows p q ss used i (row.Leaf k) g h = row_grows p q (row.Leaf k) g h
+fits_grows p q ss used i (row.Bytes b) g h = row_grows p q (row.Bytes b) g h
 fits_grows p q ss used i (row.Array vs ps) g h = row_grows p q (row.Array vs ps) g h
 fits_grows p q ss used i (row.Object t vs ps) g h = row_grows p q (row.Object t vs ps) g h
 fits_grows p q ss used i (row.Wrapper c vs ps) g h = row_grows p q (row.Wrapper c vs ps) g h
@@ -84,6 +85,7 @@ fits_grows p q ss used i (row.Dictionary w es) g h = row_grows p q (row.Dictiona
 shows_grows : (p q : Pool) (ss : List KeptSlot) (used i : ℕ) (r : Row) → Grows p q → RowFits p ss used i r → row_node q ss r ≡ row_node p ss r
 shows_grows p q ss used i (row.Slot s) g h = refl
 shows_grows p q ss used i (row.Leaf k) g h = node_grows p q (row.Leaf k) g h
+shows_grows p q ss used i (row.Bytes b) g h = node_grows p q (row.Bytes b) g h
 shows_grows p q ss used i (row.Array vs ps) g h = node_grows p q (row.Array vs ps) g h
 shows_grows p q ss used i (row.Object t vs ps) g h = node_grows p q (row.Object t vs ps) g h
 shows_grows p q ss used i (row.Wrapper c vs ps) g h = node_grows p q (row.Wrapper c vs ps) g h
@@ -101,6 +103,7 @@ nodes_grow p q ss used rows a g = rows_same (row_node p ss) (row_node q ss) rows
 fits_inside : (q : Pool) (ss : List KeptSlot) (used i : ℕ) (r : Row) → RowIn q r → RowFits q ss used i r
 fits_inside q ss used i (row.Slot s) h = absurd h
 fits_inside q ss used i (row.Leaf k) h = h
+fits_inside q ss used i (row.Bytes b) h = h
 fits_inside q ss used i (row.Array vs ps) h = h
 fits_inside q ss used i (row.Object t vs ps) h = h
 fits_inside q ss used i (row.Wrapper c vs ps) h = h
@@ -110,6 +113,7 @@ fits_inside q ss used i (row.Dictionary w es) h = h
 pub shows_inside : (q : Pool) (ss : List KeptSlot) (r : Row) → RowIn q r → row_node q ss r ≡ pool_node q r
 shows_inside q ss (row.Slot s) h = absurd h
 shows_inside q ss (row.Leaf k) h = refl
+shows_inside q ss (row.Bytes b) h = refl
 shows_inside q ss (row.Array vs ps) h = refl
 shows_inside q ss (row.Object t vs ps) h = refl
 shows_inside q ss (row.Wrapper c vs ps) h = refl
@@ -130,6 +134,7 @@ nodes_push p q ss used rows rows' n r e a g k =
 fits_used : (p : Pool) (ss ss' : List KeptSlot) (used used' i : ℕ) (r : Row) → used ≤ used' → ((k : ℕ) → k < used → get_or ss' k no_slot ≡ get_or ss k no_slot) → RowFits p ss used i r → RowFits p ss' used' i r
 fits_used p ss ss' used used' i (row.Slot s) l e h = (let m = h.0 in omega arith, ap (λ (x : KeptSlot). x.owner) (e s h.0) ∙ h.1)
 fits_used p ss ss' used used' i (row.Leaf k) l e h = h
+fits_used p ss ss' used used' i (row.Bytes b) l e h = h
 fits_used p ss ss' used used' i (row.Array vs ps) l e h = h
 fits_used p ss ss' used used' i (row.Object t vs ps) l e h = h
 fits_used p ss ss' used used' i (row.Wrapper c vs ps) l e h = h
@@ -139,6 +144,7 @@ fits_used p ss ss' used used' i (row.Dictionary w es) l e h = h
 shows_used : (p : Pool) (ss ss' : List KeptSlot) (used i : ℕ) (r : Row) → ((k : ℕ) → k < used → get_or ss' k no_slot ≡ get_or ss k no_slot) → RowFits p ss used i r → row_node p ss' r ≡ row_node p ss r
 shows_used p ss ss' used i (row.Slot s) e h = ap (λ (x : KeptSlot). x.node) (e s h.0)
 shows_used p ss ss' used i (row.Leaf k) e h = refl
+shows_used p ss ss' used i (row.Bytes b) e h = refl
 shows_used p ss ss' used i (row.Array vs ps) e h = refl
 shows_used p ss ss' used i (row.Object t vs ps) e h = refl
 shows_used p ss ss' used i (row.Wrapper c vs ps) e h = refl
@@ -184,6 +190,7 @@ other_slot ss s t i j n e f g = n (let h : Some j ≡ Some i = sym f ∙ ap (λ 
 shows_other : (p : Pool) (ss : List KeptSlot) (x : KeptSlot) (used s i j : ℕ) (r : Row) → j ≢ i → (get_or ss s no_slot).owner ≡ Some i → RowFits p ss used j r → row_node p (set ss s x) r ≡ row_node p ss r
 shows_other p ss x used s i j (row.Slot t) n e h = ap (λ (y : KeptSlot). y.node) (get_or-set_other ss s t x no_slot (other_slot ss s t i j n e h.1))
 shows_other p ss x used s i j (row.Leaf k) n e h = refl
+shows_other p ss x used s i j (row.Bytes b) n e h = refl
 shows_other p ss x used s i j (row.Array vs ps) n e h = refl
 shows_other p ss x used s i j (row.Object t vs ps) n e h = refl
 shows_other p ss x used s i j (row.Wrapper c vs ps) n e h = refl
@@ -193,6 +200,7 @@ shows_other p ss x used s i j (row.Dictionary w es) n e h = refl
 fits_other : (p : Pool) (ss : List KeptSlot) (x : KeptSlot) (used s i j : ℕ) (r : Row) → j ≢ i → (get_or ss s no_slot).owner ≡ Some i → RowFits p ss used j r → RowFits p (set ss s x) used j r
 fits_other p ss x used s i j (row.Slot t) n e h = (h.0, ap (λ (y : KeptSlot). y.owner) (get_or-set_other ss s t x no_slot (other_slot ss s t i j n e h.1)) ∙ h.1)
 fits_other p ss x used s i j (row.Leaf k) n e h = h
+fits_other p ss x used s i j (row.Bytes b) n e h = h
 fits_other p ss x used s i j (row.Array vs ps) n e h = h
 fits_other p ss x used s i j (row.Object t vs ps) n e h = h
 fits_other p ss x used s i j (row.Wrapper c vs ps) n e h = h
@@ -210,6 +218,7 @@ owner_put ss x s t i l e o = decide (eq_or t s)
 fits_put : (p : Pool) (ss : List KeptSlot) (x : KeptSlot) (used s i : ℕ) (r : Row) → s < length ss → x.owner ≡ (get_or ss s no_slot).owner → RowFits p ss used i r → RowFits p (set ss s x) used i r
 fits_put p ss x used s i (row.Slot t) l e h = (h.0, owner_put ss x s t i l e h.1)
 fits_put p ss x used s i (row.Leaf k) l e h = h
+fits_put p ss x used s i (row.Bytes b) l e h = h
 fits_put p ss x used s i (row.Array vs ps) l e h = h
 fits_put p ss x used s i (row.Object t vs ps) l e h = h
 fits_put p ss x used s i (row.Wrapper c vs ps) l e h = h
@@ -235,6 +244,7 @@ fits_left p q ss x used used' s i j (row.Slot t) n g e u h =
     let own : (get_or (set ss s x) t no_slot).owner ≡ Some j = ap (λ (y : KeptSlot). y.owner) (get_or-set_other ss s t x no_slot (other_slot ss s t i j n e h.1)) ∙ h.1 in
     (not_le t used' (λ l. let b : None ≡ Some j = sym (u t l h.0) ∙ own in cc), own)
 fits_left p q ss x used used' s i j (row.Leaf k) n g e u h = row_grows p q (row.Leaf k) g h
+fits_left p q ss x used used' s i j (row.Bytes b) n g e u h = row_grows p q (row.Bytes b) g h
 fits_left p q ss x used used' s i j (row.Array vs ps) n g e u h = row_grows p q (row.Array vs ps) g h
 fits_left p q ss x used used' s i j (row.Object t vs ps) n g e u h = row_grows p q (row.Object t vs ps) g h
 fits_left p q ss x used used' s i j (row.Wrapper c vs ps) n g e u h = row_grows p q (row.Wrapper c vs ps) g h
@@ -287,6 +297,7 @@ nodes_take p ss n rows rows' ns e v = ap (row_nodes p ss) e ∙ sym (take-map (r
 shut_in : (p : Pool) (ss : List KeptSlot) (used i : ℕ) (r : Row) → ((k : ℕ) → k < used → (get_or ss k no_slot).node.is_open ≡ false) → RowFits p ss used i r → (row_node p ss r).is_open ≡ false
 shut_in p ss used i (row.Slot s) h f = h s f.0
 shut_in p ss used i (row.Leaf k) h f = refl
+shut_in p ss used i (row.Bytes b) h f = refl
 shut_in p ss used i (row.Array vs ps) h f = refl
 shut_in p ss used i (row.Object t vs ps) h f = refl
 shut_in p ss used i (row.Wrapper c vs ps) h f = refl

@@ -5,7 +5,7 @@ use Rattle.std.proofs.lemmas.List.{length-append, length-take, length-drop, take
 use Rattle.amf_graph.specs.declared.row.Span.{Span}
 use Rattle.amf_graph.specs.declared.row.Row.{Row}
 use Rattle.amf_graph.specs.declared.row.Row.TheVariants as row
-use Rattle.amf_graph.specs.Arena.{StoredHead, array, object, wrapper, values, dictionary}
+use Rattle.amf_graph.specs.Arena.{StoredHead, array, object, wrapper, bytes, values, dictionary}
 use Rattle.amf_graph.specs.Building.{closed}
 use Rattle.amf_graph.specs.Pools.{Pool, span_of, SpanIn, RowIn, parts_node, pool_node, IsFront, Grows}
 use Rattle.amf_graph.specs.Views.{named, flat}
@@ -59,6 +59,7 @@ spans_grow p q vs ps g i = (span_in_front p.values q.values vs g.values i.0, spa
 pub node_grows : (p q : Pool) (r : Row) → Grows p q → RowIn p r → pool_node q r ≡ pool_node p r
 node_grows p q (row.Slot s) g h = absurd h
 node_grows p q (row.Leaf k) g h = ap (λ w. closed w [] []) (at_front p.leaves q.leaves k array g.leaves h)
+node_grows p q (row.Bytes b) g h = ap (λ x. closed (bytes x) [] []) (span_front p.bytes q.bytes b g.bytes h)
 node_grows p q (row.Array vs ps) g h = parts_grow p q array vs ps g h
 node_grows p q (row.Object t vs ps) g h = parts_grow p q (object t.0) vs ps g h
 node_grows p q (row.Wrapper c vs ps) g h = parts_grow p q (wrapper c) vs ps g h
@@ -68,6 +69,7 @@ node_grows p q (row.Dictionary w es) g h = ap (λ x. closed (dictionary w) [] (f
 pub row_grows : (p q : Pool) (r : Row) → Grows p q → RowIn p r → RowIn q r
 row_grows p q (row.Slot s) g h = absurd h
 row_grows p q (row.Leaf k) g h = let l = front_length p.leaves q.leaves g.leaves in omega (arith, h)
+row_grows p q (row.Bytes b) g h = span_in_front p.bytes q.bytes b g.bytes h
 row_grows p q (row.Array vs ps) g h = spans_grow p q vs ps g h
 row_grows p q (row.Object t vs ps) g h = spans_grow p q vs ps g h
 row_grows p q (row.Wrapper c vs ps) g h = spans_grow p q vs ps g h

@@ -47,6 +47,7 @@ pub(crate) fn renumbered_body(
 {
     Ok(match held {
         Held::Leaf(leaf) => Body::Leaf(leaf.copy(alloc)?),
+        Held::Bytes(bytes) => Body::Leaf(Leaf::Bytes(bytes.to_vec(alloc)?)),
         Held::Parts(form, values, names) => {
             let values = renumbered_values(alloc, values, numbers)?;
             Body::Parts(form, values, renumbered_pairs(alloc, names, numbers)?)

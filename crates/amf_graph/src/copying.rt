@@ -158,6 +158,7 @@ impl Copying {
     {
         Ok(match held {
             Held::Leaf(leaf) => Body::Leaf(self.leaf(alloc, leaf)?),
+            Held::Bytes(bytes) => Body::Leaf(Leaf::Bytes(bytes.to_vec(alloc)?)),
             Held::Parts(form, values, names) => {
                 let values = self.values(alloc, values)?;
                 Body::Parts(self.form(form), values, self.pairs(alloc, names)?)

@@ -20,6 +20,8 @@ pub(crate) enum Form {
 #[derive(Clone, Copy)]
 pub(crate) enum Held<'a> {
     Leaf(&'a Leaf),
+    /// A byte array that has no list of its own.
+    Bytes(&'a [u8]),
     /// Values and pairs.
     Parts(Form, &'a [Value], &'a [(TextId, Value)]),
     /// The entries of a dictionary, and whether its keys are held weakly.
@@ -45,6 +47,7 @@ impl Held<'_> {
     {
         match self {
             Held::Leaf(leaf) => leaf.kind(),
+            Held::Bytes(_) => NodeKind::Bytes,
             Held::Parts(form, ..) => form.kind(),
             Held::Dictionary(..) => NodeKind::Dictionary,
         }

@@ -17,12 +17,13 @@ use crate::held::{Form, Held};
 use crate::pools::Pools;
 use crate::row::{Row, number_of};
 use crate::slot::Slot;
-use crate::{NodeKind, Part, Shape, TextId, Value};
+use crate::{Leaf, NodeKind, Part, Shape, TextId, Value};
 use amf_wire::Memory;
 use std::alloc::Global;
 use std::marker::Model;
 
-/// From so many parts on, they stay where they are when their node is closed.
+/// From so many parts on, they stay where they are when their node is closed. From so many slots on, those that are not used are let
+/// go.
 const MANY: usize = 4096;
 
 /// Nodes, most of them open in a slot and then closed in the pools.
@@ -140,6 +141,7 @@ fn copy_held(alloc: Global, pools: &mut Pools, held: Held<'_>) -> Result<Row, Me
 {
     match held {
         Held::Leaf(leaf) => pools.keep_leaf(leaf.copy(alloc)?),
+        Held::Bytes(bytes) => pools.keep_leaf(Leaf::Bytes(bytes.to_vec(alloc)?)),
         Held::Parts(form, values, names) => pools.keep_parts(form, values, names),
         Held::Dictionary(weak, entries) => pools.keep_dictionary(weak, entries),
     }
@@ -319,6 +321,16 @@ impl Nodes {
         }
     }
 
+    /// Lets many slots go that no node has any more: those of nodes within one another would stay until the last of these is closed.
+    fn give_back(&mut self)
+        ensures { self.new ≡ self.old }
+    {
+        let count = self.slots.len();
+        if count >= MANY && self.used <= count - count / 8 {
+            self.drop_spare();
+        }
+    }
+
     /// Closes a node that is open.
     pub(crate) fn close(&mut self, place: usize)
         requires there { place < length self.old }
@@ -328,13 +340,15 @@ impl Nodes {
         self.shut(place);
         self.settle(place);
         self.hand_down();
+        self.give_back();
     }
 
-    /// Lets the lists go that no node has.
+    /// Lets the lists go that no node has, and the room behind those that stay: a node that was deep within others leaves much of it.
     pub(crate) fn drop_spare(&mut self)
         ensures { self.new ≡ self.old }
     {
         self.slots.truncate(self.used);
+        self.slots.shrink_to_fit();
     }
 
     /// The least place of a node that is open. Each of these is in a slot, and few slots are used: so the rows are read only where

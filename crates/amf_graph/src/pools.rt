@@ -1,7 +1,7 @@
-//! The parts of closed nodes, one behind the other.
+//! The parts and the bytes of closed nodes, one behind the other.
 
-ghost use Rattle.std.specs.Prelude.{◌≡◌, ◌≤◌, ◌++◌, [], length, map, slice_range, false, is_ok, if◌then◌else◌, IfOk};
-ghost use Rattle.amf_graph.specs.Arena.{dictionary};
+ghost use Rattle.std.specs.Prelude.{◌≡◌, ◌≤◌, ◌++◌, [], length, map, slice_range, false, is_ok, if◌then◌else◌, IfOk, OnErr};
+ghost use Rattle.amf_graph.specs.Arena.{bytes, dictionary};
 ghost use Rattle.amf_graph.specs.Building.{leaf_head, closed};
 ghost use Rattle.amf_graph.specs.Held.{form_head, held_node};
 ghost use Rattle.amf_graph.specs.Pools.{no_pool, span_of, SpanIn, RowIn, parts_node, pool_node, Grows, Keeps};
@@ -14,12 +14,17 @@ use amf_wire::Memory;
 use std::alloc::Global;
 use std::marker::Model;
 
-/// Parts of nodes, each node's in one piece.
+/// From so many bytes on, a byte array keeps its list.
+const LONG: usize = 4096;
+
+/// Parts and bytes of nodes, each node's in one piece.
 #[derive(Drop)]
 pub(crate) struct Pools {
     values: Vec<Value>,
     names: Vec<(TextId, Value)>,
     entries: Vec<(Value, Value)>,
+    /// Those of most byte arrays. Their lists would take more room than their bytes.
+    bytes: Vec<u8>,
     leaves: Vec<Leaf>,
 }
 
@@ -30,7 +35,7 @@ impl Model for Pools {
 
     ghost Value = { Pool };
 
-    ghost view = { λ p. record { values = p.values.items; names = p.names.items; entries = p.entries.items; leaves = map leaf_head p.leaves.items } };
+    ghost view = { λ p. record { values = p.values.items; names = p.names.items; entries = p.entries.items; bytes = p.bytes.items; leaves = map leaf_head p.leaves.items } };
 }
 
 fn values_in(values: &[Value], span: Span) -> &[Value]
@@ -54,6 +59,13 @@ fn entries_in(entries: &[(Value, Value)], span: Span) -> &[(Value, Value)]
     &entries[span.start as usize..span.end as usize]
 }
 
+fn bytes_in(bytes: &[u8], span: Span) -> &[u8]
+    requires { SpanIn bytes.now span }
+    ensures { result.now ≡ span_of bytes.now span }
+{
+    &bytes[span.start as usize..span.end as usize]
+}
+
 /// Puts these parts behind the others: of most nodes there are none. After an end nothing has changed.
 fn extend<T: Copy>(parts: &mut Vec<T>, more: &[T]) -> Result<(), Memory>
     ensures { parts.new.items ≡ (if is_ok result then parts.old.items ++ more.now else parts.old.items) }
@@ -72,6 +84,7 @@ impl Pools {
             values: Vec::new(alloc),
             names: Vec::new(alloc),
             entries: Vec::new(alloc),
+            bytes: Vec::new(alloc),
             leaves: Vec::new(alloc),
         }
     }
@@ -93,6 +106,7 @@ impl Pools {
         match row {
             Row::Slot(_) => unreachable!(),
             Row::Leaf(place) => Held::Leaf(&self.leaves[place as usize]),
+            Row::Bytes(span) => Held::Bytes(bytes_in(&self.bytes, span)),
             Row::Array(values, names) => self.parts(Form::Array, values, names),
             Row::Object(traits, values, names) => self.parts(Form::Object(traits), values, names),
             Row::Wrapper(class, values, names) => self.parts(Form::Wrapper(class), values, names),
@@ -105,11 +119,29 @@ impl Pools {
         }
     }
 
-    /// Keeps a node without parts. After an end what was there is there.
+    /// Keeps the bytes of a byte array. After an end nothing has changed.
+    fn keep_bytes(&mut self, array: &[u8]) -> Result<Row, Memory>
+        ensures ok { IfOk result (λ row. Keeps self.old self.new (closed (bytes array.now) [] []) row) }
+        ensures grows { Grows self.old self.new }
+        ensures err { OnErr result (self.new ≡ self.old) }
+    {
+        let span = span_from(self.bytes.len(), array.len())?;
+        extend(&mut self.bytes, array)?;
+        Ok(Row::Bytes(span))
+    }
+
+    /// Keeps a node without parts. Of a short byte array it keeps the bytes alone, where there is room. After an end what was there is
+    /// there.
     pub(crate) fn keep_leaf(&mut self, leaf: Leaf) -> Result<Row, Memory>
         ensures ok { IfOk result (λ row. Keeps self.old self.new (closed (leaf_head leaf) [] []) row) }
         ensures grows { Grows self.old self.new }
     {
+        if let Leaf::Bytes(array) = &leaf
+            && array.len() < LONG
+            && let Ok(row) = self.keep_bytes(array)
+        {
+            return Ok(row);
+        }
         let number = number_of(self.leaves.len())?;
         self.leaves.push(leaf)?;
         Ok(Row::Leaf(number))

@@ -23,6 +23,8 @@ pub(crate) enum Row {
     Slot(u32),
     /// A node without parts, by its place among these.
     Leaf(u32),
+    /// A byte array, by its bytes.
+    Bytes(Span),
     /// An array, by its values and its pairs. Each form stands here by itself: a `Form` inside would have a tag of its own, and take
     /// a word more in each row.
     Array(Span, Span),

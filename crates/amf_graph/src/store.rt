@@ -320,6 +320,7 @@ impl Store {
     {
         match self.held(node) {
             Held::Leaf(leaf) => self.leaf(leaf),
+            Held::Bytes(bytes) => NodeView::Bytes(bytes),
             Held::Parts(form, values, names) => parts_view(form, values, names),
             Held::Dictionary(weak, entries) => NodeView::Dictionary { weak, entries },
         }

@@ -83,6 +83,7 @@ fn push_node_texts(held: Held<'_>, texts: &mut Vec<u32>) -> Result<(), Memory>
 {
     match held {
         Held::Leaf(leaf) => push_leaf_text(leaf, texts)?,
+        Held::Bytes(_) => {}
         Held::Parts(form, values, names) => {
             push_form_text(form, texts)?;
             push_texts(values, texts)?;
