@@ -1,6 +1,7 @@
 //! Reads a text.
 
 ghost use Rattle.std.specs.Prelude.{◌≡◌, ◌*◌, ◌≤◌, None, length, IfOk, MatchOption};
+ghost use Rattle.std.specs.Str.{IsUtf8};
 ghost use Rattle.std.specs.Result.{IsErrOf};
 ghost use Rattle.json.specs.Lex.{tokens};
 ghost use Rattle.amf_text.specs.Scalars.{read_number};
@@ -9,7 +10,7 @@ ghost use Rattle.amf_text.specs.Refused.{IsTextAccepted, first_false, text_limit
 ghost use Rattle.amf_text_laws.specs.TextBounds.{graphs_weight};
 ghost use Rattle.amf_text_trees.specs.Pages.{pages_calls};
 ghost use Rattle.amf_text_trees.specs.TreeLaws.{Gathers};
-ghost use Rattle.amf_text_read.specs.TextVerdicts.{IsAcceptedButLabels, IsRefusedSo};
+ghost use Rattle.amf_text_read.specs.TextVerdicts.{IsRefusedSo};
 ghost use Rattle.amf_text_draft.specs.declared.text.TextEnd.TheVariants.{Memory as NoMemory};
 ghost use Rattle.amf_text_pages.specs.Pages.{document_of};
 ghost use Rattle.amf_text_draft.specs.Results.{IsLost};
@@ -26,6 +27,9 @@ use amf_wire::Memory;
 use std::alloc::Global;
 use std::hash::RandomState;
 use std::str;
+
+/// The most bytes of a text.
+const MAX_BYTES: usize = 268_435_456;
 
 /// Why nothing was read of a text.
 #[derive(Clone, Copy, Debug)]
@@ -69,18 +73,6 @@ fn no_label(
     })
 }
 
-/// The document of a text that means something, but for labels that may lead nowhere.
-fn gathered(alloc: Global, keys: Option<RandomState>, text: &str) -> Result<Document, Memory>
-    requires { IsAcceptedButLabels text.now }
-    ensures { IfOk result (λ d. Gathers read_number (tokens text.now) (document_of d)) }
-{
-    tree_laws();
-    match gather_text(alloc, keys, text)? {
-        Some(document) => Ok(document),
-        None => Err(Memory),
-    }
-}
-
 /// The refusal of a text at the first label that is called and that no row of its part has, if there is one.
 fn lost_label(
     alloc: Global,
@@ -88,7 +80,8 @@ fn lost_label(
     text: &str,
     document: &Document,
 ) -> Result<Option<Refusal>, Memory>
-    requires accepted { IsAcceptedButLabels text.now }
+    requires within { length text.now ≤ text_limit }
+    requires utf8 { IsUtf8 text.now }
     requires gathers { Gathers read_number (tokens text.now) (document_of document.now) }
     ensures { IfOk result (λ refusal. MatchOption refusal (first_false (pages_calls (document_of document.now)) ≡ None) (IsRefusedSo text.now)) }
 {
@@ -99,9 +92,16 @@ fn lost_label(
     }
 }
 
-/// What a text means that means something, but for labels that may lead nowhere, or its refusal for one of these.
-fn accepted(alloc: Global, keys: Option<RandomState>, text: &str) -> Result<Written, TextEnd>
-    requires { IsAcceptedButLabels text.now }
+/// What a text means that says this document, or its refusal for a label that leads nowhere.
+fn accepted(
+    alloc: Global,
+    keys: Option<RandomState>,
+    text: &str,
+    document: Document,
+) -> Result<Written, TextEnd>
+    requires within { length text.now ≤ text_limit }
+    requires utf8 { IsUtf8 text.now }
+    requires gathers { Gathers read_number (tokens text.now) (document_of document) }
     ensures written { IfOk result (λ w. IsTextAccepted read_number text.now (document_written w)) }
     ensures weighs { IfOk result (λ w. graphs_weight (document_written w) ≤ 4 * length text.now) }
     ensures refused { (r : Refusal) → IsErrOf result (TextEnd.Refused r) → IsRefusedSo text.now r }
@@ -109,10 +109,32 @@ fn accepted(alloc: Global, keys: Option<RandomState>, text: &str) -> Result<Writ
     tree_laws();
     whole_laws();
     few_nodes();
-    let document = gathered(alloc, keys, text)?;
     match lost_label(alloc, keys, text, &document)? {
         Some(refusal) => Err(TextEnd::Refused(refusal)),
         None => Ok(write(alloc, keys, document)?),
+    }
+}
+
+/// A text in UTF-8 that is not too long.
+fn readable(text: &[u8]) -> Option<&str>
+    ensures { MatchOption result (Unit {0}) (λ whole. (whole.now ≡ text.now) × ((length text.now ≤ text_limit) × IsUtf8 text.now)) }
+{
+    if text.len() > MAX_BYTES {
+        return None;
+    }
+    match str::from_utf8(text) {
+        Ok(whole) => Some(whole),
+        Err(_) => None,
+    }
+}
+
+/// Why a text that says nothing is refused.
+fn refused(alloc: Global, keys: Option<RandomState>, text: &[u8]) -> TextEnd
+    ensures { (r : Refusal) → result ≡ TextEnd.Refused r → IsRefusedSo text.now r }
+{
+    match text_verdict(alloc, keys, text) {
+        Ok(Some(refusal)) => TextEnd::Refused(refusal),
+        _ => TextEnd::Memory,
     }
 }
 
@@ -125,11 +147,11 @@ pub fn read_text(alloc: Global, keys: Option<RandomState>, text: &[u8]) -> Resul
     ensures weighs { IfOk result (λ w. graphs_weight (document_written w) ≤ 4 * length text.now) }
     ensures refused { (r : Refusal) → IsErrOf result (TextEnd.Refused r) → IsRefusedSo text.now r }
 {
-    if let Some(refusal) = text_verdict(alloc, keys, text)? {
-        return Err(TextEnd::Refused(refusal));
-    }
-    match str::from_utf8(text) {
-        Ok(text) => accepted(alloc, keys, text),
-        Err(_) => Err(TextEnd::Memory),
+    let Some(whole) = readable(text) else {
+        return Err(refused(alloc, keys, text));
+    };
+    match gather_text(alloc, keys, whole)? {
+        Some(document) => accepted(alloc, keys, whole, document),
+        None => Err(refused(alloc, keys, text)),
     }
 }

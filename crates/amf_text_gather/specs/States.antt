@@ -30,6 +30,6 @@ IsDocumentOf f o = (p : documents.Document Page) → f ≡ frame.ended p → Mat
 abbrev pub IsEnded : gathering.Draft → Option Document → Type 0
 IsEnded d o = (p : documents.Document Page) (fs : List Frame) → d.frames ≡ frame.ended p ∷ fs → MatchOption o ⊥ (λ e. p ≡ document_of e)
 
--- it is what these tokens come to, where they come to something
+-- these tokens come to it, or to nothing
 abbrev pub IsGathered : List Token → Option Document → Type 0
-IsGathered ts o = (p : documents.Document Page) → Gathers read_number ts p → MatchOption o ⊥ (λ e. p ≡ document_of e)
+IsGathered ts o = MatchOption o ((p : documents.Document Page) → ¬ (Gathers read_number ts p)) (λ d. Gathers read_number ts (document_of d))

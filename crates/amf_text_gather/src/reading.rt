@@ -14,6 +14,7 @@ use crate::draft::Draft;
 use crate::frame::Frame;
 use amf_text_pages::Document;
 use amf_text_read::Asked;
+use amf_text_trees::tree_laws;
 use amf_wire::Memory;
 use json::{Reader, Scratch, Token};
 use std::alloc::Global;
@@ -65,7 +66,7 @@ fn ended(draft: &mut Draft) -> Option<Document>
     }
 }
 
-/// What a text says whose tokens are all asked for. Labels may still lead nowhere.
+/// What a text says whose tokens are all asked for, and behind which nothing has to come. Labels may still lead nowhere.
 pub fn gather_text(
     alloc: Global,
     keys: Option<RandomState>,
@@ -73,11 +74,15 @@ pub fn gather_text(
 ) -> Result<Option<Document>, Memory>
     ensures { IfOk result (IsGathered (tokens text.now)) }
 {
+    tree_laws();
     let mut scratch = Scratch::new(alloc);
     let mut reader = Reader::new(text, &mut scratch)?;
     let mut asked = Asked::new(alloc, keys)?;
     let mut draft = Draft::new(alloc)?;
-    if meet_all(&mut asked, &mut draft, &mut reader)? {
+    if !meet_all(&mut asked, &mut draft, &mut reader)? {
+        return Ok(None);
+    }
+    if asked.is_whole() {
         Ok(ended(&mut draft))
     } else {
         Ok(None)
