@@ -1,6 +1,7 @@
 -- The lemmas that several proofs share.
 mod Documents
 mod Mapped
+mod PartsTold
 mod Ready
 mod MeantBytes
 mod Taken

@@ -30,7 +30,6 @@ pub fn packet_of(
 }
 
 /// The headers, in order.
-#[tactic(auto, using(crate::proofs::Mapped::one_more, crate::proofs::Mapped::all_of))]
 fn headers_of(alloc: Global, written: Vec<WrittenHeader>) -> Result<Vec<Header>, Memory>
     ensures { IfOk result (λ hs. map header_told (map header_seen hs.items) ≡ map header_written written.items) }
 {
@@ -42,7 +41,6 @@ fn headers_of(alloc: Global, written: Vec<WrittenHeader>) -> Result<Vec<Header>,
 }
 
 /// The messages, in order.
-#[tactic(auto, using(crate::proofs::Mapped::one_more, crate::proofs::Mapped::all_of))]
 fn messages_of(alloc: Global, written: Vec<WrittenMessage>) -> Result<Vec<Message>, Memory>
     ensures { IfOk result (λ ms. map message_told (map message_seen ms.items) ≡ map message_written written.items) }
 {
