@@ -5,7 +5,7 @@
 
 For each of twelve promises it follows the definitions that the promises of a run (`Ends`, `ServesWords`, `CallsWords` and `ListensWords`
 in crates/amf_cli/specs, which the contract of `run` cites) name, from name to name by the imports of each file, and lists them in an order in
-which they can be read. What a file says is its own first line, and what a definition says is the comment above it, or its sentence in
+which they can be read. What a file says is its own first sentence, and what a definition says is the comment above it, or its sentence in
 docs/trust_words.txt. With --check nothing is written, and the status is 1 if the page is not what would be written.
 """
 import re
@@ -34,8 +34,9 @@ itself names. That contract is `Ends`, for `serve` with `ServesWords`, for `call
 `crates/amf_service/specs/Shipped.antt`. After the definitions come the laws and worked facts about them: theorems, and bytes and graphs
 worked out by hand. They are proved *about* the definitions, and are where to look first when one is in doubt. The appendix lists all files.
 
-This page is written by `docs/trust_paths.py`, which follows the imports. What it says of a file is the file's own first line. What it says
-of a definition is the comment above it, or a sentence of `docs/trust_words.txt`; neither is checked by the prover, so read the definition.
+This page is written by `docs/trust_paths.py`, which follows the imports. What it says of a file is the file's own first sentence. What it
+says of a definition is the comment above it, or a sentence of `docs/trust_words.txt`; neither is checked by the prover, so read the
+definition.
 
 ## Devices
 
@@ -214,13 +215,25 @@ def words_of_file():
     return words
 
 
+def first_sentence(lines):
+    """The comment at the beginning of a file, up to the first line that ends with a full stop."""
+    said = []
+    for line in lines:
+        if not line.startswith("-- "):
+            break
+        said.append(line.removeprefix("-- "))
+        if line.endswith("."):
+            break
+    return " ".join(said)
+
+
 class Specs:
-    """A file of definitions: its first line, its imports, and the text of each definition."""
+    """A file of definitions: its first sentence, its imports, and the text of each definition."""
 
     def __init__(self, crate, name, is_device, words):
         self.crate, self.name, self.is_device, self.words = crate, name, is_device, words
         self.lines = (ROOT / f"crates/{crate}/specs/{name}.antt").read_text().splitlines()
-        self.says = self.lines[0].removeprefix("-- ")
+        self.says = first_sentence(self.lines)
         self.imports, self.aliases = imports_of(self.lines)
         self.blocks, self.parts = {}, {}
         self.gather()
