@@ -76,20 +76,26 @@ fits_grows : (p q : Pool) (ss : List KeptSlot) (used i : ℕ) (r : Row) → Grow
 fits_grows p q ss used i (row.Slot s) g h = h
 fits_grows p q ss used i (row.Leaf k) g h = row_grows p q (row.Leaf k) g h
 fits_grows p q ss used i (row.Bytes b) g h = row_grows p q (row.Bytes b) g h
-fits_grows p q ss used i (row.Array vs ps) g h = row_grows p q (row.Array vs ps) g h
-fits_grows p q ss used i (row.Object t vs ps) g h = row_grows p q (row.Object t vs ps) g h
-fits_grows p q ss used i (row.Wrapper c vs ps) g h = row_grows p q (row.Wrapper c vs ps) g h
-fits_grows p q ss used i (row.Values f y vs ps) g h = row_grows p q (row.Values f y vs ps) g h
+fits_grows p q ss used i (row.Array vs) g h = row_grows p q (row.Array vs) g h
+fits_grows p q ss used i (row.NamedArray ps) g h = row_grows p q (row.NamedArray ps) g h
+fits_grows p q ss used i (row.Object t vs) g h = row_grows p q (row.Object t vs) g h
+fits_grows p q ss used i (row.NamedObject t ps) g h = row_grows p q (row.NamedObject t ps) g h
+fits_grows p q ss used i (row.Wrapper c vs) g h = row_grows p q (row.Wrapper c vs) g h
+fits_grows p q ss used i (row.Values f y vs) g h = row_grows p q (row.Values f y vs) g h
+fits_grows p q ss used i (row.Both k) g h = row_grows p q (row.Both k) g h
 fits_grows p q ss used i (row.Dictionary w es) g h = row_grows p q (row.Dictionary w es) g h
 
 shows_grows : (p q : Pool) (ss : List KeptSlot) (used i : ℕ) (r : Row) → Grows p q → RowFits p ss used i r → row_node q ss r ≡ row_node p ss r
 shows_grows p q ss used i (row.Slot s) g h = refl
 shows_grows p q ss used i (row.Leaf k) g h = node_grows p q (row.Leaf k) g h
 shows_grows p q ss used i (row.Bytes b) g h = node_grows p q (row.Bytes b) g h
-shows_grows p q ss used i (row.Array vs ps) g h = node_grows p q (row.Array vs ps) g h
-shows_grows p q ss used i (row.Object t vs ps) g h = node_grows p q (row.Object t vs ps) g h
-shows_grows p q ss used i (row.Wrapper c vs ps) g h = node_grows p q (row.Wrapper c vs ps) g h
-shows_grows p q ss used i (row.Values f y vs ps) g h = node_grows p q (row.Values f y vs ps) g h
+shows_grows p q ss used i (row.Array vs) g h = node_grows p q (row.Array vs) g h
+shows_grows p q ss used i (row.NamedArray ps) g h = node_grows p q (row.NamedArray ps) g h
+shows_grows p q ss used i (row.Object t vs) g h = node_grows p q (row.Object t vs) g h
+shows_grows p q ss used i (row.NamedObject t ps) g h = node_grows p q (row.NamedObject t ps) g h
+shows_grows p q ss used i (row.Wrapper c vs) g h = node_grows p q (row.Wrapper c vs) g h
+shows_grows p q ss used i (row.Values f y vs) g h = node_grows p q (row.Values f y vs) g h
+shows_grows p q ss used i (row.Both k) g h = node_grows p q (row.Both k) g h
 shows_grows p q ss used i (row.Dictionary w es) g h = node_grows p q (row.Dictionary w es) g h
 
 pub rows_grow : (p q : Pool) (ss : List KeptSlot) (used : ℕ) (rows : List Row) → AreRows p ss used rows → Grows p q → AreRows q ss used rows
@@ -104,20 +110,26 @@ fits_inside : (q : Pool) (ss : List KeptSlot) (used i : ℕ) (r : Row) → RowIn
 fits_inside q ss used i (row.Slot s) h = absurd h
 fits_inside q ss used i (row.Leaf k) h = h
 fits_inside q ss used i (row.Bytes b) h = h
-fits_inside q ss used i (row.Array vs ps) h = h
-fits_inside q ss used i (row.Object t vs ps) h = h
-fits_inside q ss used i (row.Wrapper c vs ps) h = h
-fits_inside q ss used i (row.Values f y vs ps) h = h
+fits_inside q ss used i (row.Array vs) h = h
+fits_inside q ss used i (row.NamedArray ps) h = h
+fits_inside q ss used i (row.Object t vs) h = h
+fits_inside q ss used i (row.NamedObject t ps) h = h
+fits_inside q ss used i (row.Wrapper c vs) h = h
+fits_inside q ss used i (row.Values f y vs) h = h
+fits_inside q ss used i (row.Both k) h = h
 fits_inside q ss used i (row.Dictionary w es) h = h
 
 pub shows_inside : (q : Pool) (ss : List KeptSlot) (r : Row) → RowIn q r → row_node q ss r ≡ pool_node q r
 shows_inside q ss (row.Slot s) h = absurd h
 shows_inside q ss (row.Leaf k) h = refl
 shows_inside q ss (row.Bytes b) h = refl
-shows_inside q ss (row.Array vs ps) h = refl
-shows_inside q ss (row.Object t vs ps) h = refl
-shows_inside q ss (row.Wrapper c vs ps) h = refl
-shows_inside q ss (row.Values f y vs ps) h = refl
+shows_inside q ss (row.Array vs) h = refl
+shows_inside q ss (row.NamedArray ps) h = refl
+shows_inside q ss (row.Object t vs) h = refl
+shows_inside q ss (row.NamedObject t ps) h = refl
+shows_inside q ss (row.Wrapper c vs) h = refl
+shows_inside q ss (row.Values f y vs) h = refl
+shows_inside q ss (row.Both k) h = refl
 shows_inside q ss (row.Dictionary w es) h = refl
 
 pub rows_push : (p q : Pool) (ss : List KeptSlot) (used : ℕ) (rows rows' : List Row) (n : StoredNode) (r : Row) → rows' ≡ rows ++ r ∷ [] → AreRows p ss used rows → Grows p q → Keeps p q n r → AreRows q ss used rows'
@@ -135,20 +147,26 @@ fits_used : (p : Pool) (ss ss' : List KeptSlot) (used used' i : ℕ) (r : Row) �
 fits_used p ss ss' used used' i (row.Slot s) l e h = (let m = h.0 in omega arith, ap (λ (x : KeptSlot). x.owner) (e s h.0) ∙ h.1)
 fits_used p ss ss' used used' i (row.Leaf k) l e h = h
 fits_used p ss ss' used used' i (row.Bytes b) l e h = h
-fits_used p ss ss' used used' i (row.Array vs ps) l e h = h
-fits_used p ss ss' used used' i (row.Object t vs ps) l e h = h
-fits_used p ss ss' used used' i (row.Wrapper c vs ps) l e h = h
-fits_used p ss ss' used used' i (row.Values f y vs ps) l e h = h
+fits_used p ss ss' used used' i (row.Array vs) l e h = h
+fits_used p ss ss' used used' i (row.NamedArray ps) l e h = h
+fits_used p ss ss' used used' i (row.Object t vs) l e h = h
+fits_used p ss ss' used used' i (row.NamedObject t ps) l e h = h
+fits_used p ss ss' used used' i (row.Wrapper c vs) l e h = h
+fits_used p ss ss' used used' i (row.Values f y vs) l e h = h
+fits_used p ss ss' used used' i (row.Both k) l e h = h
 fits_used p ss ss' used used' i (row.Dictionary w es) l e h = h
 
 shows_used : (p : Pool) (ss ss' : List KeptSlot) (used i : ℕ) (r : Row) → ((k : ℕ) → k < used → get_or ss' k no_slot ≡ get_or ss k no_slot) → RowFits p ss used i r → row_node p ss' r ≡ row_node p ss r
 shows_used p ss ss' used i (row.Slot s) e h = ap (λ (x : KeptSlot). x.node) (e s h.0)
 shows_used p ss ss' used i (row.Leaf k) e h = refl
 shows_used p ss ss' used i (row.Bytes b) e h = refl
-shows_used p ss ss' used i (row.Array vs ps) e h = refl
-shows_used p ss ss' used i (row.Object t vs ps) e h = refl
-shows_used p ss ss' used i (row.Wrapper c vs ps) e h = refl
-shows_used p ss ss' used i (row.Values f y vs ps) e h = refl
+shows_used p ss ss' used i (row.Array vs) e h = refl
+shows_used p ss ss' used i (row.NamedArray ps) e h = refl
+shows_used p ss ss' used i (row.Object t vs) e h = refl
+shows_used p ss ss' used i (row.NamedObject t ps) e h = refl
+shows_used p ss ss' used i (row.Wrapper c vs) e h = refl
+shows_used p ss ss' used i (row.Values f y vs) e h = refl
+shows_used p ss ss' used i (row.Both k) e h = refl
 shows_used p ss ss' used i (row.Dictionary w es) e h = refl
 
 pub rows_used : (p : Pool) (ss ss' : List KeptSlot) (used : ℕ) (rows : List Row) → used ≤ length ss' → ((k : ℕ) → k < used → get_or ss' k no_slot ≡ get_or ss k no_slot) → AreRows p ss used rows → AreRows p ss' used rows
@@ -191,20 +209,26 @@ shows_other : (p : Pool) (ss : List KeptSlot) (x : KeptSlot) (used s i j : ℕ) 
 shows_other p ss x used s i j (row.Slot t) n e h = ap (λ (y : KeptSlot). y.node) (get_or-set_other ss s t x no_slot (other_slot ss s t i j n e h.1))
 shows_other p ss x used s i j (row.Leaf k) n e h = refl
 shows_other p ss x used s i j (row.Bytes b) n e h = refl
-shows_other p ss x used s i j (row.Array vs ps) n e h = refl
-shows_other p ss x used s i j (row.Object t vs ps) n e h = refl
-shows_other p ss x used s i j (row.Wrapper c vs ps) n e h = refl
-shows_other p ss x used s i j (row.Values f y vs ps) n e h = refl
+shows_other p ss x used s i j (row.Array vs) n e h = refl
+shows_other p ss x used s i j (row.NamedArray ps) n e h = refl
+shows_other p ss x used s i j (row.Object t vs) n e h = refl
+shows_other p ss x used s i j (row.NamedObject t ps) n e h = refl
+shows_other p ss x used s i j (row.Wrapper c vs) n e h = refl
+shows_other p ss x used s i j (row.Values f y vs) n e h = refl
+shows_other p ss x used s i j (row.Both k) n e h = refl
 shows_other p ss x used s i j (row.Dictionary w es) n e h = refl
 
 fits_other : (p : Pool) (ss : List KeptSlot) (x : KeptSlot) (used s i j : ℕ) (r : Row) → j ≢ i → (get_or ss s no_slot).owner ≡ Some i → RowFits p ss used j r → RowFits p (set ss s x) used j r
 fits_other p ss x used s i j (row.Slot t) n e h = (h.0, ap (λ (y : KeptSlot). y.owner) (get_or-set_other ss s t x no_slot (other_slot ss s t i j n e h.1)) ∙ h.1)
 fits_other p ss x used s i j (row.Leaf k) n e h = h
 fits_other p ss x used s i j (row.Bytes b) n e h = h
-fits_other p ss x used s i j (row.Array vs ps) n e h = h
-fits_other p ss x used s i j (row.Object t vs ps) n e h = h
-fits_other p ss x used s i j (row.Wrapper c vs ps) n e h = h
-fits_other p ss x used s i j (row.Values f y vs ps) n e h = h
+fits_other p ss x used s i j (row.Array vs) n e h = h
+fits_other p ss x used s i j (row.NamedArray ps) n e h = h
+fits_other p ss x used s i j (row.Object t vs) n e h = h
+fits_other p ss x used s i j (row.NamedObject t ps) n e h = h
+fits_other p ss x used s i j (row.Wrapper c vs) n e h = h
+fits_other p ss x used s i j (row.Values f y vs) n e h = h
+fits_other p ss x used s i j (row.Both k) n e h = h
 fits_other p ss x used s i j (row.Dictionary w es) n e h = h
 
 -- the slot's node is another one
@@ -219,10 +243,13 @@ fits_put : (p : Pool) (ss : List KeptSlot) (x : KeptSlot) (used s i : ℕ) (r : 
 fits_put p ss x used s i (row.Slot t) l e h = (h.0, owner_put ss x s t i l e h.1)
 fits_put p ss x used s i (row.Leaf k) l e h = h
 fits_put p ss x used s i (row.Bytes b) l e h = h
-fits_put p ss x used s i (row.Array vs ps) l e h = h
-fits_put p ss x used s i (row.Object t vs ps) l e h = h
-fits_put p ss x used s i (row.Wrapper c vs ps) l e h = h
-fits_put p ss x used s i (row.Values f y vs ps) l e h = h
+fits_put p ss x used s i (row.Array vs) l e h = h
+fits_put p ss x used s i (row.NamedArray ps) l e h = h
+fits_put p ss x used s i (row.Object t vs) l e h = h
+fits_put p ss x used s i (row.NamedObject t ps) l e h = h
+fits_put p ss x used s i (row.Wrapper c vs) l e h = h
+fits_put p ss x used s i (row.Values f y vs) l e h = h
+fits_put p ss x used s i (row.Both k) l e h = h
 fits_put p ss x used s i (row.Dictionary w es) l e h = h
 
 pub rows_put : (p : Pool) (ss ss' : List KeptSlot) (x : KeptSlot) (used s : ℕ) (rows : List Row) → ss' ≡ set ss s x → s < length ss → x.owner ≡ (get_or ss s no_slot).owner → AreRows p ss used rows → AreRows p ss' used rows
@@ -245,10 +272,13 @@ fits_left p q ss x used used' s i j (row.Slot t) n g e u h =
     (not_le t used' (λ l. let b : None ≡ Some j = sym (u t l h.0) ∙ own in cc), own)
 fits_left p q ss x used used' s i j (row.Leaf k) n g e u h = row_grows p q (row.Leaf k) g h
 fits_left p q ss x used used' s i j (row.Bytes b) n g e u h = row_grows p q (row.Bytes b) g h
-fits_left p q ss x used used' s i j (row.Array vs ps) n g e u h = row_grows p q (row.Array vs ps) g h
-fits_left p q ss x used used' s i j (row.Object t vs ps) n g e u h = row_grows p q (row.Object t vs ps) g h
-fits_left p q ss x used used' s i j (row.Wrapper c vs ps) n g e u h = row_grows p q (row.Wrapper c vs ps) g h
-fits_left p q ss x used used' s i j (row.Values f y vs ps) n g e u h = row_grows p q (row.Values f y vs ps) g h
+fits_left p q ss x used used' s i j (row.Array vs) n g e u h = row_grows p q (row.Array vs) g h
+fits_left p q ss x used used' s i j (row.NamedArray ps) n g e u h = row_grows p q (row.NamedArray ps) g h
+fits_left p q ss x used used' s i j (row.Object t vs) n g e u h = row_grows p q (row.Object t vs) g h
+fits_left p q ss x used used' s i j (row.NamedObject t ps) n g e u h = row_grows p q (row.NamedObject t ps) g h
+fits_left p q ss x used used' s i j (row.Wrapper c vs) n g e u h = row_grows p q (row.Wrapper c vs) g h
+fits_left p q ss x used used' s i j (row.Values f y vs) n g e u h = row_grows p q (row.Values f y vs) g h
+fits_left p q ss x used used' s i j (row.Both k) n g e u h = row_grows p q (row.Both k) g h
 fits_left p q ss x used used' s i j (row.Dictionary w es) n g e u h = row_grows p q (row.Dictionary w es) g h
 
 pub rows_settle : (p q : Pool) (ss ss' : List KeptSlot) (x : KeptSlot) (used used' s i : ℕ) (rows rows' : List Row) (n : StoredNode) (r : Row) → ss' ≡ set ss s x → rows' ≡ set rows i r → i < length rows → get_or rows i no_row ≡ row.Slot s → used' ≤ used → ((k : ℕ) → used' ≤ k → k < used → (get_or ss' k no_slot).owner ≡ None) → Grows p q → Keeps p q n r → AreRows p ss used rows → AreRows q ss' used' rows'
@@ -298,10 +328,13 @@ shut_in : (p : Pool) (ss : List KeptSlot) (used i : ℕ) (r : Row) → ((k : ℕ
 shut_in p ss used i (row.Slot s) h f = h s f.0
 shut_in p ss used i (row.Leaf k) h f = refl
 shut_in p ss used i (row.Bytes b) h f = refl
-shut_in p ss used i (row.Array vs ps) h f = refl
-shut_in p ss used i (row.Object t vs ps) h f = refl
-shut_in p ss used i (row.Wrapper c vs ps) h f = refl
-shut_in p ss used i (row.Values b y vs ps) h f = refl
+shut_in p ss used i (row.Array vs) h f = refl
+shut_in p ss used i (row.NamedArray ps) h f = refl
+shut_in p ss used i (row.Object t vs) h f = refl
+shut_in p ss used i (row.NamedObject t ps) h f = refl
+shut_in p ss used i (row.Wrapper c vs) h f = refl
+shut_in p ss used i (row.Values b y vs) h f = refl
+shut_in p ss used i (row.Both k) h f = refl
 shut_in p ss used i (row.Dictionary w es) h f = refl
 
 pub all_shut : (p : Pool) (ss : List KeptSlot) (used : ℕ) (rows : List Row) (ns : List StoredNode) → row_nodes p ss rows ≡ ns → ((k : ℕ) → k < used → (get_or ss k no_slot).node.is_open ≡ false) → AreRows p ss used rows → (i : ℕ) → i < length ns → IsClosedAt ns i

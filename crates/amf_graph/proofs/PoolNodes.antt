@@ -1,13 +1,15 @@
 -- Nodes in pools, where the pools grow.
-use Rattle.std.proofs.Common.{◌≡◌, ℕ, zero, suc, ◌+◌, ◌-◌, ◌<◌, ◌≤◌, List, [], ◌∷◌, ◌++◌, length, get_or, take, drop, sym, refl, ap, ◌∙◌, arith}
+use Rattle.std.proofs.Common.{◌≡◌, ℕ, zero, suc, ◌+◌, ◌-◌, ◌<◌, ◌≤◌, List, [], ◌∷◌, ◌++◌, length, get_or, take, drop, sym, refl, ap, ◌∙◌, subst, arith}
 use Rattle.std.specs.Prelude.{slice_range}
 use Rattle.std.proofs.lemmas.List.{length-append, length-take, length-drop, take_all, take_at, take-append-drop, take-append-le, drop-append-le, drop_at}
 use Rattle.amf_graph.specs.declared.row.Span.{Span}
+use Rattle.amf_graph.specs.declared.row.Both.{Both}
 use Rattle.amf_graph.specs.declared.row.Row.{Row}
 use Rattle.amf_graph.specs.declared.row.Row.TheVariants as row
 use Rattle.amf_graph.specs.Arena.{StoredHead, array, object, wrapper, bytes, values, dictionary}
 use Rattle.amf_graph.specs.Building.{closed}
-use Rattle.amf_graph.specs.Pools.{Pool, span_of, SpanIn, RowIn, parts_node, pool_node, IsFront, Grows}
+use Rattle.amf_graph.specs.Held.{form_head}
+use Rattle.amf_graph.specs.Pools.{Pool, span_of, SpanIn, no_both, BothIn, RowIn, parts_node, valued_node, named_node, both_node, pool_node, IsFront, Grows}
 use Rattle.amf_graph.specs.Views.{named, flat}
 
 pub front_same : {X : Type 0} (xs : List X) → IsFront xs xs
@@ -53,25 +55,51 @@ at_front xs ys k d f l = ap (λ w. get_or w k d) (sym (take-append-drop (length 
 parts_grow : (p q : Pool) (h : StoredHead) (vs ps : Span) → Grows p q → SpanIn p.values vs × SpanIn p.names ps → parts_node q h vs ps ≡ parts_node p h vs ps
 parts_grow p q h vs ps g i = ap (λ w. closed h (named w) (span_of q.values vs)) (span_front p.names q.names ps g.names i.1) ∙ ap (closed h (named (span_of p.names ps))) (span_front p.values q.values vs g.values i.0)
 
-spans_grow : (p q : Pool) (vs ps : Span) → Grows p q → SpanIn p.values vs × SpanIn p.names ps → SpanIn q.values vs × SpanIn q.names ps
-spans_grow p q vs ps g i = (span_in_front p.values q.values vs g.values i.0, span_in_front p.names q.names ps g.names i.1)
+valued_grows : (p q : Pool) (h : StoredHead) (vs : Span) → Grows p q → SpanIn p.values vs → valued_node q h vs ≡ valued_node p h vs
+valued_grows p q h vs g i = ap (closed h []) (span_front p.values q.values vs g.values i)
+
+named_grows : (p q : Pool) (h : StoredHead) (ps : Span) → Grows p q → SpanIn p.names ps → named_node q h ps ≡ named_node p h ps
+named_grows p q h ps g i = ap (λ w. closed h (named w) []) (span_front p.names q.names ps g.names i)
+
+both_grows : (p q : Pool) (b : Both) → Grows p q → BothIn p b → both_node q b ≡ both_node p b
+both_grows p q b g i = parts_grow p q (form_head b.form) b.values b.names g (i.values, i.names)
+
+both_in_grows : (p q : Pool) (b : Both) → Grows p q → BothIn p b → BothIn q b
+both_in_grows p q b g i = record { values = span_in_front p.values q.values b.values g.values i.values; names = span_in_front p.names q.names b.names g.names i.names }
+
+both_same : (p q : Pool) (k : ℕ) → Grows p q → k < length p.both → get_or q.both k no_both ≡ get_or p.both k no_both
+both_same p q k g l = at_front p.both q.both k no_both g.both l
+
+-- the last one
+pub both_last : (bs cs : List Both) (b : Both) → cs ≡ bs ++ b ∷ [] → get_or cs (length bs) no_both ≡ b
+both_last bs cs b e = ap (λ w. get_or w (length bs) no_both) e ∙ go bs
+  where
+    go : (bs : List Both) → get_or (bs ++ b ∷ []) (length bs) no_both ≡ b
+    go [] = refl
+    go (x ∷ bs) = go bs
 
 pub node_grows : (p q : Pool) (r : Row) → Grows p q → RowIn p r → pool_node q r ≡ pool_node p r
 node_grows p q (row.Slot s) g h = absurd h
 node_grows p q (row.Leaf k) g h = ap (λ w. closed w [] []) (at_front p.leaves q.leaves k array g.leaves h)
 node_grows p q (row.Bytes b) g h = ap (λ x. closed (bytes x) [] []) (span_front p.bytes q.bytes b g.bytes h)
-node_grows p q (row.Array vs ps) g h = parts_grow p q array vs ps g h
-node_grows p q (row.Object t vs ps) g h = parts_grow p q (object t.0) vs ps g h
-node_grows p q (row.Wrapper c vs ps) g h = parts_grow p q (wrapper c) vs ps g h
-node_grows p q (row.Values f x vs ps) g h = parts_grow p q (values f x.0) vs ps g h
+node_grows p q (row.Array vs) g h = valued_grows p q array vs g h
+node_grows p q (row.NamedArray ps) g h = named_grows p q array ps g h
+node_grows p q (row.Object t vs) g h = valued_grows p q (object t.0) vs g h
+node_grows p q (row.NamedObject t ps) g h = named_grows p q (object t.0) ps g h
+node_grows p q (row.Wrapper c vs) g h = valued_grows p q (wrapper c) vs g h
+node_grows p q (row.Values f x vs) g h = valued_grows p q (values f x.0) vs g h
+node_grows p q (row.Both k) g h = ap (both_node q) (both_same p q k g h.0) ∙ both_grows p q (get_or p.both k no_both) g h.1
 node_grows p q (row.Dictionary w es) g h = ap (λ x. closed (dictionary w) [] (flat x)) (span_front p.entries q.entries es g.entries h)
 
 pub row_grows : (p q : Pool) (r : Row) → Grows p q → RowIn p r → RowIn q r
 row_grows p q (row.Slot s) g h = absurd h
 row_grows p q (row.Leaf k) g h = let l = front_length p.leaves q.leaves g.leaves in omega (arith, h)
 row_grows p q (row.Bytes b) g h = span_in_front p.bytes q.bytes b g.bytes h
-row_grows p q (row.Array vs ps) g h = spans_grow p q vs ps g h
-row_grows p q (row.Object t vs ps) g h = spans_grow p q vs ps g h
-row_grows p q (row.Wrapper c vs ps) g h = spans_grow p q vs ps g h
-row_grows p q (row.Values f x vs ps) g h = spans_grow p q vs ps g h
+row_grows p q (row.Array vs) g h = span_in_front p.values q.values vs g.values h
+row_grows p q (row.NamedArray ps) g h = span_in_front p.names q.names ps g.names h
+row_grows p q (row.Object t vs) g h = span_in_front p.values q.values vs g.values h
+row_grows p q (row.NamedObject t ps) g h = span_in_front p.names q.names ps g.names h
+row_grows p q (row.Wrapper c vs) g h = span_in_front p.values q.values vs g.values h
+row_grows p q (row.Values f x vs) g h = span_in_front p.values q.values vs g.values h
+row_grows p q (row.Both k) g h = (let l = front_length p.both q.both g.both in let m = h.0 in omega arith, subst (BothIn q) (sym (both_same p q k g h.0)) (both_in_grows p q (get_or p.both k no_both) g h.1))
 row_grows p q (row.Dictionary w es) g h = span_in_front p.entries q.entries es g.entries h

@@ -15,16 +15,19 @@ use Rattle.amf_graph.specs.Views.{named, flat}
 
 abbrev pub body_head : Body → StoredHead
 body_head (body.Leaf l) = leaf_head l
+body_head (body.Bytes x) = bytes x.now
 body_head (body.Parts f vs ps) = form_head f
 body_head (body.Dictionary f es) = dictionary f
 
 abbrev pub body_names : Body → List (ℕ × Stored)
 body_names (body.Leaf l) = []
+body_names (body.Bytes x) = []
 body_names (body.Parts s vs ps) = named ps.items
 body_names (body.Dictionary f es) = []
 
 abbrev pub body_values : Body → List Stored
 body_values (body.Leaf l) = []
+body_values (body.Bytes x) = []
 body_values (body.Parts s vs ps) = vs.items
 body_values (body.Dictionary f es) = flat es.items
 

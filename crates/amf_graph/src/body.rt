@@ -13,20 +13,23 @@ use std::alloc::Global;
 
 /// What a node is and holds, with lists of its own.
 #[derive(Drop)]
-pub(crate) enum Body {
+pub(crate) enum Body<'a> {
     Leaf(Leaf),
+    /// A byte array that is still to be copied: a short one needs no list.
+    Bytes(&'a [u8]),
     /// Values and pairs.
     Parts(Form, Vec<Value>, Vec<(TextId, Value)>),
     /// The entries of a dictionary, and whether its keys are held weakly.
     Dictionary(bool, Vec<(Value, Value)>),
 }
 
-impl Body {
+impl Body<'_> {
     pub(crate) fn kind(&self) -> NodeKind
         ensures { result ≡ kind_of (body_head self.now) }
     {
         match self {
             Body::Leaf(leaf) => leaf.kind(),
+            Body::Bytes(_) => NodeKind::Bytes,
             Body::Parts(form, ..) => form.kind(),
             Body::Dictionary(..) => NodeKind::Dictionary,
         }
@@ -34,11 +37,11 @@ impl Body {
 }
 
 /// A copy of what a node is and holds, each node in it under its number.
-pub(crate) fn renumbered_body(
+pub(crate) fn renumbered_body<'a>(
     alloc: Global,
-    held: Held<'_>,
+    held: Held<'a>,
     numbers: &[u32],
-) -> Result<Body, Memory>
+) -> Result<Body<'a>, Memory>
     requires names { AllByRecursion (λ p. HasNumber numbers.now p.1) (held_names held) }
     requires values { AllByRecursion (HasNumber numbers.now) (held_values held) }
     ensures head { IfOk result (λ body. body_head body ≡ held_head held.entry) }
@@ -47,7 +50,7 @@ pub(crate) fn renumbered_body(
 {
     Ok(match held {
         Held::Leaf(leaf) => Body::Leaf(leaf.copy(alloc)?),
-        Held::Bytes(bytes) => Body::Leaf(Leaf::Bytes(bytes.to_vec(alloc)?)),
+        Held::Bytes(bytes) => Body::Bytes(bytes),
         Held::Parts(form, values, names) => {
             let values = renumbered_values(alloc, values, numbers)?;
             Body::Parts(form, values, renumbered_pairs(alloc, names, numbers)?)

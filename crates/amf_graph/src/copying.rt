@@ -148,7 +148,7 @@ impl Copying {
         }
     }
 
-    fn body(&self, alloc: Global, held: Held<'_>) -> Result<Body, Memory>
+    fn body<'a>(&self, alloc: Global, held: Held<'a>) -> Result<Body<'a>, Memory>
         requires head { HeadCounted self.now (held_head held) }
         requires names { AllByRecursion (PairCounted self.now) (held_names held) }
         requires values { AllByRecursion (ValueCounted self.now) (held_values held) }
@@ -158,7 +158,7 @@ impl Copying {
     {
         Ok(match held {
             Held::Leaf(leaf) => Body::Leaf(self.leaf(alloc, leaf)?),
-            Held::Bytes(bytes) => Body::Leaf(Leaf::Bytes(bytes.to_vec(alloc)?)),
+            Held::Bytes(bytes) => Body::Bytes(bytes),
             Held::Parts(form, values, names) => {
                 let values = self.values(alloc, values)?;
                 Body::Parts(self.form(form), values, self.pairs(alloc, names)?)

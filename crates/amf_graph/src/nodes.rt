@@ -17,14 +17,16 @@ use crate::held::{Form, Held};
 use crate::pools::Pools;
 use crate::row::{Row, number_of};
 use crate::slot::Slot;
-use crate::{Leaf, NodeKind, Part, Shape, TextId, Value};
+use crate::{NodeKind, Part, Shape, TextId, Value};
 use amf_wire::Memory;
 use std::alloc::Global;
 use std::marker::Model;
 
-/// From so many parts on, they stay where they are when their node is closed. From so many slots on, those that are not used are let
-/// go.
+/// From so many parts on, they stay where they are when their node is closed.
 const MANY: usize = 4096;
+
+/// From so many slots on, those that are not used are let go.
+const MANY_SLOTS: usize = 4096;
 
 /// Nodes, most of them open in a slot and then closed in the pools.
 #[derive(Drop)]
@@ -123,12 +125,13 @@ fn keep_held(pools: &mut Pools, held: Held<'_>) -> Result<Row, Memory>
 }
 
 /// Keeps a node that is closed in the pools.
-fn keep_body(pools: &mut Pools, body: Body) -> Result<Row, Memory>
-    ensures ok { IfOk result (λ row. Keeps pools.old pools.new (body_node false body) row) }
+fn keep_body(pools: &mut Pools, body: Body<'_>) -> Result<Row, Memory>
+    ensures ok { IfOk result (λ row. Keeps pools.old pools.new (body_node false body.entry) row) }
     ensures grows { Grows pools.old pools.new }
 {
     match body {
         Body::Leaf(leaf) => pools.keep_leaf(leaf),
+        Body::Bytes(bytes) => pools.keep_array(bytes),
         Body::Parts(form, values, names) => pools.keep_parts(form, &values, &names),
         Body::Dictionary(weak, entries) => pools.keep_dictionary(weak, &entries),
     }
@@ -141,7 +144,7 @@ fn copy_held(alloc: Global, pools: &mut Pools, held: Held<'_>) -> Result<Row, Me
 {
     match held {
         Held::Leaf(leaf) => pools.keep_leaf(leaf.copy(alloc)?),
-        Held::Bytes(bytes) => pools.keep_leaf(Leaf::Bytes(bytes.to_vec(alloc)?)),
+        Held::Bytes(bytes) => pools.keep_array(bytes),
         Held::Parts(form, values, names) => pools.keep_parts(form, values, names),
         Held::Dictionary(weak, entries) => pools.keep_dictionary(weak, entries),
     }
@@ -210,8 +213,8 @@ impl Nodes {
     }
 
     /// Keeps a node that is closed behind the others. After an end nothing has changed.
-    pub(crate) fn keep(&mut self, body: Body) -> Result<(), Memory>
-        ensures ok { OnOk result (self.new ≡ self.old ++ body_node false body ∷ []) }
+    pub(crate) fn keep(&mut self, body: Body<'_>) -> Result<(), Memory>
+        ensures ok { OnOk result (self.new ≡ self.old ++ body_node false body.entry ∷ []) }
         ensures err { OnErr result (self.new ≡ self.old) }
     {
         let kind = body.kind();
@@ -321,12 +324,12 @@ impl Nodes {
         }
     }
 
-    /// Lets many slots go that no node has any more: those of nodes within one another would stay until the last of these is closed.
+    /// Lets many slots go that no node has any more. Those of nodes within one another would stay until the graph is finished.
     fn give_back(&mut self)
         ensures { self.new ≡ self.old }
     {
         let count = self.slots.len();
-        if count >= MANY && self.used <= count - count / 8 {
+        if count >= MANY_SLOTS && self.used <= count - count / 8 {
             self.drop_spare();
         }
     }

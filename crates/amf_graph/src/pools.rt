@@ -1,20 +1,20 @@
 //! The parts and the bytes of closed nodes, one behind the other.
 
-ghost use Rattle.std.specs.Prelude.{◌≡◌, ◌≤◌, ◌++◌, [], length, map, slice_range, false, is_ok, if◌then◌else◌, IfOk, OnErr};
+ghost use Rattle.std.specs.Prelude.{◌≡◌, ◌≤◌, ◌++◌, [], ◌∷◌, length, map, slice_range, false, is_ok, if◌then◌else◌, IfOk, OnErr};
 ghost use Rattle.amf_graph.specs.Arena.{bytes, dictionary};
 ghost use Rattle.amf_graph.specs.Building.{leaf_head, closed};
 ghost use Rattle.amf_graph.specs.Held.{form_head, held_node};
-ghost use Rattle.amf_graph.specs.Pools.{no_pool, span_of, SpanIn, RowIn, parts_node, pool_node, Grows, Keeps};
+ghost use Rattle.amf_graph.specs.Pools.{no_pool, span_of, SpanIn, RowIn, BothIn, valued_node, named_node, both_node, pool_node, Grows, Keeps};
 ghost use Rattle.amf_graph.specs.Views.{named, flat};
 
 use crate::held::{Form, Held};
-use crate::row::{NOWHERE, Row, Span, number_of, span_from};
+use crate::row::{Both, Row, Span, number_of, span_from};
 use crate::{Leaf, TextId, Value};
 use amf_wire::Memory;
 use std::alloc::Global;
 use std::marker::Model;
 
-/// From so many bytes on, a byte array keeps its list.
+/// From so many bytes on, a byte array has a list of its own.
 const LONG: usize = 4096;
 
 /// Parts and bytes of nodes, each node's in one piece.
@@ -23,8 +23,9 @@ pub(crate) struct Pools {
     values: Vec<Value>,
     names: Vec<(TextId, Value)>,
     entries: Vec<(Value, Value)>,
-    /// Those of most byte arrays. Their lists would take more room than their bytes.
+    /// Those of short byte arrays, which have no list of their own.
     bytes: Vec<u8>,
+    both: Vec<Both>,
     leaves: Vec<Leaf>,
 }
 
@@ -35,7 +36,7 @@ impl Model for Pools {
 
     ghost Value = { Pool };
 
-    ghost view = { λ p. record { values = p.values.items; names = p.names.items; entries = p.entries.items; bytes = p.bytes.items; leaves = map leaf_head p.leaves.items } };
+    ghost view = { λ p. record { values = p.values.items; names = p.names.items; entries = p.entries.items; bytes = p.bytes.items; both = p.both.items; leaves = map leaf_head p.leaves.items } };
 }
 
 fn values_in(values: &[Value], span: Span) -> &[Value]
@@ -76,6 +77,16 @@ fn extend<T: Copy>(parts: &mut Vec<T>, more: &[T]) -> Result<(), Memory>
     Ok(())
 }
 
+/// Puts where a node with values and pairs is kept behind the others. After an end nothing has changed.
+fn push_both(rows: &mut Vec<Both>, row: Both) -> Result<Row, Memory>
+    ensures row { IfOk result (λ r. r ≡ Row.Both (length rows.old.items)) }
+    ensures rows { rows.new.items ≡ (if is_ok result then rows.old.items ++ row ∷ [] else rows.old.items) }
+{
+    let number = number_of(rows.len())?;
+    rows.push(row)?;
+    Ok(Row::Both(number))
+}
+
 impl Pools {
     pub(crate) fn new(alloc: Global) -> Pools
         ensures { result ≡ no_pool }
@@ -85,17 +96,31 @@ impl Pools {
             names: Vec::new(alloc),
             entries: Vec::new(alloc),
             bytes: Vec::new(alloc),
+            both: Vec::new(alloc),
             leaves: Vec::new(alloc),
         }
     }
 
-    fn parts(&self, form: Form, values: Span, names: Span) -> Held<'_>
-        requires values { SpanIn self.now.values values }
-        requires names { SpanIn self.now.names names }
-        ensures { parts_node self.now (form_head form) values names ≡ held_node false result }
+    fn with_values(&self, form: Form, values: Span) -> Held<'_>
+        requires { SpanIn self.now.values values }
+        ensures { valued_node self.now (form_head form) values ≡ held_node false result }
     {
-        let values = values_in(&self.values, values);
-        Held::Parts(form, values, names_in(&self.names, names))
+        Held::Parts(form, values_in(&self.values, values), &[])
+    }
+
+    fn with_names(&self, form: Form, names: Span) -> Held<'_>
+        requires { SpanIn self.now.names names }
+        ensures { named_node self.now (form_head form) names ≡ held_node false result }
+    {
+        Held::Parts(form, &[], names_in(&self.names, names))
+    }
+
+    fn with_both(&self, both: Both) -> Held<'_>
+        requires { BothIn self.now both }
+        ensures { both_node self.now both ≡ held_node false result }
+    {
+        let values = values_in(&self.values, both.values);
+        Held::Parts(both.form, values, names_in(&self.names, both.names))
     }
 
     /// What a node that is kept here is and holds.
@@ -107,44 +132,65 @@ impl Pools {
             Row::Slot(_) => unreachable!(),
             Row::Leaf(place) => Held::Leaf(&self.leaves[place as usize]),
             Row::Bytes(span) => Held::Bytes(bytes_in(&self.bytes, span)),
-            Row::Array(values, names) => self.parts(Form::Array, values, names),
-            Row::Object(traits, values, names) => self.parts(Form::Object(traits), values, names),
-            Row::Wrapper(class, values, names) => self.parts(Form::Wrapper(class), values, names),
-            Row::Values(fixed, of, values, names) => {
-                self.parts(Form::Values(fixed, of), values, names)
-            }
+            Row::Array(values) => self.with_values(Form::Array, values),
+            Row::NamedArray(names) => self.with_names(Form::Array, names),
+            Row::Object(traits, values) => self.with_values(Form::Object(traits), values),
+            Row::NamedObject(traits, names) => self.with_names(Form::Object(traits), names),
+            Row::Wrapper(class, values) => self.with_values(Form::Wrapper(class), values),
+            Row::Values(fixed, of, values) => self.with_values(Form::Values(fixed, of), values),
+            Row::Both(place) => self.with_both(self.both[place as usize]),
             Row::Dictionary(weak, entries) => {
                 Held::Dictionary(weak, entries_in(&self.entries, entries))
             }
         }
     }
 
-    /// Keeps the bytes of a byte array. After an end nothing has changed.
+    /// Keeps the bytes of a short byte array. It gives up where the array is long. After an end nothing has changed.
     fn keep_bytes(&mut self, array: &[u8]) -> Result<Row, Memory>
         ensures ok { IfOk result (λ row. Keeps self.old self.new (closed (bytes array.now) [] []) row) }
         ensures grows { Grows self.old self.new }
         ensures err { OnErr result (self.new ≡ self.old) }
     {
+        if array.len() >= LONG {
+            return Err(Memory);
+        }
         let span = span_from(self.bytes.len(), array.len())?;
         extend(&mut self.bytes, array)?;
         Ok(Row::Bytes(span))
     }
 
-    /// Keeps a node without parts. Of a short byte array it keeps the bytes alone, where there is room. After an end what was there is
-    /// there.
+    fn push_leaf(&mut self, leaf: Leaf) -> Result<Row, Memory>
+        ensures ok { IfOk result (λ row. Keeps self.old self.new (closed (leaf_head leaf) [] []) row) }
+        ensures grows { Grows self.old self.new }
+    {
+        let number = number_of(self.leaves.len())?;
+        self.leaves.push(leaf)?;
+        Ok(Row::Leaf(number))
+    }
+
+    /// Keeps a copy of a byte array, of a short one the bytes alone, where there is room. After an end what was there is there.
+    pub(crate) fn keep_array(&mut self, array: &[u8]) -> Result<Row, Memory>
+        ensures ok { IfOk result (λ row. Keeps self.old self.new (closed (bytes array.now) [] []) row) }
+        ensures grows { Grows self.old self.new }
+    {
+        if let Ok(row) = self.keep_bytes(array) {
+            return Ok(row);
+        }
+        let list = array.to_vec(*self.leaves.allocator())?;
+        self.push_leaf(Leaf::Bytes(list))
+    }
+
+    /// Keeps a node without parts, of a short byte array the bytes alone, where there is room. After an end what was there is there.
     pub(crate) fn keep_leaf(&mut self, leaf: Leaf) -> Result<Row, Memory>
         ensures ok { IfOk result (λ row. Keeps self.old self.new (closed (leaf_head leaf) [] []) row) }
         ensures grows { Grows self.old self.new }
     {
         if let Leaf::Bytes(array) = &leaf
-            && array.len() < LONG
             && let Ok(row) = self.keep_bytes(array)
         {
             return Ok(row);
         }
-        let number = number_of(self.leaves.len())?;
-        self.leaves.push(leaf)?;
-        Ok(Row::Leaf(number))
+        self.push_leaf(leaf)
     }
 
     /// Keeps the values and the pairs of a node. After an end what was there is there.
@@ -158,14 +204,40 @@ impl Pools {
         ensures ok { IfOk result (λ row. Keeps self.old self.new (closed (form_head form) (named names.now) values.now) row) }
         ensures grows { Grows self.old self.new }
     {
-        if values.is_empty() && names.is_empty() {
-            return Ok(Row::of_form(form, NOWHERE, NOWHERE));
+        if !names.is_empty() {
+            return self.keep_named(form, values, names);
+        }
+        let span = span_from(self.values.len(), values.len())?;
+        extend(&mut self.values, values)?;
+        Ok(Row::of_values(form, span))
+    }
+
+    /// Does what `keep_parts` does, where there are pairs.
+    #[tactic(auto, using(crate::proofs::PoolNodes::both_last))]
+    fn keep_named(
+        &mut self,
+        form: Form,
+        values: &[Value],
+        names: &[(TextId, Value)],
+    ) -> Result<Row, Memory>
+        ensures ok { IfOk result (λ row. Keeps self.old self.new (closed (form_head form) (named names.now) values.now) row) }
+        ensures grows { Grows self.old self.new }
+    {
+        let name_span = span_from(self.names.len(), names.len())?;
+        extend(&mut self.names, names)?;
+        if values.is_empty()
+            && let Some(row) = Row::of_names(form, name_span)
+        {
+            return Ok(row);
         }
         let value_span = span_from(self.values.len(), values.len())?;
-        let name_span = span_from(self.names.len(), names.len())?;
         extend(&mut self.values, values)?;
-        extend(&mut self.names, names)?;
-        Ok(Row::of_form(form, value_span, name_span))
+        let both = Both {
+            form,
+            values: value_span,
+            names: name_span,
+        };
+        push_both(&mut self.both, both)
     }
 
     /// Keeps the entries of a dictionary. After an end what was there is there.

@@ -15,7 +15,7 @@ use crate::body::Body;
 use crate::classes::Classes;
 use crate::held::{Form, Held};
 use crate::nodes::Nodes;
-use crate::{Leaf, TextId, Value};
+use crate::{TextId, Value};
 use amf_wire::{Memory, Pattern, pattern_of};
 use std::alloc::Global;
 
@@ -168,7 +168,7 @@ fn keep_stand_in(
 {
     match held {
         Held::Leaf(leaf) => copies.keep(Body::Leaf(leaf.copy(alloc)?)),
-        Held::Bytes(bytes) => copies.keep(Body::Leaf(Leaf::Bytes(bytes.to_vec(alloc)?))),
+        Held::Bytes(bytes) => copies.keep(Body::Bytes(bytes)),
         Held::Parts(form, values, names) => {
             lists.fill(form, values, names, classes, stand_ins)?;
             copies.keep_parts(form, &lists.values, &lists.pairs)

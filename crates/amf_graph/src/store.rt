@@ -31,11 +31,21 @@ use std::hash::RandomState;
 use std::marker::Model;
 
 /// Texts, traits and nodes by their places.
-#[derive(Drop)]
 pub(crate) struct Store {
     texts: Texts,
     traits: Classes,
     nodes: Nodes,
+}
+
+impl Drop for Store {
+    /// Lets its parts go. Written out, it is proved once; what is derived is proved at each place where one is let go.
+    fn drop(self) {
+        let Store {
+            texts: _,
+            traits: _,
+            nodes: _,
+        } = self;
+    }
 }
 
 impl Model for Store {
@@ -140,8 +150,8 @@ impl Store {
     }
 
     /// Keeps a node that is closed.
-    pub(crate) fn keep_node(&mut self, body: Body) -> Result<(), Memory>
-        ensures ok { OnOk result (self.new ≡ kept_node self.old (body_node false body)) }
+    pub(crate) fn keep_node(&mut self, body: Body<'_>) -> Result<(), Memory>
+        ensures ok { OnOk result (self.new ≡ kept_node self.old (body_node false body.entry)) }
         ensures err { OnErr result (self.new ≡ self.old) }
     {
         self.nodes.keep(body)

@@ -18,10 +18,16 @@ const FIRST_BYTES: usize = 256;
 /// Texts in the order in which they were kept, each by the place where its bytes end. A content may stand more than once: nothing is looked up.
 ///
 /// A text takes its bytes, and four more. All bytes together are below 2^32, else there is no memory.
-#[derive(Drop)]
 pub struct TextPool {
     bytes: Vec<u8>,
     ends: Vec<u32>,
+}
+
+impl Drop for TextPool {
+    /// Lets its parts go. Written out, it is proved once; what is derived is proved at each place where one is let go.
+    fn drop(self) {
+        let TextPool { bytes: _, ends: _ } = self;
+    }
 }
 
 impl Model for TextPool {
