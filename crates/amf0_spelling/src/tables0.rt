@@ -11,12 +11,22 @@ use std::alloc::Global;
 
 /// The reference tables of a reader of AMF 0 (2.9): which node of the graph an index names, and the one set of AMF 3
 /// tables for all values behind the marker that switches to AMF 3 (3.1).
-#[derive(Drop)]
 pub struct Tables0 {
     /// The tables of the values in AMF 3.
     pub amf3: Tables3,
     nodes: Vec<NodeId>,
     switched: bool,
+}
+
+impl Drop for Tables0 {
+    /// Lets its parts go. Written out, it is proved once; what is derived is proved at each place where one is let go.
+    fn drop(self) {
+        let Tables0 {
+            amf3: _,
+            nodes: _,
+            switched: _,
+        } = self;
+    }
 }
 
 impl Tables0 {

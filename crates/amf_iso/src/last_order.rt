@@ -16,10 +16,10 @@ use std::mem;
 const MOST_NAMES: usize = 256;
 
 /// The names of the pairs that were put in order last, by the numbers of their contents, and their order. Where the next
-/// pairs have the same names, as most records repeat those of the one before, no bytes are compared.
+/// pairs have the same names, as most records repeat those of the one before, no bytes are compared. Names of more than 256
+/// pairs are not remembered.
 ///
 /// What is remembered is right for one graph (`AreInOrder`).
-#[derive(Drop)]
 pub struct LastOrder {
     alloc: Global,
     names: Vec<u32>,
@@ -27,6 +27,18 @@ pub struct LastOrder {
     order: Vec<(TextId, usize)>,
     /// Room for pairs in order.
     room: Vec<(TextId, Value)>,
+}
+
+impl Drop for LastOrder {
+    /// Lets its parts go. Written out, it is proved once; what is derived is proved at each place where one is let go.
+    fn drop(self) {
+        let LastOrder {
+            alloc: _,
+            names: _,
+            order: _,
+            room: _,
+        } = self;
+    }
 }
 
 impl Model for LastOrder {

@@ -12,11 +12,20 @@ use std::alloc::Global;
 use std::marker::Model;
 
 /// The nodes to which a graph's root leads, in canonical order: each at its first meeting and before its parts.
-#[derive(Drop)]
 pub struct Numbering {
     nodes: Vec<NodeId>,
     /// The number of each node of the graph that was met.
     numbers: Vec<Option<u32>>,
+}
+
+impl Drop for Numbering {
+    /// Lets its parts go. Written out, it is proved once; what is derived is proved at each place where one is let go.
+    fn drop(self) {
+        let Numbering {
+            nodes: _,
+            numbers: _,
+        } = self;
+    }
 }
 
 impl Model for Numbering {

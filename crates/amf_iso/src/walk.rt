@@ -15,7 +15,6 @@ pub(crate) struct Graphs<'g> {
 }
 
 /// The pairs of nodes that a walk over two graphs has met. No node has two partners.
-#[derive(Drop)]
 pub(crate) struct Walk {
     /// The texts that were found equal.
     pub texts: EqualTexts,
@@ -25,6 +24,18 @@ pub(crate) struct Walk {
     taken: Vec<bool>,
     /// Each pair once, in the order in which they were met.
     pub pairs: Vec<(NodeId, NodeId)>,
+}
+
+impl Drop for Walk {
+    /// Lets its parts go. Written out, it is proved once; what is derived is proved at each place where one is let go.
+    fn drop(self) {
+        let Walk {
+            texts: _,
+            partners: _,
+            taken: _,
+            pairs: _,
+        } = self;
+    }
 }
 
 impl Walk {

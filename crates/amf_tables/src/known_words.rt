@@ -24,10 +24,19 @@ use std::marker::Model;
 ///
 /// Each number takes four bytes, up to the greatest that was asked for. Where there is no memory to note a place, it is
 /// looked up again.
-#[derive(Drop)]
 pub struct KnownWords {
     texts: KnownTexts,
     traits: KnownPlaces,
+}
+
+impl Drop for KnownWords {
+    /// Lets its parts go. Written out, it is proved once; what is derived is proved at each place where one is let go.
+    fn drop(self) {
+        let KnownWords {
+            texts: _,
+            traits: _,
+        } = self;
+    }
 }
 
 impl Model for KnownWords {

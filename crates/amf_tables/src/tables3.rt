@@ -13,11 +13,21 @@ use std::marker::Model;
 
 /// The reference tables of a reader of AMF 3 (2.2): which text, traits or node of the graph an
 /// index names.
-#[derive(Drop)]
 pub struct Tables3 {
     texts: Vec<TextId>,
     traits: Vec<TraitsEntry>,
     nodes: NodeRun,
+}
+
+impl Drop for Tables3 {
+    /// Lets its parts go. Written out, it is proved once; what is derived is proved at each place where one is let go.
+    fn drop(self) {
+        let Tables3 {
+            texts: _,
+            traits: _,
+            nodes: _,
+        } = self;
+    }
 }
 
 impl Model for Tables3 {

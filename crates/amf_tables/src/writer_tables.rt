@@ -25,12 +25,23 @@ use std::marker::Model;
 ///
 /// A table has at most 2^32 entries, and that of the nodes 2^28. One more is refused as `Memory`,
 /// as is what there is no memory for.
-#[derive(Drop)]
 pub struct WriterTables {
     alloc: Global,
     texts: TextTable,
     traits: TraitsTable,
     nodes: SpelledNodes,
+}
+
+impl Drop for WriterTables {
+    /// Lets its parts go. Written out, it is proved once; what is derived is proved at each place where one is let go.
+    fn drop(self) {
+        let WriterTables {
+            alloc: _,
+            texts: _,
+            traits: _,
+            nodes: _,
+        } = self;
+    }
 }
 
 impl Model for WriterTables {

@@ -2,7 +2,6 @@ use amf_graph::Value;
 use amf_wire::Name;
 
 /// The values of an answer. Its names are texts.
-#[derive(Drop)]
 pub struct Reply {
     /// `body` of an acknowledge: a value of the builder that the answer is added to.
     pub body: Value,
@@ -20,11 +19,32 @@ pub struct Reply {
     pub correlation: Name,
 }
 
+impl Drop for Reply {
+    /// Lets its parts go. Written out, it is proved once; what is derived is proved at each place where one is let go.
+    fn drop(self) {
+        let Reply {
+            body: _,
+            client: _,
+            destination: _,
+            ds_id: _,
+            message: _,
+            moment: _,
+            correlation: _,
+        } = self;
+    }
+}
+
 /// Why a request failed. Its names are texts.
-#[derive(Drop)]
 pub struct FaultText {
     /// `faultCode`.
     pub code: Name,
     /// `faultString`.
     pub text: Name,
+}
+
+impl Drop for FaultText {
+    /// Lets its parts go. Written out, it is proved once; what is derived is proved at each place where one is let go.
+    fn drop(self) {
+        let FaultText { code: _, text: _ } = self;
+    }
 }

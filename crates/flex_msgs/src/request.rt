@@ -39,7 +39,6 @@ impl fmt::Display for Member {
 }
 
 /// What every message has. A text that is absent or null is the empty name.
-#[derive(Drop)]
 pub struct Common {
     /// `messageId`.
     pub message: Name,
@@ -55,6 +54,21 @@ pub struct Common {
     pub body: Value,
     /// `headers`, a value of the graph that was viewed.
     pub headers: Value,
+}
+
+impl Drop for Common {
+    /// Lets its parts go. Written out, it is proved once; what is derived is proved at each place where one is let go.
+    fn drop(self) {
+        let Common {
+            message: _,
+            destination: _,
+            client: _,
+            ds_id: _,
+            subtopic: _,
+            body: _,
+            headers: _,
+        } = self;
+    }
 }
 
 /// A message that is served.
