@@ -1,5 +1,5 @@
 -- A value all of whose bytes were ahead was read by its layout.
-use Rattle.std.proofs.Common.{◌≡◌, ℕ, suc, ◌+◌, ◌-◌, ◌/◌, ◌<◌, ◌≤◌, List, [], ◌∷◌, length, take, drop, Some, None, refl, sym, ap, ◌∙◌, subst, arith, length-drop, Ok}
+use Rattle.std.proofs.Common.{◌≡◌, ℕ, ◌-◌, ◌/◌, ◌≤◌, List, [], ◌∷◌, length, take, drop, Some, None, refl, sym, ap, ◌∙◌, subst, arith, length-drop, Ok}
 use Rattle.std.proofs.lemmas.List.{take_all}
 use Rattle.std.specs.Prelude.{slice_index, false, true, Option, IfSome}
 use Rattle.std.specs.Int.{from_be_bytes, w64}
@@ -8,9 +8,9 @@ use Rattle.amf_wire.specs.U29.{u29_value}
 use Rattle.amf_wire.specs.declared.pattern.Pattern.{Pattern}
 use Rattle.amf_io.specs.declared.window.Window.{Window}
 use Rattle.amf_io.specs.declared.cursor.Cursor.{Cursor}
-use Rattle.amf_io.specs.Cursor.{source_of, place, bound, ahead, unread}
+use Rattle.amf_io.specs.Cursor.{source_of, place, bound, unread}
 use Rattle.amf_io.specs.Field.{AreBytes, fixed, u29, u29_kind, raw_kind, text_kind, no_refusal}
-use Rattle.amf_io.specs.Layout.{give, want}
+use Rattle.amf_io.specs.Layout.{give}
 use Rattle.amf_io.specs.ReadEnds.{IsPlaced, GoesBy}
 use Rattle.amf_io.specs.LayoutAnswer.{AnswersBy}
 use Rattle.amf_io.specs.CursorReads.{Answers}
@@ -27,7 +27,7 @@ use Rattle.amf3_spelling.specs.declared.marker.Marker.{Marker}
 use Rattle.amf3_spelling.specs.declared.marker.Marker.TheVariants as marker
 use Rattle.amf3_layout_laws.specs.Layout3State.{State3, state_of}
 use Rattle.amf3_layout_laws.specs.Layout3Words.{TextRead, text_layout}
-use Rattle.amf3_layout_laws.specs.Layout3.{ValueRead, read, eight_layout, behind_marker, value_layout}
+use Rattle.amf3_layout_laws.specs.Layout3.{read, eight_layout, behind_marker, value_layout}
 use Rattle.amf_wire_fields.proofs.Ahead.{Passed, passed_goes, passed_placed, passed_field, fixed_there, number_bytes}
 use Rattle.amf3_read.specs.declared.node.Start.TheVariants as start
 use Rattle.amf3_read.specs.Ready.{text_read}

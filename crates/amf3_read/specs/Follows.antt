@@ -31,6 +31,10 @@ IsWaiting left b f = Waits Anything left b f
 abbrev pub entry_of : NodeId → Value → Parts → Frame
 entry_of i k p = record { node = i; role = role.Entry k; todo = p }
 
+-- a node that waits for a key
+abbrev pub key_frame_of : NodeId → Parts → Frame
+key_frame_of i p = record { node = i; role = role.Key; todo = p }
+
 -- a node that waits for an item
 abbrev pub item_of : NodeId → Parts → Frame
 item_of i p = record { node = i; role = role.Item; todo = p }

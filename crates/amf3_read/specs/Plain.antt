@@ -3,7 +3,6 @@ use Rattle.std.specs.Prelude.{◌≡◌, ℕ, ◌/◌, ◌%◌, ◌<◌, ◌≤�
 use Rattle.std.specs.Int.{from_be_bytes, w64}
 use Rattle.amf_wire.specs.Integer.{IsInteger, integer_of}
 use Rattle.amf_wire.specs.U29Answer.{IsWholeU29}
-use Rattle.amf_wire.specs.declared.pattern.Pattern.{Pattern}
 use Rattle.amf_io.specs.declared.window.Window.{Window}
 use Rattle.amf_io.specs.declared.cursor.Cursor.{Cursor}
 use Rattle.amf_io.specs.declared.source.Source.{Ghosts as SourceMembers}

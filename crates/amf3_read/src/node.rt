@@ -130,7 +130,14 @@ fn enter_apart<S: Source>(
     ensures ready { OnOk result (Ready 0 builder.new tables.new cursor.new) }
     ensures stays { OnOk result (place cursor.old ≤ place cursor.new) }
 {
-    enter_node(alloc, cursor, builder, tables, kind, header)
+    match kind {
+        NodeKind::Bytes => enter_node(alloc, cursor, builder, tables, NodeKind::Bytes, header),
+        NodeKind::Values => enter_node(alloc, cursor, builder, tables, NodeKind::Values, header),
+        NodeKind::Dictionary => {
+            enter_node(alloc, cursor, builder, tables, NodeKind::Dictionary, header)
+        }
+        _ => enter_node(alloc, cursor, builder, tables, kind, header),
+    }
 }
 
 /// Reads what stands between a node's header and its values, and enters the node.

@@ -14,7 +14,7 @@ ghost use Rattle.amf_wire_fields.specs.Room.{HasRoomFor, Raises, left_of};
 ghost use Rattle.amf3_read.specs.Answer.{Answers3};
 ghost use Rattle.amf3_read.specs.Steps.{marker_layout};
 ghost use Rattle.amf3_read.specs.Frames.{Starts, StartHolds, StillReady, AnswersValue3};
-ghost use Rattle.amf3_read.specs.Follows.{FollowsOver, StandsOver, IsWaiting, entry_of, item_of};
+ghost use Rattle.amf3_read.specs.Follows.{FollowsOver, StandsOver, IsWaiting, entry_of, item_of, key_frame_of};
 ghost use Rattle.amf3_read.specs.Now as now;
 ghost use Rattle.amf_graph.specs.Arena.{Names};
 
@@ -87,6 +87,9 @@ pub fn read_value<S: Source>(
             Step::Wait(Role::Item, todo) => {
                 innermost = read_items(alloc, cursor, builder, tables, &mut frames, node, todo)?;
             }
+            Step::Wait(Role::Key, todo) => {
+                innermost = read_key(alloc, cursor, builder, tables, &mut frames, node, todo)?;
+            }
             Step::Wait(role, todo) => {
                 let frame = Frame { node, role, todo };
                 innermost = read_part(alloc, cursor, builder, tables, &mut frames, frame)?;
@@ -135,6 +138,38 @@ fn read_items<S: Source>(
         match behind_item(todo) {
             Some(rest) => todo = rest,
             None => return Ok(OpenNode { node, todo }),
+        }
+    }
+}
+
+/// Reads the key that a node waits for, and its value, or the start of one of the two: then the frame goes onto the stack. The
+/// answer is the node that is innermost then.
+#[inline(never)]
+fn read_key<S: Source>(
+    alloc: Global,
+    cursor: &mut Cursor<'_, S>,
+    builder: &mut Builder,
+    tables: &mut Tables3,
+    frames: &mut Frames,
+    node: NodeId,
+    todo: Parts,
+) -> Result<OpenNode, ReadEnd>
+    requires ready { Ready 0 builder.old tables.old cursor.old }
+    requires waits { IsWaiting (left_of cursor.old) builder.old (key_frame_of node todo) }
+    ensures goes { Goes S.Source cursor.old cursor.new result }
+    ensures follows { FollowsOver S.Source builder.old builder.new tables.old tables.new cursor.old cursor.new now.wanted (key_frame_of node todo ∷ frames.old) frames.new result }
+    ensures less { OnOk result (2 * left_of cursor.new + length frames.new < 2 * left_of cursor.old + length frames.old) }
+{
+    let role = Role::Key;
+    let frame = Frame { node, role, todo };
+    match start_item(alloc, cursor, builder, tables)? {
+        Start::Value(value) => give(alloc, cursor, builder, tables, frames, frame, value),
+        Start::Open(child, parts) => {
+            frames.push(frame)?;
+            Ok(OpenNode {
+                node: child,
+                todo: parts,
+            })
         }
     }
 }
@@ -197,6 +232,7 @@ fn give<S: Source>(
 }
 
 /// Reads the value of a key, or its start, as [`read_part`] does.
+#[inline(always)]
 fn read_entry<S: Source>(
     alloc: Global,
     cursor: &mut Cursor<'_, S>,

@@ -1,6 +1,5 @@
 use Rattle.std.proofs.Common.{sym, ◌∙◌, subst, arith}
 use Rattle.amf3_spelling.specs.declared.marker.Marker.TheVariants as marker
-use Rattle.amf_wire_fields.proofs.Chunks.{are_bytes}
 use Rattle.amf3_read.specs.Plain.{IsIntegerAt, IsDoubleAt, IsTextAt}
 use Rattle.amf3_read.proofs.PlainReads.{if_some, all_behind}
 use Rattle.amf3_read.proofs.plain.plain_at.Goals as goal

@@ -1,7 +1,6 @@
-use Rattle.std.proofs.Common.{◌≤◌, length, drop, arith, length-drop}
+use Rattle.std.proofs.Common.{drop, arith, length-drop}
 use Rattle.amf_wire_fields.proofs.Ahead.{Passed}
 use Rattle.amf3_read.proofs.PlainReads.{rest_ahead, plain_reads}
-use Rattle.amf3_read.proofs.plain.read_plain.Given.{Over}
 use Rattle.amf3_read.proofs.plain.read_plain.Goals as goal
 
 pub returns-in-Some-clause-some : goal.returns-in-Some-clause-some

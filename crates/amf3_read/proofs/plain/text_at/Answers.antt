@@ -1,4 +1,4 @@
-use Rattle.std.proofs.Common.{◌∙◌, refl, sym, subst}
+use Rattle.std.proofs.Common.{refl, sym, subst}
 use Rattle.amf_wire.specs.U29Answer.{IsWholeU29}
 use Rattle.amf_wire_fields.proofs.Ahead.{number_few}
 use Rattle.amf3_read.proofs.TextReads.{even_number}

@@ -7,6 +7,7 @@ use Rattle.amf3_read.specs.declared.frame.Role.TheVariants as role
 use Rattle.amf3_read.specs.Now as now
 use Rattle.amf_wire_fields.specs.Room.{left_of}
 use Rattle.amf3_read.specs.Frames.{Nested, StackSo}
+use Rattle.amf3_read.specs.Follows.{key_frame_of}
 use Rattle.amf_io.proofs.CursorReads.{goes_other}
 use Rattle.amf_wire_fields.proofs.LayoutBinds.{passed_on}
 use Rattle.amf3_read.proofs.Stack.{so_begin, so_end, so_value, so_open, go_end, go_wait, go_open, go_closed, so_done, so_continues, waits_any, goes_passed}
@@ -88,6 +89,26 @@ read_items-requires g c =
     let so = go_wait S.tells S.left S.faults a b t u k d fs i p c.loop-frames.invariant b1 u1 e h.still_ready h.stays (let x = h.goes.same_bound in let y = h.stays in omega arith) role.Item c.in-Wait-Item-default.todo h.goes h.answers h.holds in
     record { arena = a; tables = t; cursor = k; so = so }
 
+pub read_key-requires-clause-ready : goal.read_key-requires-clause-ready
+read_key-requires-clause-ready g c =
+    let S = g.S.Source in
+    let a = c.args.builder.now in let t = c.args.tables.now in let k = c.args.cursor.now in let b = c.loop-frames.builder in let u = c.loop-frames.tables in let d = c.loop-frames.cursor in let fs = c.loop-frames.frames in
+    let i = c.loop-frames.innermost.node in let p = c.loop-frames.innermost.todo in
+    let b1 = c.go_on.new.builder in let u1 = c.go_on.new.tables in let e = c.go_on.new.cursor in
+    let h = rw (c.in-Wait-Key-default.is, c.in-Wait-Key-default.field-0-is) at c.in_ok-todo.ensures in
+    let so = go_wait S.tells S.left S.faults a b t u k d fs i p c.loop-frames.invariant b1 u1 e h.still_ready h.stays (let x = h.goes.same_bound in let y = h.stays in omega arith) role.Key c.in-Wait-Key-default.todo h.goes h.answers h.holds in
+    so.ready
+
+pub read_key-requires-clause-waits : goal.read_key-requires-clause-waits
+read_key-requires-clause-waits g c =
+    let S = g.S.Source in
+    let a = c.args.builder.now in let t = c.args.tables.now in let k = c.args.cursor.now in let b = c.loop-frames.builder in let u = c.loop-frames.tables in let d = c.loop-frames.cursor in let fs = c.loop-frames.frames in
+    let i = c.loop-frames.innermost.node in let p = c.loop-frames.innermost.todo in
+    let b1 = c.go_on.new.builder in let u1 = c.go_on.new.tables in let e = c.go_on.new.cursor in
+    let h = rw (c.in-Wait-Key-default.is, c.in-Wait-Key-default.field-0-is) at c.in_ok-todo.ensures in
+    let so = go_wait S.tells S.left S.faults a b t u k d fs i p c.loop-frames.invariant b1 u1 e h.still_ready h.stays (let x = h.goes.same_bound in let y = h.stays in omega arith) role.Key c.in-Wait-Key-default.todo h.goes h.answers h.holds in
+    waits_any (Nested a (suc (left_of e)) fs) (left_of e) b1 (key_frame_of i c.in-Wait-Key-default.todo) so.holds
+
 pub read_part-requires-clause-ready : goal.read_part-requires-clause-ready
 read_part-requires-clause-ready g c =
     let S = g.S.Source in
@@ -119,6 +140,16 @@ returns-in_err-innermost-in-Wait-Item-default-clause-goes g c =
     let so = go_wait S.tells S.left S.faults a b t u k d fs i p c.loop-frames.invariant b1 u1 e h.still_ready h.stays (let x = h.goes.same_bound in let y = h.stays in omega arith) role.Item c.in-Wait-Item-default.todo h.goes h.answers h.holds in
     goes_passed S.tells S.left S.faults k e c.read_items.new.cursor c.from_residual-in_err-innermost-in-Wait-Item-default.result c.in_err-innermost-in-Wait-Item-default.field-0.0 c.from_residual-in_err-innermost-in-Wait-Item-default.ensures.1 so.goes c.in_err-innermost-in-Wait-Item-default.ensures.goes
 
+pub returns-in_err-innermost-in-Wait-Key-default-clause-goes : goal.returns-in_err-innermost-in-Wait-Key-default-clause-goes
+returns-in_err-innermost-in-Wait-Key-default-clause-goes g c =
+    let S = g.S.Source in
+    let a = c.args.builder.now in let t = c.args.tables.now in let k = c.args.cursor.now in let b = c.loop-frames.builder in let u = c.loop-frames.tables in let d = c.loop-frames.cursor in let fs = c.loop-frames.frames in
+    let i = c.loop-frames.innermost.node in let p = c.loop-frames.innermost.todo in
+    let b1 = c.go_on.new.builder in let u1 = c.go_on.new.tables in let e = c.go_on.new.cursor in
+    let h = rw (c.in-Wait-Key-default.is, c.in-Wait-Key-default.field-0-is) at c.in_ok-todo.ensures in
+    let so = go_wait S.tells S.left S.faults a b t u k d fs i p c.loop-frames.invariant b1 u1 e h.still_ready h.stays (let x = h.goes.same_bound in let y = h.stays in omega arith) role.Key c.in-Wait-Key-default.todo h.goes h.answers h.holds in
+    goes_passed S.tells S.left S.faults k e c.read_key.new.cursor c.from_residual-in_err-innermost-in-Wait-Key-default.result c.in_err-innermost-in-Wait-Key-default.field-0.0 c.from_residual-in_err-innermost-in-Wait-Key-default.ensures.1 so.goes c.in_err-innermost-in-Wait-Key-default.ensures.goes
+
 pub returns-in_err-innermost-in-Wait-clause-goes : goal.returns-in_err-innermost-in-Wait-clause-goes
 returns-in_err-innermost-in-Wait-clause-goes g c =
     let S = g.S.Source in
@@ -140,6 +171,17 @@ returns-in_err-innermost-in-Wait-Item-default-clause-answers g c = λ n lt.
     let x = c.in_err-innermost-in-Wait-Item-default.ensures.follows in
     passed_on S.tells S.left S.faults _ (value_layout n (state_of a t)) k c.read_items.new.cursor c.from_residual-in_err-innermost-in-Wait-Item-default.result c.in_err-innermost-in-Wait-Item-default.field-0.0 c.from_residual-in_err-innermost-in-Wait-Item-default.ensures.1 (x.ends a t k so n lt)
 
+pub returns-in_err-innermost-in-Wait-Key-default-clause-answers : goal.returns-in_err-innermost-in-Wait-Key-default-clause-answers
+returns-in_err-innermost-in-Wait-Key-default-clause-answers g c = λ n lt.
+    let S = g.S.Source in
+    let a = c.args.builder.now in let t = c.args.tables.now in let k = c.args.cursor.now in let b = c.loop-frames.builder in let u = c.loop-frames.tables in let d = c.loop-frames.cursor in let fs = c.loop-frames.frames in
+    let i = c.loop-frames.innermost.node in let p = c.loop-frames.innermost.todo in
+    let b1 = c.go_on.new.builder in let u1 = c.go_on.new.tables in let e = c.go_on.new.cursor in
+    let h = rw (c.in-Wait-Key-default.is, c.in-Wait-Key-default.field-0-is) at c.in_ok-todo.ensures in
+    let so = go_wait S.tells S.left S.faults a b t u k d fs i p c.loop-frames.invariant b1 u1 e h.still_ready h.stays (let x = h.goes.same_bound in let y = h.stays in omega arith) role.Key c.in-Wait-Key-default.todo h.goes h.answers h.holds in
+    let x = c.in_err-innermost-in-Wait-Key-default.ensures.follows in
+    passed_on S.tells S.left S.faults _ (value_layout n (state_of a t)) k c.read_key.new.cursor c.from_residual-in_err-innermost-in-Wait-Key-default.result c.in_err-innermost-in-Wait-Key-default.field-0.0 c.from_residual-in_err-innermost-in-Wait-Key-default.ensures.1 (x.ends a t k so n lt)
+
 pub returns-in_err-innermost-in-Wait-clause-answers : goal.returns-in_err-innermost-in-Wait-clause-answers
 returns-in_err-innermost-in-Wait-clause-answers g c = λ n lt.
     let S = g.S.Source in
@@ -160,6 +202,17 @@ loop-frames-preserved-in-Wait-Item-default g c =
     let h = rw (c.in-Wait-Item-default.is, c.in-Wait-Item-default.field-0-is) at c.in_ok-todo.ensures in
     let so = go_wait S.tells S.left S.faults a b t u k d fs i p c.loop-frames.invariant b1 u1 e h.still_ready h.stays (let x = h.goes.same_bound in let y = h.stays in omega arith) role.Item c.in-Wait-Item-default.todo h.goes h.answers h.holds in
     let x = c.in_ok-innermost-in-Wait-Item-default.ensures.follows in
+    x.goes_on a t k so
+
+pub loop-frames-preserved-in-Wait-Key-default : goal.loop-frames-preserved-in-Wait-Key-default
+loop-frames-preserved-in-Wait-Key-default g c =
+    let S = g.S.Source in
+    let a = c.args.builder.now in let t = c.args.tables.now in let k = c.args.cursor.now in let b = c.loop-frames.builder in let u = c.loop-frames.tables in let d = c.loop-frames.cursor in let fs = c.loop-frames.frames in
+    let i = c.loop-frames.innermost.node in let p = c.loop-frames.innermost.todo in
+    let b1 = c.go_on.new.builder in let u1 = c.go_on.new.tables in let e = c.go_on.new.cursor in
+    let h = rw (c.in-Wait-Key-default.is, c.in-Wait-Key-default.field-0-is) at c.in_ok-todo.ensures in
+    let so = go_wait S.tells S.left S.faults a b t u k d fs i p c.loop-frames.invariant b1 u1 e h.still_ready h.stays (let x = h.goes.same_bound in let y = h.stays in omega arith) role.Key c.in-Wait-Key-default.todo h.goes h.answers h.holds in
+    let x = c.in_ok-innermost-in-Wait-Key-default.ensures.follows in
     x.goes_on a t k so
 
 pub loop-frames-preserved-in-Wait : goal.loop-frames-preserved-in-Wait

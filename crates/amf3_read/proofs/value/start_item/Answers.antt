@@ -1,9 +1,9 @@
-use Rattle.std.proofs.Common.{ℕ, ◌<◌, sym, subst, arith, Ok}
+use Rattle.std.proofs.Common.{◌<◌, sym, subst, arith}
 use Rattle.amf_io.proofs.CursorReads.{goes_other}
 use Rattle.amf3_layout_laws.specs.Layout3State.{state_of}
 use Rattle.amf3_layout_laws.proofs.Reader3Tables.{grows_itself}
 use Rattle.amf_wire_fields.specs.Room.{left_of}
-use Rattle.amf3_read.specs.Frames.{Starts, StartHolds, StillReady}
+use Rattle.amf3_read.specs.Frames.{Starts}
 use Rattle.amf3_read.specs.declared.node.Start.TheVariants as start
 use Rattle.amf3_read.proofs.value.start_item.Goals as goal
 
