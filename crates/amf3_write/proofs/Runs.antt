@@ -83,3 +83,14 @@ pub turned : (g : Graph) (a : Arena) (whole : List Segment) (runs all left : Lis
 turned g a whole runs all left top next o m n e h k =
     let behind = next_segments next ++ segments_left a left in
     leads_then g whole (segments_left a all) behind o m n h (leads_from g (segments_left a all) (run_segments a top ++ segments_left a runs) behind m n (segments_pushed a runs all top e) k)
+
+-- values of which none is left
+pub all_written : (g : Graph) (a : Arena) (whole : List Segment) (left : List Value) (runs now : List Unwritten) (o m : Output) → left ≡ [] → now ≡ runs → Leads g whole (values_then left [] ++ segments_left a runs) o m → Leads g whole (segments_left a now) o m
+all_written g a whole left runs now o m e s h = leads_to g whole (values_then left [] ++ segments_left a runs) (segments_left a now) o m (ap (λ w. values_then w [] ++ segments_left a runs) e ∙ ap (segments_left a) (sym s)) h
+
+-- pairs of which none is left, and the empty name behind them
+pub ended : (g : Graph) (a : Arena) (whole : List Segment) (left : List (List ℕ × Value)) (runs now : List Unwritten) (o m n : Output) → left ≡ [] → now ≡ runs → Leads g whole (pairs_then left [] ++ segments_left a runs) o m → WritesStep (word []) m n → Leads g whole (segments_left a now) o n
+ended g a whole left runs now o m n e s h k =
+    let old = segments_left a runs in
+    leads_to g whole old (segments_left a now) o n (ap (segments_left a) (sym s))
+    (leads_then g whole (step (word []) ∷ old) old o m n (leads_to g whole (pairs_then left [] ++ old) (step (word []) ∷ old) o m (ap (λ w. pairs_then w [] ++ old) e) h) (leads_step g (word []) old m n k))

@@ -44,34 +44,36 @@ impl Output {
         let _ = node;
         graph.is_finished();
         match view {
-            NodeView::XmlDocument(text) => self.counted(text)?,
-            NodeView::Xml(text) => self.counted(text)?,
-            NodeView::Bytes(bytes) => self.counted(bytes)?,
-            NodeView::Date(milliseconds) => self.date(milliseconds)?,
-            NodeView::Ints { fixed, items } => self.ints(fixed, items)?,
-            NodeView::Uints { fixed, items } => self.uints(fixed, items)?,
-            NodeView::Doubles { fixed, items } => self.doubles(fixed, items)?,
-            NodeView::Array { items, names } => self.array(items, names, graph, order, waiting)?,
+            NodeView::XmlDocument(text) => self.counted(text),
+            NodeView::Xml(text) => self.counted(text),
+            NodeView::Bytes(bytes) => self.counted(bytes),
+            NodeView::Date(milliseconds) => self.date(milliseconds),
+            NodeView::Ints { fixed, items } => self.ints(fixed, items),
+            NodeView::Uints { fixed, items } => self.uints(fixed, items),
+            NodeView::Doubles { fixed, items } => self.doubles(fixed, items),
+            NodeView::Array { items, names } => self.array(items, names, graph, order, waiting),
             NodeView::Object {
                 traits,
                 sealed,
                 members,
-            } => self.object(traits, sealed, members, graph, order, waiting)?,
+            } => self.object(traits, sealed, members, graph, order, waiting),
             NodeView::Wrapper { class, value } => {
                 self.wrapper(class)?;
                 waiting.push(Unwritten::One(value))?;
+                Ok(())
             }
             NodeView::Values { fixed, of, items } => {
                 self.vector(items.len(), fixed)?;
                 self.text_of(of, graph)?;
                 waiting.push(Unwritten::Values(items))?;
+                Ok(())
             }
             NodeView::Dictionary { weak, entries } => {
                 self.vector(entries.len(), weak)?;
                 waiting.push(Unwritten::Entries(entries))?;
+                Ok(())
             }
         }
-        Ok(())
     }
 
     /// An array: its named pairs, and then its items (3.11).

@@ -1,4 +1,5 @@
 use Rattle.std.proofs.Common.{◌++◌, ◌∷◌, [], ap, refl, sym, ◌∙◌, subst, arith}
+use Rattle.std.proofs.lemmas.List.{nil_from_length}
 use Rattle.amf_graph.specs.Arena.{value_content}
 use Rattle.amf_graph.specs.Graph.{node}
 use Rattle.amf_graph.specs.Rooted.{content}
@@ -9,7 +10,7 @@ use Rattle.amf3_write.specs.declared.unwritten.Unwritten.TheVariants.{One, Entri
 use Rattle.amf3_write.specs.Unwritten.{next_segments, segments_left}
 use Rattle.amf3_write.specs.Writes.{Leads}
 use Rattle.amf3_write.proofs.Leading.{leads_same}
-use Rattle.amf3_write.proofs.Runs.{segments_pushed, turns_pushed, value_on, put_back}
+use Rattle.amf3_write.proofs.Runs.{all_written, segments_pushed, turns_pushed, value_on, put_back}
 use Rattle.amf3_write.proofs.output.Output.entries.Goals as goal
 
 pub loop-entry-init : goal.loop-entry-init
@@ -84,3 +85,12 @@ loop-entry-preserved c =
       ready = c.in_ok-node-2.ensures.ready;
       keeps = λ front h. c.in_ok-node-2.ensures.keeps front (c.in_ok-node.ensures.keeps front (c.loop-entry.invariant.keeps front h));
     }
+
+pub returns-clause-leads : goal.returns-clause-leads
+returns-clause-leads c =
+    let g = content c.args.graph.now in
+    let a = c.args.graph.now.arena in
+    let old = segments_left a c.args.waiting.now.items in
+    let whole = values_then (values_of a (flat c.args.entries.now)) [] ++ old in
+    let left = values_of a (flat c.loop-entry.left.now) in
+    all_written g a whole left c.args.waiting.now.items c.loop-entry.waiting.items c.args.self.now c.loop-entry.self (ap (λ es. values_of a (flat es)) (nil_from_length c.loop-entry.left.now c.in_default.ensures.cases)) c.loop-entry.invariant.stack c.loop-entry.invariant.leads

@@ -1,6 +1,7 @@
 use Rattle.std.proofs.Common.{◌≡◌, ◌+◌, ◌*◌, ◌++◌, ◌∷◌, [], ap, sym, ◌∙◌, subst, map, length, arith, ℕ, List}
 use Rattle.std.specs.Int.{to_be_bytes, w64}
 use Rattle.std.proofs.lemmas.List.{length-map}
+use Rattle.std.proofs.lemmas.Result.{on_ok_weaker}
 use Rattle.amf_graph.specs.Arena.{StoredNode, value_content, text_at}
 use Rattle.amf_graph.specs.Bounds.{NodeWithin}
 use Rattle.amf_graph.specs.Graph.{Node}
@@ -19,73 +20,147 @@ use Rattle.amf3_write.proofs.Runs.{segments_pushed, turns_pushed, flat_length}
 use Rattle.amf3_write.proofs.WroteNodes.{shown, node_within}
 use Rattle.amf3_write.proofs.output.Output.open.Goals as goal
 
-pub returns-in_ok-counted-in-XmlDocument-clause-leads : goal.returns-in_ok-counted-in-XmlDocument-clause-leads
-returns-in_ok-counted-in-XmlDocument-clause-leads c =
+pub returns-in-XmlDocument : goal.returns-in-XmlDocument
+returns-in-XmlDocument c =
     let g = content c.args.graph.now in
     let a = c.args.graph.now.arena in
     let old = segments_left a c.args.waiting.now.items in
     let o = c.args.self.now in
     let n = c.counted.new.self in
-    let s = (subst (λ w. Shows c.args.graph.now.arena (stored_at c.args.graph.now.arena c.args.node.0) w) c.in-XmlDocument.is c.requires.shown) in
-    subst (λ (x : Node). Leads g (node_segments x ++ old) old o n) (sym (shown a c.args.graph.now.root c.args.node.0 _ s.1))
-    (subst (λ (x : List ℕ). Leads g (step (number (2 * length x + 1)) ∷ step (raw x) ∷ old) old o n) s.2
-    (leads_steps g (step (number (2 * length c.in-XmlDocument.text.now + 1)) ∷ step (raw c.in-XmlDocument.text.now) ∷ []) old o n c.in_ok-counted-in-XmlDocument.ensures.ok))
+    let r = c.counted.result in
+    let ok = c.counted.ensures.ok in
+    let s = subst (λ w. Shows c.args.graph.now.arena (stored_at c.args.graph.now.arena c.args.node.0) w) c.in-XmlDocument.is c.requires.shown in
+    record {
+      leads = on_ok_weaker r (λ h. subst (λ (x : Node). Leads g (node_segments x ++ old) old o n) (sym (shown a c.args.graph.now.root c.args.node.0 _ s.1))
+          (subst (λ (x : List ℕ). Leads g (step (number (2 * length x + 1)) ∷ step (raw x) ∷ old) old o n) s.2
+          (leads_steps g (step (number (2 * length c.in-XmlDocument.text.now + 1)) ∷ step (raw c.in-XmlDocument.text.now) ∷ []) old o n h))) ok;
+      runs = on_ok_weaker r (λ _. c.requires.runs) ok;
+      turns = on_ok_weaker r (λ _. omega arith) ok;
+      keeps = c.counted.ensures.keeps;
+      order = c.requires.order;
+      ready = on_ok_weaker r (λ _. rw (c.counted.ensures.tables, c.counted.ensures.known) c.requires.ready) ok;
+    }
 
-pub returns-in_ok-counted-in-Xml-clause-leads : goal.returns-in_ok-counted-in-Xml-clause-leads
-returns-in_ok-counted-in-Xml-clause-leads c =
+pub returns-in-Xml : goal.returns-in-Xml
+returns-in-Xml c =
     let g = content c.args.graph.now in
     let a = c.args.graph.now.arena in
     let old = segments_left a c.args.waiting.now.items in
     let o = c.args.self.now in
     let n = c.counted-in-Xml.new.self in
-    let s = (subst (λ w. Shows c.args.graph.now.arena (stored_at c.args.graph.now.arena c.args.node.0) w) c.in-Xml.is c.requires.shown) in
-    subst (λ (x : Node). Leads g (node_segments x ++ old) old o n) (sym (shown a c.args.graph.now.root c.args.node.0 _ s.1))
-    (subst (λ (x : List ℕ). Leads g (step (number (2 * length x + 1)) ∷ step (raw x) ∷ old) old o n) s.2
-    (leads_steps g (step (number (2 * length c.in-Xml.text.now + 1)) ∷ step (raw c.in-Xml.text.now) ∷ []) old o n c.in_ok-counted-in-Xml.ensures.ok))
+    let r = c.counted-in-Xml.result in
+    let ok = c.counted-in-Xml.ensures.ok in
+    let s = subst (λ w. Shows c.args.graph.now.arena (stored_at c.args.graph.now.arena c.args.node.0) w) c.in-Xml.is c.requires.shown in
+    record {
+      leads = on_ok_weaker r (λ h. subst (λ (x : Node). Leads g (node_segments x ++ old) old o n) (sym (shown a c.args.graph.now.root c.args.node.0 _ s.1))
+          (subst (λ (x : List ℕ). Leads g (step (number (2 * length x + 1)) ∷ step (raw x) ∷ old) old o n) s.2
+          (leads_steps g (step (number (2 * length c.in-Xml.text.now + 1)) ∷ step (raw c.in-Xml.text.now) ∷ []) old o n h))) ok;
+      runs = on_ok_weaker r (λ _. c.requires.runs) ok;
+      turns = on_ok_weaker r (λ _. omega arith) ok;
+      keeps = c.counted-in-Xml.ensures.keeps;
+      order = c.requires.order;
+      ready = on_ok_weaker r (λ _. rw (c.counted-in-Xml.ensures.tables, c.counted-in-Xml.ensures.known) c.requires.ready) ok;
+    }
 
-pub returns-in_ok-counted-in-Bytes-clause-leads : goal.returns-in_ok-counted-in-Bytes-clause-leads
-returns-in_ok-counted-in-Bytes-clause-leads c =
+pub returns-in-Bytes : goal.returns-in-Bytes
+returns-in-Bytes c =
     let g = content c.args.graph.now in
     let a = c.args.graph.now.arena in
     let old = segments_left a c.args.waiting.now.items in
-    let x = c.in-Bytes.bytes.now in
-    subst (λ (z : Node). Leads g (node_segments z ++ old) old c.args.self.now c.counted-in-Bytes.new.self) (sym (shown a c.args.graph.now.root c.args.node.0 _ (subst (λ w. Shows c.args.graph.now.arena (stored_at c.args.graph.now.arena c.args.node.0) w) c.in-Bytes.is c.requires.shown)))
-    (leads_steps g (step (number (2 * length x + 1)) ∷ step (raw x) ∷ []) old c.args.self.now c.counted-in-Bytes.new.self c.in_ok-counted-in-Bytes.ensures.ok)
+    let o = c.args.self.now in
+    let n = c.counted-in-Bytes.new.self in
+    let r = c.counted-in-Bytes.result in
+    let ok = c.counted-in-Bytes.ensures.ok in
+    let s = subst (λ w. Shows c.args.graph.now.arena (stored_at c.args.graph.now.arena c.args.node.0) w) c.in-Bytes.is c.requires.shown in
+    record {
+      leads = on_ok_weaker r (λ h. subst (λ (x : Node). Leads g (node_segments x ++ old) old o n) (sym (shown a c.args.graph.now.root c.args.node.0 _ s))
+          (leads_steps g (step (number (2 * length c.in-Bytes.bytes.now + 1)) ∷ step (raw c.in-Bytes.bytes.now) ∷ []) old o n h)) ok;
+      runs = on_ok_weaker r (λ _. c.requires.runs) ok;
+      turns = on_ok_weaker r (λ _. omega arith) ok;
+      keeps = c.counted-in-Bytes.ensures.keeps;
+      order = c.requires.order;
+      ready = on_ok_weaker r (λ _. rw (c.counted-in-Bytes.ensures.tables, c.counted-in-Bytes.ensures.known) c.requires.ready) ok;
+    }
 
-pub returns-in_ok-date-in-Date-clause-leads : goal.returns-in_ok-date-in-Date-clause-leads
-returns-in_ok-date-in-Date-clause-leads c =
+pub returns-in-Date : goal.returns-in-Date
+returns-in-Date c =
     let g = content c.args.graph.now in
     let a = c.args.graph.now.arena in
     let old = segments_left a c.args.waiting.now.items in
-    subst (λ (z : Node). Leads g (node_segments z ++ old) old c.args.self.now c.date.new.self) (sym (shown a c.args.graph.now.root c.args.node.0 _ (subst (λ w. Shows c.args.graph.now.arena (stored_at c.args.graph.now.arena c.args.node.0) w) c.in-Date.is c.requires.shown)))
-    (leads_steps g (step unused ∷ step (raw (to_be_bytes w64 c.in-Date.milliseconds.0)) ∷ []) old c.args.self.now c.date.new.self c.in_ok-date-in-Date.ensures.ok)
+    let o = c.args.self.now in
+    let n = c.date.new.self in
+    let r = c.date.result in
+    let ok = c.date.ensures.ok in
+    let s = subst (λ w. Shows c.args.graph.now.arena (stored_at c.args.graph.now.arena c.args.node.0) w) c.in-Date.is c.requires.shown in
+    record {
+      leads = on_ok_weaker r (λ h. subst (λ (x : Node). Leads g (node_segments x ++ old) old o n) (sym (shown a c.args.graph.now.root c.args.node.0 _ s))
+          (leads_steps g (step unused ∷ step (raw (to_be_bytes w64 c.in-Date.milliseconds.0)) ∷ []) old o n h)) ok;
+      runs = on_ok_weaker r (λ _. c.requires.runs) ok;
+      turns = on_ok_weaker r (λ _. omega arith) ok;
+      keeps = c.date.ensures.keeps;
+      order = c.requires.order;
+      ready = on_ok_weaker r (λ _. rw (c.date.ensures.tables, c.date.ensures.known) c.requires.ready) ok;
+    }
 
-pub returns-in_ok-ints-in-Ints-clause-leads : goal.returns-in_ok-ints-in-Ints-clause-leads
-returns-in_ok-ints-in-Ints-clause-leads c =
+pub returns-in-Ints : goal.returns-in-Ints
+returns-in-Ints c =
     let g = content c.args.graph.now in
     let a = c.args.graph.now.arena in
     let old = segments_left a c.args.waiting.now.items in
-    let x = c.in-Ints.items.now in
-    subst (λ (z : Node). Leads g (node_segments z ++ old) old c.args.self.now c.ints.new.self) (sym (shown a c.args.graph.now.root c.args.node.0 _ (subst (λ w. Shows c.args.graph.now.arena (stored_at c.args.graph.now.arena c.args.node.0) w) c.in-Ints.is c.requires.shown)))
-    (leads_steps g (step (number (2 * length x + 1)) ∷ step (flag c.in-Ints.fixed) ∷ step (raw (signed_bytes x)) ∷ []) old c.args.self.now c.ints.new.self c.in_ok-ints-in-Ints.ensures.ok)
+    let o = c.args.self.now in
+    let n = c.ints.new.self in
+    let r = c.ints.result in
+    let ok = c.ints.ensures.ok in
+    let s = subst (λ w. Shows c.args.graph.now.arena (stored_at c.args.graph.now.arena c.args.node.0) w) c.in-Ints.is c.requires.shown in
+    record {
+      leads = on_ok_weaker r (λ h. subst (λ (x : Node). Leads g (node_segments x ++ old) old o n) (sym (shown a c.args.graph.now.root c.args.node.0 _ s))
+          (leads_steps g (step (number (2 * length c.in-Ints.items.now + 1)) ∷ step (flag c.in-Ints.fixed) ∷ step (raw (signed_bytes c.in-Ints.items.now)) ∷ []) old o n h)) ok;
+      runs = on_ok_weaker r (λ _. c.requires.runs) ok;
+      turns = on_ok_weaker r (λ _. omega arith) ok;
+      keeps = c.ints.ensures.keeps;
+      order = c.requires.order;
+      ready = on_ok_weaker r (λ _. rw (c.ints.ensures.tables, c.ints.ensures.known) c.requires.ready) ok;
+    }
 
-pub returns-in_ok-uints-in-Uints-clause-leads : goal.returns-in_ok-uints-in-Uints-clause-leads
-returns-in_ok-uints-in-Uints-clause-leads c =
+pub returns-in-Uints : goal.returns-in-Uints
+returns-in-Uints c =
     let g = content c.args.graph.now in
     let a = c.args.graph.now.arena in
     let old = segments_left a c.args.waiting.now.items in
-    let x = c.in-Uints.items.now in
-    subst (λ (z : Node). Leads g (node_segments z ++ old) old c.args.self.now c.uints.new.self) (sym (shown a c.args.graph.now.root c.args.node.0 _ (subst (λ w. Shows c.args.graph.now.arena (stored_at c.args.graph.now.arena c.args.node.0) w) c.in-Uints.is c.requires.shown)))
-    (leads_steps g (step (number (2 * length x + 1)) ∷ step (flag c.in-Uints.fixed) ∷ step (raw (four_bytes x)) ∷ []) old c.args.self.now c.uints.new.self c.in_ok-uints-in-Uints.ensures.ok)
+    let o = c.args.self.now in
+    let n = c.uints.new.self in
+    let r = c.uints.result in
+    let ok = c.uints.ensures.ok in
+    let s = subst (λ w. Shows c.args.graph.now.arena (stored_at c.args.graph.now.arena c.args.node.0) w) c.in-Uints.is c.requires.shown in
+    record {
+      leads = on_ok_weaker r (λ h. subst (λ (x : Node). Leads g (node_segments x ++ old) old o n) (sym (shown a c.args.graph.now.root c.args.node.0 _ s))
+          (leads_steps g (step (number (2 * length c.in-Uints.items.now + 1)) ∷ step (flag c.in-Uints.fixed) ∷ step (raw (four_bytes c.in-Uints.items.now)) ∷ []) old o n h)) ok;
+      runs = on_ok_weaker r (λ _. c.requires.runs) ok;
+      turns = on_ok_weaker r (λ _. omega arith) ok;
+      keeps = c.uints.ensures.keeps;
+      order = c.requires.order;
+      ready = on_ok_weaker r (λ _. rw (c.uints.ensures.tables, c.uints.ensures.known) c.requires.ready) ok;
+    }
 
-pub returns-in_ok-doubles-in-Doubles-clause-leads : goal.returns-in_ok-doubles-in-Doubles-clause-leads
-returns-in_ok-doubles-in-Doubles-clause-leads c =
+pub returns-in-Doubles : goal.returns-in-Doubles
+returns-in-Doubles c =
     let g = content c.args.graph.now in
     let a = c.args.graph.now.arena in
     let old = segments_left a c.args.waiting.now.items in
-    let x = map (λ p. p.0) c.in-Doubles.items.now in
-    subst (λ (z : Node). Leads g (node_segments z ++ old) old c.args.self.now c.doubles.new.self) (sym (shown a c.args.graph.now.root c.args.node.0 _ (subst (λ w. Shows c.args.graph.now.arena (stored_at c.args.graph.now.arena c.args.node.0) w) c.in-Doubles.is c.requires.shown)))
-    (leads_steps g (step (number (2 * length x + 1)) ∷ step (flag c.in-Doubles.fixed) ∷ step (raw (eight_bytes x)) ∷ []) old c.args.self.now c.doubles.new.self c.in_ok-doubles-in-Doubles.ensures.ok)
+    let o = c.args.self.now in
+    let n = c.doubles.new.self in
+    let r = c.doubles.result in
+    let ok = c.doubles.ensures.ok in
+    let s = subst (λ w. Shows c.args.graph.now.arena (stored_at c.args.graph.now.arena c.args.node.0) w) c.in-Doubles.is c.requires.shown in
+    record {
+      leads = on_ok_weaker r (λ h. subst (λ (x : Node). Leads g (node_segments x ++ old) old o n) (sym (shown a c.args.graph.now.root c.args.node.0 _ s))
+          (leads_steps g (step (number (2 * length (map (λ p. p.0) c.in-Doubles.items.now) + 1)) ∷ step (flag c.in-Doubles.fixed) ∷ step (raw (eight_bytes (map (λ p. p.0) c.in-Doubles.items.now))) ∷ []) old o n h)) ok;
+      runs = on_ok_weaker r (λ _. c.requires.runs) ok;
+      turns = on_ok_weaker r (λ _. omega arith) ok;
+      keeps = c.doubles.ensures.keeps;
+      order = c.requires.order;
+      ready = on_ok_weaker r (λ _. rw (c.doubles.ensures.tables, c.doubles.ensures.known) c.requires.ready) ok;
+    }
 
 pub returns-in_ok-push-in-Wrapper-clause-leads : goal.returns-in_ok-push-in-Wrapper-clause-leads
 returns-in_ok-push-in-Wrapper-clause-leads c =
@@ -154,3 +229,21 @@ returns-in_ok-push-in-Dictionary-clause-turns c =
 
 pub returns-in_ok-push-in-Wrapper-clause-ready : goal.returns-in_ok-push-in-Wrapper-clause-ready
 returns-in_ok-push-in-Wrapper-clause-ready c = c.wrapper.ensures.ready c.args.graph.now.arena c.requires.ready
+
+pub returns-in-Array-clause-leads : goal.returns-in-Array-clause-leads
+returns-in-Array-clause-leads c =
+    let g = content c.args.graph.now in
+    let a = c.args.graph.now.arena in
+    let old = segments_left a c.args.waiting.now.items in
+    let now = segments_left a c.array.new.waiting.items in
+    let s = subst (λ w. Shows c.args.graph.now.arena (stored_at c.args.graph.now.arena c.args.node.0) w) c.in-Array.is c.requires.shown in
+    on_ok_weaker c.array.result (λ h. subst (λ (x : Node). Leads g (node_segments x ++ old) now c.args.self.now c.array.new.self) (sym (shown a c.args.graph.now.root c.args.node.0 _ s)) h) c.array.ensures.leads
+
+pub returns-in-Object-clause-leads : goal.returns-in-Object-clause-leads
+returns-in-Object-clause-leads c =
+    let g = content c.args.graph.now in
+    let a = c.args.graph.now.arena in
+    let old = segments_left a c.args.waiting.now.items in
+    let now = segments_left a c.object.new.waiting.items in
+    let s = subst (λ w. Shows c.args.graph.now.arena (stored_at c.args.graph.now.arena c.args.node.0) w) c.in-Object.is c.requires.shown in
+    on_ok_weaker c.object.result (λ h. subst (λ (x : Node). Leads g (node_segments x ++ old) now c.args.self.now c.object.new.self) (sym (shown a c.args.graph.now.root c.args.node.0 _ s)) h) c.object.ensures.leads

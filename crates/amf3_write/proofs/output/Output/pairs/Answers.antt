@@ -1,4 +1,5 @@
 use Rattle.std.proofs.Common.{◌++◌, ◌∷◌, [], ap, refl, ◌∙◌, subst, arith}
+use Rattle.std.proofs.lemmas.List.{nil_from_length}
 use Rattle.amf_graph.specs.Arena.{text_at, value_content}
 use Rattle.amf_graph.specs.Rooted.{content}
 use Rattle.amf3_spelling.specs.ByteSpelling.{pairs_then}
@@ -7,7 +8,7 @@ use Rattle.amf3_write.specs.declared.unwritten.Unwritten.TheVariants.{Pairs}
 use Rattle.amf3_write.specs.Unwritten.{AreStoredPairs, next_segments, segments_left}
 use Rattle.amf3_write.specs.Writes.{Leads}
 use Rattle.amf3_write.proofs.Leading.{leads_same}
-use Rattle.amf3_write.proofs.Runs.{turns_pushed, pair_on, put_back}
+use Rattle.amf3_write.proofs.Runs.{ended, turns_pushed, pair_on, put_back}
 use Rattle.amf3_write.proofs.output.Output.pairs.Goals as goal
 
 pub loop-pair-init : goal.loop-pair-init
@@ -58,3 +59,10 @@ loop-pair-preserved c =
 pub returns-clause-ready : goal.returns-clause-ready
 returns-clause-ready c =
     c.text.ensures.ready c.args.graph.now.arena c.loop-pair.invariant.ready
+
+pub returns-clause-leads : goal.returns-clause-leads
+returns-clause-leads c =
+    let g = content c.args.graph.now in
+    let a = c.args.graph.now.arena in
+    let whole = pairs_then (pairs_of a c.args.pairs.now) [] ++ segments_left a c.args.waiting.now.items in
+    ended g a whole (pairs_of a c.loop-pair.left.now) c.args.waiting.now.items c.loop-pair.waiting.items c.args.self.now c.loop-pair.self c.text.new.self (ap (pairs_of a) (nil_from_length c.loop-pair.left.now c.in_default.ensures.cases)) c.loop-pair.invariant.stack c.loop-pair.invariant.leads c.in_ok-text.ensures.ok

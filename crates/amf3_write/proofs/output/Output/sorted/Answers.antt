@@ -1,4 +1,5 @@
-use Rattle.std.proofs.Common.{◌++◌, ◌∷◌, [], ap, length, reverse, refl, ◌∙◌, subst, arith}
+use Rattle.std.proofs.Common.{◌≡◌, ◌++◌, ◌∷◌, [], ap, length, reverse, refl, sym, ◌∙◌, subst, arith}
+use Rattle.std.proofs.lemmas.List.{append-nil, nil_from_length}
 use Rattle.amf_graph.specs.Arena.{text_at, value_content}
 use Rattle.amf_graph.specs.Rooted.{content}
 use Rattle.amf3_spelling.specs.ByteSpelling.{pairs_then}
@@ -9,7 +10,7 @@ use Rattle.amf3_write.specs.Writes.{Leads}
 use Rattle.amf_graph.proofs.Lists.{length_pushed}
 use Rattle.amf3_write.proofs.FoundSteps.{rest_of}
 use Rattle.amf3_write.proofs.Leading.{leads_same}
-use Rattle.amf3_write.proofs.Runs.{pairs_popped, turns_pushed, pair_on, put_back}
+use Rattle.amf3_write.proofs.Runs.{ended, pairs_popped, turns_pushed, pair_on, put_back}
 use Rattle.amf3_write.proofs.output.Output.sorted.Goals as goal
 
 pub loop-name-init : goal.loop-name-init
@@ -60,3 +61,13 @@ loop-name-preserved c =
 pub returns-clause-ready : goal.returns-clause-ready
 returns-clause-ready c =
     c.text.ensures.ready c.args.graph.now.arena c.loop-name.invariant.ready
+
+pub returns-clause-leads : goal.returns-clause-leads
+returns-clause-leads c =
+    let g = content c.args.graph.now in
+    let a = c.args.graph.now.arena in
+    let old = segments_left a c.args.waiting.now.items in
+    let whole = pairs_then (pairs_of a (reverse c.args.pairs.items)) [] ++ old in
+    let none : c.pop.new.self.items ≡ [] = nil_from_length c.pop.new.self.items (sym c.pop.new.self.ok.0 ∙ c.in_default.ensures.cases.1) in
+    let empty : c.loop-name.pairs.items ≡ [] = c.in_default.ensures.items ∙ append-nil c.pop.new.self.items ∙ none in
+    ended g a whole (pairs_of a (reverse c.loop-name.pairs.items)) c.args.waiting.now.items c.loop-name.waiting.items c.args.self.now c.loop-name.self c.text.new.self (ap (λ w. pairs_of a (reverse w)) empty) c.loop-name.invariant.stack c.loop-name.invariant.leads c.in_ok-text.ensures.ok

@@ -1,12 +1,13 @@
-use Rattle.std.proofs.Common.{◌≢◌, [], rules, sym, ap, subst}
+use Rattle.std.proofs.Common.{◌≢◌, ◌<◌, ℕ, List, [], length, rules, sym, ap, subst}
 use Rattle.amf_wire.specs.Text.{IsText}
 use Rattle.amf_graph.specs.Arena.{text_at}
 use Rattle.amf3_spelling.specs.ByteSpelling.{word}
 use Rattle.amf_tables.specs.FirstPlace.{IsFirstPlace}
 use Rattle.amf3_spelling.specs.Tables.{Tables}
+use Rattle.amf_iso.proofs.NamedPairs.{text_there, text_short}
 use Rattle.amf3_write.specs.Writes.{WritesStep}
 use Rattle.amf3_write.proofs.Ready.{old_tables, new_tables, wrote_new, writes_from}
-use Rattle.amf3_write.proofs.Wrote.{on_ok, each_there}
+use Rattle.amf3_write.proofs.Wrote.{on_ok}
 use Rattle.amf3_write.proofs.output.Output.text_of.Goals as goal
 
 pub text_at-requires-clause-first : goal.text_at-requires-clause-first
@@ -30,10 +31,31 @@ returns-in-New-clause-ok c =
     let o = c.args.self.now in
     let m = c.place_or_add_text.new.self in
     let new = new_tables o.tables m.tables x c.in_ok-found.found _ c.in-New.is c.in_ok-found.ensures.ok c.in_ok-found.ensures.rest in
-    let there : IsText x = each_there IsText a.texts c.args.text.0 [] c.is_finished.ensures.finished.built.texts c.requires.id in
+    let there : IsText x = text_there a c.args.text.0 c.is_finished.ensures.finished c.requires.id in
     let filled : y ≢ [] = search rules in
     let named : x ≢ [] = subst (λ z. z ≢ []) c.text-bytes.ensures filled in
     on_ok c.counted.result (λ h. wrote_new x o m c.counted.new.self there named new.0 new.1 (ap (λ v. v.items) c.in_ok-found.ensures.bytes) (rw (← c.text-bytes.ensures) h)) c.counted.ensures.ok
 
 pub returns-in-Old-clause-ready : goal.returns-in-Old-clause-ready
 returns-in-Old-clause-ready c = on_ok c.text_at.result (λ h. c.text_at.ensures.ready c.args.graph.now.arena c.in_ok-found.ensures.ready) c.text_at.ensures.ok
+
+pub returns-then-is_empty-clause-text : goal.returns-then-is_empty-clause-text
+returns-then-is_empty-clause-text c = text_there c.args.graph.now.arena c.args.text.0 c.is_finished.ensures.finished c.requires.id
+
+pub returns-in_err-found-clause-text : goal.returns-in_err-found-clause-text
+returns-in_err-found-clause-text c = text_there c.args.graph.now.arena c.args.text.0 c.is_finished.ensures.finished c.requires.id
+
+pub returns-in-Old-clause-text : goal.returns-in-Old-clause-text
+returns-in-Old-clause-text c = text_there c.args.graph.now.arena c.args.text.0 c.is_finished.ensures.finished c.requires.id
+
+pub returns-in-New-clause-text : goal.returns-in-New-clause-text
+returns-in-New-clause-text c = text_there c.args.graph.now.arena c.args.text.0 c.is_finished.ensures.finished c.requires.id
+
+pub text_at-requires-clause-is_text : goal.text_at-requires-clause-is_text
+text_at-requires-clause-is_text c = subst IsText (sym c.text-bytes.ensures) (text_there c.args.graph.now.arena c.args.text.0 c.is_finished.ensures.finished c.requires.id)
+
+pub text_at-requires-clause-short : goal.text_at-requires-clause-short
+text_at-requires-clause-short c = subst (λ (x : List ℕ). length x < 268435456) (sym c.text-bytes.ensures) (text_short c.args.graph.now.arena c.args.text.0 c.is_finished.ensures.bounds c.requires.id)
+
+pub counted-requires : goal.counted-requires
+counted-requires c = subst (λ (x : List ℕ). length x < 268435456) (sym c.text-bytes.ensures) (text_short c.args.graph.now.arena c.args.text.0 c.is_finished.ensures.bounds c.requires.id)

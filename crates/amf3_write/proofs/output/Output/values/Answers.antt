@@ -1,4 +1,5 @@
 use Rattle.std.proofs.Common.{◌++◌, ◌∷◌, [], ap, refl, sym, ◌∙◌, subst, arith}
+use Rattle.std.proofs.lemmas.List.{nil_from_length}
 use Rattle.amf_graph.specs.Arena.{value_content}
 use Rattle.amf_graph.specs.Graph.{node}
 use Rattle.amf_graph.specs.Rooted.{content}
@@ -7,7 +8,7 @@ use Rattle.amf_iso.specs.Contents.{values_of, AreValues}
 use Rattle.amf3_write.specs.Unwritten.{AreRunsOf, next_segments, segments_left, turns_left}
 use Rattle.amf3_write.specs.Writes.{Leads}
 use Rattle.amf3_write.proofs.Leading.{leads_same, leads_to}
-use Rattle.amf3_write.proofs.Runs.{value_on}
+use Rattle.amf3_write.proofs.Runs.{all_written, value_on}
 use Rattle.amf3_write.proofs.output.Output.values.Goals as goal
 
 pub loop-value-init : goal.loop-value-init
@@ -59,3 +60,12 @@ loop-value-preserved c =
       ready = c.in_ok-node.ensures.ready;
       keeps = λ front h. c.in_ok-node.ensures.keeps front (c.loop-value.invariant.keeps front h);
     }
+
+pub returns-clause-leads : goal.returns-clause-leads
+returns-clause-leads c =
+    let g = content c.args.graph.now in
+    let a = c.args.graph.now.arena in
+    let old = segments_left a c.args.waiting.now.items in
+    let whole = values_then (values_of a c.args.values.now) [] ++ old in
+    let left = values_of a c.loop-value.left.now in
+    all_written g a whole left c.args.waiting.now.items c.loop-value.waiting.items c.args.self.now c.loop-value.self (ap (values_of a) (nil_from_length c.loop-value.left.now c.in_default.ensures.cases)) c.loop-value.invariant.stack c.loop-value.invariant.leads
