@@ -29,6 +29,7 @@ use Rattle.amf0_spelling.proofs.Patterns.{pattern_fits}
 use Rattle.amf_graph.specs.declared.value.TextId.{TextId}
 use Rattle.amf_graph.specs.ByName.{by_name}
 use Rattle.amf_iso.specs.Contents.{pairs_of, ArePairs}
+use Rattle.amf_iso.specs.Remembered.{Remembered, AreInOrder}
 use Rattle.amf0_write.specs.Chained.{AreLow}
 use Rattle.amf0_write.specs.Stood.{stood_value, stood_pair, stood_node, stood, seen}
 use Rattle.std.proofs.lemmas.List.{length-map}
@@ -215,6 +216,20 @@ module _ (b : Bool) (g : RootedArena) (ins : List Stored) (h : RootedArena) (vie
 
   pub seen_back : (ps : List (TextId × Stored)) → ArePairs g.arena ps → ArePairs h.arena ps
   seen_back ps k = subst (λ (x : RootedArena). ArePairs x.arena ps) view (back_if b ps k)
+
+  order_if : (c : Bool) (o : Remembered) → AreInOrder (seen c ins g).arena o → AreInOrder g.arena o
+  order_if true o k = record { ids = k.ids; names = k.names; order = k.order }
+  order_if false o k = k
+
+  order_back_if : (c : Bool) (o : Remembered) → AreInOrder g.arena o → AreInOrder (seen c ins g).arena o
+  order_back_if true o k = record { ids = k.ids; names = k.names; order = k.order }
+  order_back_if false o k = k
+
+  pub seen_order : (o : Remembered) → AreInOrder h.arena o → AreInOrder g.arena o
+  seen_order o k = order_if b o (subst (λ (x : RootedArena). AreInOrder x.arena o) (sym view) k)
+
+  pub seen_order_back : (o : Remembered) → AreInOrder g.arena o → AreInOrder h.arena o
+  seen_order_back o k = subst (λ (x : RootedArena). AreInOrder x.arena o) view (order_back_if b o k)
 
   pub seen_sorted : (ps qs : List (TextId × Stored)) → pairs_of g.arena qs ≡ by_name (pairs_of g.arena ps) → pairs_of h.arena qs ≡ by_name (pairs_of h.arena ps)
   seen_sorted ps qs e = seen_pairs qs ∙ e ∙ ap by_name (sym (seen_pairs ps))

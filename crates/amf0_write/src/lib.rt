@@ -13,6 +13,7 @@ mod nodes;
 mod open;
 mod output;
 mod part_lack;
+mod rooms;
 mod stop;
 mod unwritten;
 mod values;

@@ -11,6 +11,7 @@ ghost use Rattle.amf_graph.specs.Order.{Absent};
 ghost use Rattle.amf_graph.specs.Rooted.{content};
 ghost use Rattle.amf_graph.specs.Views.{named};
 ghost use Rattle.amf_graph.specs.Bounds.{count_end};
+ghost use Rattle.amf_iso.specs.Remembered.{AreInOrder};
 ghost use Rattle.amf0_spelling.specs.Lacks0.{IsShortName};
 ghost use Rattle.amf0_spelling.specs.Lowered.{IsLowered};
 ghost use Rattle.amf0_spelling.specs.Spells0.{IsOpenTraits};
@@ -22,12 +23,12 @@ ghost use Rattle.amf0_write.specs.Writes0.{done_of, Still, Keeps};
 
 use crate::lowered::Lowered;
 use crate::output::Output;
+use crate::rooms::Rooms;
 use crate::stop::Stop;
 use crate::unwritten::Unwritten;
 use crate::values::MAX_SHORT;
 use amf_graph::{NodeId, TextId, TraitsId, Value};
 use amf_wire::{Memory, Pattern};
-use std::alloc::Global;
 
 impl Output {
     /// A date (2.13).
@@ -94,6 +95,7 @@ impl Output {
         items: Vec<Value>,
         names: Vec<(TextId, Value)>,
         graph: &'g Lowered<'g>,
+        rooms: &mut Rooms,
         waiting: &mut Vec<Unwritten<'g>>,
     ) -> Result<(), Stop>
         requires low { IsLowered (content graph.now) }
@@ -101,12 +103,14 @@ impl Output {
         requires there { stored_at graph.now.arena node.0 ≡ closed array (named names.items) items.items }
         requires new { Absent (done_of self.old) node.0 }
         requires runs { AreRunsOf graph.now waiting.old.items }
+        requires order { AreInOrder graph.now.arena rooms.old.order }
         ensures leads { OnOk result (LeadsToRest graph.now (segment.value (graph_of_values.node node.0) ∷ []) waiting.old.items waiting.new.items self.old self.new) }
         ensures lack { IsErrOf result Lack → StopsWithin graph.now (segment.value (graph_of_values.node node.0) ∷ []) waiting.old.items self.old }
         ensures still { IsErrOf result Lack → Still self.old self.new }
         ensures runs { OnOk result (AreRunsOf graph.now waiting.new.items) }
         ensures falls { OnOk result (Falls (length graph.now.arena.nodes) (done_of self.old) (done_of self.new) (turns_left waiting.old.items) (turns_left waiting.new.items)) }
         ensures keeps { Keeps self.old self.new }
+        ensures order { AreInOrder graph.now.arena rooms.new.order }
     {
         graph.is_finished();
         if !items.is_empty() && !names.is_empty() {
@@ -116,7 +120,7 @@ impl Output {
             return Err(Stop::Lack);
         }
         self.enter(node)?;
-        self.made_array(items, names, graph, waiting)?;
+        self.made_array(items, names, graph, rooms, waiting)?;
         Ok(())
     }
 
@@ -127,6 +131,7 @@ impl Output {
         traits: TraitsId,
         members: Vec<(TextId, Value)>,
         graph: &'g Lowered<'g>,
+        rooms: &mut Rooms,
         waiting: &mut Vec<Unwritten<'g>>,
     ) -> Result<(), Stop>
         requires low { IsLowered (content graph.now) }
@@ -134,12 +139,14 @@ impl Output {
         requires there { stored_at graph.now.arena node.0 ≡ closed (object traits.0) (named members.items) [] }
         requires new { Absent (done_of self.old) node.0 }
         requires runs { AreRunsOf graph.now waiting.old.items }
+        requires order { AreInOrder graph.now.arena rooms.old.order }
         ensures leads { OnOk result (LeadsToRest graph.now (segment.value (graph_of_values.node node.0) ∷ []) waiting.old.items waiting.new.items self.old self.new) }
         ensures lack { IsErrOf result Lack → StopsWithin graph.now (segment.value (graph_of_values.node node.0) ∷ []) waiting.old.items self.old }
         ensures still { IsErrOf result Lack → Still self.old self.new }
         ensures runs { OnOk result (AreRunsOf graph.now waiting.new.items) }
         ensures falls { OnOk result (Falls (length graph.now.arena.nodes) (done_of self.old) (done_of self.new) (turns_left waiting.old.items) (turns_left waiting.new.items)) }
         ensures keeps { Keeps self.old self.new }
+        ensures order { AreInOrder graph.now.arena rooms.new.order }
     {
         graph.is_finished();
         let class = graph.class(traits);
@@ -150,15 +157,17 @@ impl Output {
             return Err(Stop::Lack);
         }
         self.enter(node)?;
-        self.made_object(traits, class, members, graph, waiting)?;
+        self.made_object(traits, class, members, graph, rooms, waiting)?;
         Ok(())
     }
 
+    /// The marker and the parts of an array that was made.
     fn made_array<'g>(
         &mut self,
         mut items: Vec<Value>,
         names: Vec<(TextId, Value)>,
         graph: &'g Lowered<'g>,
+        rooms: &mut Rooms,
         waiting: &mut Vec<Unwritten<'g>>,
     ) -> Result<(), Memory>
         requires few { length items.items < count_end }
@@ -166,10 +175,12 @@ impl Output {
         requires form { names.items ≢ [] → items.items ≡ [] }
         requires items { AllByRecursion (IsMetValue graph.now) items.items }
         requires names { AreMetPairs graph.now names.items }
+        requires order { AreInOrder graph.now.arena rooms.old.order }
         ensures opened { OnOk result (OpenedOn graph.now (array_node graph.now.arena names.items items.items) waiting.old.items waiting.new.items self.old self.new) }
         ensures runs { AreRunsOf graph.now waiting.old.items → OnOk result (AreRunsOf graph.now waiting.new.items) }
         ensures turns { OnOk result (turns_left waiting.new.items ≤ turns_left waiting.old.items + opened_turns) }
         ensures keeps { Keeps self.old self.new }
+        ensures order { AreInOrder graph.now.arena rooms.new.order }
     {
         if names.is_empty() {
             self.byte(0x0A)?;
@@ -180,16 +191,18 @@ impl Output {
         } else {
             self.byte(0x08)?;
             self.count(names.len() as u32)?;
-            push_made(self.alloc, names, graph, waiting)
+            push_made(names, graph, rooms, waiting)
         }
     }
 
+    /// The marker and the parts of an object that was made.
     fn made_object<'g>(
         &mut self,
         traits: TraitsId,
         class: &[u8],
         members: Vec<(TextId, Value)>,
         graph: &'g Lowered<'g>,
+        rooms: &mut Rooms,
         waiting: &mut Vec<Unwritten<'g>>,
     ) -> Result<(), Memory>
         requires traits { traits.0 < length graph.now.arena.traits }
@@ -198,10 +211,12 @@ impl Output {
         requires class { IsShortName (traits_at graph.now.arena traits.0).class }
         requires few_names { length members.items < count_end }
         requires names { AreMetPairs graph.now members.items }
+        requires order { AreInOrder graph.now.arena rooms.old.order }
         ensures opened { OnOk result (OpenedOn graph.now (object_node graph.now.arena traits.0 members.items) waiting.old.items waiting.new.items self.old self.new) }
         ensures runs { AreRunsOf graph.now waiting.old.items → OnOk result (AreRunsOf graph.now waiting.new.items) }
         ensures turns { OnOk result (turns_left waiting.new.items ≤ turns_left waiting.old.items + opened_turns) }
         ensures keeps { Keeps self.old self.new }
+        ensures order { AreInOrder graph.now.arena rooms.new.order }
     {
         let _ = traits;
         graph.is_finished();
@@ -211,23 +226,25 @@ impl Output {
             self.byte(0x10)?;
             self.short(class)?;
         }
-        push_made(self.alloc, members, graph, waiting)
+        push_made(members, graph, rooms, waiting)
     }
 }
 
 /// Puts pairs onto the stack, in by-name order.
 fn push_made<'g>(
-    alloc: Global,
     pairs: Vec<(TextId, Value)>,
     graph: &'g Lowered<'g>,
+    rooms: &mut Rooms,
     waiting: &mut Vec<Unwritten<'g>>,
 ) -> Result<(), Memory>
-    requires { AreMetPairs graph.now pairs.items }
+    requires pairs { AreMetPairs graph.now pairs.items }
+    requires order { AreInOrder graph.now.arena rooms.old.order }
     ensures left { OnOk result (segments_left graph.now.arena waiting.new.items ≡ sorted_ahead graph.now.arena pairs.items ++ segments_left graph.now.arena waiting.old.items) }
     ensures runs { AreRunsOf graph.now waiting.old.items → OnOk result (AreRunsOf graph.now waiting.new.items) }
     ensures turns { OnOk result (turns_left waiting.new.items ≡ turns_left waiting.old.items + (length pairs.items + 1)) }
+    ensures order { AreInOrder graph.now.arena rooms.new.order }
 {
-    let mut sorted = graph.sorted(alloc, pairs)?;
+    let mut sorted = graph.sorted(pairs, rooms)?;
     sorted.reverse();
     waiting.push(Unwritten::Sorted(sorted))?;
     Ok(())

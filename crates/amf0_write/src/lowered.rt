@@ -1,6 +1,6 @@
 //! Graphs that are seen as if they were lowered, without a copy.
 
-ghost use Rattle.std.specs.Prelude.{◌≡◌, ◌<◌, ◌↔◌, length, map, IfOk, IsTrue};
+ghost use Rattle.std.specs.Prelude.{◌≡◌, ◌<◌, ◌↔◌, [], length, map, IfOk, IsTrue};
 ghost use Rattle.std.specs.List.{AllByRecursion, AllZip, zip};
 ghost use Rattle.amf_graph.specs.Arena.{IsFinished, Names, text_at, traits_at};
 ghost use Rattle.amf_graph.specs.Bounds.{IsWithinBounds};
@@ -10,18 +10,20 @@ ghost use Rattle.amf_graph.specs.Rooted.{content};
 ghost use Rattle.amf_graph.specs.StandIns.{StandsFor, PairsStandBehind};
 ghost use Rattle.amf_graph.specs.Views.{named};
 ghost use Rattle.amf_iso.specs.Contents.{pairs_of, ArePairs};
+ghost use Rattle.amf_iso.specs.Remembered.{AreInOrder};
 ghost use Rattle.amf0_spelling.specs.Lacks0.{IsShortName};
 ghost use Rattle.amf0_spelling.specs.Lowered.{IsLoweringOf};
 ghost use Rattle.amf0_write.specs.Stood.{ShowsLow};
 
 use crate::chains::{double_of, stand_ins};
 use crate::low_node::LowNode;
+use crate::rooms::Rooms;
 use crate::values::MAX_SHORT;
 use amf_graph::{NodeId, NodeView, Rooted, TextId, TraitsId, Value};
-use amf_iso::{are_by_name, ids_by_name};
 use amf_wire::Memory;
 use std::alloc::Global;
 use std::marker::Model;
+use std::mem;
 
 /// A graph as it stands, or as it is when it is lowered: each value is looked up when it is asked for.
 #[derive(Drop)]
@@ -102,6 +104,15 @@ fn push_sealed(
     Ok(())
 }
 
+/// No pairs, with room for so many.
+fn emptied(mut pairs: Vec<(TextId, Value)>, count: usize) -> Result<Vec<(TextId, Value)>, Memory>
+    ensures { IfOk result (λ empty. empty.items ≡ []) }
+{
+    pairs.clear();
+    pairs.reserve(count)?;
+    Ok(pairs)
+}
+
 impl<'g> Lowered<'g> {
     /// A graph as it stands.
     pub(crate) fn as_it_stands(alloc: Global, graph: &'g Rooted) -> Lowered<'g>
@@ -179,26 +190,37 @@ impl<'g> Lowered<'g> {
         true
     }
 
-    /// Pairs in the order of their names' bytes; pairs of one name keep their order.
+    /// Pairs in the order of their names' bytes, which is remembered; pairs of one name keep their order.
     pub(crate) fn sorted(
         &self,
-        alloc: Global,
         pairs: Vec<(TextId, Value)>,
+        rooms: &mut Rooms,
     ) -> Result<Vec<(TextId, Value)>, Memory>
-        requires { ArePairs self.now.arena pairs.items }
+        requires pairs { ArePairs self.now.arena pairs.items }
+        requires order { AreInOrder self.now.arena rooms.old.order }
         ensures content { IfOk result (λ sorted. pairs_of self.now.arena sorted.items ≡ by_name (pairs_of self.now.arena pairs.items)) }
         ensures names { IfOk result (λ sorted. ArePairs self.now.arena sorted.items) }
+        ensures order { AreInOrder self.now.arena rooms.new.order }
     {
-        if are_by_name(&pairs, self.graph) {
+        if rooms.order.are_by_name(&pairs, self.graph) {
             return Ok(pairs);
         }
-        ids_by_name(alloc, &pairs, self.graph)
+        let sorted = rooms.order.ids_by_name(&pairs, self.graph)?;
+        rooms.take_back(pairs);
+        Ok(sorted)
     }
 
     /// A node as it is seen. It has to be there.
-    pub(crate) fn node(&self, alloc: Global, node: NodeId) -> Result<LowNode<'g>, Memory>
-        requires { node.0 < length self.now.arena.nodes }
-        ensures { IfOk result (ShowsLow self.now node.0) }
+    pub(crate) fn node(
+        &self,
+        alloc: Global,
+        node: NodeId,
+        rooms: &mut Rooms,
+    ) -> Result<LowNode<'g>, Memory>
+        requires there { node.0 < length self.now.arena.nodes }
+        requires order { AreInOrder self.now.arena rooms.old.order }
+        ensures shown { IfOk result (ShowsLow self.now node.0) }
+        ensures order { AreInOrder self.now.arena rooms.new.order }
     {
         if !self.is_lowering {
             return Ok(LowNode::AsItStands(self.graph));
@@ -219,7 +241,8 @@ impl<'g> Lowered<'g> {
                 members,
             } => {
                 let class = self.graph.traits(traits);
-                let mut pairs = Vec::with_capacity(alloc, sealed.len() + members.len())?;
+                let room = mem::replace(&mut rooms.pairs, Vec::new(alloc));
+                let mut pairs = emptied(room, sealed.len() + members.len())?;
                 push_sealed(class.sealed, sealed, &self.stand_ins, &mut pairs)?;
                 push_pairs(members, &self.stand_ins, &mut pairs)?;
                 Ok(LowNode::Object(traits, pairs))

@@ -8,6 +8,7 @@ ghost use Rattle.amf_graph.specs.Graph.{node_at};
 ghost use Rattle.amf_graph.specs.Order.{Absent};
 ghost use Rattle.amf_graph.specs.Rooted.{content};
 ghost use Rattle.amf_graph.specs.Views.{Shows};
+ghost use Rattle.amf_iso.specs.Remembered.{AreInOrder};
 ghost use Rattle.amf0_spelling.specs.Lacks0.{HasNoForm, HasShortNames, IsShortName};
 ghost use Rattle.amf0_spelling.specs.Lowered.{IsLowered};
 ghost use Rattle.amf0_spelling.specs.Spells0.{IsOpenTraits};
@@ -20,9 +21,8 @@ ghost use Rattle.amf_graph.specs.Bounds.{count_end};
 use crate::output::Output;
 use crate::unwritten::{Unwritten, push_values};
 use amf_graph::{NodeId, NodeView, Rooted, TextId, TraitsId, Value};
-use amf_iso::{are_by_name, ids_by_name};
+use amf_iso::LastOrder;
 use amf_wire::Memory;
-use std::alloc::Global;
 
 /// Nodes that have a form, up to their first values.
 impl Output {
@@ -33,6 +33,7 @@ impl Output {
         node: NodeId,
         view: NodeView<'g>,
         graph: &'g Rooted,
+        order: &mut LastOrder,
         waiting: &mut Vec<Unwritten<'g>>,
     ) -> Result<(), Memory>
         requires low { IsLowered (content graph.now) }
@@ -42,10 +43,12 @@ impl Output {
         requires form { HasNoForm (node_at (content graph.now) node.0) (node_at (content graph.now) node.0).head → ⊥ }
         requires short { HasShortNames (node_at (content graph.now) node.0) }
         requires runs { AreRunsOf graph.now waiting.old.items }
+        requires order { AreInOrder graph.now.arena order.old }
         ensures leads { OnOk result (LeadsToRest graph.now (segment.value (graph_of_values.node node.0) ∷ []) waiting.old.items waiting.new.items self.old self.new) }
         ensures runs { OnOk result (AreRunsOf graph.now waiting.new.items) }
         ensures falls { OnOk result (Falls (length graph.now.arena.nodes) (done_of self.old) (done_of self.new) (turns_left waiting.old.items) (turns_left waiting.new.items)) }
         ensures keeps { Keeps self.old self.new }
+        ensures order { AreInOrder graph.now.arena order.new }
     {
         graph.is_finished();
         match view {
@@ -62,7 +65,7 @@ impl Output {
             }
             NodeView::Array { items, names } => {
                 self.enter(node)?;
-                self.array(items, names, graph, waiting)
+                self.array(items, names, graph, order, waiting)
             }
             NodeView::Object {
                 traits,
@@ -70,7 +73,7 @@ impl Output {
                 ..
             } => {
                 self.enter(node)?;
-                self.object(traits, members, graph, waiting)
+                self.object(traits, members, graph, order, waiting)
             }
             _ => unreachable!(),
         }
@@ -82,6 +85,7 @@ impl Output {
         items: &'g [Value],
         names: &'g [(TextId, Value)],
         graph: &'g Rooted,
+        order: &mut LastOrder,
         waiting: &mut Vec<Unwritten<'g>>,
     ) -> Result<(), Memory>
         requires few { length items.now < count_end }
@@ -89,10 +93,12 @@ impl Output {
         requires form { names.now ≢ [] → items.now ≡ [] }
         requires items { AllByRecursion (IsMetValue graph.now) items.now }
         requires names { AreMetPairs graph.now names.now }
+        requires order { AreInOrder graph.now.arena order.old }
         ensures opened { OnOk result (OpenedOn graph.now (array_node graph.now.arena names.now items.now) waiting.old.items waiting.new.items self.old self.new) }
         ensures runs { AreRunsOf graph.now waiting.old.items → OnOk result (AreRunsOf graph.now waiting.new.items) }
         ensures turns { OnOk result (turns_left waiting.new.items ≤ turns_left waiting.old.items + opened_turns) }
         ensures keeps { Keeps self.old self.new }
+        ensures order { AreInOrder graph.now.arena order.new }
     {
         if names.is_empty() {
             self.byte(0x0A)?;
@@ -101,7 +107,7 @@ impl Output {
         } else {
             self.byte(0x08)?;
             self.count(names.len() as u32)?;
-            push_pairs(self.alloc, names, graph, waiting)
+            push_pairs(names, graph, order, waiting)
         }
     }
 
@@ -111,6 +117,7 @@ impl Output {
         traits: TraitsId,
         members: &'g [(TextId, Value)],
         graph: &'g Rooted,
+        order: &mut LastOrder,
         waiting: &mut Vec<Unwritten<'g>>,
     ) -> Result<(), Memory>
         requires traits { traits.0 < length graph.now.arena.traits }
@@ -118,10 +125,12 @@ impl Output {
         requires class { IsShortName (traits_at graph.now.arena traits.0).class }
         requires few_names { length members.now < count_end }
         requires names { AreMetPairs graph.now members.now }
+        requires order { AreInOrder graph.now.arena order.old }
         ensures opened { OnOk result (OpenedOn graph.now (object_node graph.now.arena traits.0 members.now) waiting.old.items waiting.new.items self.old self.new) }
         ensures runs { AreRunsOf graph.now waiting.old.items → OnOk result (AreRunsOf graph.now waiting.new.items) }
         ensures turns { OnOk result (turns_left waiting.new.items ≤ turns_left waiting.old.items + opened_turns) }
         ensures keeps { Keeps self.old self.new }
+        ensures order { AreInOrder graph.now.arena order.new }
     {
         graph.is_finished();
         let class = graph.text(graph.traits(traits).class);
@@ -131,28 +140,30 @@ impl Output {
             self.byte(0x10)?;
             self.short(class)?;
         }
-        push_pairs(self.alloc, members, graph, waiting)
+        push_pairs(members, graph, order, waiting)
     }
 }
 
 /// Puts pairs onto the stack, in by-name order: as they stand, if they stand in it.
 #[inline(always)]
 fn push_pairs<'g>(
-    alloc: Global,
     pairs: &'g [(TextId, Value)],
     graph: &'g Rooted,
+    order: &mut LastOrder,
     waiting: &mut Vec<Unwritten<'g>>,
 ) -> Result<(), Memory>
-    requires { AreMetPairs graph.now pairs.now }
+    requires pairs { AreMetPairs graph.now pairs.now }
+    requires order { AreInOrder graph.now.arena order.old }
     ensures left { OnOk result (segments_left graph.now.arena waiting.new.items ≡ sorted_ahead graph.now.arena pairs.now ++ segments_left graph.now.arena waiting.old.items) }
     ensures runs { AreRunsOf graph.now waiting.old.items → OnOk result (AreRunsOf graph.now waiting.new.items) }
     ensures turns { OnOk result (turns_left waiting.new.items ≡ turns_left waiting.old.items + (length pairs.now + 1)) }
+    ensures order { AreInOrder graph.now.arena order.new }
 {
-    if are_by_name(pairs, graph) {
+    if order.are_by_name(pairs, graph) {
         waiting.push(Unwritten::Pairs(pairs))?;
         return Ok(());
     }
-    let mut sorted = ids_by_name(alloc, pairs, graph)?;
+    let mut sorted = order.ids_by_name(pairs, graph)?;
     sorted.reverse();
     waiting.push(Unwritten::Sorted(sorted))?;
     Ok(())

@@ -15,6 +15,7 @@ ghost use Rattle.amf0_write.specs.Written0.{AreTables0};
 
 use crate::lowered::Lowered;
 use crate::output::Output;
+use crate::rooms::Rooms;
 use crate::stop::Stop;
 use amf_graph::{NodeId, TextId, Value};
 use amf_wire::Memory;
@@ -41,6 +42,7 @@ impl Output {
         &mut self,
         run: Unwritten<'g>,
         graph: &'g Lowered<'g>,
+        rooms: &mut Rooms,
         waiting: &mut Vec<Unwritten<'g>>,
     ) -> Result<Option<NodeId>, Stop>
         requires low { IsLowered (content graph.now) }
@@ -54,13 +56,14 @@ impl Output {
         ensures still { OnOk result (Still self.old self.new) }
         ensures stopped { IsErrOf result Lack → Still self.old self.new }
         ensures keeps { Keeps self.old self.new }
+        ensures order { rooms.new.order ≡ rooms.old.order }
     {
         match run {
             Unwritten::One(value) => self.whole(value, graph),
             Unwritten::Values(values) => self.values(values, graph, waiting),
             Unwritten::Made(values) => self.made(values, graph, waiting),
             Unwritten::Pairs(pairs) => self.pairs(pairs, graph, waiting),
-            Unwritten::Sorted(pairs) => self.sorted(pairs, graph, waiting),
+            Unwritten::Sorted(pairs) => self.sorted(pairs, graph, rooms, waiting),
         }
     }
 
@@ -160,6 +163,7 @@ impl Output {
         &mut self,
         mut pairs: Vec<(TextId, Value)>,
         graph: &'g Lowered<'g>,
+        rooms: &mut Rooms,
         waiting: &mut Vec<Unwritten<'g>>,
     ) -> Result<Option<NodeId>, Stop>
         requires low { IsLowered (content graph.now) }
@@ -173,6 +177,7 @@ impl Output {
         ensures still { OnOk result (Still self.old self.new) }
         ensures stopped { IsErrOf result Lack → Still self.old self.new }
         ensures keeps { Keeps self.old self.new }
+        ensures order { rooms.new.order ≡ rooms.old.order }
     {
         while let Some((name, value)) = pairs.pop() {
             self.name(name, graph)?;
@@ -182,6 +187,7 @@ impl Output {
             }
         }
         self.end()?;
+        rooms.take_back(pairs);
         Ok(None)
     }
 

@@ -8,6 +8,7 @@ ghost use Rattle.amf_graph.specs.Graph as graph_of_values;
 ghost use Rattle.amf_graph.specs.Order.{Absent};
 ghost use Rattle.amf_graph.specs.Rooted.{RootedArena, content};
 ghost use Rattle.amf_wire.specs.Text.{IsText};
+ghost use Rattle.amf_iso.specs.Remembered.{AreInOrder};
 ghost use Rattle.amf0_spelling.specs.Lowered.{IsLowered};
 ghost use Rattle.amf0_write.specs.declared.stop.Stop.TheVariants.{Lack};
 ghost use Rattle.amf0_write.specs.Unwritten0.{IsMetValue, AreRunsOf, IsNextOf, turns_left, Falls, LeadsToRest, LeadsValue, StopsAt, StopsWithin};
@@ -19,9 +20,11 @@ use crate::low_node::LowNode;
 use crate::lowered::Lowered;
 use crate::nodes::{has_no_form, has_short_names};
 use crate::output::Output;
+use crate::rooms::Rooms;
 use crate::stop::Stop;
 use crate::unwritten::Unwritten;
 use amf_graph::{NodeId, Rooted, Value};
+use amf_iso::LastOrder;
 use amf_wire::Memory;
 
 /// The longest text behind a length of 16 bits (1.3.1).
@@ -41,11 +44,14 @@ impl Output {
         ensures grown { IsErrOf result Lack → Grown (content graph.now) self.old self.new × AreTables0 (content graph.now) (tables_of self.new) }
         ensures keeps { Keeps self.old self.new }
     {
+        let order = LastOrder::new(self.alloc);
+        let pairs = Vec::new(self.alloc);
+        let mut rooms = Rooms { order, pairs };
         let mut waiting = vec![in self.alloc; Unwritten::One(value)]?;
         while let Some(top) = waiting.pop() {
-            let next = self.run(top, graph, &mut waiting)?;
+            let next = self.run(top, graph, &mut rooms, &mut waiting)?;
             if let Some(node) = next {
-                self.new_node(node, graph, &mut waiting)?;
+                self.new_node(node, graph, &mut rooms, &mut waiting)?;
             }
         }
         Ok(())
@@ -165,27 +171,32 @@ impl Output {
         &mut self,
         node: NodeId,
         graph: &'g Lowered<'g>,
+        rooms: &mut Rooms,
         waiting: &mut Vec<Unwritten<'g>>,
     ) -> Result<(), Stop>
         requires low { IsLowered (content graph.now) }
         requires met { IsMetValue graph.now (NodeRef node) }
         requires new { Absent (done_of self.old) node.0 }
         requires runs { AreRunsOf graph.now waiting.old.items }
+        requires order { AreInOrder graph.now.arena rooms.old.order }
         ensures leads { OnOk result (LeadsToRest graph.now (segment.value (graph_of_values.node node.0) ∷ []) waiting.old.items waiting.new.items self.old self.new) }
         ensures lack { IsErrOf result Lack → StopsWithin graph.now (segment.value (graph_of_values.node node.0) ∷ []) waiting.old.items self.old }
         ensures still { IsErrOf result Lack → Still self.old self.new }
         ensures runs { OnOk result (AreRunsOf graph.now waiting.new.items) }
         ensures falls { OnOk result (Falls (length graph.now.arena.nodes) (done_of self.old) (done_of self.new) (turns_left waiting.old.items) (turns_left waiting.new.items)) }
         ensures keeps { Keeps self.old self.new }
+        ensures order { AreInOrder graph.now.arena rooms.new.order }
     {
-        match graph.node(self.alloc, node)? {
-            LowNode::AsItStands(graph) => self.stored_node(node, graph, waiting),
+        match graph.node(self.alloc, node, rooms)? {
+            LowNode::AsItStands(graph) => self.stored_node(node, graph, &mut rooms.order, waiting),
             LowNode::NoForm => Err(Stop::Lack),
             LowNode::Date(milliseconds) => self.low_date(node, milliseconds, graph, waiting),
             LowNode::XmlDocument(text) => self.low_document(node, text, graph, waiting),
-            LowNode::Array(items, names) => self.low_array(node, items, names, graph, waiting),
+            LowNode::Array(items, names) => {
+                self.low_array(node, items, names, graph, rooms, waiting)
+            }
             LowNode::Object(traits, members) => {
-                self.low_object(node, traits, members, graph, waiting)
+                self.low_object(node, traits, members, graph, rooms, waiting)
             }
         }
     }
@@ -195,18 +206,21 @@ impl Output {
         &mut self,
         node: NodeId,
         graph: &'g Rooted,
+        order: &mut LastOrder,
         waiting: &mut Vec<Unwritten<'g>>,
     ) -> Result<(), Stop>
         requires low { IsLowered (content graph.now) }
         requires met { IsMetValue graph.now (NodeRef node) }
         requires new { Absent (done_of self.old) node.0 }
         requires runs { AreRunsOf graph.now waiting.old.items }
+        requires order { AreInOrder graph.now.arena order.old }
         ensures leads { OnOk result (LeadsToRest graph.now (segment.value (graph_of_values.node node.0) ∷ []) waiting.old.items waiting.new.items self.old self.new) }
         ensures lack { IsErrOf result Lack → StopsWithin graph.now (segment.value (graph_of_values.node node.0) ∷ []) waiting.old.items self.old }
         ensures still { IsErrOf result Lack → Still self.old self.new }
         ensures runs { OnOk result (AreRunsOf graph.now waiting.new.items) }
         ensures falls { OnOk result (Falls (length graph.now.arena.nodes) (done_of self.old) (done_of self.new) (turns_left waiting.old.items) (turns_left waiting.new.items)) }
         ensures keeps { Keeps self.old self.new }
+        ensures order { AreInOrder graph.now.arena order.new }
     {
         graph.is_finished();
         let view = graph.node(node);
@@ -216,7 +230,7 @@ impl Output {
         if !has_short_names(node, view, graph) {
             return Err(Stop::Lack);
         }
-        self.open(node, view, graph, waiting)?;
+        self.open(node, view, graph, order, waiting)?;
         Ok(())
     }
 }

@@ -148,7 +148,8 @@ fn write_copied(alloc: Global, graph: &Rooted, out: &mut Vec<u8>) -> Result<(), 
 /// spelling: then the copy tells the first lack.
 ///
 /// After an end `out` is as before. `NoSpelling` comes only where the lowering has no canonical spelling, and tells its first
-/// lack; `Memory` where there is no room for a value of each node, for the tables or the bytes.
+/// lack; `Memory` where there is no room for a value of each node, for what is made of a node, for the tables, the bytes or,
+/// where there is no spelling, the copy.
 pub fn write_lowered0(alloc: Global, graph: &Rooted, out: &mut Vec<u8>) -> Result<(), WriteEnd>
     ensures written { OnOk result (AppendsLowered0 (content graph.now) out.old.items out.new.items) }
     ensures lack { (l : Lack) → IsErrOf result (WriteEnd.NoSpelling l) → IsLoweredLack0 (content graph.now) l.node l.kind }

@@ -19,7 +19,7 @@ returns-clause-left c =
 pub returns-clause-runs : goal.returns-clause-runs
 returns-clause-runs c = λ h.
     let g = c.args.graph.now in
-    let all = sorted_met g c.args.pairs.items c.in_ok-sorted.sorted.items c.requires c.in_ok-sorted.ensures.content c.in_ok-sorted.ensures.names in
+    let all = sorted_met g c.args.pairs.items c.in_ok-sorted.sorted.items c.requires.pairs c.in_ok-sorted.ensures.content c.in_ok-sorted.ensures.names in
     runs_pushed g c.args.waiting.now.items c.push.new.self.items (Sorted c.reverse.new.self) c.in_ok-push.ensures.items h (subst (λ ps. AllByRecursion (IsMetPair g) ps) (sym c.reverse.ensures.items) (all_reverse (IsMetPair g) c.in_ok-sorted.sorted.items all))
 
 pub returns-clause-turns : goal.returns-clause-turns

@@ -20,7 +20,7 @@ returns-clause-left c =
 pub returns-clause-runs : goal.returns-clause-runs
 returns-clause-runs c = λ h.
     let g = c.args.graph.now in
-    let all = sorted_met g c.args.pairs.now c.in_ok-sorted.sorted.items c.requires c.in_ok-sorted.ensures.content c.in_ok-sorted.ensures.names in
+    let all = sorted_met g c.args.pairs.now c.in_ok-sorted.sorted.items c.requires.pairs c.in_ok-sorted.ensures.content c.in_ok-sorted.ensures.names in
     runs_pushed g c.args.waiting.now.items c.push-2.new.self.items (Sorted c.reverse.new.self) c.in_ok-push-2.ensures.items h (subst (λ ps. AllByRecursion (IsMetPair g) ps) (sym c.reverse.ensures.items) (all_reverse (IsMetPair g) c.in_ok-sorted.sorted.items all))
 
 pub returns-clause-turns : goal.returns-clause-turns
@@ -35,12 +35,12 @@ returns-then-are_by_name-clause-left c =
     let a = c.args.graph.now.arena in
     let old = c.args.waiting.now.items in
     segments_pushed a old c.push.new.self.items (Pairs c.args.pairs) c.in_ok-push.ensures.items
-    ∙ ap (λ ws. pairs_then ws ++ segments_left a old) (already_by_name (pairs_of a c.args.pairs.now) (c.are_by_name.ensures.0 c.if-are_by_name.true))
+    ∙ ap (λ ws. pairs_then ws ++ segments_left a old) (already_by_name (pairs_of a c.args.pairs.now) (c.are_by_name.ensures c.if-are_by_name.true))
 
 pub returns-then-are_by_name-clause-runs : goal.returns-then-are_by_name-clause-runs
 returns-then-are_by_name-clause-runs c = λ h.
     let g = c.args.graph.now in
-    runs_pushed g c.args.waiting.now.items c.push.new.self.items (Pairs c.args.pairs) c.in_ok-push.ensures.items h (each_pair_met g c.args.pairs.now c.requires)
+    runs_pushed g c.args.waiting.now.items c.push.new.self.items (Pairs c.args.pairs) c.in_ok-push.ensures.items h (each_pair_met g c.args.pairs.now c.requires.pairs)
 
 pub returns-then-are_by_name-clause-turns : goal.returns-then-are_by_name-clause-turns
 returns-then-are_by_name-clause-turns c = omega (arith, turns_pushed c.args.waiting.now.items c.push.new.self.items (Pairs c.args.pairs) c.in_ok-push.ensures.items)

@@ -4,6 +4,7 @@ use Rattle.amf_graph.proofs.Counting.{missing}
 use Rattle.amf_graph.specs.Arena.{value_content}
 use Rattle.amf_graph.specs.Graph.{node}
 use Rattle.amf_graph.specs.Rooted.{content}
+use Rattle.amf_iso.specs.Remembered.{AreInOrder}
 use Rattle.amf0_write.specs.Unwritten0.{AreRunsOf, IsRunOf, IsNextOf, next_segments, segments_left}
 use Rattle.amf0_write.specs.Written0.{AreTables0}
 use Rattle.amf0_write.specs.Writes0.{value, done_of, Leads}
@@ -19,6 +20,7 @@ loop-top-init c =
     record {
       leads = leads_same (content c.args.graph.now) whole (segments_left a c.in_ok-waiting.waiting.items) c.args.self.now (sym (ap (segments_left a) c.in_ok-waiting.ensures.items));
       runs = subst (AreRunsOf c.args.graph.now) (sym c.in_ok-waiting.ensures.items) (c.requires.met, tt);
+      order = c.new-order.ensures.order a;
       keeps = λ front h. h;
     }
 
@@ -38,6 +40,9 @@ pub new_node-requires-clause-runs : goal.new_node-requires-clause-runs
 new_node-requires-clause-runs c =
     let rest = rest_of (IsRunOf c.args.graph.now) c.loop-top.waiting.items c.pop.new.self.items c.in-Some.top c.in-Some.ensures.items c.loop-top.invariant.runs in
     c.in_ok-next.ensures.runs rest
+
+pub new_node-requires-clause-order : goal.new_node-requires-clause-order
+new_node-requires-clause-order c = subst (AreInOrder c.args.graph.now.arena) (sym c.in_ok-next.ensures.order) c.loop-top.invariant.order
 
 pub returns-in_err-next-clause-lack : goal.returns-in_err-next-clause-lack
 returns-in_err-next-clause-lack c = λ e.
@@ -89,6 +94,7 @@ loop-top-preserved-in-Continue-branch-3 c =
     record {
       leads = leads_then g whole now (segments_left a c.new_node.new.waiting.items) c.args.self.now c.run.new.self c.new_node.new.self begun c.in_ok-new_node.ensures.leads;
       runs = c.in_ok-new_node.ensures.runs;
+      order = c.new_node.ensures.order;
       keeps = λ front h. c.in_ok-new_node.ensures.keeps front (c.in_ok-next.ensures.keeps front (c.loop-top.invariant.keeps front h));
     }
 
@@ -111,6 +117,7 @@ loop-top-preserved c =
     record {
       leads = subst (λ next. Leads g whole (next_segments next ++ segments_left a left) c.args.self.now c.run.new.self) c.in_default-next.is before;
       runs = c.in_ok-next.ensures.runs rest;
+      order = subst (AreInOrder a) (sym c.in_ok-next.ensures.order) c.loop-top.invariant.order;
       keeps = λ front h. c.in_ok-next.ensures.keeps front (c.loop-top.invariant.keeps front h);
     }
 
