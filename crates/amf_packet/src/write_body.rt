@@ -11,7 +11,7 @@ ghost use Rattle.amf_packet.specs.WriteParts.{Grows, Appends, LacksHere, Writes}
 use crate::{Body, PacketEnd};
 use amf_graph::{Rooted, WriteEnd};
 use amf0_spelling::Form;
-use amf0_write::{lower, write0};
+use amf0_write::write_lowered0;
 use amf3_write::write3_keyed;
 use std::alloc::Global;
 use std::hash::RandomState;
@@ -55,8 +55,7 @@ fn append_plain(alloc: Global, graph: &Rooted, out: &mut Vec<u8>) -> Result<(), 
     ensures lack { (l : Lack) → IsErrOf result (WriteEnd.NoSpelling l) → IsBodyLack Form.Plain (content graph.now) l.node l.kind }
     ensures grows { Grows out.old.items out.new.items }
 {
-    let low = lower(alloc, graph)?;
-    write0(alloc, &low, out)
+    write_lowered0(alloc, graph, out)
 }
 
 /// Appends a value in this form.

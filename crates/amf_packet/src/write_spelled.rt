@@ -13,13 +13,23 @@ use amf_wire::{Memory, Name};
 use std::alloc::Global;
 
 /// A message of a packet whose value is spelled (AMF 0, 4.3).
-#[derive(Drop)]
 pub struct SpelledMessage {
     /// The URI of what is called, or of what is answered.
     pub target: Name,
     /// The URI to answer to.
     pub response: Name,
     pub body: SpelledBody,
+}
+
+impl Drop for SpelledMessage {
+    /// Lets its parts go. Written out, it is proved once; what is derived is proved at each place where one is let go.
+    fn drop(self) {
+        let SpelledMessage {
+            target: _,
+            response: _,
+            body: _,
+        } = self;
+    }
 }
 
 /// Appends the bytes of a value behind a length that is not known.

@@ -8,7 +8,7 @@ use crate::meta_bytes::append_whole;
 use crate::meta_end::MetaTagEnd;
 use crate::meta_part::NAME;
 use amf_graph::{Rooted, WriteEnd};
-use amf0_write::{lower, write0};
+use amf0_write::write_lowered0;
 use std::alloc::Global;
 
 /// The most bytes that a size of 24 bits says (E.4.1).
@@ -37,17 +37,13 @@ pub fn meta_tag(alloc: Global, value: &Rooted, out: &mut Vec<u8>) -> Result<(), 
     Ok(())
 }
 
-/// The canonical AMF 0 of a graph's lowering, which is a lowered graph (`lowering_is_lowered`).
+/// The canonical AMF 0 of a graph's lowering.
 fn canonical0(alloc: Global, value: &Rooted) -> Result<Vec<u8>, WriteEnd>
     ensures written { IfOk result (λ bytes. IsLowCanonical (content value.now) bytes.items) }
     ensures lack { (l : Lack) → IsErrOf result (WriteEnd.NoSpelling l) → LacksMetadata (content value.now) l }
 {
-    let low = match lower(alloc, value) {
-        Ok(low) => low,
-        Err(_) => return Err(WriteEnd::Memory),
-    };
     let mut bytes = Vec::new(alloc);
-    match write0(alloc, &low, &mut bytes) {
+    match write_lowered0(alloc, value, &mut bytes) {
         Ok(()) => Ok(bytes),
         Err(end) => Err(end),
     }

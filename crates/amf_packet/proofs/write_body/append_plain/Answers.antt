@@ -1,10 +1,9 @@
 use Rattle.amf_graph.specs.Rooted.{content}
-use Rattle.amf0_spelling.proofs.LoweredLow.{lowering_is_lowered}
-use Rattle.amf_packet.proofs.WriteBodies.{plain_grows}
+use Rattle.amf_packet.proofs.WriteBodies.{plain_written, plain_grows}
 use Rattle.amf_packet.proofs.write_body.append_plain.Goals as goal
 
-pub write0-requires : goal.write0-requires
-write0-requires c = lowering_is_lowered (content c.args.graph.now) (content c.in_ok-low.low) c.in_ok-low.ensures
+pub returns-clause-written : goal.returns-clause-written
+returns-clause-written c = plain_written (content c.args.graph.now) c.args.out.now.items c.write_lowered0.new.out.items c.write_lowered0.result c.write_lowered0.ensures.written
 
 pub returns-clause-grows : goal.returns-clause-grows
-returns-clause-grows c = plain_grows (content c.in_ok-low.low) c.args.out.now.items c.write0.new.out.items c.write0.result c.write0.ensures.written c.write0.ensures.untouched
+returns-clause-grows c = plain_grows (content c.args.graph.now) c.args.out.now.items c.write_lowered0.new.out.items c.write_lowered0.result c.write_lowered0.ensures.written c.write_lowered0.ensures.untouched

@@ -1,5 +1,5 @@
 -- The value of all these bytes, from empty tables.
-use Rattle.std.proofs.Common.{◌∙◌, sym, subst, Ok, Err}
+use Rattle.std.proofs.Common.{sym, subst, Ok, Err}
 use Rattle.amf_io.specs.InMemory.{nothing_left}
 use Rattle.amf_io.specs.Cursor.{place, bound, unread}
 use Rattle.amf_graph.specs.Rooted.{RootedArena}
