@@ -4,6 +4,8 @@
 #[cfg(test)]
 mod checks;
 #[cfg(test)]
+mod class_show_tests;
+#[cfg(test)]
 mod packet_show_tests;
 #[cfg(test)]
 mod packet_tests;

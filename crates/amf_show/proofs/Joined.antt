@@ -11,8 +11,8 @@ use Rattle.amf_graph.specs.Views.{flat}
 use Rattle.amf_iso.specs.Contents.{values_of, pairs_of}
 use Rattle.amf_tables.specs.ShownTraits.{texts_at}
 use Rattle.amf_tables.proofs.ShownTexts.{texts_more}
-use Rattle.amf_show.specs.Joining.{separator_before}
-use Rattle.amf_show.specs.Shown.{joined}
+use Rattle.amf_show.specs.Joining.{separator_before, head_before}
+use Rattle.amf_show.specs.Shown.{joined, shown_text}
 use Rattle.amf_show.specs.Listing.{shown_value, shown_pair, entries_in}
 
 pub separator_none : (i : ℕ) → i ≡ 0 → separator_before i ≡ []
@@ -107,3 +107,20 @@ sealed_step order a before one two three names values i d e l s p b c =
     part_more before one two three (map (shown_pair order) (sealed_parts a (take i names) (take i values))) (map (shown_pair order) (sealed_parts a (take (i + 1) names) (take (i + 1) values))) i (shown_pair order (text_at a (get_or names i d).0, value_content a (get_or values i e)))
     (length-map (sealed_parts a (take i names) (take i values)) (shown_pair order) ∙ zip_long (texts_at a (take i names)) (values_of a (take i values)) i texts_long values_long)
     (ap (map (shown_pair order)) more ∙ map-append (shown_pair order) (sealed_parts a (take i names) (take i values)) ((text_at a (get_or names i d).0, value_content a (get_or values i e)) ∷ [])) p b c
+
+-- likewise behind what stands ready before each value
+pub headed_step : (order : List ℕ) (a : Arena) (before one two three : List ℕ) (names : List (List ℕ)) (values : List Stored) (i : ℕ) (e : Stored) → i < length names → length values ≡ length names → one ≡ before ++ joined (map (shown_pair order) (zip (take i names) (values_of a (take i values)))) → two ≡ one ++ head_before i (get_or names i []) → three ≡ two ++ shown_value order (value_content a (get_or values i e)) → three ≡ before ++ joined (map (shown_pair order) (zip (take (i + 1) names) (values_of a (take (i + 1) values))))
+headed_step order a before one two three names values i e l s p b c =
+    let within : i < length values = omega (arith, l, s) in
+    let name = get_or names i [] in
+    let value = value_content a (get_or values i e) in
+    let names_long : length (take i names) ≡ i = length-take-le i names (omega (arith, l)) in
+    let values_long : length (values_of a (take i values)) ≡ i = map_long (value_content a) values i within in
+    let more : zip (take (i + 1) names) (values_of a (take (i + 1) values)) ≡ zip (take i names) (values_of a (take i values)) ++ (name, value) ∷ [] =
+    ap (λ w. zip w (values_of a (take (i + 1) values))) (take_more names i [] l) ∙ ap (λ w. zip (take i names ++ name ∷ []) w) (map_more (value_content a) values i e within)
+    ∙ zip_push (take i names) (values_of a (take i values)) name value (values_long ∙ sym names_long) in
+    let head = shown_text name ++ codes "=" in
+    part_more before one (one ++ separator_before i) three (map (shown_pair order) (zip (take i names) (values_of a (take i values)))) (map (shown_pair order) (zip (take (i + 1) names) (values_of a (take (i + 1) values)))) i (shown_pair order (name, value))
+    (length-map (zip (take i names) (values_of a (take i values))) (shown_pair order) ∙ zip_long (take i names) (values_of a (take i values)) i names_long values_long)
+    (ap (map (shown_pair order)) more ∙ map-append (shown_pair order) (zip (take i names) (values_of a (take i values))) ((name, value) ∷ [])) p refl
+    (c ∙ ap (λ w. w ++ shown_value order value) (b ∙ sym (append_assoc one (separator_before i) head)) ∙ append_assoc (one ++ separator_before i) head (shown_value order value))

@@ -1,6 +1,7 @@
 -- The lemmas that several proofs share.
 pub mod Joined
 pub mod Held
+pub mod Headed
 pub mod Viewed
 pub mod Alike
 pub mod Rows

@@ -6,4 +6,5 @@ pub mod ListingLaws
 pub mod WorkedListings
 -- Devices of the proofs: no clause of a public call needs them.
 pub mod Joining
+pub mod Heads
 pub mod ByLister

@@ -55,8 +55,8 @@ impl Lister<'_> {
         self.push_by_name(names, out)
     }
 
-    /// Appends an object: its class, its sealed members, and, where its class takes them, its dynamic ones in by-name order.
-    pub(crate) fn push_object(
+    /// Appends an object whose class has no text ready.
+    pub(crate) fn push_unknown(
         &self,
         traits: TraitsId,
         sealed: &[Value],
@@ -78,7 +78,7 @@ impl Lister<'_> {
     }
 
     /// Appends the dynamic members of an object whose class takes them.
-    fn push_members(
+    pub(crate) fn push_members(
         &self,
         dynamic: bool,
         members: &[(TextId, Value)],

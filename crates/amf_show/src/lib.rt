@@ -2,6 +2,7 @@
 //! nodes.
 #![tactic(auto)]
 
+mod class_text;
 mod contents;
 mod counting;
 mod entries;
@@ -10,6 +11,7 @@ mod lister;
 mod listing;
 mod node;
 mod numbers;
+mod objects;
 mod pairs;
 mod text;
 mod value;

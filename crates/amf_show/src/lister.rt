@@ -1,7 +1,9 @@
 ghost use Rattle.std.specs.Prelude.{◌≡◌, ◌++◌, OnOk};
 ghost use Rattle.amf_graph.specs.Renumbered.{place_of};
+ghost use Rattle.amf_show.specs.Heads.{AreTexts};
 ghost use Rattle.amf_show.specs.Listing.{shown_number};
 
+use crate::class_text::ClassText;
 use crate::numbers::{push_uint, push_word};
 use amf_graph::{NodeId, Rooted};
 use amf_iso::Numbering;
@@ -14,6 +16,9 @@ pub(crate) struct Lister<'g> {
     pub(crate) alloc: Global,
     pub(crate) graph: &'g Rooted,
     pub(crate) numbering: &'g Numbering,
+    /// The texts of some classes of the graph.
+    pub(crate) classes: &'g [ClassText],
+    ghost ready: { AreTexts graph.now.arena classes.now },
 }
 
 impl Lister<'_> {

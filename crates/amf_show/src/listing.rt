@@ -4,6 +4,7 @@ ghost use Rattle.amf_graph.specs.Order.{IsOrder};
 ghost use Rattle.amf_graph.specs.Rooted.{content};
 ghost use Rattle.amf_show.specs.Listing.{shown_node, shown_graph, AppendsListing, IsListing};
 
+use crate::class_text::class_texts;
 use crate::lister::Lister;
 use amf_graph::Rooted;
 use amf_iso::Numbering;
@@ -16,10 +17,12 @@ pub fn graph_listing(alloc: Global, graph: &Rooted) -> Result<Vec<u8>, Memory>
     ensures listed { IfOk result (λ listing. IsListing (content graph.now) listing.items) }
 {
     let numbering = Numbering::of(alloc, graph)?;
+    let classes = class_texts(alloc, graph, &numbering)?;
     let lister = Lister {
         alloc,
         graph,
         numbering: &numbering,
+        classes: &classes,
     };
     let mut listing = Vec::new(alloc);
     lister.push_graph(&mut listing)?;

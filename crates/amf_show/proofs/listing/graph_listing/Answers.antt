@@ -1,7 +1,11 @@
-use Rattle.std.proofs.Common.{◌++◌, ap, ◌∙◌}
+use Rattle.std.proofs.Common.{◌++◌, ap, ◌∙◌, subst, sym}
 use Rattle.amf_graph.specs.Rooted.{content}
+use Rattle.amf_show.specs.Heads.{AreTexts}
 use Rattle.amf_show.specs.Listing.{shown_graph}
 use Rattle.amf_show.proofs.listing.graph_listing.Goals as goal
+
+pub invariant_of-lister : goal.invariant_of-lister
+invariant_of-lister c = record { ready = subst (λ w. AreTexts c.args.graph.now.arena w) (sym c.deref.ensures.value) c.in_ok-classes.ensures }
 
 pub returns : goal.returns
 returns c =
