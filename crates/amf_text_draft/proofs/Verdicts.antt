@@ -1,5 +1,5 @@
 -- What has been gathered of a text that means something, but for labels that may lead nowhere.
-use Rattle.std.proofs.Common.{◌≡◌, ◌≤◌, ℕ, List, [], ◌∷◌, length, map, Option, Some, None, sym, subst}
+use Rattle.std.proofs.Common.{◌≡◌, ◌≤◌, ℕ, List, [], ◌∷◌, length, Some, None, sym, subst}
 use Rattle.std.specs.List.{AllByRecursion}
 use Rattle.std.specs.Str.{IsUtf8}
 use Rattle.json.specs.Json.{Json}
@@ -7,7 +7,7 @@ use Rattle.json.specs.Json as json
 use Rattle.json.specs.Lex.{tokens}
 use Rattle.amf_graph.specs.Graph.{Graph}
 use Rattle.amf_text.specs.Scalars.{read_number}
-use Rattle.amf_text.specs.Documents.{Header, Message, Document, value3, value0, file, packet}
+use Rattle.amf_text.specs.Documents.{Document, value3, value0, file, packet}
 use Rattle.amf_text.specs.Accepted.{Part, IsJsonText, MeansPart, Means, document_meant}
 use Rattle.amf_text.specs.Scan.{ended, scan}
 use Rattle.amf_text.specs.Refused.{first_false, text_limit, IsTextAccepted}
@@ -16,12 +16,26 @@ use Rattle.amf_text.specs.WholeLaws.{IsSoundGraph, WholeLaws}
 use Rattle.amf_text.proofs.Goals.{no_answer}
 use Rattle.amf_text_laws.specs.TextBounds.{HasNumbers, TextBounds}
 use Rattle.amf_text_laws.proofs.Scanned.{scanned}
-use Rattle.amf_text_trees.specs.Sheets.{Page}
+use Rattle.amf_text_trees.specs.Sheets.{Page, pages_of}
 use Rattle.amf_text_trees.specs.Pages.{pages_calls}
 use Rattle.amf_text_trees.specs.TreeLaws.{Gathers, TreeLaws}
+use Rattle.amf_text_read.specs.TextVerdicts.{IsAcceptedButLabels}
+use Rattle.amf_text_gather.specs.States.{IsGathered}
 use Rattle.amf_text_graphs.specs.Graphs.{graphs_in, IsWritable}
 use Rattle.amf_text_draft.specs.Results.{IsLost}
 use Rattle.amf_text_draft.proofs.Linked.{pages_are}
+
+-- Nothing is read or gathered.
+
+pub is_unread : (text : List ℕ) → (length text ≤ text_limit → IsUtf8 text → ⊥) → IsAcceptedButLabels text → ⊥
+is_unread text h a = h a.within a.means.1.utf8
+
+gathers : TreeLaws read_number → (text : List ℕ) (d : Document Part) → MeansPart read_number text d → Gathers read_number (tokens text) (pages_of d)
+gathers laws text d (j, t, m) = subst (λ ts. Gathers read_number ts (pages_of d)) (sym t.same) (laws.of_json j d m)
+
+pub says_nothing : TreeLaws read_number → (text whole : List ℕ) → whole ≡ text → IsGathered (tokens whole) None → IsAcceptedButLabels text → ⊥
+says_nothing laws text whole same n a =
+    n (pages_of a.document) (subst (λ x. Gathers read_number (tokens x) (pages_of a.document)) (sym same) (gathers laws text a.document a.means))
 
 -- The text is whole.
 

@@ -1,6 +1,6 @@
 //! Reads a text.
 
-ghost use Rattle.std.specs.Prelude.{◌≡◌, ◌*◌, ◌≤◌, None, length, IfOk, MatchOption};
+ghost use Rattle.std.specs.Prelude.{◌≡◌, ◌*◌, ◌≤◌, None, length, IfOk, IfSome, IfNone, MatchOption};
 ghost use Rattle.std.specs.Str.{IsUtf8};
 ghost use Rattle.std.specs.Result.{IsErrOf};
 ghost use Rattle.json.specs.Lex.{tokens};
@@ -10,7 +10,7 @@ ghost use Rattle.amf_text.specs.Refused.{IsTextAccepted, first_false, text_limit
 ghost use Rattle.amf_text_laws.specs.TextBounds.{graphs_weight};
 ghost use Rattle.amf_text_trees.specs.Pages.{pages_calls};
 ghost use Rattle.amf_text_trees.specs.TreeLaws.{Gathers};
-ghost use Rattle.amf_text_read.specs.TextVerdicts.{IsRefusedSo};
+ghost use Rattle.amf_text_read.specs.TextVerdicts.{IsAcceptedButLabels, IsRefusedSo};
 ghost use Rattle.amf_text_draft.specs.declared.text.TextEnd.TheVariants.{Memory as NoMemory};
 ghost use Rattle.amf_text_pages.specs.Pages.{document_of};
 ghost use Rattle.amf_text_draft.specs.Results.{IsLost};
@@ -117,7 +117,8 @@ fn accepted(
 
 /// A text in UTF-8 that is not too long.
 fn readable(text: &[u8]) -> Option<&str>
-    ensures { MatchOption result (Unit {0}) (λ whole. (whole.now ≡ text.now) × ((length text.now ≤ text_limit) × IsUtf8 text.now)) }
+    ensures some { IfSome result (λ whole. (whole.now ≡ text.now) × ((length text.now ≤ text_limit) × IsUtf8 text.now)) }
+    ensures none { IfNone result (length text.now ≤ text_limit → IsUtf8 text.now → ⊥) }
 {
     if text.len() > MAX_BYTES {
         return None;
@@ -130,18 +131,20 @@ fn readable(text: &[u8]) -> Option<&str>
 
 /// Why a text that says nothing is refused.
 fn refused(alloc: Global, keys: Option<RandomState>, text: &[u8]) -> TextEnd
+    requires { IsAcceptedButLabels text.now → ⊥ }
     ensures { (r : Refusal) → result ≡ TextEnd.Refused r → IsRefusedSo text.now r }
 {
     match text_verdict(alloc, keys, text) {
         Ok(Some(refusal)) => TextEnd::Refused(refusal),
-        _ => TextEnd::Memory,
+        Ok(None) => unreachable!(),
+        Err(_) => TextEnd::Memory,
     }
 }
 
 /// What a text means: a value of AMF 3 or AMF 0, a shared object file or a packet, with its graphs; or why it means nothing, and where.
 /// A text is JSON in UTF-8 (RFC 8259) of at most 268,435,456 bytes; it is refused at its first token that is wrong, or, where all of them
 /// are right, at the first label that is called and that no row of its part has. What is looked up is found by these keys.
-/// What is read weighs at most four times the bytes of the text. It gives up where there is no memory.
+/// The graphs that are read weigh together at most four times the bytes of the text. It gives up where there is no memory.
 pub fn read_text(alloc: Global, keys: Option<RandomState>, text: &[u8]) -> Result<Written, TextEnd>
     ensures written { IfOk result (λ w. IsTextAccepted read_number text.now (document_written w)) }
     ensures weighs { IfOk result (λ w. graphs_weight (document_written w) ≤ 4 * length text.now) }
@@ -152,6 +155,9 @@ pub fn read_text(alloc: Global, keys: Option<RandomState>, text: &[u8]) -> Resul
     };
     match gather_text(alloc, keys, whole)? {
         Some(document) => accepted(alloc, keys, whole, document),
-        None => Err(refused(alloc, keys, text)),
+        None => {
+            tree_laws();
+            Err(refused(alloc, keys, text))
+        }
     }
 }

@@ -66,7 +66,8 @@ fn ended(draft: &mut Draft) -> Option<Document>
     }
 }
 
-/// What a text says whose tokens are all asked for, and behind which nothing has to come. Labels may still lead nowhere.
+/// What a text says whose tokens are all asked for, and behind which nothing has to come, as pages; none of any other text.
+/// Labels may still lead nowhere. It gives up where there is no memory.
 pub fn gather_text(
     alloc: Global,
     keys: Option<RandomState>,

@@ -106,7 +106,8 @@ fn first_false(calls: &[bool]) -> Option<usize>
     false_place(calls)
 }
 
-/// The first call of a document of which its page has no row, by its place among all calls.
+/// The first call of a document of which its page has no row, by its place among all calls. It gives up where there is no
+/// memory.
 pub fn lost_call(
     alloc: Global,
     keys: Option<RandomState>,

@@ -82,7 +82,8 @@ fn write_messages(
     Ok(all)
 }
 
-/// A document with its graphs.
+/// A document with graphs in place of its pages, which have to be sound and small enough for their numbers (`IsWritable`).
+/// Labels are looked up by hashes with these keys. It gives up where there is no memory.
 pub fn write(
     alloc: Global,
     keys: Option<RandomState>,

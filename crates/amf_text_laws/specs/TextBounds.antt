@@ -1,5 +1,5 @@
--- A text has more bytes than what it means has parts, so a text within the limit means graphs for which there are numbers.
--- What it means weighs at most four times its bytes.
+-- A text has more bytes than what it means has parts, and its graphs weigh at most four times its bytes; so a text within the limit
+-- means graphs for which there are numbers.
 use Rattle.std.specs.Prelude.{ℕ, suc, ◌+◌, ◌*◌, ◌<◌, ◌≤◌, List, [], ◌∷◌, length}
 use Rattle.std.specs.List.{AllByRecursion}
 use Rattle.json.specs.Token.{Token, key, string, bad}
@@ -46,7 +46,7 @@ nodes_size [] = 0
 nodes_size (a ∷ rest) = node_size a + nodes_size rest
 
 -- What a graph weighs: 1 for each node, each class of an object and each value; the bytes of texts, names and contents, where an int or uint has 4 and
--- a double of a vector 8; and 1 more for each name.
+-- a double of a vector 8; and 1 more for each name of a value.
 
 abbrev pub leaf_weight : Leaf → ℕ
 leaf_weight (graph.text x) = suc (length x)

@@ -15,7 +15,7 @@ pub fn one_verdict()
 {}
 
 /// A text has more bytes than what it means has nodes, values, names and items; so one within the limit means graphs that have numbers for all of them.
-/// What it means weighs at most four times its bytes, the graphs of a packet together too.
+/// Its graphs weigh together at most four times its bytes.
 pub fn few_nodes()
     ensures { TextBounds }
 {}

@@ -18,7 +18,7 @@ pub enum Entry {
     Integer(i32),
     /// A double, by its bits.
     Double(Pattern),
-    /// A text, in UTF-8.
+    /// A text.
     Text(Vec<u8>),
     /// A label that is called: it stands for the node of the row that has it, in the table of its page.
     Label(Vec<u8>),

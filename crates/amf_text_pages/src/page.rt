@@ -13,7 +13,7 @@ use amf_graph::Wrapped;
 /// A class, whether it is dynamic, and its dynamic members.
 #[derive(Drop)]
 pub struct Class {
-    /// Its name, in UTF-8.
+    /// Its name, a text.
     pub name: Vec<u8>,
     /// Whether objects of it may have dynamic members.
     pub dynamic: bool,
@@ -38,9 +38,9 @@ pub enum Node {
     Values(bool, Vec<u8>, Vec<Entry>),
     /// A dictionary: whether its keys are weak, and keys and values in turn.
     Dictionary(bool, Vec<Entry>),
-    /// An XML document, in UTF-8.
+    /// The text of an XML document.
     XmlDocument(Vec<u8>),
-    /// An XML value, in UTF-8.
+    /// The text of an XML value.
     Xml(Vec<u8>),
     /// A date: milliseconds since 1970 in UTC, a double by its bits.
     Date(u64),
@@ -77,7 +77,7 @@ pub struct Page {
 /// A header of a packet (AMF 0, 4.2).
 #[derive(Drop)]
 pub struct Header {
-    /// Its name, in UTF-8.
+    /// Its name, a text.
     pub name: Vec<u8>,
     /// Whether the receiver must understand it.
     pub must: bool,
@@ -90,9 +90,9 @@ pub struct Header {
 /// A message of a packet (AMF 0, 4.3).
 #[derive(Drop)]
 pub struct Message {
-    /// What it is for, in UTF-8.
+    /// What it is for, a text.
     pub target: Vec<u8>,
-    /// What its answer is for, in UTF-8.
+    /// What its answer is for, a text.
     pub response: Vec<u8>,
     /// How its value is spelled.
     pub form: PacketForm,
@@ -185,7 +185,7 @@ impl Header {
         }
     }
 
-    /// With another page.
+    /// With another root.
     pub fn with_root(self, root: Entry) -> Header
         ensures { header_of result ≡ header_with (with_root (entry_of root)) (header_of self) }
     {

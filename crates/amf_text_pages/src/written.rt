@@ -26,7 +26,7 @@ pub enum FileVersion {
 /// A header of a packet (AMF 0, 4.2).
 #[derive(Drop)]
 pub struct WrittenHeader {
-    /// Its name, in UTF-8, of at most 65,535 bytes.
+    /// Its name, a text of at most 65,535 bytes.
     pub name: Vec<u8>,
     /// Whether the receiver must understand it.
     pub must: bool,
@@ -39,9 +39,9 @@ pub struct WrittenHeader {
 /// A message of a packet (AMF 0, 4.3).
 #[derive(Drop)]
 pub struct WrittenMessage {
-    /// What it is for, in UTF-8, of at most 65,535 bytes.
+    /// What it is for, a text of at most 65,535 bytes.
     pub target: Vec<u8>,
-    /// What its answer is for, in UTF-8, of at most 65,535 bytes.
+    /// What its answer is for, a text of at most 65,535 bytes.
     pub response: Vec<u8>,
     /// How its value is spelled.
     pub form: PacketForm,
@@ -58,7 +58,7 @@ pub enum Written {
     Value0(Rooted),
     /// A shared object file.
     SharedObject {
-        /// Its name, in UTF-8, of at most 65,535 bytes.
+        /// Its name, a text of at most 65,535 bytes.
         name: Vec<u8>,
         /// The format of its values.
         version: FileVersion,
