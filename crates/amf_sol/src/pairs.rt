@@ -2,6 +2,8 @@ ghost use Rattle.std.specs.Prelude.{◌≡◌, ◌+◌, ◌<◌, ℕ, List, OnOk
 ghost use Rattle.amf_io.specs.Cursor.{place};
 ghost use Rattle.amf_io.specs.ReadEnds.{IsPlaced, Goes};
 ghost use Rattle.amf_graph.specs.Building.{no_arena};
+ghost use Rattle.amf3_spelling.specs.KeptTables.{no_kept_tables};
+ghost use Rattle.amf0_spelling.specs.KeptTables0.{no_kept_tables0};
 ghost use Rattle.amf0_spelling.specs.TableParts0.{shown_tables};
 ghost use Rattle.amf0_read.specs.Frames0.{state_in};
 ghost use Rattle.amf0_read.specs.Ready0.{Ready0};
@@ -22,6 +24,9 @@ use amf3_read::{read_text, read_value};
 use std::alloc::Global;
 use std::hash::RandomState;
 
+/// The holder: the first node.
+const HOLDER: NodeId = NodeId(0);
+
 /// Reads the pairs up to the end of the input into a new holder, which is the first node, and in no table.
 pub(crate) fn read_holder<S: Source>(
     alloc: Global,
@@ -35,9 +40,26 @@ pub(crate) fn read_holder<S: Source>(
     ensures answers { (n : ℕ) (name : List ℕ) → left_of cursor.old < n → AnswersHolder S.tells S.left version n name cursor.old cursor.new result }
 {
     let mut builder = Builder::keyed(alloc, keys)?;
-    let holder = open_holder(&mut builder)?;
-    read_pairs(alloc, cursor, &mut builder, holder, version)?;
-    Ok(close_holder(builder, holder))
+    read_held(alloc, cursor, &mut builder, version)?;
+    Ok(close_holder(builder, HOLDER))
+}
+
+/// Opens the holder in a builder that holds nothing yet, and reads the pairs into it up to the end of the input.
+fn read_held<S: Source>(
+    alloc: Global,
+    cursor: &mut Cursor<'_, S>,
+    builder: &mut Builder,
+    version: SolVersion,
+) -> Result<(), ReadEnd>
+    requires empty { builder.old ≡ no_arena }
+    requires placed { IsPlaced cursor.old }
+    requires room { left_of cursor.old + 1 < room_end }
+    ensures goes { Goes S.Source cursor.old cursor.new result }
+    ensures answers { (n : ℕ) (name : List ℕ) → left_of cursor.old < n → AnswersPairs S.tells S.left version n name builder.new cursor.old cursor.new result }
+    ensures holder { OnOk result (IsOpenHolder builder.new 0) }
+{
+    let holder = open_holder(builder)?;
+    read_pairs(alloc, cursor, builder, holder, version)
 }
 
 /// Opens a holder in a new builder.
@@ -104,8 +126,28 @@ fn read_pairs0<S: Source>(
     ensures holder { OnOk result (IsOpenHolder builder.new 0) }
 {
     let mut tables = Tables0::new(alloc)?;
+    read_each0(alloc, cursor, builder, &mut tables, holder)
+}
+
+/// Reads pairs of AMF 0 to the end of the input, by tables without entries.
+fn read_each0<S: Source>(
+    alloc: Global,
+    cursor: &mut Cursor<'_, S>,
+    builder: &mut Builder,
+    tables: &mut Tables0,
+    holder: NodeId,
+) -> Result<(), ReadEnd>
+    requires first { holder.0 ≡ 0 }
+    requires opened { builder.old ≡ holder_arena }
+    requires empty { shown_tables tables.old ≡ no_kept_tables0 }
+    requires placed { IsPlaced cursor.old }
+    requires room { left_of cursor.old + 1 < room_end }
+    ensures goes { Goes S.Source cursor.old cursor.new result }
+    ensures answers { (n : ℕ) (name : List ℕ) → left_of cursor.old < n → AnswersPairs S.tells S.left SolVersion.Amf0 n name builder.new cursor.old cursor.new result }
+    ensures holder { OnOk result (IsOpenHolder builder.new 0) }
+{
     while !is_over(cursor)? {
-        read_pair0(alloc, cursor, builder, &mut tables, holder)?;
+        read_pair0(alloc, cursor, builder, tables, holder)?;
     }
     Ok(())
 }
@@ -152,8 +194,28 @@ fn read_pairs3<S: Source>(
     ensures holder { OnOk result (IsOpenHolder builder.new 0) }
 {
     let mut tables = Tables3::new(alloc)?;
+    read_each3(alloc, cursor, builder, &mut tables, holder)
+}
+
+/// Reads pairs of AMF 3 to the end of the input, by tables without entries.
+fn read_each3<S: Source>(
+    alloc: Global,
+    cursor: &mut Cursor<'_, S>,
+    builder: &mut Builder,
+    tables: &mut Tables3,
+    holder: NodeId,
+) -> Result<(), ReadEnd>
+    requires first { holder.0 ≡ 0 }
+    requires opened { builder.old ≡ holder_arena }
+    requires empty { tables.old ≡ no_kept_tables }
+    requires placed { IsPlaced cursor.old }
+    requires room { left_of cursor.old + 1 < room_end }
+    ensures goes { Goes S.Source cursor.old cursor.new result }
+    ensures answers { (n : ℕ) (name : List ℕ) → left_of cursor.old < n → AnswersPairs S.tells S.left SolVersion.Amf3 n name builder.new cursor.old cursor.new result }
+    ensures holder { OnOk result (IsOpenHolder builder.new 0) }
+{
     while !is_over(cursor)? {
-        read_pair3(alloc, cursor, builder, &mut tables, holder)?;
+        read_pair3(alloc, cursor, builder, tables, holder)?;
     }
     Ok(())
 }

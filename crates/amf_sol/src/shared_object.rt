@@ -16,11 +16,37 @@ use std::marker::Model;
 const MAX_NAME: usize = 65_535;
 
 /// A shared object: its name, the format of its values, and the graph of the object that holds its pairs.
-#[derive(Drop)]
 pub struct SharedObject {
     name: Name,
     version: SolVersion,
     holder: Rooted,
+}
+
+impl Drop for SharedObject {
+    /// Lets its parts go. Written out, it is proved once; what is derived is proved at each place where one is let go.
+    fn drop(self) {
+        let SharedObject {
+            name: _,
+            version: _,
+            holder: _,
+        } = self;
+    }
+}
+
+/// Refuses a name that is too long, and a graph whose root is no holder.
+fn expect_parts(alloc: Global, name: &Name, holder: &Rooted) -> Result<(), SolEnd>
+    ensures short { OnOk result (length name.now < 2 ^ 16) }
+    ensures holder { OnOk result (HasHolder (content holder.now)) }
+    ensures long { IsErrOf result SolEnd.LongName ↔ (2 ^ 16 ≤ length name.now) }
+    ensures no_holder { IsErrOf result SolEnd.NotAHolder → HasHolder (content holder.now) → ⊥ }
+{
+    if name.as_bytes().len() > MAX_NAME {
+        return Err(SolEnd::LongName);
+    }
+    if !is_holder(alloc, holder)? {
+        return Err(SolEnd::NotAHolder);
+    }
+    Ok(())
 }
 
 impl Model for SharedObject {
@@ -51,12 +77,7 @@ impl SharedObject {
         ensures long { IsErrOf result SolEnd.LongName ↔ (2 ^ 16 ≤ length name) }
         ensures no_holder { IsErrOf result SolEnd.NotAHolder → HasHolder (content holder) → ⊥ }
     {
-        if name.as_bytes().len() > MAX_NAME {
-            return Err(SolEnd::LongName);
-        }
-        if !is_holder(alloc, &holder)? {
-            return Err(SolEnd::NotAHolder);
-        }
+        expect_parts(alloc, &name, &holder)?;
         Ok(SharedObject {
             name,
             version,

@@ -9,6 +9,7 @@ ghost use Rattle.amf_graph.specs.Reached.{IsReachedValue};
 ghost use Rattle.amf_graph.specs.Rooted.{content};
 ghost use Rattle.amf_iso.specs.Contents.{pairs_of, ArePairs};
 ghost use Rattle.amf0_spelling.specs.Lowered.{IsLowered};
+ghost use Rattle.amf3_spelling.specs.Tables.{no_tables};
 ghost use Rattle.amf3_write.specs.PartTables.{AreTablesOf};
 ghost use Rattle.amf0_write.specs.PartLacks0.{LacksOutside, IsLackOutside};
 ghost use Rattle.amf0_write.specs.Written0.{tables0, AreTables0};
@@ -99,8 +100,27 @@ fn append_sorted3(
 {
     let made = WriterTables::keyed(alloc, keys)?;
     let mut tables = GraphTables::of(alloc, made);
+    append_each3(alloc, graph, pairs, &mut tables, out)
+}
+
+/// Appends pairs in AMF 3: those of the graph, in the order of their names, by tables without entries.
+fn append_each3(
+    alloc: Global,
+    graph: &Rooted,
+    pairs: &[(TextId, Value)],
+    tables: &mut GraphTables,
+    out: &mut Vec<u8>,
+) -> Result<(), WriteEnd>
+    requires holder { HasHolder (content graph.now) }
+    requires content { (h : ℕ) → IsHolder (content graph.now) h → pairs_of graph.now.arena pairs.now ≡ by_name (node_at (content graph.now) h).names }
+    requires names { ArePairs graph.now.arena pairs.now }
+    requires empty { tables.old.tables ≡ no_tables }
+    requires tables { AreTablesOf graph.now.arena tables.old }
+    ensures written { OnOk result (Appends (PairsOf canonical Amf3 (content graph.now)) out.old.items out.new.items) }
+    ensures lack { (l : Lack) → IsErrOf result (WriteEnd.NoSpelling l) → IsHolderLack Amf3 (content graph.now) l.node l.kind }
+{
     for pair in pairs {
-        append_pair3(alloc, graph, *pair, &mut tables, out)?;
+        append_pair3(alloc, graph, *pair, tables, out)?;
     }
     Ok(())
 }
@@ -166,11 +186,31 @@ fn append_sorted0(
     ensures written { OnOk result (Appends (PairsOf canonical Amf0 (content low.now)) out.old.items out.new.items) }
     ensures lack { (l : Lack) → IsErrOf result (WriteEnd.NoSpelling l) → LacksOutside (content low.now) 1 l.node l.kind }
 {
-    low.is_finished();
     let mut tables = WriterTables::new(alloc)?;
+    append_each0(alloc, low, pairs, &mut tables, out)
+}
+
+/// Appends pairs in AMF 0: those of the lowered graph, in the order of their names, by tables without entries, into which the
+/// holder is entered. It stops at one that has no spelling.
+fn append_each0(
+    alloc: Global,
+    low: &Rooted,
+    pairs: &[(TextId, Value)],
+    tables: &mut WriterTables,
+    out: &mut Vec<u8>,
+) -> Result<(), WriteEnd>
+    requires holder { HasHolder (content low.now) }
+    requires low { IsLowered (content low.now) }
+    requires content { (h : ℕ) → IsHolder (content low.now) h → pairs_of low.now.arena pairs.now ≡ by_name (node_at (content low.now) h).names }
+    requires names { ArePairs low.now.arena pairs.now }
+    requires empty { tables.old ≡ no_tables }
+    ensures written { OnOk result (Appends (PairsOf canonical Amf0 (content low.now)) out.old.items out.new.items) }
+    ensures lack { (l : Lack) → IsErrOf result (WriteEnd.NoSpelling l) → LacksOutside (content low.now) 1 l.node l.kind }
+{
+    low.is_finished();
     tables.add_done(holder_of(low))?;
     for pair in pairs {
-        append_pair0(alloc, low, *pair, &mut tables, out)?;
+        append_pair0(alloc, low, *pair, tables, out)?;
     }
     Ok(())
 }

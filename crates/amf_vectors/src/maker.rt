@@ -1,6 +1,7 @@
 ghost use Rattle.std.specs.Prelude.{◌≡◌, ◌≤◌, ◌<◌, ◌+◌, ◌-◌, length, IfOk, OnOk, IsErrOf};
 ghost use Rattle.std.specs.Prelude.{true, false};
 ghost use Rattle.std.specs.List.{AllByRecursion};
+ghost use Rattle.amf_graph.specs.Building.{no_arena};
 ghost use Rattle.amf_graph.specs.Rooted.{content};
 ghost use Rattle.amf_vectors.specs.Made.{made, number};
 ghost use Rattle.amf_vectors.specs.Making.{making, reference};
@@ -29,7 +30,20 @@ pub fn make(alloc: Global, seed: u32, size: u32) -> Result<Rooted, BuildEnd>
     ensures made { IfOk result (λ graph. content graph ≡ made seed size) }
     ensures memory { IsErrOf result BuildEnd.Full → ⊥ }
 {
-    let mut builder = begin(alloc)?;
+    let mut builder = Builder::new(alloc)?;
+    build(&mut builder, seed, size)?;
+    Ok(finished(builder))
+}
+
+/// Builds the array and its objects in a new builder.
+fn build(builder: &mut Builder, seed: u32, size: u32) -> Result<(), BuildEnd>
+    requires empty { builder.old ≡ no_arena }
+    requires least { 1 ≤ size }
+    requires most { size ≤ MAX_SIZE }
+    ensures made { OnOk result (builder.new ≡ making false seed (size - 1)) }
+    ensures memory { IsErrOf result BuildEnd.Full → ⊥ }
+{
+    begin(builder)?;
     let mut number = first(seed);
     for place in 1..size {
         number = next(number);
@@ -42,21 +56,21 @@ pub fn make(alloc: Global, seed: u32, size: u32) -> Result<Rooted, BuildEnd>
         builder.put(ALL, Part::Item(Value::Node(object)))?;
     }
     builder.close_node(ALL);
-    Ok(finished(builder))
+    Ok(())
 }
 
-/// The array without its objects, with the traits and the names of all objects.
-fn begin(alloc: Global) -> Result<Builder, BuildEnd>
-    ensures begun { IfOk result (λ builder. builder ≡ making true 0 0) }
+/// Begins the array without its objects, with the traits and the names of all objects.
+fn begin(builder: &mut Builder) -> Result<(), BuildEnd>
+    requires { builder.old ≡ no_arena }
+    ensures begun { OnOk result (builder.new ≡ making true 0 0) }
     ensures memory { IsErrOf result BuildEnd.Full → ⊥ }
 {
-    let mut builder = Builder::new(alloc)?;
     let class = builder.text(b"")?;
     builder.text(b"k")?;
     builder.text(b"p")?;
     builder.traits(class, true, &[])?;
     builder.open_node(Shape::Array)?;
-    Ok(builder)
+    Ok(())
 }
 
 /// The graph of the array.

@@ -4,7 +4,7 @@ use Rattle.amf_iso.specs.Contents.{pairs_of}
 use Rattle.amf3_write.specs.PartTables.{AreTablesOf}
 use Rattle.amf_sol.specs.SharedObject.{IsHolder}
 use Rattle.amf_sol.proofs.HolderLacks3.{Written3}
-use Rattle.amf_sol.proofs.write_pairs.append_sorted3.Given as goal
+use Rattle.amf_sol.proofs.write_pairs.append_each3.Given as goal
 
 abbrev pub invariant-loop-pair : goal.invariant-loop-pair
 invariant-loop-pair l = record {

@@ -6,7 +6,7 @@ use Rattle.amf0_write.proofs.ShortNames.{pair_there}
 use Rattle.amf0_write.specs.PartLacks0.{LacksOutside}
 use Rattle.amf_sol.proofs.FileWrites.{handed_on}
 use Rattle.amf_sol.proofs.PairSteps.{reached_at, begin0, step0, lack0, end0}
-use Rattle.amf_sol.proofs.write_pairs.append_sorted0.Goals as goal
+use Rattle.amf_sol.proofs.write_pairs.append_each0.Goals as goal
 
 pub append_pair0-requires-clause-name : goal.append_pair0-requires-clause-name
 append_pair0-requires-clause-name c = let within : c.loop-pair.pair-index < length c.args.pairs.now = omega arith in (pair_there c.args.low.now.arena c.args.pairs.now c.loop-pair.pair-index _ c.requires.names within).0
@@ -26,7 +26,7 @@ append_pair0-requires-clause-tables c = let o = c.requires.holder in let w = c.l
 pub loop-pair-init : goal.loop-pair-init
 loop-pair-init c = λ h holder.
     begin0 c.args.low.now h holder c.args.pairs.now (c.requires.content h holder) c.holder_of.result.0 c.add_done.new.self c.args.out.now.items c.is_finished.ensures.finished c.is_finished.ensures.names c.holder_of.ensures.holder
-    (c.in_ok-add_done.ensures.ok ∙ ap (λ (t : Tables). add_done t c.holder_of.result.0) c.in_ok-tables.ensures)
+    (c.in_ok-add_done.ensures.ok ∙ ap (λ (t : Tables). add_done t c.holder_of.result.0) c.requires.empty)
 
 pub loop-pair-preserved : goal.loop-pair-preserved
 loop-pair-preserved c = λ h holder.
