@@ -83,5 +83,5 @@ pub record EndsBytes {I O E : Type 0} (i : SourceMembers I) (o : SinkMembers O) 
   pub back : i.tells input → GoesBack (i.left input)
   -- a refusal names the first fault: what stands before it begins a text that means something; a text that is too long is refused for that, and a label that leads nowhere where all else is right
   pub first : i.tells input → (reason : TextReason) (at : ℕ) → reason ≢ text.TooLarge → reason ≢ text.NoLabel → IsTextRefused read_number (i.left input) reason at → IsFirstFaultAt (i.left input) at
-  -- what a text means weighs at most four times its bytes: 1 for each node, each class of an object and each value, the bytes of texts, names and contents, and 1 more for each name; all graphs of a packet together
+  -- the graphs that a text means weigh together at most four times its bytes: 1 for each node, each class of an object and each value, the bytes of texts, names and contents, and 1 more for each name of a value
   pub weighs : i.tells input → (d : Document Graph) → IsTextAccepted read_number (i.left input) d → graphs_weight d ≤ 4 * length (i.left input)
