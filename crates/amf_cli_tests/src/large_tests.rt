@@ -45,13 +45,14 @@ fn very_many_nodes_within_nodes(rt: HostRuntime) {
     check_rows(&rt, rt.alloc(), &VERY_MANY);
 }
 
-/// Bytes and texts of 2^24 bytes.
+/// Bytes and texts of 2^24 bytes, and byte arrays just below and at the length from which they have a list of their own.
 static LONG: Table = Table {
-    rows: 2,
+    rows: 3,
     fields: 9,
     text: "
 canon | 0C 88 80 80 01 + 16777216*00 | 0 | 0C 88 80 80 01 + 16777216*00 | | 33554432 | 0 | |
 canon | 06 88 80 80 01 + 16777216*'a' | 0 | 06 88 80 80 01 + 16777216*'a' | | 33554432 | 0 | |
+canon | 09 05 01 + 0C BF 7F + 4095*00 + 0C C0 01 + 4096*00 | 0 | 09 05 01 + 0C BF 7F + 4095*00 + 0C C0 01 + 4096*00 | | 10000 1 | 0 | |
 ",
 };
 
