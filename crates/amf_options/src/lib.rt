@@ -3,8 +3,6 @@
 
 mod laws;
 mod options;
-#[cfg(test)]
-mod tests;
 
 pub use laws::options_have_one_value;
 pub use options::options_of;

@@ -11,6 +11,3 @@ mod work;
 
 pub use answer::ServeAnswer;
 pub use serving::serve;
-
-#[cfg(test)]
-mod tests;

@@ -1,10 +1,10 @@
 ghost use Rattle.std.specs.Prelude.{◌≡◌, length, IfOk};
 
-use crate::{ServeAnswer, serve};
 use amf_desk::Closed;
 use amf_io::{Joined, MemoryFront, MemoryHall, MemoryLink, MemorySink, MemorySource, OpenGate};
 use amf_service::Registry;
 use amf_wire::Memory;
+use amf_workers::{ServeAnswer, serve};
 use std::alloc::Global;
 use std::test::Fail;
 

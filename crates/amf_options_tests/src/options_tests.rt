@@ -1,6 +1,6 @@
 mod rows;
 
-use crate::options::options_of;
+use amf_options::options_of;
 use rows::{COUNT, ROWS};
 use std::alloc::{AllocError, Global};
 use std::process::Abort;
