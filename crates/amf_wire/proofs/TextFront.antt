@@ -149,6 +149,11 @@ pub some_front : (bytes : List ℕ) (o : Option ℕ) → IfSome o (λ n. IsFront
 some_front bytes None h = tt
 some_front bytes (Some n) h = unit_front bytes n h
 
+-- a byte below 80 is a unit
+pub byte_front : (bytes : List ℕ) → 0 < length bytes → get_or bytes 0 0 < 128 → IsFrontText bytes 1
+byte_front [] some small = absurd (omega arith)
+byte_front (b ∷ bytes) some small = unit_front (b ∷ bytes) 1 (record { some = omega arith; there = omega arith; unit = (0, _, refl, ((omega arith, omega arith), tt)) })
+
 -- bytes below 80 are units
 ascii_text : (bytes : List ℕ) → IsAscii bytes → IsText bytes
 ascii_text [] h = ([], tt, refl)

@@ -40,6 +40,9 @@ fn front_length(bytes: &[u8]) -> Option<usize>
     if bytes.len() >= WORD && bytes[..WORD].is_ascii() {
         return Some(WORD);
     }
+    if bytes[0] < 0x80 {
+        return Some(1);
+    }
     unit_length(bytes)
 }
 
