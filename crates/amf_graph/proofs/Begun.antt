@@ -66,6 +66,12 @@ leaf_within (leaf.Ints f ns) h = record { together = omega arith }
 leaf_within (leaf.Uints f ns) h = record { together = omega arith }
 leaf_within (leaf.Doubles f ns) h = record { together = omega (arith, length-map ns.items (λ (p : Pattern). p.0)) }
 
+pub bytes_in : (a : Arena) (x : List ℕ) → AllByRecursion (λ b. b < 256) x → IsNodeIn a (closed (bytes x) [] [])
+bytes_in a x r = record { head = tt; names = tt; values = tt; room = λ e. false_true _ (sym e); fits = λ e. (r, refl, refl) }
+
+pub bytes_within : (x : List ℕ) → length x ≤ 268435455 → NodeWithin (closed (bytes x) [] [])
+bytes_within x h = record { together = omega arith }
+
 pub shut_in : (a : Arena) (n : StoredNode) → IsNodeIn a n → FitsNow a n → IsNodeIn a (shut n)
 shut_in a n h f = record { head = h.head; names = h.names; values = h.values; room = λ e. false_true _ (sym e); fits = λ e. f }
 

@@ -44,6 +44,7 @@ pub mod ClassRows
 pub mod Contents
 pub mod SlotNodes
 pub mod PoolNodes
+pub mod PoolKeeps
 pub mod NodeKept
 pub mod NodeKinds
 pub mod HeldCopies

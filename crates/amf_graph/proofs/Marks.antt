@@ -1,13 +1,14 @@
 -- Marks of hashes, where a mark is added, and where one is not there.
-use Rattle.std.proofs.Common.{◌≡◌, ℕ, ◌+◌, ◌-◌, ◌<◌, List, [], ◌∷◌, ◌++◌, max, length, get_or, sym, ap, ◌∙◌, subst, inl, inr, arith, get_or-set_same, get_or-set_other}
+use Rattle.std.proofs.Common.{◌≡◌, ℕ, ◌+◌, ◌-◌, ◌<◌, ◌≤◌, ◌^◌, List, [], ◌∷◌, ◌++◌, max, length, get_or, replicate, sym, ap, ◌∙◌, subst, inl, inr, arith, get_or-set_same, get_or-set_other}
 use Rattle.std.proofs.lemmas.Bool.{cases_eq}
-use Rattle.std.proofs.lemmas.List.{length-set, get_or_append_left, get_or_push, length_push, map_push}
+use Rattle.std.proofs.lemmas.List.{length-set, get_or_append_left, get_or_push, length_push, length-map, length-replicate, get_or-replicate, map_push}
 use Rattle.std.proofs.lemmas.Nat.{and_le_r, or_comm}
 use Rattle.std.proofs.lemmas.Nat.Bits.{bit_at_or, same_from_bits}
 use Rattle.std.specs.Int.{bit_at}
 use Rattle.std.specs.Int.Bits.{bit_and, bit_or, or_self}
-use Rattle.amf_graph.specs.Chains.{LeadsTo, hash_at, hash_mark, marks_at, with_mark, hashes_of, nexts_of, IsMarked, AreMarked, AreChains, AreFound}
+use Rattle.amf_graph.specs.Chains.{LeadsTo, hash_at, bucket_at, hash_mark, marks_at, with_mark, hashes_of, nexts_of, IsMarked, AreMarked, AreLinked, AreChains, AreFound}
 use Rattle.amf_graph.specs.declared.chains.Link.{Link}
+use Rattle.amf_graph.proofs.Links.{count_of}
 
 or_assoc : (a b c : ℕ) → bit_or (bit_or a b) c ≡ bit_or a (bit_or b c)
 or_assoc a b c = same_from_bits (bit_or (bit_or a b) c) (bit_or a (bit_or b c)) (λ i.
@@ -101,4 +102,29 @@ found_pop links left buckets marks less l is size chains old = record {
   chains = chains;
   marked = marked_front (hashes_of left) marks l.hash (subst (λ w. AreMarked w marks) (ap hashes_of is ∙ map_push (λ l. l.hash) left l) old.marked);
   count = old.count ∙ sym size;
+}
+
+-- all numbers are linked and marked anew
+pub found_anew : (links more : List Link) (buckets marks new_buckets new_marks : List ℕ) (n : ℕ) → hashes_of more ≡ hashes_of links → length new_buckets ≡ n → length new_marks ≡ n → length links ≤ n → AreLinked (n - 1) (length links) (hashes_of links) (nexts_of more) new_buckets → AreMarked (hashes_of more) new_marks → AreFound links buckets marks → AreFound more new_buckets new_marks
+found_anew links more buckets marks new_buckets new_marks n same size as_many room linked marked old = record {
+  chains = record {
+    few = subst (λ w. length w < 2 ^ 32) (sym same) old.chains.few;
+    room = omega (arith, ap length same, count_of links);
+    links = length-map more (λ l. l.next) ∙ sym (count_of more);
+    linked =
+        subst (λ m. AreLinked (m - 1) (length (hashes_of more)) (hashes_of more) (nexts_of more) new_buckets) (sym size)
+        (subst (λ w. AreLinked (n - 1) (length w) w (nexts_of more) new_buckets) (sym same)
+        (subst (λ k. AreLinked (n - 1) k (hashes_of links) (nexts_of more) new_buckets) (sym (count_of links)) linked));
+  };
+  marked = marked;
+  count = as_many ∙ sym size;
+}
+
+-- in buckets that are empty no number is linked
+pub none_linked : (mask n : ℕ) (hashes next buckets : List ℕ) → buckets ≡ replicate n 0 → AreLinked mask 0 hashes next buckets
+none_linked mask n hashes next buckets empty = record {
+  heads = λ b l.
+      subst (LeadsTo (bucket_at mask hashes) 0 b) (sym (ap (λ w. get_or w b 0) empty ∙ get_or-replicate n b 0 0 (omega (arith, ap length empty, length-replicate {A = ℕ} n 0))))
+      (record { within = omega arith; has = λ k. absurd (omega arith); passed = λ i k m. absurd (omega arith) });
+  nexts = λ i l. absurd (omega arith);
 }

@@ -1,16 +1,18 @@
 ghost use Rattle.std.specs.Prelude.{◌≡◌, ◌<◌, ◌≤◌, ◌↔◌, ◌⊎◌, [], ◌∷◌, length, get_or, true, false, IfOk, IfErr, OnOk, OnErr, IsErrOf};
 ghost use Rattle.std.specs.List.{AllByRecursion};
 ghost use Rattle.amf_wire.specs.Text.{IsText};
-ghost use Rattle.amf_graph.specs.Arena.{IsBuilt, IsFinished, IsTraitsIn, HeadNames, Names, text_at, no_traits};
+ghost use Rattle.amf_graph.specs.Arena.{IsBuilt, IsFinished, IsTraitsIn, HeadNames, Names, text_at, no_traits, bytes as byte_array};
 ghost use Rattle.amf_graph.specs.Bounds.{IsWithinBounds, items_of};
 ghost use Rattle.amf_graph.specs.Building.{no_arena, kept_text, kept_traits, kept_node, stored_traits, stored_at, leaf_head, shape_head, begun, closed, changed, more_part, shut, PartNames, HasRoom, FitsNow, size_of, IsFirstOpen, kind_of};
 ghost use Rattle.amf_graph.specs.declared.part.Part.TheVariants.{Item};
-ghost use Rattle.amf_graph.specs.Grafting.{Grafted, IsTooMuch};
+ghost use Rattle.amf_graph.specs.Copying.{cut_of, AreCounts, IsBehind};
+ghost use Rattle.amf_graph.specs.Grafting.{IsCut, Grafted, IsTooMuch};
 ghost use Rattle.amf_graph.specs.Views.{ShowsTraits};
 
 use crate::body::Body;
 use crate::copying::Copying;
 use crate::limits::{MAX_COUNT, MAX_SEALED, MAX_TRAITS};
+use crate::ranges::bytes_fit;
 use crate::store::Store;
 use crate::text_ranks::TextRanks;
 use crate::{
@@ -150,6 +152,25 @@ impl Builder {
         Ok(NodeId(place as u32))
     }
 
+    /// Keeps a byte array of these bytes (AMF 3, 3.14). It is complete. Where it is short, it takes no list of its own.
+    ///
+    /// `Full` comes exactly where there are [`MAX_COUNT`] nodes already or it has more bytes than that, and `Memory` where there
+    /// is no room. After an end the builder is as before.
+    pub fn bytes(&mut self, array: &[u8]) -> Result<NodeId, BuildEnd>
+        ensures id { IfOk result (λ n. n.0 ≡ length self.old.nodes) }
+        ensures ok { OnOk result (self.new ≡ kept_node self.old (closed (byte_array array.now) [] [])) }
+        ensures err { OnErr result (self.new ≡ self.old) }
+        ensures full { IsErrOf result BuildEnd.Full ↔ ((MAX_COUNT ≤ length self.old.nodes) ⊎ (MAX_COUNT < length array.now)) }
+    {
+        let place = self.store.node_count();
+        if place >= MAX_COUNT as usize || array.len() > MAX_COUNT as usize {
+            return Err(BuildEnd::Full);
+        }
+        bytes_fit(array);
+        self.store.keep_node(Body::Bytes(array))?;
+        Ok(NodeId(place as u32))
+    }
+
     /// Keeps a node that is open: it has no parts yet (AMF 3, 3.9 to 3.16).
     ///
     /// `Full` comes exactly where there are [`MAX_COUNT`] nodes already, and `Memory` where there is no room. After an end
@@ -248,14 +269,34 @@ impl Builder {
         ensures full { IsErrOf result BuildEnd.Full → IsTooMuch graph.now.arena values.now self.old }
         ensures room { OnOk result (IsTooMuch graph.now.arena values.now self.old → ⊥) }
     {
-        graph.is_finished();
         let copying = Copying::of(self.alloc, graph, values, &self.store)?;
+        self.put_copies(&copying, graph, values)
+    }
+
+    /// Grafts the values, by what is to be copied for them.
+    fn put_copies(
+        &mut self,
+        copying: &Copying,
+        graph: &Rooted,
+        values: &[Value],
+    ) -> Result<Vec<Value>, BuildEnd>
+        requires values { AllByRecursion (Names graph.now.arena) values.now }
+        requires exact { IsCut graph.now.arena values.now (cut_of copying.now) }
+        requires counts { AreCounts copying.now graph.now.arena }
+        requires behind { IsBehind copying.now self.old }
+        ensures ok { IfOk result (λ copies. Grafted graph.now.arena values.now self.old self.new copies.items) }
+        ensures count { IfOk result (λ copies. length copies.items ≡ length values.now) }
+        ensures names { IfOk result (λ copies. AllByRecursion (Names self.new) copies.items) }
+        ensures err { OnErr result (self.new ≡ self.old) }
+        ensures full { IsErrOf result BuildEnd.Full → IsTooMuch graph.now.arena values.now self.old }
+        ensures room { OnOk result (IsTooMuch graph.now.arena values.now self.old → ⊥) }
+    {
+        graph.is_finished();
         if copying.is_too_much() {
             return Err(BuildEnd::Full);
         }
         let copies = copying.values(self.alloc, values)?;
-        let more = copying.copies(self.alloc, graph)?;
-        self.store.append(self.alloc, &more)?;
+        copying.append_to(self.alloc, graph, &mut self.store)?;
         Ok(copies)
     }
 

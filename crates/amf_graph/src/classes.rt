@@ -16,11 +16,21 @@ use std::alloc::Global;
 use std::marker::Model;
 
 /// Traits: for each its class and whether its objects may have further members, and where its sealed names end.
-#[derive(Drop)]
 pub(crate) struct Classes {
     heads: Vec<(TextId, bool)>,
     ends: Vec<u32>,
     sealed: Vec<TextId>,
+}
+
+impl Drop for Classes {
+    /// Lets its parts go. Written out, it is proved once; what is derived is proved at each place where one is let go.
+    fn drop(self) {
+        let Classes {
+            heads: _,
+            ends: _,
+            sealed: _,
+        } = self;
+    }
 }
 
 impl Model for Classes {

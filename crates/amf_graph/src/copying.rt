@@ -1,13 +1,13 @@
 //! Copies of texts, traits and nodes, under the numbers of the copies.
 
-ghost use Rattle.std.specs.Prelude.{◌≡◌, ◌<◌, ◌↔◌, [], ◌∷◌, ◌++◌, length, get_or, IsTrue, IfOk, OnOk};
+ghost use Rattle.std.specs.Prelude.{◌≡◌, ◌<◌, ◌↔◌, [], ◌∷◌, ◌++◌, length, get_or, IsTrue, IfOk, OnOk, OnErr};
 ghost use Rattle.std.specs.List.{AllByRecursion};
 ghost use Rattle.amf_graph.specs.Arena.{Names, no_traits};
 ghost use Rattle.amf_graph.specs.Bodies.{body_head, body_names, body_values};
 ghost use Rattle.amf_graph.specs.Bounds.{IsWithinBounds};
 ghost use Rattle.amf_graph.specs.Building.{leaf_head};
 ghost use Rattle.amf_graph.specs.Held.{form_head, held_head, held_names, held_values};
-ghost use Rattle.amf_graph.specs.Copying.{IsTooMuch, cut_of, renaming_of, copies_of, ValueCounted, PairCounted, HeadCounted, TraitsCounted, AreCounts, IsBehind};
+ghost use Rattle.amf_graph.specs.Copying.{IsTooMuch, cut_of, renaming_of, copies_of, joined, ValueCounted, PairCounted, HeadCounted, TraitsCounted, AreCounts, IsBehind};
 ghost use Rattle.amf_graph.specs.Grafting.{IsCut, renamed_value, renamed_values, renamed_names, renamed_head, renamed_traits, copied_texts, copied_traits, copied_nodes};
 ghost use Rattle.amf_graph.specs.Views.{named, flat};
 
@@ -27,7 +27,6 @@ use std::alloc::Global;
 use std::marker::Model;
 
 /// What is copied, and the numbers of the first copies.
-#[derive(Drop)]
 pub(crate) struct Copying {
     texts: NumberSet,
     traits: NumberSet,
@@ -35,6 +34,20 @@ pub(crate) struct Copying {
     first_text: u32,
     first_traits: u32,
     first_node: u32,
+}
+
+impl Drop for Copying {
+    /// Lets its parts go. Written out, it is proved once; what is derived is proved at each place where one is let go.
+    fn drop(self) {
+        let Copying {
+            texts: _,
+            traits: _,
+            nodes: _,
+            first_text: _,
+            first_traits: _,
+            first_node: _,
+        } = self;
+    }
 }
 
 impl Model for Copying {
@@ -266,14 +279,29 @@ impl Copying {
     }
 
     /// The copies. It gives up where there is no memory.
-    pub(crate) fn copies(&self, alloc: Global, graph: &Rooted) -> Result<Store, Memory>
+    fn copies(&self, alloc: Global, graph: &Rooted) -> Result<Store, Memory>
         requires { AreCounts self.now graph.now.arena }
         ensures { IfOk result (λ store. store ≡ copies_of graph.now.arena self.now) }
     {
-        Ok(Store::of(
-            self.text_copies(alloc, graph)?,
-            self.traits_copies(alloc, graph)?,
-            self.node_copies(alloc, graph)?,
-        ))
+        let traits = self.traits_copies(alloc, graph)?;
+        let texts = self.text_copies(alloc, graph)?;
+        let nodes = self.node_copies(alloc, graph)?;
+        Ok(Store::of(texts, traits, nodes))
+    }
+
+    /// Puts the copies behind what a store has. After an end nothing has changed.
+    pub(crate) fn append_to(
+        &self,
+        alloc: Global,
+        graph: &Rooted,
+        store: &mut Store,
+    ) -> Result<(), Memory>
+        requires { AreCounts self.now graph.now.arena }
+        ensures ok { OnOk result (store.new ≡ joined store.old (copies_of graph.now.arena self.now)) }
+        ensures err { OnErr result (store.new ≡ store.old) }
+    {
+        graph.is_finished();
+        let more = self.copies(alloc, graph)?;
+        store.append(alloc, &more)
     }
 }

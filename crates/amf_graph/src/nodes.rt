@@ -29,7 +29,6 @@ const MANY: usize = 4096;
 const MANY_SLOTS: usize = 4096;
 
 /// Nodes, most of them open in a slot and then closed in the pools.
-#[derive(Drop)]
 pub(crate) struct Nodes {
     rows: Vec<Row>,
     /// The kind of each node. A reference asks for that alone, of any node: so it stands where many are close together.
@@ -38,6 +37,19 @@ pub(crate) struct Nodes {
     slots: Vec<Slot>,
     /// How many of the slots are used.
     used: usize,
+}
+
+impl Drop for Nodes {
+    /// Lets its parts go. Written out, it is proved once; what is derived is proved at each place where one is let go.
+    fn drop(self) {
+        let Nodes {
+            rows: _,
+            kinds: _,
+            pools: _,
+            slots: _,
+            used: _,
+        } = self;
+    }
 }
 
 impl Model for Nodes {

@@ -10,11 +10,20 @@ use std::alloc::Global;
 use std::marker::Model;
 
 /// Numbers below a count, each once, in the order in which they came.
-#[derive(Drop)]
 pub(crate) struct NumberSet {
     items: Vec<u32>,
     /// The place of each number that came.
     places: Vec<Option<u32>>,
+}
+
+impl Drop for NumberSet {
+    /// Lets its parts go. Written out, it is proved once; what is derived is proved at each place where one is let go.
+    fn drop(self) {
+        let NumberSet {
+            items: _,
+            places: _,
+        } = self;
+    }
 }
 
 impl Model for NumberSet {
@@ -38,6 +47,17 @@ impl NumberSet {
             items: Vec::new(alloc),
             places: vec![in alloc; None; count as usize]?,
         })
+    }
+
+    /// The numbers of a list, all below a count. It gives up where there is no memory.
+    pub(crate) fn of(alloc: Global, count: u32, items: &[u32]) -> Result<NumberSet, Memory>
+        requires few { count < count_end }
+        requires below { AllByRecursion (λ i. i < count) items.now }
+        ensures { IfOk result (λ p. p ≡ placed count (with_all items.now [])) }
+    {
+        let mut numbers = NumberSet::new(alloc, count)?;
+        numbers.add_all(items)?;
+        Ok(numbers)
     }
 
     /// Adds a number, unless it is there. After an end nothing has changed.

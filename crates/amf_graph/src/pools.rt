@@ -213,7 +213,6 @@ impl Pools {
     }
 
     /// Does what `keep_parts` does, where there are pairs.
-    #[tactic(auto, using(crate::proofs::PoolNodes::both_last))]
     fn keep_named(
         &mut self,
         form: Form,

@@ -46,16 +46,15 @@ fn push_entries(entries: &[(Value, Value)], values: &mut Vec<Value>) -> Result<(
     Ok(())
 }
 
-/// What a node holds: its values, and behind them those of its pairs. It gives up where there is no memory.
-fn values_held(alloc: Global, node: NodeId, graph: &Rooted) -> Result<Vec<Value>, Memory>
+/// Appends what a node holds: its values, and behind them those of its pairs.
+fn push_held(graph: &Rooted, node: NodeId, values: &mut Vec<Value>) -> Result<(), Memory>
     requires { node.0 < length graph.now.arena.nodes }
-    ensures { IfOk result (λ values. values.items ≡ held (stored_at graph.now.arena node.0)) }
+    ensures { OnOk result (values.new.items ≡ values.old.items ++ held (stored_at graph.now.arena node.0)) }
 {
-    let mut values = Vec::new(alloc);
     match graph.node(node) {
         NodeView::Array { items, names } => {
             values.extend_from_slice(items)?;
-            push_seconds(names, &mut values)?;
+            push_seconds(names, values)?;
         }
         NodeView::Object {
             sealed,
@@ -63,14 +62,31 @@ fn values_held(alloc: Global, node: NodeId, graph: &Rooted) -> Result<Vec<Value>
             ..
         } => {
             values.extend_from_slice(sealed)?;
-            push_seconds(members, &mut values)?;
+            push_seconds(members, values)?;
         }
         NodeView::Wrapper { value, .. } => values.push(value)?,
         NodeView::Values { items, .. } => values.extend_from_slice(items)?,
-        NodeView::Dictionary { entries, .. } => push_entries(entries, &mut values)?,
+        NodeView::Dictionary { entries, .. } => push_entries(entries, values)?,
         _ => {}
     }
-    Ok(values)
+    Ok(())
+}
+
+/// Adds the nodes that a node holds.
+fn add_held(
+    alloc: Global,
+    graph: &Rooted,
+    node: NodeId,
+    nodes: &mut NumberSet,
+) -> Result<(), Memory>
+    requires there { node.0 < length graph.now.arena.nodes }
+    requires count { nodes.old.count ≡ length graph.now.arena.nodes }
+    ensures { OnOk result (nodes.new ≡ placed nodes.old.count (with_nodes (held (stored_at graph.now.arena node.0)) nodes.old.items)) }
+{
+    graph.is_finished();
+    let mut held = Vec::new(alloc);
+    push_held(graph, node, &mut held)?;
+    add_nodes(&held, nodes)
 }
 
 /// The nodes to which the values lead, each once. It gives up where there is no memory.
@@ -85,8 +101,7 @@ pub(crate) fn reached(alloc: Global, graph: &Rooted, values: &[Value]) -> Result
     add_nodes(values, &mut nodes)?;
     let mut next = 0;
     while next < nodes.len() {
-        let held = values_held(alloc, NodeId(nodes.at(next)), graph)?;
-        add_nodes(&held, &mut nodes)?;
+        add_held(alloc, graph, NodeId(nodes.at(next)), &mut nodes)?;
         next += 1;
     }
     Ok(nodes)

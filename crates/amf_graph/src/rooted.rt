@@ -25,12 +25,22 @@ use std::cmp::Ordering;
 use std::marker::Model;
 
 /// A graph with its root. Every node of it is complete.
-#[derive(Drop)]
 pub struct Rooted {
     store: Store,
     root: Value,
     /// Those of its long names.
     ranks: TextRanks,
+}
+
+impl Drop for Rooted {
+    /// Lets its parts go. Written out, it is proved once; what is derived is proved at each place where one is let go.
+    fn drop(self) {
+        let Rooted {
+            store: _,
+            root: _,
+            ranks: _,
+        } = self;
+    }
 }
 
 impl Model for Rooted {
@@ -79,7 +89,12 @@ impl Rooted {
         ensures arena { result.arena ≡ self.arena }
         ensures root { result.root ≡ root }
     {
-        Rooted::new(self.store, root, self.ranks)
+        let Rooted {
+            store,
+            root: _,
+            ranks,
+        } = self;
+        Rooted::new(store, root, ranks)
     }
 
     /// How many nodes it has, also such that the root does not reach.
@@ -192,10 +207,10 @@ impl Rooted {
         requires { IsSelfContained self.now (numbers_of order.now) }
         ensures { IfOk result (λ graph. graph ≡ renumbered (numbers_of order.now) self.now) }
     {
+        let ranks = self.ranks.copy(alloc)?;
         let numbers = places_by_node(alloc, order, self.store.node_count())?;
         let store = self.store.renumbered(alloc, order, &numbers)?;
         let root = renumbered(self.root, &numbers);
-        let ranks = self.ranks.copy(alloc)?;
         Ok(Rooted::new(store, root, ranks))
     }
 
@@ -208,8 +223,8 @@ impl Rooted {
         requires names { AllByRecursion (Names self.now.arena) stand_ins.now }
         ensures { IfOk result (λ graph. GraphStandsFor stand_ins.now self.now graph) }
     {
-        let store = self.store.standing_in(alloc, stand_ins)?;
         let ranks = self.ranks.copy(alloc)?;
+        let store = self.store.standing_in(alloc, stand_ins)?;
         Ok(Rooted::new(store, stand_in(self.root, stand_ins), ranks))
     }
 }

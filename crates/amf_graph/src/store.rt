@@ -364,10 +364,13 @@ impl Store {
         ensures traits { IfOk result (λ store. store.traits ≡ map opened_traits self.now.traits) }
         ensures nodes { IfOk result (λ store. AllZip (NodeStandsFor self.now.traits stand_ins.now) self.now.nodes store.nodes) }
     {
+        let traits = self.traits.opened(alloc)?;
+        let texts = self.texts.copy(alloc)?;
+        let nodes = stand_in_nodes(alloc, &self.nodes, &self.traits, stand_ins)?;
         Ok(Store {
-            texts: self.texts.copy(alloc)?,
-            traits: self.traits.opened(alloc)?,
-            nodes: stand_in_nodes(alloc, &self.nodes, &self.traits, stand_ins)?,
+            texts,
+            traits,
+            nodes,
         })
     }
 }

@@ -4,7 +4,7 @@ ghost use Rattle.std.specs.Prelude.{◌≡◌, ◌<◌, ◌++◌, [], false, len
 ghost use Rattle.std.specs.List.{AllByRecursion};
 ghost use Rattle.amf_graph.specs.Arena.{Names, no_traits};
 ghost use Rattle.amf_graph.specs.Building.{stored_at, leaf_head};
-ghost use Rattle.amf_graph.specs.Gather.{placed, texts_used, with_all, text_in, texts_in, pair_texts, head_texts, node_texts, traits_texts, head_traits, traits_of_nodes};
+ghost use Rattle.amf_graph.specs.Gather.{placed, texts_used, with_all, text_in, texts_in, pair_texts, head_texts, node_texts, traits_texts, head_traits, texts_of_nodes, texts_of_traits, traits_of_nodes};
 ghost use Rattle.amf_graph.specs.Held.{form_head, held_head, held_node};
 ghost use Rattle.amf_graph.specs.Views.{named, flat};
 
@@ -94,19 +94,50 @@ fn push_node_texts(held: Held<'_>, texts: &mut Vec<u32>) -> Result<(), Memory>
     Ok(())
 }
 
-/// The texts of a class: its name, and those of its sealed members.
-fn traits_texts(alloc: Global, graph: &Rooted, traits: TraitsId) -> Result<Vec<u32>, Memory>
+/// Appends the texts that the nodes use themselves.
+fn push_texts_of_nodes(
+    graph: &Rooted,
+    nodes: &NumberSet,
+    texts: &mut Vec<u32>,
+) -> Result<(), Memory>
+    requires { nodes.now.count ≡ length graph.now.arena.nodes }
+    ensures texts { OnOk result (texts.new.items ≡ texts.old.items ++ texts_of_nodes graph.now.arena nodes.now.items) }
+    ensures below { AllByRecursion (λ i. i < nodes.now.count) nodes.now.items }
+{
+    for place in 0..nodes.len() {
+        push_node_texts(graph.held(NodeId(nodes.at(place))), texts)?;
+    }
+    Ok(())
+}
+
+/// Appends the texts of a class: its name, and those of its sealed members.
+fn push_traits_texts(graph: &Rooted, traits: TraitsId, texts: &mut Vec<u32>) -> Result<(), Memory>
     requires { traits.0 < length graph.now.arena.traits }
-    ensures { IfOk result (λ texts. texts.items ≡ traits_texts (get_or graph.now.arena.traits traits.0 no_traits)) }
+    ensures { OnOk result (texts.new.items ≡ texts.old.items ++ traits_texts (get_or graph.now.arena.traits traits.0 no_traits)) }
 {
     let class = graph.traits(traits);
     let sealed = class.sealed;
-    let mut texts = Vec::new(alloc);
     texts.push(class.class.0)?;
     for name in sealed {
         texts.push(name.0)?;
     }
-    Ok(texts)
+    Ok(())
+}
+
+/// Appends the texts of the classes.
+fn push_texts_of_traits(
+    graph: &Rooted,
+    traits: &NumberSet,
+    texts: &mut Vec<u32>,
+) -> Result<(), Memory>
+    requires { traits.now.count ≡ length graph.now.arena.traits }
+    ensures texts { OnOk result (texts.new.items ≡ texts.old.items ++ texts_of_traits graph.now.arena traits.now.items) }
+    ensures below { AllByRecursion (λ i. i < traits.now.count) traits.now.items }
+{
+    for place in 0..traits.len() {
+        push_traits_texts(graph, TraitsId(traits.at(place)), texts)?;
+    }
+    Ok(())
 }
 
 /// Appends the traits of an object.
@@ -133,9 +164,7 @@ pub(crate) fn used_traits(
     for place in 0..nodes.len() {
         push_traits(graph.held(NodeId(nodes.at(place))), &mut used)?;
     }
-    let mut traits = NumberSet::new(alloc, graph.traits_count())?;
-    traits.add_all(&used)?;
-    Ok(traits)
+    NumberSet::of(alloc, graph.traits_count(), &used)
 }
 
 /// The texts that the values, the nodes and the traits use. It gives up where there is no memory.
@@ -154,14 +183,7 @@ pub(crate) fn used_texts(
     graph.is_finished();
     let mut used = Vec::new(alloc);
     push_texts(values, &mut used)?;
-    for place in 0..nodes.len() {
-        push_node_texts(graph.held(NodeId(nodes.at(place))), &mut used)?;
-    }
-    for class in 0..traits.len() {
-        let more = traits_texts(alloc, graph, TraitsId(traits.at(class)))?;
-        used.extend_from_slice(&more)?;
-    }
-    let mut texts = NumberSet::new(alloc, graph.text_count())?;
-    texts.add_all(&used)?;
-    Ok(texts)
+    push_texts_of_nodes(graph, nodes, &mut used)?;
+    push_texts_of_traits(graph, traits, &mut used)?;
+    NumberSet::of(alloc, graph.text_count(), &used)
 }

@@ -296,6 +296,42 @@ fn builds_an_object(rt: HostRuntime) {
     has_traits(&rt, &graph);
 }
 
+/// Short byte arrays.
+static BYTE_ARRAYS: [&[u8]; 2] = [b"", &[1, 2, 0xff]];
+
+/// A byte array alone.
+fn a_byte_array(rt: &impl Abort, alloc: Global, bytes: &[u8]) -> Rooted {
+    let mut builder = Builder::new(alloc).expect(rt, "a builder");
+    let array = builder.bytes(bytes).expect(rt, "a byte array");
+    finished(rt, builder, Value::Node(array))
+}
+
+fn has_bytes(rt: &impl Abort, graph: &Rooted, bytes: &[u8]) {
+    match shown(graph) {
+        Some(NodeView::Bytes(found)) => holds(rt, found == bytes, "the bytes"),
+        _ => panic!(rt; "no byte array"),
+    }
+}
+
+fn keeps_bytes(rt: &impl Abort, alloc: Global, bytes: &[u8]) {
+    let graph = a_byte_array(rt, alloc, bytes);
+    has_bytes(rt, &graph, bytes);
+}
+
+#[test]
+fn builds_byte_arrays(rt: HostRuntime) {
+    for bytes in BYTE_ARRAYS.iter() {
+        keeps_bytes(&rt, rt.alloc(), bytes);
+    }
+}
+
+/// A byte array that has a list of its own.
+#[test]
+fn builds_a_long_byte_array(rt: HostRuntime) {
+    let bytes = vec![in rt.alloc(); 7; 4096].expect(&rt, "4,096 bytes");
+    keeps_bytes(&rt, rt.alloc(), &bytes);
+}
+
 /// A builder with a date and two open arrays.
 fn two_open_arrays(rt: &impl Abort, alloc: Global) -> Builder {
     let mut builder = Builder::new(alloc).expect(rt, "a builder");

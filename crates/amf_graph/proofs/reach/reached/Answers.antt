@@ -1,10 +1,9 @@
 -- What the loop gathers is what is reached.
-use Rattle.std.proofs.Common.{◌≡◌, ◌+◌, ◌<◌, ◌≤◌, [], length, slice_get, Some, sym, ap, ◌∙◌, subst, arith}
+use Rattle.std.proofs.Common.{◌≡◌, ◌+◌, ◌≤◌, [], length, slice_get, Some, sym, ap, ◌∙◌, subst, arith}
 use Rattle.std.proofs.lemmas.Option.{slice_get_within}
 use Rattle.amf_graph.specs.Building.{stored_at}
-use Rattle.amf_graph.proofs.Built.{stands}
-use Rattle.amf_graph.specs.Gather.{Placed, placed, with_nodes, held, NodesBelow}
-use Rattle.amf_graph.proofs.Gathering.{Gathered, gathered_first, gathered_next, gathered_all, below_held, nodes_keep}
+use Rattle.amf_graph.specs.Gather.{Placed, placed, with_nodes, held}
+use Rattle.amf_graph.proofs.Gathering.{Gathered, gathered_first, gathered_next, gathered_all, nodes_keep}
 use Rattle.amf_graph.proofs.reach.reached.Goals as goal
 
 pub loop-next-init : goal.loop-next-init
@@ -19,19 +18,10 @@ loop-next-init c =
       gathered = subst (λ (p : Placed). Gathered a c.args.values.now p.items 0) (sym whole) (gathered_first a c.args.values.now);
     }
 
-pub add_nodes-requires-in-loop-next : goal.add_nodes-requires-in-loop-next
-add_nodes-requires-in-loop-next c =
-    let a = c.args.graph.now.arena in
-    let there : c.at.result < length a.nodes = omega (arith, c.at.ensures.below, c.loop-next.invariant.count) in
-    subst (λ n. NodesBelow n c.deref.result.now) (sym c.loop-next.invariant.count)
-    (subst (λ vs. NodesBelow (length a.nodes) vs) (sym (c.deref.ensures.value ∙ c.in_ok-held.ensures)) (below_held a (stored_at a c.at.result) (stands a c.at.result c.is_finished.ensures.finished.built there)))
-
 pub loop-next-preserved : goal.loop-next-preserved
 loop-next-preserved c =
     let a = c.args.graph.now.arena in
-    let held_there = c.deref.ensures.value ∙ c.in_ok-held.ensures in
-    let step : c.add_nodes-in-loop-next.new.nodes ≡ placed c.loop-next.nodes.count (with_nodes c.deref.result.now c.loop-next.nodes.items) = c.in_ok-add_nodes-2.ensures in
-    let whole : c.add_nodes-in-loop-next.new.nodes ≡ placed c.loop-next.nodes.count (with_nodes (held (stored_at a c.at.result)) c.loop-next.nodes.items) = step ∙ ap (λ vs. placed c.loop-next.nodes.count (with_nodes vs c.loop-next.nodes.items)) held_there in
+    let whole : c.add_held.new.nodes ≡ placed c.loop-next.nodes.count (with_nodes (held (stored_at a c.at.result)) c.loop-next.nodes.items) = c.in_ok-add_held.ensures in
     let kept : slice_get (with_nodes (held (stored_at a c.at.result)) c.loop-next.nodes.items) c.loop-next.next ≡ Some c.at.result = nodes_keep (held (stored_at a c.at.result)) c.loop-next.nodes.items c.loop-next.next c.at.result c.at.ensures.here in
     let long = slice_get_within (with_nodes (held (stored_at a c.at.result)) c.loop-next.nodes.items) c.loop-next.next c.at.result kept in
     record {
