@@ -18,7 +18,7 @@ use Rattle.amf_graph.specs.declared.kind.NodeKind.TheVariants as kind
 use Rattle.amf3_spelling.specs.declared.marker.Marker.{Marker}
 use Rattle.amf3_spelling.specs.declared.marker.Marker.TheVariants as marker
 use Rattle.amf3_spelling.specs.Markers3.{node_marker, marker_byte, marker_at}
-use Rattle.amf3_layout_laws.specs.Layout3State.{State3, with_text, with_contents, with_node, changed}
+use Rattle.amf3_layout_laws.specs.Layout3State.{State3, with_contents, with_node, changed}
 use Rattle.amf3_layout_laws.specs.Layout3Words.{chunk, TextRead, known_text, new_text, text_behind, text_layout, class_layout, more_text, texts_layout, Outline, known_traits, plain_traits, external_traits, inline_traits, external_layout, traits_layout}
 use Rattle.amf3_layout_laws.specs.Layout3.{flag_layout, four_layout, eight_layout, many, whole_node, opening, ValueRead, read, items, entries, items_of, is_empty, pairs, pairs_if, parts, inline_node, known_node, node_layout, behind_marker, value_layout}
 use Rattle.amf3_layout_laws.proofs.Layout3Fills.{Filled, text_filled, raw_filled, number_filled, class_filled, able_field, able_chunk}
@@ -137,16 +137,16 @@ able_items_of b v N i id k s = able_cond N b (entries v id k s) (items v id k s)
 abbrev on : Reader → ℕ → ℕ → TextRead → ValueRead → Layout State3
 on v f id x y = pairs v f id (changed (more_name x.id y.value) id y.state)
 
-abbrev behind_name : Reader → ℕ → ℕ → TextRead → Layout State3
-behind_name v f id x = cond (is_empty x.bytes) (give x.state) (bind (v x.state) (on v f id x))
+abbrev behind_name : Reader → ℕ → ℕ → State3 → TextRead → Layout State3
+behind_name v f id s x = cond (is_empty x.bytes) (give s) (bind (v x.state) (on v f id x))
 
 able_pairs : (v : Reader) (N : ℕ) → Inner v N → (f id : ℕ) (s : State3) → f ≤ N → AbleWithin f (pairs v f id s)
 able_pairs v N i zero id s few = able_none (pairs v 0 id s)
 able_pairs v N i (suc f) id s few =
-    able_bind_less f (text_layout s) (behind_name v f id) (able_text (suc f) s) (λ x e. absurd cc)
-    (λ x. able_cond f (is_empty x.bytes) (give x.state) (bind (v x.state) (on v f id x)) (λ _. able_give f x.state)
+    able_bind_less f (text_layout s) (behind_name v f id s) (able_text (suc f) s) (λ x e. absurd cc)
+    (λ x. able_cond f (is_empty x.bytes) (give s) (bind (v x.state) (on v f id x)) (λ _. able_give f s)
     (λ _. able_bind f (v x.state) (on v f id x) (able_less N f (v x.state) (omega arith) (i x.state)) (λ y. able_pairs v N i f id (changed (more_name x.id y.value) id y.state) (omega arith))))
-    (record { more = field (text_header_kind (length s.words.texts)) (1 ∷ []) ∷ []; bytes = (omega arith, tt); value = with_text s []; runs = (record { is_kind = refl; is_whole = refl; clean = refl }, refl) })
+    (record { more = field (text_header_kind (length s.words.texts)) (1 ∷ []) ∷ []; bytes = (omega arith, tt); value = s; runs = (record { is_kind = refl; is_whole = refl; clean = refl }, refl) })
 
 able_pairs_if : (b : Bool) (v : Reader) (N : ℕ) → Inner v N → (id : ℕ) (s : State3) → AbleWithin N (pairs_if b v N id s)
 able_pairs_if b v N i id s = able_cond N b (pairs v N id s) (give s) (λ _. able_pairs v N i N id s (omega arith)) (λ _. able_give N s)

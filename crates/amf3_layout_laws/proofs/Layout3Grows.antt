@@ -44,8 +44,8 @@ pairs_grow : (t u : Reader) (f h id : ℕ) (s : State3) → f ≤ h → Grow t u
 pairs_grow t u zero h id s le g = tt
 pairs_grow t u (suc f) zero id s le g = absurd (omega arith)
 pairs_grow t u (suc f) (suc h) id s le g =
-    extends_bind (text_layout s) (text_layout s) (λ x. cond (is_empty x.bytes) (give x.state) (bind (t x.state) (on t f id x))) (λ x. cond (is_empty x.bytes) (give x.state) (bind (u x.state) (on u h id x))) (extends_same (text_layout s))
-    (λ x. extends_cond (is_empty x.bytes) (give x.state) (bind (t x.state) (on t f id x)) (give x.state) (bind (u x.state) (on u h id x)) refl
+    extends_bind (text_layout s) (text_layout s) (λ x. cond (is_empty x.bytes) (give s) (bind (t x.state) (on t f id x))) (λ x. cond (is_empty x.bytes) (give s) (bind (u x.state) (on u h id x))) (extends_same (text_layout s))
+    (λ x. extends_cond (is_empty x.bytes) (give s) (bind (t x.state) (on t f id x)) (give s) (bind (u x.state) (on u h id x)) refl
     (extends_bind (t x.state) (u x.state) (on t f id x) (on u h id x) (g x.state) (λ y. pairs_grow t u f h id (changed (more_name x.id y.value) id y.state) (omega arith) g)))
 
 pairs_if_grow : (b : Bool) (t u : Reader) (f h id : ℕ) (s : State3) → f ≤ h → Grow t u → Extends (pairs_if b t f id s) (pairs_if b u h id s)

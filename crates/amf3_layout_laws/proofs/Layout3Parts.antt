@@ -11,14 +11,14 @@ use Rattle.amf_graph.specs.declared.value.Value.TheVariants.{Node}
 use Rattle.amf_graph.specs.Building.{more_value, more_name, shut, more_entry}
 use Rattle.amf3_spelling.specs.Tables.{Words, Tables, with_words}
 use Rattle.amf3_spelling.specs.Then.{Spelling}
-use Rattle.amf3_spelling.specs.Refusals3.{markers, text_header_refusal}
+use Rattle.amf3_spelling.specs.Refusals3.{markers, text_header_refusal, text_header_kind}
 use Rattle.amf3_spelling.specs.Words3.{Text}
 use Rattle.amf3_spelling.specs.Segments3.{Segment, flag, Segments, values_then, pairs_then, fours, eights}
 use Rattle.amf3_layout_laws.specs.Layout3State.{State3, with_node, changed}
 use Rattle.amf3_layout_laws.specs.Layout3Words.{chunk, TextRead, text_layout, Outline}
 use Rattle.amf3_layout_laws.specs.Layout3.{four_layout, eight_layout, many, ValueRead, read, items, entries, items_of, is_empty, pairs, pairs_if, parts}
 use Rattle.amf3_spelling.proofs.Clean.{AllClean}
-use Rattle.amf3_layout_laws.proofs.Layout3Texts.{clean_parts, takes, path_if, text_complete, text_some}
+use Rattle.amf3_layout_laws.proofs.Layout3Texts.{clean_parts, takes, path_if, text_complete, text_some, none_entered}
 
 abbrev pub Reader : Type 0
 Reader = State3 → Layout ValueRead
@@ -120,8 +120,8 @@ like_text g t mid w s z like e f h = record { words = ap (λ m. m.words) e ∙ f
 abbrev on : Reader → ℕ → ℕ → TextRead → ValueRead → Layout State3
 on v f id x y = pairs v f id (changed (more_name x.id y.value) id y.state)
 
-abbrev behind_name : Reader → ℕ → ℕ → TextRead → Layout State3
-behind_name v f id x = cond (is_empty x.bytes) (give x.state) (bind (v x.state) (on v f id x))
+abbrev behind_name : Reader → ℕ → ℕ → State3 → TextRead → Layout State3
+behind_name v f id s x = cond (is_empty x.bytes) (give s) (bind (v x.state) (on v f id x))
 
 not_empty : (x y : List ℕ) → x ≡ y → y ≢ [] → is_empty x ≡ false
 not_empty [] y e h = absurd (h (sym e))
@@ -132,18 +132,19 @@ pub pairs_half : (g : Graph) (R : Value → Spelling Tables) (v : Reader) (N f i
 pairs_half g R v N zero id h qs ps t u fs s named c like lt few p = absurd (omega arith)
 pairs_half g R v N (suc f) id h [] ps t u fs s named c like lt few p =
     let d = clean_parts fs p.front p.back p.joined c in
-    let one = text_complete (text_header_refusal (length s.words.texts)) text_kind s [] p.front p.first.0 d.0 (subst (λ w. Text free [] w p.front p.first.0) like.words p.first.1) in
-    let z = one.read.state in
+    let text : Text free [] s.words p.front p.first.0 = subst (λ w. Text free [] w p.front p.first.0) like.words p.first.1 in
+    let one = text_complete (text_header_refusal (length s.words.texts)) text_kind s [] p.front p.first.0 d.0 text in
+    let r = one.read in
     record {
       front = p.front;
       back = p.back;
       joined = p.joined;
       mid = p.mid;
-      state = z;
-      like = like_text g t p.mid p.first.0 s z like p.first.2 one.after one.marks;
+      state = s;
+      like = like_text g t p.mid p.first.0 s s like p.first.2 (none_entered (text_header_kind (length s.words.texts)) text_kind [] s.words p.front p.first.0 refl text) refl;
       rest = p.second;
-      runs = subst (λ l. Runs (pairs v (suc f) id s) l z) (append-nil p.front) (runs_bind (text_layout s) (behind_name v f id) p.front [] one.read (give z) one.runs
-          (path_if {X = State3} (is_empty one.read.bytes) true (give z) (bind (v z) (on v f id one.read)) [] (give z) (ap is_empty one.bytes) refl));
+      runs = subst (λ l. Runs (pairs v (suc f) id s) l s) (append-nil p.front) (runs_bind (text_layout s) (behind_name v f id s) p.front [] r (give s) one.runs
+          (path_if {X = State3} (is_empty r.bytes) true (give s) (bind (v r.state) (on v f id r)) [] (give s) (ap is_empty one.bytes) refl));
     }
 pairs_half g R v N (suc f) id h (q ∷ qs) ps t u fs s named c like lt few p =
     let d = clean_parts fs p.front p.back p.joined c in
@@ -166,8 +167,8 @@ pairs_half g R v N (suc f) id h (q ∷ qs) ps t u fs s named c like lt few p =
       like = more.like;
       rest = more.rest;
       joined = joined_more fs p.front p.back (p2.front ++ more.front) more.back p.joined (joined_more p.back p2.front p2.back more.front more.back p2.joined more.joined);
-      runs = runs_bind (text_layout s) (behind_name v f id) p.front (p2.front ++ more.front) one.read (give more.state) one.runs
-          (path_if {X = State3} (is_empty one.read.bytes) false (give z) (bind (v z) (on v f id one.read)) (p2.front ++ more.front) (give more.state) (not_empty one.read.bytes q.0 one.bytes named.0)
+      runs = runs_bind (text_layout s) (behind_name v f id s) p.front (p2.front ++ more.front) one.read (give more.state) one.runs
+          (path_if {X = State3} (is_empty one.read.bytes) false (give s) (bind (v z) (on v f id one.read)) (p2.front ++ more.front) (give more.state) (not_empty one.read.bytes q.0 one.bytes named.0)
           (runs_bind (v z) (on v f id one.read) p2.front more.front two.result (give more.state) two.runs more.runs));
     }
 

@@ -15,12 +15,13 @@ use Rattle.amf_graph.specs.Building.{no_stored, stored_at, more_value, more_name
 use Rattle.amf3_spelling.specs.Tables.{Tables, with_words}
 use Rattle.amf3_spelling.specs.Then.{Spelling}
 use Rattle.amf3_spelling.specs.KeptTables.{below}
-use Rattle.amf3_spelling.specs.Refusals3.{text_header_refusal}
+use Rattle.amf3_spelling.specs.Refusals3.{text_header_refusal, text_header_kind}
 use Rattle.amf3_spelling.specs.Words3.{Text}
 use Rattle.amf3_spelling.specs.Segments3.{Segment, value, Segments, values_then, pairs_then}
 use Rattle.amf3_layout_laws.specs.Layout3State.{State3, changed}
 use Rattle.amf3_layout_laws.specs.Layout3Words.{TextRead, text_layout}
 use Rattle.amf3_layout_laws.specs.Layout3.{ValueRead, items, entries, is_empty, pairs}
+use Rattle.amf3_layout_laws.proofs.Layout3Texts.{none_entered}
 use Rattle.amf3_layout_laws.proofs.Layout3Contents.{Larger, larger_itself, larger_twice, text_id, text_stays, names_more, all_append, all_at, KeptNode, Good, good_changed}
 use Rattle.amf3_layout_laws.proofs.Layout3SoundTexts.{give_is, TextSound, text_sound}
 
@@ -329,26 +330,28 @@ pub pairs_sound : (sp : Spell) (v : Reader) → Sounds sp v → (pre post : List
 pairs_sound sp v h pre post q zero s [] z o g e b r = absurd cc
 pairs_sound sp v h pre post q zero s (k ∷ fs) z o g e b r = absurd r
 pairs_sound sp v h pre post q (suc f) s fs z o g e b r =
-    let a = bind_runs (text_layout s) (λ x. cond (is_empty x.bytes) (give x.state) (bind (v x.state) (on v f (length pre) x))) fs z r in
+    let a = bind_runs (text_layout s) (λ x. cond (is_empty x.bytes) (give s) (bind (v x.state) (on v f (length pre) x))) fs z r in
     let ab = bytes_parts fs a.front a.back a.parts b in
     by a.value a.front a.back a.parts (text_sound s g a.front a.value ab.0 a.first) ab.1 (is_empty a.value.bytes) refl a.second (λ post2 q2 u fs2 o2 g2 e2 b2 r2. pairs_sound sp v h pre post2 q2 f u fs2 z o2 g2 e2 b2 r2)
   where
-    by : (t : TextRead) (front back : List Field) → fs ≡ front ++ back → TextSound (text_header_refusal (length s.words.texts)) text_kind s front t → AreBytes (flat back) → (i : Bool) → is_empty t.bytes ≡ i → Path (cond i (give t.state) (bind (v t.state) (on v f (length pre) t))) back (give z)
+    by : (t : TextRead) (front back : List Field) → fs ≡ front ++ back → TextSound (text_header_refusal (length s.words.texts)) text_kind s front t → AreBytes (flat back) → (i : Bool) → is_empty t.bytes ≡ i → Path (cond i (give s) (bind (v t.state) (on v f (length pre) t))) back (give z)
         → ((post2 : List StoredNode) (q2 : StoredNode) (u : State3) (fs2 : List Field) → q2.is_open ≡ true → Good u → u.arena.nodes ≡ pre ++ q2 ∷ post2 → AreBytes (flat fs2) → Runs (pairs v f (length pre) u) fs2 z → PairsSound sp pre post2 q2 u fs2 z) → PairsSound sp pre post q s fs z
     by t front [] joined one bb true i p again =
-        subst (λ y. PairsSound sp pre post q s fs y) (give_is t.state z p) (
-        let n = adds_nothing pre post q t.state one.good (one.nodes ∙ e) in
+        subst (λ y. PairsSound sp pre post q s fs y) (give_is s z p) (
+        let header = text_header_kind (length s.words.texts) in
+        let none = empty_is t.bytes i in
+        let text : Text free [] s.words front s.words = subst (λ w. Text free [] s.words front w) (none_entered header text_kind t.bytes s.words front t.state.words none one.spelled) (subst (λ y. Text free y s.words front t.state.words) none one.spelled) in
         record {
-          adds = record { names = []; values = []; more = []; nodes = n.nodes; closed = tt; good = one.good; larger = one.larger };
+          adds = adds_nothing pre post q s g e;
           no_values = refl;
           named = λ g c. tt;
           spelled = λ g r c ps u back q. record {
             front = front;
             back = back;
-            mid = with_words (table s) t.state.words;
+            mid = table s;
             joined = ap (λ l. l ++ back) (joined ∙ append-nil front);
-            first = (t.state.words, subst (λ y. Text free y s.words front t.state.words) (empty_is t.bytes i) one.spelled, refl);
-            second = subst (λ k. Segments (sp g r) free ps k back u) (table_text s t.state one.nodes one.node_table) q;
+            first = (s.words, text, refl);
+            second = q;
           };
         })
     by t front (k ∷ back) joined one bb true i p again = absurd p

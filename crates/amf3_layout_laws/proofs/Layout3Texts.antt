@@ -112,6 +112,12 @@ module _ (refusal : ℕ → Option Reason) (contents : ℕ → Kind) (s : State3
   text_some [] x r = absurd cc
   text_some (f ∷ fs) x r = path_some (text_by (u29_kind refusal) contents s) (give x) f fs r
 
+-- an empty text enters no table
+pub none_entered : (header : Kind) (contents : ℕ → Kind) (x : List ℕ) (w : Words) (fs : List Field) (w' : Words) → x ≡ [] → TextBy free header contents x w fs w' → w' ≡ w
+none_entered header contents x w fs w' n (empty e h u f a) = a
+none_entered header contents x w fs w' n (whole e i o h u f a) = absurd (e n)
+none_entered header contents x w fs w' n (placed e k i o h u f a) = a
+
 pub record FoundTexts (xs : List (List ℕ)) (s : State3) (fs : List Field) (w' : Words) : Type 0 where
   pub read : TextsRead
   pub runs : Runs (texts_layout (length xs) s) fs read

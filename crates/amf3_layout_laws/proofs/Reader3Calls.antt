@@ -1,8 +1,7 @@
 -- The tables and the growth of an arena where a call's clauses tell by equations what it left.
 use Rattle.std.proofs.Common.{◌≡◌, ℕ, false, List, [], ◌∷◌, ◌++◌, length, set, sym, ap, ◌∙◌, subst}
 use Rattle.amf_graph.specs.declared.wrapped.Wrapped.{Wrapped}
-use Rattle.amf_graph.specs.Graph.{class_name}
-use Rattle.amf_graph.specs.Arena.{StoredTraits, StoredNode, Arena, text_at, IsBuilt}
+use Rattle.amf_graph.specs.Arena.{StoredTraits, StoredNode, Arena, IsBuilt}
 use Rattle.amf_graph.specs.Building.{stored_at, kept_text, kept_traits, shut}
 use Rattle.amf3_spelling.specs.KeptTables.{plain, external, KeptTables, AreTablesIn}
 use Rattle.amf3_spelling.specs.Reads3.{Grows}

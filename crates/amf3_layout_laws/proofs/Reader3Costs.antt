@@ -20,7 +20,7 @@ use Rattle.amf3_layout_laws.specs.Layout3State.{State3, with_node, changed}
 use Rattle.amf3_layout_laws.specs.Layout3Words.{text_layout, Outline}
 use Rattle.amf3_layout_laws.specs.Layout3.{eight_layout, opening, ValueRead, read, items, entries, items_of, is_empty, pairs, pairs_if, parts, inline_node, known_node, node_layout, behind_marker, value_layout}
 use Rattle.amf3_layout_laws.proofs.Reader3Weight.{weight_begun, weight_more_value, weight_more_name, weight_more_entry, weight_shut}
-use Rattle.amf3_layout_laws.proofs.Reader3OpeningCosts.{Costs, costs_give, costs_stuck, costs_want, costs_bind, costs_cond, costs_more, costs_within, costs_nothing, state_size, text_size, opening_size, value_size, costs_text, costs_opening}
+use Rattle.amf3_layout_laws.proofs.Reader3OpeningCosts.{Costs, costs_give, costs_stuck, costs_want, costs_bind, costs_bind_back, costs_cond, costs_more, costs_within, costs_nothing, state_size, text_size, opening_size, value_size, costs_text, costs_opening}
 
 -- The parts of a node, wherever it stands.
 
@@ -75,10 +75,10 @@ module _ (v : State3 → Layout ValueRead) (h : (s : State3) → Costs value_siz
   costs_pairs : (fuel id : ℕ) (s : State3) → Costs state_size (state_size s) (pairs v fuel id s)
   costs_pairs zero id s = costs_stuck state_size (state_size s)
   costs_pairs (suc n) id s =
-      costs_bind text_size state_size (state_size s) (text_layout s) (λ x. cond (is_empty x.bytes) (give x.state) (bind (v x.state) (λ y. pairs v n id (changed (more_name x.id y.value) id y.state)))) (costs_text s)
-      (λ x. costs_cond state_size (text_size x) (is_empty x.bytes) (give x.state) (bind (v x.state) (λ y. pairs v n id (changed (more_name x.id y.value) id y.state)))
-      (costs_give state_size (text_size x) x.state (omega arith))
-      (costs_bind value_size state_size (text_size x) (v x.state) (λ y. pairs v n id (changed (more_name x.id y.value) id y.state)) (costs_within value_size (state_size x.state) (text_size x) (v x.state) (omega arith) (h x.state))
+      costs_bind_back text_size state_size (state_size s) (text_layout s) (λ x. cond (is_empty x.bytes) (give s) (bind (v x.state) (λ y. pairs v n id (changed (more_name x.id y.value) id y.state)))) (costs_text s)
+      (λ x m old new. costs_cond state_size m (is_empty x.bytes) (give s) (bind (v x.state) (λ y. pairs v n id (changed (more_name x.id y.value) id y.state)))
+      (costs_give state_size m s old)
+      (costs_bind value_size state_size m (v x.state) (λ y. pairs v n id (changed (more_name x.id y.value) id y.state)) (costs_within value_size (state_size x.state) m (v x.state) (omega arith) (h x.state))
       (λ y. let t = changed (more_name x.id y.value) id y.state in costs_within state_size (state_size t) (value_size y) (pairs v n id t) (name_added x.id y.value id y.state) (costs_pairs n id t))))
 
   costs_pairs_if : (there : Bool) (fuel id : ℕ) (s : State3) → Costs state_size (state_size s) (pairs_if there v fuel id s)

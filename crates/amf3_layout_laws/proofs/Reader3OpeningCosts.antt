@@ -45,6 +45,13 @@ costs_bind size size' c t g h k fs y r =
     let a = bind_runs t g fs y r in
     omega (arith, h a.front a.value a.first, k a.value a.back y a.second, ap length (ap flat a.parts ∙ flat-append a.front a.back), length-append (flat a.front) (flat a.back))
 
+-- what follows may go back to what was there before
+pub costs_bind_back : {X Y : Type 0} (size : X → ℕ) (size' : Y → ℕ) (c : ℕ) (t : Layout X) (g : X → Layout Y) → Costs size c t → ((x : X) (m : ℕ) → c ≤ m → size x ≤ m → Costs size' m (g x)) → Costs size' c (bind t g)
+costs_bind_back size size' c t g h k fs y r =
+    let a = bind_runs t g fs y r in
+    let m = c + length (flat a.front) in
+    omega (arith, k a.value m (omega arith) (h a.front a.value a.first) a.back y a.second, ap length (ap flat a.parts ∙ flat-append a.front a.back), length-append (flat a.front) (flat a.back))
+
 pub costs_cond : {X : Type 0} (size : X → ℕ) (c : ℕ) (b : Bool) (t u : Layout X) → Costs size c t → Costs size c u → Costs size c (cond b t u)
 costs_cond size c true t u h k = h
 costs_cond size c false t u h k = k

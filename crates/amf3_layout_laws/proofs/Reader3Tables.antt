@@ -4,8 +4,7 @@ use Rattle.std.proofs.lemmas.List.{append-nil, length-set, get_or_append_left}
 use Rattle.std.proofs.Math.Seq.{get_or-append_seam, set-append_seam}
 use Rattle.amf_graph.specs.declared.value.Value.{Value as Stored}
 use Rattle.amf_graph.specs.declared.wrapped.Wrapped.{Wrapped}
-use Rattle.amf_graph.specs.Graph.{class_name}
-use Rattle.amf_graph.specs.Arena.{StoredTraits, StoredHead, array, StoredNode, Arena, text_at, traits_content, no_traits, IsTextId, Names, HeadNames, IsTraitsIn, IsBuilt}
+use Rattle.amf_graph.specs.Arena.{StoredTraits, StoredHead, array, StoredNode, Arena, text_at, IsTextId, Names, HeadNames, IsTraitsIn, IsBuilt}
 use Rattle.amf_graph.specs.Building.{no_stored, stored_at, kept_text, kept_traits, shut}
 use Rattle.amf3_spelling.specs.KeptTables.{KeptEntry, plain, external, KeptTables, IsEntryIn, AreTablesIn}
 use Rattle.amf3_spelling.specs.Reads3.{Grows}

@@ -79,11 +79,11 @@ abbrev pub is_empty : List ℕ → Bool
 is_empty [] = true
 is_empty (b ∷ x) = false
 
--- names with their values up to the empty name, with fuel
+-- names with their values up to the empty name, of which nothing is kept, with fuel
 abbrev pub pairs : (State3 → Layout ValueRead) → ℕ → ℕ → State3 → Layout State3
 pairs value zero id s = stuck
 pairs value (suc n) id s =
-    bind (text_layout s) (λ x. if is_empty x.bytes then give x.state else bind (value x.state) (λ v. pairs value n id (changed (more_name x.id v.value) id v.state)))
+    bind (text_layout s) (λ x. if is_empty x.bytes then give s else bind (value x.state) (λ v. pairs value n id (changed (more_name x.id v.value) id v.state)))
 
 abbrev pub pairs_if : Bool → (State3 → Layout ValueRead) → ℕ → ℕ → State3 → Layout State3
 pairs_if there value fuel id s = if there then pairs value fuel id s else give s

@@ -1,5 +1,5 @@
 -- How an open node goes on, as the layouts have it.
-use Rattle.std.proofs.Common.{◌≡◌, ℕ, zero, suc, ◌≤◌, ◌<◌, Bool, true, false, inl, inr, List, [], length, map, cond, refl, sym, ap, ◌∙◌, arith, subst, Ok}
+use Rattle.std.proofs.Common.{◌≡◌, ℕ, zero, suc, ◌≤◌, ◌<◌, Bool, true, false, inl, inr, List, [], length, map, cond, Option, Some, None, refl, sym, ap, ◌∙◌, arith, subst, Ok}
 use Rattle.std.proofs.lemmas.List.{length-map, length-set}
 use Rattle.amf_io.specs.declared.window.Window.{Window}
 use Rattle.amf_io.specs.declared.cursor.Cursor.{Cursor}
@@ -33,7 +33,8 @@ use Rattle.amf3_read.specs.declared.fill.Next.TheVariants as next
 use Rattle.amf3_read.specs.declared.fill.Step.TheVariants as step
 use Rattle.amf3_read.specs.Filling.{IsOpened}
 use Rattle.amf_wire_fields.specs.Room.{left_of}
-use Rattle.amf3_read.specs.Ready.{Ready, Continues, text_read}
+use Rattle.amf3_read.specs.Ready.{Ready, Continues}
+use Rattle.amf3_read.specs.Names.{NameRead, no_name, some_name, name_of, name_layout, name_read}
 use Rattle.amf3_read.specs.Frames.{todo, resume, closed_node, LacksItems, Suits, WaitsFor, RoleNames, spare, StillReady, GoesOn, StepHolds, IsNext, IsBehindPairs}
 use Rattle.amf_wire_fields.proofs.LayoutBinds.{bind_bind, bind_same}
 use Rattle.amf3_read.proofs.PartPut.{there, stays, same_head}
@@ -173,29 +174,45 @@ suits_nothing a n p is s = by p is s
     by (Items (suc k)) is s = absurd cc
     by (Entries (suc k)) is s = absurd cc
 
+-- What follows a name: values by their names go on, and the empty name ends them.
+abbrev follows : (State3 → Layout ValueRead) → ℕ → ℕ → Option TextId → State3 → Layout State3
+follows v m i None s = give s
+follows v m i (Some x) s = bind (v s) (λ y. pairs v m i (changed (more_name x.0 y.value) i y.state))
+
+abbrev behind_name : (State3 → Layout ValueRead) → ℕ → ℕ → NameRead → Layout State3
+behind_name v m i z = follows v m i z.name z.state
+
+pairs_named : (v : State3 → Layout ValueRead) (m i : ℕ) (s : State3) → pairs v (suc m) i s ≡ bind (name_layout s) (behind_name v m i)
+pairs_named v m i s =
+    bind_same (text_layout s) (λ x. cond (is_empty x.bytes) (give s) (bind (v x.state) (λ y. pairs v m i (changed (more_name x.id y.value) i y.state)))) (λ x. behind_name v m i (name_of s x)) (λ x. by x (is_empty x.bytes))
+    ∙ sym (bind_bind (text_layout s) (λ x. give (name_of s x)) (behind_name v m i))
+  where
+    by : (x : TextRead) (b : Bool) → cond b (give s) (bind (v x.state) (λ y. pairs v m i (changed (more_name x.id y.value) i y.state))) ≡ behind_name v m i (cond b (no_name s) (some_name x))
+    by x true = refl
+    by x false = refl
+
 -- The contract's clauses.
 
 module _ {S : Type 0} (tells : S → Type 0) (left : S → List ℕ) (faults : S → ℕ) (i : ℕ) (p : Parts) (a b : Arena) (t u : KeptTables) (c d : Cursor S Window) (is : IsNext p next.Name) where
-  pub name_ended : (v : State3 → Layout ValueRead) (m : ℕ) → left_of c < m → (e : ReadEnd) → Ends tells left (text_layout (state_of a t)) c d e → Ends tells left (todo v m i p (state_of a t)) c d e
+  todo_by_name : (v : State3 → Layout ValueRead) (m : ℕ) (s : State3) → todo v (suc m) i p s ≡ bind (name_layout s) (λ z. bind (behind_name v m i z) (todo v m i (behind p)))
+  todo_by_name v m s =
+      todo_named v (suc m) m i p (behind p) is (behind_is p) s ∙ ap (λ l. bind l (todo v m i (behind p))) (pairs_named v m i s) ∙ bind_bind (name_layout s) (behind_name v m i) (todo v m i (behind p))
+
+  pub name_ended : (v : State3 → Layout ValueRead) (m : ℕ) → left_of c < m → (e : ReadEnd) → Ends tells left (name_layout (state_of a t)) c d e → Ends tells left (todo v m i p (state_of a t)) c d e
   name_ended v zero lt e h = absurd (omega arith)
   name_ended v (suc m) lt e h =
-      subst (λ l. Ends tells left l c d e) (sym (todo_named v (suc m) 0 i p (behind p) is (behind_is p) (state_of a t)))
-      (end_reads tells left faults (pairs v (suc m) i (state_of a t)) (todo v 0 i (behind p)) c d e (end_reads tells left faults (text_layout (state_of a t)) (λ x. cond (is_empty x.bytes) (give x.state) (bind (v x.state) (λ y. pairs v m i (changed (more_name x.id y.value) i y.state)))) c d e h))
+      subst (λ l. Ends tells left l c d e) (sym (todo_by_name v m (state_of a t))) (end_reads tells left faults (name_layout (state_of a t)) (λ z. bind (behind_name v m i z) (todo v m i (behind p))) c d e h)
 
-  module _ (x : TextId) (g : GoesBy tells left faults c d (Ok x)) (y : Answers tells left (λ z. text_read b u z) (text_layout (state_of a t)) c d (Ok x)) (w : Continues 0 a b u c d) (moves : place c < place d) where
+  module _ (name : Option TextId) (g : GoesBy tells left faults c d (Ok name)) (y : Answers tells left (λ n. name_read b u n) (name_layout (state_of a t)) c d (Ok name)) (w : Continues 0 a b u c d) (moves : place c < place d) where
     less : suc (left_of d) ≤ left_of c
     less = let p = w.placed.within in let q = g.same_bound in omega arith
 
-    -- what stands behind the name
-    abbrev F : (State3 → Layout ValueRead) → ℕ → TextRead → Layout State3
-    F v m x = cond (is_empty x.bytes) (give x.state) (bind (v x.state) (λ y. pairs v m i (changed (more_name x.id y.value) i y.state)))
-
-    name_leads : (v : State3 → Layout ValueRead) (m : ℕ) → Leads tells left (todo v (suc m) i p (state_of a t)) (bind (F v m (text_read b u x)) (todo v m i (behind p))) c d
+    name_leads : (v : State3 → Layout ValueRead) (m : ℕ) → Leads tells left (todo v (suc m) i p (state_of a t)) (bind (follows v m i name (state_of b u)) (todo v m i (behind p))) c d
     name_leads v m =
-        subst (λ l. Leads tells left l (bind (F v m (text_read b u x)) (todo v m i (behind p))) c d) (sym (todo_named v (suc m) m i p (behind p) is (behind_is p) (state_of a t) ∙ bind_bind (text_layout (state_of a t)) (F v m) (todo v m i (behind p))))
-        (leads_behind tells left faults (λ z. text_read b u z) (text_layout (state_of a t)) (λ z. bind (F v m z) (todo v m i (behind p))) c d x y)
+        subst (λ l. Leads tells left l (bind (follows v m i name (state_of b u)) (todo v m i (behind p))) c d) (sym (todo_by_name v m (state_of a t)))
+        (leads_behind tells left faults (λ n. name_read b u n) (name_layout (state_of a t)) (λ z. bind (behind_name v m i z) (todo v m i (behind p))) c d name y)
 
-    pub name_empty : (q : Parts) → IsBehindPairs p q → is_empty (text_at b x.0) ≡ true → (v : State3 → Layout ValueRead) (m : ℕ) → left_of c < m → GoesOn tells left v m i p (state_of a t) (state_of b u) c d (Ok (step.Open q))
+    pub name_empty : (q : Parts) → IsBehindPairs p q → name ≡ None → (v : State3 → Layout ValueRead) (m : ℕ) → left_of c < m → GoesOn tells left v m i p (state_of a t) (state_of b u) c d (Ok (step.Open q))
     name_empty q e none v zero lt = absurd (omega arith)
     name_empty q e none v (suc m) lt =
         let same : q ≡ behind p = by p q e in
@@ -204,7 +221,7 @@ module _ {S : Type 0} (tells : S → Type 0) (left : S → List ℕ) (faults : S
           fuel = m;
           enough = omega arith;
           leads = subst (λ q. Leads tells left (todo v (suc m) i p (state_of a t)) (todo v m i q (state_of b u)) c d) (sym same)
-              (subst (λ o. Leads tells left (todo v (suc m) i p (state_of a t)) (bind (cond o (give (state_of b u)) (bind (v (state_of b u)) (λ y. pairs v m i (changed (more_name x.0 y.value) i y.state)))) (todo v m i (behind p))) c d) none (name_leads v m));
+              (subst (λ o. Leads tells left (todo v (suc m) i p (state_of a t)) (bind (follows v m i o (state_of b u)) (todo v m i (behind p))) c d) none (name_leads v m));
         }
       where
         by : (p q : Parts) → IsBehindPairs p q → q ≡ behind p
@@ -213,9 +230,9 @@ module _ {S : Type 0} (tells : S → Type 0) (left : S → List ℕ) (faults : S
         by (Items n) q e = e
         by (Entries n) q e = e
 
-    pub name_some : is_empty (text_at b x.0) ≡ false → (v : State3 → Layout ValueRead) (m : ℕ) → left_of c < m → GoesOn tells left v m i p (state_of a t) (state_of b u) c d (Ok (step.Wait (role.Named x) p))
-    name_some some v zero lt = absurd (omega arith)
-    name_some some v (suc m) lt =
+    pub name_some : (x : TextId) → name ≡ Some x → (v : State3 → Layout ValueRead) (m : ℕ) → left_of c < m → GoesOn tells left v m i p (state_of a t) (state_of b u) c d (Ok (step.Wait (role.Named x) p))
+    name_some x some v zero lt = absurd (omega arith)
+    name_some x some v (suc m) lt =
         let l = less in
         let z = state_of b u in
         record {
@@ -224,15 +241,15 @@ module _ {S : Type 0} (tells : S → Type 0) (left : S → List ℕ) (faults : S
           leads = subst (λ l. Leads tells left (todo v (suc m) i p (state_of a t)) l c d)
               (bind_bind (v z) (λ y. pairs v m i (changed (more_name x.0 y.value) i y.state)) (todo v m i (behind p))
               ∙ bind_same (v z) (λ y. bind (pairs v m i (changed (more_name x.0 y.value) i y.state)) (todo v m i (behind p))) (resume v m i (role.Named x) p) (λ y. sym (todo_named v m m i p (behind p) is (behind_is p) (changed (more_name x.0 y.value) i y.state))))
-              (subst (λ o. Leads tells left (todo v (suc m) i p (state_of a t)) (bind (cond o (give z) (bind (v z) (λ y. pairs v m i (changed (more_name x.0 y.value) i y.state)))) (todo v m i (behind p))) c d) some (name_leads v m));
+              (subst (λ o. Leads tells left (todo v (suc m) i p (state_of a t)) (bind (follows v m i o z) (todo v m i (behind p))) c d) some (name_leads v m));
         }
 
     module _ (o : IsOpened a i (left_of c)) (built : IsBuilt a) (s : Suits (head_content a (stored_at a i).head) (stored_at a i) p) where
       still : Suits (head_content b (stored_at b i).head) (stored_at b i) p
       still = subst (λ h. Suits h (stored_at b i) p) (sym (same_head i (left_of c) a b o w.grows built)) (subst (λ n. Suits (head_content a (stored_at a i).head) n p) (sym (stays i (left_of c) a b o w.grows)) s)
 
-      pub name_waits : IsTextId b x.0 → StepHolds a b i (step.Wait (role.Named x) p)
-      name_waits id = (refl, w.grows, id, suits_name (head_content b (stored_at b i).head) (stored_at b i) p x is still)
+      pub name_waits : (x : TextId) → IsTextId b x.0 → StepHolds a b i (step.Wait (role.Named x) p)
+      name_waits x id = (refl, w.grows, id, suits_name (head_content b (stored_at b i).head) (stored_at b i) p x is still)
 
       pub name_opens : (q : Parts) → IsBehindPairs p q → StepHolds a b i (step.Open q)
       name_opens q e = (w.grows, suits_behind (head_content b (stored_at b i).head) (stored_at b i) p q is e still)

@@ -3,6 +3,7 @@ mod HeaderRules
 mod MarkerRules
 mod NumbersRead
 pub mod TextReads
+mod NameReads
 pub mod PartPut
 pub mod Stack
 pub mod Empties
@@ -14,6 +15,7 @@ mod ClassReads
 mod TraitsReads
 mod TraitsShapes
 mod NodeBegins
+mod BytesAhead
 mod OpeningNodes
 mod VectorsRead
 pub mod OpeningReads

@@ -6,6 +6,7 @@ pub mod VerdictLaws
 -- Devices of the proofs. Of the public calls only those need them by which a reader of another format reads on in AMF 3
 -- (`read_value` and its like).
 pub mod Ready
+pub mod Names
 pub mod Begins
 pub mod Filling
 pub mod Roles

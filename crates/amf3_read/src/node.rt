@@ -1,7 +1,10 @@
-ghost use Rattle.std.specs.Prelude.{◌≤◌, OnOk, IfOk, IfErr};
+ghost use Rattle.std.specs.Prelude.{◌≤◌, length, OnOk, IfOk, IfErr};
+ghost use Rattle.std.specs.Bool.{OnTrue};
+ghost use Rattle.amf_io.specs.Field.{AreBytes};
 ghost use Rattle.amf_io.specs.Cursor.{place};
 ghost use Rattle.amf_io.specs.ReadEnds.{Goes};
 ghost use Rattle.amf_io.specs.CursorReads.{Ends};
+ghost use Rattle.amf_graph.specs.declared.kind.NodeKind.TheVariants.{Bytes};
 ghost use Rattle.amf3_spelling.specs.Markers3.{node_marker};
 ghost use Rattle.amf3_layout_laws.specs.Layout3State.{state_of};
 ghost use Rattle.amf3_layout_laws.specs.Layout3.{opening};
@@ -131,13 +134,52 @@ fn enter_apart<S: Source>(
     ensures stays { OnOk result (place cursor.old ≤ place cursor.new) }
 {
     match kind {
-        NodeKind::Bytes => enter_node(alloc, cursor, builder, tables, NodeKind::Bytes, header),
+        NodeKind::Bytes => enter_bytes(alloc, cursor, builder, tables, header),
         NodeKind::Values => enter_node(alloc, cursor, builder, tables, NodeKind::Values, header),
         NodeKind::Dictionary => {
             enter_node(alloc, cursor, builder, tables, NodeKind::Dictionary, header)
         }
         _ => enter_node(alloc, cursor, builder, tables, kind, header),
     }
+}
+
+/// Does what `enter_node` does, for a byte array (AMF 3 specification, 3.14). Where all of it is ahead, no list is made of it.
+fn enter_bytes<S: Source>(
+    alloc: Global,
+    cursor: &mut Cursor<'_, S>,
+    builder: &mut Builder,
+    tables: &mut Tables3,
+    header: u32,
+) -> Result<Entered, ReadEnd>
+    requires ready { Ready 1 builder.old tables.old cursor.old }
+    requires known { IsOpening tables.old (node_marker Bytes) header }
+    ensures goes { Goes S.Source cursor.old cursor.new result }
+    ensures begins { IfOk result (Begins S.tells S.left Bytes header builder.old builder.new tables.old tables.new cursor.old cursor.new) }
+    ensures ends { IfErr result (Ends S.tells S.left (opening Bytes header (state_of builder.old tables.old)) cursor.old cursor.new) }
+    ensures ready { OnOk result (Ready 0 builder.new tables.new cursor.new) }
+    ensures stays { OnOk result (place cursor.old ≤ place cursor.new) }
+{
+    // What is true of every cursor.
+    let _start = cursor.at();
+    let size = header / 2;
+    let ahead = cursor.ahead();
+    if has_bytes(ahead, size) {
+        let array = builder.bytes(&ahead[..size as usize]);
+        cursor.pass(size);
+        let node = kept(array)?;
+        builder.is_built();
+        tables.push_node(node)?;
+        return Ok(Entered { node, parts: None });
+    }
+    enter_node(alloc, cursor, builder, tables, NodeKind::Bytes, header)
+}
+
+/// Whether there are so many of these bytes.
+fn has_bytes(bytes: &[u8], size: u32) -> bool
+    ensures there { OnTrue result (size ≤ length bytes.now) }
+    ensures bytes { AreBytes bytes.now }
+{
+    size as usize <= bytes.len()
 }
 
 /// Reads what stands between a node's header and its values, and enters the node.

@@ -1,42 +1,45 @@
-use Rattle.std.proofs.Common.{sym, ◌∙◌}
+use Rattle.std.proofs.Common.{subst}
+use Rattle.std.specs.Prelude.{IfSome}
+use Rattle.amf_graph.specs.Arena.{IsTextId}
 use Rattle.amf3_layout_laws.specs.Layout3State.{state_of}
 use Rattle.amf3_read.proofs.GoesOn.{name_ended, name_empty, name_some, name_waits, name_opens, value_waits, value_holds, closed_goes, closed_still_ready, closed_holds}
-use Rattle.amf3_read.proofs.Empties.{tells_empty, ended_step}
+use Rattle.amf3_read.proofs.Empties.{ended_step}
 use Rattle.amf3_read.proofs.fill.go_on.Goals as goal
 
 pub returns-in_err-name-in-Name-clause-answers : goal.returns-in_err-name-in-Name-clause-answers
 returns-in_err-name-in-Name-clause-answers g c = λ v m lt.
     let S = g.S.Source in
-    ended_step S.tells S.left v m c.args.node.0 c.args.todo (state_of c.args.builder.now c.args.tables.now) (state_of c.read_text.new.builder c.read_text.new.tables) c.args.cursor.now c.read_text.new.cursor c.from_residual.result c.in_err-name-in-Name.field-0.0 c.from_residual.ensures.1
-    (name_ended S.tells S.left S.faults c.args.node.0 c.args.todo c.args.builder.now c.read_text.new.builder c.args.tables.now c.read_text.new.tables c.args.cursor.now c.read_text.new.cursor c.in-Name.ensures v m lt c.in_err-name-in-Name.field-0.0 c.in_err-name-in-Name.ensures.answers)
+    ended_step S.tells S.left v m c.args.node.0 c.args.todo (state_of c.args.builder.now c.args.tables.now) (state_of c.next_name.new.builder c.next_name.new.tables) c.args.cursor.now c.next_name.new.cursor c.from_residual.result c.in_err-name-in-Name.field-0.0 c.from_residual.ensures.1
+    (name_ended S.tells S.left S.faults c.args.node.0 c.args.todo c.args.builder.now c.next_name.new.builder c.args.tables.now c.next_name.new.tables c.args.cursor.now c.next_name.new.cursor c.in-Name.ensures v m lt c.in_err-name-in-Name.field-0.0 c.in_err-name-in-Name.ensures.answers)
 
-pub returns-then-is_empty-clause-answers : goal.returns-then-is_empty-clause-answers
-returns-then-is_empty-clause-answers g c =
+pub returns-in-Some-clause-answers : goal.returns-in-Some-clause-answers
+returns-in-Some-clause-answers g c =
     let S = g.S.Source in
     let e = c.in_ok-name-in-Name.ensures in
-    name_empty S.tells S.left S.faults c.args.node.0 c.args.todo c.args.builder.now c.read_text.new.builder c.args.tables.now c.read_text.new.tables c.args.cursor.now c.read_text.new.cursor c.in-Name.ensures c.in_ok-name-in-Name.name e.goes e.answers e.continues e.moves
-    c.behind_pairs.result c.behind_pairs.ensures (tells_empty _ _ _ (sym c.text_of.ensures) (sym c.is_empty.ensures ∙ c.if-is_empty.true))
+    name_some S.tells S.left S.faults c.args.node.0 c.args.todo c.args.builder.now c.next_name.new.builder c.args.tables.now c.next_name.new.tables c.args.cursor.now c.next_name.new.cursor c.in-Name.ensures c.in_ok-name-in-Name.name e.goes e.answers e.continues e.moves
+    c.in-Some.name c.in-Some.is
 
-pub returns-then-is_empty-clause-holds : goal.returns-then-is_empty-clause-holds
-returns-then-is_empty-clause-holds g c =
+pub returns-in-Some-clause-holds : goal.returns-in-Some-clause-holds
+returns-in-Some-clause-holds g c =
     let S = g.S.Source in
     let e = c.in_ok-name-in-Name.ensures in
-    name_opens S.tells S.left S.faults c.args.node.0 c.args.todo c.args.builder.now c.read_text.new.builder c.args.tables.now c.read_text.new.tables c.args.cursor.now c.read_text.new.cursor c.in-Name.ensures c.in_ok-name-in-Name.name e.goes e.answers e.continues e.moves
+    let name = c.in_ok-name-in-Name.name in
+    name_waits S.tells S.left S.faults c.args.node.0 c.args.todo c.args.builder.now c.next_name.new.builder c.args.tables.now c.next_name.new.tables c.args.cursor.now c.next_name.new.cursor c.in-Name.ensures name e.goes e.answers e.continues e.moves
+    c.requires.opened c.requires.ready.built c.requires.suits c.in-Some.name (subst (λ o. IfSome o (λ x. IsTextId c.next_name.new.builder x.0)) c.in-Some.is e.there)
+
+pub returns-in-None-clause-answers : goal.returns-in-None-clause-answers
+returns-in-None-clause-answers g c =
+    let S = g.S.Source in
+    let e = c.in_ok-name-in-Name.ensures in
+    name_empty S.tells S.left S.faults c.args.node.0 c.args.todo c.args.builder.now c.next_name.new.builder c.args.tables.now c.next_name.new.tables c.args.cursor.now c.next_name.new.cursor c.in-Name.ensures c.in_ok-name-in-Name.name e.goes e.answers e.continues e.moves
+    c.behind_pairs.result c.behind_pairs.ensures c.in-None.is
+
+pub returns-in-None-clause-holds : goal.returns-in-None-clause-holds
+returns-in-None-clause-holds g c =
+    let S = g.S.Source in
+    let e = c.in_ok-name-in-Name.ensures in
+    name_opens S.tells S.left S.faults c.args.node.0 c.args.todo c.args.builder.now c.next_name.new.builder c.args.tables.now c.next_name.new.tables c.args.cursor.now c.next_name.new.cursor c.in-Name.ensures c.in_ok-name-in-Name.name e.goes e.answers e.continues e.moves
     c.requires.opened c.requires.ready.built c.requires.suits c.behind_pairs.result c.behind_pairs.ensures
-
-pub returns-else-is_empty-clause-answers : goal.returns-else-is_empty-clause-answers
-returns-else-is_empty-clause-answers g c =
-    let S = g.S.Source in
-    let e = c.in_ok-name-in-Name.ensures in
-    name_some S.tells S.left S.faults c.args.node.0 c.args.todo c.args.builder.now c.read_text.new.builder c.args.tables.now c.read_text.new.tables c.args.cursor.now c.read_text.new.cursor c.in-Name.ensures c.in_ok-name-in-Name.name e.goes e.answers e.continues e.moves
-    (tells_empty _ _ _ (sym c.text_of.ensures) (sym c.is_empty.ensures ∙ c.if-is_empty.false))
-
-pub returns-else-is_empty-clause-holds : goal.returns-else-is_empty-clause-holds
-returns-else-is_empty-clause-holds g c =
-    let S = g.S.Source in
-    let e = c.in_ok-name-in-Name.ensures in
-    name_waits S.tells S.left S.faults c.args.node.0 c.args.todo c.args.builder.now c.read_text.new.builder c.args.tables.now c.read_text.new.tables c.args.cursor.now c.read_text.new.cursor c.in-Name.ensures c.in_ok-name-in-Name.name e.goes e.answers e.continues e.moves
-    c.requires.opened c.requires.ready.built c.requires.suits e.there
 
 pub returns-in-Value-clause-answers : goal.returns-in-Value-clause-answers
 returns-in-Value-clause-answers g c =
