@@ -8,7 +8,7 @@ use Rattle.amf_graph.specs.Arena.{Arena}
 use Rattle.amf_graph.specs.Order.{Walks}
 use Rattle.amf_tables.specs.KnownWords.{Known, AreKnownOf}
 use Rattle.amf3_spelling.specs.Tables.{Tables}
-use Rattle.amf3_spelling.specs.ByteSpelling.{Texts, Step, number, flag, raw, StepOf, Segment, step, Lifted, Segments, Spells}
+use Rattle.amf3_spelling.specs.ByteSpelling.{Texts, Step, byte, number, flag, raw, StepOf, Segment, step, Lifted, Segments, Spells}
 use Rattle.amf3_write.specs.declared.output.Output.{Output}
 use Rattle.amf3_write.specs.Contents.{segment_values}
 
@@ -28,6 +28,10 @@ WritesStep x = Writes (Lifted (StepOf canonical x))
 
 abbrev pub WritesSteps : List Segment → Output → Output → Type 0
 WritesSteps ps = Writes (Segments (λ v t b t'. ⊥) canonical ps)
+
+-- a marker, and the number behind it
+abbrev pub marked_steps : ℕ → ℕ → List Segment
+marked_steps marker n = step (byte marker) ∷ step (number n) ∷ []
 
 -- a vector of numbers: its count, whether its length is fixed, and the bytes of the numbers
 abbrev pub vector_steps : ℕ → Bool → List ℕ → List Segment

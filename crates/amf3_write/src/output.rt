@@ -7,7 +7,7 @@ ghost use Rattle.amf_tables.specs.FirstPlace.{IsFirstPlace};
 ghost use Rattle.amf3_spelling.specs.Markers3.{marker_byte};
 ghost use Rattle.amf3_spelling.specs.Words3.{NoPlaceBelow};
 ghost use Rattle.amf3_spelling.specs.ByteSpelling as spell;
-ghost use Rattle.amf3_write.specs.Writes.{WritesStep, Keeps, IsReady};
+ghost use Rattle.amf3_write.specs.Writes.{WritesStep, WritesSteps, Keeps, IsReady, marked_steps};
 
 use crate::GraphTables;
 use amf_tables::{KnownWords, WriterTables};
@@ -22,23 +22,26 @@ const NAMEABLE_TEXTS: u32 = 268_435_456;
 /// No number of 29 bits takes more bytes.
 const LONGEST_NUMBER: usize = 4;
 
-/// Asks for room for a number. After an end nothing has changed.
+/// No marker takes more bytes with a number behind it.
+const LONGEST_MARKED: usize = 5;
+
+/// Asks for room for a marker and a number. After an end nothing has changed.
 #[inline(never)]
 fn grow(bytes: &mut Vec<u8>) -> Result<(), Memory>
     ensures same { bytes.new.items ≡ bytes.old.items }
-    ensures room { OnOk result (vec_len bytes.new + LONGEST_NUMBER ≤ vec_capacity bytes.new) }
+    ensures room { OnOk result (vec_len bytes.new + LONGEST_MARKED ≤ vec_capacity bytes.new) }
 {
-    bytes.reserve(LONGEST_NUMBER)?;
+    bytes.reserve(LONGEST_MARKED)?;
     Ok(())
 }
 
-/// Makes room for a number: mostly it is there. After an end nothing has changed.
+/// Makes room for a marker and a number: mostly it is there. After an end nothing has changed.
 #[inline(always)]
 fn make_room(bytes: &mut Vec<u8>) -> Result<(), Memory>
     ensures same { bytes.new.items ≡ bytes.old.items }
-    ensures room { OnOk result (vec_len bytes.new + LONGEST_NUMBER ≤ vec_capacity bytes.new) }
+    ensures room { OnOk result (vec_len bytes.new + LONGEST_MARKED ≤ vec_capacity bytes.new) }
 {
-    if bytes.capacity() - bytes.len() < LONGEST_NUMBER {
+    if bytes.capacity() - bytes.len() < LONGEST_MARKED {
         return grow(bytes);
     }
     Ok(())
@@ -108,7 +111,8 @@ impl Output {
         Ok(())
     }
 
-    /// A number of 29 bits, in the fewest bytes (1.3.1).
+    /// A number of 29 bits, in the fewest bytes (1.3.1). Most are of one byte.
+    #[inline(always)]
     pub(crate) fn number(&mut self, number: u32) -> Result<(), Memory>
         requires { number < u29_end }
         ensures ok { OnOk result (WritesStep (spell.number number) self.old self.new) }
@@ -116,7 +120,52 @@ impl Output {
         ensures tables { self.new.tables ≡ self.old.tables }
         ensures known { self.new.known ≡ self.old.known }
     {
+        if number < 0x80 && self.bytes.len() < self.bytes.capacity() {
+            self.one_byte(number);
+            return Ok(());
+        }
+        self.any_number(number)
+    }
+
+    /// A number of 29 bits, in the fewest bytes.
+    #[inline(never)]
+    fn any_number(&mut self, number: u32) -> Result<(), Memory>
+        requires { number < u29_end }
+        ensures ok { OnOk result (WritesStep (spell.number number) self.old self.new) }
+        ensures keeps { Keeps self.old self.new }
+        ensures tables { self.new.tables ≡ self.old.tables }
+        ensures known { self.new.known ≡ self.old.known }
+    {
         make_room(&mut self.bytes)?;
+        self.number_in_room(number);
+        Ok(())
+    }
+
+    /// A marker, for which there is room.
+    #[inline(always)]
+    fn marker_in_room(&mut self, marker: Marker)
+        requires { vec_len self.old.bytes < vec_capacity self.old.bytes }
+        ensures writes { WritesStep (spell.byte (marker_byte marker)) self.old self.new }
+        ensures keeps { Keeps self.old self.new }
+        ensures tables { self.new.tables ≡ self.old.tables }
+        ensures known { self.new.known ≡ self.old.known }
+        ensures len { vec_len self.new.bytes ≡ vec_len self.old.bytes + 1 }
+        ensures capacity { vec_capacity self.new.bytes ≡ vec_capacity self.old.bytes }
+    {
+        self.bytes.push_reserved(marker.byte());
+    }
+
+    /// A marker, and the number of 29 bits behind it.
+    #[inline(always)]
+    pub(crate) fn marked_number(&mut self, marker: Marker, number: u32) -> Result<(), Memory>
+        requires { number < u29_end }
+        ensures ok { OnOk result (WritesSteps (marked_steps (marker_byte marker) number) self.old self.new) }
+        ensures keeps { Keeps self.old self.new }
+        ensures tables { self.new.tables ≡ self.old.tables }
+        ensures known { self.new.known ≡ self.old.known }
+    {
+        make_room(&mut self.bytes)?;
+        self.marker_in_room(marker);
         self.number_in_room(number);
         Ok(())
     }

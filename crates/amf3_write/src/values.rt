@@ -21,6 +21,7 @@ use amf3_spelling::Marker;
 
 impl Output {
     /// The integer behind its marker (3.6).
+    #[inline(always)]
     fn integer(&mut self, integer: i32) -> Result<(), Memory>
         requires { IsInteger integer }
         ensures ok { OnOk result (WritesSteps (spell.step (spell.byte 4) ∷ spell.leaf_segments (graph_of_values.integer integer)) self.old self.new) }
@@ -28,10 +29,9 @@ impl Output {
         ensures tables { self.new.tables ≡ self.old.tables }
         ensures known { self.new.known ≡ self.old.known }
     {
-        self.marker(Marker::Integer)?;
         match unsign29(integer) {
             Some(bits) => {
-                self.number(bits.get())?;
+                self.marked_number(Marker::Integer, bits.get())?;
                 Ok(())
             }
             None => unreachable!(),

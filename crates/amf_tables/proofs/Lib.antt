@@ -8,5 +8,6 @@ pub mod KnownPlaces
 pub mod KnownTexts
 pub mod SpelledNodes
 pub mod ShownTexts
+pub mod AlikeTraits
 pub mod TextCodes
 pub mod WrittenEntries

@@ -1,11 +1,13 @@
-ghost use Rattle.std.specs.Prelude.{◌≡◌, ◌<◌, length, IfOk, IfSome, IfNone, OnOk, OnErr};
+ghost use Rattle.std.specs.Prelude.{◌≡◌, ◌<◌, List, true, length, slice_get, Some, IfOk, IfSome, IfNone, OnOk, OnErr};
 ghost use Rattle.amf_graph.specs.Arena.{IsTextId, text_at};
 ghost use Rattle.amf_graph.specs.Order.{Absent};
+ghost use Rattle.amf_graph.specs.TextNumbers.{contents_of};
 ghost use Rattle.amf_tables.specs.FirstPlace.{IsFirstPlace};
+ghost use Rattle.amf_tables.specs.KnownPlaces.{AreKnown, HasPlace};
 ghost use Rattle.amf_tables.specs.KnownTexts.{AreNotedOf};
-ghost use Rattle.amf_tables.specs.KnownWords.{nothing_known, entry_at, AreKnownOf};
+ghost use Rattle.amf_tables.specs.KnownWords.{nothing_known, entry_at, AreKnownOf, TellsPlace};
 ghost use Rattle.amf_tables.specs.ShownTraits.{AreTextIds, AreTraitsOf, shown_entry};
-ghost use Rattle.amf3_spelling.specs.Tables.{with_words, add_entry};
+ghost use Rattle.amf3_spelling.specs.Tables.{Entry, with_words, add_entry};
 ghost use Rattle.amf_tables.specs.TextPlaces.{IsEntered};
 
 use crate::first_places::MAX_ENTRIES;
@@ -99,6 +101,54 @@ fn note_traits(
     }
 }
 
+/// Whether two traits of a graph are seen to be the same: one class by its number, and no sealed members. Of others it says that
+/// they are not.
+fn are_alike(traits: &TraitsView<'_>, other: &TraitsView<'_>, graph: &Rooted) -> bool
+    requires shown { AreTraitsOf graph.now.arena traits.now }
+    requires other { AreTraitsOf graph.now.arena other.now }
+    ensures { result ≡ true → shown_entry graph.now.arena traits.now ≡ shown_entry graph.now.arena other.now }
+{
+    if !traits.sealed.is_empty() || !other.sealed.is_empty() || traits.dynamic != other.dynamic {
+        return false;
+    }
+    graph.text_number(traits.class) == graph.text_number(other.class)
+}
+
+/// The place that is known of the traits before these, where these are seen to be the same. Most readers keep the traits of each
+/// record anew, however many have one class.
+#[inline(never)]
+fn place_before(known: &KnownPlaces, traits: TraitsId, graph: &Rooted) -> Option<u32>
+    requires { traits.0 < length graph.now.arena.traits }
+    ensures { TellsPlace graph.now.arena known.now traits.0 result }
+{
+    if traits.0 == 0 {
+        return None;
+    }
+    let before = TraitsId(traits.0 - 1);
+    let place = known.place_of(before.0)?;
+    // What is true of every graph.
+    graph.is_finished();
+    if are_alike(&graph.traits(traits), &graph.traits(before), graph) {
+        return Some(place);
+    }
+    None
+}
+
+/// The place of traits, by what is known of them and of those before them. It is noted where there is memory.
+#[inline(always)]
+fn known_place(known: &mut KnownPlaces, traits: TraitsId, graph: &Rooted) -> Option<u32>
+    requires { traits.0 < length graph.now.arena.traits }
+    ensures first { TellsPlace graph.now.arena known.old traits.0 result }
+    ensures known { (entries : List Entry) → AreKnown (entry_at graph.now.arena) entries known.old → AreKnown (entry_at graph.now.arena) entries known.new }
+{
+    if let Some(place) = known.place_of(traits.0) {
+        return Some(place);
+    }
+    let place = place_before(known, traits, graph)?;
+    known.keep(traits.0, place);
+    Some(place)
+}
+
 impl KnownWords {
     /// Nothing is known.
     pub fn new(alloc: Global) -> KnownWords
@@ -111,6 +161,7 @@ impl KnownWords {
     }
 
     /// The first place of a text of the graph, which is entered where it is new. After an error the tables are as before.
+    #[inline(always)]
     pub fn place_or_add_text(
         &mut self,
         text: TextId,
@@ -128,6 +179,27 @@ impl KnownWords {
         if let Some(place) = self.texts.place_of(number) {
             return Ok(TextPlace::Old(place));
         }
+        self.look_up_or_add(text, number, graph, tables)
+    }
+
+    /// Does what `place_or_add_text` does, for a text whose content has this number and no known place.
+    #[inline(never)]
+    fn look_up_or_add(
+        &mut self,
+        text: TextId,
+        number: u32,
+        graph: &Rooted,
+        tables: &mut WriterTables,
+    ) -> Result<TextPlace, Memory>
+        requires id { IsTextId graph.now.arena text.0 }
+        requires number { slice_get (contents_of graph.now.arena.texts) number ≡ Some (text_at graph.now.arena text.0) }
+        requires unknown { HasPlace self.old.texts.places number → ⊥ }
+        requires known { AreKnownOf graph.now.arena tables.old.words self.old }
+        ensures ok { IfOk result (IsEntered tables.old.words.texts (text_at graph.now.arena text.0) tables.new.words.texts) }
+        ensures rest { tables.new ≡ with_words tables.old (record { texts = tables.new.words.texts; traits = tables.old.words.traits }) }
+        ensures known { AreKnownOf graph.now.arena tables.new.words self.new }
+        ensures err { OnErr result (tables.new ≡ tables.old) }
+    {
         let bytes = graph.text(text);
         let count = tables.text_count();
         if self.texts.covers(count) && count < MAX_ENTRIES {
@@ -157,7 +229,7 @@ impl KnownWords {
         ensures none { IfNone result (Absent tables.now.words.traits (entry_at graph.now.arena traits.0)) }
         ensures known { AreKnownOf graph.now.arena tables.now.words self.new }
     {
-        if let Some(place) = self.traits.place_of(traits.0) {
+        if let Some(place) = known_place(&mut self.traits, traits, graph) {
             return Some(place);
         }
         graph.is_finished();

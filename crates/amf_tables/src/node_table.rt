@@ -89,6 +89,7 @@ impl NodeTable {
     }
 
     /// Enters a node. After an error nothing has changed.
+    #[inline(always)]
     pub(crate) fn push(&mut self, node: NodeId) -> Result<(), Memory>
         ensures ok { OnOk result (self.new ≡ self.old ++ node.0 ∷ []) }
         ensures err { OnErr result (self.new ≡ self.old) }

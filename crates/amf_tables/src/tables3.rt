@@ -62,6 +62,7 @@ impl Tables3 {
     }
 
     /// Enters a node. After an error nothing has changed.
+    #[inline(always)]
     pub fn push_node(&mut self, node: NodeId) -> Result<(), Memory>
         ensures ok { OnOk result (self.new ≡ kept_node_place self.old node.0) }
         ensures err { OnErr result (self.new ≡ self.old) }

@@ -1,10 +1,7 @@
-use Rattle.std.proofs.Common.{◌∙◌, refl, ap, sym, subst}
-use Rattle.amf_graph.specs.Arena.{text_at}
+use Rattle.std.proofs.Common.{refl, sym, subst}
 use Rattle.amf_tables.specs.FirstPlace.{IsFirstPlace}
 use Rattle.amf_tables.specs.KnownWords.{AreKnownOf}
-use Rattle.amf_tables.specs.TextPlaces.{IsEntered}
-use Rattle.amf3_spelling.specs.Tables.{Tables, with_words, add_text}
-use Rattle.amf_tables.proofs.KnownTexts.{numbered, absent_by_cover, known_old, known_new, known_next}
+use Rattle.amf_tables.proofs.KnownTexts.{numbered}
 use Rattle.amf_tables.proofs.known_words.KnownWords.place_or_add_text.Goals as goal
 
 pub returns-in-Some-clause-ok : goal.returns-in-Some-clause-ok
@@ -13,33 +10,3 @@ returns-in-Some-clause-ok c =
     let n = c.text_number-number.result in
     let known_text = known.texts.places n c.in-Some.place c.in-Some.ensures.known.0 c.in-Some.ensures.known.1 in
     (subst (λ x. IsFirstPlace c.args.tables.now.words.texts x c.in-Some.place) (numbered c.args.graph.now.arena n c.args.text.0 c.text_number-number.ensures) known_text, refl)
-
-pub returns-in-Old-clause-known : goal.returns-in-Old-clause-known
-returns-in-Old-clause-known c =
-    let a = c.args.graph.now.arena in
-    let known = subst (λ w. AreKnownOf a c.args.tables.now.words w) (sym c.self.view_is) c.requires.known in
-    let n = c.text_number-number.result in
-    let entered = subst (λ x. IsEntered c.args.tables.now.words.texts x c.place_or_add_text.new.self.words.texts c.in_ok-found.found) (c.text-bytes.ensures ∙ sym (numbered a n c.args.text.0 c.text_number-number.ensures)) c.in_ok-found.ensures.ok in
-    known_old a c.args.tables.now.words c.place_or_add_text.new.self.words _ n c.in-Old.place c.in_ok-found.found c.keep.new.self c.in-Old.is known
-    entered (ap (λ (t : Tables). t.words.traits) c.in_ok-found.ensures.rest) c.keep.ensures.knows c.keep.ensures.keeps c.keep.ensures.covered
-
-pub returns-in-New-clause-known : goal.returns-in-New-clause-known
-returns-in-New-clause-known c =
-    let a = c.args.graph.now.arena in
-    let known = subst (λ w. AreKnownOf a c.args.tables.now.words w) (sym c.self.view_is) c.requires.known in
-    let n = c.text_number-number.result in
-    let entered = subst (λ x. IsEntered c.args.tables.now.words.texts x c.place_or_add_text.new.self.words.texts c.in_ok-found.found) (c.text-bytes.ensures ∙ sym (numbered a n c.args.text.0 c.text_number-number.ensures)) c.in_ok-found.ensures.ok in
-    known_new a c.args.tables.now.words c.place_or_add_text.new.self.words _ n c.in-New.place c.in_ok-found.found c.keep-in-New.new.self c.in-New.is known
-    entered (ap (λ (t : Tables). t.words.traits) c.in_ok-found.ensures.rest) c.keep-in-New.ensures.knows c.keep-in-New.ensures.keeps c.keep-in-New.ensures.covered
-
-pub returns-then-count-lt-MAX_ENTRIES-clause-known : goal.returns-then-count-lt-MAX_ENTRIES-clause-known
-returns-then-count-lt-MAX_ENTRIES-clause-known c =
-    let a = c.args.graph.now.arena in
-    let t = c.args.tables.now in
-    let known = subst (λ w. AreKnownOf a t.words w) (sym c.self.view_is) c.requires.known in
-    let n = c.text_number-number.result in
-    let x = text_at a c.args.text.0 in
-    let all = c.covers.ensures.0 c.if-covers.true ∙ c.text_count-count.ensures in
-    let none = absent_by_cover a t.words.texts _ n x known.texts all c.in_default.ensures.unknown c.text_number-number.ensures in
-    known_next a t c.add_text.new.self _ n x c.text_count-count.result c.keep_next.new.self known all c.text_number-number.ensures none c.text_count-count.ensures
-    (c.in_ok-add_text.ensures.ok ∙ ap (λ w. with_words t (add_text t.words w)) c.text-bytes.ensures) c.keep_next.ensures.knows c.keep_next.ensures.keeps

@@ -1,5 +1,5 @@
 use Rattle.std.proofs.Common.{◌∙◌, ◌++◌, ap}
-use Rattle.amf3_write.proofs.output.Output.number.Goals as goal
+use Rattle.amf3_write.proofs.output.Output.any_number.Goals as goal
 
 pub returns-clause-ok : goal.returns-clause-ok
 returns-clause-ok c =
