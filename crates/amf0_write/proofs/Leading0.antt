@@ -28,7 +28,7 @@ use Rattle.amf0_spelling.proofs.Meeting.{meets_prefix, meets_stays, meets_first}
 use Rattle.amf0_write.specs.declared.output.Output.{Output}
 use Rattle.amf0_write.specs.PartLacks0.{outside_of, HasNoIndex, PlaceLacks0}
 use Rattle.amf0_write.specs.Written0.{AreTables0}
-use Rattle.amf0_write.specs.Writes0.{tables_of, done_of, IsDone, Still, Adds, AddsBy, Segment, name, value, ending, segment_values, IsLeafSpelled, IsCanonical, Segments, Leads, Stops}
+use Rattle.amf0_write.specs.Writes0.{tables_of, done_of, IsDone, Still, Adds, AddsLoose, AddsBy, Segment, name, value, ending, segment_values, IsLeafSpelled, IsCanonical, Segments, Leads, Stops}
 use Rattle.amf0_write.proofs.Closing0.{contents_flat, name_fields}
 use Rattle.amf0_write.proofs.Grown0.{grown_still, grown_then, same_outside, count_outside, rank_is, entered_in}
 
@@ -117,6 +117,10 @@ still_then o m n h k = (k.0 ∙ h.0, k.1 ∙ h.1)
 
 pub adds_then : (b c : List ℕ) (o m n : Output) → Adds b o m → Adds c m n → Adds (b ++ c) o n
 adds_then b c o m n h k = record { bytes = k.bytes ∙ ap (λ w. w ++ c) h.bytes ∙ append_assoc o.bytes.items b c; tables = k.tables ∙ h.tables; loose = k.loose ∙ h.loose }
+
+-- a node is entered that no index can name, and bytes are appended behind that
+pub loosely : (id : NodeId) (b : List ℕ) (o m n : Output) → tables_of m ≡ add_done0 (tables_of o) id.0 → m.loose.items ≡ o.loose.items ++ id ∷ [] → m.bytes ≡ o.bytes → Adds b m n → AddsLoose id b o n
+loosely id b o m n e q s h = record { bytes = h.bytes ∙ ap (λ w. w.items ++ b) s; tables = h.tables ∙ e; loose = h.loose ∙ q }
 
 -- What leads from segments to segments.
 

@@ -11,6 +11,7 @@ pub mod Closing0
 pub mod Grown0
 pub mod Leading0
 pub mod Opening0
+pub mod LooseNodes
 pub mod Runs0
 pub mod MetValues0
 pub mod Whole0

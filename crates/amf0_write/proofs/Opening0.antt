@@ -19,7 +19,7 @@ use Rattle.amf0_spelling.specs.Spells0.{NodeBy0, SpellsIn0, IsOpenTraits}
 use Rattle.amf0_spelling.specs.Tables0.{Tables0, add_node0, add_done0}
 use Rattle.amf0_write.specs.declared.output.Output.{Output}
 use Rattle.amf0_write.specs.Written0.{AreTables0}
-use Rattle.amf0_write.specs.Writes0.{tables_of, done_of, Adds, Segment, value, values_then, pairs_then, segment_values, IsCanonical, Segments, Leads, Opens, plain, typed, ecma, strict, Opened}
+use Rattle.amf0_write.specs.Writes0.{tables_of, done_of, AddsLoose, object_front, Segment, value, values_then, pairs_then, segment_values, IsCanonical, Segments, Leads, Opens, plain, typed, ecma, strict, Opened}
 use Rattle.amf0_write.proofs.Grown0.{grown_node, grown_loose}
 use Rattle.amf0_write.proofs.Closing0.{name_fields, values_closed, pairs_closed, segments_split}
 use Rattle.amf0_write.proofs.Leading0.{long_fields, met_first, values_append, sound_node, sound_done}
@@ -34,6 +34,22 @@ pairs_there (p ∷ ps) = ap (λ w. p.1 ∷ w) (pairs_there ps)
 
 pub no_sealed : (a : Node) (c : Traits) → a.head ≡ object c → IsOpenTraits c → Fits a.head a.names a.values → a.values ≡ []
 no_sealed a c e o f = nil_from_length a.values ((subst (λ h. Fits h a.names a.values) e f).0 ∙ ap length o.unsealed)
+
+-- the first bytes of an object
+pub front_none : (x : List ℕ) → x ≡ [] → object_front x ≡ 0x03 ∷ []
+front_none x e = ap object_front e
+
+pub front_some : (x : List ℕ) → (x ≡ [] → ⊥) → object_front x ≡ 0x10 ∷ to_be_bytes w16 (length x) ++ x
+front_some [] f = absurd (f refl)
+front_some (b ∷ x) f = refl
+
+object_opens : (a : Node) (c : Traits) (x : List ℕ) → c.class ≡ x → a.head ≡ object c → IsOpenTraits c → IsText c.class → length c.class < 2 ^ 16 → Opens a (object_front x) (pairs_then (by_name a.names))
+object_opens a c [] n e o t l = plain c e o n
+object_opens a c (b ∷ x) n e o t l =
+    subst (λ (y : List ℕ). Opens a (0x10 ∷ to_be_bytes w16 (length y) ++ y) (pairs_then (by_name a.names))) n (typed c e o (λ z. let k : b ∷ x ≡ [] = sym n ∙ z in cc) t l)
+
+pub opens_object : (a : Node) (c : Traits) → a.head ≡ object c → IsOpenTraits c → IsText c.class → length c.class < 2 ^ 16 → Opens a (object_front c.class) (pairs_then (by_name a.names))
+opens_object a c e o t l = object_opens a c c.class refl e o t l
 
 -- the segments meet what the node's values are
 opens_values : (a : Node) (b : List ℕ) (ps : List Segment) → Opens a b ps → Fits a.head a.names a.values → segment_values ps ≡ values_met a
@@ -187,16 +203,16 @@ module _ (g : Graph) (i : ℕ) (there : i < length g.nodes) (fits : Fits (node_a
       }
 
   -- a date or an XML document
-  pub leads_loose : (b : List ℕ) (before : List Segment) (o p n : Output) (id : NodeId) → id.0 ≡ i → Absent (done_of o) i → tables_of p ≡ add_done0 (tables_of o) i → p.loose.items ≡ o.loose.items ++ id ∷ [] → p.bytes ≡ o.bytes → Loose (node_at g i) b → Adds b p n → Leads g (value (node i) ∷ before) before o n
-  leads_loose b before o p n id k new e q same_bytes x h =
-      let same : tables_of n ≡ add_done0 (tables_of o) i = h.tables ∙ e in
+  pub leads_loose : (b : List ℕ) (before : List Segment) (o n : Output) (id : NodeId) → id.0 ≡ i → Absent (done_of o) i → Loose (node_at g i) b → AddsLoose id b o n → Leads g (value (node i) ∷ before) before o n
+  leads_loose b before o n id k new x h =
+      let same : tables_of n ≡ add_done0 (tables_of o) i = h.tables ∙ ap (λ (j : ℕ). add_done0 (tables_of o) j) k in
       let done : done_of n ≡ done_of o ++ i ∷ [] = ap (λ (t : Tables0). t.amf3.done) same in
       let met : segment_values before ≡ values_met (node_at g i) ++ segment_values before = ap (λ w. w ++ segment_values before) (sym (loose_values (node_at g i) b x fits)) in record {
         bytes = b;
-        appended = h.bytes ∙ ap (λ w. w.items ++ b) same_bytes;
+        appended = h.bytes;
         completes = λ more t d. record { front = b; back = more; mid = tables_of n; joined = refl; first = subst (λ u. IsCanonical g (node i) (tables_of o) b u) (sym same) (begun (tables_of o) b (add_done0 (tables_of o) i) new (loose_behind g i (node_at g i) b (tables_of o) x)); second = d };
         meets = λ all ks w. (ks, subst (λ z. Meets g z (segment_values before) all ks) (sym done) (subst (λ z. Meets g (done_of o ++ i ∷ []) z all ks) (sym met) (met_first new w)), λ k a. a);
         later = omega (arith, ap length done, length_pushed (done_of o) i);
-        grown = grown_loose g i o n id k (loose_enters (node_at g i) b x) same (h.loose ∙ q);
+        grown = grown_loose g i o n id k (loose_enters (node_at g i) b x) same h.loose;
         sound = λ s. subst (AreTables0 g) (sym same) (sound_done g (tables_of o) i (loose_enters (node_at g i) b x) (loose_is (node_at g i) b x) new s);
       }

@@ -1,5 +1,5 @@
 -- Runs that are put onto a stack and taken off it, and that the turns of the writer come to an end.
-use Rattle.std.proofs.Common.{◌≡◌, ℕ, ◌+◌, ◌*◌, ◌≤◌, List, [], ◌∷◌, ◌++◌, reverse, Option, sym, refl, ap, ◌∙◌, subst, inl, inr, arith, append_assoc, append-nil, OnOk, IfOk}
+use Rattle.std.proofs.Common.{◌≡◌, ℕ, ◌+◌, ◌*◌, ◌<◌, ◌≤◌, List, [], ◌∷◌, ◌++◌, length, reverse, Option, sym, refl, ap, ◌∙◌, subst, inl, inr, arith, append_assoc, append-nil, OnOk, IfOk}
 use Rattle.std.specs.Prelude.{Result, Ok, Err}
 use Rattle.std.specs.Result.{IsErrAnd, IsErrOf}
 use Rattle.std.specs.List.{AllByRecursion}
@@ -9,6 +9,7 @@ use Rattle.amf_graph.specs.declared.value.TextId.{TextId}
 use Rattle.amf_graph.specs.declared.value.Value.{Value as Stored}
 use Rattle.amf_graph.specs.Graph.{Graph, Value, node}
 use Rattle.amf_graph.specs.Arena.{Arena, text_at, value_content}
+use Rattle.amf_graph.specs.Order.{Absent}
 use Rattle.amf_graph.specs.Rooted.{RootedArena}
 use Rattle.amf_graph.proofs.Counting.{missing, missing_push}
 use Rattle.amf_graph.proofs.Walks.{each_left, each_right}
@@ -17,9 +18,9 @@ use Rattle.amf0_write.specs.declared.output.Output.{Output}
 use Rattle.amf0_write.specs.declared.stop.Stop.{Stop}
 use Rattle.amf0_write.specs.declared.stop.Stop.TheVariants.{Lack}
 use Rattle.amf0_write.specs.declared.unwritten.Unwritten.{Unwritten}
-use Rattle.amf0_write.specs.Unwritten0.{run_segments, next_segments, segments_left, IsRunOf, AreRunsOf, run_turns, turns_left, Falls}
-use Rattle.amf0_write.specs.Writes0.{Segment, name, value, values_then, pairs_then, Leads, Stops}
-use Rattle.amf0_write.proofs.Leading0.{leads_then, leads_from, leads_to, stops_behind}
+use Rattle.amf0_write.specs.Unwritten0.{run_segments, next_segments, segments_left, IsRunOf, AreRunsOf, run_turns, turns_left, opened_turns, Falls, TurnsFall}
+use Rattle.amf0_write.specs.Writes0.{Segment, name, value, values_then, pairs_then, tables_of, done_of, Leads, Stops}
+use Rattle.amf0_write.proofs.Leading0.{leads_then, leads_from, leads_to, stops_behind, same_done}
 
 pub on_ok : {T E P Q : Type 0} (r : Result T E) → (P → Q) → OnOk r P → OnOk r Q
 on_ok (Ok v) f h = f h
@@ -100,6 +101,10 @@ turn_stops g a whole runs all top o m e h s = stops_behind g whole (run_segments
 pub falls_less : (n : ℕ) (old new : List ℕ) (before after : ℕ) → Falls n old new before after → missing n new * 1073741824 + after ≤ missing n old * 1073741824 + before
 falls_less n old new before after (inl (e, l)) = omega (arith, ap (missing n) e, l)
 falls_less n old new before after (inr (i, l, absent, e, t)) = omega (arith, missing_push n i old l absent, ap (missing n) e, t)
+
+-- a node that is new is entered, and what is opened of it adds no more turns
+pub falls_entered : (g : RootedArena) (waiting left : List Unwritten) (i : ℕ) (o m n : Output) → i < length g.arena.nodes → Absent (done_of o) i → done_of m ≡ done_of o ++ i ∷ [] → tables_of n ≡ tables_of m → turns_left left ≤ turns_left waiting + opened_turns → TurnsFall g waiting left o n
+falls_entered g waiting left i o m n there absent entered same turns = inr (i, there, absent, same_done m n same ∙ entered, omega (arith, turns))
 
 -- the end that is handed on is the one that came
 pub same_stop : {T S : Type 0} (r : Result T Stop) (x : Stop) → IsErrAnd r (λ e. e ≡ x) → IsErrOf r Lack → IsErrOf {T = S} (Err x) Lack

@@ -22,7 +22,9 @@ AreAfter g steps vs = AreFor g (IsAfter g steps) (length g.arena.nodes) vs
 
 -- where the values are those so many steps on from each node, the last one is as many steps on from the first
 abbrev pub IsFurther : (vs : List Stored) → (v further : Stored) → Type 0
-IsFurther vs v further = (g : RootedArena) (steps : ℕ) → AreAfter g steps vs → Names g.arena v → value_content g.arena further ≡ unwrapped_times (content g) steps (value_content g.arena v)
+IsFurther vs v further =
+    (g : RootedArena) (steps : ℕ) → AreAfter g steps vs → Names g.arena v
+    → value_content g.arena further ≡ unwrapped_times (content g) steps (value_content g.arena v)
 
 -- none of the values is a wrapper
 abbrev pub AreUnwrapped : RootedArena → List Stored → Type 0
@@ -38,7 +40,8 @@ IsLowFor g i v = Low (content g) (node i) (value_content g.arena v)
 
 -- where the one value is the end of a node's chain, or as many steps on as there are nodes, the other is what the node is in the lowering
 abbrev pub IsLowEnd : RootedArena → (end v : Stored) → Type 0
-IsLowEnd g end v = (steps i : ℕ) → IsAfter g steps i end → (length g.arena.nodes ≤ steps) ⊎ (wraps (content g) (value_content g.arena end) ≡ false) → IsLowFor g i v
+IsLowEnd g end v =
+    (steps i : ℕ) → IsAfter g steps i end → (length g.arena.nodes ≤ steps) ⊎ (wraps (content g) (value_content g.arena end) ≡ false) → IsLowFor g i v
 
 abbrev pub AreLow : RootedArena → List Stored → Type 0
 AreLow g vs = AreFor g (IsLowFor g) (length g.arena.nodes) vs

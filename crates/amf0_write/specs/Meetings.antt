@@ -22,7 +22,9 @@ pub record AreMet (count : ℕ) (met : List Value) (seen again : List Bool) : Ty
 
 -- whatever was met before, this value is met behind it
 abbrev pub MeetsValue : Stored → (old new : Meetings) → Type 0
-MeetsValue v old new = (a : Arena) (met : List Value) → Names a v → AreMet (length a.nodes) met old.seen.items old.again.items → AreMet (length a.nodes) (met ++ value_content a v ∷ []) new.seen.items new.again.items
+MeetsValue v old new =
+    (a : Arena) (met : List Value) → Names a v → AreMet (length a.nodes) met old.seen.items old.again.items
+    → AreMet (length a.nodes) (met ++ value_content a v ∷ []) new.seen.items new.again.items
 
 -- each of so many nodes that stands at two places is marked, and no other
 pub record AreMarked (count : ℕ) (met : List Value) (again : List Bool) : Type 0 where
@@ -36,7 +38,9 @@ IsFirstReason Applies (Some kind) = Applies kind × ((k : LackKind) → Applies 
 
 -- why the node lacks a spelling first, if it does, wherever this is its place and it is met again if this says so
 abbrev pub IsReasonAt : Graph → (i place : ℕ) → (is_again : Bool) → Option LackKind → Type 0
-IsReasonAt g i place is_again reason = (outside : ℕ) (order : List ℕ) (number : ℕ) → place ≡ place0 g outside order number → (is_again ≡ true) ↔ IsTwice (all_met g order) (node i) → IsFirstReason (NodeLacks0 g outside order number i) reason
+IsReasonAt g i place is_again reason =
+    (outside : ℕ) (order : List ℕ) (number : ℕ) → place ≡ place0 g outside order number → (is_again ≡ true) ↔ IsTwice (all_met g order) (node i)
+    → IsFirstReason (NodeLacks0 g outside order number i) reason
 
 -- the first of these lacks, or that there is none
 abbrev pub TellsFirst : (ℕ → LackKind → Type 0) → Option Lack → Type 0

@@ -1,5 +1,6 @@
 -- How the first lack of a part is looked for. A device of proofs.
-use Rattle.std.specs.Prelude.{◌≡◌, ℕ, ◌+◌, ◌<◌, ◌≤◌, ◌^◌, ◌⊎◌, Bool, true, false, List, [], ◌∷◌, ◌++◌, length, take, set, slice_get, Option, Some, None, Result, OnOk}
+use Rattle.std.specs.Prelude.{◌≡◌, ℕ, ◌+◌, ◌<◌, ◌≤◌, ◌^◌, ◌⊎◌, Bool, true, false, List, [], ◌∷◌, ◌++◌, length}
+use Rattle.std.specs.Prelude.{take, set, slice_get, Option, Some, None, Result, OnOk}
 use Rattle.amf_graph.specs.declared.lack.Lack.{Lack}
 use Rattle.amf_graph.specs.declared.lack.LackKind.{LackKind}
 use Rattle.amf_graph.specs.declared.lack.LackKind.TheVariants.{NoForm, LongName, Shared, FarReference}
@@ -28,7 +29,10 @@ places_end = 2 ^ 30
 
 -- the value leads to a lack, behind what is done in these tables
 abbrev pub HasPartLack0 : Graph → Value → Tables0 → Type 0
-HasPartLack0 g v t = (all : List ℕ) (again : List ℕ) → Meets g t.amf3.done (v ∷ []) all again → (place : ℕ) × (i : ℕ) × (kind : LackKind) × (slice_get all place ≡ Some i) × PlaceLacks0 g (outside_of g t) (length t.amf3.done) all again place i kind
+HasPartLack0 g v t =
+    (all : List ℕ) (again : List ℕ) → Meets g t.amf3.done (v ∷ []) all again
+    → (place : ℕ) × (i : ℕ) × (kind : LackKind) × (slice_get all place ≡ Some i)
+    × PlaceLacks0 g (outside_of g t) (length t.amf3.done) all again place i kind
 
 -- how a node was met when the tables had so many places
 abbrev pub WasMet : Tables → ℕ → ℕ → Meeting → Type 0
@@ -38,7 +42,9 @@ WasMet t count i (At place) = (slice_get t.nodes place ≡ Some i) × (place < c
 
 -- how each node was met then, but for these, which count as never met
 abbrev pub AreTold : Tables → ℕ → List ℕ → List Meeting → Type 0
-AreTold t count loose meetings = (i : ℕ) (m : Meeting) → slice_get meetings i ≡ Some m → (WasMet t count i m × Absent loose i) ⊎ ((m ≡ Never) × ((k : ℕ) × (slice_get loose k ≡ Some i)))
+AreTold t count loose meetings =
+    (i : ℕ) (m : Meeting) → slice_get meetings i ≡ Some m → (WasMet t count i m × Absent loose i)
+    ⊎ ((m ≡ Never) × ((k : ℕ) × (slice_get loose k ≡ Some i)))
 
 -- tables that nodes were entered in since, with those that have no place
 pub record AreGrownTables (g : Graph) (old new : Tables0) (since : List NodeId) : Type 0 where
@@ -52,8 +58,11 @@ pub record AreGrownTables (g : Graph) (old new : Tables0) (since : List NodeId) 
 -- how a node was met, where these are all that were, of which so many that an index could name are in no table
 abbrev pub IsMetAs : Graph → ℕ → List ℕ → ℕ → Meeting → Type 0
 IsMetAs g outside met i Never = Absent met i
-IsMetAs g outside met i Alone = (k : ℕ) × (slice_get met k ≡ Some i) × ((enters0 (node_at g i).head ≡ false) ⊎ ((enters0 (node_at g i).head ≡ true) × (length (entered g (take k met)) < outside)))
-IsMetAs g outside met i (At place) = (k : ℕ) × (slice_get met k ≡ Some i) × (enters0 (node_at g i).head ≡ true) × (length (entered g (take k met)) ≡ outside + place)
+IsMetAs g outside met i Alone =
+    (k : ℕ) × (slice_get met k ≡ Some i)
+    × ((enters0 (node_at g i).head ≡ false) ⊎ ((enters0 (node_at g i).head ≡ true) × (length (entered g (take k met)) < outside)))
+IsMetAs g outside met i (At place) =
+    (k : ℕ) × (slice_get met k ≡ Some i) × (enters0 (node_at g i).head ≡ true) × (length (entered g (take k met)) ≡ outside + place)
 
 -- how each node was met, and the next index
 pub record AreMetAs (g : Graph) (outside : ℕ) (met : List ℕ) (meetings : List Meeting) (next : ℕ) : Type 0 where
@@ -72,6 +81,10 @@ IsLackBehind g v t l = IsPartLack0 (content g) (value_content g.arena v) (tables
 
 abbrev pub HaveGrown : RootedArena → (old new : Tables) → (since : List NodeId) → Type 0
 HaveGrown g old new since = AreGrownTables (content g) (tables0 old) (tables0 new) since
+
+-- and there were so many places
+abbrev pub HaveGrownFrom : RootedArena → (count : ℕ) → (old new : Tables) → (since : List NodeId) → Type 0
+HaveGrownFrom g count old new since = HaveGrown g old new since × (count ≡ length old.nodes)
 
 abbrev pub AreMetBefore : RootedArena → Tables → List Meeting → (next : ℕ) → Type 0
 AreMetBefore g t meetings next = AreMetAs (content g) (outside_of (content g) (tables0 t)) t.done meetings next
@@ -99,7 +112,8 @@ IsLeast Lacks (Some l) = IsFirstLack Lacks l.node l.kind
 -- a reason at the node of a number is noted where it comes before the least so far
 abbrev pub IsLesser : LackKind → ℕ → Option Lack → Option Lack → Type 0
 IsLesser kind number None new = new ≡ Some (record { kind = kind; node = number })
-IsLesser kind number (Some least) new = ((number < least.node) × (new ≡ Some (record { kind = kind; node = number }))) ⊎ ((least.node ≤ number) × (new ≡ Some least))
+IsLesser kind number (Some least) new =
+    ((number < least.node) × (new ≡ Some (record { kind = kind; node = number }))) ⊎ ((least.node ≤ number) × (new ≡ Some least))
 
 abbrev pub IsNoted : List ℕ → ℕ → LackKind → Option Lack → Option Lack → Type 0
 IsNoted order i kind old new = ((number : ℕ) × (slice_get order number ≡ Some i) × IsLesser kind number old new) ⊎ (Absent order i × (new ≡ old))
@@ -137,8 +151,12 @@ left_of g false i left = left
 
 -- the search goes on by a node, whatever else is left to be met
 abbrev pub SearchesNode : Graph → (order : List ℕ) → (i : ℕ) → (is_new : Bool) → (old new : Search) → Type 0
-SearchesNode g order i is_new old new = (outside : ℕ) (before : List ℕ) (from left : List Value) → Searched g outside before from order old (node i ∷ left) → Searched g outside before from order new (left_of g is_new i left)
+SearchesNode g order i is_new old new =
+    (outside : ℕ) (before : List ℕ) (from left : List Value) → Searched g outside before from order old (node i ∷ left)
+    → Searched g outside before from order new (left_of g is_new i left)
 
 -- the search goes on by a value that alone is left, and by all behind it
 abbrev pub SearchesAll : {X E : Type 0} → Graph → (order : List ℕ) → Value → (old new : Search) → Result X E → Type 0
-SearchesAll g order v old new result = (outside : ℕ) (before : List ℕ) (from : List Value) → Searched g outside before from order old (v ∷ []) → OnOk result (Searched g outside before from order new [])
+SearchesAll g order v old new result =
+    (outside : ℕ) (before : List ℕ) (from : List Value) → Searched g outside before from order old (v ∷ [])
+    → OnOk result (Searched g outside before from order new [])

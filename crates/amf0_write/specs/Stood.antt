@@ -11,8 +11,8 @@ use Rattle.amf_graph.specs.Rooted.{RootedArena, content}
 use Rattle.amf_graph.specs.StandIns.{opened_traits, sealed_of, unsealed_of}
 use Rattle.amf_graph.specs.Views.{named}
 use Rattle.amf0_spelling.specs.Lacks0.{HasNoForm}
-use Rattle.amf0_write.specs.declared.low_node.LowNode.{LowNode}
-use Rattle.amf0_write.specs.declared.low_node.LowNode.TheVariants as low
+use Rattle.amf0_write.specs.declared.lowered_node.LoweredNode.{LoweredNode}
+use Rattle.amf0_write.specs.declared.lowered_node.LoweredNode.TheVariants as lowered
 
 abbrev pub stood_value : List Stored → Stored → Stored
 stood_value ins (Integer n) = Double (record { 0 = signed_pattern n })
@@ -41,10 +41,10 @@ abbrev pub seen : Bool → List Stored → RootedArena → RootedArena
 seen is_lowering ins g = cond is_lowering (stood ins g) g
 
 -- what is seen of the node at this place
-abbrev pub ShowsLow : RootedArena → ℕ → LowNode → Type 0
-ShowsLow g i (low.AsItStands r) = r.now ≡ g
-ShowsLow g i low.NoForm = HasNoForm (node_at (content g) i) (node_at (content g) i).head
-ShowsLow g i (low.Date p) = stored_at g.arena i ≡ closed (date p.0) [] []
-ShowsLow g i (low.XmlDocument text) = (x : ℕ) × (stored_at g.arena i ≡ closed (xml_document x) [] []) × (text.now ≡ text_at g.arena x)
-ShowsLow g i (low.Array items names) = stored_at g.arena i ≡ closed array (named names.items) items.items
-ShowsLow g i (low.Object t members) = stored_at g.arena i ≡ closed (object t.0) (named members.items) []
+abbrev pub ShowsLowered : RootedArena → ℕ → LoweredNode → Type 0
+ShowsLowered g i (lowered.AsItStands r) = r.now ≡ g
+ShowsLowered g i lowered.NoForm = HasNoForm (node_at (content g) i) (node_at (content g) i).head
+ShowsLowered g i (lowered.Date p) = stored_at g.arena i ≡ closed (date p.0) [] []
+ShowsLowered g i (lowered.XmlDocument text) = (x : ℕ) × (stored_at g.arena i ≡ closed (xml_document x) [] []) × (text.now ≡ text_at g.arena x)
+ShowsLowered g i (lowered.Array items names) = stored_at g.arena i ≡ closed array (named names.items) items.items
+ShowsLowered g i (lowered.Object t members) = stored_at g.arena i ≡ closed (object t.0) (named members.items) []

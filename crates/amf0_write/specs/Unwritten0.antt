@@ -6,7 +6,7 @@ use Rattle.amf_graph.specs.declared.value.TextId.{TextId}
 use Rattle.amf_graph.specs.declared.value.Value.{Value as Stored}
 use Rattle.amf_graph.specs.declared.value.Value.TheVariants.{Node as NodeRef}
 use Rattle.amf_graph.specs.ByName.{by_name}
-use Rattle.amf_graph.specs.Graph.{node, array, object, Node, Value, Graph}
+use Rattle.amf_graph.specs.Graph.{leaf, node, array, object, Leaf, Node, Value, Graph}
 use Rattle.amf_graph.specs.Arena.{Arena, Names, IsTextId, text_at, traits_at, value_content}
 use Rattle.amf_graph.specs.Order.{Absent}
 use Rattle.amf_graph.specs.Reached.{IsReachedValue}
@@ -16,7 +16,7 @@ use Rattle.amf0_spelling.specs.Lacks0.{IsShortName}
 use Rattle.amf0_write.specs.declared.unwritten.Unwritten.{Unwritten}
 use Rattle.amf0_write.specs.declared.unwritten.Unwritten.TheVariants.{One, Values, Made, Pairs, Sorted}
 use Rattle.amf0_write.specs.declared.output.Output.{Output}
-use Rattle.amf0_write.specs.Writes0.{Segment, value, values_then, pairs_then, Leads, Stops, Opened}
+use Rattle.amf0_write.specs.Writes0.{Segment, name, value, ending, values_then, pairs_then, done_of, Leads, Stops, Opened}
 
 -- the segments of a run
 abbrev pub run_segments : Arena → Unwritten → List Segment
@@ -90,7 +90,12 @@ node_turns = 2 ^ 30
 
 -- no more turns are left than before; or one of so many nodes is new among those written, and no more turns came than a node has
 abbrev pub Falls : ℕ → List ℕ → List ℕ → ℕ → ℕ → Type 0
-Falls count old new before after = ((new ≡ old) × (after ≤ before)) ⊎ ((i : ℕ) × (i < count) × Absent old i × (new ≡ old ++ i ∷ []) × (after ≤ before + node_turns))
+Falls count old new before after =
+    ((new ≡ old) × (after ≤ before)) ⊎ ((i : ℕ) × (i < count) × Absent old i × (new ≡ old ++ i ∷ []) × (after ≤ before + node_turns))
+
+-- the turns of a stack fall so from one output to the other
+abbrev pub TurnsFall : RootedArena → (waiting left : List Unwritten) → Output → Output → Type 0
+TurnsFall g waiting left old new = Falls (length g.arena.nodes) (done_of old) (done_of new) (turns_left waiting) (turns_left left)
 
 -- What is to be written of values and of pairs, and what is opened.
 
@@ -109,13 +114,35 @@ array_node a names items = record { head = array; names = pairs_of a names; valu
 abbrev pub object_node : Arena → ℕ → List (TextId × Stored) → Node
 object_node a traits members = record { head = object (traits_at a traits); names = pairs_of a members; values = [] }
 
+-- pairs were put onto a stack, in by-name order
+abbrev pub PutsSorted : Arena → List (TextId × Stored) → (waiting left : List Unwritten) → Type 0
+PutsSorted a ps waiting left = segments_left a left ≡ sorted_ahead a ps ++ segments_left a waiting
+
+-- the value is this leaf
+abbrev pub IsLeafOf : RootedArena → Stored → Leaf → Type 0
+IsLeafOf g v x = value_content g.arena v ≡ leaf x
+
 -- segments are written up to the next node, with a stack before and behind
 abbrev pub LeadsToNext : RootedArena → List Segment → (waiting left : List Unwritten) → Option NodeId → Output → Output → Type 0
 LeadsToNext g ps waiting left next old new = Leads (content g) (ps ++ segments_left g.arena waiting) (next_segments next ++ segments_left g.arena left) old new
 
+-- a run is so written, or values, or pairs with the end behind them
+abbrev pub LeadsRun : RootedArena → Unwritten → (waiting left : List Unwritten) → Option NodeId → Output → Output → Type 0
+LeadsRun g run waiting left next old new = LeadsToNext g (run_segments g.arena run) waiting left next old new
+
+abbrev pub LeadsValues : RootedArena → List Stored → (waiting left : List Unwritten) → Option NodeId → Output → Output → Type 0
+LeadsValues g vs waiting left next old new = LeadsToNext g (values_ahead g.arena vs) waiting left next old new
+
+abbrev pub LeadsPairs : RootedArena → List (TextId × Stored) → (waiting left : List Unwritten) → Option NodeId → Output → Output → Type 0
+LeadsPairs g ps waiting left next old new = LeadsToNext g (pairs_ahead g.arena ps) waiting left next old new
+
 -- they are written, or wait
 abbrev pub LeadsToRest : RootedArena → List Segment → (waiting left : List Unwritten) → Output → Output → Type 0
 LeadsToRest g ps waiting left old new = Leads (content g) (ps ++ segments_left g.arena waiting) (segments_left g.arena left) old new
+
+-- a node is written up to its first value, and the rest waits
+abbrev pub LeadsNode : RootedArena → NodeId → (waiting left : List Unwritten) → Output → Output → Type 0
+LeadsNode g n waiting left old new = LeadsToRest g (value (node n.0) ∷ []) waiting left old new
 
 abbrev pub StopsWithin : RootedArena → List Segment → List Unwritten → Output → Type 0
 StopsWithin g ps waiting old = Stops (content g) (ps ++ segments_left g.arena waiting) old
@@ -123,10 +150,31 @@ StopsWithin g ps waiting old = Stops (content g) (ps ++ segments_left g.arena wa
 abbrev pub OpenedOn : RootedArena → Node → (waiting left : List Unwritten) → Output → Output → Type 0
 OpenedOn g n waiting left old new = Opened n (segments_left g.arena waiting) (segments_left g.arena left) old new
 
+-- an array or an object of these parts is opened
+abbrev pub OpensArray : RootedArena → List (TextId × Stored) → List Stored → (waiting left : List Unwritten) → Output → Output → Type 0
+OpensArray g names items waiting left old new = OpenedOn g (array_node g.arena names items) waiting left old new
+
+abbrev pub OpensObject : RootedArena → ℕ → List (TextId × Stored) → (waiting left : List Unwritten) → Output → Output → Type 0
+OpensObject g traits members waiting left old new = OpenedOn g (object_node g.arena traits members) waiting left old new
+
+-- a name is written, or the end of pairs, whatever stands behind it
+abbrev pub LeadsName : Graph → List ℕ → Output → Output → Type 0
+LeadsName g x old new = (ps : List Segment) → Leads g (name x ∷ ps) ps old new
+
+abbrev pub LeadsEnd : Output → Output → Type 0
+LeadsEnd old new = (g : Graph) (ps : List Segment) → Leads g (name [] ∷ ending ∷ ps) ps old new
+
 -- a value is written, or it is the next node, whatever stands behind it
 abbrev pub LeadsValue : Graph → Value → Option NodeId → Output → Output → Type 0
 LeadsValue g v next old new = (ps : List Segment) → Leads g (value v ∷ ps) (next_segments next ++ ps) old new
 
+-- a node is written by its index, or it is the next node
+abbrev pub LeadsNamed : Graph → NodeId → Option NodeId → Output → Output → Type 0
+LeadsNamed g n next old new = LeadsValue g (node n.0) next old new
+
 -- a writer of a value stops, whatever stands behind it
 abbrev pub StopsAt : Graph → Value → Output → Type 0
 StopsAt g v old = (ps : List Segment) → Stops g (value v ∷ ps) old
+
+abbrev pub StopsNamed : Graph → NodeId → Output → Type 0
+StopsNamed g n old = StopsAt g (node n.0) old

@@ -5,6 +5,7 @@ use Rattle.amf_io.specs.Field.{Field, flat}
 use Rattle.amf_wire.specs.Style.{canonical}
 use Rattle.amf_wire.specs.Text.{IsText}
 use Rattle.amf_graph.specs.declared.lack.LackKind.{LackKind}
+use Rattle.amf_graph.specs.declared.value.NodeId.{NodeId}
 use Rattle.amf_graph.specs.ByName.{by_name}
 use Rattle.amf_graph.specs.Graph.{Leaf, undefined, null, boolean, integer, double, text, Value, Traits, array, object, Node, Graph, node_at}
 use Rattle.amf_graph.specs.Renumbered.{numbers_of}
@@ -12,7 +13,7 @@ use Rattle.amf3_spelling.specs.ByteSpelling.{Then}
 use Rattle.amf0_spelling.specs.Lacks0.{enters0, entered}
 use Rattle.amf0_spelling.specs.Meets.{Meets, IsAgain}
 use Rattle.amf0_spelling.specs.Spells0.{SpellsIn0, IsOpenTraits}
-use Rattle.amf0_spelling.specs.Tables0.{Tables0}
+use Rattle.amf0_spelling.specs.Tables0.{Tables0, add_done0}
 use Rattle.amf0_write.specs.declared.output.Output.{Output}
 use Rattle.amf0_write.specs.PartLacks0.{outside_of, PlaceLacks0}
 use Rattle.amf0_write.specs.Written0.{tables0, AreTables0}
@@ -43,6 +44,24 @@ pub record Adds (b : List ℕ) (old new : Output) : Type 0 where
   pub tables : tables_of new ≡ tables_of old
   pub loose : new.loose.items ≡ old.loose.items
 
+-- bytes are appended, and a node is entered that no index can name
+pub record AddsLoose (n : NodeId) (b : List ℕ) (old new : Output) : Type 0 where
+  pub bytes : new.bytes.items ≡ old.bytes.items ++ b
+  pub tables : tables_of new ≡ add_done0 (tables_of old) n.0
+  pub loose : new.loose.items ≡ old.loose.items ++ n ∷ []
+
+-- the bytes of a date, in the time zone 0, and those of an XML document (2.13, 2.17)
+abbrev pub date_bytes : ℕ → List ℕ
+date_bytes p = 0x0B ∷ to_be_bytes w64 p ++ 0 ∷ 0 ∷ []
+
+abbrev pub document_bytes : List ℕ → List ℕ
+document_bytes x = 0x0F ∷ to_be_bytes w32 (length x) ++ x
+
+-- the first bytes of an object of this class: where that is empty, the object has no name (2.5, 2.18)
+abbrev pub object_front : List ℕ → List ℕ
+object_front [] = 0x03 ∷ []
+object_front (b ∷ x) = 0x10 ∷ to_be_bytes w16 (length (b ∷ x)) ++ (b ∷ x)
+
 -- no node is entered
 abbrev pub Still : Output → Output → Type 0
 Still old new = (tables_of new ≡ tables_of old) × (new.loose.items ≡ old.loose.items)
@@ -71,7 +90,10 @@ IsLeafSpelled (boolean false) b = b ≡ 0x01 ∷ 0 ∷ []
 IsLeafSpelled (boolean true) b = b ≡ 0x01 ∷ 1 ∷ []
 IsLeafSpelled (integer n) b = ⊥
 IsLeafSpelled (double p) b = (p < 2 ^ 64) × (b ≡ 0x00 ∷ to_be_bytes w64 p)
-IsLeafSpelled (text x) b = IsText x × (((length x < 2 ^ 16) × (b ≡ 0x02 ∷ to_be_bytes w16 (length x) ++ x)) ⊎ ((2 ^ 16 ≤ length x) × (length x < 2 ^ 32) × (b ≡ 0x0C ∷ to_be_bytes w32 (length x) ++ x)))
+IsLeafSpelled (text x) b =
+    IsText x
+    × (((length x < 2 ^ 16) × (b ≡ 0x02 ∷ to_be_bytes w16 (length x) ++ x))
+    ⊎ ((2 ^ 16 ≤ length x) × (length x < 2 ^ 32) × (b ≡ 0x0C ∷ to_be_bytes w32 (length x) ++ x)))
 
 -- what stands behind the marker and the count of a node, or behind its class
 pub data Segment : Type 0 where
@@ -109,25 +131,32 @@ abbrev pub Segments : Graph → List Segment → Tables0 → List ℕ → Tables
 Segments g [] t b t' = (b ≡ []) × (t' ≡ t)
 Segments g (p ∷ ps) t b t' = Then (SegmentBy g p) (Segments g ps) t b t'
 
--- from segments that were to be written to those that are left: what spells those that are left spells all, behind the bytes that were appended, and what is met again over those that are left is met again over all
+-- from segments that were to be written to those that are left: what spells those that are left spells all, behind the bytes that were appended, and
+-- what is met again over those that are left is met again over all
 pub record Leads (g : Graph) (whole left : List Segment) (old new : Output) : Type 0 where
   pub bytes : List ℕ
   pub appended : new.bytes.items ≡ old.bytes.items ++ bytes
   pub completes : (more : List ℕ) (t : Tables0) → Segments g left (tables_of new) more t → Segments g whole (tables_of old) (bytes ++ more) t
-  pub meets : (all again : List ℕ) → Meets g (done_of old) (segment_values whole) all again → (rest : List ℕ) × Meets g (done_of new) (segment_values left) all rest × ((k : ℕ) → IsAgain rest k → IsAgain again k)
+  pub meets : (all again : List ℕ) → Meets g (done_of old) (segment_values whole) all again
+      → (rest : List ℕ) × Meets g (done_of new) (segment_values left) all rest × ((k : ℕ) → IsAgain rest k → IsAgain again k)
   pub later : length (done_of old) ≤ length (done_of new)
   pub grown : Grown g old new
   pub sound : AreTables0 g (tables_of old) → AreTables0 g (tables_of new)
 
 -- a writer of these segments meets something that has no canonical spelling
 abbrev pub Stops : Graph → List Segment → Output → Type 0
-Stops g segments old = (before : ℕ) → before ≤ length (done_of old) → (all again : List ℕ) → Meets g (done_of old) (segment_values segments) all again → (place : ℕ) × (i : ℕ) × (kind : LackKind) × (slice_get all place ≡ Some i) × PlaceLacks0 g (outside_of g (tables_of old)) before all again place i kind
+Stops g segments old =
+    (before : ℕ) → before ≤ length (done_of old) → (all again : List ℕ) → Meets g (done_of old) (segment_values segments) all again
+    → (place : ℕ) × (i : ℕ) × (kind : LackKind) × (slice_get all place ≡ Some i)
+    × PlaceLacks0 g (outside_of g (tables_of old)) before all again place i kind
 
 -- the first bytes of an array or an object, and the segments behind them
 pub data Opens (a : Node) : List ℕ → List Segment → Type 0 where
   plain : (c : Traits) → a.head ≡ object c → IsOpenTraits c → c.class ≡ [] → Opens a (0x03 ∷ []) (pairs_then (by_name a.names))
-  typed : (c : Traits) → a.head ≡ object c → IsOpenTraits c → c.class ≢ [] → IsText c.class → length c.class < 2 ^ 16 → Opens a (0x10 ∷ to_be_bytes w16 (length c.class) ++ c.class) (pairs_then (by_name a.names))
-  ecma : a.head ≡ array → a.values ≡ [] → a.names ≢ [] → length a.names < 2 ^ 32 → Opens a (0x08 ∷ to_be_bytes w32 (length a.names)) (pairs_then (by_name a.names))
+  typed : (c : Traits) → a.head ≡ object c → IsOpenTraits c → c.class ≢ [] → IsText c.class → length c.class < 2 ^ 16
+      → Opens a (0x10 ∷ to_be_bytes w16 (length c.class) ++ c.class) (pairs_then (by_name a.names))
+  ecma : a.head ≡ array → a.values ≡ [] → a.names ≢ [] → length a.names < 2 ^ 32
+      → Opens a (0x08 ∷ to_be_bytes w32 (length a.names)) (pairs_then (by_name a.names))
   strict : a.head ≡ array → a.names ≡ [] → length a.values < 2 ^ 32 → Opens a (0x0A ∷ to_be_bytes w32 (length a.values)) (values_then a.values)
 
 pub record Opened (a : Node) (before after : List Segment) (old new : Output) : Type 0 where

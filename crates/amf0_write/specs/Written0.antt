@@ -2,8 +2,11 @@
 use Rattle.std.specs.Prelude.{◌≡◌, ℕ, true, false, List, [], ◌++◌, slice_get, Some}
 use Rattle.amf_io.specs.Field.{Field, flat}
 use Rattle.amf_wire.specs.Style.{canonical}
+use Rattle.amf_graph.specs.declared.value.Value.{Value as Stored}
+use Rattle.amf_graph.specs.Arena.{value_content}
 use Rattle.amf_graph.specs.Graph.{Value, Graph, node_at}
 use Rattle.amf_graph.specs.Order.{IsDistinct}
+use Rattle.amf_graph.specs.Rooted.{RootedArena, content}
 use Rattle.amf3_spelling.specs.Tables.{Tables}
 use Rattle.amf_graph.specs.declared.lack.LackKind.{LackKind}
 use Rattle.amf0_spelling.specs.Lacks0.{enters0, is_loose0, entered, IsLack0}
@@ -23,7 +26,12 @@ tables0 t = record { amf3 = record { words = t.words; nodes = []; done = t.done 
 abbrev pub AppendsPart0 : Graph → Value → Tables0 → Tables0 → List ℕ → List ℕ → Type 0
 AppendsPart0 g v t t' old new = (fs : List Field) × Spells0 canonical g v t fs t' × (new ≡ old ++ flat fs)
 
--- the tables behind canonical spellings of a graph: each node that was written stands there once, an array or an object with an index, and any other is a date or an XML document; of the arrays and objects some first ones may be in no table
+-- the same of a value that a graph keeps
+abbrev pub AppendsKeptPart0 : RootedArena → Stored → Tables0 → Tables0 → List ℕ → List ℕ → Type 0
+AppendsKeptPart0 g v t t' old new = AppendsPart0 (content g) (value_content g.arena v) t t' old new
+
+-- the tables behind canonical spellings of a graph: each node that was written stands there once, an array or an object with an index, and any other
+-- is a date or an XML document; of the arrays and objects some first ones may be in no table
 pub record AreTables0 (g : Graph) (t : Tables0) : Type 0 where
   pub once : IsDistinct t.amf3.done
   pub outside : List ℕ

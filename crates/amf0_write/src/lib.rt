@@ -3,9 +3,9 @@
 
 mod chains;
 mod first_lack;
-mod low_node;
-mod low_open;
 mod lowered;
+mod lowered_node;
+mod lowered_open;
 mod lowering;
 mod meeting;
 mod meetings;

@@ -13,12 +13,12 @@ ghost use Rattle.amf_iso.specs.Contents.{pairs_of, ArePairs};
 ghost use Rattle.amf_iso.specs.Remembered.{AreInOrder};
 ghost use Rattle.amf0_spelling.specs.Lacks0.{IsShortName};
 ghost use Rattle.amf0_spelling.specs.Lowered.{IsLoweringOf};
-ghost use Rattle.amf0_write.specs.Stood.{ShowsLow};
+ghost use Rattle.amf0_write.specs.Stood.{ShowsLowered};
 
 use crate::chains::{double_of, stand_ins};
-use crate::low_node::LowNode;
+use crate::lowered_node::LoweredNode;
+use crate::nodes::are_short;
 use crate::rooms::Rooms;
-use crate::values::MAX_SHORT;
 use amf_graph::{NodeId, NodeView, Rooted, TextId, TraitsId, Value};
 use amf_wire::Memory;
 use std::alloc::Global;
@@ -182,12 +182,7 @@ impl<'g> Lowered<'g> {
         requires { ArePairs self.now.arena pairs.now }
         ensures { IsTrue result ↔ AllByRecursion (λ p. IsShortName p.0) (pairs_of self.now.arena pairs.now) }
     {
-        for (name, _) in pairs {
-            if self.text(*name).len() > MAX_SHORT {
-                return false;
-            }
-        }
-        true
+        are_short(pairs, self.graph)
     }
 
     /// Pairs in the order of their names' bytes, which is remembered; pairs of one name keep their order.
@@ -216,24 +211,24 @@ impl<'g> Lowered<'g> {
         alloc: Global,
         node: NodeId,
         rooms: &mut Rooms,
-    ) -> Result<LowNode<'g>, Memory>
+    ) -> Result<LoweredNode<'g>, Memory>
         requires there { node.0 < length self.now.arena.nodes }
         requires order { AreInOrder self.now.arena rooms.old.order }
-        ensures shown { IfOk result (ShowsLow self.now node.0) }
+        ensures shown { IfOk result (ShowsLowered self.now node.0) }
         ensures order { AreInOrder self.now.arena rooms.new.order }
     {
         if !self.is_lowering {
-            return Ok(LowNode::AsItStands(self.graph));
+            return Ok(LoweredNode::AsItStands(self.graph));
         }
         self.graph.is_finished();
         match self.graph.node(node) {
-            NodeView::Date(milliseconds) => Ok(LowNode::Date(milliseconds)),
-            NodeView::XmlDocument(text) => Ok(LowNode::XmlDocument(text)),
+            NodeView::Date(milliseconds) => Ok(LoweredNode::Date(milliseconds)),
+            NodeView::XmlDocument(text) => Ok(LoweredNode::XmlDocument(text)),
             NodeView::Array { items, names } => {
                 let items = stood_values(alloc, items, &self.stand_ins)?;
                 let mut pairs = Vec::with_capacity(alloc, names.len())?;
                 push_pairs(names, &self.stand_ins, &mut pairs)?;
-                Ok(LowNode::Array(items, pairs))
+                Ok(LoweredNode::Array(items, pairs))
             }
             NodeView::Object {
                 traits,
@@ -245,9 +240,9 @@ impl<'g> Lowered<'g> {
                 let mut pairs = emptied(room, sealed.len() + members.len())?;
                 push_sealed(class.sealed, sealed, &self.stand_ins, &mut pairs)?;
                 push_pairs(members, &self.stand_ins, &mut pairs)?;
-                Ok(LowNode::Object(traits, pairs))
+                Ok(LoweredNode::Object(traits, pairs))
             }
-            _ => Ok(LowNode::NoForm),
+            _ => Ok(LoweredNode::NoForm),
         }
     }
 }

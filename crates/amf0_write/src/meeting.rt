@@ -1,7 +1,7 @@
-ghost use Rattle.std.specs.Prelude.{◌≡◌, ◌<◌, length, IfOk};
+ghost use Rattle.std.specs.Prelude.{◌<◌, length, IfOk};
 ghost use Rattle.std.specs.List.{AllByRecursion};
 ghost use Rattle.amf3_spelling.specs.Tables.{Tables};
-ghost use Rattle.amf0_write.specs.Searched.{WasMet, HaveGrown, AreMetBefore};
+ghost use Rattle.amf0_write.specs.Searched.{WasMet, HaveGrownFrom, AreMetBefore};
 
 use amf_graph::{NodeId, Rooted};
 use amf_tables::WriterTables;
@@ -50,7 +50,7 @@ pub(crate) fn meetings_before(
     graph: &Rooted,
 ) -> Result<Vec<Meeting>, Memory>
     requires within { AllByRecursion (λ n. n.0 < length graph.now.arena.nodes) loose.now }
-    ensures { (t : Tables) → HaveGrown graph.now t tables.now loose.now → count ≡ length t.nodes → IfOk result (λ meetings. AreMetBefore graph.now t meetings.items count) }
+    ensures { (t : Tables) → HaveGrownFrom graph.now count t tables.now loose.now → IfOk result (λ meetings. AreMetBefore graph.now t meetings.items count) }
 {
     graph.is_finished();
     let mut meetings = Vec::new(alloc);

@@ -26,7 +26,7 @@ pub(crate) fn has_no_form(node: NodeId, view: NodeView<'_>, graph: &Rooted) -> b
 }
 
 /// Whether each name fits its length field.
-fn are_short(pairs: &[(TextId, Value)], graph: &Rooted) -> bool
+pub(crate) fn are_short(pairs: &[(TextId, Value)], graph: &Rooted) -> bool
     requires { ArePairs graph.now.arena pairs.now }
     ensures { IsTrue result ↔ AllByRecursion (λ p. IsShortName p.0) (pairs_of graph.now.arena pairs.now) }
 {

@@ -1,9 +1,8 @@
-ghost use Rattle.std.specs.Prelude.{◌≡◌, ◌≢◌, ◌+◌, ◌<◌, ◌≤◌, ◌∷◌, [], ◌++◌, length, OnOk};
+ghost use Rattle.std.specs.Prelude.{◌≡◌, ◌≢◌, ◌+◌, ◌<◌, ◌≤◌, [], length, OnOk};
 ghost use Rattle.std.specs.List.{AllByRecursion};
 ghost use Rattle.amf_graph.specs.declared.value.Value.TheVariants.{Node as NodeRef};
 ghost use Rattle.amf_graph.specs.Arena.{traits_at};
 ghost use Rattle.amf_graph.specs.Building.{stored_at};
-ghost use Rattle.amf_graph.specs.Graph as graph_of_values;
 ghost use Rattle.amf_graph.specs.Graph.{node_at};
 ghost use Rattle.amf_graph.specs.Order.{Absent};
 ghost use Rattle.amf_graph.specs.Rooted.{content};
@@ -12,9 +11,8 @@ ghost use Rattle.amf_iso.specs.Remembered.{AreInOrder};
 ghost use Rattle.amf0_spelling.specs.Lacks0.{HasNoForm, HasShortNames, IsShortName};
 ghost use Rattle.amf0_spelling.specs.Lowered.{IsLowered};
 ghost use Rattle.amf0_spelling.specs.Spells0.{IsOpenTraits};
-ghost use Rattle.amf0_write.specs.Unwritten0.{IsMetValue, AreMetPairs, AreRunsOf, segments_left, turns_left, Falls, opened_turns};
-ghost use Rattle.amf0_write.specs.Unwritten0.{LeadsToRest, OpenedOn, array_node, object_node, sorted_ahead};
-ghost use Rattle.amf0_write.specs.Writes0 as segment;
+ghost use Rattle.amf0_write.specs.Unwritten0.{IsMetValue, AreMetPairs, AreRunsOf, turns_left, TurnsFall, opened_turns};
+ghost use Rattle.amf0_write.specs.Unwritten0.{LeadsNode, OpensArray, OpensObject, PutsSorted};
 ghost use Rattle.amf0_write.specs.Writes0.{done_of, Keeps};
 ghost use Rattle.amf_graph.specs.Bounds.{count_end};
 
@@ -44,25 +42,16 @@ impl Output {
         requires short { HasShortNames (node_at (content graph.now) node.0) }
         requires runs { AreRunsOf graph.now waiting.old.items }
         requires order { AreInOrder graph.now.arena order.old }
-        ensures leads { OnOk result (LeadsToRest graph.now (segment.value (graph_of_values.node node.0) ∷ []) waiting.old.items waiting.new.items self.old self.new) }
+        ensures leads { OnOk result (LeadsNode graph.now node waiting.old.items waiting.new.items self.old self.new) }
         ensures runs { OnOk result (AreRunsOf graph.now waiting.new.items) }
-        ensures falls { OnOk result (Falls (length graph.now.arena.nodes) (done_of self.old) (done_of self.new) (turns_left waiting.old.items) (turns_left waiting.new.items)) }
+        ensures falls { OnOk result (TurnsFall graph.now waiting.old.items waiting.new.items self.old self.new) }
         ensures keeps { Keeps self.old self.new }
         ensures order { AreInOrder graph.now.arena order.new }
     {
         graph.is_finished();
         match view {
-            NodeView::Date(milliseconds) => {
-                self.enter_loose(node)?;
-                self.byte(0x0B)?;
-                self.double(milliseconds)?;
-                self.raw(b"\x00\x00")
-            }
-            NodeView::XmlDocument(text) => {
-                self.enter_loose(node)?;
-                self.byte(0x0F)?;
-                self.long(text)
-            }
+            NodeView::Date(milliseconds) => self.date(node, milliseconds),
+            NodeView::XmlDocument(text) => self.document(node, text),
             NodeView::Array { items, names } => {
                 self.enter(node)?;
                 self.array(items, names, graph, order, waiting)
@@ -94,19 +83,17 @@ impl Output {
         requires items { AllByRecursion (IsMetValue graph.now) items.now }
         requires names { AreMetPairs graph.now names.now }
         requires order { AreInOrder graph.now.arena order.old }
-        ensures opened { OnOk result (OpenedOn graph.now (array_node graph.now.arena names.now items.now) waiting.old.items waiting.new.items self.old self.new) }
+        ensures opened { OnOk result (OpensArray graph.now names.now items.now waiting.old.items waiting.new.items self.old self.new) }
         ensures runs { AreRunsOf graph.now waiting.old.items → OnOk result (AreRunsOf graph.now waiting.new.items) }
         ensures turns { OnOk result (turns_left waiting.new.items ≤ turns_left waiting.old.items + opened_turns) }
         ensures keeps { Keeps self.old self.new }
         ensures order { AreInOrder graph.now.arena order.new }
     {
         if names.is_empty() {
-            self.byte(0x0A)?;
-            self.count(items.len() as u32)?;
+            self.counted(0x0A, items.len())?;
             push_values(items, waiting)
         } else {
-            self.byte(0x08)?;
-            self.count(names.len() as u32)?;
+            self.counted(0x08, names.len())?;
             push_pairs(names, graph, order, waiting)
         }
     }
@@ -126,7 +113,7 @@ impl Output {
         requires few_names { length members.now < count_end }
         requires names { AreMetPairs graph.now members.now }
         requires order { AreInOrder graph.now.arena order.old }
-        ensures opened { OnOk result (OpenedOn graph.now (object_node graph.now.arena traits.0 members.now) waiting.old.items waiting.new.items self.old self.new) }
+        ensures opened { OnOk result (OpensObject graph.now traits.0 members.now waiting.old.items waiting.new.items self.old self.new) }
         ensures runs { AreRunsOf graph.now waiting.old.items → OnOk result (AreRunsOf graph.now waiting.new.items) }
         ensures turns { OnOk result (turns_left waiting.new.items ≤ turns_left waiting.old.items + opened_turns) }
         ensures keeps { Keeps self.old self.new }
@@ -134,12 +121,7 @@ impl Output {
     {
         graph.is_finished();
         let class = graph.text(graph.traits(traits).class);
-        if class.is_empty() {
-            self.byte(0x03)?;
-        } else {
-            self.byte(0x10)?;
-            self.short(class)?;
-        }
+        self.object_front(class)?;
         push_pairs(members, graph, order, waiting)
     }
 }
@@ -154,7 +136,7 @@ fn push_pairs<'g>(
 ) -> Result<(), Memory>
     requires pairs { AreMetPairs graph.now pairs.now }
     requires order { AreInOrder graph.now.arena order.old }
-    ensures left { OnOk result (segments_left graph.now.arena waiting.new.items ≡ sorted_ahead graph.now.arena pairs.now ++ segments_left graph.now.arena waiting.old.items) }
+    ensures left { OnOk result (PutsSorted graph.now.arena pairs.now waiting.old.items waiting.new.items) }
     ensures runs { AreRunsOf graph.now waiting.old.items → OnOk result (AreRunsOf graph.now waiting.new.items) }
     ensures turns { OnOk result (turns_left waiting.new.items ≡ turns_left waiting.old.items + (length pairs.now + 1)) }
     ensures order { AreInOrder graph.now.arena order.new }

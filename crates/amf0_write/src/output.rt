@@ -1,7 +1,7 @@
 ghost use Rattle.std.specs.Prelude.{◌≡◌, ◌<◌, ◌^◌, ◌∷◌, [], ◌++◌, length, take, true, false, OnOk, OnErr, IfOk};
 ghost use Rattle.std.specs.Int.{to_be_bytes, w16, w32, w64};
 ghost use Rattle.amf0_spelling.specs.Tables0.{add_node0, add_done0};
-ghost use Rattle.amf0_write.specs.Writes0.{tables_of, Adds, Keeps};
+ghost use Rattle.amf0_write.specs.Writes0.{tables_of, Adds, AddsLoose, Keeps, date_bytes, document_bytes, object_front};
 
 use amf_graph::NodeId;
 use amf_tables::WriterTables;
@@ -115,6 +115,16 @@ impl Output {
         self.raw(&count.to_be_bytes())
     }
 
+    /// A marker, and a count of 32 bits behind it (1.3).
+    pub(crate) fn counted(&mut self, marker: u8, count: usize) -> Result<(), Memory>
+        requires { count < 2 ^ 32 }
+        ensures adds { OnOk result (Adds (marker ∷ to_be_bytes w32 count) self.old self.new) }
+        ensures keeps { Keeps self.old self.new }
+    {
+        self.byte(marker)?;
+        self.count(count as u32)
+    }
+
     /// A text behind its length of 16 bits (1.3.1).
     pub(crate) fn short(&mut self, text: &[u8]) -> Result<(), Memory>
         requires { length text.now < 2 ^ 16 }
@@ -133,5 +143,40 @@ impl Output {
     {
         self.count(text.len() as u32)?;
         self.raw(text)
+    }
+
+    /// A date (2.13).
+    pub(crate) fn date(&mut self, node: NodeId, milliseconds: Pattern) -> Result<(), Memory>
+        ensures adds { OnOk result (AddsLoose node (date_bytes milliseconds.0) self.old self.new) }
+        ensures keeps { Keeps self.old self.new }
+    {
+        self.enter_loose(node)?;
+        self.byte(0x0B)?;
+        self.double(milliseconds)?;
+        self.raw(b"\x00\x00")
+    }
+
+    /// An XML document (2.17).
+    pub(crate) fn document(&mut self, node: NodeId, text: &[u8]) -> Result<(), Memory>
+        requires { length text.now < 2 ^ 32 }
+        ensures adds { OnOk result (AddsLoose node (document_bytes text.now) self.old self.new) }
+        ensures keeps { Keeps self.old self.new }
+    {
+        self.enter_loose(node)?;
+        self.byte(0x0F)?;
+        self.long(text)
+    }
+
+    /// The marker of an object, and its class: without a name where the class is empty (2.5, 2.18).
+    pub(crate) fn object_front(&mut self, class: &[u8]) -> Result<(), Memory>
+        requires { length class.now < 2 ^ 16 }
+        ensures adds { OnOk result (Adds (object_front class.now) self.old self.new) }
+        ensures keeps { Keeps self.old self.new }
+    {
+        if class.is_empty() {
+            return self.byte(0x03);
+        }
+        self.byte(0x10)?;
+        self.short(class)
     }
 }

@@ -5,7 +5,8 @@ ghost use Rattle.amf_graph.specs.Reached.{IsReachedValue};
 ghost use Rattle.amf_graph.specs.Rooted.{content};
 ghost use Rattle.amf3_spelling.specs.Tables.{Tables};
 ghost use Rattle.amf0_write.specs.Meetings.{IsFirstReason};
-ghost use Rattle.amf0_write.specs.Searched.{HasLackBehind, IsLackBehind, AreMetBefore, MeetingLacks, IsBefore, Notes, IsEntered, SearchesNode, SearchesAll, unmet, places_end};
+ghost use Rattle.amf0_write.specs.Searched.{HasLackBehind, IsLackBehind, AreMetBefore, MeetingLacks};
+ghost use Rattle.amf0_write.specs.Searched.{IsBefore, Notes, IsEntered, SearchesNode, SearchesAll, unmet, places_end};
 ghost use Rattle.amf_graph.specs.Bounds.{count_end};
 
 use crate::meeting::Meeting;

@@ -1,16 +1,14 @@
-ghost use Rattle.std.specs.Prelude.{◌≡◌, ◌+◌, ◌<◌, ◌≤◌, List, [], ◌∷◌, ◌++◌, length, reverse, IfOk, OnOk};
+ghost use Rattle.std.specs.Prelude.{◌≡◌, ◌+◌, ◌<◌, ◌≤◌, ◌++◌, length, reverse, IfOk, OnOk};
 ghost use Rattle.std.specs.List.{AllByRecursion};
 ghost use Rattle.std.specs.Result.{IsErrOf};
 ghost use Rattle.amf_graph.specs.Arena.{Arena, text_at};
-ghost use Rattle.amf_graph.specs.Graph as graph_of_values;
 ghost use Rattle.amf_graph.specs.Rooted.{RootedArena, content};
 ghost use Rattle.amf0_spelling.specs.Lacks0.{IsShortName};
 ghost use Rattle.amf0_spelling.specs.Lowered.{IsLowered};
 ghost use Rattle.amf0_write.specs.declared.stop.Stop.TheVariants.{Lack};
 ghost use Rattle.amf0_write.specs.Unwritten0.{IsMetValue, IsMetPair, IsRunOf, AreRunsOf, IsNextOf, run_segments, segments_left, run_turns, turns_left};
-ghost use Rattle.amf0_write.specs.Unwritten0.{LeadsToNext, StopsWithin, values_ahead, pairs_ahead};
-ghost use Rattle.amf0_write.specs.Writes0 as segment;
-ghost use Rattle.amf0_write.specs.Writes0.{tables_of, done_of, Still, Leads, Keeps};
+ghost use Rattle.amf0_write.specs.Unwritten0.{LeadsRun, LeadsValues, LeadsPairs, LeadsName, LeadsEnd, StopsWithin, values_ahead, pairs_ahead};
+ghost use Rattle.amf0_write.specs.Writes0.{tables_of, done_of, Still, Keeps};
 ghost use Rattle.amf0_write.specs.Written0.{AreTables0};
 
 use crate::lowered::Lowered;
@@ -48,7 +46,7 @@ impl Output {
         requires low { IsLowered (content graph.now) }
         requires run { IsRunOf graph.now run }
         requires tables { AreTables0 (content graph.now) (tables_of self.old) }
-        ensures leads { IfOk result (λ next. LeadsToNext graph.now (run_segments graph.now.arena run.entry) waiting.old.items waiting.new.items next self.old self.new) }
+        ensures leads { IfOk result (λ next. LeadsRun graph.now run.entry waiting.old.items waiting.new.items next self.old self.new) }
         ensures lack { IsErrOf result Lack → StopsWithin graph.now (run_segments graph.now.arena run.entry) waiting.old.items self.old }
         ensures next { IfOk result (IsNextOf graph.now (done_of self.new)) }
         ensures runs { AreRunsOf graph.now waiting.old.items → OnOk result (AreRunsOf graph.now waiting.new.items) }
@@ -77,7 +75,7 @@ impl Output {
         requires low { IsLowered (content graph.now) }
         requires run { AllByRecursion (IsMetValue graph.now) values.now }
         requires tables { AreTables0 (content graph.now) (tables_of self.old) }
-        ensures leads { IfOk result (λ next. LeadsToNext graph.now (values_ahead graph.now.arena values.now) waiting.old.items waiting.new.items next self.old self.new) }
+        ensures leads { IfOk result (λ next. LeadsValues graph.now values.now waiting.old.items waiting.new.items next self.old self.new) }
         ensures lack { IsErrOf result Lack → StopsWithin graph.now (values_ahead graph.now.arena values.now) waiting.old.items self.old }
         ensures next { IfOk result (IsNextOf graph.now (done_of self.new)) }
         ensures runs { AreRunsOf graph.now waiting.old.items → OnOk result (AreRunsOf graph.now waiting.new.items) }
@@ -107,7 +105,7 @@ impl Output {
         requires low { IsLowered (content graph.now) }
         requires run { AllByRecursion (IsMetValue graph.now) values.items }
         requires tables { AreTables0 (content graph.now) (tables_of self.old) }
-        ensures leads { IfOk result (λ next. LeadsToNext graph.now (values_ahead graph.now.arena (reverse values.items)) waiting.old.items waiting.new.items next self.old self.new) }
+        ensures leads { IfOk result (λ next. LeadsValues graph.now (reverse values.items) waiting.old.items waiting.new.items next self.old self.new) }
         ensures lack { IsErrOf result Lack → StopsWithin graph.now (values_ahead graph.now.arena (reverse values.items)) waiting.old.items self.old }
         ensures next { IfOk result (IsNextOf graph.now (done_of self.new)) }
         ensures runs { AreRunsOf graph.now waiting.old.items → OnOk result (AreRunsOf graph.now waiting.new.items) }
@@ -135,7 +133,7 @@ impl Output {
         requires low { IsLowered (content graph.now) }
         requires run { AllByRecursion (IsMetPair graph.now) pairs.now }
         requires tables { AreTables0 (content graph.now) (tables_of self.old) }
-        ensures leads { IfOk result (λ next. LeadsToNext graph.now (pairs_ahead graph.now.arena pairs.now) waiting.old.items waiting.new.items next self.old self.new) }
+        ensures leads { IfOk result (λ next. LeadsPairs graph.now pairs.now waiting.old.items waiting.new.items next self.old self.new) }
         ensures lack { IsErrOf result Lack → StopsWithin graph.now (pairs_ahead graph.now.arena pairs.now) waiting.old.items self.old }
         ensures next { IfOk result (IsNextOf graph.now (done_of self.new)) }
         ensures runs { AreRunsOf graph.now waiting.old.items → OnOk result (AreRunsOf graph.now waiting.new.items) }
@@ -169,7 +167,7 @@ impl Output {
         requires low { IsLowered (content graph.now) }
         requires run { AllByRecursion (IsMetPair graph.now) pairs.items }
         requires tables { AreTables0 (content graph.now) (tables_of self.old) }
-        ensures leads { IfOk result (λ next. LeadsToNext graph.now (pairs_ahead graph.now.arena (reverse pairs.items)) waiting.old.items waiting.new.items next self.old self.new) }
+        ensures leads { IfOk result (λ next. LeadsPairs graph.now (reverse pairs.items) waiting.old.items waiting.new.items next self.old self.new) }
         ensures lack { IsErrOf result Lack → StopsWithin graph.now (pairs_ahead graph.now.arena (reverse pairs.items)) waiting.old.items self.old }
         ensures next { IfOk result (IsNextOf graph.now (done_of self.new)) }
         ensures runs { AreRunsOf graph.now waiting.old.items → OnOk result (AreRunsOf graph.now waiting.new.items) }
@@ -196,7 +194,7 @@ impl Output {
     fn name(&mut self, name: TextId, graph: &Lowered<'_>) -> Result<(), Memory>
         requires there { name.0 < length graph.now.arena.texts }
         requires fits { IsShortName (text_at graph.now.arena name.0) }
-        ensures leads { OnOk result ((ps : List segment.Segment) → Leads (content graph.now) (segment.name (text_at graph.now.arena name.0) ∷ ps) ps self.old self.new) }
+        ensures leads { OnOk result (LeadsName (content graph.now) (text_at graph.now.arena name.0) self.old self.new) }
         ensures still { OnOk result (Still self.old self.new) }
         ensures keeps { Keeps self.old self.new }
     {
@@ -206,7 +204,7 @@ impl Output {
 
     /// The end of pairs: the empty name and the marker of the end (2.5, 2.10).
     fn end(&mut self) -> Result<(), Memory>
-        ensures leads { OnOk result ((g : graph_of_values.Graph) (ps : List segment.Segment) → Leads g (segment.name [] ∷ segment.ending ∷ ps) ps self.old self.new) }
+        ensures leads { OnOk result (LeadsEnd self.old self.new) }
         ensures still { OnOk result (Still self.old self.new) }
         ensures keeps { Keeps self.old self.new }
     {

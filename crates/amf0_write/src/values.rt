@@ -1,4 +1,4 @@
-ghost use Rattle.std.specs.Prelude.{◌≡◌, ◌≢◌, ◌<◌, ◌≤◌, ◌^◌, ◌∷◌, ◌++◌, [], length, IfOk, OnOk};
+ghost use Rattle.std.specs.Prelude.{◌≢◌, ◌<◌, ◌≤◌, ◌^◌, ◌∷◌, ◌++◌, [], length, IfOk, OnOk};
 ghost use Rattle.std.specs.Int.{to_be_bytes, w16};
 ghost use Rattle.std.specs.Result.{IsErrOf};
 ghost use Rattle.amf_graph.specs.declared.value.NodeId.{NodeId};
@@ -11,13 +11,14 @@ ghost use Rattle.amf_wire.specs.Text.{IsText};
 ghost use Rattle.amf_iso.specs.Remembered.{AreInOrder};
 ghost use Rattle.amf0_spelling.specs.Lowered.{IsLowered};
 ghost use Rattle.amf0_write.specs.declared.stop.Stop.TheVariants.{Lack};
-ghost use Rattle.amf0_write.specs.Unwritten0.{IsMetValue, AreRunsOf, IsNextOf, turns_left, Falls, LeadsToRest, LeadsValue, StopsAt, StopsWithin};
+ghost use Rattle.amf0_write.specs.Unwritten0.{IsMetValue, AreRunsOf, IsNextOf, IsLeafOf, TurnsFall};
+ghost use Rattle.amf0_write.specs.Unwritten0.{LeadsNode, LeadsValue, LeadsNamed, StopsAt, StopsNamed, StopsWithin};
 ghost use Rattle.amf0_write.specs.Writes0 as segment;
 ghost use Rattle.amf0_write.specs.Writes0.{tables_of, done_of, IsLeafSpelled, Adds, AddsBy, Still, Grown, Leads, Keeps, Stops};
 ghost use Rattle.amf0_write.specs.Written0.{AreTables0};
 
-use crate::low_node::LowNode;
 use crate::lowered::Lowered;
+use crate::lowered_node::LoweredNode;
 use crate::nodes::{has_no_form, has_short_names};
 use crate::output::Output;
 use crate::rooms::Rooms;
@@ -90,7 +91,7 @@ impl Output {
         requires low { IsLowered (content graph.now) }
         requires met { IsMetValue graph.now value }
         requires leaf { (n : NodeId) → value ≢ NodeRef n }
-        ensures adds { (x : graph_of_values.Leaf) → value_content graph.now.arena value ≡ graph_of_values.leaf x → OnOk result (AddsBy (IsLeafSpelled x) self.old self.new) }
+        ensures adds { (x : graph_of_values.Leaf) → IsLeafOf graph.now value x → OnOk result (AddsBy (IsLeafSpelled x) self.old self.new) }
         ensures keeps { Keeps self.old self.new }
     {
         match value {
@@ -130,8 +131,8 @@ impl Output {
     /// Writes a node by its index (2.9). One that has not been written is given back. It stops where no index can say the place.
     #[inline(always)]
     fn known_node(&mut self, node: NodeId) -> Result<Option<NodeId>, Stop>
-        ensures leads { (g : graph_of_values.Graph) → AreTables0 g (tables_of self.old) → IfOk result (λ next. LeadsValue g (graph_of_values.node node.0) next self.old self.new) }
-        ensures lack { (g : graph_of_values.Graph) → AreTables0 g (tables_of self.old) → IsErrOf result Lack → StopsAt g (graph_of_values.node node.0) self.old }
+        ensures leads { (g : graph_of_values.Graph) → AreTables0 g (tables_of self.old) → IfOk result (λ next. LeadsNamed g node next self.old self.new) }
+        ensures lack { (g : graph_of_values.Graph) → AreTables0 g (tables_of self.old) → IsErrOf result Lack → StopsNamed g node self.old }
         ensures next { (g : RootedArena) → IsMetValue g (NodeRef node) → IfOk result (IsNextOf g (done_of self.new)) }
         ensures still { OnOk result (Still self.old self.new) }
         ensures stopped { IsErrOf result Lack → Still self.old self.new }
@@ -179,24 +180,28 @@ impl Output {
         requires new { Absent (done_of self.old) node.0 }
         requires runs { AreRunsOf graph.now waiting.old.items }
         requires order { AreInOrder graph.now.arena rooms.old.order }
-        ensures leads { OnOk result (LeadsToRest graph.now (segment.value (graph_of_values.node node.0) ∷ []) waiting.old.items waiting.new.items self.old self.new) }
+        ensures leads { OnOk result (LeadsNode graph.now node waiting.old.items waiting.new.items self.old self.new) }
         ensures lack { IsErrOf result Lack → StopsWithin graph.now (segment.value (graph_of_values.node node.0) ∷ []) waiting.old.items self.old }
         ensures still { IsErrOf result Lack → Still self.old self.new }
         ensures runs { OnOk result (AreRunsOf graph.now waiting.new.items) }
-        ensures falls { OnOk result (Falls (length graph.now.arena.nodes) (done_of self.old) (done_of self.new) (turns_left waiting.old.items) (turns_left waiting.new.items)) }
+        ensures falls { OnOk result (TurnsFall graph.now waiting.old.items waiting.new.items self.old self.new) }
         ensures keeps { Keeps self.old self.new }
         ensures order { AreInOrder graph.now.arena rooms.new.order }
     {
         match graph.node(self.alloc, node, rooms)? {
-            LowNode::AsItStands(graph) => self.stored_node(node, graph, &mut rooms.order, waiting),
-            LowNode::NoForm => Err(Stop::Lack),
-            LowNode::Date(milliseconds) => self.low_date(node, milliseconds, graph, waiting),
-            LowNode::XmlDocument(text) => self.low_document(node, text, graph, waiting),
-            LowNode::Array(items, names) => {
-                self.low_array(node, items, names, graph, rooms, waiting)
+            LoweredNode::AsItStands(graph) => {
+                self.stored_node(node, graph, &mut rooms.order, waiting)
             }
-            LowNode::Object(traits, members) => {
-                self.low_object(node, traits, members, graph, rooms, waiting)
+            LoweredNode::NoForm => Err(Stop::Lack),
+            LoweredNode::Date(milliseconds) => {
+                self.lowered_date(node, milliseconds, graph, waiting)
+            }
+            LoweredNode::XmlDocument(text) => self.lowered_document(node, text, graph, waiting),
+            LoweredNode::Array(items, names) => {
+                self.lowered_array(node, items, names, graph, rooms, waiting)
+            }
+            LoweredNode::Object(traits, members) => {
+                self.lowered_object(node, traits, members, graph, rooms, waiting)
             }
         }
     }
@@ -214,11 +219,11 @@ impl Output {
         requires new { Absent (done_of self.old) node.0 }
         requires runs { AreRunsOf graph.now waiting.old.items }
         requires order { AreInOrder graph.now.arena order.old }
-        ensures leads { OnOk result (LeadsToRest graph.now (segment.value (graph_of_values.node node.0) ∷ []) waiting.old.items waiting.new.items self.old self.new) }
+        ensures leads { OnOk result (LeadsNode graph.now node waiting.old.items waiting.new.items self.old self.new) }
         ensures lack { IsErrOf result Lack → StopsWithin graph.now (segment.value (graph_of_values.node node.0) ∷ []) waiting.old.items self.old }
         ensures still { IsErrOf result Lack → Still self.old self.new }
         ensures runs { OnOk result (AreRunsOf graph.now waiting.new.items) }
-        ensures falls { OnOk result (Falls (length graph.now.arena.nodes) (done_of self.old) (done_of self.new) (turns_left waiting.old.items) (turns_left waiting.new.items)) }
+        ensures falls { OnOk result (TurnsFall graph.now waiting.old.items waiting.new.items self.old self.new) }
         ensures keeps { Keeps self.old self.new }
         ensures order { AreInOrder graph.now.arena order.new }
     {

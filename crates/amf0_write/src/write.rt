@@ -1,4 +1,4 @@
-ghost use Rattle.std.specs.Prelude.{◌≡◌, ◌≤◌, length, OnOk, OnErr, IfOk};
+ghost use Rattle.std.specs.Prelude.{◌≡◌, ◌≤◌, OnOk, OnErr, IfOk};
 ghost use Rattle.std.specs.Result.{IsErrOf};
 ghost use Rattle.amf_graph.specs.declared.lack.Lack.{Lack};
 ghost use Rattle.amf_graph.specs.Arena.{Names, value_content};
@@ -8,10 +8,10 @@ ghost use Rattle.amf0_spelling.specs.Lacks0.{IsLack0};
 ghost use Rattle.amf0_spelling.specs.Lowered.{IsLowered};
 ghost use Rattle.amf3_spelling.specs.Tables.{Tables};
 ghost use Rattle.amf0_write.specs.declared.stop.Stop.TheVariants.{Lack as Stopped};
-ghost use Rattle.amf0_write.specs.PartLacks0.{IsPartLack0};
-ghost use Rattle.amf0_write.specs.Searched.{HasPartLack0, HasLackBehind, IsLackBehind, AreGrownTables, HaveGrown};
+ghost use Rattle.amf0_write.specs.PartLacks0.{IsKeptPartLack0};
+ghost use Rattle.amf0_write.specs.Searched.{HasPartLack0, HasLackBehind, IsLackBehind, AreGrownTables, HaveGrownFrom};
 ghost use Rattle.amf0_write.specs.Unwritten0.{IsMetValue};
-ghost use Rattle.amf0_write.specs.Written0.{tables0, AreTables0, AppendsCanonical0, AppendsPart0, AppendsLowered0, IsLoweredLack0};
+ghost use Rattle.amf0_write.specs.Written0.{tables0, AreTables0, AppendsCanonical0, AppendsKeptPart0, AppendsLowered0, IsLoweredLack0};
 ghost use Rattle.amf_graph.specs.Bounds.{count_end};
 
 use crate::lowered::Lowered;
@@ -38,7 +38,7 @@ fn write_value<'g>(
     requires low { IsLowered (content graph.now) }
     requires met { IsMetValue graph.now value }
     requires tables { AreTables0 (content graph.now) (tables0 tables.old) }
-    ensures written { OnOk result (AppendsPart0 (content graph.now) (value_content graph.now.arena value) (tables0 tables.old) (tables0 tables.new) out.old.items out.new.items) }
+    ensures written { OnOk result (AppendsKeptPart0 graph.now value (tables0 tables.old) (tables0 tables.new) out.old.items out.new.items) }
     ensures tables { OnOk result (AreTables0 (content graph.now) (tables0 tables.new)) }
     ensures lack { IsErrOf result Stopped → HasPartLack0 (content graph.now) (value_content graph.now.arena value) (tables0 tables.old) }
     ensures grown { IsErrOf result Stopped → AreGrownTables (content graph.now) (tables0 tables.old) (tables0 tables.new) loose.new.items }
@@ -63,8 +63,8 @@ fn lack_of(
 ) -> Result<Lack, Memory>
     requires met { IsMetValue graph.now value }
     requires few { count ≤ count_end }
-    requires lacking { (t : Tables) × HasLackBehind graph.now value t × HaveGrown graph.now t tables.now loose.now × (count ≡ length t.nodes) }
-    ensures { (t : Tables) → HaveGrown graph.now t tables.now loose.now → count ≡ length t.nodes → IfOk result (IsLackBehind graph.now value t) }
+    requires lacking { (t : Tables) × HasLackBehind graph.now value t × HaveGrownFrom graph.now count t tables.now loose.now }
+    ensures { (t : Tables) → HaveGrownFrom graph.now count t tables.now loose.now → IfOk result (IsLackBehind graph.now value t) }
 {
     graph.is_finished();
     let meetings = meetings_before(alloc, tables, count, loose, graph)?;
@@ -89,9 +89,9 @@ pub fn write0_part(
     requires value { Names graph.now.arena value }
     requires reached { IsReachedValue (content graph.now) (value_content graph.now.arena value) }
     requires tables { AreTables0 (content graph.now) (tables0 tables.old) }
-    ensures written { OnOk result (AppendsPart0 (content graph.now) (value_content graph.now.arena value) (tables0 tables.old) (tables0 tables.new) out.old.items out.new.items) }
+    ensures written { OnOk result (AppendsKeptPart0 graph.now value (tables0 tables.old) (tables0 tables.new) out.old.items out.new.items) }
     ensures tables { OnOk result (AreTables0 (content graph.now) (tables0 tables.new)) }
-    ensures lack { (l : Lack) → IsErrOf result (WriteEnd.NoSpelling l) → IsPartLack0 (content graph.now) (value_content graph.now.arena value) (tables0 tables.old) l.node l.kind }
+    ensures lack { (l : Lack) → IsErrOf result (WriteEnd.NoSpelling l) → IsKeptPartLack0 graph.now value (tables0 tables.old) l.node l.kind }
     ensures untouched { OnErr result (out.new.items ≡ out.old.items) }
 {
     let count = tables.node_count();

@@ -13,6 +13,7 @@ pub mod HeadReads
 pub mod HolderPut
 pub mod PairReads
 pub mod PairLoops
+pub mod FormatTables
 pub mod FileWeights
 pub mod FileAnswers
 pub mod Walked3

@@ -1,5 +1,5 @@
 -- Bytes have one cut into the fields of a format that repeats a step up to the end of the input.
-use Rattle.std.proofs.Common.{◌≡◌, ℕ, zero, suc, ◌+◌, ◌<◌, List, [], ◌∷◌, ◌++◌, length, take, drop, Some, None, refl, sym, ap, ◌∙◌, arith, subst, append_assoc}
+use Rattle.std.proofs.Common.{◌≡◌, ℕ, zero, suc, ◌+◌, List, [], ◌∷◌, ◌++◌, length, take, drop, Some, None, refl, sym, ap, ◌∙◌, arith, subst}
 use Rattle.std.proofs.lemmas.List.{take_at, drop_at}
 use Rattle.amf_io.specs.Field.{Field, field, Kind, flat, whole}
 use Rattle.amf_io.specs.Layout.{Layout, give, want, stuck, bind, Takes, Runs}

@@ -206,7 +206,7 @@ module _ {S : Type 0} (tells : S → Type 0) (left : S → List ℕ) (version : 
 
 -- What the readers of pairs need of the builder.
 
-pub ready3_start : {S : Type 0} (a : Arena) (t : KeptTables) (c : Cursor S Window) → a ≡ holder_arena → t ≡ no_kept_tables → IsPlaced c → left_of c + 1 < 2 ^ 27 → Ready 0 a t c
+ready3_start : {S : Type 0} (a : Arena) (t : KeptTables) (c : Cursor S Window) → a ≡ holder_arena → t ≡ no_kept_tables → IsPlaced c → left_of c + 1 < 2 ^ 27 → Ready 0 a t c
 ready3_start a t c e h p room =
     subst (λ y. Ready 0 y t c) (sym e) (subst (λ u. Ready 0 holder_arena u c) (sym h)
     (record { built = holder_built; tables = holder_tables; placed = p; few_texts = omega arith; few_traits = omega arith; few_nodes = omega arith }))

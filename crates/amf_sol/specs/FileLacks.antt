@@ -19,7 +19,8 @@ abbrev pub Unless0 : (ℕ → LackKind → Type 0) → ℕ → LackKind → Type
 Unless0 Lacks number EmptyName = (0 < number) × Lacks number EmptyName
 Unless0 Lacks number kind = Lacks number kind
 
--- the first lack in the holder, which keeps the canonical number 0; in AMF 0 numbers are those of the lowered graph, and the holder, the first of its nodes, is in no table
+-- the first lack in the holder, which keeps the canonical number 0; in AMF 0 numbers are those of the lowered graph, and the holder, the first of its
+-- nodes, is in no table
 abbrev pub IsHolderLack : SolVersion → Graph → ℕ → LackKind → Type 0
 IsHolderLack Amf3 g number kind = (order : List ℕ) × IsOrder g order × IsFirstLack (Unless0 (Lacks3 g order)) number kind
 IsHolderLack Amf0 g number kind = (h : Graph) × IsLoweringOf g h × (order : List ℕ) × IsOrder h order × IsFirstLack (Lacks0 h 1 order) number kind

@@ -11,12 +11,15 @@ use Rattle.amf_sol.specs.FileVerdict.{IsFileAccepted, IsFileRefused}
 
 -- an input of bytes is accepted, or it is refused for a reason at an offset
 abbrev pub FilesJudged : Type 0
-FilesJudged = (base limit : ℕ) (input : List ℕ) → base ≤ limit → AreBytes input → IsFileAccepted base limit input ⊎ ((reason : Reason) × (at : ℕ) × IsFileRefused base limit input reason at)
+FilesJudged =
+    (base limit : ℕ) (input : List ℕ) → base ≤ limit → AreBytes input → IsFileAccepted base limit input
+    ⊎ ((reason : Reason) × (at : ℕ) × IsFileRefused base limit input reason at)
 
 -- no more than one verdict holds of it
 pub record FileJudgedOnce (base limit : ℕ) (input : List ℕ) : Type 0 where
   pub not_both : IsFileAccepted base limit input → (reason : Reason) (at : ℕ) → IsFileRefused base limit input reason at → ⊥
-  pub one_refusal : (reason other : Reason) (at place : ℕ) → IsFileRefused base limit input reason at → IsFileRefused base limit input other place → (reason ≡ other) × (at ≡ place)
+  pub one_refusal : (reason other : Reason) (at place : ℕ) → IsFileRefused base limit input reason at → IsFileRefused base limit input other place
+      → (reason ≡ other) × (at ≡ place)
 
 abbrev pub FilesJudgedOnce : Type 0
 FilesJudgedOnce = (base limit : ℕ) (input : List ℕ) → FileJudgedOnce base limit input
@@ -41,7 +44,8 @@ FilesHaveHolders = (o : Shared) (fs : List Field) → SpellsFile free o fs → H
 pub record FileOrLack (o : Shared) : Type 0 where
   pub one_file : (fs gs : List Field) → SpellsFile canonical o fs → SpellsFile canonical o gs → flat fs ≡ flat gs
   pub not_both : (fs : List Field) → SpellsFile canonical o fs → (number : ℕ) (kind : LackKind) → IsFileLack o number kind → ⊥
-  pub one_lack : (number other_number : ℕ) (kind other_kind : LackKind) → IsFileLack o number kind → IsFileLack o other_number other_kind → (number ≡ other_number) × (kind ≡ other_kind)
+  pub one_lack : (number other_number : ℕ) (kind other_kind : LackKind) → IsFileLack o number kind → IsFileLack o other_number other_kind
+      → (number ≡ other_number) × (kind ≡ other_kind)
 
 abbrev pub FilesOrLacks : Type 0
 FilesOrLacks = (o : Shared) → HasHolder o.holder → FileOrLack o

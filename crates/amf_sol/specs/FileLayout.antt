@@ -22,7 +22,11 @@ pub record FileState : Type 0 where
 
 -- a holder without pairs, open, as the only node
 abbrev pub holder_arena : Arena
-holder_arena = record { texts = [] ∷ []; traits = record { class = 0; dynamic = true; sealed = [] } ∷ []; nodes = record { is_open = true; head = object 0; names = []; values = [] } ∷ [] }
+holder_arena = record {
+  texts = [] ∷ [];
+  traits = record { class = 0; dynamic = true; sealed = [] } ∷ [];
+  nodes = record { is_open = true; head = object 0; names = []; values = [] } ∷ [];
+}
 
 abbrev pub no_pairs : State0
 no_pairs = state0_of holder_arena no_kept_tables0
@@ -39,7 +43,9 @@ abbrev pub behind_name : List ℕ → Layout FileState
 behind_name name = want padding.kind (λ zeros. want version_kind (λ b. give (file (version_of b) name no_pairs)))
 
 abbrev pub head_layout : Layout FileState
-head_layout = want signature.kind (λ fixed. want (u32_kind no_refusal) (λ size. want second_signature.kind (λ fixed. bind (short_layout no_pairs) (λ x. behind_name x.bytes))))
+head_layout =
+    want signature.kind (λ fixed. want (u32_kind no_refusal) (λ size.
+    want second_signature.kind (λ fixed. bind (short_layout no_pairs) (λ x. behind_name x.bytes))))
 
 -- a pair
 

@@ -8,8 +8,10 @@ use Rattle.amf_graph.specs.declared.lack.LackKind.TheVariants.{LongName}
 use Rattle.amf_graph.specs.declared.value.Value.{Value as Stored}
 use Rattle.amf_graph.specs.declared.value.TextId.{TextId}
 use Rattle.amf_graph.specs.Arena.{text_at, value_content}
-use Rattle.amf_graph.specs.Graph.{Value, Graph}
+use Rattle.amf_graph.specs.ByName.{by_name}
+use Rattle.amf_graph.specs.Graph.{Value, Graph, node_at}
 use Rattle.amf_graph.specs.Rooted.{RootedArena, content}
+use Rattle.amf_iso.specs.Contents.{pairs_of}
 use Rattle.amf3_spelling.specs.Tables.{Tables}
 use Rattle.amf3_spelling.specs.Then.{Spelling, Then, Plain}
 use Rattle.amf3_spelling.specs.Words3.{Text}
@@ -22,6 +24,10 @@ use Rattle.amf0_spelling.specs.Tables0.{Tables0}
 use Rattle.amf0_write.specs.PartLacks0.{IsPartLack0}
 use Rattle.amf_sol.specs.declared.sol_version.SolVersion.{SolVersion}
 use Rattle.amf_sol.specs.SharedObject.{second_signature, padding, version_field, pair_end}
+
+-- the pairs of this node, in the order of their names
+abbrev pub AreSortedOf : RootedArena → ℕ → List (TextId × Stored) → Type 0
+AreSortedOf g h ps = pairs_of g.arena ps ≡ by_name (node_at (content g) h).names
 
 -- bytes of fields that are so are appended
 abbrev pub Appends : (List Field → Type 0) → List ℕ → List ℕ → Type 0

@@ -24,6 +24,7 @@ use Rattle.amf0_spelling.specs.KeptTables0.{KeptTables0}
 use Rattle.amf0_layout_laws.specs.Layout0.{short_layout}
 use Rattle.amf0_layout_laws.specs.Layout0State.{State0, state0_of}
 use Rattle.amf_sol.specs.declared.sol_version.SolVersion.{SolVersion}
+use Rattle.amf_sol.specs.declared.sol_version.SolVersion.TheVariants.{Amf0, Amf3}
 use Rattle.amf_sol.specs.SharedObject.{exact_kind, holder_head, signature, second_signature, version_kind}
 use Rattle.amf_sol.specs.FileLayout.{FileState, file, pair_by, no_pairs, version_of, behind_name, pair_layout}
 use Rattle.amf_io.specs.Repeated.{steps}
@@ -60,6 +61,11 @@ tables3 t = record { amf3 = t; nodes = []; switched = false }
 abbrev pub state_in3 : Arena → KeptTables → State0
 state_in3 a t = state0_of a (tables3 t)
 
+-- tables for the pairs of this format: in a file of AMF 3 they name nothing of AMF 0
+abbrev pub AreOfFormat : SolVersion → KeptTables0 → Type 0
+AreOfFormat Amf0 t = Unit {0}
+AreOfFormat Amf3 t = t ≡ tables3 t.amf3
+
 -- The holder.
 
 -- the first node is a holder that is still open; so many bytes to come cannot fill it
@@ -75,8 +81,10 @@ closed_holder a = record { arena = changed shut 0 a; root = NodeRef (record { 0 
 -- What is answered of the pairs, up to the end of the input.
 
 -- one pair came, by the state of the reader before and behind it
-abbrev pub AnswersPair : {S : Type 0} → (S → Type 0) → (S → List ℕ) → SolVersion → State0 → State0 → Cursor S Window → Cursor S Window → Result (Unit {0}) ReadEnd → Type 0
-AnswersPair tells left version old new c d result = (n : ℕ) (name : List ℕ) → left_of c < n → Answers tells left (λ done. file version name new) (pair_by version n name old) c d result
+abbrev pub AnswersPair : {S : Type 0} → (S → Type 0) → (S → List ℕ) → SolVersion → State0 → State0 → Cursor S Window → Cursor S Window
+    → Result (Unit {0}) ReadEnd → Type 0
+AnswersPair tells left version old new c d result =
+    (n : ℕ) (name : List ℕ) → left_of c < n → Answers tells left (λ done. file version name new) (pair_by version n name old) c d result
 
 -- so many pairs came, up to the end where the source tells
 pub record PairsTaken (told : Type 0) (version : SolVersion) (n : ℕ) (name : List ℕ) (a : Arena) (input rest : List ℕ) (at place limit : ℕ) : Type 0 where
@@ -102,8 +110,10 @@ pub record PairsEnded (told : Type 0) (version : SolVersion) (n : ℕ) (name : L
   pub ends : EndsBy told (steps (pair_layout n) (suc many) (file version name no_pairs)) input rest at limit e
 
 -- by the cursors before and behind them
-abbrev pub AnswersPairs : {S : Type 0} → (S → Type 0) → (S → List ℕ) → SolVersion → ℕ → List ℕ → Arena → Cursor S Window → Cursor S Window → Result (Unit {0}) ReadEnd → Type 0
-AnswersPairs tells left version n name a c d (Ok x) = PairsTaken (tells (source_of c).now) version n name a (unread left c) (unread left d) (place c) (place d) (bound c)
+abbrev pub AnswersPairs : {S : Type 0} → (S → Type 0) → (S → List ℕ) → SolVersion → ℕ → List ℕ → Arena → Cursor S Window → Cursor S Window
+    → Result (Unit {0}) ReadEnd → Type 0
+AnswersPairs tells left version n name a c d (Ok x) =
+    PairsTaken (tells (source_of c).now) version n name a (unread left c) (unread left d) (place c) (place d) (bound c)
 AnswersPairs tells left version n name a c d (Err e) = PairsEnded (tells (source_of c).now) version n name (unread left c) (unread left d) (place c) (bound c) e
 
 -- the graph has the pairs, in a holder that is closed
@@ -112,6 +122,8 @@ pub record HolderTaken (told : Type 0) (version : SolVersion) (n : ℕ) (name : 
   pub is : g ≡ closed_holder arena
   pub pairs : PairsTaken told version n name arena input rest at place limit
 
-abbrev pub AnswersHolder : {S : Type 0} → (S → Type 0) → (S → List ℕ) → SolVersion → ℕ → List ℕ → Cursor S Window → Cursor S Window → Result RootedArena ReadEnd → Type 0
-AnswersHolder tells left version n name c d (Ok g) = HolderTaken (tells (source_of c).now) version n name g (unread left c) (unread left d) (place c) (place d) (bound c)
+abbrev pub AnswersHolder : {S : Type 0} → (S → Type 0) → (S → List ℕ) → SolVersion → ℕ → List ℕ → Cursor S Window → Cursor S Window
+    → Result RootedArena ReadEnd → Type 0
+AnswersHolder tells left version n name c d (Ok g) =
+    HolderTaken (tells (source_of c).now) version n name g (unread left c) (unread left d) (place c) (place d) (bound c)
 AnswersHolder tells left version n name c d (Err e) = PairsEnded (tells (source_of c).now) version n name (unread left c) (unread left d) (place c) (bound c) e

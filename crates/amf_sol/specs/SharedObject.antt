@@ -1,4 +1,5 @@
--- Which fields spell a shared object file: a signature, a length, a name, a version, and pairs up to the end (the known layout of the local shared objects of Flash).
+-- Which fields spell a shared object file: a signature, a length, a name, a version, and pairs up to the end (the known layout of the local shared
+-- objects of Flash).
 use Rattle.std.specs.Prelude.{◌≡◌, ℕ, ◌<◌, ◌^◌, false, List, [], ◌∷◌, ◌++◌, length, None, Some, if◌then◌else◌, bytes_eq, codes, true}
 use Rattle.std.specs.Int.{to_be_bytes, w32}
 use Rattle.amf_io.specs.declared.reason.Reason.{Reason}
@@ -75,7 +76,10 @@ version_number Amf0 = 0
 version_number Amf3 = 3
 
 abbrev pub version_kind : Kind
-version_kind = record { size = fixed 1; refusal = λ found. if bytes_eq (0 ∷ []) found then None else (if bytes_eq (3 ∷ []) found then None else Some BadVersion) }
+version_kind = record {
+  size = fixed 1;
+  refusal = λ found. if bytes_eq (0 ∷ []) found then None else (if bytes_eq (3 ∷ []) found then None else Some BadVersion);
+}
 
 abbrev pub version_field : SolVersion → Field
 version_field v = field version_kind (version_number v ∷ [])

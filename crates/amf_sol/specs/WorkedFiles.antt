@@ -9,7 +9,10 @@ use Rattle.amf_sol.specs.FileVerdict.{IsFileAccepted, IsFileRefused}
 
 -- a holder of these pairs, and nodes to which they lead
 abbrev pub holder_of : List (List ℕ × Value) → Graph
-holder_of pairs = record { nodes = record { head = holder_head; names = pairs; values = [] } ∷ record { head = array; names = []; values = [] } ∷ []; root = node 0 }
+holder_of pairs = record {
+  nodes = record { head = holder_head; names = pairs; values = [] } ∷ record { head = array; names = []; values = [] } ∷ [];
+  root = node 0;
+}
 
 -- {a: true} in AMF 0, with this length
 abbrev pub one_true : Shared

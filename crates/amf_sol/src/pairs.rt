@@ -2,15 +2,15 @@ ghost use Rattle.std.specs.Prelude.{◌≡◌, ◌+◌, ◌<◌, ℕ, List, OnOk
 ghost use Rattle.amf_io.specs.Cursor.{place};
 ghost use Rattle.amf_io.specs.ReadEnds.{IsPlaced, Goes};
 ghost use Rattle.amf_graph.specs.Building.{no_arena};
-ghost use Rattle.amf3_spelling.specs.KeptTables.{no_kept_tables};
 ghost use Rattle.amf0_spelling.specs.KeptTables0.{no_kept_tables0};
 ghost use Rattle.amf0_spelling.specs.TableParts0.{shown_tables};
 ghost use Rattle.amf0_read.specs.Frames0.{state_in};
 ghost use Rattle.amf0_read.specs.Ready0.{Ready0};
 ghost use Rattle.amf_wire_fields.specs.Room.{room_end, left_of};
 ghost use Rattle.amf3_read.specs.Ready.{Ready};
+ghost use Rattle.amf_sol.specs.declared.sol_version.SolVersion.TheVariants.{Amf0, Amf3};
 ghost use Rattle.amf_sol.specs.FileLayout.{holder_arena};
-ghost use Rattle.amf_sol.specs.FileReading.{state_in3, IsOpenHolder, AnswersPair, AnswersPairs, AnswersHolder, closed_holder};
+ghost use Rattle.amf_sol.specs.FileReading.{state_in3, AreOfFormat, IsOpenHolder, AnswersPair, AnswersPairs, AnswersHolder, closed_holder};
 
 use crate::SolVersion;
 use crate::head::read_pair_end;
@@ -104,38 +104,18 @@ fn read_pairs<S: Source>(
     ensures answers { (n : ℕ) (name : List ℕ) → left_of cursor.old < n → AnswersPairs S.tells S.left version n name builder.new cursor.old cursor.new result }
     ensures holder { OnOk result (IsOpenHolder builder.new 0) }
 {
-    match version {
-        SolVersion::Amf0 => read_pairs0(alloc, cursor, builder, holder),
-        SolVersion::Amf3 => read_pairs3(alloc, cursor, builder, holder),
-    }
-}
-
-/// Reads pairs of AMF 0 to the end of the input, with one set of tables.
-fn read_pairs0<S: Source>(
-    alloc: Global,
-    cursor: &mut Cursor<'_, S>,
-    builder: &mut Builder,
-    holder: NodeId,
-) -> Result<(), ReadEnd>
-    requires first { holder.0 ≡ 0 }
-    requires opened { builder.old ≡ holder_arena }
-    requires placed { IsPlaced cursor.old }
-    requires room { left_of cursor.old + 1 < room_end }
-    ensures goes { Goes S.Source cursor.old cursor.new result }
-    ensures answers { (n : ℕ) (name : List ℕ) → left_of cursor.old < n → AnswersPairs S.tells S.left SolVersion.Amf0 n name builder.new cursor.old cursor.new result }
-    ensures holder { OnOk result (IsOpenHolder builder.new 0) }
-{
     let mut tables = Tables0::new(alloc)?;
-    read_each0(alloc, cursor, builder, &mut tables, holder)
+    read_each(alloc, cursor, builder, &mut tables, holder, version)
 }
 
-/// Reads pairs of AMF 0 to the end of the input, by tables without entries.
-fn read_each0<S: Source>(
+/// Reads pairs of a format to the end of the input, by tables without entries.
+fn read_each<S: Source>(
     alloc: Global,
     cursor: &mut Cursor<'_, S>,
     builder: &mut Builder,
     tables: &mut Tables0,
     holder: NodeId,
+    version: SolVersion,
 ) -> Result<(), ReadEnd>
     requires first { holder.0 ≡ 0 }
     requires opened { builder.old ≡ holder_arena }
@@ -143,13 +123,39 @@ fn read_each0<S: Source>(
     requires placed { IsPlaced cursor.old }
     requires room { left_of cursor.old + 1 < room_end }
     ensures goes { Goes S.Source cursor.old cursor.new result }
-    ensures answers { (n : ℕ) (name : List ℕ) → left_of cursor.old < n → AnswersPairs S.tells S.left SolVersion.Amf0 n name builder.new cursor.old cursor.new result }
+    ensures answers { (n : ℕ) (name : List ℕ) → left_of cursor.old < n → AnswersPairs S.tells S.left version n name builder.new cursor.old cursor.new result }
     ensures holder { OnOk result (IsOpenHolder builder.new 0) }
 {
     while !is_over(cursor)? {
-        read_pair0(alloc, cursor, builder, tables, holder)?;
+        read_pair(alloc, cursor, builder, tables, holder, version)?;
     }
     Ok(())
+}
+
+/// Reads a pair of a format into the holder. Those of AMF 3 need the tables of AMF 3 alone.
+fn read_pair<S: Source>(
+    alloc: Global,
+    cursor: &mut Cursor<'_, S>,
+    builder: &mut Builder,
+    tables: &mut Tables0,
+    holder: NodeId,
+    version: SolVersion,
+) -> Result<(), ReadEnd>
+    requires first { holder.0 ≡ 0 }
+    requires ready { Ready0 0 builder.old (shown_tables tables.old) cursor.old }
+    requires format { AreOfFormat version (shown_tables tables.old) }
+    requires holder { IsOpenHolder builder.old (left_of cursor.old) }
+    ensures goes { Goes S.Source cursor.old cursor.new result }
+    ensures answers { AnswersPair S.tells S.left version (state_in builder.old tables.old) (state_in builder.new tables.new) cursor.old cursor.new result }
+    ensures ready { OnOk result (Ready0 0 builder.new (shown_tables tables.new) cursor.new) }
+    ensures format { OnOk result (AreOfFormat version (shown_tables tables.new)) }
+    ensures holder { OnOk result (IsOpenHolder builder.new (left_of cursor.new)) }
+    ensures moves { OnOk result (place cursor.old < place cursor.new) }
+{
+    match version {
+        SolVersion::Amf0 => read_pair0(alloc, cursor, builder, tables, holder),
+        SolVersion::Amf3 => read_pair3(alloc, cursor, builder, &mut tables.amf3, holder),
+    }
 }
 
 /// Reads a pair of AMF 0 into the holder.
@@ -164,7 +170,7 @@ fn read_pair0<S: Source>(
     requires ready { Ready0 0 builder.old (shown_tables tables.old) cursor.old }
     requires holder { IsOpenHolder builder.old (left_of cursor.old) }
     ensures goes { Goes S.Source cursor.old cursor.new result }
-    ensures answers { AnswersPair S.tells S.left SolVersion.Amf0 (state_in builder.old tables.old) (state_in builder.new tables.new) cursor.old cursor.new result }
+    ensures answers { AnswersPair S.tells S.left Amf0 (state_in builder.old tables.old) (state_in builder.new tables.new) cursor.old cursor.new result }
     ensures ready { OnOk result (Ready0 0 builder.new (shown_tables tables.new) cursor.new) }
     ensures holder { OnOk result (IsOpenHolder builder.new (left_of cursor.new)) }
     ensures moves { OnOk result (place cursor.old < place cursor.new) }
@@ -175,48 +181,6 @@ fn read_pair0<S: Source>(
     let value = read_value0(alloc, cursor, builder, tables)?;
     read_pair_end(cursor)?;
     kept(builder.put(holder, Part::Named(name, value)))?;
-    Ok(())
-}
-
-/// Reads pairs of AMF 3 to the end of the input, with one set of tables.
-fn read_pairs3<S: Source>(
-    alloc: Global,
-    cursor: &mut Cursor<'_, S>,
-    builder: &mut Builder,
-    holder: NodeId,
-) -> Result<(), ReadEnd>
-    requires first { holder.0 ≡ 0 }
-    requires opened { builder.old ≡ holder_arena }
-    requires placed { IsPlaced cursor.old }
-    requires room { left_of cursor.old + 1 < room_end }
-    ensures goes { Goes S.Source cursor.old cursor.new result }
-    ensures answers { (n : ℕ) (name : List ℕ) → left_of cursor.old < n → AnswersPairs S.tells S.left SolVersion.Amf3 n name builder.new cursor.old cursor.new result }
-    ensures holder { OnOk result (IsOpenHolder builder.new 0) }
-{
-    let mut tables = Tables3::new(alloc)?;
-    read_each3(alloc, cursor, builder, &mut tables, holder)
-}
-
-/// Reads pairs of AMF 3 to the end of the input, by tables without entries.
-fn read_each3<S: Source>(
-    alloc: Global,
-    cursor: &mut Cursor<'_, S>,
-    builder: &mut Builder,
-    tables: &mut Tables3,
-    holder: NodeId,
-) -> Result<(), ReadEnd>
-    requires first { holder.0 ≡ 0 }
-    requires opened { builder.old ≡ holder_arena }
-    requires empty { tables.old ≡ no_kept_tables }
-    requires placed { IsPlaced cursor.old }
-    requires room { left_of cursor.old + 1 < room_end }
-    ensures goes { Goes S.Source cursor.old cursor.new result }
-    ensures answers { (n : ℕ) (name : List ℕ) → left_of cursor.old < n → AnswersPairs S.tells S.left SolVersion.Amf3 n name builder.new cursor.old cursor.new result }
-    ensures holder { OnOk result (IsOpenHolder builder.new 0) }
-{
-    while !is_over(cursor)? {
-        read_pair3(alloc, cursor, builder, tables, holder)?;
-    }
     Ok(())
 }
 
@@ -232,7 +196,7 @@ fn read_pair3<S: Source>(
     requires ready { Ready 0 builder.old tables.old cursor.old }
     requires holder { IsOpenHolder builder.old (left_of cursor.old) }
     ensures goes { Goes S.Source cursor.old cursor.new result }
-    ensures answers { AnswersPair S.tells S.left SolVersion.Amf3 (state_in3 builder.old tables.old) (state_in3 builder.new tables.new) cursor.old cursor.new result }
+    ensures answers { AnswersPair S.tells S.left Amf3 (state_in3 builder.old tables.old) (state_in3 builder.new tables.new) cursor.old cursor.new result }
     ensures ready { OnOk result (Ready 0 builder.new tables.new cursor.new) }
     ensures holder { OnOk result (IsOpenHolder builder.new (left_of cursor.new)) }
     ensures moves { OnOk result (place cursor.old < place cursor.new) }

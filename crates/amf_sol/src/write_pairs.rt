@@ -3,11 +3,9 @@ ghost use Rattle.std.specs.Result.{IsErrOf};
 ghost use Rattle.amf_wire.specs.Style.{canonical};
 ghost use Rattle.amf_graph.specs.declared.lack.Lack.{Lack};
 ghost use Rattle.amf_graph.specs.Arena.{Names, IsTextId, value_content};
-ghost use Rattle.amf_graph.specs.ByName.{by_name};
-ghost use Rattle.amf_graph.specs.Graph.{node_at};
 ghost use Rattle.amf_graph.specs.Reached.{IsReachedValue};
 ghost use Rattle.amf_graph.specs.Rooted.{content};
-ghost use Rattle.amf_iso.specs.Contents.{pairs_of, ArePairs};
+ghost use Rattle.amf_iso.specs.Contents.{ArePairs};
 ghost use Rattle.amf0_spelling.specs.Lowered.{IsLowered};
 ghost use Rattle.amf3_spelling.specs.Tables.{no_tables};
 ghost use Rattle.amf3_write.specs.PartTables.{AreTablesOf};
@@ -15,7 +13,7 @@ ghost use Rattle.amf0_write.specs.PartLacks0.{LacksOutside, IsLackOutside};
 ghost use Rattle.amf0_write.specs.Written0.{tables0, AreTables0};
 ghost use Rattle.amf_sol.specs.declared.sol_version.SolVersion.TheVariants.{Amf0, Amf3};
 ghost use Rattle.amf_sol.specs.FileLacks.{IsHolderLack};
-ghost use Rattle.amf_sol.specs.FileParts.{Appends, AppendsBy, KeptPair3, KeptPair0, IsKeptLack0, IsKeptLack3};
+ghost use Rattle.amf_sol.specs.FileParts.{AreSortedOf, Appends, AppendsBy, KeptPair3, KeptPair0, IsKeptLack0, IsKeptLack3};
 ghost use Rattle.amf_sol.specs.SharedObject.{IsHolder, HasHolder, PairsOf, HolderBy};
 
 use crate::write_head::append_name;
@@ -51,7 +49,7 @@ fn holder_of(graph: &Rooted) -> NodeId
 /// The pairs, in the order of their names. It gives up where there is no memory.
 fn sorted_pairs(alloc: Global, graph: &Rooted) -> Result<Vec<(TextId, Value)>, Memory>
     requires { HasHolder (content graph.now) }
-    ensures content { (h : ℕ) → IsHolder (content graph.now) h → IfOk result (λ pairs. pairs_of graph.now.arena pairs.items ≡ by_name (node_at (content graph.now) h).names) }
+    ensures content { (h : ℕ) → IsHolder (content graph.now) h → IfOk result (λ pairs. AreSortedOf graph.now h pairs.items) }
     ensures names { IfOk result (λ pairs. ArePairs graph.now.arena pairs.items) }
 {
     graph.is_finished();
@@ -93,7 +91,7 @@ fn append_sorted3(
     out: &mut Vec<u8>,
 ) -> Result<(), WriteEnd>
     requires holder { HasHolder (content graph.now) }
-    requires content { (h : ℕ) → IsHolder (content graph.now) h → pairs_of graph.now.arena pairs.now ≡ by_name (node_at (content graph.now) h).names }
+    requires content { (h : ℕ) → IsHolder (content graph.now) h → AreSortedOf graph.now h pairs.now }
     requires names { ArePairs graph.now.arena pairs.now }
     ensures written { OnOk result (Appends (PairsOf canonical Amf3 (content graph.now)) out.old.items out.new.items) }
     ensures lack { (l : Lack) → IsErrOf result (WriteEnd.NoSpelling l) → IsHolderLack Amf3 (content graph.now) l.node l.kind }
@@ -112,7 +110,7 @@ fn append_each3(
     out: &mut Vec<u8>,
 ) -> Result<(), WriteEnd>
     requires holder { HasHolder (content graph.now) }
-    requires content { (h : ℕ) → IsHolder (content graph.now) h → pairs_of graph.now.arena pairs.now ≡ by_name (node_at (content graph.now) h).names }
+    requires content { (h : ℕ) → IsHolder (content graph.now) h → AreSortedOf graph.now h pairs.now }
     requires names { ArePairs graph.now.arena pairs.now }
     requires empty { tables.old.tables ≡ no_tables }
     requires tables { AreTablesOf graph.now.arena tables.old }
@@ -181,7 +179,7 @@ fn append_sorted0(
 ) -> Result<(), WriteEnd>
     requires holder { HasHolder (content low.now) }
     requires low { IsLowered (content low.now) }
-    requires content { (h : ℕ) → IsHolder (content low.now) h → pairs_of low.now.arena pairs.now ≡ by_name (node_at (content low.now) h).names }
+    requires content { (h : ℕ) → IsHolder (content low.now) h → AreSortedOf low.now h pairs.now }
     requires names { ArePairs low.now.arena pairs.now }
     ensures written { OnOk result (Appends (PairsOf canonical Amf0 (content low.now)) out.old.items out.new.items) }
     ensures lack { (l : Lack) → IsErrOf result (WriteEnd.NoSpelling l) → LacksOutside (content low.now) 1 l.node l.kind }
@@ -201,7 +199,7 @@ fn append_each0(
 ) -> Result<(), WriteEnd>
     requires holder { HasHolder (content low.now) }
     requires low { IsLowered (content low.now) }
-    requires content { (h : ℕ) → IsHolder (content low.now) h → pairs_of low.now.arena pairs.now ≡ by_name (node_at (content low.now) h).names }
+    requires content { (h : ℕ) → IsHolder (content low.now) h → AreSortedOf low.now h pairs.now }
     requires names { ArePairs low.now.arena pairs.now }
     requires empty { tables.old ≡ no_tables }
     ensures written { OnOk result (Appends (PairsOf canonical Amf0 (content low.now)) out.old.items out.new.items) }

@@ -35,10 +35,10 @@ loop-node-preserved c =
     }
 
 pub returns : goal.returns
-returns c = λ t h k.
+returns c = λ t h.
     let xs = c.args.loose.now in
     let g = c.args.graph.now in
     let ms = c.loop-node.meetings.items in
     let past : length xs ≤ c.loop-node.node-index = omega arith in
     let told : AreTold c.args.tables.now c.args.count (numbers_of xs) ms = subst (λ ys. AreTold c.args.tables.now c.args.count (numbers_of ys) ms) (take_all c.loop-node.node-index xs past) c.loop-node.invariant.told in
-    are_met (content g) (tables0 t) c.args.tables.now xs h c.args.count ms k (c.loop-node.invariant.size ∙ sym (length-map g.arena.nodes (node_content g.arena))) told
+    are_met (content g) (tables0 t) c.args.tables.now xs h.0 c.args.count ms h.1 (c.loop-node.invariant.size ∙ sym (length-map g.arena.nodes (node_content g.arena))) told

@@ -39,7 +39,7 @@ lack_of-requires-clause-lacking c =
     let new = c.write_value.new.tables in
     let lacks = subst (λ (g : RootedArena). HasLackBehind g c.args.value t) c.as_it_stands-seen.ensures (c.in-Err-Lack.ensures.lack e) in
     let grown = subst (λ (g : RootedArena). HaveGrown g t new c.write_value.new.loose.items) c.as_it_stands-seen.ensures (c.in-Err-Lack.ensures.grown e) in
-    (t, lacks, subst (λ w. HaveGrown c.args.graph.now t new w) (sym c.deref.ensures.value) grown, c.node_count-count.ensures.count)
+    (t, lacks, (subst (λ w. HaveGrown c.args.graph.now t new w) (sym c.deref.ensures.value) grown, c.node_count-count.ensures.count))
 
 pub returns-clause-lack : goal.returns-clause-lack
 returns-clause-lack c = λ l e.
@@ -47,5 +47,5 @@ returns-clause-lack c = λ l e.
     let t = c.args.tables.now in
     let new = c.write_value.new.tables in
     let grown = subst (λ (g : RootedArena). HaveGrown g t new c.write_value.new.loose.items) c.as_it_stands-seen.ensures (c.in-Err-Lack.ensures.grown k) in
-    let found = c.in_ok-lack-in-Err-Lack.ensures t (subst (λ w. HaveGrown c.args.graph.now t new w) (sym c.deref.ensures.value) grown) c.node_count-count.ensures.count in
+    let found = c.in_ok-lack-in-Err-Lack.ensures t (subst (λ w. HaveGrown c.args.graph.now t new w) (sym c.deref.ensures.value) grown, c.node_count-count.ensures.count) in
     subst (λ (x : Lack). IsPartLack0 (content c.args.graph.now) (value_content c.args.graph.now.arena c.args.value) (tables0 t) x.node x.kind) (sym (same_lack (NoSpelling c.in_ok-lack-in-Err-Lack.lack) l c.in_ok-lack-in-Err-Lack.lack e refl)) found

@@ -1,16 +1,15 @@
-use Rattle.std.proofs.Common.{rules, ◌<◌, length, arith, sym, subst}
-use Rattle.amf_graph.specs.declared.value.Value.TheVariants.{Undefined}
-use Rattle.amf0_write.proofs.ShortNames.{pair_there, name_there}
+use Rattle.std.proofs.Common.{sym, subst, ◌↔◌}
+use Rattle.std.specs.Prelude.{IsTrue}
+use Rattle.amf0_write.proofs.ShortNames.{AreShort}
+use Rattle.amf0_write.proofs.Standing.{seen_are, seen_pairs}
 use Rattle.amf0_write.proofs.lowered.Lowered.are_short.Goals as goal
 
-pub text-requires : goal.text-requires
-text-requires c = let within : c.loop-name.name-index < length c.args.pairs.now = omega arith in (pair_there c.args.self.now.arena c.args.pairs.now c.loop-name.name-index _ c.requires within).0
+pub are_short-requires : goal.are_short-requires
+are_short-requires c =
+    let l = c.self.inside in
+    seen_are l.is_lowering l.graph.now l.stand_ins.items c.args.self.now c.self.view_is c.args.pairs.now c.requires
 
-pub returns-then-text-gt-MAX_SHORT : goal.returns-then-text-gt-MAX_SHORT
-returns-then-text-gt-MAX_SHORT c =
-    let a = c.args.self.now.arena in
-    let within : c.loop-name.name-index < length c.args.pairs.now = omega arith in
-    let too_long = c.if-text-gt-MAX_SHORT.true in (
-      λ t. absurd (search rules),
-      λ h. (let l : length c.text.result.now < 65536 = subst (λ x. length x < 65536) (sym c.text.ensures) (name_there a c.args.pairs.now c.loop-name.name-index (record { 0 = 0 }, Undefined) h within) in absurd (omega (arith, l, too_long))),
-    )
+pub returns : goal.returns
+returns c =
+    let l = c.self.inside in
+    subst (λ ps. IsTrue c.are_short.result ↔ AreShort ps) (sym (seen_pairs l.is_lowering l.graph.now l.stand_ins.items c.args.self.now c.self.view_is c.args.pairs.now)) c.are_short.ensures

@@ -1,4 +1,4 @@
-use Rattle.std.proofs.Common.{◌≡◌, ◌++◌, ◌∷◌, [], refl, ap, sym, ◌∙◌, subst, reverse, length, arith}
+use Rattle.std.proofs.Common.{◌≡◌, ◌++◌, ◌∷◌, refl, ap, sym, ◌∙◌, subst, reverse, length, arith}
 use Rattle.std.specs.Prelude.{◌==◌}
 use Rattle.std.specs.Int.{to_be_bytes, w32}
 use Rattle.std.specs.List.{AllByRecursion}
@@ -9,7 +9,6 @@ use Rattle.amf_iso.specs.Contents.{pairs_of, values_of}
 use Rattle.amf0_write.specs.declared.unwritten.Unwritten.TheVariants.{Made}
 use Rattle.amf0_write.specs.Unwritten0.{IsMetValue, segments_left}
 use Rattle.amf0_write.specs.Writes0.{Adds, values_then, pairs_then, ecma, strict}
-use Rattle.amf0_write.proofs.Leading0.{adds_then}
 use Rattle.amf0_write.proofs.MetValues0.{none_from, some_from, pairs_none, pairs_length}
 use Rattle.amf0_write.proofs.Runs0.{on_ok, all_reverse, segments_pushed, turns_pushed, runs_pushed}
 use Rattle.amf0_write.proofs.output.Output.made_array.Goals as goal
@@ -27,7 +26,7 @@ returns-in_ok-push-clause-opened c =
       bytes = 0x0A ∷ to_be_bytes w32 (length (values_of a vs));
       segments = values_then (values_of a vs);
       is = strict refl (ap (pairs_of a) none) (omega (arith, same, c.requires.few));
-      adds = subst (λ k. Adds (0x0A ∷ to_be_bytes w32 k) o c.count.new.self) long (adds_then (0x0A ∷ []) (to_be_bytes w32 c.len.result) o c.byte.new.self c.count.new.self c.in_ok-byte.ensures.adds c.in_ok-count.ensures.adds);
+      adds = subst (λ k. Adds (0x0A ∷ to_be_bytes w32 k) o c.counted.new.self) long c.in_ok-counted.ensures.adds;
       left = segments_pushed a old c.push.new.self.items (Made c.reverse.new.self) c.in_ok-push.ensures.items ∙ ap (λ ws. values_then (values_of a ws) ++ segments_left a old) (ap reverse c.reverse.ensures.items ∙ reverse-reverse vs);
     }
 
@@ -40,12 +39,12 @@ pub returns-in_ok-push-clause-turns : goal.returns-in_ok-push-clause-turns
 returns-in_ok-push-clause-turns c =
     omega (arith, turns_pushed c.args.waiting.now.items c.push.new.self.items (Made c.reverse.new.self) c.in_ok-push.ensures.items, c.reverse.ensures.len, c.requires.few)
 
-pub returns-in_ok-count-2-clause-opened : goal.returns-in_ok-count-2-clause-opened
-returns-in_ok-count-2-clause-opened c =
+pub returns-in_ok-counted-2-clause-opened : goal.returns-in_ok-counted-2-clause-opened
+returns-in_ok-counted-2-clause-opened c =
     let a = c.args.graph.now.arena in
     let o = c.args.self.now in
     let ps = c.args.names.items in
-    let m = c.count-else-is_empty.new.self in
+    let m = c.counted-else-is_empty.new.self in
     let filled = some_from ps c.is_empty.result (c.is_empty.ensures ∙ ap (λ n. n == 0) c.args.names.ok.0) c.if-is_empty.false in
     let same = pairs_length a ps in
     let long : c.len-else-is_empty.result ≡ length (pairs_of a ps) = omega (arith, c.len-else-is_empty.ensures, c.args.names.ok.0, same) in
@@ -53,6 +52,6 @@ returns-in_ok-count-2-clause-opened c =
       bytes = 0x08 ∷ to_be_bytes w32 (length (pairs_of a ps));
       segments = pairs_then (by_name (pairs_of a ps));
       is = ecma refl (ap (values_of a) (c.requires.form filled)) (λ z. filled (pairs_none a ps z)) (omega (arith, same, c.requires.few_names));
-      adds = subst (λ k. Adds (0x08 ∷ to_be_bytes w32 k) o m) long (adds_then (0x08 ∷ []) (to_be_bytes w32 c.len-else-is_empty.result) o c.byte-else-is_empty.new.self m c.in_ok-byte-2.ensures.adds c.in_ok-count-2.ensures.adds);
+      adds = subst (λ k. Adds (0x08 ∷ to_be_bytes w32 k) o m) long c.in_ok-counted-2.ensures.adds;
       left = e;
     }) c.push_made.ensures.left

@@ -1,6 +1,5 @@
-use Rattle.std.proofs.Common.{◌≡◌, ◌++◌, ◌∷◌, [], refl, ap, sym, ◌∙◌, subst, length, arith, List, ℕ}
-use Rattle.std.specs.Int.{to_be_bytes, w32, w64}
-use Rattle.amf_graph.specs.Arena.{node_content, traits_at, text_at, array, object, date, xml_document}
+use Rattle.std.proofs.Common.{◌≡◌, [], refl, ap, sym, ◌∙◌, subst}
+use Rattle.amf_graph.specs.Arena.{node_content, traits_at, array, object}
 use Rattle.amf_graph.specs.Building.{closed, stored_at}
 use Rattle.amf_graph.specs.Graph as graph
 use Rattle.amf_graph.specs.Graph.{Node, node_at}
@@ -10,10 +9,10 @@ use Rattle.amf_iso.specs.Contents.{pairs_of, values_of}
 use Rattle.amf0_spelling.specs.Lowered.{IsLowHead}
 use Rattle.amf0_spelling.specs.Spells0.{IsOpenTraits}
 use Rattle.amf0_write.specs.Unwritten0.{segments_left}
-use Rattle.amf0_write.specs.Writes0.{Adds, Opened}
-use Rattle.amf0_write.proofs.Leading0.{adds_then}
-use Rattle.amf0_write.proofs.MetValues0.{shown, node_in, node_there, node_fits, text_in, text_within, reached_node, met_items, met_names}
-use Rattle.amf0_write.proofs.Opening0.{dated, documented, no_sealed, leads_opened, leads_loose}
+use Rattle.amf0_write.specs.Writes0.{Opened, date_bytes, document_bytes}
+use Rattle.amf0_write.proofs.LooseNodes.{leads_date, leads_document, falls_loose}
+use Rattle.amf0_write.proofs.MetValues0.{shown, node_in, node_there, node_fits, reached_node, met_items, met_names}
+use Rattle.amf0_write.proofs.Opening0.{no_sealed, leads_opened}
 use Rattle.amf0_write.proofs.Runs0.{on_ok}
 use Rattle.amf0_write.proofs.output.Output.open.Goals as goal
 
@@ -50,37 +49,29 @@ object-requires-clause-names c =
     let there = subst (λ w. Shows a (stored_at a i) w) c.in-Object.is c.requires.shown in
     met_names c.args.graph.now i (node_content a n) c.in-Object.members.now (reached_node c.requires.met.reached) (shown a c.args.graph.now.root i n there) refl (node_in a i n c.is_finished.ensures.finished c.requires.met.names there).names c.requires.short.1
 
-pub returns-in_ok-double-in-Date-clause-leads : goal.returns-in_ok-double-in-Date-clause-leads
-returns-in_ok-double-in-Date-clause-leads c =
-    let g = content c.args.graph.now in
+pub returns-in-Date-clause-leads : goal.returns-in-Date-clause-leads
+returns-in-Date-clause-leads c =
     let a = c.args.graph.now.arena in
-    let i = c.args.node.0 in
-    let there = subst (λ w. Shows a (stored_at a i) w) c.in-Date.is c.requires.shown in
-    let p = c.in-Date.milliseconds.0 in
-    let m = c.enter_loose.new.self in
-    let e = ap (λ (x : Node). x.head) (shown a c.args.graph.now.root i (closed (date p) [] []) there) in
-    on_ok c.raw.result (λ h.
-    leads_loose g i (node_there a c.args.graph.now.root i c.requires.met.names) (node_fits a c.args.graph.now.root i c.is_finished.ensures.finished c.requires.met.names) (0x0B ∷ to_be_bytes w64 p ++ 0 ∷ 0 ∷ []) (segments_left a c.args.waiting.now.items) c.args.self.now m c.raw.new.self c.args.node refl c.requires.new
-    c.in_ok-enter_loose-in-Date.ensures.ok c.in_ok-enter_loose-in-Date.ensures.loose c.in_ok-enter_loose-in-Date.ensures.bytes (dated p e)
-    (adds_then (0x0B ∷ []) (to_be_bytes w64 p ++ 0 ∷ 0 ∷ []) m c.byte.new.self c.raw.new.self c.in_ok-byte-in-Date.ensures.adds
-    (adds_then (to_be_bytes w64 p) (0 ∷ 0 ∷ []) c.byte.new.self c.double.new.self c.raw.new.self c.in_ok-double-in-Date.ensures.adds h))) c.raw.ensures.adds
+    let there = subst (λ w. Shows a (stored_at a c.args.node.0) w) c.in-Date.is c.requires.shown in
+    on_ok c.date.result (λ h.
+    leads_date c.args.graph.now c.args.node c.args.waiting.now.items c.args.self.now c.date.new.self c.is_finished.ensures.finished c.requires.met c.requires.new c.in-Date.milliseconds.0 there h) c.date.ensures.adds
 
-pub returns-in_ok-byte-in-XmlDocument-clause-leads : goal.returns-in_ok-byte-in-XmlDocument-clause-leads
-returns-in_ok-byte-in-XmlDocument-clause-leads c =
-    let g = content c.args.graph.now in
+pub returns-in-Date-clause-falls : goal.returns-in-Date-clause-falls
+returns-in-Date-clause-falls c =
+    on_ok c.date.result (λ h.
+    falls_loose c.args.graph.now c.args.node (date_bytes c.in-Date.milliseconds.0) c.args.waiting.now.items c.args.self.now c.date.new.self c.requires.met.names c.requires.new h) c.date.ensures.adds
+
+pub returns-in-XmlDocument-clause-leads : goal.returns-in-XmlDocument-clause-leads
+returns-in-XmlDocument-clause-leads c =
     let a = c.args.graph.now.arena in
-    let i = c.args.node.0 in
-    let s = subst (λ w. Shows a (stored_at a i) w) c.in-XmlDocument.is c.requires.shown in
-    let x = text_at a s.0 in
-    let m = c.enter_loose-in-XmlDocument.new.self in
-    let n = closed (xml_document s.0) [] [] in
-    let e = ap (λ (x : Node). x.head) (shown a c.args.graph.now.root i n s.1) in
-    let named_there = (node_in a i n c.is_finished.ensures.finished c.requires.met.names s.1).head in
-    on_ok c.long.result (λ h.
-    leads_loose g i (node_there a c.args.graph.now.root i c.requires.met.names) (node_fits a c.args.graph.now.root i c.is_finished.ensures.finished c.requires.met.names) (0x0F ∷ to_be_bytes w32 (length x) ++ x) (segments_left a c.args.waiting.now.items) c.args.self.now m c.long.new.self c.args.node refl c.requires.new
-    c.in_ok-enter_loose-in-XmlDocument.ensures.ok c.in_ok-enter_loose-in-XmlDocument.ensures.loose c.in_ok-enter_loose-in-XmlDocument.ensures.bytes (documented x e (text_in a s.0 c.is_finished.ensures.finished named_there) (omega (arith, text_within a s.0 c.is_finished.ensures.bounds named_there)))
-    (subst (λ (y : List ℕ). Adds (0x0F ∷ to_be_bytes w32 (length y) ++ y) m c.long.new.self) s.2
-    (adds_then (0x0F ∷ []) (to_be_bytes w32 (length c.in-XmlDocument.text.now) ++ c.in-XmlDocument.text.now) m c.byte-in-XmlDocument.new.self c.long.new.self c.in_ok-byte-in-XmlDocument.ensures.adds h))) c.long.ensures.adds
+    let s = subst (λ w. Shows a (stored_at a c.args.node.0) w) c.in-XmlDocument.is c.requires.shown in
+    on_ok c.document.result (λ h.
+    leads_document c.args.graph.now c.args.node c.args.waiting.now.items c.args.self.now c.document.new.self c.is_finished.ensures.finished c.requires.met c.requires.new s.0 c.in-XmlDocument.text.now c.is_finished.ensures.bounds s.1 s.2 h) c.document.ensures.adds
+
+pub returns-in-XmlDocument-clause-falls : goal.returns-in-XmlDocument-clause-falls
+returns-in-XmlDocument-clause-falls c =
+    on_ok c.document.result (λ h.
+    falls_loose c.args.graph.now c.args.node (document_bytes c.in-XmlDocument.text.now) c.args.waiting.now.items c.args.self.now c.document.new.self c.requires.met.names c.requires.new h) c.document.ensures.adds
 
 pub returns-in_ok-enter-in-Array-clause-leads : goal.returns-in_ok-enter-in-Array-clause-leads
 returns-in_ok-enter-in-Array-clause-leads c =

@@ -1,6 +1,6 @@
 //! Nodes of a graph that is seen as if it were lowered.
 
-ghost use Rattle.std.specs.Prelude.{ℕ, ◌≡◌, ◌≢◌, ◌+◌, ◌<◌, ◌≤◌, ◌∷◌, [], ◌++◌, length, OnOk};
+ghost use Rattle.std.specs.Prelude.{ℕ, ◌≡◌, ◌≢◌, ◌+◌, ◌<◌, ◌≤◌, ◌∷◌, [], length, OnOk};
 ghost use Rattle.std.specs.List.{AllByRecursion};
 ghost use Rattle.std.specs.Result.{IsErrOf};
 ghost use Rattle.amf_graph.specs.declared.value.Value.TheVariants.{Node as NodeRef};
@@ -16,8 +16,8 @@ ghost use Rattle.amf0_spelling.specs.Lacks0.{IsShortName};
 ghost use Rattle.amf0_spelling.specs.Lowered.{IsLowered};
 ghost use Rattle.amf0_spelling.specs.Spells0.{IsOpenTraits};
 ghost use Rattle.amf0_write.specs.declared.stop.Stop.TheVariants.{Lack};
-ghost use Rattle.amf0_write.specs.Unwritten0.{IsMetValue, AreMetPairs, AreRunsOf, turns_left, Falls, opened_turns, LeadsToRest, StopsWithin, OpenedOn};
-ghost use Rattle.amf0_write.specs.Unwritten0.{array_node, object_node, segments_left, sorted_ahead};
+ghost use Rattle.amf0_write.specs.Unwritten0.{IsMetValue, AreMetPairs, AreRunsOf, turns_left, TurnsFall, opened_turns, LeadsNode, StopsWithin};
+ghost use Rattle.amf0_write.specs.Unwritten0.{OpensArray, OpensObject, PutsSorted};
 ghost use Rattle.amf0_write.specs.Writes0 as segment;
 ghost use Rattle.amf0_write.specs.Writes0.{done_of, Still, Keeps};
 
@@ -32,7 +32,7 @@ use amf_wire::{Memory, Pattern};
 
 impl Output {
     /// A date (2.13).
-    pub(crate) fn low_date<'g>(
+    pub(crate) fn lowered_date<'g>(
         &mut self,
         node: NodeId,
         milliseconds: Pattern,
@@ -44,24 +44,21 @@ impl Output {
         requires there { stored_at graph.now.arena node.0 ≡ closed (date milliseconds.0) [] [] }
         requires new { Absent (done_of self.old) node.0 }
         requires runs { AreRunsOf graph.now waiting.old.items }
-        ensures leads { OnOk result (LeadsToRest graph.now (segment.value (graph_of_values.node node.0) ∷ []) waiting.old.items waiting.new.items self.old self.new) }
+        ensures leads { OnOk result (LeadsNode graph.now node waiting.old.items waiting.new.items self.old self.new) }
         ensures lack { IsErrOf result Lack → StopsWithin graph.now (segment.value (graph_of_values.node node.0) ∷ []) waiting.old.items self.old }
         ensures still { IsErrOf result Lack → Still self.old self.new }
         ensures runs { OnOk result (AreRunsOf graph.now waiting.new.items) }
-        ensures falls { OnOk result (Falls (length graph.now.arena.nodes) (done_of self.old) (done_of self.new) (turns_left waiting.old.items) (turns_left waiting.new.items)) }
+        ensures falls { OnOk result (TurnsFall graph.now waiting.old.items waiting.new.items self.old self.new) }
         ensures keeps { Keeps self.old self.new }
     {
         let _ = waiting;
         graph.is_finished();
-        self.enter_loose(node)?;
-        self.byte(0x0B)?;
-        self.double(milliseconds)?;
-        self.raw(b"\x00\x00")?;
+        self.date(node, milliseconds)?;
         Ok(())
     }
 
     /// An XML document (2.17).
-    pub(crate) fn low_document<'g>(
+    pub(crate) fn lowered_document<'g>(
         &mut self,
         node: NodeId,
         text: &[u8],
@@ -73,23 +70,21 @@ impl Output {
         requires there { (x : ℕ) × (stored_at graph.now.arena node.0 ≡ closed (xml_document x) [] []) × (text.now ≡ text_at graph.now.arena x) }
         requires new { Absent (done_of self.old) node.0 }
         requires runs { AreRunsOf graph.now waiting.old.items }
-        ensures leads { OnOk result (LeadsToRest graph.now (segment.value (graph_of_values.node node.0) ∷ []) waiting.old.items waiting.new.items self.old self.new) }
+        ensures leads { OnOk result (LeadsNode graph.now node waiting.old.items waiting.new.items self.old self.new) }
         ensures lack { IsErrOf result Lack → StopsWithin graph.now (segment.value (graph_of_values.node node.0) ∷ []) waiting.old.items self.old }
         ensures still { IsErrOf result Lack → Still self.old self.new }
         ensures runs { OnOk result (AreRunsOf graph.now waiting.new.items) }
-        ensures falls { OnOk result (Falls (length graph.now.arena.nodes) (done_of self.old) (done_of self.new) (turns_left waiting.old.items) (turns_left waiting.new.items)) }
+        ensures falls { OnOk result (TurnsFall graph.now waiting.old.items waiting.new.items self.old self.new) }
         ensures keeps { Keeps self.old self.new }
     {
         let _ = waiting;
         graph.is_finished();
-        self.enter_loose(node)?;
-        self.byte(0x0F)?;
-        self.long(text)?;
+        self.document(node, text)?;
         Ok(())
     }
 
     /// An array: by its items where it has no names, and else by its names alone (2.10, 2.12).
-    pub(crate) fn low_array<'g>(
+    pub(crate) fn lowered_array<'g>(
         &mut self,
         node: NodeId,
         items: Vec<Value>,
@@ -104,11 +99,11 @@ impl Output {
         requires new { Absent (done_of self.old) node.0 }
         requires runs { AreRunsOf graph.now waiting.old.items }
         requires order { AreInOrder graph.now.arena rooms.old.order }
-        ensures leads { OnOk result (LeadsToRest graph.now (segment.value (graph_of_values.node node.0) ∷ []) waiting.old.items waiting.new.items self.old self.new) }
+        ensures leads { OnOk result (LeadsNode graph.now node waiting.old.items waiting.new.items self.old self.new) }
         ensures lack { IsErrOf result Lack → StopsWithin graph.now (segment.value (graph_of_values.node node.0) ∷ []) waiting.old.items self.old }
         ensures still { IsErrOf result Lack → Still self.old self.new }
         ensures runs { OnOk result (AreRunsOf graph.now waiting.new.items) }
-        ensures falls { OnOk result (Falls (length graph.now.arena.nodes) (done_of self.old) (done_of self.new) (turns_left waiting.old.items) (turns_left waiting.new.items)) }
+        ensures falls { OnOk result (TurnsFall graph.now waiting.old.items waiting.new.items self.old self.new) }
         ensures keeps { Keeps self.old self.new }
         ensures order { AreInOrder graph.now.arena rooms.new.order }
     {
@@ -125,7 +120,7 @@ impl Output {
     }
 
     /// An object: without a name where its class is empty (2.5, 2.18).
-    pub(crate) fn low_object<'g>(
+    pub(crate) fn lowered_object<'g>(
         &mut self,
         node: NodeId,
         traits: TraitsId,
@@ -140,11 +135,11 @@ impl Output {
         requires new { Absent (done_of self.old) node.0 }
         requires runs { AreRunsOf graph.now waiting.old.items }
         requires order { AreInOrder graph.now.arena rooms.old.order }
-        ensures leads { OnOk result (LeadsToRest graph.now (segment.value (graph_of_values.node node.0) ∷ []) waiting.old.items waiting.new.items self.old self.new) }
+        ensures leads { OnOk result (LeadsNode graph.now node waiting.old.items waiting.new.items self.old self.new) }
         ensures lack { IsErrOf result Lack → StopsWithin graph.now (segment.value (graph_of_values.node node.0) ∷ []) waiting.old.items self.old }
         ensures still { IsErrOf result Lack → Still self.old self.new }
         ensures runs { OnOk result (AreRunsOf graph.now waiting.new.items) }
-        ensures falls { OnOk result (Falls (length graph.now.arena.nodes) (done_of self.old) (done_of self.new) (turns_left waiting.old.items) (turns_left waiting.new.items)) }
+        ensures falls { OnOk result (TurnsFall graph.now waiting.old.items waiting.new.items self.old self.new) }
         ensures keeps { Keeps self.old self.new }
         ensures order { AreInOrder graph.now.arena rooms.new.order }
     {
@@ -176,21 +171,19 @@ impl Output {
         requires items { AllByRecursion (IsMetValue graph.now) items.items }
         requires names { AreMetPairs graph.now names.items }
         requires order { AreInOrder graph.now.arena rooms.old.order }
-        ensures opened { OnOk result (OpenedOn graph.now (array_node graph.now.arena names.items items.items) waiting.old.items waiting.new.items self.old self.new) }
+        ensures opened { OnOk result (OpensArray graph.now names.items items.items waiting.old.items waiting.new.items self.old self.new) }
         ensures runs { AreRunsOf graph.now waiting.old.items → OnOk result (AreRunsOf graph.now waiting.new.items) }
         ensures turns { OnOk result (turns_left waiting.new.items ≤ turns_left waiting.old.items + opened_turns) }
         ensures keeps { Keeps self.old self.new }
         ensures order { AreInOrder graph.now.arena rooms.new.order }
     {
         if names.is_empty() {
-            self.byte(0x0A)?;
-            self.count(items.len() as u32)?;
+            self.counted(0x0A, items.len())?;
             items.reverse();
             waiting.push(Unwritten::Made(items))?;
             Ok(())
         } else {
-            self.byte(0x08)?;
-            self.count(names.len() as u32)?;
+            self.counted(0x08, names.len())?;
             push_made(names, graph, rooms, waiting)
         }
     }
@@ -212,7 +205,7 @@ impl Output {
         requires few_names { length members.items < count_end }
         requires names { AreMetPairs graph.now members.items }
         requires order { AreInOrder graph.now.arena rooms.old.order }
-        ensures opened { OnOk result (OpenedOn graph.now (object_node graph.now.arena traits.0 members.items) waiting.old.items waiting.new.items self.old self.new) }
+        ensures opened { OnOk result (OpensObject graph.now traits.0 members.items waiting.old.items waiting.new.items self.old self.new) }
         ensures runs { AreRunsOf graph.now waiting.old.items → OnOk result (AreRunsOf graph.now waiting.new.items) }
         ensures turns { OnOk result (turns_left waiting.new.items ≤ turns_left waiting.old.items + opened_turns) }
         ensures keeps { Keeps self.old self.new }
@@ -220,12 +213,7 @@ impl Output {
     {
         let _ = traits;
         graph.is_finished();
-        if class.is_empty() {
-            self.byte(0x03)?;
-        } else {
-            self.byte(0x10)?;
-            self.short(class)?;
-        }
+        self.object_front(class)?;
         push_made(members, graph, rooms, waiting)
     }
 }
@@ -239,7 +227,7 @@ fn push_made<'g>(
 ) -> Result<(), Memory>
     requires pairs { AreMetPairs graph.now pairs.items }
     requires order { AreInOrder graph.now.arena rooms.old.order }
-    ensures left { OnOk result (segments_left graph.now.arena waiting.new.items ≡ sorted_ahead graph.now.arena pairs.items ++ segments_left graph.now.arena waiting.old.items) }
+    ensures left { OnOk result (PutsSorted graph.now.arena pairs.items waiting.old.items waiting.new.items) }
     ensures runs { AreRunsOf graph.now waiting.old.items → OnOk result (AreRunsOf graph.now waiting.new.items) }
     ensures turns { OnOk result (turns_left waiting.new.items ≡ turns_left waiting.old.items + (length pairs.items + 1)) }
     ensures order { AreInOrder graph.now.arena rooms.new.order }

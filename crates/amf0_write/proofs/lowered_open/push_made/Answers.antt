@@ -8,7 +8,7 @@ use Rattle.amf0_write.specs.Unwritten0.{IsMetPair, segments_left}
 use Rattle.amf0_write.specs.Writes0.{pairs_then}
 use Rattle.amf0_write.proofs.MetValues0.{sorted_met, pairs_length}
 use Rattle.amf0_write.proofs.Runs0.{all_reverse, segments_pushed, turns_pushed, runs_pushed}
-use Rattle.amf0_write.proofs.low_open.push_made.Goals as goal
+use Rattle.amf0_write.proofs.lowered_open.push_made.Goals as goal
 
 pub returns-clause-left : goal.returns-clause-left
 returns-clause-left c =

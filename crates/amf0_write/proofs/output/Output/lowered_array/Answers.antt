@@ -9,12 +9,14 @@ use Rattle.amf_graph.specs.Rooted.{content}
 use Rattle.amf_graph.specs.Views.{named}
 use Rattle.amf_iso.specs.Contents.{pairs_of}
 use Rattle.amf0_spelling.specs.Lacks0.{HasNoForm, IsShortName}
+use Rattle.amf0_spelling.specs.Tables0.{Tables0}
 use Rattle.amf0_write.specs.Unwritten0.{segments_left}
 use Rattle.amf0_write.specs.Writes0.{Opened}
 use Rattle.amf0_write.proofs.Leading0.{stops_form, stops_name}
 use Rattle.amf0_write.proofs.MetValues0.{shown, node_in, node_there, node_fits, reached_node, met_items, met_names, some_from, pairs_none}
 use Rattle.amf0_write.proofs.Opening0.{leads_opened}
-use Rattle.amf0_write.proofs.output.Output.low_array.Goals as goal
+use Rattle.amf0_write.proofs.Runs0.{falls_entered}
+use Rattle.amf0_write.proofs.output.Output.lowered_array.Goals as goal
 
 values_none : (a : Arena) (vs : List Stored) → map (value_content a) vs ≡ [] → vs ≡ []
 values_none a [] e = refl
@@ -67,3 +69,8 @@ returns-clause-leads c =
     let m = c.enter.new.self in
     leads_opened g i (node_there a c.args.graph.now.root i c.requires.met.names) (node_fits a c.args.graph.now.root i c.is_finished.ensures.finished c.requires.met.names) before after c.args.self.now m c.made_array.new.self c.requires.new
     c.in_ok-enter.ensures.ok c.in_ok-enter.ensures.loose c.in_ok-enter.ensures.bytes (subst (λ (x : Node). Opened x before after m c.made_array.new.self) (sym (shown a c.args.graph.now.root i n c.requires.there)) c.in_ok-made_array.ensures.opened)
+
+pub returns-clause-falls : goal.returns-clause-falls
+returns-clause-falls c =
+    falls_entered c.args.graph.now c.args.waiting.now.items c.made_array.new.waiting.items c.args.node.0 c.args.self.now c.enter.new.self c.made_array.new.self c.requires.met.names c.requires.new
+    (ap (λ (t : Tables0). t.amf3.done) c.in_ok-enter.ensures.ok) c.in_ok-made_array.ensures.opened.adds.tables c.in_ok-made_array.ensures.turns

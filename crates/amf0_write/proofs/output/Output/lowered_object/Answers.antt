@@ -1,4 +1,4 @@
-use Rattle.std.proofs.Common.{◌≡◌, ◌<◌, true, false, List, ℕ, [], length, refl, sym, ◌∙◌, subst, arith}
+use Rattle.std.proofs.Common.{◌≡◌, ◌<◌, true, false, List, ℕ, [], length, refl, ap, sym, ◌∙◌, subst, arith}
 use Rattle.std.specs.List.{AllByRecursion}
 use Rattle.amf_graph.specs.Arena.{node_content, object}
 use Rattle.amf_graph.specs.Building.{closed}
@@ -8,12 +8,14 @@ use Rattle.amf_graph.specs.Views.{named}
 use Rattle.amf_iso.specs.Contents.{pairs_of}
 use Rattle.amf0_spelling.specs.Lacks0.{IsShortName, class_of}
 use Rattle.amf0_spelling.specs.Lowered.{IsLowHead}
+use Rattle.amf0_spelling.specs.Tables0.{Tables0}
 use Rattle.amf0_write.specs.Unwritten0.{segments_left}
 use Rattle.amf0_write.specs.Writes0.{Opened}
 use Rattle.amf0_write.proofs.Leading0.{stops_name}
 use Rattle.amf0_write.proofs.MetValues0.{shown, node_in, node_there, node_fits, reached_node, met_names}
 use Rattle.amf0_write.proofs.Opening0.{leads_opened}
-use Rattle.amf0_write.proofs.output.Output.low_object.Goals as goal
+use Rattle.amf0_write.proofs.Runs0.{falls_entered}
+use Rattle.amf0_write.proofs.output.Output.lowered_object.Goals as goal
 
 pub returns-then-class-gt-MAX_SHORT-clause-lack : goal.returns-then-class-gt-MAX_SHORT-clause-lack
 returns-then-class-gt-MAX_SHORT-clause-lack c = λ e.
@@ -65,3 +67,8 @@ returns-clause-leads c =
     let m = c.enter.new.self in
     leads_opened g i (node_there a c.args.graph.now.root i c.requires.met.names) (node_fits a c.args.graph.now.root i c.is_finished.ensures.finished c.requires.met.names) before after c.args.self.now m c.made_object.new.self c.requires.new
     c.in_ok-enter.ensures.ok c.in_ok-enter.ensures.loose c.in_ok-enter.ensures.bytes (subst (λ (x : Node). Opened x before after m c.made_object.new.self) (sym (shown a c.args.graph.now.root i n c.requires.there)) c.in_ok-made_object.ensures.opened)
+
+pub returns-clause-falls : goal.returns-clause-falls
+returns-clause-falls c =
+    falls_entered c.args.graph.now c.args.waiting.now.items c.made_object.new.waiting.items c.args.node.0 c.args.self.now c.enter.new.self c.made_object.new.self c.requires.met.names c.requires.new
+    (ap (λ (t : Tables0). t.amf3.done) c.in_ok-enter.ensures.ok) c.in_ok-made_object.ensures.opened.adds.tables c.in_ok-made_object.ensures.turns

@@ -3,7 +3,7 @@ use amf_wire::Pattern;
 
 /// A node as it is when it is lowered.
 #[derive(Drop)]
-pub(crate) enum LowNode<'g> {
+pub(crate) enum LoweredNode<'g> {
     /// A node of a graph that is seen as it stands.
     AsItStands(&'g Rooted),
     /// A node of a kind that AMF 0 lacks.
