@@ -7,3 +7,6 @@ pub mod Alike
 pub mod Rows
 pub mod Texts
 pub mod Hexes
+pub mod Decimals
+pub mod Cuts
+pub mod LineNumbers

@@ -1,5 +1,5 @@
 -- What stands before a part of a listing that is joined from parts. A device of proofs.
-use Rattle.std.specs.Prelude.{ℕ, zero, suc, List, [], ◌∷◌, ◌++◌, codes}
+use Rattle.std.specs.Prelude.{ℕ, zero, suc, List, [], ◌∷◌, ◌++◌, codes, decimal}
 use Rattle.amf_show.specs.Shown.{shown_text}
 
 -- nothing before the first part
@@ -19,3 +19,7 @@ heads_from i (name ∷ names) = head_before i name ∷ heads_from (suc i) names
 -- an object up to the brace before its first member
 abbrev pub object_opening : List ℕ → List ℕ
 object_opening class = codes "object " ++ shown_text class ++ codes " sealed " ++ codes "{"
+
+-- what stands before the contents of the node with this number
+abbrev pub line_number : ℕ → List ℕ
+line_number n = codes "#" ++ decimal n ++ codes " "

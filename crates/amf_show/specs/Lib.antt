@@ -7,4 +7,5 @@ pub mod WorkedListings
 -- Devices of the proofs: no clause of a public call needs them.
 pub mod Joining
 pub mod Heads
+pub mod Pieces
 pub mod ByLister

@@ -7,6 +7,7 @@ ghost use Rattle.amf_tables.specs.ShownTraits.{AreTextIds, texts_at};
 
 use crate::contents::push_worded;
 use crate::numbers::{push_separator, push_word};
+use crate::piece::Piece;
 use crate::text::push_text;
 use amf_graph::{NodeId, NodeView, Rooted, TextId, TraitsId};
 use amf_iso::Numbering;
@@ -24,9 +25,9 @@ const LOOKED_AT: u32 = 64;
 pub(crate) struct ClassText {
     pub(crate) traits: TraitsId,
     /// An object up to the brace before its first member.
-    pub(crate) opening: Vec<u8>,
+    pub(crate) opening: Piece,
     /// What stands before the value of each sealed member.
-    pub(crate) heads: Vec<Vec<u8>>,
+    pub(crate) heads: Vec<Piece>,
     pub(crate) dynamic: bool,
 }
 
@@ -42,14 +43,15 @@ fn head(alloc: Global, place: usize, name: &[u8]) -> Result<Vec<u8>, Memory>
 }
 
 /// What stands before the value of each member.
-fn heads(alloc: Global, graph: &Rooted, names: &[TextId]) -> Result<Vec<Vec<u8>>, Memory>
+fn heads(alloc: Global, graph: &Rooted, names: &[TextId]) -> Result<Vec<Piece>, Memory>
     requires { AreTextIds graph.now.arena names.now }
     ensures { IfOk result (λ heads. texts_of heads.items ≡ heads_from 0 (texts_at graph.now.arena names.now)) }
 {
     let mut heads = Vec::new(alloc);
     for (place, name) in names.iter().enumerate() {
         let made = head(alloc, place, graph.text(*name))?;
-        heads.push(made)?;
+        let piece = Piece::of(made);
+        heads.push(piece)?;
     }
     Ok(heads)
 }
@@ -77,7 +79,7 @@ impl ClassText {
         let before = heads(alloc, graph, class.sealed)?;
         Ok(ClassText {
             traits,
-            opening: front,
+            opening: Piece::of(front),
             heads: before,
             dynamic: class.dynamic,
         })

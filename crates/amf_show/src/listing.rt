@@ -5,6 +5,7 @@ ghost use Rattle.amf_graph.specs.Rooted.{content};
 ghost use Rattle.amf_show.specs.Listing.{shown_node, shown_graph, AppendsListing, IsListing};
 
 use crate::class_text::class_texts;
+use crate::line_number::{count_up, push_line_number};
 use crate::lister::Lister;
 use amf_graph::Rooted;
 use amf_iso::Numbering;
@@ -59,8 +60,11 @@ impl Lister<'_> {
         requires { IsOrder (content self.now.graph.now) self.now.numbering.now }
         ensures { OnOk result (out.new.items ≡ out.old.items ++ flat_map (shown_node (content self.now.graph.now) self.now.numbering.now) self.now.numbering.now) }
     {
+        let mut text = Vec::new(self.alloc);
+        push_line_number(0, &mut text)?;
         for number in 0..self.numbering.count() {
-            self.push_node(self.numbering.node_at(number), out)?;
+            self.push_line(text.as_slice(), self.numbering.node_at(number), out)?;
+            count_up(number, &mut text)?;
         }
         Ok(())
     }

@@ -1,7 +1,8 @@
 ghost use Rattle.std.specs.Prelude.{◌≡◌, ◌<◌, ◌++◌, length, OnOk};
 ghost use Rattle.amf_graph.specs.Graph.{node_at};
 ghost use Rattle.amf_graph.specs.Rooted.{content};
-ghost use Rattle.amf_show.specs.Listing.{contents_of, shown_node};
+ghost use Rattle.amf_show.specs.Listing.{contents_of};
+ghost use Rattle.amf_show.specs.Shown.{line_feed};
 
 use crate::contents::{push_byte_array, push_date, push_worded};
 use crate::lister::Lister;
@@ -11,14 +12,17 @@ use amf_graph::{NodeId, NodeView};
 use amf_wire::Memory;
 
 impl Lister<'_> {
-    /// Appends the line of a node.
-    #[tactic(auto, unfolding(crate::specs::Listing::shown_node))]
-    pub(crate) fn push_node(&self, node: NodeId, out: &mut Vec<u8>) -> Result<(), Memory>
+    /// Appends the line of a node, whose number is given.
+    pub(crate) fn push_line(
+        &self,
+        number: &[u8],
+        node: NodeId,
+        out: &mut Vec<u8>,
+    ) -> Result<(), Memory>
         requires { node.0 < length self.now.graph.now.arena.nodes }
-        ensures { OnOk result (out.new.items ≡ out.old.items ++ shown_node (content self.now.graph.now) self.now.numbering.now node.0) }
+        ensures { OnOk result (out.new.items ≡ out.old.items ++ (number.now ++ contents_of self.now.numbering.now (node_at (content self.now.graph.now) node.0) ++ line_feed)) }
     {
-        self.push_number(node, out)?;
-        push_word(b" ", out)?;
+        push_word(number, out)?;
         self.push_contents(node, out)?;
         out.push(b'\n')?;
         Ok(())

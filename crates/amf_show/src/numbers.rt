@@ -3,6 +3,8 @@ ghost use Rattle.std.specs.Fmt.{signed_decimal};
 ghost use Rattle.amf_show.specs.Joining.{separator_before};
 ghost use Rattle.amf_show.specs.Shown.{shown_double};
 
+use crate::digits::push_short;
+use crate::hex_pairs::hex_pair;
 use amf_wire::{Memory, Pattern};
 use itoa::Buffer;
 
@@ -29,6 +31,9 @@ pub(crate) fn push_separator(place: usize, out: &mut Vec<u8>) -> Result<(), Memo
 pub(crate) fn push_int(int: i32, out: &mut Vec<u8>) -> Result<(), Memory>
     ensures { OnOk result (out.new.items ≡ out.old.items ++ signed_decimal int) }
 {
+    if int >= 0 {
+        return push_uint(int.unsigned_abs(), out);
+    }
     let mut digits = Buffer::new();
     out.extend_from_slice(digits.format(int).as_bytes())?;
     Ok(())
@@ -38,21 +43,32 @@ pub(crate) fn push_int(int: i32, out: &mut Vec<u8>) -> Result<(), Memory>
 pub(crate) fn push_uint(uint: u32, out: &mut Vec<u8>) -> Result<(), Memory>
     ensures { OnOk result (out.new.items ≡ out.old.items ++ decimal uint) }
 {
+    if uint < 10_000 {
+        return push_short(uint, out);
+    }
     let mut digits = Buffer::new();
     out.extend_from_slice(digits.format(uint).as_bytes())?;
     Ok(())
+}
+
+/// A `d`, and the sixteen hexadecimal digits of a double's bits.
+fn double_word(double: Pattern) -> [u8; 17]
+    ensures { result ≡ shown_double double.0 }
+{
+    let bytes = double.0.to_be_bytes();
+    let mut word = [b'd'; 17];
+    for place in 0..8 {
+        let pair = hex_pair(bytes[place]);
+        word[2 * place + 1] = pair[0];
+        word[2 * place + 2] = pair[1];
+    }
+    word
 }
 
 /// Appends the sixteen hexadecimal digits of a double's bits behind a `d`.
 pub(crate) fn push_double(double: Pattern, out: &mut Vec<u8>) -> Result<(), Memory>
     ensures { OnOk result (out.new.items ≡ out.old.items ++ shown_double double.0) }
 {
-    let mut digits = [0; 16];
-    match hex::encode_to_slice(double.0.to_be_bytes(), &mut digits) {
-        Ok(()) => {}
-        Err(_) => unreachable!(),
-    }
-    out.push(b'd')?;
-    out.extend_from_slice(&digits)?;
+    out.extend_from_slice(&double_word(double))?;
     Ok(())
 }

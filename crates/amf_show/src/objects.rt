@@ -40,7 +40,7 @@ impl Lister<'_> {
         ensures { OnOk result (out.new.items ≡ out.old.items ++ joined (map (shown_pair self.now.numbering.now) (zip (traits_at self.now.graph.now.arena class.now.traits.0).sealed (values_of self.now.graph.now.arena values.now)))) }
     {
         for (place, value) in values.iter().enumerate() {
-            push_word(class.heads[place].as_slice(), out)?;
+            class.heads[place].push(out)?;
             self.push_value(*value, out)?;
         }
         Ok(())
@@ -60,7 +60,7 @@ impl Lister<'_> {
         requires members { ArePairs self.now.graph.now.arena members.now }
         ensures { OnOk result (out.new.items ≡ out.old.items ++ object_by self.now class.now.traits.0 members.now sealed.now) }
     {
-        out.extend_from_slice(class.opening.as_slice())?;
+        class.opening.push(out)?;
         self.push_headed(class, sealed, out)?;
         push_word(b"}", out)?;
         self.push_members(class.dynamic, members, out)

@@ -1,7 +1,9 @@
-ghost use Rattle.std.specs.Prelude.{◌≡◌, ◌<◌, ◌++◌, OnOk, OnErr};
+ghost use Rattle.std.specs.Prelude.{◌≡◌, ◌++◌, OnOk, OnErr};
 ghost use Rattle.std.specs.List.{flat_map, list_all};
-ghost use Rattle.amf_show.specs.Shown.{hex_digit, hex_byte, is_plain, shown_byte, shown_text};
+ghost use Rattle.amf_show.specs.Shown.{hex_byte, is_plain, shown_byte, shown_text};
 
+use crate::hex_pairs::hex_pair;
+use crate::numbers::push_word;
 use amf_wire::Memory;
 use std::alloc::Global;
 
@@ -19,26 +21,11 @@ pub fn show_text(alloc: Global, bytes: &[u8], out: &mut Vec<u8>) -> Result<(), M
     Ok(())
 }
 
-/// The hexadecimal digit of a number below 16, in lower case.
-fn hex_digit(number: u8) -> u8
-    requires { number < 16 }
-    ensures { result ≡ hex_digit number }
-{
-    if number < 10 {
-        b'0' + number
-    } else {
-        b'a' + (number - 10)
-    }
-}
-
 /// Appends the two hexadecimal digits of a byte.
-#[tactic(auto, unfolding(crate::specs::Shown::hex_byte))]
 fn push_hex_byte(byte: u8, out: &mut Vec<u8>) -> Result<(), Memory>
     ensures { OnOk result (out.new.items ≡ out.old.items ++ hex_byte byte) }
 {
-    out.push(hex_digit(byte / 16))?;
-    out.push(hex_digit(byte % 16))?;
-    Ok(())
+    push_word(&hex_pair(byte), out)
 }
 
 /// Appends the hexadecimal digits of bytes.

@@ -10,4 +10,4 @@ text-requires c = id_within c.args.graph.now.arena c.args.names.now c.loop-place
 pub loop-place-preserved : goal.loop-place-preserved
 loop-place-preserved c =
     let i = c.loop-place.place in
-    heads_step c.args.graph.now.arena c.args.names.now i (record { 0 = 0 }) c.loop-place.heads.items _ c.in_ok-made.made (omega arith) c.loop-place.invariant c.in_ok-push.ensures.items (c.in_ok-made.ensures ∙ ap (head_before i) c.text.ensures)
+    heads_step c.args.graph.now.arena c.args.names.now i (record { 0 = 0 }) c.loop-place.heads.items _ c.of-piece.result (omega arith) c.loop-place.invariant c.in_ok-push.ensures.items (c.of-piece.ensures ∙ c.in_ok-made.ensures ∙ ap (head_before i) c.text.ensures)

@@ -10,4 +10,4 @@ heads-requires c = sealed_in c.args.graph.now.arena c.args.traits.0 c.traits-cla
 pub returns : goal.returns
 returns c =
     let shown = sym (traits_shown c.args.graph.now.arena c.args.traits.0 c.traits-class.result c.traits-class.ensures) in
-    (c.in_ok-front.ensures ∙ ap object_opening c.text.ensures ∙ ap (λ (t : Traits). object_opening t.class) shown, c.in_ok-before.ensures ∙ ap (λ (t : Traits). heads_from 0 t.sealed) shown, ap (λ (t : Traits). t.dynamic) shown)
+    (c.of.ensures ∙ c.in_ok-front.ensures ∙ ap object_opening c.text.ensures ∙ ap (λ (t : Traits). object_opening t.class) shown, c.in_ok-before.ensures ∙ ap (λ (t : Traits). heads_from 0 t.sealed) shown, ap (λ (t : Traits). t.dynamic) shown)

@@ -19,5 +19,5 @@ loop-place-preserved c =
     let values = c.args.values.now in
     let i = c.loop-place.place in
     let within : i < length names = omega (arith, c.requires.each) in
-    let head = c.as_slice.ensures.value ∙ ready_head c.args.class.now.heads.items names i c.index.result.now c.requires.text.1 c.index.ensures within in
-    headed_step c.args.self.now.numbering.now a c.args.out.now.items c.loop-place.out.items c.push_word.new.out.items c.push_value.new.out.items names values i Undefined within c.requires.each c.loop-place.invariant (c.in_ok-push_word.ensures ∙ ap (λ w. c.loop-place.out.items ++ w) head) c.in_ok-push_value.ensures
+    let head = ready_head c.args.class.now.heads.items names i c.index.result.now c.requires.text.1 c.index.ensures within in
+    headed_step c.args.self.now.numbering.now a c.args.out.now.items c.loop-place.out.items c.push.new.out.items c.push_value.new.out.items names values i Undefined within c.requires.each c.loop-place.invariant (c.in_ok-push.ensures ∙ ap (λ w. c.loop-place.out.items ++ w) head) c.in_ok-push_value.ensures

@@ -19,5 +19,5 @@ returns c =
     let front = codes "object " ++ shown_text t.class ++ codes " sealed " in
     let inside = joined (map (shown_pair l.numbering.now) (zip t.sealed (values_of a c.args.sealed.now))) in
     let rest : Bool → List ℕ = λ f. cond f (codes " dynamic " ++ pairs_by l c.args.members.now) [] in
-    let one = c.in_ok-extend_from_slice.ensures.items ∙ ap (λ w. o ++ w) (c.as_slice.ensures.value ∙ c.requires.text.0) in
+    let one = c.in_ok-push.ensures ∙ ap (λ w. o ++ w) c.requires.text.0 in
     on_ok c.push_members.result (λ d. braced_behind o front inside (rest c.args.class.now.dynamic) _ c.push_headed.new.out.items c.push_word.new.out.items c.push_members.new.out.items one c.in_ok-push_headed.ensures c.in_ok-push_word.ensures d ∙ ap (λ (f : Bool). o ++ (front ++ braced inside ++ rest f)) c.requires.text.2) c.push_members.ensures
