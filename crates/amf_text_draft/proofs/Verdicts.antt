@@ -1,7 +1,9 @@
 -- What has been gathered of a text that means something, but for labels that may lead nowhere.
-use Rattle.std.proofs.Common.{◌≡◌, ◌≤◌, ℕ, List, [], ◌∷◌, length, Some, None, sym, subst}
+use Rattle.std.proofs.Common.{◌≡◌, ◌<◌, ◌≤◌, ℕ, suc, Bool, true, false, List, [], ◌∷◌, length, Option, Some, None, refl, sym, subst, arith}
+use Rattle.std.specs.Prelude.{option_map, slice_get, get_or}
 use Rattle.std.specs.List.{AllByRecursion}
 use Rattle.std.specs.Str.{IsUtf8}
+use Rattle.std.proofs.lemmas.Option.{same_Some, slice_get-get_or}
 use Rattle.json.specs.Json.{Json}
 use Rattle.json.specs.Json as json
 use Rattle.json.specs.Lex.{tokens}
@@ -9,12 +11,14 @@ use Rattle.amf_graph.specs.Graph.{Graph}
 use Rattle.amf_text.specs.Scalars.{read_number}
 use Rattle.amf_text.specs.Documents.{Document, value3, value0, file, packet}
 use Rattle.amf_text.specs.Accepted.{Part, IsJsonText, MeansPart, Means, document_meant}
+use Rattle.amf_text.specs.Asks.{start}
 use Rattle.amf_text.specs.Scan.{ended, scan}
-use Rattle.amf_text.specs.Refused.{first_false, text_limit, IsTextAccepted}
+use Rattle.amf_text.specs.Refused.{document_calls, first_false, label_places, text_limit, IsTextAccepted}
 use Rattle.amf_text.specs.Tellable.{EachGraph}
 use Rattle.amf_text.specs.WholeLaws.{IsSoundGraph, WholeLaws}
 use Rattle.amf_text.proofs.Goals.{no_answer}
 use Rattle.amf_text_laws.specs.TextBounds.{HasNumbers, TextBounds}
+use Rattle.amf_text_laws.specs.Verdicts.{OneVerdict}
 use Rattle.amf_text_laws.proofs.Scanned.{scanned}
 use Rattle.amf_text_trees.specs.Sheets.{Page, pages_of}
 use Rattle.amf_text_trees.specs.Pages.{pages_calls}
@@ -58,6 +62,27 @@ is_lost laws text p k u g e = let r = laws.in_vain text p k u g e in record { do
 
 pub lost_ends : (text : List ℕ) (k : ℕ) → IsLost text k → (scan text).stop ≡ ended
 lost_ends text k l = ends text l.document l.means
+
+first_less : (bs : List Bool) (k : ℕ) → first_false bs ≡ Some k → k < length bs
+first_less [] k e = no_answer k e
+first_less (false ∷ bs) k e = let h = same_Some 0 k e in omega (arith, h)
+first_less (true ∷ bs) k e = more (first_false bs) (λ n. first_less bs n) e
+  where
+    more : (o : Option ℕ) → ((n : ℕ) → o ≡ Some n → n < length bs) → option_map suc o ≡ Some k → k < length (true ∷ bs)
+    more None less e = no_answer k e
+    more (Some n) less e =
+        let h = less n refl in
+        let g = same_Some (suc n) k e in
+        omega (arith, h, g)
+
+-- its call has a place in the text
+pub has_place : OneVerdict → (text : List ℕ) (k : ℕ) → IsLost text k
+    → (at : ℕ) × (slice_get (label_places read_number (Some (start ∷ [])) (scan text).tokens) k ≡ Some at)
+has_place verdict text k l =
+    let places = label_places read_number (Some (start ∷ [])) (scan text).tokens in
+    let long = verdict.places read_number text l.document l.means in
+    let less = first_less (document_calls l.document) k l.lost in
+    (get_or places k 0, slice_get-get_or places k 0 (omega (arith, long, less)))
 
 -- Each leads to a row.
 

@@ -18,7 +18,7 @@ ghost use Rattle.amf_text_pages.specs.Written.{document_written};
 
 use amf_text::{TextReason, whole_laws};
 use amf_text_gather::gather_text;
-use amf_text_graphs::{lost_call, write};
+use amf_text_graphs::{document_with_graphs, lost_call};
 use amf_text_laws::{few_nodes, one_verdict};
 use amf_text_pages::{Document, Written};
 use amf_text_read::{Refusal, label_place, line_and_column, text_verdict};
@@ -62,7 +62,7 @@ fn no_label(
 {
     one_verdict();
     let Some(at) = label_place(alloc, keys, text, label)? else {
-        return Err(Memory);
+        unreachable!();
     };
     let (line, column) = line_and_column(text.as_bytes(), at);
     Ok(Refusal {
@@ -111,7 +111,7 @@ fn accepted(
     few_nodes();
     match lost_label(alloc, keys, text, &document)? {
         Some(refusal) => Err(TextEnd::Refused(refusal)),
-        None => Ok(write(alloc, keys, document)?),
+        None => Ok(document_with_graphs(alloc, keys, document)?),
     }
 }
 

@@ -13,13 +13,12 @@ use std::alloc::Global;
 use std::hash::RandomState;
 use std::marker::Model;
 
-/// A sheet that is written, and how much of it there is.
+/// A sheet that is written, and how many texts and traits of it there are.
 #[derive(Drop)]
 pub(crate) struct Book {
     sheet: Sheet,
     texts: usize,
     traits: usize,
-    nodes: usize,
 }
 
 impl Model for Book {
@@ -30,7 +29,7 @@ impl Model for Book {
 
     ghost view = { λ b. b.sheet };
 
-    ghost invariant = { λ b. (b.texts ≡ length b.sheet.texts) × (b.traits ≡ length b.sheet.traits) × (b.nodes ≡ length b.sheet.nodes) };
+    ghost invariant = { λ b. (b.texts ≡ length b.sheet.texts) × (b.traits ≡ length b.sheet.traits) };
 }
 
 impl Book {
@@ -42,7 +41,6 @@ impl Book {
             sheet: Sheet::new(alloc, keys)?,
             texts: 0,
             traits: 0,
-            nodes: 0,
         })
     }
 
@@ -79,15 +77,12 @@ impl Book {
         Ok(traits)
     }
 
-    /// Begins one more node. It gives up where there is no room.
+    /// Begins one more node.
     pub(crate) fn begin(&mut self) -> Result<(), Memory>
+        requires { length self.old.nodes < MAX_COUNT }
         ensures { OnOk result (self.new ≡ kept_node self.old untold) }
     {
-        if self.nodes >= MAX_COUNT as usize {
-            return Err(Memory);
-        }
         self.sheet.begin()?;
-        self.nodes += 1;
         Ok(())
     }
 

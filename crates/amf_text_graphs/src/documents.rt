@@ -15,7 +15,7 @@ use std::alloc::Global;
 use std::hash::RandomState;
 
 /// A header with its graph.
-fn write_header(
+fn header_with_graph(
     alloc: Global,
     keys: Option<RandomState>,
     header: Header,
@@ -33,7 +33,7 @@ fn write_header(
 }
 
 /// A message with its graph.
-fn write_message(
+fn message_with_graph(
     alloc: Global,
     keys: Option<RandomState>,
     message: Message,
@@ -51,7 +51,7 @@ fn write_message(
 }
 
 /// Headers with their graphs.
-fn write_headers(
+fn headers_with_graphs(
     alloc: Global,
     keys: Option<RandomState>,
     headers: Vec<Header>,
@@ -61,13 +61,13 @@ fn write_headers(
 {
     let mut all = Vec::new(alloc);
     for header in headers {
-        all.push(write_header(alloc, keys, header)?)?;
+        all.push(header_with_graph(alloc, keys, header)?)?;
     }
     Ok(all)
 }
 
 /// Messages with their graphs.
-fn write_messages(
+fn messages_with_graphs(
     alloc: Global,
     keys: Option<RandomState>,
     messages: Vec<Message>,
@@ -77,14 +77,14 @@ fn write_messages(
 {
     let mut all = Vec::new(alloc);
     for message in messages {
-        all.push(write_message(alloc, keys, message)?)?;
+        all.push(message_with_graph(alloc, keys, message)?)?;
     }
     Ok(all)
 }
 
 /// A document with graphs in place of its pages, which have to be sound and small enough for their numbers (`IsWritable`).
 /// Labels are looked up by hashes with these keys. It gives up where there is no memory.
-pub fn write(
+pub fn document_with_graphs(
     alloc: Global,
     keys: Option<RandomState>,
     document: Document,
@@ -102,8 +102,8 @@ pub fn write(
         },
         Document::Packet(version, headers, messages) => Written::Packet {
             version,
-            headers: write_headers(alloc, keys, headers)?,
-            messages: write_messages(alloc, keys, messages)?,
+            headers: headers_with_graphs(alloc, keys, headers)?,
+            messages: messages_with_graphs(alloc, keys, messages)?,
         },
     })
 }

@@ -23,6 +23,7 @@ use std::hash::RandomState;
 
 /// A book of so many nodes, of which nothing is told yet.
 fn book_of(alloc: Global, keys: Option<RandomState>, count: usize) -> Result<Book, Memory>
+    requires { count < count_end }
     ensures { IfOk result (λ book. length book.nodes ≡ count) }
 {
     let mut book = Book::new(alloc, keys)?;

@@ -16,4 +16,4 @@ mod rows;
 mod values;
 
 pub use calls::lost_call;
-pub use documents::write;
+pub use documents::document_with_graphs;

@@ -17,11 +17,17 @@ use std::alloc::Global;
 use std::hash::RandomState;
 
 /// What has to stand next in a text of which some tokens have been read.
-#[derive(Drop)]
 pub struct Asked {
     /// The last of these has to stand next, then the one before it, and so on.
     goals: Vec<Goal>,
     lists: Lists,
+}
+
+impl Drop for Asked {
+    /// Lets its parts go. Written out, it is proved once; what is derived is proved at each place where one is let go.
+    fn drop(self) {
+        let Asked { goals: _, lists: _ } = self;
+    }
 }
 
 /// What has to stand next, or nothing behind the whole text.

@@ -15,8 +15,8 @@ use json::{Reader, Scratch};
 use std::alloc::Global;
 use std::hash::RandomState;
 
-/// The number of the token that is this label of those that are called, all from 0.
-fn label_token(
+/// The number of the token that is this label of those that are called, all from 0, where no token has been taken yet.
+fn find_label(
     asked: &mut Asked,
     reader: &mut Reader<'_>,
     label: usize,
@@ -42,6 +42,20 @@ fn label_token(
     Ok(None)
 }
 
+/// The number of the token that is this label of those that are called, all from 0. What is looked up is found by these keys.
+fn label_token(
+    alloc: Global,
+    keys: Option<RandomState>,
+    reader: &mut Reader<'_>,
+    label: usize,
+) -> Result<Option<usize>, Memory>
+    requires { length reader.old < 2 ^ 63 }
+    ensures { IfOk result (λ token. token ≡ slice_get (label_numbers 0 (Some (start ∷ [])) reader.old) label) }
+{
+    let mut asked = Asked::new(alloc, keys)?;
+    find_label(&mut asked, reader, label)
+}
+
 /// The byte at which this label begins of those that are called in a text, both from 0, or `None` where fewer are called.
 /// What is looked up is found by these keys.
 pub fn label_place(
@@ -56,8 +70,7 @@ pub fn label_place(
 {
     let mut scratch = Scratch::new(alloc);
     let mut reader = Reader::new(text, &mut scratch)?;
-    let mut asked = Asked::new(alloc, keys)?;
-    match label_token(&mut asked, &mut reader, label)? {
+    match label_token(alloc, keys, &mut reader, label)? {
         Some(token) => Ok(Some(place_of(text.as_bytes(), token))),
         None => Ok(None),
     }

@@ -16,13 +16,25 @@ use std::alloc::Global;
 use std::hash::RandomState;
 
 /// The labels of tables, the names of classes, and the last keys of members that rise, each for the goals that are open.
-#[derive(Drop)]
 pub(crate) struct Lists {
     pub(crate) alloc: Global,
     keys: Option<RandomState>,
     pub(crate) labels: Nested<Texts>,
     pub(crate) names: Nested<Names>,
     pub(crate) lasts: Nested<Vec<u8>>,
+}
+
+impl Drop for Lists {
+    /// Lets its parts go. Written out, it is proved once; what is derived is proved at each place where one is let go.
+    fn drop(self) {
+        let Lists {
+            alloc: _,
+            keys: _,
+            labels: _,
+            names: _,
+            lasts: _,
+        } = self;
+    }
 }
 
 impl Lists {

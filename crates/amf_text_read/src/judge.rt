@@ -15,7 +15,7 @@ use std::alloc::Global;
 use std::hash::RandomState;
 
 /// What is left behind the tokens of a text, all of which can stand where they stand.
-#[derive(Clone, Copy, Debug)]
+#[derive(Clone, Copy)]
 pub(crate) struct Rest {
     /// Nothing has to come any more.
     pub(crate) is_whole: bool,
@@ -26,7 +26,7 @@ pub(crate) struct Rest {
 }
 
 /// How the tokens of a text end.
-#[derive(Clone, Copy, Debug)]
+#[derive(Clone, Copy)]
 pub(crate) enum End {
     /// At one that is refused.
     Wrong(TextReason),
@@ -37,7 +37,7 @@ pub(crate) enum End {
 }
 
 /// How many tokens can stand where they stand, and how they end.
-#[derive(Clone, Copy, Debug)]
+#[derive(Clone, Copy)]
 pub(crate) struct Judged {
     pub(crate) tokens: usize,
     pub(crate) end: End,

@@ -5,7 +5,7 @@ ghost use Rattle.amf_text.specs.Scan.{next_mode, is_open, begins as begins_in};
 ghost use Rattle.amf_text_read.specs.Modes.{mode_of};
 
 /// Where the lexer of JSON stands (RFC 8259, 2): between lexemes, in a number or a word, in a string, or behind a backslash in it.
-#[derive(Clone, Copy, Debug, PartialEq, Eq)]
+#[derive(Clone, Copy)]
 pub enum Mode {
     Between,
     InWord,

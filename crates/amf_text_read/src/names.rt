@@ -12,10 +12,16 @@ use std::hash::RandomState;
 use std::marker::Model;
 
 /// The names that a class has told, and which of them a member has.
-#[derive(Drop)]
 pub(crate) struct Names {
     told: Texts,
     given: Vec<bool>,
+}
+
+impl Drop for Names {
+    /// Lets its parts go. Written out, it is proved once; what is derived is proved at each place where one is let go.
+    fn drop(self) {
+        let Names { told: _, given: _ } = self;
+    }
 }
 
 impl Model for Names {

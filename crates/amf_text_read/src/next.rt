@@ -9,7 +9,7 @@ use crate::goal::{Goal, Key};
 use crate::table::at_object;
 
 /// What has to stand next in place of a goal: some goals, the first first, and maybe one more behind them.
-#[derive(Clone, Copy, Debug)]
+#[derive(Clone, Copy)]
 pub(crate) struct Next {
     pub(crate) goals: &'static [Goal],
     pub(crate) more: Option<Goal>,

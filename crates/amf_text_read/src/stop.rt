@@ -13,7 +13,7 @@ use crate::mode::Mode;
 use crate::place::{ends_inside, place_of};
 
 /// Where the tokens of a text stop.
-#[derive(Clone, Copy, Debug)]
+#[derive(Clone, Copy)]
 pub(crate) enum Stop {
     /// At its end.
     Ended,
@@ -26,7 +26,7 @@ pub(crate) enum Stop {
 }
 
 /// Where the last lexeme of a text begins, and whether a comma stands before it.
-#[derive(Clone, Copy, Debug)]
+#[derive(Clone, Copy)]
 struct Last {
     at: usize,
     is_behind_comma: bool,

@@ -39,7 +39,7 @@ pub struct Refusal {
 }
 
 /// Why a text is refused, and at which byte.
-#[derive(Clone, Copy, Debug)]
+#[derive(Clone, Copy)]
 struct Fault {
     reason: TextReason,
     at: usize,

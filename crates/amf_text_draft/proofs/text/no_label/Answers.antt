@@ -1,6 +1,12 @@
 use Rattle.std.proofs.Common.{ap, sym, ◌∙◌}
 use Rattle.amf_text.specs.Refused.{within, no_label, position_of}
+use Rattle.amf_text_draft.proofs.Verdicts.{has_place}
 use Rattle.amf_text_draft.proofs.text.no_label.Goals as goal
+
+pub unreachable-requires : goal.unreachable-requires
+unreachable-requires c =
+    let place = has_place c.one_verdict.ensures c.args.text.now c.args.label c.requires.lost in
+    c.in_default.not-Some place.0 (c.in_ok-at.ensures ∙ place.1)
 
 pub returns : goal.returns
 returns c = record {

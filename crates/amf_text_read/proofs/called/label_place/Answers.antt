@@ -6,8 +6,8 @@ use Rattle.amf_text_read.proofs.LabelNumbers.{no_place, place_is}
 use Rattle.amf_text_read.proofs.Lexed.{few_tokens}
 use Rattle.amf_text_read.proofs.called.label_place.Goals as goal
 
-pub label_token-requires-clause-few : goal.label_token-requires-clause-few
-label_token-requires-clause-few c =
+pub label_token-requires : goal.label_token-requires
+label_token-requires c =
     let text = c.args.text.now in
     let same : length c.in_ok-reader.reader ≡ length (tokens text) = ap length c.in_ok-reader.ensures.ok in
     let few = few_tokens text in

@@ -4,7 +4,7 @@ use Rattle.std.specs.Prelude.{slice_get}
 use Rattle.amf_text.specs.Asks.{start}
 use Rattle.amf_text_read.specs.Verdicts.{asked_of}
 use Rattle.amf_text_read.specs.LabelNumbers.{label_numbers}
-use Rattle.amf_text_read.proofs.called.label_token.Given as goal
+use Rattle.amf_text_read.proofs.called.find_label.Given as goal
 
 abbrev pub invariant-loop-token : goal.invariant-loop-token
 invariant-loop-token l =

@@ -3,7 +3,7 @@ use Rattle.std.specs.List.{AllByRecursion}
 use Rattle.amf_text_graphs.specs.Graphs.{IsWritable, header_graph}
 use Rattle.amf_text_pages.specs.Pages.{header_of}
 use Rattle.amf_text_pages.specs.Written.{header_written}
-use Rattle.amf_text_graphs.proofs.documents.write_headers.Given as goal
+use Rattle.amf_text_graphs.proofs.documents.headers_with_graphs.Given as goal
 
 abbrev pub invariant-loop-header : goal.invariant-loop-header
 invariant-loop-header l =

@@ -3,7 +3,7 @@ use Rattle.std.specs.List.{AllByRecursion}
 use Rattle.amf_text_graphs.specs.Graphs.{IsWritable, message_graph}
 use Rattle.amf_text_pages.specs.Pages.{message_of}
 use Rattle.amf_text_pages.specs.Written.{message_written}
-use Rattle.amf_text_graphs.proofs.documents.write_messages.Given as goal
+use Rattle.amf_text_graphs.proofs.documents.messages_with_graphs.Given as goal
 
 abbrev pub invariant-loop-message : goal.invariant-loop-message
 invariant-loop-message l =
