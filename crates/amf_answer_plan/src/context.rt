@@ -7,12 +7,22 @@ use flex_msgs::Common;
 use std::alloc::Global;
 
 /// What a reply says of its request.
-#[derive(Drop)]
 pub struct Context {
     pub destination: Name,
     pub ds_id: Name,
     /// The `messageId` of the request.
     pub correlation: Name,
+}
+
+impl Drop for Context {
+    /// Lets its parts go. Written out, it is proved once; what is derived is proved at each place where one is let go.
+    fn drop(self) {
+        let Context {
+            destination: _,
+            ds_id: _,
+            correlation: _,
+        } = self;
+    }
 }
 
 /// The number of a client, or `nil` where there is none.
@@ -55,6 +65,15 @@ impl Context {
     pub fn with_client(self, ds_id: Name) -> Context
         ensures { context_in result ≡ with_client ds_id (context_in self) }
     {
-        Context { ds_id, ..self }
+        let Context {
+            destination,
+            ds_id: _,
+            correlation,
+        } = self;
+        Context {
+            destination,
+            ds_id,
+            correlation,
+        }
     }
 }

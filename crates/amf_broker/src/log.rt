@@ -20,10 +20,19 @@ use std::alloc::Global;
 use std::marker::Model;
 
 /// A published message.
-#[derive(Drop)]
 pub(crate) struct Post {
     number: u64,
     message: Payload,
+}
+
+impl Drop for Post {
+    /// Lets its parts go. Written out, it is proved once; what is derived is proved at each place where one is let go.
+    fn drop(self) {
+        let Post {
+            number: _,
+            message: _,
+        } = self;
+    }
 }
 
 impl Model for Post {
@@ -59,12 +68,23 @@ const SHORT: usize = 8;
 
 /// The messages of a topic, each once, in order of their numbers, and the live subscriptions that listen to it, in order of
 /// theirs. Messages that nobody waits for go once the log has come to its limit.
-#[derive(Drop)]
 pub(crate) struct Log {
     topic: Topic,
     posts: Vec<Post>,
     members: Vec<Member>,
     limit: usize,
+}
+
+impl Drop for Log {
+    /// Lets its parts go. Written out, it is proved once; what is derived is proved at each place where one is let go.
+    fn drop(self) {
+        let Log {
+            topic: _,
+            posts: _,
+            members: _,
+            limit: _,
+        } = self;
+    }
 }
 
 impl Model for Log {

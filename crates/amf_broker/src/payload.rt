@@ -6,9 +6,16 @@ use std::marker::Model;
 use std::sync::Arc;
 
 /// The bytes of a message. The broker and all to whom it was handed share them.
-#[derive(Debug, Drop)]
+#[derive(Debug)]
 pub struct Payload {
     shared: Arc<Name, Global>,
+}
+
+impl Drop for Payload {
+    /// Lets its parts go. Written out, it is proved once; what is derived is proved at each place where one is let go.
+    fn drop(self) {
+        let Payload { shared: _ } = self;
+    }
 }
 
 impl Model for Payload {

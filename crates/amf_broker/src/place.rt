@@ -11,7 +11,6 @@ use std::marker::Model;
 
 /// A subscription, with its place in the log of its topic: what is from there on waits for its client. One that has ended
 /// stops before a message, and is there as long as something waits.
-#[derive(Drop)]
 pub(crate) struct Place {
     id: SubId,
     client: ClientId,
@@ -19,6 +18,20 @@ pub(crate) struct Place {
     start: u64,
     stop: u64,
     live: bool,
+}
+
+impl Drop for Place {
+    /// Lets its parts go. Written out, it is proved once; what is derived is proved at each place where one is let go.
+    fn drop(self) {
+        let Place {
+            id: _,
+            client: _,
+            topic: _,
+            start: _,
+            stop: _,
+            live: _,
+        } = self;
+    }
 }
 
 impl Model for Place {

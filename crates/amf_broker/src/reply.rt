@@ -14,9 +14,16 @@ pub struct Delivery {
 }
 
 /// Deliveries, in the order in which they were queued.
-#[derive(Debug, Drop)]
+#[derive(Debug)]
 pub struct Deliveries {
     items: Vec<Delivery>,
+}
+
+impl Drop for Deliveries {
+    /// Lets its parts go. Written out, it is proved once; what is derived is proved at each place where one is let go.
+    fn drop(self) {
+        let Deliveries { items: _ } = self;
+    }
 }
 
 impl Model for Deliveries {
@@ -45,9 +52,16 @@ impl Deliveries {
 }
 
 /// Subscriptions, in the order in which they ended.
-#[derive(Debug, Drop)]
+#[derive(Debug)]
 pub struct SubIds {
     items: Vec<SubId>,
+}
+
+impl Drop for SubIds {
+    /// Lets its parts go. Written out, it is proved once; what is derived is proved at each place where one is let go.
+    fn drop(self) {
+        let SubIds { items: _ } = self;
+    }
 }
 
 impl Model for SubIds {
@@ -75,9 +89,16 @@ impl SubIds {
 }
 
 /// Clients, in order of their numbers.
-#[derive(Debug, Drop)]
+#[derive(Debug)]
 pub struct ClientIds {
     items: Vec<ClientId>,
+}
+
+impl Drop for ClientIds {
+    /// Lets its parts go. Written out, it is proved once; what is derived is proved at each place where one is let go.
+    fn drop(self) {
+        let ClientIds { items: _ } = self;
+    }
 }
 
 impl Model for ClientIds {
@@ -113,7 +134,7 @@ pub struct Answer {
 
 /// What the broker replies. `Full` and what follows are refusals, which change nothing but
 /// what every call does.
-#[derive(Debug, Drop)]
+#[derive(Debug)]
 pub enum Reply {
     /// The number of the new client.
     Client(ClientId),
@@ -159,4 +180,36 @@ pub enum Reply {
     NoSub(SubId),
     /// The number is neither that of the client's next numbered poll nor that of its last one, which is this.
     BadNumber(u64),
+}
+
+impl Drop for Reply {
+    /// Lets its parts go. Written out, it is proved once; what is derived is proved at each place where one is let go.
+    fn drop(self) {
+        match self {
+            Reply::Published {
+                number: _,
+                ended: _,
+            } => {}
+            Reply::Batch {
+                deliveries: _,
+                ended: _,
+            } => {}
+            Reply::Numbered {
+                number: _,
+                deliveries: _,
+                ended: _,
+            } => {}
+            Reply::Again {
+                number: _,
+                deliveries: _,
+                ended: _,
+            } => {}
+            Reply::NoTopic(_) => {}
+            Reply::Client(_) | Reply::NoClient(_) => {}
+            Reply::Subscribed(_) | Reply::Unsubscribed(_) | Reply::NoSub(_) => {}
+            Reply::Full(_) | Reply::TooLong(_) | Reply::TooManySubs(_) => {}
+            Reply::BadNumber(_) => {}
+            Reply::Bye => {}
+        }
+    }
 }

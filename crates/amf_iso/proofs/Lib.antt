@@ -15,6 +15,7 @@ mod Joins
 pub mod InOrder
 mod LastOrders
 mod Held
+mod SeenKinds
 pub mod Meeting
 mod NamesAlike
 mod Pairing

@@ -125,5 +125,3 @@ module _ (a b : Arena) where
     }
 
 pub ruleset meets = (rest_fewer, rest_other, rest_none, stored_lasts, entries_last)
-
-pub ruleset always = (met_always)

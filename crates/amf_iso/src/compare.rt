@@ -67,7 +67,6 @@ fn both_meet(
 }
 
 /// Whether what two nodes with the same head hold is alike, where it stands. The views are these nodes'.
-#[tactic(auto, using(crate::proofs::Meeting::always))]
 fn parts_meet(
     alloc: Global,
     i: NodeId,
