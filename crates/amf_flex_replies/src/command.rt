@@ -8,8 +8,8 @@ ghost use Rattle.amf_answer_plan.specs.Causes.{not_served as not_served_cause};
 ghost use Rattle.amf_answer_plan.specs.Commands.{command as command_plan};
 ghost use Rattle.amf_answer_plan.specs.Did.{Stopped};
 ghost use Rattle.amf_answer_plan.specs.Says.{Says};
-ghost use Rattle.amf_answer_plan.specs.Kept.{CommonFits, names_told};
-ghost use Rattle.amf_answer_plan.specs.Replies.{context_of, error as error_plan};
+ghost use Rattle.amf_answer_plan.specs.Kept.{context_in, CommonFits, ContextFits};
+ghost use Rattle.amf_answer_plan.specs.Replies.{error as error_plan};
 
 use crate::commands::{disconnect, ping, subscribe, unsubscribe};
 use crate::polls::poll;
@@ -26,15 +26,14 @@ use std::alloc::Global;
 fn other<O: Outside>(
     alloc: Global,
     outside: &mut O,
-    common: &Common,
+    context: &Context,
 ) -> Result<MessageAnswer, Unanswered>
-    requires { CommonFits common.now }
-    ensures says { IfOk result (λ a. Says O.handed (error_plan (context_of (names_told common.now)) not_served_cause) outside.old outside.new a) }
-    ensures stopped { OnErr result (Stopped O.handed (error_plan (context_of (names_told common.now)) not_served_cause) outside.old outside.new) }
+    requires { ContextFits (context_in context.now) }
+    ensures says { IfOk result (λ a. Says O.handed (error_plan (context_in context.now) not_served_cause) outside.old outside.new a) }
+    ensures stopped { OnErr result (Stopped O.handed (error_plan (context_in context.now) not_served_cause) outside.old outside.new) }
 {
-    let context = Context::of(alloc, common)?;
     let fault = not_served(alloc)?;
-    Ok(error(alloc, outside, &context, &fault)?)
+    Ok(error(alloc, outside, context, &fault)?)
 }
 
 /// Answers a command by its operation.
@@ -52,20 +51,21 @@ pub fn command<O: Outside>(
     ensures says { IfOk result (λ a. Says O.handed (command_plan (content graph.now) (told graph.now.arena common.now) operation) outside.old outside.new a) }
     ensures stopped { OnErr result (Stopped O.handed (command_plan (content graph.now) (told graph.now.arena common.now) operation) outside.old outside.new) }
 {
+    let context = Context::of(alloc, common)?;
     if operation == 0 {
-        return subscribe(alloc, outside, common);
+        return subscribe(alloc, outside, common, &context);
     }
     if operation == 1 {
-        return unsubscribe(alloc, outside, common);
+        return unsubscribe(alloc, outside, common, &context);
     }
     if operation == 2 {
-        return poll(alloc, outside, graph, common);
+        return poll(alloc, outside, graph, common, &context);
     }
     if operation == 5 {
-        return ping(alloc, outside, common);
+        return ping(alloc, outside, common, context);
     }
     if operation == 12 {
-        return disconnect(alloc, outside, common);
+        return disconnect(alloc, outside, common, &context);
     }
-    other(alloc, outside, common)
+    other(alloc, outside, &context)
 }

@@ -6,6 +6,7 @@ ghost use Rattle.amf_answer_plan.specs.Did.{Ran, Stopped};
 ghost use Rattle.amf_answer_plan.specs.Says.{Says};
 ghost use Rattle.amf_answer_plan.specs.Kept.{context_in, Fits, ContextFits, CommonFits, names_told};
 ghost use Rattle.amf_answer_plan.specs.Kept.{connect_in};
+ghost use Rattle.amf_answer_plan.specs.Replies.{context_of};
 ghost use Rattle.amf_answer_plan.specs.Small.{IsSmall};
 
 use crate::replies::{acknowledge_null, error};
@@ -85,17 +86,19 @@ pub fn subscribe<O: Outside>(
     alloc: Global,
     outside: &mut O,
     common: &Common,
+    context: &Context,
 ) -> Result<MessageAnswer, Unanswered>
     requires common { CommonFits common.now }
+    requires context { context_in context.now ≡ context_of (names_told common.now) }
+    requires fits { ContextFits (context_in context.now) }
     requires ready { O.may_call outside.old }
     ensures says { IfOk result (λ a. Says O.handed (subscribe_plan (names_told common.now)) outside.old outside.new a) }
     ensures stopped { OnErr result (Stopped O.handed (subscribe_plan (names_told common.now)) outside.old outside.new) }
 {
-    let context = Context::of(alloc, common)?;
     let topic = topic_of(alloc, common)?;
     let client = ClientId(number_in(&common.ds_id));
     let reply = ask(outside, Call::Subscribe { client, topic })?;
-    Ok(say_subscribed(alloc, outside, &context, &reply)?)
+    Ok(say_subscribed(alloc, outside, context, &reply)?)
 }
 
 /// Operation 1: the end of the subscription that the client of the request names.
@@ -103,17 +106,19 @@ pub fn unsubscribe<O: Outside>(
     alloc: Global,
     outside: &mut O,
     common: &Common,
+    context: &Context,
 ) -> Result<MessageAnswer, Unanswered>
     requires common { CommonFits common.now }
+    requires context { context_in context.now ≡ context_of (names_told common.now) }
+    requires fits { ContextFits (context_in context.now) }
     requires ready { O.may_call outside.old }
     ensures says { IfOk result (λ a. Says O.handed (unsubscribe_plan (names_told common.now)) outside.old outside.new a) }
     ensures stopped { OnErr result (Stopped O.handed (unsubscribe_plan (names_told common.now)) outside.old outside.new) }
 {
-    let context = Context::of(alloc, common)?;
     let client = ClientId(number_in(&common.ds_id));
     let sub = SubId(number_in(&common.client));
     let reply = ask(outside, Call::Unsubscribe { client, sub })?;
-    Ok(acknowledged(alloc, outside, &context, &common.client, &reply)?)
+    Ok(acknowledged(alloc, outside, context, &common.client, &reply)?)
 }
 
 /// Operation 12: the end of a client.
@@ -121,17 +126,19 @@ pub fn disconnect<O: Outside>(
     alloc: Global,
     outside: &mut O,
     common: &Common,
+    context: &Context,
 ) -> Result<MessageAnswer, Unanswered>
     requires common { CommonFits common.now }
+    requires context { context_in context.now ≡ context_of (names_told common.now) }
+    requires fits { ContextFits (context_in context.now) }
     requires ready { O.may_call outside.old }
     ensures says { IfOk result (λ a. Says O.handed (disconnect_plan (names_told common.now)) outside.old outside.new a) }
     ensures stopped { OnErr result (Stopped O.handed (disconnect_plan (names_told common.now)) outside.old outside.new) }
 {
-    let context = Context::of(alloc, common)?;
     let empty = Name::of_bytes(alloc, b"")?;
     let client = ClientId(number_in(&common.ds_id));
     let reply = ask(outside, Call::Disconnect { client })?;
-    Ok(acknowledged(alloc, outside, &context, &empty, &reply)?)
+    Ok(acknowledged(alloc, outside, context, &empty, &reply)?)
 }
 
 /// Whether a request names no client yet.
@@ -183,13 +190,15 @@ pub fn ping<O: Outside>(
     alloc: Global,
     outside: &mut O,
     common: &Common,
+    context: Context,
 ) -> Result<MessageAnswer, Unanswered>
     requires common { CommonFits common.now }
+    requires context { context_in context ≡ context_of (names_told common.now) }
+    requires fits { ContextFits (context_in context) }
     requires ready { O.may_call outside.old }
     ensures says { IfOk result (λ a. Says O.handed (ping_plan (names_told common.now)) outside.old outside.new a) }
     ensures stopped { OnErr result (Stopped O.handed (ping_plan (names_told common.now)) outside.old outside.new) }
 {
-    let context = Context::of(alloc, common)?;
     if is_new(&common.ds_id) {
         return connect(alloc, outside, context);
     }

@@ -7,7 +7,8 @@ ghost use Rattle.flex_msgs.specs.Asked.{IsCommon, told};
 ghost use Rattle.amf_answer_plan.specs.Commands.{poll as poll_plan, poll_call as poll_call_of, poll_number as poll_number_of, say_batch as say_batch_plan};
 ghost use Rattle.amf_answer_plan.specs.Did.{Stopped};
 ghost use Rattle.amf_answer_plan.specs.Says.{Says};
-ghost use Rattle.amf_answer_plan.specs.Kept.{context_in, ContextFits, CommonFits};
+ghost use Rattle.amf_answer_plan.specs.Kept.{context_in, ContextFits, CommonFits, names_told};
+ghost use Rattle.amf_answer_plan.specs.Replies.{context_of};
 ghost use Rattle.amf_answer_plan.specs.Small.{IsSmall};
 
 use crate::batches::batch;
@@ -85,17 +86,19 @@ pub fn poll<O: Outside>(
     outside: &mut O,
     graph: &Rooted,
     common: &Common,
+    context: &Context,
 ) -> Result<MessageAnswer, Unanswered>
     requires common { IsCommon graph.now.arena common.now }
     requires fits { CommonFits common.now }
+    requires context { context_in context.now ≡ context_of (names_told common.now) }
+    requires context_fits { ContextFits (context_in context.now) }
     requires ready { O.may_call outside.old }
     ensures says { IfOk result (λ a. Says O.handed (poll_plan (content graph.now) (told graph.now.arena common.now)) outside.old outside.new a) }
     ensures stopped { OnErr result (Stopped O.handed (poll_plan (content graph.now) (told graph.now.arena common.now)) outside.old outside.new) }
 {
-    let context = Context::of(alloc, common)?;
     let client = ClientId(number_in(&common.ds_id));
     let value = header(alloc, graph, common, b"AMFPoll")?;
     let call = poll_call(alloc, graph, client, value)?;
     let reply = ask(outside, call)?;
-    Ok(say_batch(alloc, outside, &context, &reply)?)
+    Ok(say_batch(alloc, outside, context, &reply)?)
 }

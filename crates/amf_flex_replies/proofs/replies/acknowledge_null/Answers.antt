@@ -5,7 +5,7 @@ use Rattle.flex_msgs.specs.Answers.{acknowledge_graph}
 use Rattle.flex_msgs.specs.Messages.{null_value}
 use Rattle.amf_answer_plan.specs.Kept.{context_in}
 use Rattle.amf_answer_plan.specs.Replies.{fresh, answered, no_nodes}
-use Rattle.amf_answer_plan.proofs.Doing.{at_err, stopped_between}
+use Rattle.amf_answer_plan.proofs.Doing.{at_err, stopped_between, stopped_first}
 use Rattle.amf_flex_replies.proofs.Saying.{says_told}
 use Rattle.amf_flex_replies.proofs.replies.acknowledge_null.Goals as goal
 
@@ -24,3 +24,7 @@ pub returns-in_err-graph-clause-stopped : goal.returns-in_err-graph-clause-stopp
 returns-in_err-graph-clause-stopped g c =
     at_err c.from_residual-in_err-graph.result (stopped_between g.O.Outside.handed g.met.O.Outside.hands_none g.met.O.Outside.hands_both
     (fresh (context_in c.args.context.now) c.args.client.now) (λ (r : Reply). answered r (acknowledge_graph r no_nodes null_value)) c.args.outside.now c.fresh.new.outside _ c.in_ok-reply.ensures.ran)
+
+pub returns-in_err-reply-clause-stopped : goal.returns-in_err-reply-clause-stopped
+returns-in_err-reply-clause-stopped g c =
+    at_err c.from_residual.result (stopped_first g.O.Outside.handed (fresh (context_in c.args.context.now) c.args.client.now) (λ (r : Reply). answered r (acknowledge_graph r no_nodes null_value)) c.args.outside.now c.fresh.new.outside c.in_err-reply.ensures.stopped)
