@@ -283,4 +283,5 @@ def main():
             show(["gen", "--seed=1", "--size=1000000"], million_nodes, path)
 
 
-main()
+if __name__ == "__main__":
+    main()
