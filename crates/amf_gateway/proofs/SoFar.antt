@@ -113,6 +113,7 @@ module _ {H L : Type 0} (hall : HallMembers H L) (link : LinkMembers L) (service
     pub tells : hall.tells_links c → hall.tells_links b
     pub coming : hall.tells_links c → hall.coming c ≡ hall.coming b
     pub served : hall.tells_links c → hall.served c ≡ hall.served b ++ left ∷ []
+    pub none_out : hall.is_out c ≡ false
     pub faults : hall.faults c ≡ hall.faults b
     pub moments : Keeps (hall.tells_moments b) (hall.tells_moments c) (hall.moments b) (hall.moments c)
     pub words : Keeps (hall.tells_words b) (hall.tells_words c) (hall.words b) (hall.words c)
@@ -128,6 +129,7 @@ module _ {H L : Type 0} (hall : HallMembers H L) (link : LinkMembers L) (service
     tells = λ t. v.links.coming_same.since (back.tells t);
     coming = λ t. back.coming t ∙ v.links.coming_same.same (v.links.coming_same.since (back.tells t));
     took_back = λ t. back.served t ∙ ap (λ l. l ++ s.left ∷ []) (v.links.served_same.same (v.links.served_same.since (back.tells t)));
+    none_out = back.none_out;
     faults = back.faults ∙ v.links.count_same;
     starved_is = e;
     budget = v.budget;

@@ -23,13 +23,14 @@ keeps_self told x = record { still = λ t. t; since = λ t. t; same = λ t. refl
 keeps_then : {X : Type 0} (a b c : Type 0) (x y z : X) → Keeps a b x y → Keeps b c y z → Keeps a c x z
 keeps_then a b c x y z m n = record { still = λ t. n.still (m.still t); since = λ t. m.since (n.since t); same = λ t. n.same (m.still t) ∙ m.same t }
 
-links_self : {L : Type 0} (told : Type 0) (coming served : List L) (n : ℕ) → SameLinks told told coming coming served served n n
-links_self told coming served n = record { coming_same = keeps_self told coming; served_same = keeps_self told served; count_same = refl }
+links_self : {L : Type 0} (told : Type 0) (coming served : List L) (o : Bool) (n : ℕ) → SameLinks told told coming coming served served o o n n
+links_self told coming served o n = record { coming_same = keeps_self told coming; served_same = keeps_self told served; out_same = refl; count_same = refl }
 
-links_then : {L : Type 0} (a b c : Type 0) (x y z u v w : List L) (l m n : ℕ) → SameLinks a b x y u v l m → SameLinks b c y z v w m n → SameLinks a c x z u w l n
-links_then a b c x y z u v w l m n p q = record {
+links_then : {L : Type 0} (a b c : Type 0) (x y z u v w : List L) (o i j : Bool) (l m n : ℕ) → SameLinks a b x y u v o i l m → SameLinks b c y z v w i j m n → SameLinks a c x z u w o j l n
+links_then a b c x y z u v w o i j l m n p q = record {
   coming_same = keeps_then a b c x y z p.coming_same q.coming_same;
   served_same = keeps_then a b c u v w p.served_same q.served_same;
+  out_same = q.out_same ∙ p.out_same;
   count_same = q.count_same ∙ p.count_same;
 }
 
@@ -38,7 +39,7 @@ module _ {A L : Type 0} (aid : HallMembers A L) where
   aid_none a = record {
     moments_given = given_self (aid.tells_moments a) (aid.moments a);
     words_given = given_self (aid.tells_words a) (aid.words a);
-    links = links_self (aid.tells_links a) (aid.coming a) (aid.served a) (aid.faults a);
+    links = links_self (aid.tells_links a) (aid.coming a) (aid.served a) (aid.is_out a) (aid.faults a);
   }
 
   pub aid_both : (a b c : A) (k l : Taken) → AidGoesOn aid a b k → AidGoesOn aid b c l → AidGoesOn aid a c (taken_both k l)
@@ -47,7 +48,7 @@ module _ {A L : Type 0} (aid : HallMembers A L) where
     words_given = given_then (aid.tells_words a) (aid.tells_words b) (aid.tells_words c) (aid.words a) (aid.words b) (aid.words c) k.words l.words p.words_given q.words_given;
     links =
         links_then (aid.tells_links a) (aid.tells_links b) (aid.tells_links c) (aid.coming a) (aid.coming b) (aid.coming c) (aid.served a) (aid.served b) (aid.served c)
-        (aid.faults a) (aid.faults b) (aid.faults c) p.links q.links;
+        (aid.is_out a) (aid.is_out b) (aid.is_out c) (aid.faults a) (aid.faults b) (aid.faults c) p.links q.links;
   }
 
 -- The pass.

@@ -1,5 +1,5 @@
 -- A device of proofs: what the steps of a worker come to.
-use Rattle.std.specs.Prelude.{◌≡◌, Bool, List, [], ◌∷◌, ◌++◌}
+use Rattle.std.specs.Prelude.{◌≡◌, Bool, false, List, [], ◌∷◌, ◌++◌}
 use Rattle.amf_desk.specs.declared.closed.DeskEnd.{DeskEnd}
 use Rattle.amf_desk.specs.declared.closed.DeskEnd.TheVariants as desk_end
 use Rattle.amf_desk.specs.Passes.{Held}
@@ -34,6 +34,7 @@ pub record ServedNext {H L : Type 0} (hall : HallMembers H L) (link : LinkMember
   pub tells : hall.tells_links b → hall.tells_links a
   pub coming : hall.tells_links b → hall.coming b ≡ hall.coming a
   pub took_back : hall.tells_links b → hall.served b ≡ hall.served a ++ service.left ∷ []
+  pub none_out : hall.is_out b ≡ false
   pub faults : hall.faults b ≡ hall.faults a
   pub starved_is : starved ≡ is_starved service.end
   pub budget : service.end ≡ spent → q.budget ≡ 0

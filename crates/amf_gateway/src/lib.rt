@@ -10,10 +10,6 @@ mod packets;
 mod serve;
 mod worker;
 
-pub use amf_answer_laws::{
-    answers_are_fixed, byte_rows, client_rows, form_rows, link_rows, order_rows, plain_rows,
-    poll_rows, remoting_rows, run_out_rows, served_is_beginning, text_rows, tried_is_run,
-};
 pub use at_hand::AtHand;
 pub use links::LinkEnd;
 pub use serve::{serve_link, serve_link_keyed};

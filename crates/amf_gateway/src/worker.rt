@@ -1,6 +1,6 @@
 //! Workers at a desk, each with a pass and a hall of its own.
 
-ghost use Rattle.std.specs.Prelude.{◌≡◌, ◌||◌, None};
+ghost use Rattle.std.specs.Prelude.{◌≡◌, ◌||◌, false, None};
 ghost use Rattle.amf_answer_plan.specs.Services.{services_of};
 ghost use Rattle.amf_gateway.specs.Served.{WorkerServed, WorkerCounts, CountsAnswered, CountsTold, starved_in};
 ghost use Rattle.amf_gateway.specs.WorkerSteps.{NextServed};
@@ -111,8 +111,8 @@ impl<H: Hall> Worker<H> {
         end.is_starved()
     }
 
-    /// Serves up to `each` links of the hall, one after the other, and gives each back to it. A link's end does not stop the
-    /// worker. The desk is that of its pass. Its number and its keys stay, and its calls are counted: those that had an answer, and
+    /// Serves up to `each` links of the hall, one after the other: each is served and given back before the next is waited for, so no client
+    /// waits for another to come. A link's end does not stop the worker. The desk is that of its pass. Its number and its keys stay, and its calls are counted: those that had an answer, and
     /// one that had none at most for each link that it served. Where no link ran out of memory and calls are left, each had one.
     pub fn serve<R: Wait, G: Gate>(
         &mut self,
@@ -123,11 +123,13 @@ impl<H: Hall> Worker<H> {
         gate: &G,
         each: u64,
     ) -> WorkerEnd
-        requires { self.old.pass.desk ≡ desk.now }
+        requires desk { self.old.pass.desk ≡ desk.now }
+        requires none_out { H.is_out self.old.hall ≡ false }
         ensures served { WorkerServed H.Hall H.Link.Link (services_of registry.now knows gives) each self.old self.new result }
         ensures calls { WorkerCounts each self.old self.new }
         ensures all_answered { CountsAnswered (starved_in result) self.old self.new }
         ensures calls_told { CountsTold H.Hall self.old self.new }
+        ensures none_out { H.is_out self.new.hall ≡ false }
         ensures number { self.new.number ≡ self.old.number }
         ensures keys { self.new.keys ≡ self.old.keys }
     {

@@ -1,6 +1,8 @@
 -- How workers are hired, one after the other.
 use Rattle.std.proofs.Common.{◌≡◌, ℕ, zero, suc, ◌+◌, ◌*◌, ◌^◌, ◌<◌, ◌≤◌, List, [], ◌∷◌, ◌++◌, length, get_or, reverse, Option, Some, None, MatchOption, ◌-◌, refl, ap, sym, ◌∙◌, subst, arith, append_assoc, append-nil, length-append}
 use Rattle.std.specs.List.{AllByRecursion}
+use Rattle.std.specs.Prelude.{All}
+use Rattle.std.proofs.lemmas.List.Elements.{All-tail, All-head}
 use Rattle.std.proofs.lemmas.List.{reverse-append, reverse-reverse}
 use Rattle.amf_desk.specs.Histories.{own, NoneBy}
 use Rattle.amf_desk.specs.Passes.{Held}
@@ -55,6 +57,13 @@ module _ {H L : Type 0} (first : Held) where
   one_desk n [] (v ∷ vs) all k d lt = absurd all
   one_desk n (g ∷ gs) (v ∷ vs) all zero d lt = all.0.fresh.desk_is
   one_desk n (g ∷ gs) (v ∷ vs) all (suc k) d lt = one_desk (n + 1) gs vs all.1 k d (omega arith)
+
+  -- what holds of each hall holds of the hall of each worker
+  pub hall_holds : (P : H → Type 0) (n : ℕ) (hs : List H) (ws : List (HiredWorker H L)) → AllHired first (2 ^ 55) n hs ws → All P hs → (k : ℕ) (d : HiredWorker H L) → k < length ws → P (get_or ws k d).worker.hall
+  hall_holds P n hs [] all each k d lt = absurd (omega arith)
+  hall_holds P n [] (v ∷ vs) all each k d lt = absurd all
+  hall_holds P n (g ∷ gs) (v ∷ vs) all each zero d lt = subst P (sym all.0.hall_is) (All-head P g gs each)
+  hall_holds P n (g ∷ gs) (v ∷ vs) all each (suc k) d lt = hall_holds P (n + 1) gs vs all.1 (All-tail P g gs each) k d (omega arith)
 
   -- The halls that are left, those that have workers, and the first pass after those were split off.
   pub record SoFar (now : Held) (all left : List H) (ws : List (HiredWorker H L)) : Type 0 where

@@ -1,4 +1,4 @@
-ghost use Rattle.std.specs.Prelude.{◌≡◌};
+ghost use Rattle.std.specs.Prelude.{◌≡◌, false};
 ghost use Rattle.amf_answer_plan.specs.Services.{services_of};
 ghost use Rattle.amf_workers.specs.HiredWorkers.{HiredServed};
 
@@ -16,7 +16,7 @@ pub(crate) struct HiredWorker<H: Hall> {
 }
 
 impl<H: Hall> HiredWorker<H> {
-    /// Serves up to `each` links of the worker's hall. The desk is that of its pass.
+    /// Serves up to `each` links of the worker's hall, of which none is out. The desk is that of its pass.
     pub fn work<R: Wait, G: Gate>(
         &mut self,
         rt: &R,
@@ -26,7 +26,7 @@ impl<H: Hall> HiredWorker<H> {
         gate: &G,
         each: u64,
     )
-        requires { self.old.worker.pass.desk ≡ desk.now }
+        requires { (self.old.worker.pass.desk ≡ desk.now) × (H.is_out self.old.worker.hall ≡ false) }
         ensures { HiredServed H.Hall H.Link.Link (services_of registry.now knows gives) each self.old self.new }
     {
         self.end = self.worker.serve(rt, alloc, desk, registry, gate, each);

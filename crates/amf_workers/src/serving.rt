@@ -1,4 +1,4 @@
-ghost use Rattle.std.specs.Prelude.{◌≡◌, ◌≤◌, ◌^◌, [], All, vec_len};
+ghost use Rattle.std.specs.Prelude.{◌≡◌, ◌≤◌, ◌^◌, [], false, All, vec_len};
 ghost use Rattle.amf_answer_plan.specs.Services.{services_of};
 ghost use Rattle.amf_workers.specs.Together.{Serves, destinations};
 ghost use Rattle.amf_workers.specs.Halls.{ServesHalls};
@@ -18,7 +18,7 @@ use std::sync::Wait;
 use std::thread::Threads;
 
 /// A worker for each hall serves it, all at once, and the halls go back to the front. The desk is new and the pass its first one,
-/// and there are at most 64 halls, of which none has served or failed.
+/// and there are at most 64 halls, of which none has served, failed or a link out.
 fn serve_halls<R: Threads + Wait + RandomSource + Sync, F: Front, G: Gate>(
     rt: &R,
     alloc: Global,
@@ -36,6 +36,7 @@ where
     requires few { vec_len halls ≤ 64 }
     requires whole { All (λ h. F.Hall.faults h ≡ 0) halls.items }
     requires fresh { All (λ h. F.Hall.served h ≡ []) halls.items }
+    requires none_out { All (λ h. F.Hall.is_out h ≡ false) halls.items }
     ensures { ServesHalls F.Front F.Hall.Hall F.Hall.Link.Link (services_of registry.now knows gives) each halls.items front.old front.new result }
 {
     let keys = RandomState::new(rt).ok();

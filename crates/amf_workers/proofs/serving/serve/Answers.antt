@@ -21,6 +21,9 @@ serve_halls-requires-clause-whole g c κs within = c.in-Ok-open.ensures.whole
 pub serve_halls-requires-clause-fresh : goal.serve_halls-requires-clause-fresh
 serve_halls-requires-clause-fresh g c κs within = c.in-Ok-open.ensures.fresh
 
+pub serve_halls-requires-clause-none_out : goal.serve_halls-requires-clause-none_out
+serve_halls-requires-clause-none_out g c κs within = c.in-Ok-open.ensures.none_out
+
 pub returns-in-Ok-open : goal.returns-in-Ok-open
 returns-in-Ok-open g c =
     let services : List Entry = services_by c.args.registry.now.services.entries (λ x. x.items) (λ s. (goal.Service-dyn g (s.vtable, s.value)).knows s.value) (λ s. (goal.Service-dyn g (s.vtable, s.value)).gives s.value) in

@@ -1,10 +1,10 @@
-use Rattle.std.proofs.Common.{◌≡◌, ◌+◌, ◌*◌, ◌^◌, ◌<◌, ℕ, List, length, get_or, vec_len, ap, sym, refl, ◌∙◌, subst, arith, rules}
+use Rattle.std.proofs.Common.{◌≡◌, ◌+◌, ◌*◌, ◌^◌, ◌<◌, ℕ, false, List, length, get_or, vec_len, ap, sym, refl, ◌∙◌, subst, arith, rules}
 use Rattle.std.specs.List.{AllByRecursion}
 use Rattle.amf_desk.specs.Passes.{Held}
 use Rattle.amf_workers.specs.declared.hired_worker.HiredWorker.{HiredWorker}
 use Rattle.amf_workers.specs.Gathered.{TookBack}
 use Rattle.amf_workers.specs.HiredWorkers.{CanJoin}
-use Rattle.amf_workers.proofs.Hiring.{one_desk}
+use Rattle.amf_workers.proofs.Hiring.{one_desk, hall_holds}
 use Rattle.amf_workers.proofs.Whole.{written_back, join_all, halls_served}
 use Rattle.amf_workers.proofs.serving.serve_halls.Goals as goal
 
@@ -22,8 +22,11 @@ returns-in-Err g c = subst (TookBack g.F.Front g.F.Hall.Hall.faults c.args.front
 
 pub work_all-requires-after_bounds : goal.work_all-requires-after_bounds
 work_all-requires-after_bounds g c κs within = λ k d lt.
-    subst (λ (l : List (HiredWorker g.row.F-Hall.Denot g.row.F-Hall-Link.Denot)). k < length l → (get_or l k d).worker.pass.desk ≡ c.args.desk) (sym c.as_mut_slice.ensures.value)
-    (λ less. one_desk c.args.first 1 c.args.halls.items c.in-Ok.hired_workers.items c.in-Ok.ensures.hired_workers.0 k d less ∙ ap (λ (p : Held). p.desk) c.requires.first) lt
+    subst (λ (l : List (HiredWorker g.row.F-Hall.Denot g.row.F-Hall-Link.Denot)). k < length l → ((get_or l k d).worker.pass.desk ≡ c.args.desk) × (g.F.Hall.Hall.is_out (get_or l k d).worker.hall ≡ false)) (sym c.as_mut_slice.ensures.value)
+    (λ less. (
+      one_desk c.args.first 1 c.args.halls.items c.in-Ok.hired_workers.items c.in-Ok.ensures.hired_workers.0 k d less ∙ ap (λ (p : Held). p.desk) c.requires.first,
+      hall_holds c.args.first (λ h. g.F.Hall.Hall.is_out h ≡ false) 1 c.args.halls.items c.in-Ok.hired_workers.items c.in-Ok.ensures.hired_workers.0 c.requires.none_out k d less,
+    )) lt
 
 pub gather-ends-requires-clause-desk : goal.gather-ends-requires-clause-desk
 gather-ends-requires-clause-desk g c κs within = c.hire.ensures.desk.0 ∙ ap (λ (p : Held). p.desk) c.requires.first

@@ -3,7 +3,7 @@ use Rattle.amf_gateway.proofs.SoFar.{sofar_none, sofar_next, served_each, served
 use Rattle.amf_gateway.proofs.worker.Worker.serve.Goals as goal
 
 pub loop-init : goal.loop-init
-loop-init g c = (sofar_none _ _ _ _ _, counts_none _ _ (omega arith), refl, refl, λ e more. counts_none _ _ (omega arith))
+loop-init g c = (sofar_none _ _ _ _ _, counts_none _ _ (omega arith), refl, refl, (λ e more. counts_none _ _ (omega arith)), c.requires.none_out)
 
 pub returns-in-Ok-None-clause-served : goal.returns-in-Ok-None-clause-served
 returns-in-Ok-None-clause-served g c =
@@ -26,6 +26,7 @@ loop-preserved g c =
       c.serve_and_give_back-hungry.ensures.number ∙ c.loop.invariant.2,
       c.serve_and_give_back-hungry.ensures.keys ∙ c.loop.invariant.3,
       rw c.either-starved.ensures (all_answered_more _ _ _ _ _ _ _ _ _ _ c.loop.invariant.0.pass c.serve_and_give_back-hungry.ensures.served.pass c.loop.invariant.4 c.serve_and_give_back-hungry.ensures.all_answered),
+      c.serve_and_give_back-hungry.ensures.served.none_out,
     )
 
 pub returns-in-Ok-None-clause-calls : goal.returns-in-Ok-None-clause-calls

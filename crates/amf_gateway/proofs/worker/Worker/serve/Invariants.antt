@@ -11,3 +11,4 @@ invariant-loop g l =
     × CountsCalls l.counter l.initial.self.calls l.self.calls (l.initial.self.pass.budget - l.self.pass.budget)
     × (l.self.number ≡ l.initial.self.number) × (l.self.keys ≡ l.initial.self.keys)
     × (l.starved ≡ false → 0 < l.self.pass.budget → CountsCalls 0 l.initial.self.calls l.self.calls (l.initial.self.pass.budget - l.self.pass.budget))
+    × (g.H.Hall.is_out l.self.hall ≡ false)

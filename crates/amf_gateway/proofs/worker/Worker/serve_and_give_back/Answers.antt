@@ -9,7 +9,7 @@ returns-clause-served g c =
     let s = c.serve_link_keyed-end.ensures.served in
     let b = c.back.ensures in
     served_next _ _ _ _ _ _ c.serve_link_keyed-end.new.aid _ (record { came = c.args.link; left = c.serve_link_keyed-end.new.link; took = s.0; end = end_of c.serve_link_keyed-end.result }) _ s.1
-    (record { tells = b.tells; coming = b.coming; served = b.served; faults = b.faults; moments = b.moments; words = b.words }) c.is_starved.ensures
+    (record { tells = b.tells; coming = b.coming; served = b.served; none_out = b.out; faults = b.faults; moments = b.moments; words = b.words }) c.is_starved.ensures
 
 pub returns-clause-calls : goal.returns-clause-calls
 returns-clause-calls g c = counts_few _ _ _ _ _ (at_most_each (end_of c.serve_link_keyed-end.result)) c.serve_link_keyed-end.ensures.calls
