@@ -22,7 +22,9 @@ fn dialled<D: Dial>(
     port: u16,
     call: &[u8],
 ) -> CallAnswer
+    requires none_out { D.is_out dial.old ≡ false }
     ensures dialled { Dialled D.Dial D.Link.Link port dial.old dial.new call.now result }
+    ensures none_out { D.is_out dial.new ≡ false }
     ensures cause { Counts (D.faults dial.old) (D.faults dial.new) result }
     ensures numbered { IsNumbered result }
     ensures named { HasNames result }
@@ -41,7 +43,8 @@ fn dialled<D: Dial>(
 }
 
 /// Calls the operation that the target names of the gateway at this port of 127.0.0.1, with these arguments: dials it, writes the
-/// call, reads the answer, and gives the link back. The target is a text of at most 65,535 bytes.
+/// call, reads the answer, and gives the link back. The target is a text of at most 65,535 bytes. No link
+/// of the dial is out: each that it gave has been taken back.
 ///
 /// The call is made before anything is dialled: `NotArgs` and `NoSpelling` tell what the arguments lack. `Graph`, `Fault` and `BadReply` are what
 /// the bytes that the peer sends come to (`amf_client::read_result` has the numbers of a bad reply); no call of the dial or the link
@@ -58,8 +61,10 @@ pub fn call<D: Dial>(
 ) -> CallAnswer
     requires text { IsText target.now }
     requires short { length target.now < 2 ^ 16 }
+    requires none_out { D.is_out dial.old ≡ false }
     ensures calls { Calls D.Dial D.Link.Link port dial.old dial.new target.now (content args.now) result }
     ensures arguments { are_arguments (content args.now) ≡ false → (result ≡ CallAnswer.NotArgs) ⊎ (result ≡ CallAnswer.Memory) }
+    ensures none_out { D.is_out dial.new ≡ false }
     ensures cause { Counts (D.faults dial.old) (D.faults dial.new) result }
     ensures numbered { IsNumbered result }
     ensures named { HasNames result }
@@ -79,8 +84,10 @@ pub fn call_keyed<D: Dial>(
 ) -> CallAnswer
     requires text { IsText target.now }
     requires short { length target.now < 2 ^ 16 }
+    requires none_out { D.is_out dial.old ≡ false }
     ensures calls { Calls D.Dial D.Link.Link port dial.old dial.new target.now (content args.now) result }
     ensures arguments { are_arguments (content args.now) ≡ false → (result ≡ CallAnswer.NotArgs) ⊎ (result ≡ CallAnswer.Memory) }
+    ensures none_out { D.is_out dial.new ≡ false }
     ensures cause { Counts (D.faults dial.old) (D.faults dial.new) result }
     ensures numbered { IsNumbered result }
     ensures named { HasNames result }

@@ -1,4 +1,4 @@
-ghost use Rattle.std.specs.Prelude.{◌≤◌, ◌<◌, ◌^◌, length};
+ghost use Rattle.std.specs.Prelude.{◌≡◌, ◌≤◌, ◌<◌, ◌^◌, false, length};
 ghost use Rattle.amf_wire.specs.Text.{IsText};
 ghost use Rattle.amf_poll_session.specs.Steps.{IsReady, UsesDial};
 ghost use Rattle.amf_poll_session.specs.Listened.{Listens, CountsOutput, IsNumbered};
@@ -26,7 +26,9 @@ fn dialled<D: Dial, O: Sink>(
     requires spent { session.old.spent ≤ 2 }
     requires ready { IsReady course.now.polls session.old.request session.old.taker }
     requires text { IsText session.old.ds_id }
+    requires none_out { D.is_out dial.old ≡ false }
     ensures dials { UsesDial D.Dial D.Link.Link O.Sink course.now dial.old dial.new session.old session.new out.old out.new result }
+    ensures none_out { D.is_out dial.new ≡ false }
     ensures told { O.tells out.new → O.tells out.old }
     ensures output { CountsOutput (O.faults out.old) (O.faults out.new) result }
     ensures numbered { IsNumbered result }
@@ -51,7 +53,7 @@ fn dialled<D: Dial, O: Sink>(
 
 /// Listens to a destination of the gateway at this port of 127.0.0.1: a ping, a subscribe, so many numbered polls and a disconnect, one
 /// after the other. The canonical AMF 3 spelling of each delivered body is written to the output as its batch is taken, in order.
-/// The destination is a text of at most 65,535 bytes, and there are from 1 to 1,000,000 polls.
+/// The destination is a text of at most 65,535 bytes, and there are from 1 to 1,000,000 polls. No link of the dial is out.
 ///
 /// A poll or the disconnect whose link is lost, or whose dial fails, is sent again over another link, a poll with the same number. It
 /// gives up where three dials were spent on such a request; that of the link that carried the request before is one of them.
@@ -72,7 +74,9 @@ pub fn listen<D: Dial, O: Sink>(
     requires short { length destination.now < 2 ^ 16 }
     requires some { 1 ≤ polls }
     requires few { polls ≤ 1000000 }
+    requires none_out { D.is_out dial.old ≡ false }
     ensures listened { Listens D.Dial D.Link.Link O.Sink port destination.now polls dial.old dial.new out.old out.new result }
+    ensures none_out { D.is_out dial.new ≡ false }
     ensures told { O.tells out.new → O.tells out.old }
     ensures output { CountsOutput (O.faults out.old) (O.faults out.new) result }
     ensures numbered { IsNumbered result }
@@ -95,7 +99,9 @@ pub fn listen_keyed<D: Dial, O: Sink>(
     requires short { length destination.now < 2 ^ 16 }
     requires some { 1 ≤ polls }
     requires few { polls ≤ 1000000 }
+    requires none_out { D.is_out dial.old ≡ false }
     ensures listened { Listens D.Dial D.Link.Link O.Sink port destination.now polls dial.old dial.new out.old out.new result }
+    ensures none_out { D.is_out dial.new ≡ false }
     ensures told { O.tells out.new → O.tells out.old }
     ensures output { CountsOutput (O.faults out.old) (O.faults out.new) result }
     ensures numbered { IsNumbered result }

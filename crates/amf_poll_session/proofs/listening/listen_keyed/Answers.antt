@@ -17,6 +17,7 @@ loop-init g c =
       waits = ([], waits_first g.D.Dial g.D.Link.Link c.args.port c.args.destination.now c.args.polls c.args.dial.now (g.O.Sink.held c.args.out.now) s (g.O.Sink.tells c.args.out.now) shows);
       ready = first_ready c.args.port c.args.destination.now c.args.polls s shows;
       text = c.in-Ok.ensures.text;
+      none_out = c.requires.none_out;
       few = omega (arith, shows.spent);
       later = omega arith;
       told = λ t. t;
@@ -41,6 +42,7 @@ loop-preserved g c =
       );
       ready = f.ready;
       text = f.text;
+      none_out = e.none_out;
       few = few_spent c.dialled-end.result c.dialled-end.new.session.request c.dialled-end.new.session.spent again;
       later = omega (arith, inv.later, f.later);
       told = λ t. inv.told (e.told t);

@@ -1,4 +1,4 @@
-use Rattle.std.proofs.Common.{◌≡◌, ◌≤◌, List}
+use Rattle.std.proofs.Common.{◌≡◌, ◌≤◌, false, List}
 use Rattle.amf_wire.specs.Text.{IsText}
 use Rattle.amf_graph.specs.Graph.{Graph}
 use Rattle.amf_poll_session.specs.Sessions.{Turn}
@@ -11,6 +11,7 @@ invariant-loop g l = record {
   waits : (turns : List (Turn Graph)) × Waits g.D.Dial g.D.Link.Link l.fn.port l.fn.destination l.fn.polls l.fn.dial (g.O.Sink.held l.fn.out) l.dial l.session (g.O.Sink.tells l.out) (g.O.Sink.held l.out) turns;
   ready : IsReady l.fn.polls l.session.request l.session.taker;
   text : IsText l.session.ds_id;
+  none_out : g.D.Dial.is_out l.dial ≡ false;
   few : l.session.spent ≤ 2;
   later : l.counter ≤ reached l.fn.polls l.session;
   told : g.O.Sink.tells l.out → g.O.Sink.tells l.fn.out;
