@@ -206,7 +206,7 @@ to_segments s R R' r a w vs n header h t fs t' z = record {
 to_named : (s : Style) (g : Graph) (i : ℕ) (t : Tables) (fs : List Field) (t' : Tables) → nodes.Placed s g i t fs t' → (c : List ℕ) × (flat fs ≡ marker (node_at g i).head ∷ c) × Placed s i t c t'
 to_named s g i t fs t' z = (z.header, ap flat z.fields ∙ ap (λ b. marker (node_at g i).head ∷ b) (append-nil z.header), record { place = z.place; here = z.there; spelled = z.spelled; same = z.same })
 
-to_begun : (s : Style) (R : Value → Fields Tables) (R' : Value → Spelling Tables) → ((v : Value) → To (R v) (R' v)) → (g : Graph) (i : ℕ) (t : Tables) (fs : List Field) (t' : Tables) → nodes.Begun R s g i t fs t' → (c : List ℕ) × (flat fs ≡ marker (node_at g i).head ∷ c) × Begun R' s g i t c t'
+pub to_begun : (s : Style) (R : Value → Fields Tables) (R' : Value → Spelling Tables) → ((v : Value) → To (R v) (R' v)) → (g : Graph) (i : ℕ) (t : Tables) (fs : List Field) (t' : Tables) → nodes.Begun R s g i t fs t' → (c : List ℕ) × (flat fs ≡ marker (node_at g i).head ∷ c) × Begun R' s g i t c t'
 to_begun s R R' r g i t fs t' z = (
   z.header ++ flat z.rest,
   ap flat z.fields,
@@ -244,7 +244,7 @@ to_leaf s x t fs t' z = record {
   second = to_leaf_rest s x z.mid z.back t' z.second;
 }
 
-to_value_by : (s : Style) (g : Graph) (I : ℕ → Fields Tables) (N : ℕ → Spelling Tables) → ((i : ℕ) (t : Tables) (b : List ℕ) (t' : Tables) → Placed s i t b t' → N i t b t') → ((i : ℕ) (t : Tables) (fs : List Field) (t' : Tables) → I i t fs t' → (c : List ℕ) × (flat fs ≡ marker (node_at g i).head ∷ c) × N i t c t') → (v : Value) → To (spells.ValueBy I s g v) (ValueBy N s g v)
+pub to_value_by : (s : Style) (g : Graph) (I : ℕ → Fields Tables) (N : ℕ → Spelling Tables) → ((i : ℕ) (t : Tables) (b : List ℕ) (t' : Tables) → Placed s i t b t' → N i t b t') → ((i : ℕ) (t : Tables) (fs : List Field) (t' : Tables) → I i t fs t' → (c : List ℕ) × (flat fs ≡ marker (node_at g i).head ∷ c) × N i t c t') → (v : Value) → To (spells.ValueBy I s g v) (ValueBy N s g v)
 to_value_by s g I N p f (leaf x) t fs t' z = (z.0, to_leaf s x t fs t' z.1)
 to_value_by s g I N p f (node i) t fs t' (inl z) = let o = to_named s g i t fs t' z in (o.0, o.1, p i t o.0 t' o.2)
 to_value_by s g I N p f (node i) t fs t' (inr z) = f i t fs t' z
