@@ -20,7 +20,7 @@ use amf0_spelling::{Marker0, Tables0};
 use std::alloc::Global;
 
 /// How far an open node was filled.
-#[derive(Clone, Copy, Debug, PartialEq, Eq)]
+#[derive(Clone, Copy)]
 pub enum Filled {
     /// It has all of its parts, and is closed.
     Closed,
@@ -29,7 +29,7 @@ pub enum Filled {
 }
 
 /// How an open node went on.
-#[derive(Clone, Copy, Debug, PartialEq, Eq)]
+#[derive(Clone, Copy)]
 pub enum Step {
     /// It waits for a value for this role, whose marker was read.
     Wait(Role, Marker0),

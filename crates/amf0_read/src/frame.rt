@@ -5,7 +5,7 @@ use amf_graph::{NodeId, Part, TextId, Value};
 use amf0_spelling::Marker0;
 
 /// What is still to be read of an open node.
-#[derive(Clone, Copy, Debug, PartialEq, Eq)]
+#[derive(Clone, Copy)]
 pub enum Todo {
     /// So many items.
     Items(u32),
@@ -14,7 +14,7 @@ pub enum Todo {
 }
 
 /// Where the value goes that is read next.
-#[derive(Clone, Copy, Debug, PartialEq, Eq)]
+#[derive(Clone, Copy)]
 pub enum Role {
     /// It is an item, behind which so many follow.
     Item(u32),
@@ -23,14 +23,14 @@ pub enum Role {
 }
 
 /// An open node that waits for a value.
-#[derive(Clone, Copy, Debug, PartialEq, Eq)]
+#[derive(Clone, Copy)]
 pub struct Frame {
     pub node: NodeId,
     pub role: Role,
 }
 
 /// What was read last.
-#[derive(Clone, Copy, Debug, PartialEq, Eq)]
+#[derive(Clone, Copy)]
 pub enum Now {
     /// The marker of a value.
     Begun(Marker0),

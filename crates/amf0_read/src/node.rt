@@ -22,7 +22,7 @@ use amf3_read::read_value;
 use std::alloc::Global;
 
 /// A value as far as it is read before the first value within it.
-#[derive(Clone, Copy, Debug, PartialEq, Eq)]
+#[derive(Clone, Copy)]
 pub enum Start {
     /// All of it was read.
     Value(Value),

@@ -10,7 +10,7 @@ use std::marker::Model;
 use std::mem::size_of;
 
 /// Where a value goes, without the name or the key.
-#[derive(Clone, Copy, Debug, PartialEq, Eq)]
+#[derive(Clone, Copy)]
 pub enum BareRole {
     /// It is an item.
     Item,
@@ -23,7 +23,7 @@ pub enum BareRole {
 }
 
 /// What is to be read of a node, without how many.
-#[derive(Clone, Copy, Debug, PartialEq, Eq)]
+#[derive(Clone, Copy)]
 pub enum BareParts {
     /// Named pairs, and then items.
     Array,
@@ -38,7 +38,7 @@ pub enum BareParts {
 }
 
 /// A frame without the name and the key: 12 bytes, where a frame has 48.
-#[derive(Clone, Copy, Debug, PartialEq, Eq)]
+#[derive(Clone, Copy)]
 pub struct Row {
     pub node: NodeId,
     /// How many of the parts are to be read.

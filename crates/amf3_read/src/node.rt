@@ -23,14 +23,14 @@ use amf_wire_fields::{kept, read_number};
 use std::alloc::Global;
 
 /// A node that is in the table: complete, or with values to come.
-#[derive(Clone, Copy, Debug, PartialEq, Eq)]
+#[derive(Clone, Copy)]
 pub struct Entered {
     pub node: NodeId,
     pub parts: Option<Parts>,
 }
 
 /// A value as far as it is read before the first value within it.
-#[derive(Clone, Copy, Debug, PartialEq, Eq)]
+#[derive(Clone, Copy)]
 pub enum Start {
     /// All of it was read.
     Value(Value),
