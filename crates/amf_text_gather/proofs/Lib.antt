@@ -1,3 +1,4 @@
 -- The lemmas.
 pub mod Ends
+pub mod LastFrames
 pub mod LonePieces

@@ -96,7 +96,7 @@ impl Draft {
         ensures { OnOk result (draft_of self.new ≡ giving (text_piece text.now) (draft_of self.old)) }
     {
         let text = bytes_of(self.alloc, text)?;
-        self.give(Piece::Text(text))
+        self.put_text(text)
     }
 
     /// A value, which is an array where an array begins.
@@ -111,14 +111,14 @@ impl Draft {
             Token::BeginObject => Ok(()),
             Token::String(text) => {
                 let text = bytes_of(self.alloc, text)?;
-                self.give(Piece::Value(Entry::Text(text)))
+                self.give_value(Entry::Text(text))
             }
             Token::Number(number) => match number_entry(number) {
-                Some(entry) => self.give(Piece::Value(entry)),
+                Some(entry) => self.give_value(entry),
                 None => Ok(()),
             },
-            Token::Bool(flag) => self.give(Piece::Value(Entry::Bool(*flag))),
-            _ => self.give(Piece::Value(Entry::Null)),
+            Token::Bool(flag) => self.give_value(Entry::Bool(*flag)),
+            _ => self.give_value(Entry::Null),
         }
     }
 

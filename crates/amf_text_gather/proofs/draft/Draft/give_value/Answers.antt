@@ -1,0 +1,13 @@
+use Rattle.std.proofs.Common.{rules, ◌-◌, ap, arith}
+use Rattle.amf_text_trees.specs.Gathering.{draft}
+use Rattle.amf_text_trees.specs.Pieces.{value}
+use Rattle.amf_text_pages.specs.Entries.{entry_of}
+use Rattle.amf_text_pages.specs.Pages.{sheet_of}
+use Rattle.amf_text_gather.proofs.LastFrames.{frames_given}
+use Rattle.amf_text_gather.proofs.draft.Draft.give_value.Goals as goal
+
+pub returns-in-None : goal.returns-in-None
+returns-in-None c =
+    ap (draft (sheet_of c.args.self.now.sheet))
+    (frames_given c.args.self.now.frames.items (c.len-count.result - 1) c.take_here.new.frame c.index_mut.result.now (value (entry_of c.args.entry))
+    (omega (arith, c.len-count.ensures, c.if-count-eq0.false)) (search rules))
