@@ -7,14 +7,15 @@ use Rattle.amf_graph.specs.Graph.{Graph}
 use Rattle.amf_graph.proofs.Zipping.{zip_append}
 use Rattle.amf_packet.specs.Packet.{Body, Header, Message, Packet}
 use Rattle.amf_packet.specs.WriteParts.{header_texts, message_texts}
-use Rattle.amf_packet.specs.WrittenPacket.{HasTexts}
 use Rattle.amf_listings.specs.SamePacket.{HeadersMatch, MessagesMatch, IsFittedGraph}
 use Rattle.amf_text.specs.Documents as text
+use Rattle.amf_text.specs.Tellable.{IsTellableHeader, IsTellableMessage}
 use Rattle.amf_text_write.specs.declared.layout.Layout.{Layout}
 use Rattle.amf_text_write.specs.declared.packets.PacketForm.{PacketForm}
 use Rattle.amf_text_write.specs.Laid.{Shown}
 use Rattle.amf_text_write.specs.PacketTexts.{form_of, header_of, message_of, AreHeaderTexts, AreMessageTexts, AddsHeader, AddsMessage}
 use Rattle.amf_json.specs.JsonTexts.{form_told, header_told, message_told}
+use Rattle.amf_json.specs.Ready.{IsReadyPacket}
 use Rattle.amf_json.specs.TextParts.{TellHeaders, TellMessages, TellsHeader, TellsMessage}
 use Rattle.amf_json.proofs.Results.{on_ok}
 
@@ -42,21 +43,21 @@ messages_told layout headers ms fits m fit s z n t = (
   subst (λ l. AreMessageTexts layout headers l s) (sym (map-append message_told fits (fit ∷ []))) t,
 )
 
--- the texts of a packet
+-- the texts of a packet that can be told
 
-left_all : {X : Type 0} (P : X → Type 0) (xs ys : List X) → AllByRecursion P (xs ++ ys) → AllByRecursion P xs
-left_all P [] ys a = tt
-left_all P (x ∷ xs) ys a = (a.0, left_all P xs ys a.1)
+header_names : (hs : List Header) → AllByRecursion IsTellableHeader (map header_told hs) → AllByRecursion (AllByRecursion IsText) (header_texts hs)
+header_names [] a = tt
+header_names (h ∷ hs) a = ((a.0.name.0, tt), header_names hs a.1)
 
-right_all : {X : Type 0} (P : X → Type 0) (xs ys : List X) → AllByRecursion P (xs ++ ys) → AllByRecursion P ys
-right_all P [] ys a = a
-right_all P (x ∷ xs) ys a = right_all P xs ys a.1
+message_names : (ms : List Message) → AllByRecursion IsTellableMessage (map message_told ms) → AllByRecursion (AllByRecursion IsText) (message_texts ms)
+message_names [] a = tt
+message_names (m ∷ ms) a = ((a.0.target.0, (a.0.response.0, tt)), message_names ms a.1)
 
-pub have_header_texts : (p : Packet) → HasTexts p → AllByRecursion (AllByRecursion IsText) (header_texts p.headers)
-have_header_texts p t = left_all (AllByRecursion IsText) (header_texts p.headers) (message_texts p.messages) t
+pub have_header_texts : (p : Packet) → IsReadyPacket p → AllByRecursion (AllByRecursion IsText) (header_texts p.headers)
+have_header_texts p r = header_names p.headers r.0.header_parts
 
-pub have_message_texts : (p : Packet) → HasTexts p → AllByRecursion (AllByRecursion IsText) (message_texts p.messages)
-have_message_texts p t = right_all (AllByRecursion IsText) (header_texts p.headers) (message_texts p.messages) t
+pub have_message_texts : (p : Packet) → IsReadyPacket p → AllByRecursion (AllByRecursion IsText) (message_texts p.messages)
+have_message_texts p r = message_names p.messages r.0.message_parts
 
 -- of one of them
 texts_among : {K X : Type 0} (texts : X → List (List ℕ)) (view : K → X) (ks : List K) (i : ℕ) (d : K) → i < length ks → AllByRecursion (AllByRecursion IsText) (map texts (map view ks)) → AllByRecursion IsText (texts (view (get_or ks i d)))

@@ -4,9 +4,9 @@ ghost use Rattle.amf_wire.specs.Text.{IsText};
 ghost use Rattle.amf_graph.specs.Rooted.{content};
 ghost use Rattle.amf_packet.specs.Content.{header_of, message_of, packet_of};
 ghost use Rattle.amf_packet.specs.WriteParts.{header_texts, message_texts};
-ghost use Rattle.amf_packet.specs.WrittenPacket.{HasTexts};
 ghost use Rattle.amf_text_write.specs.PacketTexts as text;
 ghost use Rattle.amf_json.specs.JsonTexts.{IsPacketJson};
+ghost use Rattle.amf_json.specs.Ready.{IsReadyPacket};
 ghost use Rattle.amf_json.specs.TextParts.{TellsHeader, TellsHeaders, TellsMessage, TellsMessages};
 
 use amf_packet::{Body, Header, Message, Packet};
@@ -15,11 +15,14 @@ use amf_wire::Memory;
 use amf0_write::lower;
 use std::alloc::Global;
 
-/// The canonical text of a packet, JSON (RFC 8259). Each name and URI is a text. Of a plain value it tells the lowered graph.
+/// The canonical text of a packet, JSON (RFC 8259). Of a plain value it tells the lowered graph.
+///
+/// The packet can be read back from its text, as each that was read can be (`packet_is_ready`): its version is 0, 1 or 3, it has at
+/// most 65,535 headers and as many messages, and each name and URI is a text of at most 65,535 bytes.
 ///
 /// It gives up where there is no memory.
 pub fn packet_json(alloc: Global, layout: Layout, packet: &Packet) -> Result<Vec<u8>, Memory>
-    requires { HasTexts (packet_of packet.now) }
+    requires { IsReadyPacket (packet_of packet.now) }
     ensures { IfOk result (λ bytes. IsPacketJson layout (packet_of packet.now) bytes.items) }
 {
     let mut headers = HeaderTexts::new(alloc, layout)?;

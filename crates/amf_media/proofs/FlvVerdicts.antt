@@ -4,7 +4,8 @@ use Rattle.std.proofs.lemmas.List.{append-nil}
 use Rattle.amf_io.specs.declared.ends.Refusal.{Refusal}
 use Rattle.amf_io.specs.Field.{flat}
 use Rattle.amf_io.specs.Repeated.{IsAcceptedToEnd}
-use Rattle.amf_io.specs.Verdict.{IsAccepted}
+use Rattle.amf_io.specs.declared.reason.Reason.{Reason}
+use Rattle.amf_io.specs.Verdict.{IsAccepted, IsRefused}
 use Rattle.amf_io.proofs.Inputs.{not_refused}
 use Rattle.amf_graph.specs.Building.{no_arena}
 use Rattle.amf0_spelling.specs.KeptTables0.{no_kept_tables0}
@@ -32,9 +33,12 @@ whole_accepted w base later rest bytes h =
       within = h.within;
     }
 
+pub done_not_refused : (w : Work) (base : ℕ) (later rest bytes : List ℕ) (reason : Reason) (at : ℕ) → IsWhole w base later rest bytes → IsRefused IsFileReading base most later reason at → ⊥
+done_not_refused w base later rest bytes reason at h x = (files_judged_once base most later).not_both (whole_accepted w base later rest bytes h) reason at x
+
 pub refused_files : RefusedFiles
 refused_files w base at later reason x = record {
-  not_done = λ rest bytes h. (files_judged_once base most later).not_both (whole_accepted w base later rest bytes h) reason at x;
+  not_done = λ rest bytes h. done_not_refused w base later rest bytes reason at h x;
   by_verdict = λ rest bytes f h. by rest bytes f h;
 }
   where

@@ -9,3 +9,4 @@ pub mod SetReads
 pub mod FlvVerdicts
 pub mod StreamEnds
 pub mod StreamVerdicts
+pub mod JobVerdicts
