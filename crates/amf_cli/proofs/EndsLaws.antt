@@ -19,6 +19,7 @@ use Rattle.amf_media.specs.declared.ending.MediaEnd.TheVariants as media
 use Rattle.flv_meta.specs.declared.flv_job.FlvJob.TheVariants as job
 use Rattle.amf_media.specs.FlvRuns.{Runs as RunsFlv, MayEnd, IsFileEnd, IsUntouched as IsMediaUntouched, CountsReads as CountsMediaReads}
 use Rattle.amf_media.specs.RtmpRuns.{RunsStream}
+use Rattle.amf_media.specs.Verdicts.{Media, on_file, on_stream}
 use Rattle.amf_media.specs.Written.{CountsWrites as CountsMediaWrites}
 use Rattle.amf_commands.specs.declared.run_end.RunEnd.{RunEnd}
 use Rattle.amf_commands.specs.declared.run_end.RunEnd.TheVariants.{Refused, Usage, ReadFault, WriteFault, NoMemory, FrontFault, NoForm}
@@ -32,11 +33,11 @@ use Rattle.amf_commands.proofs.Statuses.{refused_says, hidden_says, front_says, 
 use Rattle.amf_bytes.proofs.FirstFaults.{first_faults}
 use Rattle.amf_bytes.proofs.ThereAndBackRows.{text_there_and_back}
 use Rattle.amf_cli.specs.BytesEnds.{EndsBytes, text_line, text_status}
-use Rattle.amf_cli.specs.MediaEnds.{EndsJob, status_of as media_status_of, error_line}
+use Rattle.amf_cli.specs.MediaEnds.{EndsJob, IsByVerdict, status_of as media_status_of, error_line}
 use Rattle.amf_cli.specs.CallEnds.{Starves}
 use Rattle.amf_cli.specs.Ends.{Ends}
 use Rattle.amf_cli.specs.Told.{Tells}
-use Rattle.amf_cli.proofs.MediaLaws.{flv_memory, rtmp_memory}
+use Rattle.amf_cli.proofs.MediaLaws.{flv_by_verdict, flv_memory, rtmp_by_verdict, rtmp_memory}
 use Rattle.amf_cli.proofs.TextLaws.{TextEnd, text_within_7, text_not_2, text_not_6, text_reads_steady, text_writes_steady, text_reads_rose, text_writes_rose, text_kept, not_0_or_4, five_is_none, accepted_text, refused_text, formed_text, lacking_text}
 use Rattle.amf_cli.specs.ServeEnds.{End, IsServeEnd, status_for, ReportsEnd}
 
@@ -278,14 +279,14 @@ module _ {I O E : Type 0} (i : SourceMembers I) (o : SinkMembers O) (e : SinkMem
   abbrev Does : Type 1
   Does = List ℕ → List ℕ → Type 0 → List ℕ → List ℕ → MediaEnd → Type 0
 
-  abbrev Job : Does → (MediaEnd → Type 0) → ℕ → Type 0
-  Job Of May status = EndsJob i o e Of May status input rest out wrote err told
+  abbrev Job : Does → (MediaEnd → Type 0) → Media → ℕ → Type 0
+  Job Of May m status = EndsJob i o e Of May m status input rest out wrote err told
 
   -- memory was wanting before the job began
-  memory_job : (Of : Does) (May : MediaEnd → Type 0) → Of (i.left input) (i.left rest) (o.tells wrote) (o.held out) (o.held wrote) media.Memory → May media.Memory → rest ≡ input → wrote ≡ out
-      → (e.tells told → Steady (e.faults err) (e.faults told) → e.held told ≡ e.held err ++ line_of NoMemory) → Job Of May 5
+  memory_job : (Of : Does) (May : MediaEnd → Type 0) (m : Media) → IsByVerdict m (i.left input) 5 → Of (i.left input) (i.left rest) (o.tells wrote) (o.held out) (o.held wrote) media.Memory → May media.Memory → rest ≡ input → wrote ≡ out
+      → (e.tells told → Steady (e.faults err) (e.faults told) → e.held told ≡ e.held err ++ line_of NoMemory) → Job Of May m 5
   unfolding error_line
-  memory_job Of May runs may same kept line = record {
+  memory_job Of May m verdict runs may same kept line = record {
     end = media.Memory;
     its_status = refl;
     may = may;
@@ -295,6 +296,7 @@ module _ {I O E : Type 0} (i : SourceMembers I) (o : SinkMembers O) (e : SinkMem
     reads = ap i.faults same;
     writes = ap o.faults kept;
     line = line;
+    by_verdict = λ t. verdict;
   }
 
   memory_bytes : rest ≡ input → wrote ≡ out → (e.tells told → Steady (e.faults err) (e.faults told) → e.held told ≡ e.held err ++ line_of NoMemory) → EndsBytes i o e 5 input rest out wrote err told
@@ -349,8 +351,10 @@ module _ {I O E : Type 0} (i : SourceMembers I) (o : SinkMembers O) (e : SinkMem
     unwritten = λ five n m k. kept;
     taken = λ t m b. same_taken same;
     bytes = λ w. memory_bytes same kept line;
-    flv = λ job w. memory_job (RunsFlv job) (MayEnd job) (flv_memory job (i.left input) (i.left rest) (o.tells wrote) (o.held out) (o.held wrote) (ap i.left same) (ap o.held kept)) (may_memory job) same kept line;
-    rtmp = λ size w. memory_job (RunsStream size) IsFileEnd (rtmp_memory size (i.left input) (i.left rest) (o.tells wrote) (o.held out) (o.held wrote) (ap i.left same) (ap o.held kept)) tt same kept line;
+    flv = λ job w. let runs = flv_memory job (i.left input) (i.left rest) (o.tells wrote) (o.held out) (o.held wrote) (ap i.left same) (ap o.held kept) in
+        memory_job (RunsFlv job) (MayEnd job) (on_file job) (flv_by_verdict job (i.left input) (i.left rest) (o.tells wrote) (o.held out) (o.held wrote) media.Memory runs) runs (may_memory job) same kept line;
+    rtmp = λ size w. let runs = rtmp_memory size (i.left input) (i.left rest) (o.tells wrote) (o.held out) (o.held wrote) (ap i.left same) (ap o.held kept) in
+        memory_job (RunsStream size) IsFileEnd on_stream (rtmp_by_verdict size (i.left input) (i.left rest) (o.tells wrote) (o.held out) (o.held wrote) media.Memory runs) runs tt same kept line;
     line = λ t s m n b. line_says NoMemory _ _ (line t s);
   }
 
@@ -514,7 +518,7 @@ module _ {I O E : Type 0} (i : SourceMembers I) (o : SinkMembers O) (e : SinkMem
   }
 
   -- a job on media was done, or not
-  job_ends : (m : IsMedia words) (x : MediaEnd) → CountsMediaReads (i.faults input) (i.faults rest) x → CountsMediaWrites (o.faults out) (o.faults wrote) x → e.faults err ≤ e.faults told → ((job : FlvJob) → ReadsFlv words job → Job (RunsFlv job) (MayEnd job) (media_status_of x)) → ((size : Option ℕ) → ReadsRtmp words size → Job (RunsStream size) IsFileEnd (media_status_of x)) → Promises (media_status_of x)
+  job_ends : (m : IsMedia words) (x : MediaEnd) → CountsMediaReads (i.faults input) (i.faults rest) x → CountsMediaWrites (o.faults out) (o.faults wrote) x → e.faults err ≤ e.faults told → ((job : FlvJob) → ReadsFlv words job → Job (RunsFlv job) (MayEnd job) (on_file job) (media_status_of x)) → ((size : Option ℕ) → ReadsRtmp words size → Job (RunsStream size) IsFileEnd on_stream (media_status_of x)) → Promises (media_status_of x)
   job_ends m x reads writes counted flv rtmp = record {
     statuses = below_10 (media_status_of x) (media_within_7 x);
     of_peer = λ h. not_above (media_status_of x) (media_within_7 x) h;
@@ -552,18 +556,19 @@ module _ {I O E : Type 0} (i : SourceMembers I) (o : SinkMembers O) (e : SinkMem
 
   -- By what the job says of itself, where the streams are these.
   module _ (x : MediaEnd) (status : ℕ) (is : status ≡ media_status_of x) (taken : i.tells input → length (i.left input) ≤ length (i.left rest) + (4294967295 + 1)) (reads : CountsMediaReads (i.faults input) (i.faults rest) x) (writes : CountsMediaWrites (o.faults out) (o.faults wrote) x) (counted : e.faults err ≤ e.faults told) (line : e.tells told → Steady (e.faults err) (e.faults told) → e.held told ≡ e.held err ++ error_line x) where
-    job_of : (Of : Does) (May : MediaEnd → Type 0) → (i.tells input → Of (i.left input) (i.left rest) (o.tells wrote) (o.held out) (o.held wrote) x) → May x → (media_status_of x ≡ 7 → wrote ≡ out) → Job Of May (media_status_of x)
-    job_of Of May runs may untouched = record { end = x; its_status = refl; may = may; untouched = untouched; runs = runs; taken = taken; reads = reads; writes = writes; line = line }
+    job_of : (Of : Does) (May : MediaEnd → Type 0) (m : Media) → (i.tells input → Of (i.left input) (i.left rest) (o.tells wrote) (o.held out) (o.held wrote) x) → May x → (media_status_of x ≡ 7 → wrote ≡ out)
+        → (Of (i.left input) (i.left rest) (o.tells wrote) (o.held out) (o.held wrote) x → IsByVerdict m (i.left input) (media_status_of x)) → Job Of May m (media_status_of x)
+    job_of Of May m runs may untouched verdict = record { end = x; its_status = refl; may = may; untouched = untouched; runs = runs; taken = taken; reads = reads; writes = writes; line = line; by_verdict = λ t. verdict (runs t) }
 
     pub flv_ends : (job : FlvJob) (w : ReadsFlv words job) → (i.tells input → RunsFlv job (i.left input) (i.left rest) (o.tells wrote) (o.held out) (o.held wrote) x) → MayEnd job x → IsMediaUntouched out wrote x → Promises status
     flv_ends job w runs may untouched =
-        let it : Job (RunsFlv job) (MayEnd job) (media_status_of x) = job_of (RunsFlv job) (MayEnd job) runs may (media_kept out wrote x untouched) in
-        subst Promises (sym is) (job_ends (inl (job, w)) x reads writes counted (λ other v. subst (λ (j : FlvJob). Job (RunsFlv j) (MayEnd j) (media_status_of x)) (one_job words job other w v) it) (λ size v. absurd (flv_is_no_rtmp words job size w v)))
+        let it : Job (RunsFlv job) (MayEnd job) (on_file job) (media_status_of x) = job_of (RunsFlv job) (MayEnd job) (on_file job) runs may (media_kept out wrote x untouched) (flv_by_verdict job (i.left input) (i.left rest) (o.tells wrote) (o.held out) (o.held wrote) x) in
+        subst Promises (sym is) (job_ends (inl (job, w)) x reads writes counted (λ other v. subst (λ (j : FlvJob). Job (RunsFlv j) (MayEnd j) (on_file j) (media_status_of x)) (one_job words job other w v) it) (λ size v. absurd (flv_is_no_rtmp words job size w v)))
 
     pub rtmp_ends : (size : Option ℕ) (w : ReadsRtmp words size) → (i.tells input → RunsStream size (i.left input) (i.left rest) (o.tells wrote) (o.held out) (o.held wrote) x) → IsFileEnd x → Promises status
     rtmp_ends size w runs may =
-        let it : Job (RunsStream size) IsFileEnd (media_status_of x) = job_of (RunsStream size) IsFileEnd runs may (λ seven. absurd (file_end_not_7 x may seven)) in
-        subst Promises (sym is) (job_ends (inr (size, w)) x reads writes counted (λ job v. absurd (flv_is_no_rtmp words job size v w)) (λ other v. subst (λ (s : Option ℕ). Job (RunsStream s) IsFileEnd (media_status_of x)) (one_size words size other w v) it))
+        let it : Job (RunsStream size) IsFileEnd on_stream (media_status_of x) = job_of (RunsStream size) IsFileEnd on_stream runs may (λ seven. absurd (file_end_not_7 x may seven)) (rtmp_by_verdict size (i.left input) (i.left rest) (o.tells wrote) (o.held out) (o.held wrote) x) in
+        subst Promises (sym is) (job_ends (inr (size, w)) x reads writes counted (λ job v. absurd (flv_is_no_rtmp words job size v w)) (λ other v. subst (λ (s : Option ℕ). Job (RunsStream s) IsFileEnd on_stream (media_status_of x)) (one_size words size other w v) it))
 
   -- bytes were made of a text, or not
   pub text_ends : (w : ReadsBytes words) (x : TextEnd) (status : ℕ) → status ≡ text_status x → (i.tells input → RunsTextOver i o input rest out wrote x) → (i.tells input → length (i.left input) ≤ length (i.left rest) + (text_limit + 1)) → IsTextUntouched out wrote x → CountsTextReads (i.faults input) (i.faults rest) x → CountsTextWrites (o.faults out) (o.faults wrote) x → e.faults err ≤ e.faults told → Tells e err told (text_line x) → Promises status

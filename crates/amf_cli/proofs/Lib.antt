@@ -7,5 +7,5 @@ mod CallAlike
 mod CallLaws
 mod ListenLaws
 mod FrontLaws
-mod GenLaws
+mod NoInputLaws
 mod ServiceLaws

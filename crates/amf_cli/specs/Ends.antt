@@ -9,6 +9,7 @@ use Rattle.amf_commands.specs.declared.command.Command.{Command}
 use Rattle.flv_meta.specs.declared.flv_job.FlvJob.{FlvJob}
 use Rattle.amf_media.specs.FlvRuns.{Runs, MayEnd, IsFileEnd}
 use Rattle.amf_media.specs.RtmpRuns.{RunsStream}
+use Rattle.amf_media.specs.Verdicts.{on_file, on_stream}
 use Rattle.amf_commands.specs.Commands.{Reads, ReadsBytes, ReadsFlv, ReadsRtmp, IsDialling, IsListening, IsMedia, IsServing, HasReading}
 use Rattle.amf_commands.specs.Input.{most, input_of, IsAcceptedAs, IsRefusedAs}
 use Rattle.amf_cli.specs.BytesEnds.{EndsBytes}
@@ -64,7 +65,7 @@ pub record Ends {I O E : Type 0} (i : SourceMembers I) (o : SinkMembers O) (e : 
   -- `bytes` ends as it says of itself
   pub bytes : ReadsBytes words → EndsBytes i o e status input input_now out out_now err err_now
   -- a job on an FLV file, or on a chunk stream, ends as it says of itself
-  pub flv : (job : FlvJob) → ReadsFlv words job → EndsJob i o e (Runs job) (MayEnd job) status input input_now out out_now err err_now
-  pub rtmp : (size : Option ℕ) → ReadsRtmp words size → EndsJob i o e (RunsStream size) IsFileEnd status input input_now out out_now err err_now
+  pub flv : (job : FlvJob) → ReadsFlv words job → EndsJob i o e (Runs job) (MayEnd job) (on_file job) status input input_now out out_now err err_now
+  pub rtmp : (size : Option ℕ) → ReadsRtmp words size → EndsJob i o e (RunsStream size) IsFileEnd on_stream status input input_now out out_now err err_now
   -- the error line is that of the status; those of `bytes`, of a job on media, of a call and of a listener stand with them
   pub line : e.tells err_now → Steady (e.faults err) (e.faults err_now) → (IsMedia words → ⊥) → (IsDialling words → ⊥) → (ReadsBytes words → ⊥) → Reports status (e.held err) (e.held err_now)

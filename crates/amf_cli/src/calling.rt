@@ -1,4 +1,4 @@
-ghost use Rattle.std.specs.Prelude.{◌+◌, ◌≤◌, length};
+ghost use Rattle.std.specs.Prelude.{◌≡◌, ◌+◌, ◌≤◌, false, length};
 ghost use Rattle.amf_graph.specs.Reached.{IsNamed};
 ghost use Rattle.amf_graph.specs.Rooted.{content};
 ghost use Rattle.amf_dial_and_call.specs.Called.{HasNames};
@@ -29,7 +29,9 @@ pub fn run_call<I: Source, O: Sink, E: Sink, D: Dial>(
     err: &mut E,
     dial: &mut D,
 ) -> u8
-    requires { IsCallable options.now }
+    requires callable { IsCallable options.now }
+    requires none_out { D.is_out dial.old ≡ false }
+    ensures none_out { D.is_out dial.new ≡ false }
     ensures ends { CallEnds I.Source O.Sink E.Sink D.Dial D.Link.Link options.now result input.old input.new out.old out.new err.old err.new dial.old dial.new }
     ensures counts { CallCounts result (I.faults input.old) (I.faults input.new) (O.faults out.old) (O.faults out.new) (E.faults err.old) (E.faults err.new) }
     ensures taken { I.tells input.old → length (I.left input.old) ≤ length (I.left input.new) + (most + 1) }

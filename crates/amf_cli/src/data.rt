@@ -113,8 +113,9 @@ fn carry_out<I: Source, O: Sink>(
     ensures writes { CountsWrites (O.faults out.old) (O.faults out.new) result }
 {
     match command {
-        // It reads nothing, so the input is not touched.
+        // These read nothing, so the input is not touched.
         Command::Gen { .. } => perform(alloc, keys, command, &mut NoInput, out),
+        Command::Version => perform(alloc, keys, command, &mut NoInput, out),
         _ => perform(alloc, keys, command, input, out),
     }
 }

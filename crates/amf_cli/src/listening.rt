@@ -1,4 +1,4 @@
-ghost use Rattle.std.specs.Prelude.{◌≤◌};
+ghost use Rattle.std.specs.Prelude.{◌≡◌, ◌≤◌, false};
 ghost use Rattle.amf_commands.specs.Askable.{IsListenable};
 ghost use Rattle.amf_cli.specs.ListenEnds.{EndTells, ListenEnds};
 ghost use Rattle.amf_cli.specs.CallSteps.{WritesFor};
@@ -19,7 +19,9 @@ pub fn run_listen<O: Sink, E: Sink, D: Dial>(
     err: &mut E,
     dial: &mut D,
 ) -> u8
-    requires { IsListenable options.now }
+    requires listenable { IsListenable options.now }
+    requires none_out { D.is_out dial.old ≡ false }
+    ensures none_out { D.is_out dial.new ≡ false }
     ensures ends { ListenEnds O.Sink E.Sink D.Dial D.Link.Link options.now result out.old out.new err.old err.new dial.old dial.new }
     ensures writes { WritesFor result (O.faults out.old) (O.faults out.new) }
     ensures counted { E.faults err.old ≤ E.faults err.new }

@@ -1,3 +1,4 @@
+ghost use Rattle.std.specs.Prelude.{◌≡◌, false};
 ghost use Rattle.amf_answer_plan.specs.Services.{services_of};
 ghost use Rattle.amf_cli.specs.CallsWords.{CallsWords};
 ghost use Rattle.amf_cli.specs.Ends.{Ends};
@@ -36,7 +37,8 @@ use std::thread::Threads;
 /// the format that it names. With `same`, which has no options either, the input is two AMF 3 values, one after the other, and the output is the
 /// line `same` or `different`. With `gen` nothing is read: the output is the line `nodes N bytes B sum S` for the graph that is
 /// made of the numbers of `--seed`, 0 to 4,294,967,295, and `--size`, 1 to 1,000,000, and its canonical spelling in AMF 3. A
-/// number is 1 to 10 decimal digits.
+/// number is 1 to 10 decimal digits. With `version`, which has no options, nothing is read either: the output is the line `amf V`,
+/// where V is the version of the program.
 ///
 /// With `serve` nothing is read either: the front is opened at the port of `--port`, 0 to 65,535, for so many workers as
 /// `--workers` says, 1 to 64. Each worker serves up to as many links of its hall as `--each` says, 1 to 1,000,000, all at once,
@@ -58,6 +60,8 @@ use std::thread::Threads;
 /// destination that `--destination` names, a text of at most 65,535 bytes, and then for what was delivered, as often as `--polls` says, 1 to
 /// 1,000,000. The output is the canonical spelling in AMF 3 of each message's body, in order, each once: a poll whose link is lost is
 /// sent again with its number. It gives up where three dials brought no answer to one. The statuses 8, 9 and 10 are those of `call`.
+///
+/// No link of the dial is out, and none is afterwards.
 ///
 /// The runtime gives the keys by which readers and writers look texts up, so that no input can be made that takes long; where it gives
 /// none, they are fixed.
@@ -83,6 +87,8 @@ pub fn run<
 ) -> u8
 where
     <F::Hall as Hall>::Link: Send,
+    requires none_out { D.is_out dial.old ≡ false }
+    ensures none_out { D.is_out dial.new ≡ false }
     ensures ends { Ends I.Source O.Sink E.Sink words.now result input.old input.new out.old out.new err.old err.new }
     ensures serves { ServesWords F.Front F.Hall.Hall F.Hall.Link.Link O.Sink (services_of registry.now knows gives)
         words.now result front.old front.new out.old out.new }

@@ -1,4 +1,4 @@
-ghost use Rattle.std.specs.Prelude.{◌≡◌, IfOk, OnErr};
+ghost use Rattle.std.specs.Prelude.{◌≡◌, false, IfOk, OnErr};
 ghost use Rattle.std.specs.Process.{exit_status};
 ghost use Rattle.amf_service.specs.Shipped.{shipped as shipped_services};
 ghost use Rattle.amf_cli.specs.Starts.{Starts, AreWords};
@@ -16,7 +16,7 @@ use std::sync::Wait;
 use std::thread::Threads;
 
 /// Does what the words of the arguments say, as `start` does it, with the services that are shipped. Where there is no memory for
-/// them, nothing is asked of anything, and the code is 5.
+/// them, nothing is asked of anything, and the code is 5. No link of the dial is out.
 pub fn start_with_services<
     R: RandomSource + Threads + Wait + Sync,
     A: Arguments,
@@ -37,6 +37,7 @@ pub fn start_with_services<
 ) -> ExitCode
 where
     <F::Hall as Hall>::Link: Send,
+    requires none_out { D.is_out dial.old ≡ false }
     ensures { Starts I.Source O.Sink E.Sink F.Front F.Hall.Hall F.Hall.Link.Link D.Dial D.Link.Link shipped_services
         (AreWords A.Arguments arguments.now) (exit_status result)
         (input.old, out.old, err.old, front.old, dial.old) (input.new, out.new, err.new, front.new, dial.new) }
@@ -70,6 +71,7 @@ fn start_shipped<
 ) -> Result<ExitCode, Memory>
 where
     <F::Hall as Hall>::Link: Send,
+    requires none_out { D.is_out dial.old ≡ false }
     ensures runs { IfOk result (λ code. Starts I.Source O.Sink E.Sink F.Front F.Hall.Hall F.Hall.Link.Link D.Dial D.Link.Link shipped_services
         (AreWords A.Arguments arguments.now) (exit_status code)
         (input.old, out.old, err.old, front.old, dial.old) (input.new, out.new, err.new, front.new, dial.new)) }

@@ -1,3 +1,4 @@
+ghost use Rattle.std.specs.Prelude.{◌≡◌, false};
 ghost use Rattle.std.specs.Process.{exit_status};
 ghost use Rattle.amf_answer_plan.specs.Services.{services_of};
 ghost use Rattle.amf_cli.specs.Starts.{Starts, AreWords};
@@ -14,7 +15,7 @@ use std::sync::Wait;
 use std::thread::Threads;
 
 /// Does what the words of the arguments say, and gives the exit code of the program, which is the status that `run` gives for
-/// them. Where there is no memory to take the words, nothing else is asked of anything, and the code is 5.
+/// them. Where there is no memory to take the words, nothing else is asked of anything, and the code is 5. No link of the dial is out.
 pub fn start<
     R: RandomSource + Threads + Wait + Sync,
     A: Arguments,
@@ -38,6 +39,7 @@ pub fn start<
 ) -> ExitCode
 where
     <F::Hall as Hall>::Link: Send,
+    requires none_out { D.is_out dial.old ≡ false }
     ensures { Starts I.Source O.Sink E.Sink F.Front F.Hall.Hall F.Hall.Link.Link D.Dial D.Link.Link (services_of registry.now knows gives)
         (AreWords A.Arguments arguments.now) (exit_status result)
         (input.old, out.old, err.old, front.old, dial.old) (input.new, out.new, err.new, front.new, dial.new) }

@@ -37,7 +37,8 @@ named t = if bytes_eq t (codes "canon") then command_name.Canon
     else (if bytes_eq t (codes "serve") then command_name.Serve
     else (if bytes_eq t (codes "flv") then command_name.Flv
     else (if bytes_eq t (codes "rtmp") then command_name.Rtmp
-    else (if bytes_eq t (codes "call") then command_name.Call else command_name.Listen))))))))))
+    else (if bytes_eq t (codes "call") then command_name.Call
+    else (if bytes_eq t (codes "listen") then command_name.Listen else command_name.Version)))))))))))
 
 named_is : (k : CommandName) → named (name_of k) ≡ k
 unfolding named
@@ -53,6 +54,7 @@ named_is command_name.Flv = refl
 named_is command_name.Rtmp = refl
 named_is command_name.Call = refl
 named_is command_name.Listen = refl
+named_is command_name.Version = refl
 
 good : (k : CommandName) → list_all is_name (options_for k) ≡ true
 good command_name.Canon = refl
@@ -67,6 +69,7 @@ good command_name.Flv = refl
 good command_name.Rtmp = refl
 good command_name.Call = refl
 good command_name.Listen = refl
+good command_name.Version = refl
 
 head_or : List Text → Text
 head_or [] = []
@@ -217,6 +220,7 @@ task_possible command_name.Flv value all t e = flv_possible (option_and_then flv
 task_possible command_name.Rtmp value all t e = rtmp_possible (rtmp_of (value (codes "do")) (value (codes "size"))) (rtmp_chunkable (value (codes "do")) (value (codes "size"))) t e
 task_possible command_name.Call value all t e = call_possible (call_of (number_at 0 65535 (value (codes "port"))) (target_at (value (codes "target")))) (λ s. called_callable (number_at 0 65535 (value (codes "port"))) (value (codes "target")) (target_at (value (codes "target"))) s (all (codes "target")) refl) t e
 task_possible command_name.Listen value all t e = listen_possible (listen_of (number_at 0 65535 (value (codes "port"))) (destination_at (value (codes "destination"))) (number_at 1 1000000 (value (codes "polls")))) (λ s. listened_listenable (number_at 0 65535 (value (codes "port"))) (value (codes "destination")) (destination_at (value (codes "destination"))) (number_at 1 1000000 (value (codes "polls"))) s (all (codes "destination")) refl (number_within 1 1000000 (value (codes "polls")))) t e
+task_possible command_name.Version value all t e = subst IsPossible (same_Some (task.Output command.Version) t e) tt
 
 pub asked_possible : (words : List Text) (t : Task) → AsksFor words t → IsPossible t
 asked_possible words t (utf8, (k, rest, given, is, has, gives)) = task_possible k (value_of given) (λ x text e. utf8_is_text text (value_utf8 rest given (subst (AllByRecursion IsUtf8) is utf8).1 has.0 x text e)) t gives

@@ -69,6 +69,7 @@ run_rows = record {
   json_compact = refl;
   json_wide = refl;
   bytes_alone = refl;
+  version_alone = refl;
   serve_one = refl;
   serve_most = refl;
   port_too_great = refl;

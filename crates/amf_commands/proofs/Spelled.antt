@@ -43,7 +43,7 @@ use Rattle.amf0_spelling.specs.Tables0.{no_tables0}
 use Rattle.amf0_layout_laws.proofs.Layout0Complete.{Found0, spelled_read0}
 use Rattle.amf0_layout_laws.proofs.Layout0Format.{values0_is_layout}
 use Rattle.amf_commands.specs.declared.command.Command.{Command}
-use Rattle.amf_commands.specs.declared.command.Command.TheVariants.{Canon, Check, Show, Json, Same, Gen}
+use Rattle.amf_commands.specs.declared.command.Command.TheVariants.{Canon, Check, Show, Json, Same, Gen, Version}
 use Rattle.amf3_read.specs.Pairs.{Pair}
 use Rattle.amf3_read.proofs.PairLayouts.{pair_layout, pairs_are_layouts}
 use Rattle.amf_commands.specs.declared.format.Format.{Format}
@@ -172,6 +172,7 @@ made_not_refused (Show from) input bytes reason at (c, i, s) q = never_refused f
 made_not_refused (Json from layout) input bytes reason at (c, i, s) q = never_refused from c input reason at i q
 made_not_refused Same input bytes reason at (g, h, p, s) q = pair_never_refused g h input reason at p q
 made_not_refused (Gen seed size) input bytes reason at m q = none_refused input reason at q
+made_not_refused Version input bytes reason at m q = none_refused input reason at q
 
 -- and so is what lacks an output
 pub lacking_not_refused : (c : Command) (input : List ℕ) (number : ℕ) (l : Lack) (reason : Reason) (at : ℕ) → Lacks c input number l → IsRefusedAs (input_of c) input reason at → ⊥
@@ -181,6 +182,7 @@ lacking_not_refused (Show from) input number l reason at k q = k
 lacking_not_refused (Json from layout) input number l reason at k q = k
 lacking_not_refused Same input number l reason at k q = k
 lacking_not_refused (Gen seed size) input number l reason at k q = k
+lacking_not_refused Version input number l reason at k q = k
 
 pub spells_free : (f : Format) (c : Content) (input : List ℕ) → IsInputOf f c input → Spelled f free c input
 spells_free f c input i = (i.fields, i.spelled, i.parts)
@@ -196,6 +198,7 @@ made_not_lacking (Show from) input bytes number l m k = k
 made_not_lacking (Json from layout) input bytes number l m k = k
 made_not_lacking Same input bytes number l m k = k
 made_not_lacking (Gen seed size) input bytes number l m k = k
+made_not_lacking Version input bytes number l m k = k
 
 -- and whatever it spells has this lack
 pub lacks_ever : (c : Command) (input : List ℕ) (number : ℕ) (l : Lack) → Lacks c input number l → LacksEver c input number l
@@ -205,6 +208,7 @@ lacks_ever (Show from) input number l k = k
 lacks_ever (Json from layout) input number l k = k
 lacks_ever Same input number l k = k
 lacks_ever (Gen seed size) input number l k = k
+lacks_ever Version input number l k = k
 
 -- a command whose output may lack
 pub may_lack : (from to : Format) (c : Content) (fs : List Field) (number : ℕ) (l : Lack) → IsSpelling from free c fs → IsUnwritten to c number l → MayLack (Canon from to)
@@ -224,6 +228,7 @@ made_again (Show from) input bytes m o = absurd o
 made_again (Json from layout) input bytes m o = absurd o
 made_again Same input bytes m o = absurd o
 made_again (Gen seed size) input bytes m o = absurd o
+made_again Version input bytes m o = absurd o
 
 -- Two graphs that an input spells have the same fronts and backs as two others.
 
@@ -274,6 +279,7 @@ decides (Json from layout) input bytes (r, j, (ready, fit, e, s, m)) = λ c othe
     let same = same_input from r c input j i in
     (told_content layout from r c fit other bytes same e d s, meant_content from fit other bytes (fits_alike from r c fit other same e d) m)
 decides (Gen seed size) input bytes (spelled, s, is) = λ other o. is ∙ ap (measure_line (length (made seed size).nodes)) (canonical_is_alone (made seed size) spelled other s o)
+decides Version input bytes is = is
 decides Same input bytes (g, h, p, s) = λ f e q.
     let a = cut_alike g h f e input p q in
     said (Isomorphic g h) (Isomorphic f e) bytes

@@ -4,7 +4,7 @@ use Rattle.std.specs.Prelude.{◌≡◌, ◌≤◌, ℕ, true, length, Option, S
 use Rattle.amf_wire.specs.Text.{IsText}
 use Rattle.amf_commands.specs.declared.command.CallOptions.{CallOptions}
 use Rattle.amf_commands.specs.declared.command.Command.{Command}
-use Rattle.amf_commands.specs.declared.command.Command.TheVariants.{Canon, Check, Show, Json, Same, Gen}
+use Rattle.amf_commands.specs.declared.command.Command.TheVariants.{Canon, Check, Show, Json, Same, Gen, Version}
 use Rattle.amf_commands.specs.declared.command.ListenOptions.{ListenOptions}
 use Rattle.amf_commands.specs.declared.command.ServeOptions.{ServeOptions}
 use Rattle.amf_commands.specs.declared.command.Task.{Task}
@@ -18,6 +18,7 @@ IsAskable (Show from) = Unit {0}
 IsAskable (Json from layout) = Unit {0}
 IsAskable Same = Unit {0}
 IsAskable (Gen seed size) = (1 ≤ size) × (size ≤ 1000000)
+IsAskable Version = Unit {0}
 
 abbrev pub IsServable : ServeOptions → Type 0
 IsServable o = (1 ≤ o.workers) × (o.workers ≤ 64)

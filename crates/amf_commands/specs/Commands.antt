@@ -34,6 +34,7 @@ name_of command_name.Flv = codes "flv"
 name_of command_name.Rtmp = codes "rtmp"
 name_of command_name.Call = codes "call"
 name_of command_name.Listen = codes "listen"
+name_of command_name.Version = codes "version"
 
 abbrev pub options_for : CommandName → List Text
 options_for command_name.Canon = codes "from" ∷ codes "to" ∷ []
@@ -48,6 +49,7 @@ options_for command_name.Flv = codes "do" ∷ []
 options_for command_name.Rtmp = codes "do" ∷ codes "size" ∷ []
 options_for command_name.Call = codes "port" ∷ codes "target" ∷ []
 options_for command_name.Listen = codes "port" ∷ codes "destination" ∷ codes "polls" ∷ []
+options_for command_name.Version = []
 
 -- What a value says.
 
@@ -191,6 +193,7 @@ task_for command_name.Flv value = option_map task.Flv (option_and_then flv_job_n
 task_for command_name.Rtmp value = option_map task.Rtmp (rtmp_of (value (codes "do")) (value (codes "size")))
 task_for command_name.Call value = option_map task.Call (call_by value)
 task_for command_name.Listen value = option_map task.Listen (listen_by value)
+task_for command_name.Version value = Some (task.Output command.Version)
 
 -- the words ask for this: its name comes first, and the rest gives it options with these values
 abbrev pub Asks : List Text → Task → Type 0

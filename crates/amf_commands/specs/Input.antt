@@ -7,7 +7,7 @@ use Rattle.amf3_read.specs.Pairs.{Pair}
 use Rattle.amf3_spelling.specs.Values3.{IsValue3}
 use Rattle.amf_sol.specs.FileVerdict.{IsFileAccepted, IsFileRefused}
 use Rattle.amf_commands.specs.declared.command.Command.{Command}
-use Rattle.amf_commands.specs.declared.command.Command.TheVariants.{Canon, Check, Show, Json, Same, Gen}
+use Rattle.amf_commands.specs.declared.command.Command.TheVariants.{Canon, Check, Show, Json, Same, Gen, Version}
 use Rattle.amf_commands.specs.declared.format.Format.{Format}
 use Rattle.amf_commands.specs.declared.format.Format.TheVariants.{Sol}
 use Rattle.amf_commands.specs.Formats.{IsContent}
@@ -29,6 +29,7 @@ input_of (Show from) = one from
 input_of (Json from layout) = one from
 input_of Same = two
 input_of (Gen seed size) = nothing
+input_of Version = nothing
 
 -- the lists of fields that are accepted
 abbrev pub Accepts : Input → List Field → Type 0

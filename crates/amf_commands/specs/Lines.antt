@@ -1,4 +1,4 @@
--- The error lines, and the lines that `check` and `gen` write.
+-- The error lines, and the lines that `check`, `gen` and `version` write.
 use Rattle.std.specs.Prelude.{ℕ, List, [], ◌∷◌, ◌++◌, length, codes, decimal}
 use Rattle.std.specs.List.{sum}
 use Rattle.amf_io.specs.declared.ends.Refusal.{Refusal}
@@ -8,6 +8,7 @@ use Rattle.amf_io.specs.Reasons.{reason_name}
 use Rattle.amf_graph.specs.declared.lack.Lack.{Lack}
 use Rattle.amf_graph.specs.declared.lack.LackKind.{LackKind}
 use Rattle.amf_graph.specs.declared.lack.LackKind.TheVariants as lacking
+use Rattle.amf_commands.specs.declared.version.TheConstants.{VERSION}
 use Rattle.amf_commands.specs.declared.run_end.RunEnd.{RunEnd}
 use Rattle.amf_commands.specs.declared.run_end.RunEnd.TheVariants.{Refused, Usage, ReadFault, WriteFault, NoMemory, FrontFault, NoForm}
 
@@ -62,3 +63,7 @@ count_line nodes = codes "ok nodes " ++ decimal nodes ++ line_feed
 -- how many nodes there are, how many bytes, and the sum of these
 abbrev pub measure_line : ℕ → List ℕ → List ℕ
 measure_line nodes bytes = codes "nodes " ++ decimal nodes ++ codes " bytes " ++ decimal (length bytes) ++ codes " sum " ++ decimal (sum bytes) ++ line_feed
+
+-- the name of the program, and its version
+abbrev pub version_line : List ℕ
+version_line = codes "amf " ++ VERSION.now ++ line_feed

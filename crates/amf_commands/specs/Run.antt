@@ -13,7 +13,7 @@ use Rattle.amf3_spelling.specs.Spells3.{IsSpelling3, Spelled3}
 use Rattle.amf_text_write.specs.declared.layout.Layout.{Layout}
 use Rattle.amf_vectors.specs.Made.{made}
 use Rattle.amf_commands.specs.declared.command.Command.{Command}
-use Rattle.amf_commands.specs.declared.command.Command.TheVariants.{Canon, Check, Show, Json, Same, Gen}
+use Rattle.amf_commands.specs.declared.command.Command.TheVariants.{Canon, Check, Show, Json, Same, Gen, Version}
 use Rattle.amf_commands.specs.declared.format.Format.{Format}
 use Rattle.amf_commands.specs.declared.format.Format.TheVariants.{Amf3}
 use Rattle.amf_commands.specs.Content.{Content, HasNodes, IsListed}
@@ -22,12 +22,13 @@ use Rattle.amf_commands.specs.Told.{Tells, IsMeant, IsTold}
 use Rattle.amf_commands.specs.Input.{most, Input, input_of, IsRefusedAs, IsUnsettledAs}
 use Rattle.amf_commands.specs.declared.run_end.RunEnd.{RunEnd}
 use Rattle.amf_commands.specs.declared.run_end.RunEnd.TheVariants.{Refused, Usage, ReadFault, WriteFault, NoMemory, FrontFault, NoForm}
-use Rattle.amf_commands.specs.Lines.{refusal_line, no_form_line, line_of, status_of, count_line, measure_line}
+use Rattle.amf_commands.specs.Lines.{refusal_line, no_form_line, line_of, status_of, count_line, measure_line, version_line}
 use Rattle.amf_io.specs.Written.{WritesFront}
 
--- whether a command has an input: `gen` has none
+-- whether a command has an input: `gen` and `version` have none
 abbrev pub TakesInput : Command → Type 0
 TakesInput (Gen seed size) = ⊥
+TakesInput Version = ⊥
 TakesInput _ = Unit {0}
 
 -- the whole input is one spelling of the content, with its right length where the format gives one
@@ -87,8 +88,9 @@ Makes (Show from) input bytes = IsShown from input bytes
 Makes (Json from layout) input bytes = IsJson from layout input bytes
 Makes Same input bytes = IsCompared input bytes
 Makes (Gen seed size) input bytes = IsMeasured (made seed size) bytes
+Makes Version input bytes = bytes ≡ version_line
 
--- it holds of whatever the input spells: canonical bytes are so for exactly the contents that are alike, in the kinds that the format has; the count and the listing are those of each content; the text is that of each in the kinds of its format, and means it; the line is the answer for each two graphs; and it measures whatever canonical bytes the graph that is made has
+-- it holds of whatever the input spells: canonical bytes are so for exactly the contents that are alike, in the kinds that the format has; the count and the listing are those of each content; the text is that of each in the kinds of its format, and means it; the line is the answer for each two graphs; it measures whatever canonical bytes the graph that is made has; and the version is always the same
 abbrev pub Decides : Command → List ℕ → List ℕ → Type 0
 Decides (Canon from to) input bytes = (c fit other : Content) → IsInputOf from c input → IsFitted to c fit → IsAlike to other fit ↔ Spelled to canonical other bytes
 Decides (Check from) input bytes = (c : Content) → IsInputOf from c input → IsCounted c bytes
@@ -96,6 +98,7 @@ Decides (Show from) input bytes = (c : Content) → IsInputOf from c input → I
 Decides (Json from layout) input bytes = (c fit : Content) → IsInputOf from c input → IsFitted from c fit → Tells layout from fit bytes × IsMeant from fit bytes
 Decides Same input bytes = (g h : Graph) → ArePairIn g h input → Says (Isomorphic g h) bytes
 Decides (Gen seed size) input bytes = (spelled : List ℕ) → Spelled3 canonical (made seed size) spelled → bytes ≡ measure_line (length (made seed size).nodes) spelled
+Decides Version input bytes = bytes ≡ version_line
 
 -- the input is a spelling of a content that has no canonical spelling in the format
 abbrev pub IsUnconverted : Format → Format → List ℕ → ℕ → Lack → Type 0
@@ -135,7 +138,9 @@ ReadsInput i L P input rest (Err (Refused f)) = IsRefusedAs i input f.reason f.a
 ReadsInput i L P input rest (Err ReadFault) = IsHidden i input rest
 ReadsInput i L P input rest (Err NoMemory) = Unit {0}
 ReadsInput i L P input rest (Err (NoForm number l)) = L number l × (rest ≡ [])
-ReadsInput i L P input rest _ = ⊥
+ReadsInput i L P input rest (Err Usage) = ⊥
+ReadsInput i L P input rest (Err WriteFault) = ⊥
+ReadsInput i L P input rest (Err FrontFault) = ⊥
 
 -- how the making of an output ends: where a command has an input, this is read
 abbrev pub OutputEnds : {X : Type 0} → Command → (X → Type 0) → List ℕ → List ℕ → Result X RunEnd → Type 0
@@ -148,22 +153,36 @@ NeverLacks number l = ⊥
 
 -- a read fault is counted, and without one the count stays
 abbrev pub CountsReads : {T : Type 0} → ℕ → ℕ → Result T RunEnd → Type 0
+CountsReads before now (Ok x) = now ≡ before
+CountsReads before now (Err (Refused f)) = now ≡ before
+CountsReads before now (Err Usage) = now ≡ before
 CountsReads before now (Err ReadFault) = (before ≤ now) × Rose before now
-CountsReads before now _ = now ≡ before
+CountsReads before now (Err WriteFault) = now ≡ before
+CountsReads before now (Err NoMemory) = now ≡ before
+CountsReads before now (Err FrontFault) = now ≡ before
+CountsReads before now (Err (NoForm number l)) = now ≡ before
 
 -- a write fault is counted, and without one the count stays; of running out of memory nothing is said
 abbrev pub CountsWrites : {T : Type 0} → ℕ → ℕ → Result T RunEnd → Type 0
+CountsWrites before now (Ok x) = now ≡ before
+CountsWrites before now (Err (Refused f)) = now ≡ before
+CountsWrites before now (Err Usage) = now ≡ before
+CountsWrites before now (Err ReadFault) = now ≡ before
 CountsWrites before now (Err WriteFault) = (before ≤ now) × Rose before now
 CountsWrites before now (Err NoMemory) = Unit {0}
-CountsWrites before now _ = now ≡ before
+CountsWrites before now (Err FrontFault) = now ≡ before
+CountsWrites before now (Err (NoForm number l)) = now ≡ before
 
 -- an end that the reading of an input has
 abbrev pub IsReadEnd : {T : Type 0} → Result T RunEnd → Type 0
+IsReadEnd (Ok x) = Unit {0}
+IsReadEnd (Err (Refused f)) = Unit {0}
 IsReadEnd (Err Usage) = ⊥
+IsReadEnd (Err ReadFault) = Unit {0}
 IsReadEnd (Err WriteFault) = ⊥
+IsReadEnd (Err NoMemory) = Unit {0}
 IsReadEnd (Err FrontFault) = ⊥
 IsReadEnd (Err (NoForm number l)) = ⊥
-IsReadEnd _ = Unit {0}
 
 -- an end that the making of an output has
 abbrev pub IsOutputEnd : {T : Type 0} → Command → Result T RunEnd → Type 0
@@ -172,21 +191,31 @@ IsOutputEnd c (Err (Refused f)) = TakesInput c
 IsOutputEnd c (Err ReadFault) = TakesInput c
 IsOutputEnd c (Err NoMemory) = Unit {0}
 IsOutputEnd c (Err (NoForm number l)) = MayLack c
-IsOutputEnd c _ = ⊥
+IsOutputEnd c (Err Usage) = ⊥
+IsOutputEnd c (Err WriteFault) = ⊥
+IsOutputEnd c (Err FrontFault) = ⊥
 
 -- what comes of an input comes only of a command that has one
 abbrev pub IsReading : {T : Type 0} → Command → Result T RunEnd → Type 0
+IsReading c (Ok x) = Unit {0}
 IsReading c (Err (Refused f)) = TakesInput c
+IsReading c (Err Usage) = Unit {0}
 IsReading c (Err ReadFault) = TakesInput c
-IsReading c _ = Unit {0}
+IsReading c (Err WriteFault) = Unit {0}
+IsReading c (Err NoMemory) = Unit {0}
+IsReading c (Err FrontFault) = Unit {0}
+IsReading c (Err (NoForm number l)) = Unit {0}
 
 -- nothing was asked of the output, but where it may have been written to
 abbrev pub IsUntouched : {S T : Type 0} → S → S → Result T RunEnd → Type 0
+IsUntouched before now (Ok x) = Unit {0}
 IsUntouched before now (Err (Refused f)) = now ≡ before
-IsUntouched before now (Err ReadFault) = now ≡ before
 IsUntouched before now (Err Usage) = now ≡ before
+IsUntouched before now (Err ReadFault) = now ≡ before
+IsUntouched before now (Err WriteFault) = Unit {0}
+IsUntouched before now (Err NoMemory) = Unit {0}
+IsUntouched before now (Err FrontFault) = Unit {0}
 IsUntouched before now (Err (NoForm number l)) = now ≡ before
-IsUntouched before now _ = Unit {0}
 
 -- the output was written whole
 pub record WritesAll (c : Command) (input rest : List ℕ) (told : Type 0) (held now : List ℕ) : Type 0 where
@@ -212,7 +241,8 @@ RunsTo c input rest told held now (Err ReadFault) = IsHidden (input_of c) input 
 RunsTo c input rest told held now (Err WriteFault) = WritesSome c input rest told held now
 RunsTo c input rest told held now (Err FrontFault) = ⊥
 RunsTo c input rest told held now (Err (NoForm number l)) = Lacks c input number l × (rest ≡ [])
-RunsTo c input rest told held now _ = Unit {0}
+RunsTo c input rest told held now (Err Usage) = Unit {0}
+RunsTo c input rest told held now (Err NoMemory) = Unit {0}
 
 -- the same of the input and the output, before and after
 abbrev pub RunsOver : {I O T : Type 0} → SourceMembers I → SinkMembers O → Command → (a b : I) → (held now : O) → Result T RunEnd → Type 0

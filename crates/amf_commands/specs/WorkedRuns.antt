@@ -12,7 +12,7 @@ use Rattle.amf_text_write.specs.declared.layout.Layout.TheVariants.{Lines, Compa
 use Rattle.amf_sol.specs.WorkedFiles.{one_true_bytes}
 use Rattle.amf_listings.specs.WorkedFileListings.{one_array_twice}
 use Rattle.amf_commands.specs.declared.command.Command.{Command}
-use Rattle.amf_commands.specs.declared.command.Command.TheVariants.{Canon, Check, Show, Json, Same}
+use Rattle.amf_commands.specs.declared.command.Command.TheVariants.{Canon, Check, Show, Json, Same, Version}
 use Rattle.amf_commands.specs.declared.command.Task.TheVariants.{Output, Bytes, Serve}
 use Rattle.amf_commands.specs.declared.format.Format.TheVariants.{Amf3, Amf0, Packet, Sol}
 use Rattle.amf_commands.specs.declared.command_name.CommandName.TheVariants as command_name
@@ -79,6 +79,7 @@ pub record RunRows : Type 0 where
   pub json_wide : task_for command_name.Json (laid_out (codes "wide")) ≡ None
   -- a text that is written as bytes names its form
   pub bytes_alone : task_for command_name.Bytes (λ option. None) ≡ Some Bytes
+  pub version_alone : task_for command_name.Version (λ option. None) ≡ Some (Output Version)
   -- links are served at a port, by 1 to 64 workers, 1 to 1,000,000 each
   pub serve_one : task_for command_name.Serve (at_by_each (codes "0") (codes "1") (codes "1")) ≡ Some (Serve (record { port = 0; workers = 1; each = 1 }))
   pub serve_most : task_for command_name.Serve (at_by_each (codes "65535") (codes "64") (codes "1000000")) ≡ Some (Serve (record { port = 65535; workers = 64; each = 1000000 }))

@@ -28,6 +28,8 @@ pub enum Command {
     Same,
     /// `gen`: the nodes, the number of bytes and the sum of the bytes of the graph that is made of a seed, of 1 to 1,000,000 nodes.
     Gen { seed: u32, size: u32 },
+    /// `version`: the name and the version of the program.
+    Version,
 }
 
 /// Where `serve` serves links, by how many workers, and how many links each.

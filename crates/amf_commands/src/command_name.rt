@@ -42,6 +42,8 @@ pub enum CommandName {
     Call,
     /// `listen`.
     Listen,
+    /// `version`.
+    Version,
 }
 
 static CANON: [&str; 2] = ["from", "to"];
@@ -83,6 +85,7 @@ impl CommandName {
             "rtmp" => Some(CommandName::Rtmp),
             "call" => Some(CommandName::Call),
             "listen" => Some(CommandName::Listen),
+            "version" => Some(CommandName::Version),
             _ => None,
         }
     }
@@ -95,7 +98,7 @@ impl CommandName {
             CommandName::Canon => CANON.as_slice(),
             CommandName::Check | CommandName::Show => FROM.as_slice(),
             CommandName::Json => JSON.as_slice(),
-            CommandName::Bytes | CommandName::Same => NONE.as_slice(),
+            CommandName::Bytes | CommandName::Same | CommandName::Version => NONE.as_slice(),
             CommandName::Gen => GEN.as_slice(),
             CommandName::Serve => SERVE.as_slice(),
             CommandName::Flv => FLV.as_slice(),
@@ -143,6 +146,7 @@ impl CommandName {
                 Some(options) => Some(Task::Listen(options)),
                 None => None,
             },
+            CommandName::Version => Some(Task::Output(Command::Version)),
         };
         Ok(task)
     }

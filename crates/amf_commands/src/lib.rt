@@ -16,6 +16,7 @@ mod reading;
 mod report;
 mod run_end;
 mod spelling;
+mod version;
 
 pub use command::{CallOptions, Command, ListenOptions, ServeOptions, Task};
 pub use content::Content;

@@ -2,6 +2,7 @@ ghost use Rattle.std.specs.Prelude.{◌≡◌, IfOk};
 ghost use Rattle.std.specs.List.{sum};
 ghost use Rattle.amf_commands.specs.Lines as line;
 
+use crate::version::VERSION;
 use itoa::Buffer;
 use std::alloc::{AllocError, Global};
 
@@ -27,6 +28,16 @@ pub fn measure_line(alloc: Global, nodes: u32, spelling: &[u8]) -> Result<Vec<u8
     bytes.extend_from_slice(digits.format(spelling.len()).as_bytes())?;
     bytes.extend_from_slice(b" sum ")?;
     bytes.extend_from_slice(digits.format(sum_of(spelling)).as_bytes())?;
+    bytes.extend_from_slice(b"\n")?;
+    Ok(bytes)
+}
+
+/// The line that says which version the program is.
+pub fn version_line(alloc: Global) -> Result<Vec<u8>, AllocError>
+    ensures { IfOk result (λ bytes. bytes.items ≡ line.version_line) }
+{
+    let mut bytes = Vec::from_slice(alloc, b"amf ")?;
+    bytes.extend_from_slice(VERSION.as_bytes())?;
     bytes.extend_from_slice(b"\n")?;
     Ok(bytes)
 }

@@ -12,7 +12,7 @@ ghost use Rattle.amf_commands.specs.Askable.{IsAskable};
 use crate::command::Command;
 use crate::content::{counted, listed, told};
 use crate::format::Format;
-use crate::lines::count_line;
+use crate::lines::{count_line, version_line};
 use crate::making::measurement;
 use crate::reading::{read_graphs, read_in_format};
 use crate::run_end::RunEnd;
@@ -46,6 +46,7 @@ pub fn output_of<I: Source>(
         Command::Json { from, layout } => written_as_json(alloc, keys, from, layout, input),
         Command::Same => comparison(alloc, keys, input),
         Command::Gen { seed, size } => Ok(measurement(alloc, keys, seed, size)?),
+        Command::Version => Ok(version_line(alloc)?),
     }
 }
 

@@ -11,11 +11,11 @@ use Rattle.amf_cli.proofs.run.run.Goals as goal
 pub serve_links-end-requires-after_bounds : goal.serve_links-end-requires-after_bounds
 serve_links-end-requires-after_bounds g c κs within = asked_possible c.args.words.now (Serve c.in-Err-Serve.options) (c.run_data.ensures.serves c.in-Err-Serve.options (c.in-Err-Serve.is ∙ ap Err c.in-Err-Serve.field-0-is))
 
-pub run_call-requires : goal.run_call-requires
-run_call-requires g c = asked_possible c.args.words.now (Call c.in-Err-Call.options) (c.run_data.ensures.calls c.in-Err-Call.options (c.in-Err-Call.is ∙ ap Err c.in-Err-Call.field-0-is))
+pub run_call-requires-clause-callable : goal.run_call-requires-clause-callable
+run_call-requires-clause-callable g c = asked_possible c.args.words.now (Call c.in-Err-Call.options) (c.run_data.ensures.calls c.in-Err-Call.options (c.in-Err-Call.is ∙ ap Err c.in-Err-Call.field-0-is))
 
-pub run_listen-requires : goal.run_listen-requires
-run_listen-requires g c = asked_possible c.args.words.now (Listen c.in-Err-Listen.options) (c.run_data.ensures.listens c.in-Err-Listen.options (c.in-Err-Listen.is ∙ ap Err c.in-Err-Listen.field-0-is))
+pub run_listen-requires-clause-listenable : goal.run_listen-requires-clause-listenable
+run_listen-requires-clause-listenable g c = asked_possible c.args.words.now (Listen c.in-Err-Listen.options) (c.run_data.ensures.listens c.in-Err-Listen.options (c.in-Err-Listen.is ∙ ap Err c.in-Err-Listen.field-0-is))
 
 pub returns-in-Ok-clause-serves : goal.returns-in-Ok-clause-serves
 returns-in-Ok-clause-serves g c = data_serves _ _ _ _ _ _ _ _ _ _ c.are_lawful.ensures (λ s. let z = c.in-Ok.ensures.data.0 (inl s) in (z.0, z.1.0)) c.in-Ok.ensures.data.1
