@@ -21,7 +21,7 @@ import time
 from pathlib import Path
 
 ROOT = Path(__file__).resolve().parent.parent
-PROGRAM = ROOT / "crates/amf_main/out/amf_main"
+PROGRAM = ROOT / "out/amf"
 RUNS = 5
 PATIENCE = 60
 
