@@ -1,9 +1,10 @@
 #!/usr/bin/env python3
-"""Looks for each name that the tables of docs/PROMISES.md cite in the sources, and prints those that are not there.
+"""Looks for each name that the rows of docs/PROMISES.md cite in the sources, and prints those that are not there.
 
     docs/promise_names.py
 
-In a row's second column a crate stands before its functions, and a function, with a colon, before its clauses. A function has to be one of
+A row is an item of a list in a section with a number; below it stand what carries it, if anything does, and whether it is proved. In what
+carries it a crate stands before its functions, and a function, with a colon, before its clauses. A function has to be one of
 the crate that was named last; a clause has to be a label behind `ensures` of a function that was named, or a name in some specs. The status
 is 1 if a name is not there.
 """
@@ -63,15 +64,32 @@ def lost(row, usual, functions, told):
                 yield name
 
 
-def main():
-    functions, told, section, good = {crate: functions_of(crate) for crate in CRATES}, told_anywhere(), "", True
-    for number, line in enumerate((ROOT / "docs/PROMISES.md").read_text().splitlines(), 1):
+def rows(text):
+    """Of each row the section, the number of its line, and its parts: the promise, what carries it, and whether it is proved."""
+    section, found, now = "", [], []
+    for number, line in enumerate(text.splitlines(), 1):
         section = line[3:4] if line.startswith("## ") else section
-        cells = line.split(" | ")
-        if section.isdigit() and len(cells) == 3 and not line.startswith("| Promise |"):
-            for name in lost(cells[1], USUAL.get(section, []), functions, told):
-                print(f"docs/PROMISES.md:{number}: {name} is not there")
-                good = False
+        if section.isdigit() and line.startswith("- "):
+            now = [line[2:]]
+            found.append((section, number, now))
+        elif now and line.startswith("  - "):
+            now.append(line[4:])
+        elif now and line.startswith("  "):
+            now[-1] += " " + line.strip()
+        else:
+            now = []
+    return found
+
+
+def main():
+    functions, told, good = {crate: functions_of(crate) for crate in CRATES}, told_anywhere(), True
+    for section, number, parts in rows((ROOT / "docs/PROMISES.md").read_text()):
+        if len(parts) not in [2, 3]:
+            print(f"docs/PROMISES.md:{number}: a row of {len(parts)} parts")
+            good = False
+        for name in lost(parts[1], USUAL.get(section, []), functions, told) if len(parts) == 3 else []:
+            print(f"docs/PROMISES.md:{number}: {name} is not there")
+            good = False
     sys.exit(not good)
 
 

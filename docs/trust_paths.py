@@ -1,12 +1,13 @@
 #!/usr/bin/env python3
-"""Writes docs/TRUST.md out of the definitions in crates/*/specs.
+"""Writes docs/TRUST.md and the pages in docs/trust out of the definitions in crates/*/specs.
 
     docs/trust_paths.py [--check]
 
 For each of twelve promises it follows the definitions that the promises of a run (`Ends`, `ServesWords`, `CallsWords` and `ListensWords`
 in crates/amf_cli/specs, which the contract of `run` cites) name, from name to name by the imports of each file, and lists them in an order in
-which they can be read. What a file says is its own first sentence, and what a definition says is the comment above it, or its sentence in
-docs/trust_words.txt. With --check nothing is written, and the status is 1 if the page is not what would be written.
+which they can be read, on a page for each promise; what a page before has is linked. What a file says is its own first sentence, and what a
+definition says is the comment above it, or its sentence in docs/trust_words.txt. With --check nothing is written, and the status is 1 if a
+page is not what would be written.
 """
 import re
 import sys
@@ -15,6 +16,7 @@ from pathlib import Path
 
 ROOT = Path(__file__).resolve().parent.parent
 PAGE = ROOT / "docs/TRUST.md"
+PAGES = ROOT / "docs/trust"
 WORDS = ROOT / "docs/trust_words.txt"
 RUN = [ROOT / f"crates/amf_cli/specs/{name}.antt" for name in ("Ends", "ServesWords", "CallsWords", "ListensWords")]
 
@@ -24,18 +26,22 @@ A proof says that the code meets its contract. What the contract means is said i
 every proof above it worthless. So these files, with the contracts on the functions in `crates/NAME/src`, are what has to be read to know
 what is promised. The toolchain, and what else is trusted, are named in [PROMISES.md](PROMISES.md#what-it-stands-on).
 
-Nobody has to read all of them. Each of the twelve paths below lists what one promise rests on, in an order in which it can be read: each file,
-those of its definitions that the promise needs, with a sentence for each, and how many lines these have. Much of a later path is known from
-an earlier one; such definitions are named again, and their sentences stand in the path where they come first. The first path has some 1,400
-lines, and each later one at most 1,200 that no path above it has: about an hour each. `serve` has two, the first for what one connection is
-answered, and `listen` has two, the second for the law of both ends. Any other path ends with the definitions that the program's contract
-itself names. That contract is `Ends`, for `serve` with `ServesWords`, for `call` with `CallsWords` and for `listen` with `ListensWords`, in
-`crates/amf_cli/specs`; `run`, `start` and `start_with_services` cite it, the last for the services in `shipped` of
-`crates/amf_service/specs/Shipped.antt`. After the definitions come the laws and worked facts about them: theorems, and bytes and graphs
-worked out by hand. They are proved *about* the definitions, and are where to look first when one is in doubt. The appendix lists all files.
+Nobody has to read all of them. Each of the twelve pages below lists what one promise rests on, in an order in which it can be read: each file,
+those of its definitions that the promise needs, with a sentence for each, and how many lines these have. Much of a later page is known from
+an earlier one, and is linked there: what that page tells of a file, or the names behind the link.
 
-This page is written by `docs/trust_paths.py`, which follows the imports. What it says of a file is the file's own first sentence. What it
-says of a definition is the comment above it, or a sentence of `docs/trust_words.txt`; neither is checked by the prover, so read the
+PAGES
+
+"New" are the lines that no page above has: about an hour each. `serve` has two pages, the first for what one connection is answered, and
+`listen` has two, the second for the law of both ends. Any other page ends with the definitions that the program's contract itself names. That
+contract is `Ends`, for `serve` with `ServesWords`, for `call` with `CallsWords` and for `listen` with `ListensWords`, in
+`crates/amf_cli/specs`; `run`, `start` and `start_with_services` cite it, the last for the services in `shipped` of
+`crates/amf_service/specs/Shipped.antt`. Behind the definitions stand the laws and worked facts about them: theorems, and bytes and graphs
+worked out by hand. They are proved *about* the definitions, and are where to look first when one is in doubt. Together there are
+DEFINITIONS lines of definitions and DEVICES of devices; `specs/Lib.antt` of each crate lists its files.
+
+These pages are written by `docs/trust_paths.py`, which follows the imports. What they say of a file is the file's own first sentence. What
+they say of a definition is the comment above it, or a sentence of `docs/trust_words.txt`; neither is checked by the prover, so read the
 definition.
 
 ## Devices
@@ -43,7 +49,7 @@ definition.
 Besides the definitions there are devices of the proofs. They are listed at the end of each `specs/Lib.antt`, and most say so in their first
 line. A wrong one can make a proof fail, but cannot make a promise false that does not speak of it. Of the promises about a run of the
 program only that of `rtmp` speaks of devices: `Layout` and `Repeated` of `amf_io`, by which the fields of a chunk stream are defined, and
-which stand in its path. No promise about a Flex message speaks of one. Of the promises of the libraries these do:
+which stand on its page. No promise about a Flex message speaks of one. Of the promises of the libraries these do:
 
 - laws about layouts, and the trait `Format`;
 - the calls by which a reader of another format reads on: those of `amf_wire_fields`, `append_field`, `append_raw`, `append_exactly` and
@@ -75,6 +81,7 @@ TITLES = {
     "amf_sheet": "Graphs told in any order",
     "amf3_spelling": "AMF 3",
     "amf3_layout_laws": "The verdict on AMF 3",
+    "amf3_respell_laws": "AMF 3 spelled anew without a graph",
     "amf_tables": "Reference tables",
     "amf0_spelling": "AMF 0",
     "amf0_layout_laws": "The verdict on AMF 0",
@@ -113,6 +120,7 @@ TITLES = {
     "amf_broker": "The broker",
     "amf_desk": "The desk",
     "http_link": "Both ends of HTTP",
+    "http_backend": "Asking a backend",
     "amf_http": "The HTTP front",
     "amf_once": "Polls that survive losses",
     "amf_client": "Calling the gateway",
@@ -155,44 +163,57 @@ TEXTS = ["amf_text", "amf_text_write", "amf_json", "amf_commands.Told", "amf_byt
 OTHERS = ["amf_vectors", "amf_once"]
 FILES = ["amf_packet", "amf_sol", "amf_listings"]
 
-# For each promise: its words, what is cited for other commands alone, the crates or files that speak of other commands and formats, and the
+# For each promise: its page, its words, what is cited for other commands alone, the crates or files that speak of other commands and formats, and the
 # files of `amf_cli` that belong to it whole.
 PATHS = [
-    ("To trust `canon` on values", "That the output of `amf canon` is the one canonical encoding of the value in the input, from and to AMF 3 "
+    ("canon", "To trust `canon` on values",
+     "That the output of `amf canon` is the one canonical encoding of the value in the input, from and to AMF 3 "
      "and AMF 0, that a refusal names the first invalid field, and that status 7 names the first node without an encoding.",
      [*OF_SERVE, *OF_MEDIA, *OF_LINKS, *OF_BYTES], [*FILES, "amf_show", *OTHERS, *TEXTS, *MEDIA, *CALLS], ["Ends"]),
-    ("To trust `same`", "That `amf same` says `same` exactly where two values of AMF 3 are the same graph.",
+    ("same", "To trust `same`",
+     "That `amf same` says `same` exactly where two values of AMF 3 are the same graph.",
      [*OF_SERVE, *OF_MEDIA, *OF_LINKS, *OF_BYTES], [*FILES, "amf_show", *OTHERS, *TEXTS, *MEDIA, *CALLS, "amf0_spelling",
                 "amf3_spelling.Lacks3", "amf_graph.Lacks", "amf_graph.Order"], ["Ends"]),
-    ("To trust a `.sol`", "That `amf show`, `check` and `canon` with `--from sol` say what stands in a shared object file, or where it is damaged.",
+    ("sol", "To trust a `.sol`",
+     "That `amf show`, `check` and `canon` with `--from sol` say what stands in a shared object file, or where it is damaged.",
      [*OF_SERVE, *OF_MEDIA, *OF_LINKS, *OF_BYTES], ["amf_packet", *OTHERS, *TEXTS, *MEDIA, *CALLS, "amf_listings.SamePacket", "amf_listings.PacketListing",
                 "amf_listings.PacketNodes", "amf_listings.PacketLaws"], ["Ends"]),
-    ("To trust `json`", "That the output of `amf json` is the canonical JSON text of what stands in the input, and that this text means it, but for the numbers of nodes, and in AMF 0 with integers in place of doubles.",
+    ("json", "To trust `json`",
+     "That the output of `amf json` is the canonical JSON text of what stands in the input, and that this text means it, but for the numbers of "
+     "nodes, and in AMF 0 with integers in place of doubles.",
      [*OF_SERVE, *OF_MEDIA, *OF_LINKS, *OF_BYTES], ["amf_show", *OTHERS, *MEDIA, *CALLS, "amf_listings.PacketListing", "amf_listings.PacketNodes",
                 "amf_listings.FileListing", "amf_listings.PacketLaws", "amf_listings.FileLaws", "amf_packet.PacketLacks",
                 "amf_sol.FileLacks", "amf3_spelling.Lacks3", "amf0_spelling.Lacks0", "amf_graph.Lacks"], ["Ends"]),
-    ("To trust `bytes`", "That the output of `amf bytes` is the canonical encoding of what the JSON text in the input means, that a refusal names the "
+    ("bytes", "To trust `bytes`",
+     "That the output of `amf bytes` is the canonical encoding of what the JSON text in the input means, that a refusal names the "
      "first token that is wrong, and that the graphs which a text means weigh at most four times its bytes.",
      [*OF_SERVE, *OF_MEDIA, *OF_LINKS, "amf_commands.Run."], ["amf_show", *OTHERS, *MEDIA, *CALLS, "amf_listings.PacketListing", "amf_listings.PacketNodes",
                 "amf_listings.FileListing", "amf_listings.PacketLaws", "amf_listings.FileLaws", "amf_packet.PacketLacks"], ["BytesEnds"]),
-    ("To trust an answer of `serve`", "That what a connection is sent is the definition's answer to the bytes that came: what a request means, which calls of "
+    ("answer", "To trust an answer of `serve`",
+     "That what a connection is sent is the definition's answer to the bytes that came: what a request means, which calls of "
      "services and of the broker it makes, and which bytes tell what they gave.",
      [], ["amf_sol", "amf_show", "amf_listings", *OTHERS, *TEXTS, *MEDIA, *CALLS], [], "amf_answer_plan.Respond"),
-    ("To trust `serve`", "That each connection is answered as the definition says, and that all connections have one legal history of the broker.",
+    ("serve", "To trust `serve`",
+     "That each connection is answered as the definition says, and that all connections have one legal history of the broker.",
      [*OF_DATA, *OF_MEDIA, *OF_LINKS, *OF_BYTES], ["amf_sol", "amf_show", "amf_listings", *OTHERS, *TEXTS, *MEDIA, *CALLS], ["ServesWords"]),
-    ("To trust `flv`", "That `amf flv` lists the metadata of an FLV file, or writes the file without them or with others, and all else as it was.",
+    ("flv", "To trust `flv`",
+     "That `amf flv` lists the metadata of an FLV file, or writes the file without them or with others, and all else as it was.",
      [*OF_SERVE, *OF_DATA, *OF_RTMP, *OF_LINKS, *OF_BYTES], [*FILES, *OTHERS, *TEXTS, *CALLS, "rtmp_chunks", "rtmp_rechunk", "rtmp_listing"],
      ["Ends", "MediaEnds"]),
-    ("To trust `rtmp`", "That `amf rtmp` lists the messages of a chunk stream, or writes the same messages in chunks of another size.",
+    ("rtmp", "To trust `rtmp`",
+     "That `amf rtmp` lists the messages of a chunk stream, or writes the same messages in chunks of another size.",
      [*OF_SERVE, *OF_DATA, *OF_FLV, *OF_LINKS, *OF_BYTES], [*FILES, *OTHERS, *TEXTS, *CALLS, "flv_meta"], ["Ends", "MediaEnds"]),
-    ("To trust `call`", "That `amf call` makes one call with the arguments that it was given, and writes what the bytes that come back mean.",
+    ("call", "To trust `call`",
+     "That `amf call` makes one call with the arguments that it was given, and writes what the bytes that come back mean.",
      [*OF_SERVE, *OF_DATA, *OF_MEDIA, *OF_LISTEN, *OF_BYTES], ["amf_sol", "amf_listings", *OTHERS, *TEXTS, *MEDIA, "amf_poll_session", *SELF_CALLS],
      ["CallsWords"]),
-    ("To trust `listen`", "That `amf listen` sends the requests of one session, again where a connection was lost, and writes the bodies of each "
-     "batch once and in order. That these are the messages that were published is the path below.",
+    ("listen", "To trust `listen`",
+     "That `amf listen` sends the requests of one session, again where a connection was lost, and writes the bodies of each "
+     "batch once and in order. That these are the messages that were published stands on [delivery](delivery.md).",
      [*OF_SERVE, *OF_DATA, *OF_MEDIA, *OF_CALL, *OF_BYTES],
      ["amf_sol", "amf_listings", "amf_vectors", *TEXTS, *MEDIA, "amf_dial_and_call", *SELF_CALLS], ["ListensWords"]),
-    ("To trust that `listen` loses nothing", "That what a listener has written is what was published while it was subscribed, each message once and in order: the law "
+    ("delivery", "To trust that `listen` loses nothing",
+     "That what a listener has written is what was published while it was subscribed, each message once and in order: the law "
      "`what_was_published_is_written` of `amf_poll_session`, over the listener's session and the broker.",
      [], ["amf_sol", "amf_listings", "amf_vectors", *TEXTS, *MEDIA, "amf_dial_and_call", *SELF_CALLS], [], "amf_poll_session.Delivered"),
 ]
@@ -408,87 +429,142 @@ def about(files, needed):
     return found
 
 
-def wrapped(paragraph):
-    """The lines of a paragraph, none of them too long."""
-    return textwrap.wrap(paragraph, width=140, break_long_words=False, break_on_hyphens=False)
+def wrapped(paragraph, indent=""):
+    """The lines of a paragraph, none of them too long, the later ones behind an indent."""
+    return textwrap.wrap(paragraph, width=140, subsequent_indent=indent, break_long_words=False, break_on_hyphens=False)
 
 
 def link(specs):
-    return f"[`{specs.crate}/{specs.name}`](../crates/{specs.crate}/specs/{specs.name}.antt)"
+    return f"[`{specs.crate}/{specs.name}`](../../crates/{specs.crate}/specs/{specs.name}.antt)"
 
 
-def path_of(files, known, title, promise, left_out, stops, whole, part=None):
-    """The section on one promise. What is known from the sections above is counted apart, and what is new becomes known. A section on a part
-    begins at the definitions of one file, and else at what the promises of a run name."""
+def anchor(key):
+    """The name of a file's place on a page."""
+    return key.replace(".", "-")
+
+
+class Told:
+    """What the pages so far tell: of each definition, each law and each type the page that has it."""
+
+    def __init__(self):
+        self.names, self.laws, self.types = {}, {}, {}
+
+    def fresh(self, named, page):
+        """What of these names, by where they stand, no page before has; from here on this page has it."""
+        new = {place: sorted(name for name in names if (place, name) not in self.types) for place, names in named.items()}
+        self.types.update({(place, name): page for place, names in new.items() for name in names})
+        return {place: names for place, names in sorted(new.items()) if names}
+
+    def links(self, keys, page):
+        """For each page before, an item that links the files of which it tells definitions that are needed here, with the names of these
+        where it tells others of the file too."""
+        found = {}
+        for key, name in keys:
+            if self.names[key, name] != page:
+                found.setdefault(self.names[key, name], {}).setdefault(key, []).append(name)
+        for other in (path[0] for path in PATHS if path[0] in found):
+            shown = []
+            for key, names in found[other].items():
+                is_whole = len(names) == sum(1 for place, of in self.names.items() if place[0] == key and of == other)
+                part = "" if is_whole else f" ({', '.join(f'`{name}`' for name in names)})"
+                shown.append(f"[`{key.replace('.', '/')}`]({other}.md#{anchor(key)}){part}")
+            yield from wrapped(f"- From [{other}]({other}.md): {', '.join(shown)}.", "  ")
+
+
+def laws_of(files, needed, told, page):
+    """The part of a page on laws and worked facts: those that are new, and the pages that have the others."""
+    laws = about(files, needed)
+    new = [key for key in laws if key not in told.laws]
+    others = dict.fromkeys(told.laws[key] for key in laws if key in told.laws)
+    told.laws.update(dict.fromkeys(new, page))
+    if not laws:
+        return []
+    out = ["## Laws", "", "Nobody has to trust these, since they are proved.", ""]
+    if new:
+        out += ["| File | Lines | What it says |", "|---|---|---|"]
+        out += [f"| {link(files[key])} | {len(files[key].lines)} | {files[key].says} |" for key in new] + [""]
+    if others:
+        named = ", ".join(f"[{other}]({other}.md#laws)" for other in others)
+        out += [*wrapped(f"Others that speak of the definitions here stand on {named}."), ""]
+    return out
+
+
+def listed(named):
+    """Names with where they stand, in a sentence."""
+    return "; ".join(f"{', '.join(f'`{name}`' for name in names)} {place}" for place, names in named.items())
+
+
+def outside_of(types, others, stopped, told, page):
+    """The part of a page on what its definitions name besides definitions of this project, where no page before has it."""
+    out = []
+    named = told.fresh({f"in `{file}`": names for file, names in types.items()}, page)
+    if named:
+        out += [*wrapped(f"Types of the code that no page before names: {listed(named)}."), ""]
+    named = told.fresh({f"of `{crate}`": names for crate, names in others.items() if crate != "std"}, page)
+    if named:
+        out += [*wrapped("Definitions of the toolchain's crates that no page before names, beside those of its standard library: "
+                         f"{listed(named)}."), ""]
+    if stopped:
+        left = ", ".join(f"`{key}`" for key in sorted(stopped))
+        out += [*wrapped(f"Left out, since other commands or formats alone lead there: {left}."), ""]
+    return out
+
+
+def page_of(files, told, page, title, promise, left_out, stops, whole, part=None):
+    """The page on one promise, with its numbers of files and of lines, in all and new. What is told on the pages before is linked. A page on
+    a part begins at the definitions of one file, and else at what the promises of a run name."""
     roots = [(part, name) for name in files[part].blocks] if part else cited(files, left_out)
     needed, types, others, stopped = closure(files, roots, stops)
     for record in whole:
         needed[f"amf_cli.{record}"] = set(files[f"amf_cli.{record}"].blocks)
-    order = in_order(files, needed)
-    out, total, fresh = [], 0, 0
-    for place, key in enumerate(order, 1):
-        specs = files[key]
-        names = [name for name in specs.blocks if name in needed[key]]
-        lines = sum(len(specs.blocks[name]) for name in names)
-        total += lines
-        fresh += sum(len(specs.blocks[name]) for name in names if (key, name) not in known)
-        out.append(f"{place}. {link(specs)}, {lines} lines. {specs.says}")
-        out += [f"    - `{name}`: {specs.sentence(name)}" for name in names if (key, name) not in known]
-        again = [f"`{name}`" for name in names if (key, name) in known]
-        out += [f"    - As above: {', '.join(again)}"] if again else []
-    above = f", {fresh} of them not in a path above" if known else ""
-    known |= {(key, name) for key in needed for name in needed[key]}
-    head = [f"## {title}", "", *wrapped(promise), "", f"{len(order)} files, of which {total} lines count{above}:", ""]
-    tail = [""]
-    if types:
-        named = "; ".join(f"{', '.join(f'`{name}`' for name in sorted(names))} in `{file}`" for file, names in sorted(types.items()))
-        tail += [*wrapped(f"Types of the code that these name: {named}."), ""]
-    others.pop("std", None)
-    if others:
-        named = "; ".join(f"{', '.join(f'`{name}`' for name in sorted(names))} of `{crate}`" for crate, names in sorted(others.items()))
-        tail += [*wrapped(f"Definitions of the toolchain's crates that these name, beside those of its standard library: {named}."), ""]
-    laws = about(files, needed)
-    if laws:
-        tail += ["Laws and worked facts about them, which nobody has to trust, since they are proved:", "", "| File | Lines | What it says |", "|---|---|---|"]
-        tail += [f"| {link(files[key])} | {len(files[key].lines)} | {files[key].says} |" for key in laws] + [""]
-    if stopped:
-        tail += [*wrapped(f"Left out, since other commands or formats alone lead there: {', '.join(f'`{key}`' for key in sorted(stopped))}."), ""]
-    return head + out + tail
+    keys = [(key, name) for key in in_order(files, needed) for name in files[key].blocks if name in needed[key]]
+    new = {}
+    for key, name in keys:
+        if (key, name) not in told.names:
+            new.setdefault(key, []).append(name)
+            told.names[key, name] = page
+    count = lambda pairs: sum(len(files[key].blocks[name]) for key, name in pairs)
+    total, fresh = count(keys), count((key, name) for key, names in new.items() for name in names)
+    out = [f"# {title}", "", *wrapped(promise), ""]
+    before = list(told.links(keys, page))
+    out += ["## Known from pages before", "", *before, ""] if before else []
+    out += [f"## {'New definitions' if before else 'Definitions'}", ""] if new else []
+    for place, (key, names) in enumerate(new.items(), 1):
+        out.append(f'{place}. <a id="{anchor(key)}"></a>{link(files[key])}, {count((key, name) for name in names)} lines. {files[key].says}')
+        out += [f"    - `{name}`: {files[key].sentence(name)}" for name in names]
+    out += [""] if new else []
+    out += outside_of(types, others, stopped, told, page)
+    out += laws_of(files, needed, told, page)
+    return "\n".join(out).rstrip("\n") + "\n", (len(needed), total, fresh)
 
 
-def inventory(files):
-    out, definitions, devices = ["## Appendix: all files", ""], 0, 0
-    for crate, title in TITLES.items():
-        own = [specs for specs in files.values() if specs.crate == crate]
-        if not own:
-            continue
-        shown = [specs for specs in own if not specs.is_device]
-        hidden = [specs for specs in own if specs.is_device]
-        definitions += sum(len(specs.lines) for specs in shown)
-        devices += sum(len(specs.lines) for specs in hidden)
-        out += [f"### {title}: `{crate}`", ""]
-        if shown:
-            out += ["| File | Lines | What it says |", "|---|---|---|"]
-            out += [f"| `{specs.name}` | {len(specs.lines)} | {specs.says} |" for specs in shown] + [""]
-        if hidden:
-            out += [*wrapped(f"Devices: {', '.join(f'`{specs.name}`' for specs in hidden)}."), ""]
-    return out + [f"Together {definitions} lines of definitions, and {devices} of devices."]
+def old_anchor(title):
+    """The anchor that a heading of these words has; links to TRUST.md name it."""
+    return re.sub(r"[^a-z -]", "", title.lower()).replace(" ", "-")
 
 
-def page():
-    files = load()
-    out = FRONT.splitlines()
-    known = set()
-    for path in PATHS:
-        out += path_of(files, known, *path)
-    return "\n".join(out + inventory(files)) + "\n"
+def pages():
+    """The text of each page by its file."""
+    files, told, made = load(), Told(), {}
+    rows = ["| Page | Files | Lines | New |", "|---|---|---|---|"]
+    for name, title, *rest in PATHS:
+        made[PAGES / f"{name}.md"], numbers = page_of(files, told, name, title, *rest)
+        cells = " | ".join(f"{number:,}" for number in numbers)
+        rows.append(f'| <a id="{old_anchor(title)}"></a>[{title}](trust/{name}.md) | {cells} |')
+    lines = {is_device: sum(len(specs.lines) for specs in files.values() if specs.is_device == is_device) for is_device in (False, True)}
+    front = FRONT.replace("PAGES", "\n".join(rows)).replace("DEFINITIONS", f"{lines[False]:,}").replace("DEVICES", f"{lines[True]:,}")
+    return {PAGE: front.rstrip("\n") + "\n", **made}
 
 
 def main():
-    made = page()
+    made, there = pages(), [PAGE, *PAGES.glob("*.md")]
     if "--check" in sys.argv[1:]:
-        sys.exit(PAGE.read_text() != made)
-    PAGE.write_text(made)
+        sys.exit(any(not path.exists() or path.read_text() != text for path, text in made.items()) or not set(there) <= set(made))
+    PAGES.mkdir(exist_ok=True)
+    for path in set(there) - set(made):
+        path.unlink()
+    for path, text in made.items():
+        path.write_text(text)
 
 
 if __name__ == "__main__":
