@@ -107,18 +107,18 @@ pub(crate) fn run_alone<
     run_over(rt, alloc, words, input, out, err, &mut front, &OpenGate)
 }
 
-/// Whether the line is as it is said, or begins so, where that ends with a space.
-fn is_line(line: &[u8], said: &[u8]) -> bool {
-    line == said || said.ends_with(b" ") && line.starts_with(said)
+/// Whether the bytes are as it is said, or begin so, where that ends with a space.
+fn is_as_said(bytes: &[u8], said: &[u8]) -> bool {
+    bytes == said || said.ends_with(b" ") && bytes.starts_with(said)
 }
 
 /// What differs from the case, or an empty text.
 pub(crate) fn difference(case: &Case<'_>, status: u8, output: &[u8], line: &[u8]) -> &'static str {
     if u32::from(status) != case.status {
         "the status"
-    } else if output != case.output {
+    } else if !is_as_said(output, case.output) {
         "the output"
-    } else if is_line(line, case.line) {
+    } else if is_as_said(line, case.line) {
         ""
     } else {
         "the error line"

@@ -1,4 +1,4 @@
-ghost use Rattle.std.specs.Prelude.{◌≡◌, length, All};
+ghost use Rattle.std.specs.Prelude.{◌≡◌, false, length, All};
 
 use crate::runs::{Case, Ways, check_rows, put, wrong_over};
 use amf_io::{
@@ -69,6 +69,7 @@ fn hall(
 ) -> MemoryHall<MemoryLink>
     ensures whole { result.failed ≡ 0 }
     ensures fresh { length result.links.served.items ≡ 0 }
+    ensures none_out { result.links.out ≡ false }
 {
     let mut coming = Vec::new(alloc);
     for _ in 0..count {

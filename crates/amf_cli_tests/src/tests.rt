@@ -132,7 +132,7 @@ fn words_for_amf_3(rt: HostRuntime) {
 
 /// Words without a reading.
 static NO_READING: Table = Table {
-    rows: 40,
+    rows: 43,
     fields: 5,
     text: r#"
 | 01 | 2 | | 'amf: usage' 0A
@@ -175,6 +175,9 @@ canon --from=sol --to=packet | 00 BF 00 00 00 17 'TCSO' 00 04 00 00 00 00 00 01 
 canon --to sol | 00 BF 00 00 00 17 'TCSO' 00 04 00 00 00 00 00 01 74 00 00 00 00 00 01 61 01 01 00 | 2 | | 'amf: usage' 0A
 bytes --from amf3 | '{"amf":"amf3","root":1}' | 2 | | 'amf: usage' 0A
 bytes bytes | '{"amf":"amf3","root":1}' | 2 | | 'amf: usage' 0A
+version version | | 2 | | 'amf: usage' 0A
+version --from=amf3 | | 2 | | 'amf: usage' 0A
+--version | | 2 | | 'amf: usage' 0A
 "#,
 };
 
@@ -185,7 +188,7 @@ fn words_without_a_reading(rt: HostRuntime) {
 
 /// Streams that fail.
 static FAULTS: Table = Table {
-    rows: 24,
+    rows: 26,
     fields: 9,
     text: r#"
 # Streams that fail at once.
@@ -197,6 +200,7 @@ canon | 04 C0 80 80 00 | 4 | 04 C0 | 'amf: write fault' 0A | 100 | 0 | | 1
 gen --seed 1 --size 3 | | 4 | 'no' | 'amf: write fault' 0A | 1 | 0 | | 1
 json | 01 | 4 | '{' 0A | 'amf: write fault' 0A | 100 | 0 | | 1
 bytes | '{"amf":"amf3","root":"a"}' | 4 | 06 03 | 'amf: write fault' 0A | 100 | 0 | | 1
+version | | 4 | 'am' | 'amf: write fault' 0A | 1 | 0 | | 1
 # The read behind the input fails, unless a refusal comes before.
 same | 01 | 3 | | 'amf: read fault' 0A | 100 | 0 | 1 |
 same | 01 01 | 3 | | 'amf: read fault' 0A | 100 | 0 | 1 |
@@ -214,6 +218,8 @@ canon --from packet | 00 02 00 00 | 1 | | 'amf: refused BadVersion at 0' 0A | 1 
 canon --from packet | 00 02 00 00 | 1 | | 'amf: refused BadVersion at 0' 0A | 1 | 0 | 3 |
 # No byte of the input is asked for.
 gen --seed 1 --size 3 | 12 | 0 | 'nodes 3 bytes 27 sum 931' 0A | | 1 | 0 | 0 |
+# Behind the program's name stands its version.
+version | 12 | 0 | 'amf ' | | 1 | 0 | 0 |
 # A text is read to its end before it is judged.
 bytes | '{"amf":"amf3","root":1}' | 3 | | 'amf: read fault' 0A | 100 1 | 0 | 0 |
 bytes | '[' | 3 | | 'amf: read fault' 0A | 100 | 0 | 1 |

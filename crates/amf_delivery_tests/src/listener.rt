@@ -1,4 +1,4 @@
-ghost use Rattle.std.specs.Prelude.{◌≤◌, IfOk};
+ghost use Rattle.std.specs.Prelude.{◌≡◌, ◌≤◌, false, IfOk};
 ghost use Rattle.amf_io.specs.Dial.{IsFresh};
 ghost use Rattle.amf_io.specs.InMemory.{failures, sink_failures};
 
@@ -54,7 +54,9 @@ fn dial_of(
     first: &[u8],
     second: &[u8],
     fails: &[u64],
-) -> Result<MemoryDial<MemoryLink>, Memory> {
+) -> Result<MemoryDial<MemoryLink>, Memory>
+    ensures { IfOk result (λ d. d.links.out ≡ false) }
+{
     let mut links = Vec::new(alloc);
     links.push(link_of(alloc, first, fails)?)?;
     links.push(link_of(alloc, second, &[])?)?;

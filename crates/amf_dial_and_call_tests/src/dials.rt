@@ -1,4 +1,4 @@
-ghost use Rattle.std.specs.Prelude.{All};
+ghost use Rattle.std.specs.Prelude.{◌≡◌, false, All};
 ghost use Rattle.amf_io.specs.Dial.{IsFresh};
 ghost use Rattle.amf_io.specs.InMemory.{failures, sink_failures};
 
@@ -97,7 +97,9 @@ pub(crate) fn dial_of(
     bytes: &[u8],
     ways: Ways<'_>,
     failing: &[u64],
-) -> MemoryDial<MemoryLink> {
+) -> MemoryDial<MemoryLink>
+    ensures { result.links.out ≡ false }
+{
     let mut links = Vec::new(alloc);
     let link = link_of(rt, alloc, bytes, ways);
     links.push(link).expect(rt, "memory");
@@ -144,7 +146,10 @@ pub(crate) fn answers<D: Dial>(
     dial: &mut D,
     port: u16,
     case: Case<'_>,
-) -> bool {
+) -> bool
+    requires { D.is_out dial.old ≡ false }
+    ensures { D.is_out dial.new ≡ false }
+{
     assert!(rt; is_amf_text(case.target));
     assert!(rt; case.target.len() < 65_536);
     let target = Name::of_bytes(alloc, case.target).expect(rt, "memory");
@@ -183,7 +188,9 @@ pub(crate) fn ends_without_link(
     case: Case<'_>,
     asked: &[u16],
     faults: u64,
-) -> bool {
+) -> bool
+    requires { dial.old.links.out ≡ false }
+{
     let right = answers(rt, alloc, dial, 1, case);
     right && dial.asked() == asked && dial.returned().is_empty() && dial.faults() == faults
 }

@@ -1,3 +1,6 @@
+ghost use Rattle.amf_io.specs.Dial.{IsFresh};
+ghost use Rattle.amf_io.specs.InMemory.{failures, sink_failures};
+
 use crate::checks::{field, holds_of};
 use crate::fields::pieces;
 use amf_http::{HttpBuffer, HttpEnd, next_request};
@@ -28,7 +31,9 @@ pub(crate) const WHOLE: Ways = Ways {
 };
 
 /// A link that gives these bytes so.
-pub(crate) fn link_of(rt: &impl Abort, alloc: Global, bytes: &[u8], ways: Ways) -> MemoryLink {
+pub(crate) fn link_of(rt: &impl Abort, alloc: Global, bytes: &[u8], ways: Ways) -> MemoryLink
+    ensures { IsFresh (failures result.source) (sink_failures result.sink) }
+{
     let source = MemorySource::new(alloc, bytes, ways.most, ways.cut, &[ways.read]);
     let source = source.expect(rt, "a source");
     let sink = MemorySink::new(alloc, 16, &[ways.write]).expect(rt, "a sink");

@@ -1,3 +1,5 @@
+ghost use Rattle.std.specs.Prelude.{◌≡◌, false};
+
 use crate::checks::holds;
 use amf_http::{HttpBuffer, HttpEnd, next_request, write_response};
 use amf_io::{Clock, Dice, Front, Hall, OpenEnd, TcpFront, TcpHall, TcpLink};
@@ -25,7 +27,9 @@ fn is_answered(alloc: Global, link: &mut TcpLink) -> Result<bool, HttpEnd> {
 }
 
 /// Serves one request of the next link of a hall.
-fn serves<H: Hall<Link = TcpLink>>(rt: &impl Abort, alloc: Global, hall: &mut H) {
+fn serves<H: Hall<Link = TcpLink>>(rt: &impl Abort, alloc: Global, hall: &mut H)
+    requires { H.is_out hall.old ≡ false }
+{
     match hall.next() {
         Ok(Some(link)) => {
             let mut link = link;
@@ -49,7 +53,9 @@ fn meets<H: Hall<Link = TcpLink>>(
     alloc: Global,
     hall: &mut H,
     client: &mut TcpStream,
-) {
+)
+    requires { H.is_out hall.old ≡ false }
+{
     let sent = client.write(REQUEST).expect(rt, "a write");
     holds(rt, sent == REQUEST.len(), "the request is sent");
     serves(rt, alloc, hall);

@@ -1,4 +1,4 @@
-ghost use Rattle.std.specs.Prelude.{All};
+ghost use Rattle.std.specs.Prelude.{◌≡◌, false, All};
 ghost use Rattle.amf_io.specs.Dial.{IsFresh};
 ghost use Rattle.amf_io.specs.InMemory.{failures, sink_failures};
 
@@ -22,7 +22,9 @@ fn link(rt: &impl Abort, alloc: Global, byte: u8) -> MemoryLink
 }
 
 /// A dial of two links, whose second call fails.
-fn dial_of_two(rt: &impl Abort, alloc: Global) -> MemoryDial<MemoryLink> {
+fn dial_of_two(rt: &impl Abort, alloc: Global) -> MemoryDial<MemoryLink>
+    ensures { result.links.out ≡ false }
+{
     let mut links = Vec::new(alloc);
     links.push(link(rt, alloc, 7)).expect(rt, "memory");
     links.push(link(rt, alloc, 8)).expect(rt, "memory");
@@ -37,7 +39,9 @@ fn faultless_link(rt: &impl Abort, alloc: Global, byte: u8) -> FaultlessLink {
 }
 
 /// A dial of one link.
-fn faultless_dial(rt: &impl Abort, alloc: Global) -> FaultlessDial<FaultlessLink> {
+fn faultless_dial(rt: &impl Abort, alloc: Global) -> FaultlessDial<FaultlessLink>
+    ensures { result.links.out ≡ false }
+{
     let mut links = Vec::new(alloc);
     links
         .push(faultless_link(rt, alloc, 9))
@@ -47,7 +51,10 @@ fn faultless_dial(rt: &impl Abort, alloc: Global) -> FaultlessDial<FaultlessLink
 
 /// What a peer at a port says first: a byte, how the dial ends, or that it says nothing. Then the link is read once
 /// more if asked, and goes back.
-fn first_byte<D: Dial>(dial: &mut D, port: u16, again: bool) -> Result<Option<u8>, OpenEnd> {
+fn first_byte<D: Dial>(dial: &mut D, port: u16, again: bool) -> Result<Option<u8>, OpenEnd>
+    requires { D.is_out dial.old ≡ false }
+    ensures { D.is_out dial.new ≡ false }
+{
     let mut link = dial.dial(port)?;
     let mut room = [0u8; 1];
     let first = link.read(&mut room);
@@ -63,20 +70,27 @@ fn first_byte<D: Dial>(dial: &mut D, port: u16, again: bool) -> Result<Option<u8
 }
 
 /// A port, whether its link is read once more, what is said there first, and how many faults there are then.
-static DIALED: [(u16, bool, Result<Option<u8>, OpenEnd>, u64); 4] = [
-    (80, false, Ok(Some(7)), 0),
-    (81, false, Err(OpenEnd::Failed), 1),
-    (82, true, Ok(Some(8)), 2),
-    (83, false, Err(OpenEnd::Failed), 3),
-];
+type Dialed = (u16, bool, Result<Option<u8>, OpenEnd>, u64);
+
+/// Dials a port.
+fn dials_one(rt: &impl Abort, dial: &mut MemoryDial<MemoryLink>, dialed: Dialed)
+    requires { dial.old.links.out ≡ false }
+    ensures { dial.new.links.out ≡ false }
+{
+    let (port, again, want, faults) = dialed;
+    let got = first_byte(dial, port, again);
+    holds(rt, got == want, "what is said first");
+    holds(rt, dial.faults() == faults, "the faults");
+}
 
 /// Dials each port. The second call fails, and no link is left for the last one.
-fn dials_each(rt: &impl Abort, dial: &mut MemoryDial<MemoryLink>) {
-    for (port, again, want, faults) in DIALED.iter() {
-        let got = first_byte(dial, *port, *again);
-        holds(rt, got == *want, "what is said first");
-        holds(rt, dial.faults() == *faults, "the faults");
-    }
+fn dials_each(rt: &impl Abort, dial: &mut MemoryDial<MemoryLink>)
+    requires { dial.old.links.out ≡ false }
+{
+    dials_one(rt, dial, (80, false, Ok(Some(7)), 0));
+    dials_one(rt, dial, (81, false, Err(OpenEnd::Failed), 1));
+    dials_one(rt, dial, (82, true, Ok(Some(8)), 2));
+    dials_one(rt, dial, (83, false, Err(OpenEnd::Failed), 3));
 }
 
 #[test]
@@ -113,12 +127,10 @@ fn is_closed(peer: &mut TcpStream) -> bool {
 }
 
 /// Dials a listener, which answers.
-fn dials<D: Dial<Link = TcpLink>>(
-    rt: &impl Abort,
-    dial: &mut D,
-    port: u16,
-    listener: &TcpListener,
-) {
+fn dials<D: Dial<Link = TcpLink>>(rt: &impl Abort, dial: &mut D, port: u16, listener: &TcpListener)
+    requires { D.is_out dial.old ≡ false }
+    ensures { D.is_out dial.new ≡ false }
+{
     let mut link = match dial.dial(port) {
         Ok(link) => link,
         Err(_) => panic!(rt; "no link"),

@@ -1,4 +1,4 @@
-ghost use Rattle.std.specs.Prelude.{◌≡◌, length};
+ghost use Rattle.std.specs.Prelude.{◌≡◌, false, length, All, IfOk, IfSome};
 
 use crate::checks::holds;
 use amf_io::{
@@ -20,6 +20,7 @@ fn link(rt: &impl Abort, alloc: Global, byte: u8) -> MemoryLink {
 fn hall(rt: &impl Abort, alloc: Global) -> MemoryHall<MemoryLink>
     ensures whole { result.failed ≡ 0 }
     ensures fresh { length result.links.served.items ≡ 0 }
+    ensures none_out { result.links.out ≡ false }
 {
     let mut links = Vec::new(alloc);
     links.push(link(rt, alloc, 7)).expect(rt, "memory");
@@ -36,7 +37,8 @@ fn faultless_link(rt: &impl Abort, alloc: Global, byte: u8) -> FaultlessLink {
 
 /// A hall of one link.
 fn faultless_hall(rt: &impl Abort, alloc: Global) -> FaultlessHall<FaultlessLink>
-    ensures { length result.links.served.items ≡ 0 }
+    ensures fresh { length result.links.served.items ≡ 0 }
+    ensures none_out { result.links.out ≡ false }
 {
     let mut links = Vec::new(alloc);
     links
@@ -46,7 +48,10 @@ fn faultless_hall(rt: &impl Abort, alloc: Global) -> FaultlessHall<FaultlessLink
 }
 
 /// What the next link gives, if one comes, which goes back then.
-fn next_byte<H: Hall>(hall: &mut H) -> Result<Option<u8>, Failed> {
+fn next_byte<H: Hall>(hall: &mut H) -> Result<Option<u8>, Failed>
+    requires { H.is_out hall.old ≡ false }
+    ensures { H.is_out hall.new ≡ false }
+{
     match hall.next() {
         Ok(Some(link)) => {
             let mut link = link;
@@ -74,11 +79,14 @@ fn tells_numbers<H: Hall>(rt: &impl Abort, hall: &mut H) {
     holds(rt, told == [5, 6, 0, 0], "moments and words");
 }
 
-/// Looks at the links of a hall of two. A third one that goes back is dropped.
-fn gives_two_links(rt: &impl Abort, alloc: Global, hall: &mut MemoryHall<MemoryLink>) {
-    for want in [Ok(Some(7)), Err(Failed), Ok(Some(8)), Ok(None)] {
-        holds(rt, next_byte(hall) == want, "what the next link gives");
-    }
+/// Looks at the links of a hall of two, of which none is out. A third one that goes back is dropped.
+fn gives_two_links(rt: &impl Abort, alloc: Global, hall: &mut MemoryHall<MemoryLink>)
+    requires { hall.old.links.out ≡ false }
+{
+    holds(rt, next_byte(hall) == Ok(Some(7)), "the first link");
+    holds(rt, next_byte(hall) == Err(Failed), "a failed call");
+    holds(rt, next_byte(hall) == Ok(Some(8)), "the second link");
+    holds(rt, next_byte(hall) == Ok(None), "no more links");
     holds(rt, hall.served().len() == 2, "two links");
     holds(rt, hall.faults() == 1, "one fault");
     hall.back(link(rt, alloc, 9));
@@ -88,8 +96,8 @@ fn gives_two_links(rt: &impl Abort, alloc: Global, hall: &mut MemoryHall<MemoryL
 #[test]
 fn a_hall_gives_its_links_in_order(rt: HostRuntime) {
     let mut hall = hall(&rt, rt.alloc());
-    tells_numbers(&rt, &mut hall);
     gives_two_links(&rt, rt.alloc(), &mut hall);
+    tells_numbers(&rt, &mut hall);
 }
 
 /// A front of three halls, whose first call fails.
@@ -109,27 +117,43 @@ fn faultless_front(rt: &impl Abort, alloc: Global) -> FaultlessFront<FaultlessLi
 }
 
 /// A hall gives a link, and where there are two workers its next call fails.
-fn gives(rt: &impl Abort, hall: &mut MemoryHall<MemoryLink>, workers: u32) {
+fn gives(rt: &impl Abort, hall: &mut MemoryHall<MemoryLink>, workers: u32)
+    requires { hall.old.links.out ≡ false }
+{
     holds(rt, next_byte(hall) == Ok(Some(7)), "a link");
     if workers == 2 {
         holds(rt, next_byte(hall) == Err(Failed), "a failed call");
     }
 }
 
-/// How many halls a front gives for so many workers, which go back.
+/// Looks at the last of the halls, if there is one, which goes back to the front then.
+fn goes_back(
+    rt: &impl Abort,
+    front: &mut MemoryFront<MemoryLink>,
+    halls: &mut Vec<MemoryHall<MemoryLink>>,
+    workers: u32,
+)
+    requires { All (λ h. h.links.out ≡ false) halls.old.items }
+    ensures { All (λ h. h.links.out ≡ false) halls.new.items }
+{
+    if let Some(hall) = halls.pop() {
+        let mut hall = hall;
+        gives(rt, &mut hall, workers);
+        front.back(hall);
+    }
+}
+
+/// How many halls a front gives for so many workers, one or two, which go back.
 fn opened(
     rt: &impl Abort,
     alloc: Global,
     front: &mut MemoryFront<MemoryLink>,
     workers: u32,
 ) -> Result<usize, OpenEnd> {
-    let halls = front.open(alloc, 8080, workers)?;
+    let mut halls = front.open(alloc, 8080, workers)?;
     let count = halls.len();
-    for hall in halls {
-        let mut hall = hall;
-        gives(rt, &mut hall, workers);
-        front.back(hall);
-    }
+    goes_back(rt, front, &mut halls, workers);
+    goes_back(rt, front, &mut halls, workers);
     Ok(count)
 }
 
@@ -163,17 +187,21 @@ fn a_front_gives_a_hall_for_each_worker(rt: HostRuntime) {
 fn only_hall(
     alloc: Global,
     front: &mut FaultlessFront<FaultlessLink>,
-) -> Result<Option<FaultlessHall<FaultlessLink>>, OpenEnd> {
+) -> Result<Option<FaultlessHall<FaultlessLink>>, OpenEnd>
+    ensures { IfOk result (λ o. IfSome o (λ h. h.links.out ≡ false)) }
+{
     let mut halls = front.open(alloc, 80, 1)?;
     Ok(halls.pop())
 }
 
 /// Looks at the one link of a hall without faults.
-fn gives_one_link(rt: &impl Abort, hall: &mut FaultlessHall<FaultlessLink>) {
-    tells_numbers(rt, hall);
+fn gives_one_link(rt: &impl Abort, hall: &mut FaultlessHall<FaultlessLink>)
+    requires { hall.old.links.out ≡ false }
+{
     holds(rt, next_byte(hall) == Ok(Some(9)), "the link");
     holds(rt, next_byte(hall) == Ok(None), "no more links");
     holds(rt, hall.served().len() == 1, "one link");
+    tells_numbers(rt, hall);
 }
 
 /// Looks at the one hall of a front, which goes back then.

@@ -1,6 +1,8 @@
-//! Tests of numbers and texts, of the outside and of HTTP, and nothing else.
+//! Tests of numbers and texts, of the outside, of HTTP and of asking a backend, and nothing else.
 #![tactic(auto)]
 
+#[cfg(test)]
+mod backend_tests;
 #[cfg(test)]
 mod checks;
 #[cfg(test)]

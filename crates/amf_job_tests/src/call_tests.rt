@@ -1,3 +1,5 @@
+ghost use Rattle.std.specs.Prelude.{◌≡◌, false};
+
 use crate::cases::{Case, How, check_rows};
 use crate::dials::{GOOD, Links, dial_of, taken};
 use crate::runs::{BY_BYTES, Told, WHOLE, Ways, check_over};
@@ -39,7 +41,9 @@ fn check_talk<R: RandomSource + Threads + Wait + Abort + Sync>(
     ways: Ways<'_>,
     asked: &[u8],
     dial: &mut MemoryDial<MemoryLink>,
-) {
+)
+    requires { dial.old.links.out ≡ false }
+{
     let told = Told {
         ports: &[1],
         faults: 0,

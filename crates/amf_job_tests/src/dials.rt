@@ -1,4 +1,4 @@
-ghost use Rattle.std.specs.Prelude.{All};
+ghost use Rattle.std.specs.Prelude.{◌≡◌, false, All};
 ghost use Rattle.amf_io.specs.Dial.{IsFresh};
 ghost use Rattle.amf_io.specs.InMemory.{failures, sink_failures};
 
@@ -39,7 +39,9 @@ pub(crate) fn dial_of(
     alloc: Global,
     bytes: &[u8],
     links: Links<'_>,
-) -> MemoryDial<MemoryLink> {
+) -> MemoryDial<MemoryLink>
+    ensures { result.links.out ≡ false }
+{
     let mut coming = Vec::new(alloc);
     let link = link_of(rt, alloc, bytes, links);
     coming.push(link).expect(rt, "memory");
@@ -52,7 +54,9 @@ pub(crate) fn dial_of_three(
     alloc: Global,
     answers: [&[u8]; 3],
     links: Links<'_>,
-) -> MemoryDial<MemoryLink> {
+) -> MemoryDial<MemoryLink>
+    ensures { result.links.out ≡ false }
+{
     let [first, second, third] = answers;
     let mut coming = Vec::new(alloc);
     let link = link_of(rt, alloc, first, links);
@@ -65,7 +69,9 @@ pub(crate) fn dial_of_three(
 }
 
 /// A dial to which no link is to come.
-pub(crate) fn dial_of_none(rt: &impl Abort, alloc: Global) -> MemoryDial<MemoryLink> {
+pub(crate) fn dial_of_none(rt: &impl Abort, alloc: Global) -> MemoryDial<MemoryLink>
+    ensures { result.links.out ≡ false }
+{
     MemoryDial::new(alloc, Vec::new(alloc), &[]).expect(rt, "a dial")
 }
 

@@ -1,3 +1,5 @@
+ghost use Rattle.std.specs.Prelude.{◌≡◌, false};
+
 use crate::cases::{Case, How, check_rows, field};
 use crate::dials::{GOOD, Links, dial_of_three};
 use crate::runs::{BY_BYTES, Told, WHOLE, Ways, check_over};
@@ -89,7 +91,9 @@ fn dial_for(
     alloc: Global,
     row: Row<'_>,
     links: Links<'_>,
-) -> MemoryDial<MemoryLink> {
+) -> MemoryDial<MemoryLink>
+    ensures { result.links.out ≡ false }
+{
     let first = side_of(rt, alloc, &ANSWERS, row, 5);
     let second = side_of(rt, alloc, &ANSWERS, row, 6);
     let third = side_of(rt, alloc, &ANSWERS, row, 7);
@@ -113,7 +117,9 @@ fn check_session<R: RandomSource + Threads + Wait + Abort + Sync>(
     ways: Ways<'_>,
     dial: &mut MemoryDial<MemoryLink>,
     failing: usize,
-) {
+)
+    requires { dial.old.links.out ≡ false }
+{
     let line = row.line();
     let dials = row.number(11).expect(rt, "a count") as usize;
     let ports = [1u16, 1, 1];

@@ -1,3 +1,5 @@
+ghost use Rattle.std.specs.Prelude.{◌≡◌, false};
+
 use crate::cases::Case;
 use crate::dials::dial_of_none;
 use amf_cli::run::run;
@@ -65,7 +67,9 @@ fn run_alone<R: RandomSource + Threads + Wait + Abort + Sync, I: Source, O: Sink
     out: &mut O,
     err: &mut E,
     dial: &mut D,
-) -> u8 {
+) -> u8
+    requires { D.is_out dial.old ≡ false }
+{
     let front = FaultlessFront::new(alloc, Vec::new(alloc));
     let mut front: FaultlessFront<FaultlessLink> = front.expect(rt, "a front");
     let registry = Registry::new(alloc, Vec::new(alloc)).expect(rt, "a registry");
@@ -94,7 +98,9 @@ fn wrong_over<R: RandomSource + Threads + Wait + Abort + Sync, D: Dial>(
     case: &Case<'_>,
     ways: Ways<'_>,
     dial: &mut D,
-) -> &'static str {
+) -> &'static str
+    requires { D.is_out dial.old ≡ false }
+{
     let names = names_of(rt, alloc, case);
     let input = MemorySource::new(alloc, case.input, ways.most, ways.cut, ways.reads);
     let mut input = input.expect(rt, "a source");
@@ -120,7 +126,9 @@ pub(crate) fn check_over<R: RandomSource + Threads + Wait + Abort + Sync>(
     ways: Ways<'_>,
     dial: &mut MemoryDial<MemoryLink>,
     told: Told<'_>,
-) {
+)
+    requires { dial.old.links.out ≡ false }
+{
     let wrong = wrong_over(rt, alloc, case, ways, dial);
     let (most, cut) = (ways.most, ways.cut);
     assert!(rt;

@@ -1,6 +1,6 @@
 ghost use Rattle.std.specs.Prelude.{IfOk};
 ghost use Rattle.amf_packet.specs.Content.{packet_of};
-ghost use Rattle.amf_packet.specs.WrittenPacket.{HasTexts};
+ghost use Rattle.amf_json.specs.Ready.{IsReadyPacket};
 
 use amf_io::{Cursor, MemorySource, ReadEnd};
 use amf_json::{Layout, packet_is_ready, packet_json};
@@ -37,17 +37,18 @@ const EMPTY_TOLD: &[u8] =
 
 /// What is read of these bytes.
 fn read_of(alloc: Global, bytes: &[u8]) -> Result<Packet, ReadEnd>
-    ensures { IfOk result (λ packet. HasTexts (packet_of packet)) }
+    ensures { IfOk result (λ packet. IsReadyPacket (packet_of packet)) }
 {
     let mut source = MemorySource::new(alloc, bytes, 100, 0, &[])?;
     let mut cursor = Cursor::new(alloc, &mut source, 200)?;
-    read_packet(alloc, &mut cursor)
+    let packet = read_packet(alloc, &mut cursor)?;
+    packet_is_ready(&packet);
+    Ok(packet)
 }
 
 fn is_told(rt: &impl Abort, alloc: Global, layout: Layout, packet: &Packet, told: &[u8])
-    requires { HasTexts (packet_of packet.now) }
+    requires { IsReadyPacket (packet_of packet.now) }
 {
-    packet_is_ready(packet);
     let text = packet_json(alloc, layout, packet).expect(rt, "memory");
     assert!(rt; text.as_slice() == told, "a text");
 }

@@ -1,4 +1,4 @@
-ghost use Rattle.std.specs.Prelude.{IfOk};
+ghost use Rattle.std.specs.Prelude.{◌≡◌, false, IfOk};
 ghost use Rattle.amf_io.specs.Dial.{IsFresh};
 ghost use Rattle.amf_io.specs.InMemory.{failures, sink_failures};
 
@@ -42,6 +42,7 @@ pub(crate) fn dial_of_two(
 ) -> Result<MemoryDial<MemoryLink>, Memory>
     requires first { IsFresh (failures first.source) (sink_failures first.sink) }
     requires second { IsFresh (failures second.source) (sink_failures second.sink) }
+    ensures { IfOk result (λ d. d.links.out ≡ false) }
 {
     let mut links = Vec::new(alloc);
     links.push(first)?;
@@ -65,7 +66,9 @@ fn listens<D: Dial, O: Sink>(
     out: &mut O,
     name: &[u8],
     polls: u64,
-) -> Result<u32, Memory> {
+) -> Result<u32, Memory>
+    requires { D.is_out dial.old ≡ false }
+{
     if !is_amf_text(name) || name.len() > 65_535 || polls < 1 || polls > 1_000_000 {
         return Ok(60);
     }
@@ -80,7 +83,9 @@ pub(crate) fn comes(
     dial: &mut MemoryDial<MemoryLink>,
     case: Case<'_>,
     failing: &[u64],
-) -> Result<bool, Memory> {
+) -> Result<bool, Memory>
+    requires { dial.old.links.out ≡ false }
+{
     let mut out = MemorySink::new(alloc, usize::MAX, failing)?;
     let code = listens(alloc, dial, &mut out, b"chat", case.polls)?;
     let right = code == case.code && out.as_bytes() == case.written;

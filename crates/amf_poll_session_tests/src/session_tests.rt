@@ -1,3 +1,5 @@
+ghost use Rattle.std.specs.Prelude.{◌≡◌, false, IfOk};
+
 use crate::checks::holds_of;
 use crate::dials::{Case, comes, link_of};
 use crate::replies::replies_at;
@@ -58,7 +60,9 @@ static SESSIONS: Table = Table {
 };
 
 /// A dial of three links that give these replies.
-fn dial_of(alloc: Global, row: Row<'_>) -> Result<MemoryDial<MemoryLink>, Fail> {
+fn dial_of(alloc: Global, row: Row<'_>) -> Result<MemoryDial<MemoryLink>, Fail>
+    ensures { IfOk result (λ d. d.links.out ≡ false) }
+{
     let first = replies_at(alloc, &row.bytes(alloc, 1)?)?;
     let second = replies_at(alloc, &row.bytes(alloc, 2)?)?;
     let third = replies_at(alloc, &row.bytes(alloc, 3)?)?;

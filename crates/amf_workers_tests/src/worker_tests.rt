@@ -1,4 +1,4 @@
-ghost use Rattle.std.specs.Prelude.{◌≡◌, length, IfOk};
+ghost use Rattle.std.specs.Prelude.{◌≡◌, false, length, IfOk};
 
 use amf_desk::Closed;
 use amf_io::{Joined, MemoryFront, MemoryHall, MemoryLink, MemorySink, MemorySource, OpenGate};
@@ -82,6 +82,7 @@ fn requests(alloc: Global, messages: &[&[&[u8]]]) -> Result<Vec<u8>, Fail> {
 fn hall(alloc: Global, bytes: &[u8]) -> Result<MemoryHall<MemoryLink>, Memory>
     ensures whole { IfOk result (λ h. h.failed ≡ 0) }
     ensures fresh { IfOk result (λ h. length h.links.served.items ≡ 0) }
+    ensures none_out { IfOk result (λ h. h.links.out ≡ false) }
 {
     let mut links = Vec::new(alloc);
     links.push(Joined {
